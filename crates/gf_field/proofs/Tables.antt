@@ -1,0 +1,92 @@
+-- What the checker finds out of the field by computing, for each byte in turn.
+use Rattle.std.proofs.Common.{◌≡◌, ◌≢◌, ℕ, zero, suc, ◌*◌, ◌/◌, ◌%◌, ◌^◌, ◌<◌, Bool, true, not, ◌&&◌, ◌==◌, if◌then◌else◌, refl}
+use Rattle.std.specs.Prelude.{nat_lt}
+use Rattle.std.specs.Bool.{Decides}
+use Rattle.std.proofs.lemmas.Bool.Decides.{Decides-eqb, Decides-not, Decides-and, Decides-ltb, Decides-below_and}
+use Rattle.gf_field.specs.Field.{alpha, plus, shift, shifted, partial_product, product}
+
+-- a test holds of each number below n
+pub every : (ℕ → Bool) → ℕ → Bool
+every test zero = true
+every test (suc n) = test n && every test n
+
+every-holds : (test : ℕ → Bool) (Fact : ℕ → Type 0) → ((k : ℕ) → Decides (test k) (Fact k)) → (n : ℕ) → every test n ≡ true → (k : ℕ) → k < n → Fact k
+unfolding every
+every-holds test Fact each n holds = (Decides-below_and test Fact (every test) each refl (λ _. refl) n).0 holds
+
+-- ---- shifts
+
+-- a byte times x, by its upper bit and the others
+pub shift-parts : (a : ℕ) → a < 256 → shift a ≡ plus (2 * (a % 128)) (a / 128 * 29)
+unfolding every shift
+shift-parts = every-holds (λ a. shift a == plus (2 * (a % 128)) (a / 128 * 29)) (λ a. shift a ≡ plus (2 * (a % 128)) (a / 128 * 29)) (λ a. Decides-eqb (shift a) (plus (2 * (a % 128)) (a / 128 * 29))) 256 refl
+
+pub shift-byte : (a : ℕ) → a < 256 → shift a < 256
+unfolding every shift
+shift-byte = every-holds (λ a. nat_lt (shift a) 256) (λ a. shift a < 256) (λ a. Decides-ltb (shift a) 256) 256 refl
+
+-- ---- products
+
+-- alpha is the element x
+pub product-alpha : (a : ℕ) → a < 256 → product a alpha ≡ shift a
+unfolding every product partial_product shifted shift
+product-alpha = every-holds (λ a. product a alpha == shift a) (λ a. product a alpha ≡ shift a) (λ a. Decides-eqb (product a alpha) (shift a)) 256 refl
+
+pub product-by_one : (a : ℕ) → a < 256 → product a 1 ≡ a
+unfolding every product partial_product shifted shift
+product-by_one = every-holds (λ a. product a 1 == a) (λ a. product a 1 ≡ a) (λ a. Decides-eqb (product a 1) a) 256 refl
+
+-- x^i times x^j is x^j times x^i: products are of both factors' bits
+commutes : ℕ → ℕ → Bool
+commutes i j = product (2 ^ i) (2 ^ j) == product (2 ^ j) (2 ^ i)
+
+pub product-bits : (i : ℕ) → i < 8 → (j : ℕ) → j < 8 → product (2 ^ i) (2 ^ j) ≡ product (2 ^ j) (2 ^ i)
+unfolding every commutes product partial_product shifted shift
+product-bits i below_i = every-holds (commutes i) (λ j. product (2 ^ i) (2 ^ j) ≡ product (2 ^ j) (2 ^ i)) (λ j. Decides-eqb (product (2 ^ i) (2 ^ j)) (product (2 ^ j) (2 ^ i))) 8
+    (every-holds (λ i. every (commutes i) 8) (λ i. every (commutes i) 8 ≡ true) (λ i. ((λ holds. holds), (λ holds. holds))) 8 refl i below_i)
+
+-- ---- inverses
+
+unfoldable pub square : ℕ → ℕ
+square a = product a a
+
+unfoldable pub fourth_power : ℕ → ℕ
+fourth_power a = square (square a)
+
+-- a^254 from a^2, a^3 and a^12, by way of a^15, a^240 and a^252
+unfoldable pub inverse_from : ℕ → ℕ → ℕ → ℕ
+inverse_from power_2 power_3 power_12 = product (product (fourth_power (fourth_power (product power_12 power_3))) power_12) power_2
+
+unfoldable pub inverse_by : ℕ → ℕ → ℕ
+inverse_by power_2 power_3 = inverse_from power_2 power_3 (fourth_power power_3)
+
+unfoldable pub inverse : ℕ → ℕ
+inverse a = inverse_by (square a) (product (square a) a)
+
+pub product-inverse : (a : ℕ) → a < 255 → product (suc a) (inverse (suc a)) ≡ 1
+unfolding every inverse inverse_by inverse_from fourth_power square product partial_product shifted shift
+product-inverse = every-holds (λ a. product (suc a) (inverse (suc a)) == 1) (λ a. product (suc a) (inverse (suc a)) ≡ 1) (λ a. Decides-eqb (product (suc a) (inverse (suc a))) 1) 255 refl
+
+-- ---- powers of alpha
+
+pub shifted-one-255 : shifted 1 255 ≡ 1
+unfolding shifted shift
+shifted-one-255 = refl
+
+-- no shift of 1 below the 255th is 1 again
+pub shifted-one-below : (k : ℕ) → k < 254 → shifted 1 (suc k) ≢ 1
+unfolding every shifted shift
+shifted-one-below = every-holds (λ k. not (shifted 1 (suc k) == 1)) (λ k. shifted 1 (suc k) ≢ 1) (λ k. Decides-not (shifted 1 (suc k) == 1) (Decides-eqb (shifted 1 (suc k)) 1)) 254 refl
+
+-- how many shifts, up to n of them, bring x to a
+pub shifts_to : ℕ → ℕ → ℕ → ℕ
+shifts_to a x zero = 0
+shifts_to a x (suc n) = if x == a then 0 else suc (shifts_to a (shift x) n)
+
+pub logarithm : ℕ → ℕ
+logarithm a = shifts_to a 1 255
+
+pub shifted-logarithm : (a : ℕ) → a < 255 → (logarithm (suc a) < 255) × (shifted 1 (logarithm (suc a)) ≡ suc a)
+unfolding every logarithm shifts_to shifted shift
+shifted-logarithm = every-holds (λ a. nat_lt (logarithm (suc a)) 255 && shifted 1 (logarithm (suc a)) == suc a) (λ a. (logarithm (suc a) < 255) × (shifted 1 (logarithm (suc a)) ≡ suc a))
+    (λ a. Decides-and (nat_lt (logarithm (suc a)) 255) (shifted 1 (logarithm (suc a)) == suc a) (Decides-ltb (logarithm (suc a)) 255) (Decides-eqb (shifted 1 (logarithm (suc a))) (suc a))) 255 refl

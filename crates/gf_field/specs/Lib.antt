@@ -1,0 +1,4 @@
+pub mod Examples
+pub mod Field
+pub mod Laws
+pub mod Words
