@@ -1,0 +1,12 @@
+use Rattle.std.proofs.Common.{◌≡◌}
+use Rattle.arrayvec.specs.ArrayVec.{array_vec_len}
+use Rattle.gf_field.specs.Field.{alpha, power}
+use Rattle.rs_code.specs.Polynomials.{HasRoots}
+use Rattle.rs_code.proofs.division.generator.Given as goal
+
+abbrev pub invariant-loop-k : goal.invariant-loop-k
+invariant-loop-k l = record {
+  root_is : l.root ≡ power alpha l._k;
+  degree : array_vec_len l.coefficients ≡ l._k;
+  roots : HasRoots l._k l.coefficients.items;
+}

@@ -1,0 +1,5 @@
+use Rattle.rs_code.proofs.Distance.{IsCodeword-close}
+use Rattle.rs_code.proofs.laws.close_codewords_are_equal.Goals as goal
+
+pub returns : goal.returns
+returns c = IsCodeword-close

@@ -1,0 +1,5 @@
+use Rattle.rs_code.proofs.Distance.{IsCodeword-light}
+use Rattle.rs_code.proofs.laws.light_codeword_is_zero.Goals as goal
+
+pub returns : goal.returns
+returns c = IsCodeword-light

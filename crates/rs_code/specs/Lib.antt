@@ -1,0 +1,6 @@
+pub mod Distance
+pub mod Examples
+pub mod Laws
+pub mod Polynomials
+pub mod PowerSums
+pub mod Syndromes

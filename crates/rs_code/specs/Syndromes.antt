@@ -1,0 +1,9 @@
+-- The syndromes of a word. In a codeword all of them are 0 (ECMA-267, clause 18).
+use Rattle.std.specs.Prelude.{ℕ, List, map}
+use Rattle.std.specs.List.{range_with_len}
+use Rattle.gf_field.specs.Field.{alpha, power}
+use Rattle.gf_field.specs.Words.{value}
+
+-- the values of a word at alpha^0 to alpha^(r-1), in this order; the code steps through the word once for each
+unfoldable pub syndromes_of : ℕ → List ℕ → List ℕ
+syndromes_of r word = map (λ k. value word (power alpha k)) (range_with_len 0 r)

@@ -1,0 +1,65 @@
+//! The generator polynomial, and the division by it.
+//! A polynomial with the leading coefficient 1 is kept without it.
+ghost use Rattle.std.specs.Prelude.{◌≡◌, ℕ, ◌-◌, ◌<◌, ◌≤◌, List, [], ◌∷◌, ◌++◌, length, All};
+ghost use Rattle.arrayvec.specs.ArrayVec.{array_vec_len};
+ghost use Rattle.gf_field.specs.Words.{IsByte};
+ghost use Rattle.rs_code.specs.Polynomials.{times_root, HasRoots, IsRemainder};
+
+use arrayvec::ArrayVec;
+use gf_field::mul;
+
+/// The product of (x + alpha^k) for k from 0 to `parity` - 1, without its leading 1.
+pub fn generator(parity: u8) -> ArrayVec<u8, 32>
+    requires { parity ≤ 32 }
+    ensures degree { array_vec_len result ≡ parity }
+    ensures roots { HasRoots parity result.items }
+{
+    let mut coefficients = ArrayVec::new();
+    let mut root = 1;
+    for _k in 0..parity {
+        coefficients.push(0);
+        multiply_by_root(&mut coefficients, root);
+        root = mul(root, 2);
+    }
+    coefficients
+}
+
+/// Multiplies a polynomial, which a 0 follows, by (x + `root`).
+fn multiply_by_root(coefficients: &mut [u8], root: u8)
+    ensures { (polynomial : List ℕ) → coefficients.old ≡ polynomial ++ 0 ∷ [] → coefficients.new ≡ times_root polynomial root }
+{
+    let mut before = 1;
+    for coefficient in coefficients.iter_mut() {
+        let current = *coefficient;
+        *coefficient = current ^ mul(root, before);
+        before = current;
+    }
+}
+
+/// Sets `register` to the remainder of `message` by the generator, which is its parity.
+/// That the message is bytes is told too, since a word of constant length doesn't tell it.
+pub fn divide(generator: &[u8], message: &[u8], register: &mut [u8])
+    requires some_degree { 0 < length generator.now }
+    requires fits { length register.old ≡ length generator.now }
+    ensures remainder { IsRemainder generator.now message.now register.new }
+    ensures message_bytes { All IsByte message.now }
+{
+    register.fill(0);
+    for byte in message {
+        read_byte(generator, register, *byte);
+    }
+}
+
+/// One step of the division: takes in one more byte.
+fn read_byte(generator: &[u8], register: &mut [u8], byte: u8)
+    requires some_degree { 0 < length generator.now }
+    requires fits { length register.old ≡ length generator.now }
+    ensures { (read : List ℕ) → IsRemainder generator.now read register.old → IsRemainder generator.now (read ++ byte ∷ []) register.new }
+{
+    let factor = register[0] ^ byte;
+    let last = register.len() - 1;
+    for i in 0..last {
+        register[i] = register[i + 1] ^ mul(factor, generator[i]);
+    }
+    register[last] = mul(factor, generator[last]);
+}

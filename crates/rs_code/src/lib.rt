@@ -1,0 +1,17 @@
+//! Reed-Solomon codes over the field of 256 elements, for words of constant length with their parity bytes at the end
+//! (ECMA-267, clauses 16.2 and 18).
+//!
+//! - [`code`]: a code, with its encoder, its syndromes and its test.
+//! - `division`: the generator polynomial, and the division by it.
+//! - `evaluation`: the values of a word at points.
+//! - [`laws`]: what holds of every code, as contracts alone.
+#![tactic(auto)]
+
+pub mod code;
+mod division;
+mod evaluation;
+pub mod laws;
+#[cfg(test)]
+mod tests;
+
+pub use code::{Code, Ied, Pi, Po};
