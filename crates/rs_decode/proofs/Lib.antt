@@ -1,0 +1,13 @@
+pub mod Combinations
+pub mod Combined
+pub mod Counting
+pub mod Fillings
+pub mod Marks
+pub mod Masking
+pub mod Near
+pub mod Nearest
+pub mod Nearness
+pub mod Reduction
+pub mod Roots
+pub mod Solving
+pub mod Zeros

@@ -1,0 +1,187 @@
+-- The locator finds every error: where a codeword is near, it agrees with the received word at each place that is
+-- neither marked nor a zero of the locator, and these are few enough to be filled.
+use Rattle.std.proofs.Common.{◌≡◌, ◌≢◌, ℕ, zero, suc, ◌+◌, ◌*◌, ◌/◌, ◌<◌, ◌≤◌, Bool, true, false, ◌||◌, List, [], ◌∷◌, length, get_or, All, replicate, refl, sym, ap, subst, ◌∙◌, arith, inl, inr, ◌==◌, if◌then◌else◌}
+use Rattle.std.proofs.lemmas.List.{get_or-replicate}
+use Rattle.std.proofs.lemmas.Bool.{false≢true}
+use Rattle.std.proofs.lemmas.Bool.Decides.{nat_tests}
+use Rattle.std.proofs.lemmas.List.Elements.{All-get_or}
+use Rattle.gf_field.specs.Field.{alpha, plus, product, power}
+use Rattle.gf_field.specs.Words.{IsByte, IsCodeword, IsNear, cost, value}
+use Rattle.gf_field.proofs.FieldLaws.{plus-zero, plus-self, plus-zero_same, product-byte, product-zero, zero-product, product-zero_factor}
+use Rattle.rs_code.specs.Distance.{weight}
+use Rattle.rs_code.specs.Polynomials.{sum_of}
+use Rattle.rs_code.specs.Syndromes.{syndromes_of}
+use Rattle.rs_code.proofs.Distance.{All-sum_of}
+use Rattle.rs_code.proofs.Syndromes.{length-syndromes_of, get_or-syndromes_of}
+use Rattle.rs_code.proofs.Values.{value-sum_of, length-sum_of, get_or-sum_of}
+use Rattle.rs_code.specs.PowerSums.{points_of, power_sum}
+use Rattle.rs_code.proofs.PowerSums.{AreDistinct-points_of, All-points_of, length-points_of, value-power_sum, none_hidden}
+use Rattle.rs_decode.specs.Errors.{error_count}
+use Rattle.rs_decode.specs.Filling.{IsFilling, marked}
+use Rattle.rs_decode.specs.Locator.{polynomial_at, with_zeros, IsLocator, at_points, distances}
+use Rattle.rs_decode.specs.Sums.{AreSums}
+use Rattle.rs_decode.specs.Places.{picked}
+use Rattle.rs_decode.proofs.Combinations.{length-at_points, All-at_points, get_or-at_points, weight-at_points, combined-sums}
+use Rattle.rs_decode.proofs.Masking.{distances-byte, distances-marked, distances-unmarked, weight-error_count}
+use Rattle.rs_decode.proofs.Roots.{zeros_among, few_zeros, polynomial_at-byte}
+
+one_place : (byte got c e m : ℕ) → c ≡ 2 * e + m → (if byte == got then 0 else 2) + c ≡ 2 * ((if byte == got then 0 else 1) + e) + (0 + m)
+one_place byte got c e m parts = grind (arith, nat_tests)
+
+-- the cost has two parts
+pub cost-parts : (received word : List ℕ) (marks : List Bool) → length received ≡ length word → length marks ≡ length word → cost word received marks ≡ 2 * error_count received word marks + marked marks
+unfolding cost error_count marked
+cost-parts [] [] [] size_r size_m = refl
+cost-parts [] (byte ∷ word) marks size_r size_m = absurd (omega arith)
+cost-parts (got ∷ received) [] marks size_r size_m = absurd (omega arith)
+cost-parts [] [] (mark ∷ marks) size_r size_m = absurd (omega arith)
+cost-parts (got ∷ received) (byte ∷ word) [] size_r size_m = absurd (omega arith)
+cost-parts (got ∷ received) (byte ∷ word) (true ∷ marks) size_r size_m = omega (arith, cost-parts received word marks (omega arith) (omega arith))
+cost-parts (got ∷ received) (byte ∷ word) (false ∷ marks) size_r size_m =
+    one_place byte got (cost word received marks) (error_count received word marks) (marked marks) (cost-parts received word marks (omega arith) (omega arith))
+
+-- the marks with the zeros, place by place
+pub get_or-with_zeros : (locator : List ℕ) (marks : List Bool) (points : List ℕ) (k : ℕ) → length marks ≡ length points → k < length marks → get_or (with_zeros locator marks points) k false ≡ (get_or marks k false || (polynomial_at locator (get_or points k 0) == 0))
+unfolding with_zeros
+get_or-with_zeros locator [] points k same inside = absurd (omega arith)
+get_or-with_zeros locator (mark ∷ marks) [] k same inside = absurd (omega arith)
+get_or-with_zeros locator (mark ∷ marks) (point ∷ points) zero same inside = refl
+get_or-with_zeros locator (mark ∷ marks) (point ∷ points) (suc k) same inside = get_or-with_zeros locator marks points k (omega arith) (omega arith)
+
+pub length-with_zeros : (locator : List ℕ) (marks : List Bool) (points : List ℕ) → length marks ≡ length points → length (with_zeros locator marks points) ≡ length marks
+unfolding with_zeros
+length-with_zeros locator [] points same = refl
+length-with_zeros locator (mark ∷ marks) [] same = absurd (omega arith)
+length-with_zeros locator (mark ∷ marks) (point ∷ points) same = ap suc (length-with_zeros locator marks points (omega arith))
+
+mark_counts : (p w m z : ℕ) → w ≤ m + z → 1 + w ≤ 1 + m + ((if p == 0 then 1 else 0) + z)
+mark_counts p w m z below = grind (arith, nat_tests)
+
+zero_counts : (p w m z : ℕ) → w ≤ m + z → (if p == 0 then 1 else 0) + w ≤ 0 + m + ((if p == 0 then 1 else 0) + z)
+zero_counts p w m z below = grind (arith, nat_tests)
+
+marked-with_zeros : (locator : List ℕ) (marks : List Bool) (points : List ℕ) → marked (with_zeros locator marks points) ≤ marked marks + zeros_among locator points
+unfolding with_zeros marked zeros_among
+marked-with_zeros locator [] points = omega arith
+marked-with_zeros locator (mark ∷ marks) [] = omega arith
+marked-with_zeros locator (true ∷ marks) (point ∷ points) = mark_counts (polynomial_at locator point) (marked (with_zeros locator marks points)) (marked marks) (zeros_among locator points) (marked-with_zeros locator marks points)
+marked-with_zeros locator (false ∷ marks) (point ∷ points) = zero_counts (polynomial_at locator point) (marked (with_zeros locator marks points)) (marked marks) (zeros_among locator points) (marked-with_zeros locator marks points)
+
+-- the syndromes are the power sums of what differs from a codeword
+pub AreSums-syndromes_of : (n r : ℕ) (received word : List ℕ) → length received ≡ n → IsCodeword n r word → AreSums (points_of n) (sum_of received word) (syndromes_of r received)
+AreSums-syndromes_of n r received word size codeword =
+    let same : length received ≡ length word = size ∙ sym codeword.size in
+    let size_sum : length (sum_of received word) ≡ n = length-sum_of received word same ∙ size in
+    record {
+      sums_are = λ k below.
+          let inside : k < r = omega (arith, length-syndromes_of r received) in
+          ap (λ m. power_sum (sum_of received word) (points_of m) k) (sym size_sum)
+          ∙ sym (value-power_sum (sum_of received word) k)
+          ∙ value-sum_of received word (power alpha k) same
+          ∙ ap (plus (value received (power alpha k))) (codeword.vanishes k inside)
+          ∙ plus-zero (value received (power alpha k))
+          ∙ sym (get_or-syndromes_of r received k inside);
+    }
+
+-- the place's error is 0 where the error times the distances and the locator's value is, and neither of these
+no_error : (e d l : ℕ) → IsByte e → IsByte d → IsByte l → d ≢ 0 → l ≢ 0 → product (product e d) l ≡ 0 → e ≡ 0
+no_error e d l byte_e byte_d byte_l apart no_root vanishes =
+    elim (product-zero_factor (product e d) l (product-byte e d) byte_l vanishes) [
+      | inl first ↦ elim (product-zero_factor e d byte_e byte_d first) [ inl is ↦ is | inr no_distance ↦ absurd (apart no_distance) ]
+      | inr root ↦ absurd (no_root root)
+    ]
+
+-- the bytes with the marked places taken out are as few as the errors
+weight-masked : (n r : ℕ) (received word : List ℕ) (marks : List Bool) → n ≤ 255 → IsNear n r received marks word → weight (at_points (distances (picked marks (points_of n))) (sum_of received word) (points_of n)) ≤ error_count received word marks
+weight-masked n r received word marks short near =
+    let points = points_of n in
+    let others = picked marks points in
+    let errors = sum_of received word in
+    let same : length received ≡ length word = near.received_size ∙ sym near.codeword.size in
+    let size : length errors ≡ n = length-sum_of received word same ∙ near.received_size in
+    let long : length points ≡ n = length-points_of n in
+    let masked_size : length (at_points (distances others) errors points) ≡ n = length-at_points (distances others) errors points (size ∙ sym long) ∙ size in
+    weight-error_count (at_points (distances others) errors points) received word marks (near.received_size ∙ sym masked_size) (near.codeword.size ∙ sym masked_size) (near.marks_size ∙ sym masked_size)
+    (λ k below mark_is.
+    get_or-at_points (distances others) errors points k (size ∙ sym long) (omega arith)
+    ∙ rw (distances-marked marks points k (omega arith) mark_is) (product-zero (get_or errors k 0)))
+    (λ k below clear agree.
+    get_or-at_points (distances others) errors points k (size ∙ sym long) (omega arith)
+    ∙ rw (get_or-sum_of received word k same, agree, plus-self) (zero-product (distances others (get_or points k 0))))
+
+-- the locator takes every byte that is left to 0
+all_located : (n t : ℕ) (masked sums locator : List ℕ) → n ≤ 255 → length masked ≡ n → weight masked ≤ t → 2 * t ≤ length sums → AreSums (points_of n) masked sums → IsLocator t sums locator → at_points (polynomial_at locator) masked (points_of n) ≡ replicate n 0
+all_located n t masked sums locator short size few enough are is =
+    let points = points_of n in
+    let long : length points ≡ n = length-points_of n in
+    let hidden = at_points (polynomial_at locator) masked points in
+    let hidden_size : length hidden ≡ n = length-at_points (polynomial_at locator) masked points (size ∙ sym long) ∙ size in
+    let width : length locator ≡ t + 1 = is.size in
+    none_hidden t points hidden (hidden_size ∙ sym long) (All-at_points (polynomial_at locator) masked points) (All-points_of n) (AreDistinct-points_of n short) (omega (arith, weight-at_points (polynomial_at locator) masked points))
+    (λ k below. combined-sums locator sums masked points k (omega arith) are ∙ is.vanishes k below)
+    ∙ ap (λ m. replicate m 0) hidden_size
+
+or_left : (mark : Bool) (l : ℕ) → (mark || (l == 0)) ≡ false → mark ≡ false
+or_left true l clear = absurd (false≢true (sym clear))
+or_left false l clear = refl
+
+or_right : (mark : Bool) (l : ℕ) → (mark || (l == 0)) ≡ false → l ≢ 0
+or_right true l clear = absurd (false≢true (sym clear))
+or_right false zero clear = absurd (false≢true (sym clear))
+or_right false (suc l) clear = λ is. absurd (omega arith)
+
+-- no error is left at a place that is neither marked nor a zero
+agrees_elsewhere : (n r : ℕ) (received word : List ℕ) (marks : List Bool) (locator : List ℕ) → n ≤ 255 → IsNear n r received marks word → All IsByte received → All IsByte locator → at_points (polynomial_at locator) (at_points (distances (picked marks (points_of n))) (sum_of received word) (points_of n)) (points_of n) ≡ replicate n 0 → (k : ℕ) → k < n → get_or (with_zeros locator marks (points_of n)) k false ≡ false → get_or word k 0 ≡ get_or received k 0
+agrees_elsewhere n r received word marks locator short near received_bytes locator_bytes hidden_is k inside clear =
+    let points = points_of n in
+    let others = picked marks points in
+    let errors = sum_of received word in
+    let same : length received ≡ length word = near.received_size ∙ sym near.codeword.size in
+    let size : length errors ≡ n = length-sum_of received word same ∙ near.received_size in
+    let long : length points ≡ n = length-points_of n in
+    let masked = at_points (distances others) errors points in
+    let masked_size : length masked ≡ n = length-at_points (distances others) errors points (size ∙ sym long) ∙ size in
+    let parts = sym (get_or-with_zeros locator marks points k (near.marks_size ∙ sym long) (omega (arith, near.marks_size))) ∙ clear in
+    let byte_point = All-get_or IsByte points k 0 (omega arith) (All-points_of n) in
+    let vanishes : product (product (get_or errors k 0) (distances others (get_or points k 0))) (polynomial_at locator (get_or points k 0)) ≡ 0 =
+    sym (get_or-at_points (polynomial_at locator) masked points k (masked_size ∙ sym long) (omega arith)
+    ∙ ap (λ b. product b (polynomial_at locator (get_or points k 0))) (get_or-at_points (distances others) errors points k (size ∙ sym long) (omega arith)))
+    ∙ ap (λ xs. get_or xs k 0) hidden_is ∙ get_or-replicate n k 0 0 inside in
+    let none = no_error (get_or errors k 0) (distances others (get_or points k 0)) (polynomial_at locator (get_or points k 0))
+    (All-get_or IsByte errors k 0 (omega arith) (All-sum_of received word received_bytes near.codeword.bytes))
+    (distances-byte others (get_or points k 0)) (polynomial_at-byte locator (get_or points k 0) locator_bytes)
+    (distances-unmarked marks points k (AreDistinct-points_of n short) (All-points_of n) (omega arith) (or_left (get_or marks k false) (polynomial_at locator (get_or points k 0)) parts))
+    (or_right (get_or marks k false) (polynomial_at locator (get_or points k 0)) parts) vanishes in
+    sym (plus-zero_same (get_or received k 0) (get_or word k 0) (sym (get_or-sum_of received word k same) ∙ none))
+
+-- a near codeword fills the places that are marked or zeros of the locator
+pub located : (n r t : ℕ) (received word : List ℕ) (marks : List Bool) (sums locator : List ℕ) → n ≤ 255 → IsNear n r received marks word → All IsByte received → length sums + marked marks ≡ r → 2 * t ≤ length sums → length sums ≤ 2 * t + 1 → AreSums (points_of n) (at_points (distances (picked marks (points_of n))) (sum_of received word) (points_of n)) sums → IsLocator t sums locator → IsFilling n r received (with_zeros locator marks (points_of n)) word
+located n r t received word marks sums locator short near received_bytes left enough half are is =
+    let points = points_of n in
+    let long : length points ≡ n = length-points_of n in
+    let same : length received ≡ length word = near.received_size ∙ sym near.codeword.size in
+    let parts = cost-parts received word marks same (near.marks_size ∙ sym near.codeword.size) in
+    let within = near.within in
+    let few = weight-masked n r received word marks short near in
+    let size : length (sum_of received word) ≡ n = length-sum_of received word same ∙ near.received_size in
+    let masked_size = length-at_points (distances (picked marks points)) (sum_of received word) points (size ∙ sym long) ∙ size in
+    let hidden_is = all_located n t (at_points (distances (picked marks points)) (sum_of received word) points) sums locator short masked_size (omega arith) enough are is in
+    let marks_long : length (with_zeros locator marks points) ≡ n = length-with_zeros locator marks points (near.marks_size ∙ sym long) ∙ near.marks_size in
+    let roots : zeros_among locator points + 1 ≤ length locator = few_zeros points locator (AreDistinct-points_of n short) (All-points_of n) is.bytes is.nonzero in
+    let width : length locator ≡ t + 1 = is.size in
+    record {
+      codeword = near.codeword;
+      agrees = λ k below clear. agrees_elsewhere n r received word marks locator short near received_bytes is.bytes hidden_is k (omega arith) clear;
+      within = omega (arith, marked-with_zeros locator marks points);
+    }
+
+-- as the decoder finds it: with the marked points taken out of the syndromes, and the zeros of the locator marked
+pub filled-by_locator : (n r : ℕ) (received word : List ℕ) (marks doubtful : List Bool) (points syndromes sums locator : List ℕ) → n ≤ 255 → length received ≡ n → length marks ≡ n → All IsByte received → points ≡ picked marks (points_of (length marks)) → length points ≡ marked marks → syndromes ≡ syndromes_of r received → ((places bytes : List ℕ) → AreSums places bytes syndromes → AreSums places (at_points (distances points) bytes places) sums) → length sums + length points ≡ length syndromes → IsLocator (length sums / 2) sums locator → doubtful ≡ with_zeros locator marks (points_of (length marks)) → IsNear n r received marks word → IsFilling n r received doubtful word
+filled-by_locator n r received word marks doubtful points syndromes sums locator short size_r size_m bytes points_are few syndromes_are take_out left is doubtful_is near =
+    let at : points_of (length marks) ≡ points_of n = ap points_of size_m in
+    let syndromes_sums = subst (λ xs. AreSums (points_of n) (sum_of received word) xs) (sym syndromes_are) (AreSums-syndromes_of n r received word size_r near.codeword) in
+    let masked = take_out (points_of n) (sum_of received word) syndromes_sums in
+    let masked_sums = subst (λ xs. AreSums (points_of n) (at_points (distances xs) (sum_of received word) (points_of n)) sums) (points_are ∙ ap (picked marks) at) masked in
+    let total : length sums + marked marks ≡ r = omega (arith, ap length syndromes_are, length-syndromes_of r received) in
+    let filling = located n r (length sums / 2) received word marks sums locator short near bytes total (omega arith) (omega arith) masked_sums is in
+    subst (λ xs. IsFilling n r received xs word) (sym (doubtful_is ∙ ap (with_zeros locator marks) at)) filling

@@ -1,0 +1,128 @@
+-- A polynomial that isn't 0 has fewer zeros than coefficients.
+-- With a zero a taken out by division by (x + a), it has one coefficient less and its other zeros.
+use Rattle.std.proofs.Common.{◌≡◌, ◌≢◌, ℕ, zero, suc, ◌+◌, ◌<◌, ◌≤◌, List, [], ◌∷◌, length, All, replicate, refl, sym, ap, ◌∙◌, arith, inl, inr, ◌==◌, if◌then◌else◌}
+use Rattle.std.proofs.lemmas.Bool.{cases_eq}
+use Rattle.std.proofs.lemmas.Bool.Decides.{nat_tests}
+use Rattle.std.proofs.lemmas.List.Elements.{All-head, All-tail, All-cons, All-nil}
+use Rattle.gf_field.specs.Field.{plus, product}
+use Rattle.gf_field.specs.Words.{IsByte}
+use Rattle.gf_field.proofs.FieldLaws.{plus-byte, plus-comm, plus-zero, plus-zero_same, product-byte, product-zero, product-zero_factor}
+use Rattle.rs_code.proofs.Ring.{ring}
+use Rattle.rs_code.specs.PowerSums.{AreDistinct}
+use Rattle.rs_decode.specs.Locator.{polynomial_at}
+
+pub polynomial_at-byte : (coefficients : List ℕ) (x : ℕ) → All IsByte coefficients → polynomial_at coefficients x < 256
+unfolding polynomial_at
+polynomial_at-byte [] x all = omega arith
+polynomial_at-byte (c ∷ cs) x all = plus-byte c (product x (polynomial_at cs x)) (All-head IsByte c cs all) (product-byte x (polynomial_at cs x))
+
+-- the values at a of the polynomial without its lowest coefficients: the quotient by (x + a), and a 0 at its end
+quotient : ℕ → List ℕ → List ℕ
+quotient a [] = []
+quotient a (c ∷ cs) = polynomial_at (c ∷ cs) a ∷ quotient a cs
+
+length-quotient : (a : ℕ) (cs : List ℕ) → length (quotient a cs) ≡ length cs
+unfolding quotient
+length-quotient a [] = refl
+length-quotient a (c ∷ cs) = ap suc (length-quotient a cs)
+
+All-quotient : (a : ℕ) (cs : List ℕ) → All IsByte cs → All IsByte (quotient a cs)
+unfolding quotient
+All-quotient a [] all = All-nil IsByte
+All-quotient a (c ∷ cs) all =
+    All-cons IsByte (polynomial_at (c ∷ cs) a) (quotient a cs) (polynomial_at-byte (c ∷ cs) a all) (All-quotient a cs (All-tail IsByte c cs all))
+
+divided : (x a d at_x at_a q : ℕ) → product (plus x a) q ≡ plus (product x at_x) (product a at_a) → product (plus x a) (plus (plus d (product a at_a)) (product x q)) ≡ plus (product x (plus d (product x at_x))) (product a (plus d (product a at_a)))
+divided x a d at_x at_a q rest =
+    let first : product (plus x a) (plus (plus d (product a at_a)) (product x q)) ≡ plus (product (plus x a) (plus d (product a at_a))) (product x (product (plus x a) q)) = simp ring in
+    first ∙ rw rest (simp ring)
+
+-- the division's law
+quotient-law : (x a : ℕ) (cs : List ℕ) → product (plus x a) (polynomial_at (quotient a cs) x) ≡ plus (product x (polynomial_at cs x)) (product a (polynomial_at cs a))
+unfolding quotient polynomial_at
+quotient-law x a [] = simp (product-zero, plus-zero)
+quotient-law x a (d ∷ ds) = divided x a d (polynomial_at ds x) (polynomial_at ds a) (polynomial_at (quotient a ds) x) (quotient-law x a ds)
+
+-- the number of zeros among the points
+unfoldable pub zeros_among : List ℕ → List ℕ → ℕ
+zeros_among coefficients [] = 0
+zeros_among coefficients (x ∷ xs) = (if polynomial_at coefficients x == 0 then 1 else 0) + zeros_among coefficients xs
+
+polynomial_at-zeros : (n x : ℕ) → polynomial_at (replicate n 0) x ≡ 0
+unfolding polynomial_at
+polynomial_at-zeros zero x = refl
+polynomial_at-zeros (suc n) x = simp (polynomial_at-zeros n x, product-zero)
+
+-- a quotient that is 0 comes from a polynomial that is 0 but for its lowest coefficient
+zeros_from_quotient : (a : ℕ) (cs : List ℕ) → quotient a cs ≡ replicate (length cs) 0 → cs ≡ replicate (length cs) 0
+unfolding quotient polynomial_at
+zeros_from_quotient a [] zeros = refl
+zeros_from_quotient a (d ∷ ds) zeros =
+    let here : plus d (product a (polynomial_at ds a)) ≡ 0 = cc in
+    let later : quotient a ds ≡ replicate (length ds) 0 = cc in
+    let rest = zeros_from_quotient a ds later in
+    let none : product a (polynomial_at ds a) ≡ 0 = ap (λ xs. product a (polynomial_at xs a)) rest ∙ rw (polynomial_at-zeros (length ds) a) (product-zero a) in
+    let first : d ≡ 0 = plus-zero_same d (product a (polynomial_at ds a)) here ∙ none in
+    cc
+
+same_tests : (p q : ℕ) → (p ≡ 0 → q ≡ 0) → (q ≡ 0 → p ≡ 0) → (n m : ℕ) → n ≡ m → (if p == 0 then 1 else 0) + n ≡ (if q == 0 then 1 else 0) + m
+same_tests p q onward back n m same =
+    elim (cases_eq q 0) [
+      | inl is_zero ↦ let p_zero = back is_zero in grind (arith, nat_tests)
+      | inr not_zero ↦ let p_not : p ≢ 0 = λ e. not_zero (onward e) in grind (arith, nat_tests)
+    ]
+
+-- with a zero taken out, the zeros at all other points stay
+same_zeros : (a c : ℕ) (cs xs : List ℕ) → IsByte a → All IsByte cs → All IsByte xs → All (λ y. a ≢ y) xs → polynomial_at (c ∷ cs) a ≡ 0 → zeros_among (c ∷ cs) xs ≡ zeros_among (quotient a cs) xs
+unfolding zeros_among polynomial_at
+same_zeros a c cs [] byte_a all all_points apart root = refl
+same_zeros a c cs (y ∷ xs) byte_a all all_points apart root =
+    let low : c ≡ product a (polynomial_at cs a) = plus-zero_same c (product a (polynomial_at cs a)) root in
+    let factor : plus c (product y (polynomial_at cs y)) ≡ product (plus y a) (polynomial_at (quotient a cs) y) =
+    ap (λ s. plus s (product y (polynomial_at cs y))) low ∙ plus-comm (product a (polynomial_at cs a)) (product y (polynomial_at cs y)) ∙ sym (quotient-law y a cs) in
+    let byte_y = All-head IsByte y xs all_points in
+    let differ : plus y a ≢ 0 = λ same. All-head (λ z. a ≢ z) y xs apart (sym (plus-zero_same y a same)) in
+    same_tests (plus c (product y (polynomial_at cs y))) (polynomial_at (quotient a cs) y)
+    (λ is_zero. elim (product-zero_factor (plus y a) (polynomial_at (quotient a cs) y) (plus-byte y a byte_y byte_a) (polynomial_at-byte (quotient a cs) y (All-quotient a cs all)) (sym factor ∙ is_zero)) [
+      | inl no_distance ↦ absurd (differ no_distance)
+      | inr is ↦ is
+    ])
+    (λ is_zero. factor ∙ rw is_zero (product-zero (plus y a)))
+    _ _ (same_zeros a c cs xs byte_a all (All-tail IsByte y xs all_points) (All-tail (λ z. a ≢ z) y xs apart) root)
+
+one_at_most : (p n m : ℕ) → n ≡ m → (if p == 0 then 1 else 0) + n ≤ 1 + m
+one_at_most p n m same = grind (arith, nat_tests)
+
+not_counted : (p n : ℕ) → p ≢ 0 → (if p == 0 then 1 else 0) + n ≡ n
+not_counted p n not_zero = grind (arith, nat_tests)
+
+-- a polynomial whose higher coefficients are 0 is 0 where it has a zero
+all_zero : (c x : ℕ) (cs : List ℕ) → polynomial_at (c ∷ cs) x ≡ 0 → cs ≡ replicate (length cs) 0 → c ∷ cs ≡ replicate (length (c ∷ cs)) 0
+unfolding polynomial_at
+all_zero c x cs root zeros =
+    let none : product x (polynomial_at cs x) ≡ 0 = ap (λ xs. product x (polynomial_at xs x)) zeros ∙ rw (polynomial_at-zeros (length cs) x) (product-zero x) in
+    let first : c ≡ 0 = plus-zero_same c (product x (polynomial_at cs x)) root ∙ none in
+    cc
+
+-- a polynomial that isn't 0 has fewer zeros than coefficients
+pub few_zeros : (points coefficients : List ℕ) → AreDistinct points → All IsByte points → All IsByte coefficients → (coefficients ≡ replicate (length coefficients) 0 → ⊥) → zeros_among coefficients points + 1 ≤ length coefficients
+unfolding zeros_among AreDistinct
+few_zeros points [] distinct all_points all nonzero = absurd (nonzero refl)
+few_zeros [] (c ∷ cs) distinct all_points all nonzero = omega arith
+few_zeros (x ∷ points) (c ∷ cs) distinct all_points all nonzero =
+    elim (cases_eq (polynomial_at (c ∷ cs) x) 0) [
+      | inl root ↦
+          let byte_x = All-head IsByte x points all_points in
+          let tail_points = All-tail IsByte x points all_points in
+          let all_cs = All-tail IsByte c cs all in
+          let quotient_nonzero : quotient x cs ≡ replicate (length (quotient x cs)) 0 → ⊥ =
+          λ zeros. nonzero (all_zero c x cs root (zeros_from_quotient x cs (zeros ∙ ap (λ n. replicate n 0) (length-quotient x cs)))) in
+          let rest = few_zeros points (quotient x cs) distinct.1 tail_points (All-quotient x cs all_cs) quotient_nonzero in
+          let same = same_zeros x c cs points byte_x all_cs tail_points distinct.0 root in
+          let counted : (if polynomial_at (c ∷ cs) x == 0 then 1 else 0) + zeros_among (c ∷ cs) points ≤ 1 + zeros_among (quotient x cs) points = one_at_most (polynomial_at (c ∷ cs) x) (zeros_among (c ∷ cs) points) (zeros_among (quotient x cs) points) same in
+          omega (arith, length-quotient x cs)
+      | inr no_root ↦
+          let rest = few_zeros points (c ∷ cs) distinct.1 (All-tail IsByte x points all_points) all nonzero in
+          let counted : (if polynomial_at (c ∷ cs) x == 0 then 1 else 0) + zeros_among (c ∷ cs) points ≡ zeros_among (c ∷ cs) points = not_counted (polynomial_at (c ∷ cs) x) (zeros_among (c ∷ cs) points) no_root in
+          omega arith
+    ]

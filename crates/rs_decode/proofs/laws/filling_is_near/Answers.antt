@@ -1,0 +1,5 @@
+use Rattle.rs_decode.proofs.Near.{filling_near}
+use Rattle.rs_decode.proofs.laws.filling_is_near.Goals as goal
+
+pub returns : goal.returns
+returns c = filling_near

@@ -1,0 +1,5 @@
+use Rattle.rs_decode.proofs.Near.{filling_once}
+use Rattle.rs_decode.proofs.laws.filling_is_only_one.Goals as goal
+
+pub returns : goal.returns
+returns c = filling_once

@@ -1,0 +1,5 @@
+use Rattle.rs_decode.proofs.Near.{near_once}
+use Rattle.rs_decode.proofs.laws.near_codeword_is_only_one.Goals as goal
+
+pub returns : goal.returns
+returns c = near_once

@@ -1,0 +1,26 @@
+-- The laws of decoding, for words of at most 255 bytes.
+use Rattle.std.specs.Prelude.{◌≡◌, ℕ, ◌≤◌, List, Bool, length, Some, ◌↔◌}
+use Rattle.gf_field.specs.Words.{IsNear}
+use Rattle.rs_decode.specs.Nearest.{near_of}
+use Rattle.rs_decode.specs.Filling.{IsFilling}
+
+-- at most one codeword is near
+abbrev pub NearCodewordIsOnlyOne : Type 0
+NearCodewordIsOnlyOne =
+    (n r : ℕ) (received : List ℕ) (marks : List Bool) (a b : List ℕ) → n ≤ 255 → IsNear n r received marks a → IsNear n r received marks b → a ≡ b
+
+-- at most one codeword agrees at all unmarked places
+abbrev pub FillingIsOnlyOne : Type 0
+FillingIsOnlyOne =
+    (n r : ℕ) (received : List ℕ) (marks : List Bool) (a b : List ℕ) → n ≤ 255 → length marks ≡ n → IsFilling n r received marks a → IsFilling n r received marks b → a ≡ b
+
+-- it costs one for each marked place
+abbrev pub FillingIsNear : Type 0
+FillingIsNear =
+    (n r : ℕ) (received : List ℕ) (marks : List Bool) (word : List ℕ) → length received ≡ n → length marks ≡ n → IsFilling n r received marks word → IsNear n r received marks word
+
+-- the search through all words finds the near codeword, exactly where there is one
+abbrev pub NearCodewordIsFound : Type 0
+NearCodewordIsFound =
+    (n r : ℕ) (received : List ℕ) (marks : List Bool) (word : List ℕ) → n ≤ 255 → length received ≡ n → length marks ≡ n
+    → (near_of n r received marks ≡ Some word) ↔ IsNear n r received marks word

@@ -1,0 +1,9 @@
+pub mod Errors
+pub mod Examples
+pub mod Filling
+pub mod Laws
+pub mod Locator
+pub mod Pivots
+pub mod Places
+pub mod Sums
+pub mod Nearest

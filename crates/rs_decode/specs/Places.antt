@@ -1,0 +1,18 @@
+-- The bytes of a word at its marked places.
+use Rattle.std.specs.Prelude.{ℕ, Bool, true, false, List, [], ◌∷◌}
+use Rattle.gf_field.specs.Field.{plus}
+
+-- the numbers at the marked places, in order
+unfoldable pub picked : List Bool → List ℕ → List ℕ
+picked [] xs = []
+picked (mark ∷ marks) [] = []
+picked (true ∷ marks) (x ∷ xs) = x ∷ picked marks xs
+picked (false ∷ marks) (x ∷ xs) = picked marks xs
+
+-- a word with the bytes added to its marked places, in order
+unfoldable pub patched : List ℕ → List Bool → List ℕ → List ℕ
+patched [] marks bytes = []
+patched (byte ∷ word) [] bytes = byte ∷ word
+patched (byte ∷ word) (false ∷ marks) bytes = byte ∷ patched word marks bytes
+patched (byte ∷ word) (true ∷ marks) [] = byte ∷ patched word marks []
+patched (byte ∷ word) (true ∷ marks) (first ∷ rest) = plus byte first ∷ patched word marks rest

@@ -1,0 +1,24 @@
+//! What holds of every received word of at most 255 bytes: each function's contract is one law, and its body is empty.
+#![tactic(auto, using(crate::proofs::Near::laws))]
+
+ghost use Rattle.rs_decode.specs.Laws.{NearCodewordIsOnlyOne, NearCodewordIsFound, FillingIsOnlyOne, FillingIsNear};
+
+/// At most one codeword is near a received word with marks.
+pub fn near_codeword_is_only_one()
+    ensures { NearCodewordIsOnlyOne }
+{}
+
+/// At most one codeword agrees with a word at all but at most r marked places.
+pub fn filling_is_only_one()
+    ensures { FillingIsOnlyOne }
+{}
+
+/// It is near, too.
+pub fn filling_is_near()
+    ensures { FillingIsNear }
+{}
+
+/// A search through all words finds the near codeword, exactly where there is one.
+pub fn near_codeword_is_found()
+    ensures { NearCodewordIsFound }
+{}

@@ -1,0 +1,23 @@
+//! Decoding of words of Reed-Solomon codes (ECMA-267, clauses 16.2 and 18) in place, without memory of their own.
+//!
+//! - [`erasures`]: `fill` finds the codeword that agrees with a word at all places that aren't marked.
+//! - [`errors`]: `decode` finds the codeword that is near a word with marks.
+//! - `locating`: the places where errors may be, from power sums and a locator.
+//! - `elimination`: the locator, a polynomial that vanishes at the points of the errors.
+//! - `places`: the marked places of a word.
+//! - `sums`: the bytes at given points that have given power sums.
+//! - [`laws`]: what holds of every word, as contracts alone.
+#![tactic(auto)]
+
+mod elimination;
+pub mod erasures;
+pub mod errors;
+pub mod laws;
+mod locating;
+mod places;
+mod sums;
+#[cfg(test)]
+mod tests;
+
+pub use erasures::{NoCodeword, fill};
+pub use errors::{Beyond, Fix, decode};

@@ -1,0 +1,258 @@
+//! Worked values from outside, and the answers for drawn words as another decoder gives them: one by the Berlekamp-Massey
+//! algorithm and Forney's formula, which has nothing in common with this one but the code.
+ghost use Rattle.std.specs.Prelude.{◌≡◌, ◌<◌, ◌≤◌, length};
+
+use crate::{Beyond, Fix, NoCodeword, decode, fill};
+use rs_code::{Code, Ied, Pi, Po};
+use sha2::{Digest, Sha256};
+
+#[test]
+fn fills_marked_places_of_an_id(rt: HostRuntime) {
+    let code = Code::<6, 2>::new();
+    let mut word = [0x00, 0x03, 0x00, 0x00, 0xFF, 0xFF];
+    assert_eq!(rt;
+        fill(&code, &mut word, &[false, false, false, false, true, true]),
+        Ok(2)
+    );
+    assert_eq!(rt; word, [0x00, 0x03, 0x00, 0x00, 0x11, 0x12]);
+
+    // One place too many, and a wrong byte at a place that isn't marked.
+    let mut word = [0x00, 0x03, 0x00, 0x00, 0xFF, 0xFF];
+    assert_eq!(rt;
+        fill(&code, &mut word, &[false, false, false, true, true, true]),
+        Err(NoCodeword)
+    );
+    assert_eq!(rt; word, [0x00, 0x03, 0x00, 0x00, 0xFF, 0xFF]);
+    let mut word = [0x00, 0x03, 0x00, 0x00, 0x11, 0x13];
+    assert_eq!(rt; fill(&code, &mut word, &[false; 6]), Err(NoCodeword));
+    assert_eq!(rt; word, [0x00, 0x03, 0x00, 0x00, 0x11, 0x13]);
+}
+
+#[test]
+fn fills_the_shortest_words(rt: HostRuntime) {
+    let code = Code::<2, 1>::new();
+    let mut word = [0x05, 0x00];
+    assert_eq!(rt; fill(&code, &mut word, &[false, true]), Ok(1));
+    assert_eq!(rt; word, [0x05, 0x05]);
+    let mut word = [0x05, 0x00];
+    assert_eq!(rt; fill(&code, &mut word, &[true, true]), Err(NoCodeword));
+    assert_eq!(rt; word, [0x05, 0x00]);
+}
+
+#[test]
+fn fills_as_many_places_as_there_are_parity_bytes(rt: HostRuntime) {
+    let code = Code::<255, 32>::new();
+    for (first, step) in [(0usize, 1usize), (223, 1), (3, 8)] {
+        let mut word = [0u8; 255];
+        let mut marks = [false; 255];
+        for k in 0..32usize {
+            word[first + k * step] = 0xFF;
+            marks[first + k * step] = true;
+        }
+        assert_eq!(rt; fill(&code, &mut word, &marks), Ok(32));
+        assert!(rt; word.iter().all(|byte| *byte == 0));
+    }
+}
+
+/// Each word with its marked places, and what is answered and left.
+#[test]
+fn decodes_as_worked(rt: HostRuntime) {
+    let code = Pi::new();
+    let zeros = [0; 182];
+    // Errors and marks that are wrong, and marks at right bytes: (wrong, wrong and marked, right and marked).
+    for ((wrong, lost, doubted), want) in [
+        (
+            (5usize, 0usize, 0usize),
+            Ok(Fix {
+                errors: 5,
+                erased: 0,
+            }),
+        ),
+        (
+            (0, 10, 0),
+            Ok(Fix {
+                errors: 0,
+                erased: 10,
+            }),
+        ),
+        (
+            (4, 2, 0),
+            Ok(Fix {
+                errors: 4,
+                erased: 2,
+            }),
+        ),
+        ((1, 0, 9), Err(Beyond)),
+        ((0, 0, 11), Err(Beyond)),
+        (
+            (0, 0, 0),
+            Ok(Fix {
+                errors: 0,
+                erased: 0,
+            }),
+        ),
+    ] {
+        let mut word = zeros;
+        let mut marks = [false; 182];
+        for k in 0..wrong + lost + doubted {
+            if k < wrong + lost {
+                word[17 * k % 182] = 0x5A;
+            }
+            marks[17 * k % 182] = wrong <= k;
+        }
+        let received = word;
+        assert_eq!(rt;
+            decode(&code, &mut word, &marks),
+            want,
+            "at {wrong}, {lost}, {doubted}"
+        );
+        assert!(rt; word == if want.is_ok() { zeros } else { received });
+    }
+
+    // Six bytes of the codeword of 171 zeros and 01 are nearer to it than to zeros.
+    let mut codeword = zeros;
+    codeword[171] = 1;
+    code.encode(&mut codeword);
+    let mut word = zeros;
+    word[171..177].copy_from_slice(b"\x01\xD8\xC2\x9F\x6F\xC7");
+    assert_eq!(rt;
+        decode(&code, &mut word, &[false; 182]),
+        Ok(Fix {
+            errors: 5,
+            erased: 0
+        })
+    );
+    assert!(rt; word == codeword);
+}
+
+#[test]
+fn decodes_the_shortest_words(rt: HostRuntime) {
+    let mut id = [0x00, 0x03, 0x00, 0x00, 0x11, 0x13];
+    assert_eq!(rt;
+        decode(&Ied::new(), &mut id, &[false; 6]),
+        Ok(Fix {
+            errors: 1,
+            erased: 0
+        })
+    );
+    assert_eq!(rt; id, [0x00, 0x03, 0x00, 0x00, 0x11, 0x12]);
+    let code = Code::<2, 1>::new();
+    let mut pair = [0x05, 0x04];
+    assert_eq!(rt; decode(&code, &mut pair, &[false, false]), Err(Beyond));
+    assert_eq!(rt; pair, [0x05, 0x04]);
+    assert_eq!(rt;
+        decode(&code, &mut pair, &[false, true]),
+        Ok(Fix {
+            errors: 0,
+            erased: 1
+        })
+    );
+    assert_eq!(rt; pair, [0x05, 0x05]);
+}
+
+/// A generator of drawn numbers by three shifts of 64 bits.
+#[derive(Drop)]
+struct Drawn {
+    state: u64,
+}
+
+impl Drawn {
+    fn number(&mut self) -> u64 {
+        self.state ^= self.state << 13;
+        self.state ^= self.state >> 7;
+        self.state ^= self.state << 17;
+        self.state
+    }
+
+    fn byte(&mut self) -> u8 {
+        self.number().to_be_bytes()[0]
+    }
+
+    fn below(&mut self, bound: usize) -> usize
+        requires { 0 < bound }
+        ensures { result < bound }
+    {
+        (self.number() % bound as u64) as usize
+    }
+
+    fn fill_front(&mut self, bytes: &mut [u8], count: usize) {
+        for byte in bytes.iter_mut().take(count) {
+            *byte = self.byte();
+        }
+    }
+
+    /// Damages up to one marked place more than `parity`, and up to one unmarked place more than half of it.
+    fn damage(&mut self, word: &mut [u8], marks: &mut [bool], parity: usize)
+        requires some { 0 < length word.old }
+        requires fits { length marks.old ≡ length word.old }
+        requires few { parity ≤ 32 }
+    {
+        let marked = self.below(parity + 2);
+        let wrong = self.below(parity / 2 + 2);
+        let first = self.below(word.len());
+        for k in 0..marked + wrong {
+            let place = (first + 31 * k) % word.len();
+            if k < marked {
+                marks[place] = true;
+                word[place] ^= self.byte();
+            } else {
+                word[place] ^= self.byte() | 1;
+            }
+        }
+    }
+}
+
+/// The digest of what is answered for 300 drawn words, and of the words as they are left.
+fn answers_digest<const N: usize, const R: usize>(
+    code: &Code<N, R>,
+    drawn: &mut Drawn,
+) -> [u8; 32] {
+    let mut hasher = Sha256::new();
+    for _k in 0..300 {
+        let mut word = [0; N];
+        drawn.fill_front(&mut word, N - R);
+        code.encode(&mut word);
+        let mut marks = [false; N];
+        drawn.damage(&mut word, &mut marks, R);
+        match decode(code, &mut word, &marks) {
+            Ok(fix) => {
+                hasher.update(&[1]);
+                hasher.update(&[fix.errors.to_be_bytes()[1], fix.erased.to_be_bytes()[1]]);
+            }
+            Err(Beyond) => hasher.update(&[0]),
+        }
+        hasher.update(&word);
+    }
+    hasher.finalize()
+}
+
+#[test]
+fn decodes_drawn_words(rt: HostRuntime) {
+    let rows = answers_digest(&Pi::new(), &mut Drawn { state: 4 });
+    assert_eq!(rt;
+        rows,
+        [
+            0x45, 0x27, 0xB5, 0x46, 0xCA, 0xC6, 0xD8, 0x20, 0x47, 0xB4, 0x14, 0xCD, 0xC4, 0xE3,
+            0x4E, 0x10, 0x8A, 0x2D, 0x3E, 0xDF, 0xDF, 0xCF, 0x0F, 0xEA, 0xCC, 0xE4, 0x71, 0x98,
+            0xDA, 0xA4, 0xE0, 0xB1
+        ]
+    );
+    let columns = answers_digest(&Po::new(), &mut Drawn { state: 5 });
+    assert_eq!(rt;
+        columns,
+        [
+            0x32, 0x3E, 0x86, 0x74, 0xBC, 0xEF, 0xFA, 0xD2, 0xA3, 0x29, 0xD8, 0x63, 0x88, 0x2A,
+            0xE8, 0x52, 0x0F, 0x32, 0x55, 0x03, 0x1F, 0x2A, 0x29, 0x3C, 0x31, 0xBE, 0x2A, 0x86,
+            0xD3, 0x9F, 0xEC, 0x92
+        ]
+    );
+    let ids = answers_digest(&Ied::new(), &mut Drawn { state: 6 });
+    assert_eq!(rt;
+        ids,
+        [
+            0xC7, 0x80, 0x88, 0x1F, 0xDF, 0x68, 0x02, 0xDC, 0xCF, 0xA9, 0x14, 0x43, 0x42, 0xA6,
+            0xB1, 0x58, 0xA2, 0x17, 0xC2, 0xD3, 0x4D, 0x3C, 0x0C, 0x0E, 0xFE, 0xAC, 0xA4, 0xFB,
+            0x6E, 0xB4, 0xD3, 0x05
+        ]
+    );
+}
