@@ -1,0 +1,13 @@
+use Rattle.std.proofs.Common.{length, take, ◌≤◌, ◌-◌}
+use Rattle.std.specs.Io.KnownBytes.{Appends}
+use Rattle.dvd_ports.proofs.whole.write_whole.Given as goal
+
+abbrev pub invariant-loop-written : goal.invariant-loop-written
+invariant-loop-written g l = record {
+  bytes : Appends (g.K.Sink.seen l.fn.out).bytes (g.K.Sink.seen l.out).bytes (take l.written l.buf);
+  within : l.written ≤ length l.buf;
+  later : (g.K.Sink.seen l.fn.out).faults ≤ (g.K.Sink.seen l.out).faults;
+}
+
+abbrev pub decreases-loop-written : goal.decreases-loop-written
+decreases-loop-written g l = length l.buf - l.written

@@ -1,0 +1,15 @@
+-- When a call may answer that an object failed: only where the object's count of faults rose.
+use Rattle.std.specs.Prelude.{ℕ, ◌+◌, ◌-◌, ◌^◌, ◌≤◌, min, Result, OnErr}
+
+-- one more, but a count stays at the last number of 64 bits
+abbrev pub next_count : ℕ → ℕ
+next_count n = min (n + 1) (2 ^ 64 - 1)
+
+-- the count rose: it is greater than before, or stands at its last number
+abbrev pub Rose : ℕ → ℕ → Type 0
+Rose before now = next_count before ≤ now
+
+-- the count hasn't fallen, and the call failed only where it rose
+pub record HasCause {T E : Type 0} (before now : ℕ) (result : Result T E) : Type 0 where
+  pub later : before ≤ now
+  pub failed : OnErr result (Rose before now)

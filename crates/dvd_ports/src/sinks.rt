@@ -1,0 +1,130 @@
+//! Sinks over memory. They fail exactly where they are told to.
+ghost use Rattle.std.specs.Prelude.{◌≡◌, ◌<◌, ◌≤◌, ◌↔◌, ◌-◌, ◌⊎◌, ◌++◌, [], length, take, min, Some, None, Contains, IfOk, IsErr, OnErr};
+ghost use Rattle.std.specs.Io.{WritesAtMost};
+ghost use Rattle.std.specs.Io.KnownBytes.{WriteAppends};
+ghost use Rattle.dvd_ports.specs.Causes.{HasCause, next_count};
+
+use crate::{Failed, NoMemory, Sink};
+use std::alloc::Global;
+use std::marker::Model;
+
+/// A sink that keeps what it takes, for tests: it has room for so many bytes, takes at most `step` of them a call, and
+/// fails where it is full and at the calls whose numbers are listed. Calls with a byte to write are numbered from 0;
+/// the last number stays.
+#[derive(Drop)]
+pub struct MemSink {
+    held: Vec<u8>,
+    room: usize,
+    step: usize,
+    fails: Vec<u64>,
+    calls: u64,
+    faults: u64,
+}
+
+impl Model for MemSink {
+    ghost use Rattle.std.specs.Prelude.{◌≤◌, vec_len, vec_capacity};
+    ghost use Rattle.dvd_ports.specs.Memory.{SinkState};
+
+    ghost Value = { SinkState };
+
+    ghost view = { λ s. record { held = s.held.items; room = s.room; step = s.step; fails = s.fails.items; calls = s.calls; faults = s.faults } };
+
+    ghost invariant = { λ s. (vec_len s.held ≤ s.room) × (s.room ≤ vec_capacity s.held) × (1 ≤ s.step) };
+}
+
+impl MemSink {
+    /// Takes the memory for `room` bytes here; no write takes any.
+    pub fn new(
+        alloc: Global,
+        room: usize,
+        step: usize,
+        fails: Vec<u64>,
+    ) -> Result<MemSink, NoMemory>
+        requires { 1 ≤ step }
+        ensures { IfOk result (λ sink. sink
+            ≡ record { held = []; room = room; step = step; fails = fails.items; calls = 0; faults = 0 }) }
+    {
+        let held = Vec::with_capacity(alloc, room).map_err(|_| NoMemory)?;
+        Ok(MemSink {
+            held,
+            room,
+            step,
+            fails,
+            calls: 0,
+            faults: 0,
+        })
+    }
+
+    /// What the sink has taken.
+    pub fn held(&self) -> &[u8]
+        ensures { result.now ≡ self.now.held }
+    {
+        &self.held
+    }
+}
+
+impl Sink for MemSink {
+    ghost seen = { λ s. record { bytes = Some s.held; faults = s.faults } };
+
+    fn write(&mut self, buf: &[u8]) -> Result<usize, Failed>
+        ensures fails { IsErr result
+            ↔ ((0 < length buf.now) × (Contains self.old.fails self.old.calls ⊎ (length self.old.held ≡ self.old.room))) }
+        ensures takes { IfOk result (λ count.
+            count ≡ min self.old.step (min (length buf.now) (self.old.room - length self.old.held))) }
+        ensures leaves { 0 < length buf.now → IfOk result (λ count.
+            self.new ≡ record self.old { held = self.old.held ++ take count buf.now; calls = next_count self.old.calls }) }
+        ensures failed { OnErr result (self.new
+            ≡ record self.old { calls = next_count self.old.calls; faults = next_count self.old.faults }) }
+
+        // As every sink.
+        ensures bound { WritesAtMost result buf.now }
+        ensures progress { 0 < length buf.now → IfOk result (λ count. 0 < count) }
+        ensures bytes { WriteAppends (Some self.old.held) (Some self.new.held) result buf.now }
+        ensures cause { HasCause self.old.faults self.new.faults result }
+        ensures empty { length buf.now ≡ 0 → (result ≡ Ok 0) × (self.new ≡ self.old) }
+    {
+        if buf.is_empty() {
+            return Ok(0);
+        }
+        let call = self.calls;
+        self.calls = call.saturating_add(1);
+        if self.fails.contains(&call) || self.held.len() == self.room {
+            self.faults = self.faults.saturating_add(1);
+            return Err(Failed);
+        }
+        let count = self.step.min(buf.len().min(self.room - self.held.len()));
+        match self.held.extend_from_slice(&buf[..count]) {
+            Ok(()) => Ok(count),
+            Err(_) => unreachable!(),
+        }
+    }
+}
+
+/// A sink that takes everything, tells nothing and never fails.
+#[derive(Clone, Copy, Debug, PartialEq, Eq)]
+pub struct NullSink;
+
+impl NullSink {
+    pub fn new() -> NullSink
+        ensures { ⟦<NullSink as Sink>⟧.seen result ≡ record { bytes = None; faults = 0 } }
+    {
+        NullSink
+    }
+}
+
+impl Sink for NullSink {
+    ghost seen = { λ _. record { bytes = None; faults = 0 } };
+
+    fn write(&mut self, buf: &[u8]) -> Result<usize, Failed>
+        ensures takes { result ≡ Ok (length buf.now) }
+
+        // As every sink.
+        ensures bound { WritesAtMost result buf.now }
+        ensures progress { 0 < length buf.now → IfOk result (λ count. 0 < count) }
+        ensures bytes { WriteAppends None None result buf.now }
+        ensures cause { HasCause 0 0 result }
+        ensures empty { length buf.now ≡ 0 → (result ≡ Ok 0) × (self.new ≡ self.old) }
+    {
+        Ok(buf.len())
+    }
+}

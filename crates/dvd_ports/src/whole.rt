@@ -1,0 +1,44 @@
+//! Whole pieces: a write of all bytes, and a read that fills a buffer.
+ghost use Rattle.std.specs.Prelude.{◌<◌, length, take, IfOk, OnOk, OnErr};
+ghost use Rattle.std.specs.Io.{ReadsAtMost};
+ghost use Rattle.std.specs.Io.KnownBytes.{Appends, Consumes, IsAtEnd};
+ghost use Rattle.dvd_ports.specs.Causes.{HasCause};
+ghost use Rattle.dvd_ports.specs.Whole.{AppendsPrefix, ConsumesFewer};
+
+use crate::{Failed, Sink, Source, WriteFault};
+
+/// Writes the whole piece, by as many calls as it takes. After a fault a prefix of it was taken.
+pub fn write_whole<K: Sink>(out: &mut K, buf: &[u8]) -> Result<(), WriteFault>
+    ensures written { OnOk result (Appends (K.seen out.old).bytes (K.seen out.new).bytes buf.now) }
+    ensures begun { OnErr result (AppendsPrefix (K.seen out.old).bytes (K.seen out.new).bytes buf.now) }
+    ensures cause { HasCause (K.seen out.old).faults (K.seen out.new).faults result }
+{
+    let mut written = 0;
+    while written < buf.len() {
+        match out.write(&buf[written..]) {
+            Ok(count) => written += count,
+            Err(Failed) => return Err(WriteFault),
+        }
+    }
+    Ok(())
+}
+
+/// Fills the buffer, by as many calls as it takes, and answers how many bytes came: fewer than the buffer's length
+/// only at the end of the input. After a fault fewer bytes than that were taken from the source.
+pub fn read_whole<S: Source>(src: &mut S, buf: &mut [u8]) -> Result<usize, Failed>
+    ensures bound { ReadsAtMost result buf.new }
+    ensures taken { IfOk result (λ count. Consumes (S.seen src.old).bytes (S.seen src.new).bytes (take count buf.new)) }
+    ensures end { IfOk result (λ count. count < length buf.new → IsAtEnd (S.seen src.new).bytes) }
+    ensures begun { OnErr result (ConsumesFewer (S.seen src.old).bytes (S.seen src.new).bytes (length buf.new)) }
+    ensures cause { HasCause (S.seen src.old).faults (S.seen src.new).faults result }
+{
+    let mut filled = 0;
+    while filled < buf.len() {
+        let count = src.read(&mut buf[filled..])?;
+        if count == 0 {
+            return Ok(filled);
+        }
+        filled += count;
+    }
+    Ok(filled)
+}
