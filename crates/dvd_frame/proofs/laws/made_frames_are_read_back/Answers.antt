@@ -1,0 +1,5 @@
+use Rattle.dvd_frame.proofs.ReadBack.{read_back}
+use Rattle.dvd_frame.proofs.laws.made_frames_are_read_back.Goals as goal
+
+pub returns : goal.returns
+returns c = read_back

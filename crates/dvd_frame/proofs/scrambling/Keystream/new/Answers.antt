@@ -1,0 +1,7 @@
+use Rattle.std.proofs.Common.{refl}
+use Rattle.dvd_frame.specs.Scrambling.{sequence, window}
+use Rattle.dvd_frame.proofs.scrambling.Keystream.new.Goals as goal
+
+pub returns : goal.returns
+unfolding window sequence
+returns c = refl

@@ -1,0 +1,6 @@
+pub mod Bits
+pub mod Edc
+pub mod Examples
+pub mod Frame
+pub mod Id
+pub mod Scrambling

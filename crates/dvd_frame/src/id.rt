@@ -1,0 +1,105 @@
+//! The ID of a data frame (ECMA-267, 16.1): four bytes that name the place of a sector on the disk.
+ghost use Rattle.std.specs.Prelude.{◌≡◌, ℕ, ◌/◌, ◌%◌, ◌^◌, ◌<◌, ◌↔◌, IsTrue};
+ghost use Rattle.dvd_frame.specs.Id.{area_number, id_word, word_bytes, IsSamePlace};
+
+use byteorder::{BigEndian, ByteOrder};
+use std::marker::Model;
+
+/// The bits that two IDs of the same place share: those of area, layer and sector number.
+const PLACE_BITS: u32 = 0x0DFF_FFFF;
+
+/// The part of the disk that a sector belongs to, b27 and b26 of its ID.
+#[derive(Clone, Copy, Debug, PartialEq, Eq)]
+pub enum Area {
+    DataZone,
+    LeadIn,
+    LeadOut,
+    Middle,
+}
+
+/// The word of 32 bits that identifies a sector. Contracts see it as a number.
+#[derive(Clone, Copy, Debug, PartialEq, Eq)]
+pub struct Id(u32);
+
+impl Model for Id {
+    ghost Value = { ℕ };
+
+    ghost view = { λ id. id.0 };
+
+    ghost inverse = { λ word. record { 0 = word } };
+}
+
+impl Id {
+    /// The ID of a sector of a read-only disk. `dim` sets b29, as a disk of two layers has it;
+    /// format type, tracking and reserved bits are 0.
+    pub fn new(area: Area, layer: u8, dim: bool, number: u32) -> Id
+        requires layer { layer < 2 }
+        requires number { number < 2 ^ 24 }
+        ensures { result ≡ id_word area layer dim number }
+    {
+        let area_bits = match area {
+            Area::DataZone => 0,
+            Area::LeadIn => 1 << 26,
+            Area::LeadOut => 2 << 26,
+            Area::Middle => 3 << 26,
+        };
+        let dim_bit = if dim { 1 << 29 } else { 0 };
+        Id(dim_bit + area_bits + u32::from(layer) * (1 << 24) + number)
+    }
+
+    /// The ID of a word as it stands on a disk; all 32 bits are kept.
+    pub fn from_word(word: u32) -> Id
+        ensures { result ≡ word }
+    {
+        Id(word)
+    }
+
+    /// The word.
+    pub fn word(self) -> u32
+        ensures { result ≡ self }
+    {
+        self.0
+    }
+
+    /// The four bytes of the word, the most significant first.
+    pub fn bytes(self) -> [u8; 4]
+        ensures { result ≡ word_bytes self }
+    {
+        let mut bytes = [0; 4];
+        BigEndian::write_u32(&mut bytes, self.0);
+        bytes
+    }
+
+    /// The area that b27 and b26 name.
+    pub fn area(self) -> Area
+        ensures { area_number result ≡ self / 2 ^ 26 % 4 }
+    {
+        match self.0 >> 26 & 3 {
+            0 => Area::DataZone,
+            1 => Area::LeadIn,
+            2 => Area::LeadOut,
+            _ => Area::Middle,
+        }
+    }
+
+    /// The layer, b24.
+    pub fn layer(self) -> u8
+        ensures { result ≡ self / 2 ^ 24 % 2 }
+    {
+        (self.0 >> 24 & 1) as u8
+    }
+
+    /// The sector number, b23 to b0.
+    pub fn number(self) -> u32
+        ensures { result ≡ self % 2 ^ 24 }
+    {
+        self.0 & 0xFF_FFFF
+    }
+
+    /// Whether both name the same area, layer and sector number. The other bits aren't compared.
+    pub fn same_place(self, other: Id) -> bool
+        ensures { IsTrue result ↔ IsSamePlace self other }
+    {
+        self.0 & PLACE_BITS == other.0 & PLACE_BITS
+    }
+}

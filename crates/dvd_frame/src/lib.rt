@@ -1,0 +1,19 @@
+//! Data frames and scrambled frames of a DVD (ECMA-267, clauses 16 and 17): 2,064 bytes with the identification
+//! of a sector, its 2,048 bytes Main Data, and the codes that detect errors in both.
+#![tactic(auto)]
+
+mod checks; // the two codes that detect errors: IED and EDC
+mod frame; // a whole data frame
+mod id; // the identification of a sector: area, layer and number
+pub mod laws; // what holds of every data frame
+mod reading; // a frame that was read, checked
+mod scrambling; // which Main Data bytes are combined with which bytes
+
+pub use checks::{edc, ied};
+pub use frame::make_frame;
+pub use id::{Area, Id};
+pub use reading::{FrameCause, read_frame};
+pub use scrambling::{Keystream, Rule, preset, scramble};
+
+#[cfg(test)]
+mod tests;

@@ -1,0 +1,98 @@
+//! A data frame that was read: its checks, and its Main Data unscrambled (ECMA-267, 16 and 17).
+ghost use Rattle.std.specs.Prelude.{◌≡◌, ◌++◌, take, drop, None, Some, IfErr, OnErr, OnOk};
+ghost use Rattle.std.specs.Str.{bytes_eq};
+ghost use Rattle.dvd_frame.specs.Edc.{edc_of};
+ghost use Rattle.dvd_frame.specs.Frame.{found_word, frame_cause, main_in};
+ghost use Rattle.dvd_frame.specs.Scrambling.{masked};
+ghost use Rattle.dvd_frame.specs.Id.{has_check};
+
+use crate::checks::edc;
+use crate::frame::put;
+use crate::id::Id;
+use crate::scrambling::{Rule, scramble};
+use rs_code::Ied;
+use thiserror::Error;
+
+/// Why a frame isn't the one that is wanted.
+#[derive(Clone, Copy, Debug, PartialEq, Eq, Error)]
+pub enum FrameCause {
+    /// ID and IED aren't a codeword.
+    #[error("ied")]
+    Ied,
+    /// The ID names another place.
+    #[error("address {found}")]
+    Address { found: u32 },
+    /// The EDC of the unscrambled frame is wrong.
+    #[error("edc")]
+    Edc,
+}
+
+/// Checks a frame, and writes its unscrambled Main Data to `out`. The frame has to have a right IED, the area, the layer
+/// and the sector number of `want`, and a right EDC; the first that it lacks is answered, and `out` is then unchanged.
+#[tactic(auto, using(std::proofs::lemmas::Bool::Decides::nat_tests), unfolding(crate::specs::Frame::frame_cause))]
+pub fn read_frame(
+    frame: &[u8; 2064],
+    want: Id,
+    rule: Rule,
+    out: &mut [u8; 2048],
+) -> Result<(), FrameCause>
+    ensures refused { IfErr result (λ cause. frame_cause frame.now want rule ≡ Some cause) }
+    ensures right { OnOk result (frame_cause frame.now want rule ≡ None) }
+    ensures main { OnOk result (out.new ≡ main_in frame.now rule) }
+    ensures same { OnErr result (out.new ≡ out.old) }
+{
+    if !has_right_ied(frame) {
+        return Err(FrameCause::Ied);
+    }
+    let id = found_id(frame);
+    if !id.same_place(want) {
+        return Err(FrameCause::Address { found: id.word() });
+    }
+    let main = unscrambled(frame, id, rule);
+    if !has_right_edc(frame, &main) {
+        return Err(FrameCause::Edc);
+    }
+    *out = main;
+    Ok(())
+}
+
+// The ID as it was read.
+fn found_id(frame: &[u8; 2064]) -> Id
+    ensures { result ≡ found_word frame.now }
+{
+    Id::from_word(u32::from_be_bytes([frame[0], frame[1], frame[2], frame[3]]))
+}
+
+fn has_right_ied(frame: &[u8; 2064]) -> bool
+    ensures { result ≡ has_check (take 6 frame.now) }
+{
+    let mut word = [0; 6];
+    word.copy_from_slice(&frame[..6]);
+    Ied::new().is_codeword(&word)
+}
+
+// The Main Data, with the scrambling bytes of this ID taken away.
+fn unscrambled(frame: &[u8; 2064], id: Id, rule: Rule) -> [u8; 2048]
+    ensures { result ≡ masked id rule (take 2048 (drop 12 frame.now)) }
+{
+    let mut main = [0; 2048];
+    main.copy_from_slice(&frame[12..2060]);
+    scramble(rule, id, &mut main);
+    main
+}
+
+// Whether the last four bytes are the EDC of the first twelve and of the unscrambled Main Data.
+fn has_right_edc(frame: &[u8; 2064], main: &[u8; 2048]) -> bool
+    ensures { result ≡ bytes_eq (drop 2060 frame.now) (edc_of (take 12 frame.now ++ main.now)) }
+{
+    let mut plain = *frame;
+    frame[2060..] == edc_with(&mut plain, main)[..]
+}
+
+// The EDC of the first twelve bytes of a frame and of these Main Data, which are put behind them.
+fn edc_with(frame: &mut [u8; 2064], main: &[u8; 2048]) -> [u8; 4]
+    ensures { result ≡ edc_of (take 12 frame.old ++ main.now) }
+{
+    put(frame, 12, main);
+    edc(&frame[..2060])
+}
