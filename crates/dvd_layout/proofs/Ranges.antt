@@ -1,0 +1,126 @@
+-- Every zone of a lawful layout has sector numbers and image sectors of 24 bits.
+use Rattle.std.proofs.Common.{◌≡◌, ℕ, ◌+◌, ◌-◌, ◌*◌, ◌<◌, ◌≤◌, ◌^◌, Bool, true, false, if◌then◌else◌, List, [], ◌∷◌, ◌++◌, All, subst, arith, refl}
+use Rattle.std.specs.List.{AllByRecursion, flat_map}
+use Rattle.std.proofs.lemmas.List.FromFn.{get_or-map-range_with_len}
+use Rattle.std.proofs.lemmas.List.Elements.{All-nil, All-append, All-filter, All-from_recursion, recursion_from_All}
+use Rattle.dvd_frame.specs.declared.id.Area.{Area}
+use Rattle.dvd_layout.specs.declared.entry.Content.TheVariants.{Zero, Reference, Control}
+use Rattle.dvd_frame.specs.declared.id.Area.TheVariants.{LeadIn, LeadOut, Middle}
+use Rattle.dvd_layout.specs.Content.{image_from}
+use Rattle.dvd_layout.specs.declared.layout.Layout.{Layout}
+use Rattle.dvd_layout.specs.declared.layout.Shape.{Shape}
+use Rattle.dvd_layout.specs.declared.layout.Shape.TheVariants.{Single, Parallel, Opposite}
+use Rattle.dvd_layout.specs.declared.layout.Zones.{Zones}
+use Rattle.dvd_layout.specs.declared.layout.Zones.TheVariants.{DataOnly, All as AllZones}
+use Rattle.dvd_layout.specs.declared.zone.Zone.{Zone}
+use Rattle.dvd_layout.specs.Place.{HasNumbers}
+use Rattle.dvd_layout.proofs.Blocks.{length-entries_of}
+use Rattle.dvd_layout.specs.Lengths.{is_opposite, has_two_layers, padded}
+use Rattle.dvd_layout.specs.Plan.{IsInRange, entry_of, entries_of, plan_of, zone_of, second_first, behind, lead_in, inside_out, out_and_in, first_data, second_data, zones_by, all_zones, zone_table, is_data}
+
+abbrev Each : List Zone → Type 0
+Each zones = AllByRecursion IsInRange zones
+
+each-append : (some others : List Zone) → Each some → Each others → Each (some ++ others)
+each-append [] others each rest = rest
+each-append (zone ∷ some) others each rest = (each.0, each-append some others each.1 rest)
+
+-- a zone without image sectors
+zeros-in_range : (zone : Zone) → image_from zone.content ≡ 0 → zone.first + 16 * zone.blocks ≤ 2 ^ 24 → zone.layer < 2 → IsInRange zone
+zeros-in_range zone no_image numbers two = record { numbers = numbers; image = omega arith; layers = two }
+
+lead_in-in_range : (initial layer : ℕ) → initial ≤ 12031 → layer < 2 → Each (lead_in initial layer)
+lead_in-in_range initial layer fits two = (
+  zeros-in_range (zone_of (0x2F000 - 16 * initial) initial LeadIn layer Zero) refl (omega arith) two,
+  (
+    zeros-in_range (zone_of 0x2F000 2 LeadIn layer Reference) refl (omega arith) two,
+    (
+      zeros-in_range (zone_of 0x2F020 30 LeadIn layer Zero) refl (omega arith) two,
+      (
+        zeros-in_range (zone_of 0x2F200 192 LeadIn layer Control) refl (omega arith) two,
+        (zeros-in_range (zone_of 0x2FE00 32 LeadIn layer Zero) refl (omega arith) two, tt),
+      ),
+    ),
+  ),
+)
+
+first_data-in_range : (layout : Layout) → IsInRange (first_data layout)
+first_data-in_range layout = record { numbers = omega arith; image = omega arith; layers = omega arith }
+
+-- the data of layer 1 begin at 030000, or on the opposite path at 800000 or above
+second_first-low : (layout : Layout) → second_first layout + padded layout.sectors1 + 16 * layout.tail ≤ 2 ^ 24
+second_first-low layout = by_path (is_opposite layout.shape) refl where
+  by_path : (opposite : Bool) → is_opposite layout.shape ≡ opposite
+      → (if opposite then 0xFD0000 - padded layout.sectors0 else 0x30000) + padded layout.sectors1 + 16 * layout.tail ≤ 2 ^ 24
+  by_path true is = let no_longer = layout.no_longer is in omega arith
+  by_path false is = omega arith
+
+second_data-in_range : (layout : Layout) → IsInRange (second_data layout)
+second_data-in_range layout =
+    let low = second_first-low layout in
+    record { numbers = omega arith; image = omega arith; layers = omega arith }
+
+behind-in_range : (image : Zone) (blocks : ℕ) (area : Area) → image.first + 16 * image.blocks + 16 * blocks ≤ 2 ^ 24 → image.layer < 2
+    → IsInRange (behind image blocks area)
+behind-in_range image blocks area numbers two = zeros-in_range (behind image blocks area) refl numbers two
+
+inside_out-in_range : (layout : Layout) (image : Zone) → IsInRange image → image.first + 16 * image.blocks + 16 * layout.tail ≤ 2 ^ 24
+    → Each (inside_out layout image)
+inside_out-in_range layout image range numbers =
+    each-append (lead_in layout.initial image.layer) (image ∷ behind image layout.tail LeadOut ∷ [])
+    (lead_in-in_range layout.initial image.layer layout.initial_fits range.layers)
+    (range, (behind-in_range image layout.tail LeadOut numbers range.layers, tt))
+
+first_layer-in_range : (layout : Layout) → Each (inside_out layout (first_data layout))
+first_layer-in_range layout = inside_out-in_range layout (first_data layout) (first_data-in_range layout) (omega arith)
+
+second_layer-in_range : (layout : Layout) → Each (inside_out layout (second_data layout))
+second_layer-in_range layout =
+    let low = second_first-low layout in
+    inside_out-in_range layout (second_data layout) (second_data-in_range layout) (omega arith)
+
+out_and_in-in_range : (layout : Layout) → Each (out_and_in layout)
+out_and_in-in_range layout =
+    let low = second_first-low layout in
+    let middle = zone_of (second_first layout - 16 * layout.tail) layout.tail Middle 1 Zero in
+    each-append (lead_in layout.initial 0)
+    (first_data layout ∷ behind (first_data layout) layout.tail Middle ∷ middle ∷ second_data layout ∷ behind (second_data layout) layout.tail LeadOut ∷ [])
+    (lead_in-in_range layout.initial 0 layout.initial_fits (omega arith)) (
+      first_data-in_range layout,
+      (
+        behind-in_range (first_data layout) layout.tail Middle (omega arith) (omega arith),
+        (
+          zeros-in_range middle refl (omega arith) (omega arith),
+          (
+            second_data-in_range layout,
+            (behind-in_range (second_data layout) layout.tail LeadOut (omega arith) (omega arith), tt),
+          ),
+        ),
+      ),
+    )
+
+zones_by-in_range : (layout : Layout) (shape : Shape) → Each (zones_by layout shape)
+zones_by-in_range layout Single = first_layer-in_range layout
+zones_by-in_range layout Parallel = each-append (inside_out layout (first_data layout)) (inside_out layout (second_data layout)) (first_layer-in_range layout) (second_layer-in_range layout)
+zones_by-in_range layout Opposite = out_and_in-in_range layout
+
+pub zone_table-in_range : (layout : Layout) (zones : Zones) → All IsInRange (zone_table layout zones)
+zone_table-in_range layout AllZones = All-from_recursion IsInRange (all_zones layout) (zones_by-in_range layout layout.shape)
+zone_table-in_range layout DataOnly =
+    All-filter (λ zone. is_data zone.area) IsInRange (all_zones layout) (All-from_recursion IsInRange (all_zones layout) (zones_by-in_range layout layout.shape))
+
+-- each block of a zone in range has numbers of 24 bits
+entries_of-numbers : (zone : Zone) → IsInRange zone → All HasNumbers (entries_of zone)
+entries_of-numbers zone range b entry within =
+    let inside : b < zone.blocks = subst (λ n. b < n) (length-entries_of zone) within in
+    rw (get_or-map-range_with_len (entry_of zone) 0 zone.blocks b b entry inside (omega arith))
+    (let numbers = range.numbers in record { numbers = omega arith; layers = range.layers })
+
+zones-numbers : (zones : List Zone) → AllByRecursion IsInRange zones → All HasNumbers (flat_map entries_of zones)
+zones-numbers [] ranges = All-nil HasNumbers
+zones-numbers (zone ∷ zones) ranges =
+    All-append HasNumbers (entries_of zone) (flat_map entries_of zones) (entries_of-numbers zone ranges.0) (zones-numbers zones ranges.1)
+
+pub plan_of-numbers : (layout : Layout) (zones : Zones) → All HasNumbers (plan_of layout zones)
+unfolding plan_of
+plan_of-numbers layout zones = zones-numbers (zone_table layout zones) (recursion_from_All IsInRange (zone_table layout zones) (zone_table-in_range layout zones))

@@ -1,0 +1,19 @@
+use Rattle.std.proofs.Common.{append_assoc}
+use Rattle.dvd_layout.proofs.layout.Layout.push_opposite.Goals as goal
+
+pub returns-clause-items : goal.returns-clause-items
+returns-clause-items c =
+    rw (
+      c.push-5.ensures.items,
+      c.push-4.ensures.items,
+      c.push-3.ensures.items,
+      c.push-2.ensures.items,
+      c.push.ensures.items,
+      c.push_lead_in.ensures.items,
+      c.behind-2.ensures,
+      c.zeros.ensures,
+      c.second_data-second.ensures,
+      c.behind.ensures,
+      c.first_data-first.ensures,
+    )
+    (simp append_assoc)

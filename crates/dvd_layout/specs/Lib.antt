@@ -1,0 +1,4 @@
+pub mod Content
+pub mod Lengths
+pub mod Place
+pub mod Plan

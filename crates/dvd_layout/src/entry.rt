@@ -1,0 +1,63 @@
+//! One ECC block of a plan.
+ghost use Rattle.std.specs.Prelude.{◌≡◌, ◌+◌, ◌*◌, ◌<◌, ◌^◌};
+ghost use Rattle.dvd_layout.specs.Content.{content_at, image_from};
+ghost use Rattle.dvd_layout.specs.Place.{HasNumbers, rule_for};
+ghost use Rattle.dvd_frame.specs.Id.{id_word};
+
+use dvd_frame::{Area, Id, Rule};
+
+/// What the Main Data of a block's sixteen data frames is.
+#[derive(Clone, Copy, Debug, PartialEq, Eq)]
+pub enum Content {
+    /// Zeros.
+    Zero,
+    /// The reference code.
+    Reference,
+    /// The control data: the physical format in the first frame.
+    Control,
+    /// Image sectors, from this one on.
+    Image(u32),
+}
+
+impl Content {
+    /// What stands in block `b` of a zone whose first block has this content.
+    pub(crate) fn at_block(self, b: u32) -> Content
+        requires { image_from self + 16 * b < 2 ^ 32 }
+        ensures { result ≡ content_at self b }
+    {
+        match self {
+            Content::Image(sector) => Content::Image(sector + 16 * b),
+            Content::Zero | Content::Reference | Content::Control => self,
+        }
+    }
+}
+
+/// One ECC block of a plan: its first sector number, its area, its layer and its content.
+#[derive(Clone, Copy, Debug, PartialEq, Eq)]
+pub struct BlockPlan {
+    pub first: u32,
+    pub area: Area,
+    pub layer: u8,
+    pub content: Content,
+}
+
+/// The ID of frame `f` of a block; `dim` tells that the disk has two layers.
+pub fn id_of(plan: &BlockPlan, dim: bool, f: usize) -> Id
+    requires frame { f < 16 }
+    requires numbers { HasNumbers plan.now }
+    ensures { result ≡ id_word plan.now.area plan.now.layer dim (plan.now.first + f) }
+{
+    Id::new(plan.area, plan.layer, dim, plan.first + f as u32)
+}
+
+/// Which Main Data bytes of frame `f` of a block are scrambled.
+pub fn rule_of(content: Content, f: usize) -> Rule
+    requires { f < 16 }
+    ensures { result ≡ rule_for content f }
+{
+    match content {
+        Content::Reference if f == 0 => Rule::First160,
+        Content::Reference => Rule::Off,
+        Content::Zero | Content::Control | Content::Image(_) => Rule::Whole,
+    }
+}

@@ -1,0 +1,155 @@
+//! The lengths of a disk, which make a lawful layout.
+
+ghost use Rattle.std.specs.Prelude.{◌≡◌, ◌+◌, ◌*◌, ◌%◌, ◌<◌, ◌≤◌, true, false, Some, None, IfOk, IfErr, IsTrue};
+ghost use Rattle.dvd_layout.specs.Lengths.{blocks_of, first_fault, has_two_layers, is_opposite, layer_end, padded};
+
+use crate::fault::LayoutFault;
+
+// The longest Initial Zone, in ECC blocks: no sector has the number 0.
+const MAX_INITIAL: u32 = 12_031;
+
+// The longest zone behind the data, in ECC blocks.
+const MAX_TAIL: u32 = 12_288;
+
+// Where a layer that begins at 030000 ends at the latest.
+const LAST_END: u64 = 0x80_0000;
+
+/// How many layers a disk has, and which way the track of the second runs.
+#[derive(Clone, Copy, Debug, PartialEq, Eq)]
+pub enum Shape {
+    /// One layer.
+    Single,
+    /// Two layers, each read from the inside.
+    Parallel,
+    /// Two layers, the second read from the outside.
+    Opposite,
+}
+
+impl Shape {
+    /// Whether the disk has two layers.
+    pub fn has_two_layers(self) -> bool
+        ensures { result ≡ has_two_layers self }
+    {
+        match self {
+            Shape::Single => false,
+            Shape::Parallel | Shape::Opposite => true,
+        }
+    }
+
+    /// Whether the track of the second layer runs from the outside.
+    pub fn is_opposite(self) -> bool
+        ensures { result ≡ is_opposite self }
+    {
+        match self {
+            Shape::Single | Shape::Parallel => false,
+            Shape::Opposite => true,
+        }
+    }
+}
+
+/// Which zones of a disk a stream holds.
+#[derive(Clone, Copy, Debug, PartialEq, Eq)]
+pub enum Zones {
+    /// The Data Zone alone.
+    DataOnly,
+    /// Every zone.
+    All,
+}
+
+/// A lawful layout: a shape, the image sectors of each layer, and the lengths in ECC blocks of the Initial Zone and
+/// of each zone behind the data.
+#[derive(Clone, Copy, Debug, PartialEq, Eq)]
+pub struct Layout {
+    pub shape: Shape,
+    pub sectors0: u32,
+    pub sectors1: u32,
+    pub initial: u32,
+    pub tail: u32,
+    pub ghost first_layer: { 0 < sectors0 },
+    pub ghost second_layer: { has_two_layers shape ≡ true → 0 < sectors1 },
+    pub ghost whole_blocks: { has_two_layers shape ≡ true → sectors0 % 16 ≡ 0 },
+    pub ghost one_layer: { has_two_layers shape ≡ false → sectors1 ≡ 0 },
+    pub ghost no_longer: { is_opposite shape ≡ true → padded sectors1 ≤ padded sectors0 },
+    pub ghost initial_fits: { initial ≤ 12031 },
+    pub ghost tail_fits: { tail ≤ 12288 },
+    pub ghost end0: { layer_end sectors0 tail ≤ 0x800000 },
+    pub ghost end1: { layer_end sectors1 tail ≤ 0x800000 },
+}
+
+// The ECC blocks of sixteen sectors that so many sectors fill.
+pub(crate) fn blocks_of(sectors: u32) -> u32
+    ensures { result ≡ blocks_of sectors }
+{
+    sectors.div_ceil(16)
+}
+
+// The sector number behind a layer that begins at 030000: its data and the zone behind them.
+fn layer_end(sectors: u32, tail: u32) -> u64
+    ensures { result ≡ layer_end sectors tail }
+{
+    0x3_0000 + 16 * u64::from(blocks_of(sectors)) + 16 * u64::from(tail)
+}
+
+impl Layout {
+    #[tactic(auto, using(std::proofs::lemmas::Bool::Decides::nat_tests), unfolding(crate::specs::Lengths::first_fault))]
+    /// A layout of these lengths, or the first rule that they break.
+    pub fn new(
+        shape: Shape,
+        sectors0: u32,
+        sectors1: u32,
+        initial: u32,
+        tail: u32,
+    ) -> Result<Layout, LayoutFault>
+        ensures refused { IfErr result (λ fault. first_fault shape sectors0 sectors1 initial tail ≡ Some fault) }
+        ensures lawful { IfOk result (λ layout. first_fault shape sectors0 sectors1 initial tail ≡ None) }
+        ensures shape { IfOk result (λ layout. layout.shape ≡ shape) }
+        ensures sectors0 { IfOk result (λ layout. layout.sectors0 ≡ sectors0) }
+        ensures sectors1 { IfOk result (λ layout. layout.sectors1 ≡ sectors1) }
+        ensures initial { IfOk result (λ layout. layout.initial ≡ initial) }
+        ensures tail { IfOk result (λ layout. layout.tail ≡ tail) }
+    {
+        let two_layers = shape.has_two_layers();
+        if sectors0 == 0 {
+            return Err(LayoutFault::EmptyLayer { layer: 0 });
+        }
+        if two_layers && sectors1 == 0 {
+            return Err(LayoutFault::EmptyLayer { layer: 1 });
+        }
+        if two_layers && sectors0 % 16 != 0 {
+            return Err(LayoutFault::OddLayer { sectors: sectors0 });
+        }
+        if !two_layers && sectors1 != 0 {
+            return Err(LayoutFault::SecondLayer { sectors: sectors1 });
+        }
+        if shape.is_opposite() && blocks_of(sectors0) < blocks_of(sectors1) {
+            return Err(LayoutFault::LayerLonger { sectors: sectors1 });
+        }
+        if initial > MAX_INITIAL {
+            return Err(LayoutFault::InitialTooLong { blocks: initial });
+        }
+        if tail > MAX_TAIL {
+            return Err(LayoutFault::TailTooLong { blocks: tail });
+        }
+        let end0 = layer_end(sectors0, tail);
+        if end0 > LAST_END {
+            return Err(LayoutFault::LayerTooLong {
+                layer: 0,
+                end: end0,
+            });
+        }
+        let end1 = layer_end(sectors1, tail);
+        if end1 > LAST_END {
+            return Err(LayoutFault::LayerTooLong {
+                layer: 1,
+                end: end1,
+            });
+        }
+        Ok(Layout {
+            shape,
+            sectors0,
+            sectors1,
+            initial,
+            tail,
+        })
+    }
+}

@@ -1,0 +1,53 @@
+//! Where image sectors stand on the disk.
+ghost use Rattle.std.specs.Prelude.{◌≡◌, ◌↔◌, ℕ, ◌<◌, Some, IfSome};
+ghost use Rattle.dvd_layout.specs.Lengths.{has_two_layers};
+ghost use Rattle.dvd_layout.specs.Place.{place_of, total_sectors};
+
+use crate::layout::Layout;
+use crate::plan::DATA_FIRST;
+
+impl Layout {
+    /// How many sectors the image has.
+    pub fn total(&self) -> u32
+        ensures { result ≡ total_sectors self.now }
+    {
+        self.sectors0 + self.sectors1
+    }
+
+    /// Whether the disk has two layers, whose reflectivity b29 of each ID tells.
+    pub fn dim(&self) -> bool
+        ensures { result ≡ has_two_layers self.now.shape }
+    {
+        self.shape.has_two_layers()
+    }
+
+    /// The layer and the sector number of an image sector.
+    pub fn sector_of(&self, lba: u32) -> (u8, u32)
+        requires { lba < total_sectors self.now }
+        ensures { result ≡ place_of self.now lba }
+    {
+        if lba < self.sectors0 {
+            (0, DATA_FIRST + lba)
+        } else {
+            (1, self.second_first() + (lba - self.sectors0))
+        }
+    }
+
+    /// The image sector at a layer and a sector number. None stands anywhere else.
+    pub fn lba_of(&self, layer: u8, number: u32) -> Option<u32>
+        ensures within { IfSome result (λ lba. lba < total_sectors self.now) }
+        ensures exact { (lba : ℕ) → lba < total_sectors self.now → (result ≡ Some lba) ↔ (place_of self.now lba ≡ (layer, number)) }
+    {
+        let (first, sectors, before) = match layer {
+            0 => (DATA_FIRST, self.sectors0, 0),
+            1 => (self.second_first(), self.sectors1, self.sectors0),
+            _ => return None,
+        };
+        let behind = number.checked_sub(first)?;
+        if behind < sectors {
+            Some(before + behind)
+        } else {
+            None
+        }
+    }
+}

@@ -1,0 +1,183 @@
+//! The zone table of a layout (ECMA-267, section 5) and its plan, entry by entry.
+ghost use Rattle.std.specs.Prelude.{◌≡◌, ◌+◌, ◌*◌, ◌^◌, ◌<◌, ◌≤◌, ◌++◌, length, Some, slice_get};
+ghost use Rattle.arrayvec.specs.ArrayVec.{array_vec_len};
+ghost use Rattle.dvd_layout.specs.Lengths.{blocks_of};
+ghost use Rattle.dvd_layout.specs.Plan.{all_zones, behind, first_data, inside_out, lead_in, out_and_in, plan_of, second_data, second_first, zone_of, zone_table};
+
+use crate::entry::{BlockPlan, Content};
+use crate::layout::{Layout, Shape, Zones, blocks_of};
+use crate::zone::{Zone, block_at, count_blocks};
+use arrayvec::ArrayVec;
+use dvd_frame::Area;
+
+// The first sector number of the Data Zone of a layer that is read from the inside.
+pub(crate) const DATA_FIRST: u32 = 0x03_0000;
+
+// On the opposite track path the data of layer 1 begin as far before this number as layer 0 has sectors:
+// at the complement of layer 0's last data sector.
+const SECOND_END: u32 = 0xFD_0000;
+
+type ZoneTable = ArrayVec<Zone, 14>;
+
+impl Layout {
+    /// How many ECC blocks a stream of these zones has.
+    pub fn blocks(&self, zones: Zones) -> u64
+        ensures { result ≡ length (plan_of self.now zones) }
+    {
+        count_blocks(&self.zone_table(zones))
+    }
+
+    /// Entry `k` of the plan of these zones.
+    pub fn plan(&self, zones: Zones, k: u64) -> BlockPlan
+        requires { k < length (plan_of self.now zones) }
+        ensures { slice_get (plan_of self.now zones) k ≡ Some result }
+    {
+        block_at(&self.zone_table(zones), k)
+    }
+
+    // The zones that a stream holds, in order.
+    fn zone_table(&self, zones: Zones) -> ZoneTable
+        ensures { result.items ≡ zone_table self.now zones }
+    {
+        match zones {
+            Zones::DataOnly => self.data_zones(),
+            Zones::All => self.all_zones(),
+        }
+    }
+
+    // Every zone of the disk.
+    fn all_zones(&self) -> ZoneTable
+        ensures { result.items ≡ all_zones self.now }
+    {
+        let mut table = ArrayVec::new();
+        match self.shape {
+            Shape::Single => self.push_layer(&mut table, self.first_data()),
+            Shape::Parallel => {
+                self.push_layer(&mut table, self.first_data());
+                self.push_layer(&mut table, self.second_data());
+            }
+            Shape::Opposite => self.push_opposite(&mut table),
+        }
+        table
+    }
+
+    // The Data Zones alone.
+    fn data_zones(&self) -> ZoneTable
+        ensures { result.items ≡ zone_table self.now Zones.DataOnly }
+    {
+        let mut table = ArrayVec::new();
+        table.push(self.first_data());
+        if self.shape.has_two_layers() {
+            table.push(self.second_data());
+        }
+        table
+    }
+
+    // A layer that is read from the inside, with this Data Zone.
+    fn push_layer(&self, table: &mut ZoneTable, image: Zone)
+        requires room { array_vec_len table.old ≤ 7 }
+        requires numbers { image.first + 16 * image.blocks < 2 ^ 32 }
+        ensures items { table.new.items ≡ table.old.items ++ inside_out self.now image }
+        ensures len { array_vec_len table.new ≡ array_vec_len table.old + 7 }
+    {
+        push_lead_in(table, self.initial, image.layer);
+        table.push(image);
+        table.push(behind(&image, self.tail, Area::LeadOut));
+    }
+
+    // The opposite track path.
+    fn push_opposite(&self, table: &mut ZoneTable)
+        requires room { array_vec_len table.old ≤ 4 }
+        requires shape { self.now.shape ≡ Shape.Opposite }
+        ensures items { table.new.items ≡ table.old.items ++ out_and_in self.now }
+        ensures len { array_vec_len table.new ≡ array_vec_len table.old + 10 }
+    {
+        let first = self.first_data();
+        let second = self.second_data();
+        push_lead_in(table, self.initial, 0);
+        table.push(first);
+        table.push(behind(&first, self.tail, Area::Middle));
+        table.push(zeros(second.first - 16 * self.tail, self.tail, Area::Middle, 1));
+        table.push(second);
+        table.push(behind(&second, self.tail, Area::LeadOut));
+    }
+
+    // The Data Zone of layer 0.
+    fn first_data(&self) -> Zone
+        ensures { result ≡ first_data self.now }
+    {
+        data_zone(DATA_FIRST, self.sectors0, 0, 0)
+    }
+
+    // The Data Zone of layer 1.
+    fn second_data(&self) -> Zone
+        ensures { result ≡ second_data self.now }
+    {
+        data_zone(self.second_first(), self.sectors1, 1, self.sectors0)
+    }
+
+    // Where the data of layer 1 begin.
+    pub(crate) fn second_first(&self) -> u32
+        ensures { result ≡ second_first self.now }
+    {
+        if self.shape.is_opposite() {
+            SECOND_END - 16 * blocks_of(self.sectors0)
+        } else {
+            DATA_FIRST
+        }
+    }
+}
+
+// The zones of the lead-in of a layer.
+fn push_lead_in(table: &mut ZoneTable, initial: u32, layer: u8)
+    requires room { array_vec_len table.old ≤ 9 }
+    requires initial { initial ≤ 12031 }
+    ensures items { table.new.items ≡ table.old.items ++ lead_in initial layer }
+    ensures len { array_vec_len table.new ≡ array_vec_len table.old + 5 }
+{
+    table.push(zeros(0x02_F000 - 16 * initial, initial, Area::LeadIn, layer));
+    table.push(Zone {
+        content: Content::Reference,
+        ..zeros(0x02_F000, 2, Area::LeadIn, layer)
+    });
+    table.push(zeros(0x02_F020, 30, Area::LeadIn, layer));
+    table.push(Zone {
+        content: Content::Control,
+        ..zeros(0x02_F200, 192, Area::LeadIn, layer)
+    });
+    table.push(zeros(0x02_FE00, 32, Area::LeadIn, layer));
+}
+
+// A Data Zone of so many image sectors from one on.
+fn data_zone(first: u32, sectors: u32, layer: u8, from: u32) -> Zone
+    ensures { result ≡ zone_of first (blocks_of sectors) Area.DataZone layer (Content.Image from) }
+{
+    Zone {
+        first,
+        blocks: blocks_of(sectors),
+        area: Area::DataZone,
+        layer,
+        content: Content::Image(from),
+    }
+}
+
+// A zone of zeros.
+fn zeros(first: u32, blocks: u32, area: Area, layer: u8) -> Zone
+    ensures { result ≡ zone_of first blocks area layer Content.Zero }
+{
+    Zone {
+        first,
+        blocks,
+        area,
+        layer,
+        content: Content::Zero,
+    }
+}
+
+// The zone of zeros behind a Data Zone.
+fn behind(image: &Zone, blocks: u32, area: Area) -> Zone
+    requires { image.now.first + 16 * image.now.blocks < 2 ^ 32 }
+    ensures { result ≡ behind image.now blocks area }
+{
+    zeros(image.first + 16 * image.blocks, blocks, area, image.layer)
+}

@@ -1,0 +1,76 @@
+//! A zone: ECC blocks of one kind, one after the other.
+ghost use Rattle.std.specs.Prelude.{◌≡◌, ◌<◌, length, Some, slice_get, All};
+ghost use Rattle.std.specs.List.{flat_map};
+ghost use Rattle.dvd_layout.specs.Plan.{entry_of, entries_of, IsInRange};
+
+use crate::entry::{BlockPlan, Content};
+use dvd_frame::Area;
+
+/// A zone of a layer: its first sector number, its length in ECC blocks, and what stands in it.
+/// The image sector of its content is the first of its first block.
+#[derive(Clone, Copy, Debug, PartialEq, Eq)]
+pub struct Zone {
+    pub first: u32,
+    pub blocks: u32,
+    pub area: Area,
+    pub layer: u8,
+    pub content: Content,
+}
+
+// An empty zone fills the unused places of a table.
+impl Default for Zone {
+    fn default() -> Zone {
+        Zone {
+            first: 0,
+            blocks: 0,
+            area: Area::DataZone,
+            layer: 0,
+            content: Content::Zero,
+        }
+    }
+}
+
+impl Zone {
+    /// Block `b` of the zone.
+    pub(crate) fn entry(&self, b: u32) -> BlockPlan
+        requires block { b < self.now.blocks }
+        requires numbers { IsInRange self.now }
+        ensures { result ≡ entry_of self.now b }
+    {
+        BlockPlan {
+            first: self.first + 16 * b,
+            area: self.area,
+            layer: self.layer,
+            content: self.content.at_block(b),
+        }
+    }
+}
+
+/// How many blocks these zones have.
+pub(crate) fn count_blocks(zones: &[Zone]) -> u64
+    requires few { length zones.now < 16 }
+    requires numbers { All IsInRange zones.now }
+    ensures { result ≡ length (flat_map entries_of zones.now) }
+{
+    let mut blocks = 0;
+    for zone in zones {
+        blocks += zone.blocks as u64;
+    }
+    blocks
+}
+
+/// Block `k` of these zones, counted from the first block of the first zone.
+pub(crate) fn block_at(zones: &[Zone], k: u64) -> BlockPlan
+    requires block { k < length (flat_map entries_of zones.now) }
+    requires numbers { All IsInRange zones.now }
+    ensures { slice_get (flat_map entries_of zones.now) k ≡ Some result }
+{
+    let mut left = k;
+    for zone in zones {
+        if left < zone.blocks as u64 {
+            return zone.entry(left as u32);
+        }
+        left -= zone.blocks as u64;
+    }
+    unreachable!()
+}
