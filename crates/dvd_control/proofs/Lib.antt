@@ -1,0 +1,2 @@
+pub mod LeadIns
+pub mod RoundTrip

@@ -1,0 +1,164 @@
+//! The physical format of a disk, as the Control Data Zone tells it.
+ghost use Rattle.std.specs.Prelude.{◌≡◌, ◌+◌, ◌-◌, ◌<◌, ◌≤◌, ◌^◌, None, Some, IfErr, IfOk};
+
+use crate::numbers::{DATA_FIRST, last_of, last_of_layer_0, number_at, three_bytes};
+use dvd_layout::Layout;
+use thiserror::Error;
+
+/// What the physical format tells of a disk: version of the format, maximum rate, layers and track path, kind of the
+/// layers, channel bit length and track pitch by their numbers, the first and the last sector of the Data Zone, the
+/// last one of layer 0 on the opposite track path, and whether there is a burst cutting area.
+#[derive(Clone, Copy, Debug, PartialEq, Eq)]
+pub struct PhysicalFormat {
+    pub version: u8,
+    pub rate: u8,
+    pub two_layers: bool,
+    pub opposite: bool,
+    pub kind: u8,
+    pub density: u8,
+    pub pitch: u8,
+    pub first: u32,
+    pub last: u32,
+    pub layer0_last: u32,
+    pub bca: bool,
+    pub ghost small_version: { version < 16 },
+    pub ghost small_rate: { rate < 16 },
+    pub ghost small_kind: { kind < 16 },
+    pub ghost small_density: { density < 16 },
+    pub ghost small_pitch: { pitch < 16 },
+    pub ghost begins: { first ≡ 0x30000 },
+    pub ghost ends: { first ≤ last },
+    pub ghost last_number: { last < 2 ^ 24 },
+    pub ghost layer0_number: { layer0_last < 2 ^ 24 },
+}
+
+/// The first rule that a physical format sector breaks.
+#[derive(Clone, Copy, Debug, PartialEq, Eq, Error)]
+pub enum ControlFault {
+    /// The disk isn't a read-only disk.
+    #[error("category {byte}")]
+    Category { byte: u8 },
+    /// The disk hasn't 120 mm.
+    #[error("size {byte}")]
+    Size { byte: u8 },
+    /// The disk has neither one layer nor two.
+    #[error("layers {byte}")]
+    Layers { byte: u8 },
+    /// The Data Zone doesn't begin at 030000, or ends before.
+    #[error("range {first} {last}")]
+    Range { first: u32, last: u32 },
+}
+
+impl PhysicalFormat {
+    ghost use Rattle.std.specs.Prelude.{◌⊎◌};
+    ghost use Rattle.dvd_layout.specs.declared.layout.Shape.TheVariants.{Parallel};
+    ghost use Rattle.dvd_control.specs.Format.{HasLeadIn, control_fault, fields_for, fields_in, fields_of, format_bytes, head_bytes};
+
+    #[tactic(auto, unfolding(crate::specs::Format::fields_for))]
+    /// The physical format that the lead-in of a layer of a disk tells.
+    pub fn of_layout(layout: &Layout, layer: u8) -> PhysicalFormat
+        requires { HasLeadIn layout.now.shape layer }
+        ensures { fields_of result ≡ fields_for layout.now layer }
+    {
+        let two_layers = layout.shape.has_two_layers();
+        let opposite = layout.shape.is_opposite();
+        PhysicalFormat {
+            version: VERSION,
+            rate: RATE_10_08,
+            two_layers,
+            opposite,
+            kind: READ_ONLY,
+            density: if two_layers { 1 } else { 0 },
+            pitch: 0,
+            first: DATA_FIRST,
+            last: last_of(layout, layer),
+            layer0_last: if opposite { last_of_layer_0(layout) } else { 0 },
+            bca: false,
+        }
+    }
+
+    #[tactic(auto, unfolding(crate::specs::Format::format_bytes))]
+    /// Writes the sector that tells this format: 17 bytes, and zeros behind.
+    pub fn to_bytes(&self, out: &mut [u8; 2048])
+        ensures { out.new ≡ format_bytes (fields_of self.now) }
+    {
+        *out = [0; 2048];
+        out[..17].copy_from_slice(&self.head());
+    }
+
+    // The first 17 bytes of the sector.
+    fn head(&self) -> [u8; 17]
+        ensures { result ≡ head_bytes (fields_of self.now) }
+    {
+        let layers = if self.two_layers { 32 } else { 0 };
+        let path = if self.opposite { 16 } else { 0 };
+        let [first2, first1, first0] = three_bytes(self.first);
+        let [last2, last1, last0] = three_bytes(self.last);
+        let [layer2, layer1, layer0] = three_bytes(self.layer0_last);
+        [
+            self.version,
+            self.rate,
+            layers + path + self.kind,
+            16 * self.density + self.pitch,
+            0,
+            first2,
+            first1,
+            first0,
+            0,
+            last2,
+            last1,
+            last0,
+            0,
+            layer2,
+            layer1,
+            layer0,
+            if self.bca { 128 } else { 0 },
+        ]
+    }
+
+    #[tactic(auto, using(std::proofs::lemmas::Bool::Decides::nat_tests), unfolding(crate::specs::Format::control_fault, crate::specs::Format::fields_in))]
+    /// Reads bytes 0 to 16 of a sector and passes over the rest, or answers the first rule that it breaks.
+    pub fn from_bytes(bytes: &[u8; 2048]) -> Result<PhysicalFormat, ControlFault>
+        ensures refused { IfErr result (λ fault. control_fault bytes.now ≡ Some fault) }
+        ensures lawful { IfOk result (λ format. control_fault bytes.now ≡ None) }
+        ensures fields { IfOk result (λ format. fields_of format ≡ fields_in bytes.now) }
+    {
+        if bytes[0] > 15 {
+            return Err(ControlFault::Category { byte: bytes[0] });
+        }
+        if bytes[1] > 15 {
+            return Err(ControlFault::Size { byte: bytes[1] });
+        }
+        let layers = bytes[2] / 32 % 4;
+        if layers > 1 {
+            return Err(ControlFault::Layers { byte: bytes[2] });
+        }
+        let first = number_at(bytes, 5);
+        let last = number_at(bytes, 9);
+        if first != DATA_FIRST || last < first {
+            return Err(ControlFault::Range { first, last });
+        }
+        Ok(PhysicalFormat {
+            version: bytes[0],
+            rate: bytes[1],
+            two_layers: layers == 1,
+            opposite: bytes[2] / 16 % 2 == 1,
+            kind: bytes[2] % 16,
+            density: bytes[3] / 16,
+            pitch: bytes[3] % 16,
+            first,
+            last,
+            layer0_last: number_at(bytes, 13),
+            bca: bytes[16] / 128 == 1,
+        })
+    }
+}
+
+// The version of the format that is written.
+const VERSION: u8 = 1;
+
+// The number of the maximum rate 10.08 Mbit/s.
+const RATE_10_08: u8 = 2;
+
+// The kind of a layer of embossed data.
+const READ_ONLY: u8 = 1;

@@ -1,0 +1,28 @@
+//! The Main Data of the frames that hold no image.
+ghost use Rattle.std.specs.Prelude.{◌≡◌, ◌<◌};
+ghost use Rattle.dvd_control.specs.MainData.{IsEntry, IsImage, main_bytes};
+
+use crate::format::PhysicalFormat;
+use dvd_layout::{BlockPlan, Content, Layout};
+
+// The byte of the reference code.
+const REFERENCE: u8 = 0xAC;
+
+/// Writes the Main Data of frame `f` of an entry of a plan that isn't image: zeros, the reference code, or the control
+/// data, which have the physical format of that layer in frame 0 of each block.
+pub fn main_of(layout: &Layout, plan: &BlockPlan, f: usize, out: &mut [u8; 2048])
+    requires frame { f < 16 }
+    requires entry { IsEntry layout.now plan.now }
+    requires not_image { ¬ IsImage plan.now.content }
+    ensures { out.new ≡ main_bytes layout.now plan.now f }
+{
+    match plan.content {
+        Content::Zero => *out = [0; 2048],
+        Content::Reference => *out = [REFERENCE; 2048],
+        Content::Control if f == 0 => {
+            PhysicalFormat::of_layout(layout, plan.layer).to_bytes(out);
+        }
+        Content::Control => *out = [0; 2048],
+        Content::Image(_) => unreachable!(),
+    }
+}
