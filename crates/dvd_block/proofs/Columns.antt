@@ -1,0 +1,35 @@
+-- Columns of a block.
+use Rattle.std.proofs.Common.{◌≡◌, ℕ, ◌<◌, ◌≤◌, List, [], ◌++◌, length, get_or, take, drop, sym, ◌∙◌, ap, subst, arith}
+use Rattle.std.proofs.lemmas.List.{get_or-map, get_or-take, length-map, length-take, take_all, take_at, take-append-drop}
+use Rattle.std.proofs.lemmas.Grind.{same_number_lists}
+use Rattle.gf_field.specs.Words.{IsCodeword, IsEncoded}
+use Rattle.dvd_block.specs.Product.{place, column}
+
+pub length-column : (block : List (List ℕ)) (j : ℕ) → length (column block j) ≡ length block
+unfolding column
+length-column block j = length-map block (λ (row : List ℕ). get_or row j 0)
+
+pub get_or-column : (block : List (List ℕ)) (j i : ℕ) → i < length block → get_or (column block j) i 0 ≡ place block i j
+unfolding column
+get_or-column block j i below = get_or-map (λ (row : List ℕ). get_or row j 0) block i [] 0 below
+
+-- bytes that agree with a column place by place are its upper end
+pub upper_end : (block : List (List ℕ)) (j n : ℕ) (top : List ℕ) → length top ≡ n → n ≤ length block
+    → ((i : ℕ) → i < length top → get_or top i 0 ≡ place block i j) → top ≡ take n (column block j)
+upper_end block j n top size within each =
+    same_number_lists top (take n (column block j))
+    (omega (arith, length-take n (column block j), length-column block j))
+    (λ i below. each i below ∙ sym (get_or-take n (column block j) i 0 (omega arith) ∙ get_or-column block j i (omega arith)))
+
+-- what an encoder leaves of a column: its upper end, and the parity
+pub column_encoded : (front top behind word : List ℕ) → length top ≡ 192 → top ≡ front → IsEncoded 208 16 (take 192 (top ++ behind)) word
+    → IsCodeword 208 16 (front ++ drop 192 word)
+column_encoded front top behind word size is encoded =
+    let begins : take 192 word ≡ front = encoded.begins ∙ take_at top behind 192 size ∙ is in
+    subst (IsCodeword 208 16) (sym (take-append-drop 192 word) ∙ ap (λ (l : List ℕ). l ++ drop 192 word) begins) encoded.codeword
+
+-- bytes that agree with a column place by place are that column
+pub whole_column : (block : List (List ℕ)) (j n : ℕ) (word : List ℕ) → length word ≡ n → length block ≡ n
+    → ((i : ℕ) → i < length word → get_or word i 0 ≡ place block i j) → word ≡ column block j
+whole_column block j n word size height each =
+    upper_end block j n word size (omega arith) each ∙ take_all n (column block j) (omega (arith, length-column block j))

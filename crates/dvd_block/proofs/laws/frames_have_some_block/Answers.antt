@@ -1,0 +1,5 @@
+use Rattle.dvd_block.proofs.OneBlock.{some_block}
+use Rattle.dvd_block.proofs.laws.frames_have_some_block.Goals as goal
+
+pub returns : goal.returns
+returns c = some_block

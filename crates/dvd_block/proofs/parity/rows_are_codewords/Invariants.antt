@@ -1,0 +1,7 @@
+use Rattle.std.proofs.Common.{ℕ, ◌<◌}
+use Rattle.gf_field.specs.Words.{IsCodeword}
+use Rattle.dvd_block.specs.Product.{line}
+use Rattle.dvd_block.proofs.parity.rows_are_codewords.Given as goal
+
+abbrev pub invariant-loop-row : goal.invariant-loop-row
+invariant-loop-row l = (i : ℕ) → i < l.row-index → IsCodeword 182 10 (line l.rows i)

@@ -1,0 +1,32 @@
+-- ECC blocks (ECMA-267, 18): 208 rows of 182 bytes, a product code. A block is the list of its rows.
+use Rattle.std.specs.Prelude.{◌≡◌, ℕ, ◌+◌, ◌*◌, ◌<◌, List, [], length, map, All, slice_index, slice_index_or}
+use Rattle.gf_field.specs.Words.{IsCodeword}
+
+-- row i
+abbrev pub line : List (List ℕ) → ℕ → List ℕ
+line block i = slice_index_or block i []
+
+-- the byte in row i at place j
+abbrev pub place : List (List ℕ) → ℕ → ℕ → ℕ
+place block i j = slice_index (line block i) j
+
+-- column j, from the top
+unfoldable pub column : List (List ℕ) → ℕ → List ℕ
+column block j = map (λ row. slice_index row j) block
+
+-- Each row is a codeword with ten bytes of inner parity (PI), and each column one with sixteen of outer parity (PO),
+-- the columns of PI bytes and the rows of PO bytes too. The code sets one after the other.
+pub record IsProduct (block : List (List ℕ)) : Type 0 where
+  pub height : length block ≡ 208
+  pub rows : All (IsCodeword 182 10) block
+  pub columns : (j : ℕ) → j < 182 → IsCodeword 208 16 (column block j)
+
+-- the twelve rows from 12f on begin with the frame, 172 bytes in each
+unfoldable pub HoldsFrame : ℕ → List ℕ → List (List ℕ) → Type 0
+HoldsFrame f frame block =
+    (q p : ℕ) → q < 12 → p < 172 → place block (12 * f + q) p ≡ slice_index frame (172 * q + p)
+
+-- the block of sixteen frames; there is exactly one
+pub record IsBlockOf (frames block : List (List ℕ)) : Type 0 where
+  pub product : IsProduct block
+  pub holds : (f : ℕ) → f < 16 → HoldsFrame f (line frames f) block

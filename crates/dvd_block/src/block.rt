@@ -1,0 +1,150 @@
+//! A block: its frames, its parity, its rows as they are recorded.
+ghost use Rattle.std.specs.Prelude.{◌≡◌, ℕ, ◌+◌, ◌*◌, ◌/◌, ◌<◌, ◌≤◌, ◌⊎◌, ◌↔◌, IsTrue, ◌++◌, length, take, drop, IfOk, OnOk, OnErr, replicate, slice_index, EachIndex};
+ghost use Rattle.std.specs.Io.KnownBytes.{Appends};
+ghost use Rattle.dvd_ports.specs.Causes.{HasCause};
+ghost use Rattle.dvd_ports.specs.Whole.{AppendsPrefix};
+ghost use Rattle.dvd_block.specs.Product.{line, place};
+ghost use Rattle.dvd_block.specs.Recording.{recorded};
+
+use crate::buffers::{Cells, Lines};
+use crate::order::row_of_record;
+use crate::parity::{
+    columns_are_codewords, place_cells, rows_are_codewords, set_inner_parity, set_outer_parity,
+};
+use dvd_ports::{NoMemory, Sink, WriteFault, write_whole};
+use std::alloc::Global;
+
+/// The bytes of a recording frame: thirteen rows.
+const FRAME: usize = 2366;
+
+/// The rows of a block, with cells for its outer parity. Both are lent apart from each other.
+#[derive(Drop)]
+pub struct Block {
+    pub lines: Lines,
+    pub cells: Cells,
+}
+
+impl Block {
+    ghost use Rattle.dvd_block.specs.Buffers.{block_rows, cells_all};
+    ghost use Rattle.dvd_block.specs.Product.{line, place, IsProduct, HoldsFrame};
+    ghost use Rattle.dvd_block.specs.Recording.{recording};
+
+    /// Zeros. `NoMemory` may come at any time, and nothing is taken then.
+    pub fn new(alloc: Global) -> Result<Block, NoMemory>
+        ensures { IfOk result (λ block. block_rows block ≡ replicate 208 (replicate 182 0)) }
+    {
+        Ok(Block {
+            lines: Lines::new(alloc)?,
+            cells: Cells::new(alloc)?,
+        })
+    }
+
+    /// Row `i`.
+    pub fn row(&self, i: usize) -> &[u8; 182]
+        requires { i < 208 }
+        ensures { result.now ≡ line (block_rows self.now) i }
+    {
+        &self.lines.rows()[i]
+    }
+
+    /// Sets places 0 to 171 of rows 12f to 12f+11 to the frame, and nothing else.
+    pub fn put_frame(&mut self, f: usize, frame: &[u8; 2064])
+        requires { f < 16 }
+        ensures frame { HoldsFrame f frame.now (block_rows self.new) }
+        ensures other_rows { (i : ℕ) → (i < 12 * f) ⊎ (12 * f + 12 ≤ i) → line (block_rows self.new) i ≡ line (block_rows self.old) i }
+        ensures inner_parity { (i j : ℕ) → 172 ≤ j → place (block_rows self.new) i j ≡ place (block_rows self.old) i j }
+        ensures cells { cells_all self.new.cells ≡ cells_all self.old.cells }
+    {
+        put_rows(&mut self.lines.rows_mut()[12 * f..12 * f + 12], frame);
+    }
+
+    /// Writes frame `f`: places 0 to 171 of rows 12f to 12f+11.
+    pub fn get_frame(&self, f: usize, out: &mut [u8; 2064])
+        requires { f < 16 }
+        ensures { HoldsFrame f out.new (block_rows self.now) }
+    {
+        get_rows(&self.lines.rows()[12 * f..12 * f + 12], out);
+    }
+
+    /// Sets the inner and the outer parity: places 172 to 181 of all rows, and rows 192 to 207. All else stays.
+    pub fn add_parity(&mut self)
+        ensures product { IsProduct (block_rows self.new) }
+        ensures kept { (i j : ℕ) → i < 192 → j < 172 → place (block_rows self.new) i j ≡ place (block_rows self.old) i j }
+    {
+        // The columns of inner parity get outer parity too. The rows of outer parity are then codewords,
+        // since the code is linear.
+        set_inner_parity(&mut self.lines);
+        set_outer_parity(&self.lines, &mut self.cells);
+        self.place_parity();
+    }
+
+    /// Whether each row and each column is a codeword.
+    pub fn is_product(&self) -> bool
+        ensures { IsTrue result ↔ IsProduct (block_rows self.now) }
+    {
+        rows_are_codewords(self.lines.rows()) && columns_are_codewords(self.lines.rows())
+    }
+
+    /// Writes the sixteen recording frames in order, 37,856 bytes. After a fault a prefix of them was taken.
+    pub fn write_recording<K: Sink>(&self, out: &mut K) -> Result<(), WriteFault>
+        ensures written { OnOk result (Appends (K.seen out.old).bytes (K.seen out.new).bytes (recording (block_rows self.now))) }
+        ensures begun { OnErr result (AppendsPrefix (K.seen out.old).bytes (K.seen out.new).bytes (recording (block_rows self.now))) }
+        ensures cause { HasCause (K.seen out.old).faults (K.seen out.new).faults result }
+    {
+        let mut frame = [0; FRAME];
+        for f in 0..16 {
+            recording_frame(self.lines.rows(), f, &mut frame);
+            write_whole(out, &frame)?;
+        }
+        Ok(())
+    }
+
+    /// Sets place j of row 192+t to byte t of cell j, for all t below 16 and j below 182. All else stays.
+    pub fn place_parity(&mut self)
+        ensures placed { (t j : ℕ) → t < 16 → j < 182 → place (block_rows self.new) (192 + t) j ≡ place (cells_all self.old.cells) j t }
+        ensures sizes { (t : ℕ) → t < 16 → length (line (block_rows self.new) (192 + t)) ≡ 182 }
+        ensures rows_kept { take 192 (block_rows self.new) ≡ take 192 (block_rows self.old) }
+        ensures cells_kept { cells_all self.new.cells ≡ cells_all self.old.cells }
+    {
+        place_cells(self.cells.all(), &mut self.lines.rows_mut()[192..]);
+    }
+}
+
+// Writes the first 172 bytes of twelve rows behind each other.
+fn get_rows(rows: &[[u8; 182]], frame: &mut [u8; 2064])
+    requires { length rows.now ≡ 12 }
+    ensures { (q p : ℕ) → q < 12 → p < 172 → slice_index frame.new (172 * q + p) ≡ place rows.now q p }
+{
+    for (q, row) in rows.iter().enumerate() {
+        frame[172 * q..172 * q + 172].copy_from_slice(&row[..172]);
+    }
+}
+
+// Writes recording frame `f`: thirteen rows in the order of recording.
+fn recording_frame(rows: &[[u8; 182]], f: usize, frame: &mut [u8; FRAME])
+    requires rows { length rows.now ≡ 208 }
+    requires frame { f < 16 }
+    ensures { frame.new ≡ recorded (13 * f) 13 rows.now }
+{
+    for k in 0..13 {
+        let row = &rows[row_of_record(13 * f + k)];
+        frame[182 * k..182 * k + 182].copy_from_slice(row);
+    }
+}
+
+// Sets the first 172 bytes of twelve rows to a frame.
+fn put_rows(rows: &mut [[u8; 182]], frame: &[u8; 2064])
+    requires { length rows.old ≡ 12 }
+    ensures { EachIndex rows.new (λ q. line rows.new q ≡ take 172 (drop (172 * q) frame.now) ++ drop 172 (line rows.old q)) }
+{
+    for (q, row) in rows.iter_mut().enumerate() {
+        put_front(row, &frame[172 * q..172 * q + 172]);
+    }
+}
+
+fn put_front(row: &mut [u8; 182], front: &[u8])
+    requires { length front.now ≡ 172 }
+    ensures { row.new ≡ front.now ++ drop 172 row.old }
+{
+    row[..172].copy_from_slice(front);
+}

@@ -1,0 +1,31 @@
+//! The order of recording (ECMA-267, 19): behind each twelve rows of data stands a row of outer parity.
+ghost use Rattle.std.specs.Prelude.{◌≡◌, ◌<◌};
+ghost use Rattle.dvd_block.specs.Recording.{row_at, record_at};
+
+/// The row of the block that stands at recorded row `m`.
+pub fn row_of_record(m: usize) -> usize
+    requires { m < 208 }
+    ensures value { result ≡ row_at m }
+    ensures within { result < 208 }
+    ensures inverse { record_at result ≡ m }
+{
+    if (m + 1) % 13 == 0 {
+        191 + (m + 1) / 13
+    } else {
+        m - m / 13
+    }
+}
+
+/// The recorded row at which row `i` of the block stands.
+pub fn record_of_row(i: usize) -> usize
+    requires { i < 208 }
+    ensures value { result ≡ record_at i }
+    ensures within { result < 208 }
+    ensures inverse { row_at result ≡ i }
+{
+    if i < 192 {
+        i + i / 12
+    } else {
+        13 * (i - 191) - 1
+    }
+}

@@ -1,0 +1,124 @@
+//! The parity of rows and columns (ECMA-267, 18): ten bytes of inner parity (PI) end a row, sixteen of outer
+//! parity (PO) end a column.
+ghost use Rattle.std.specs.Prelude.{◌≡◌, ℕ, ◌<◌, ◌≤◌, ◌++◌, length, take, slice_index, EachIndex, All, ◌↔◌, IsTrue};
+ghost use Rattle.gf_field.specs.Words.{IsCodeword, IsEncoded};
+ghost use Rattle.dvd_block.specs.Buffers.{lines_rows, cells_all};
+ghost use Rattle.dvd_block.specs.Product.{line, place, column};
+
+use crate::buffers::{Cells, Lines};
+use rs_code::{Pi, Po};
+
+/// Keeps the first 172 bytes of a row and sets the last ten so that it is a codeword.
+pub fn row_parity(code: &Pi, row: &mut [u8; 182])
+    ensures { IsEncoded 182 10 (take 172 row.old) row.new }
+{
+    code.encode(row);
+}
+
+/// Sets the cell to the outer parity of column `j`: the upper 192 bytes of the column, followed by the cell,
+/// are a codeword.
+pub fn column_parity(code: &Po, lines: &Lines, j: usize, cell: &mut [u8; 16])
+    requires { j < 182 }
+    ensures { IsCodeword 208 16 (take 192 (column (lines_rows lines.now) j) ++ cell.new) }
+{
+    let mut word = [0; 208];
+    read_column(lines.rows(), j, &mut word[..192]);
+    code.encode(&mut word);
+    cell.copy_from_slice(&word[192..]);
+}
+
+// Sets the inner parity of the upper 192 rows.
+pub(crate) fn set_inner_parity(lines: &mut Lines)
+    ensures { (i : ℕ) → i < 192 → IsEncoded 182 10 (take 172 (line (lines_rows lines.old) i)) (line (lines_rows lines.new) i) }
+{
+    let (upper, _) = lines.rows_mut().split_at_mut(192);
+    encode_rows(upper);
+}
+
+fn encode_rows(rows: &mut [[u8; 182]])
+    ensures { EachIndex rows.new (λ i. IsEncoded 182 10 (take 172 (line rows.old i)) (line rows.new i)) }
+{
+    let code = Pi::new();
+    for row in rows {
+        row_parity(&code, row);
+    }
+}
+
+// Sets the outer parity of each column.
+pub(crate) fn set_outer_parity(lines: &Lines, cells: &mut Cells)
+    ensures { (j : ℕ) → j < 182 → IsCodeword 208 16 (take 192 (column (lines_rows lines.now) j) ++ line (cells_all cells.new) j) }
+{
+    encode_columns(lines, cells.all_mut());
+}
+
+fn encode_columns(lines: &Lines, cells: &mut [[u8; 16]])
+    requires { length cells.old ≡ 182 }
+    ensures { EachIndex cells.new (λ j. IsCodeword 208 16 (take 192 (column (lines_rows lines.now) j) ++ line cells.new j)) }
+{
+    let code = Po::new();
+    for (j, cell) in cells.iter_mut().enumerate() {
+        column_parity(&code, lines, j, cell);
+    }
+}
+
+pub(crate) fn rows_are_codewords(rows: &[[u8; 182]]) -> bool
+    ensures { IsTrue result ↔ All (IsCodeword 182 10) rows.now }
+{
+    let code = Pi::new();
+    for row in rows {
+        if !code.is_codeword(row) {
+            return false;
+        }
+    }
+    true
+}
+
+pub(crate) fn columns_are_codewords(rows: &[[u8; 182]]) -> bool
+    requires { length rows.now ≡ 208 }
+    ensures { IsTrue result ↔ ((j : ℕ) → j < 182 → IsCodeword 208 16 (column rows.now j)) }
+{
+    let code = Po::new();
+    for j in 0..182 {
+        let mut word = [0; 208];
+        read_column(rows, j, &mut word);
+        if !code.is_codeword(&word) {
+            return false;
+        }
+    }
+    true
+}
+
+// Copies the upper end of a column.
+fn read_column(rows: &[[u8; 182]], j: usize, top: &mut [u8])
+    requires column { j < 182 }
+    requires size { length top.old ≤ length rows.now }
+    ensures { EachIndex top.new (λ i. slice_index top.new i ≡ place rows.now i j) }
+{
+    for (i, byte) in top.iter_mut().enumerate() {
+        *byte = rows[i][j];
+    }
+}
+
+// Copies the cells into rows, byte by byte.
+pub(crate) fn place_cells(cells: &[[u8; 16]], rows: &mut [[u8; 182]])
+    requires cells { length cells.now ≡ 182 }
+    requires rows { length rows.old ≡ 16 }
+    ensures bytes { EachIndex rows.new (λ t. (j : ℕ) → j < 182 → place rows.new t j ≡ place cells.now j t) }
+    ensures sizes { EachIndex rows.new (λ t. length (line rows.new t) ≡ 182) }
+{
+    for (t, row) in rows.iter_mut().enumerate() {
+        read_cells(cells, t, row);
+    }
+}
+
+// Copies a byte of each cell.
+fn read_cells(cells: &[[u8; 16]], t: usize, row: &mut [u8; 182])
+    requires byte { t < 16 }
+    requires size { length cells.now ≡ 182 }
+    ensures bytes { EachIndex row.new (λ j. slice_index row.new j ≡ place cells.now j t) }
+    ensures size { length row.new ≡ 182 }
+{
+    for (j, byte) in row.iter_mut().enumerate() {
+        *byte = cells[j][t];
+    }
+}
