@@ -1,0 +1,65 @@
+-- Marks as bits and as lists.
+use Rattle.std.proofs.Common.{◌≡◌, ◌≢◌, ◌⊎◌, ◌∙◌, ℕ, ◌-◌, ◌/◌, ◌%◌, ◌<◌, ◌==◌, Bool, true, false, List, [], length, map, set, replicate, slice_index, get_or, inl, inr, refl, sym, ap, subst, arith}
+use Rattle.std.specs.Int.{bit_at}
+use Rattle.std.proofs.lemmas.Bool.Decides.{eqb_tells}
+use Rattle.std.proofs.lemmas.List.{ext_get_or, get_or-map, get_or-set_same, get_or-set_other, length-set}
+use Rattle.std.proofs.lemmas.List.FromFn.{length-map-range_with_len, get_or-map-range_with_len}
+use Rattle.dvd_block.specs.Product.{line}
+use Rattle.dvd_capture.specs.Answers.{marks_line}
+use Rattle.dvd_capture.specs.MarkBits.{mark_at, marks_of}
+
+pub length-marks_of : (bytes : List ℕ) → length (marks_of bytes) ≡ 182
+unfolding marks_of
+length-marks_of bytes = length-map-range_with_len (mark_at bytes) 0 182
+
+-- mark j of a row of marks
+pub mark-marks_of : (bytes : List ℕ) (j : ℕ) → j < 182 → get_or (marks_of bytes) j false ≡ mark_at bytes j
+unfolding marks_of
+mark-marks_of bytes j below = get_or-map-range_with_len (mark_at bytes) 0 182 j j false below (omega arith)
+
+-- no bit is no mark
+pub zero_marks : marks_of (replicate 23 0) ≡ replicate 182 false
+unfolding marks_of
+zero_marks = refl
+
+pub no_marks : map marks_of (replicate 208 (replicate 23 0)) ≡ replicate 208 (replicate 182 false)
+no_marks = rw zero_marks refl
+
+-- a bit that is set or cleared is a mark that is set or cleared
+pub set-marks : (bytes : List ℕ) (j byte : ℕ) (mark : Bool) → length bytes ≡ 23 → j < 182 → (bit_at byte (7 - j % 8) == 1) ≡ mark
+    → ((k : ℕ) → k < 8 → k ≢ 7 - j % 8 → bit_at byte k ≡ bit_at (slice_index bytes (j / 8)) k)
+    → marks_of (set bytes (j / 8) byte) ≡ set (marks_of bytes) j mark
+set-marks bytes j byte mark size below same others =
+    ext_get_or false (marks_of (set bytes (j / 8) byte)) (set (marks_of bytes) j mark)
+    (length-marks_of (set bytes (j / 8) byte) ∙ sym (length-set (marks_of bytes) j mark ∙ length-marks_of bytes))
+    (λ k within. let inside : k < 182 = subst (λ n. k < n) (length-marks_of (set bytes (j / 8) byte)) within in
+    mark-marks_of (set bytes (j / 8) byte) k inside ∙ at_place k inside (eqb_tells k j)) where
+      in_byte : j / 8 < length bytes
+      in_byte = omega (arith, size)
+
+      -- the same byte has another bit there
+      same_byte : (k : ℕ) → k ≢ j → k / 8 ≡ j / 8 → bit_at (get_or (set bytes (j / 8) byte) (k / 8) 0) (7 - k % 8) ≡ bit_at (get_or bytes (k / 8) 0) (7 - k % 8)
+      same_byte k apart here =
+          let apart_bits : 7 - k % 8 ≢ 7 - j % 8 = λ equal. apart (omega (arith, here, equal)) in
+          rw here (ap (λ b. bit_at b (7 - k % 8)) (get_or-set_same bytes (j / 8) byte 0 in_byte) ∙ others (7 - k % 8) (omega arith) apart_bits)
+
+      other_byte : (k : ℕ) → k / 8 ≢ j / 8 → bit_at (get_or (set bytes (j / 8) byte) (k / 8) 0) (7 - k % 8) ≡ bit_at (get_or bytes (k / 8) 0) (7 - k % 8)
+      other_byte k elsewhere = ap (λ b. bit_at b (7 - k % 8)) (get_or-set_other bytes (j / 8) (k / 8) byte 0 elsewhere)
+
+      other_bit : (k : ℕ) → k ≢ j → ((((k / 8 == j / 8) ≡ true) × (k / 8 ≡ j / 8)) ⊎ (((k / 8 == j / 8) ≡ false) × (k / 8 ≢ j / 8)))
+          → bit_at (get_or (set bytes (j / 8) byte) (k / 8) 0) (7 - k % 8) ≡ bit_at (get_or bytes (k / 8) 0) (7 - k % 8)
+      other_bit k apart (inl is) = same_byte k apart is.1
+      other_bit k apart (inr is) = other_byte k is.1
+
+      at_place : (k : ℕ) → k < 182 → ((((k == j) ≡ true) × (k ≡ j)) ⊎ (((k == j) ≡ false) × (k ≢ j)))
+          → mark_at (set bytes (j / 8) byte) k ≡ get_or (set (marks_of bytes) j mark) k false
+      at_place k inside (inl is) =
+          rw is.1 (ap (λ b. bit_at b (7 - j % 8) == 1) (get_or-set_same bytes (j / 8) byte 0 in_byte) ∙ same
+          ∙ sym (get_or-set_same (marks_of bytes) j mark false (subst (λ n. j < n) (sym (length-marks_of bytes)) below)))
+      at_place k inside (inr is) =
+          ap (λ b. b == 1) (other_bit k is.1 (eqb_tells (k / 8) (j / 8)))
+          ∙ sym (get_or-set_other (marks_of bytes) j k mark false is.1 ∙ mark-marks_of bytes k inside)
+
+-- the marks of row i
+pub line-marks : (rows : List (List ℕ)) (i : ℕ) → i < length rows → marks_line (map marks_of rows) i ≡ marks_of (line rows i)
+line-marks rows i within = get_or-map marks_of rows i [] [] within

@@ -1,0 +1,54 @@
+-- The recording of a block has its rows at their recorded rows.
+use Rattle.std.proofs.Common.{◌≡◌, ◌∙◌, ℕ, zero, suc, ◌+◌, ◌-◌, ◌*◌, ◌<◌, ◌≤◌, List, [], ◌++◌, length, take, drop, All, sym, ap, subst, arith, length-append}
+use Rattle.std.proofs.lemmas.List.{take_all, ext_get_or}
+use Rattle.std.proofs.lemmas.List.FromFn.{length-map-range_with_len, get_or-map-range_with_len}
+use Rattle.dvd_block.specs.Product.{line}
+use Rattle.dvd_block.specs.Recording.{record_at, recorded, recording, row_at}
+use Rattle.dvd_block.proofs.Recorded.{recorded-add, recorded-more, recorded-none}
+use Rattle.dvd_capture.specs.Captured.{captured_rows, record_of}
+use Rattle.dvd_capture.specs.declared.form.Form.TheVariants.{Plain}
+use Rattle.dvd_capture.proofs.Fetching.{part-append, part-behind, record_at-lt, row_at-lt, row_at-record_at}
+
+module _ (block : List (List ℕ)) (height : length block ≡ 208) (widths : All (λ row. length row ≡ 182) block) where
+  width : (i : ℕ) → i < 208 → length (line block i) ≡ 182
+  width i below = widths i [] (omega (arith, height))
+
+  one_more : (n : ℕ) → recorded 0 (n + 1) block ≡ recorded 0 n block ++ line block (row_at n)
+  one_more n =
+      let same : 0 + n ≡ n = omega arith in
+      recorded-more 0 n block ∙ ap (λ k. recorded 0 n block ++ line block (row_at k)) same
+
+  pub length-recorded : (n : ℕ) → n ≤ 208 → length (recorded 0 n block) ≡ 182 * n
+  length-recorded zero within = ap length (recorded-none 0 block)
+  length-recorded (suc n) within =
+      let more : n + 1 ≡ suc n = omega arith in
+      ap (λ k. length (recorded 0 k block)) (sym more) ∙ ap length (one_more n) ∙ length-append (recorded 0 n block) (line block (row_at n))
+      ∙ omega (arith, length-recorded n (omega arith), width (row_at n) (row_at-lt n (omega arith)))
+
+  -- recorded row m stands behind m others
+  split : (m : ℕ) → m < 208 → recorded 0 208 block ≡ (recorded 0 m block ++ line block (row_at m)) ++ recorded (0 + (m + 1)) (207 - m) block
+  split m below =
+      let all : m + 1 + (207 - m) ≡ 208 = omega arith in
+      ap (λ k. recorded 0 k block) (sym all) ∙ recorded-add 0 (m + 1) (207 - m) block
+      ∙ ap (λ front. front ++ recorded (0 + (m + 1)) (207 - m) block) (one_more m)
+
+  record_is : (m : ℕ) → m < 208 → record_of Plain (recorded 0 208 block) m ≡ line block (row_at m)
+  record_is m below =
+      let row : List ℕ = line block (row_at m) in
+      let row_width : length row ≡ 182 = width (row_at m) (row_at-lt m below) in
+      let before : length (recorded 0 m block) ≡ 182 * m = length-recorded m (omega arith) in
+      ap (λ bytes. take 182 (drop (182 * m) bytes)) (split m below)
+      ∙ part-append (recorded 0 m block ++ row) (recorded (0 + (m + 1)) (207 - m) block) (182 * m) 182 (omega (arith, length-append (recorded 0 m block) row, before, row_width))
+      ∙ part-behind (recorded 0 m block) row (182 * m) 182 before row_width
+
+  pub recording_captured : captured_rows Plain (recording block) ≡ block
+  unfolding captured_rows
+  recording_captured =
+      ext_get_or [] (captured_rows Plain (recording block)) block (length-map-range_with_len row 0 208 ∙ sym height)
+      (λ i within. let below : i < 208 = subst (λ n. i < n) (length-map-range_with_len row 0 208) within in
+      get_or-map-range_with_len row 0 208 i i [] below (omega arith)
+      ∙ ap (take 182) (record_is (record_at i) (record_at-lt i below) ∙ ap (line block) (row_at-record_at i below))
+      ∙ take_all 182 (line block i) (omega (arith, width i below)))
+    where
+      row : ℕ → List ℕ
+      row i = take 182 (record_of Plain (recording block) (record_at i))

@@ -1,0 +1,25 @@
+-- The buffers of a captured block as lists.
+use Rattle.std.proofs.Common.{◌≡◌, ◌∙◌, ℕ, ◌<◌, false, List, [], length, get_or, slice_index, sym, ap, arith}
+use Rattle.std.proofs.lemmas.List.{get_or-map, length-map}
+use Rattle.dvd_block.specs.Product.{place}
+use Rattle.dvd_capture.specs.MarkBits.{marks_of}
+use Rattle.dvd_capture.specs.Parts.{column_answers, column_words, marks_rows}
+use Rattle.dvd_capture.specs.TwoPass.{from_columns}
+use Rattle.dvd_capture.specs.declared.parts.ColumnAnswer.{ColumnAnswer}
+use Rattle.dvd_capture.specs.declared.parts.Columns.{Columns}
+use Rattle.dvd_capture.specs.declared.parts.Marks.{Marks}
+use Rattle.dvd_capture.proofs.Columns.{from_columns-line}
+
+-- there are 208 rows of marks
+pub marks-height : (marks : Marks) → length (marks_rows marks) ≡ 208
+marks-height marks = length-map marks.rows.items marks_of ∙ sym marks.rows.ok.0 ∙ marks.size
+
+-- byte i of column j stands in row i of the block at place j
+pub block-place : (columns : Columns) (i j : ℕ) → i < 208 → j < 182
+    → slice_index (get_or (column_answers columns) j (record { bytes = []; answered = false })).bytes i ≡ place (from_columns (column_words columns)) i j
+block-place columns i j row below =
+    let within : j < length columns.all.items = omega (arith, columns.size, columns.all.ok.0) in
+    let words_within : j < length (column_words columns) = omega (arith, columns.size, columns.all.ok.0, length-map columns.all.items (λ (column : ColumnAnswer). column.bytes)) in
+    ap (λ (word : List ℕ). slice_index word i) (sym (get_or-map (λ (column : ColumnAnswer). column.bytes) columns.all.items j (record { bytes = []; answered = false }) [] within))
+    ∙ sym (get_or-map (λ word. slice_index word i) (column_words columns) j [] 0 words_within)
+    ∙ sym (ap (λ (row : List ℕ). slice_index row j) (from_columns-line (column_words columns) i row))

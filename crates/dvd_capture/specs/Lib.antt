@@ -1,0 +1,10 @@
+pub mod Answers
+pub mod Captured
+pub mod Laws
+pub mod Lends
+pub mod MarkBits
+pub mod Parts
+pub mod Rule
+pub mod TwoPass
+pub mod Within
+pub mod Works

@@ -1,0 +1,34 @@
+-- What the contracts see of the buffers of a captured block.
+use Rattle.std.specs.Prelude.{ℕ, Bool, List, map}
+use Rattle.dvd_capture.specs.MarkBits.{marks_of}
+use Rattle.dvd_capture.specs.declared.parts.Received.{Received}
+use Rattle.dvd_capture.specs.declared.parts.Marks.{Marks}
+use Rattle.dvd_capture.specs.declared.parts.AnswerRow.{AnswerRow}
+use Rattle.dvd_capture.specs.declared.parts.Answers.{Answers}
+use Rattle.dvd_capture.specs.declared.parts.ColumnAnswer.{ColumnAnswer}
+use Rattle.dvd_capture.specs.declared.parts.Columns.{Columns}
+use Rattle.dvd_capture.specs.declared.parts.Sectors.{Sectors}
+
+-- the 208 received rows of 182 bytes
+abbrev pub received_rows : Received → List (List ℕ)
+received_rows received = received.rows.items
+
+-- the marks of these rows
+abbrev pub marks_rows : Marks → List (List Bool)
+marks_rows marks = map marks_of marks.rows.items
+
+-- the 208 row answers
+abbrev pub answer_rows : Answers → List AnswerRow
+answer_rows answers = answers.rows.items
+
+-- the 182 columns
+abbrev pub column_answers : Columns → List ColumnAnswer
+column_answers columns = columns.all.items
+
+-- their bytes
+abbrev pub column_words : Columns → List (List ℕ)
+column_words columns = map (λ (column : ColumnAnswer). column.bytes) columns.all.items
+
+-- the 16 sectors of 2,048 bytes
+abbrev pub sector_bytes : Sectors → List (List ℕ)
+sector_bytes sectors = sectors.all.items

@@ -1,0 +1,20 @@
+-- How much damage two-pass decoding bears: against the block that was recorded, twice the bad rows plus the lost rows
+-- must be at most 16.
+use Rattle.std.specs.Prelude.{ℕ, ◌+◌, ◌≤◌, Bool, List, [], ◌∷◌, nat_lt, nat_le, if◌then◌else◌}
+use Rattle.gf_field.specs.Words.{cost}
+use Rattle.rs_decode.specs.Filling.{marked}
+
+-- A row weighs nothing where it is good, its cost being at most 10; one where it is lost, more than 10 of its places
+-- being marked; and two where it is bad.
+abbrev pub row_weight : List ℕ → List ℕ → List Bool → ℕ
+row_weight word row marks = if nat_le (cost word row marks) 10 then 0 else if nat_lt 10 (marked marks) then 1 else 2
+
+-- twice the bad rows plus the lost rows
+unfoldable pub block_weight : List (List ℕ) → List (List ℕ) → List (List Bool) → ℕ
+block_weight [] rows marks = 0
+block_weight (word ∷ block) [] marks = 0
+block_weight (word ∷ block) (row ∷ rows) [] = 0
+block_weight (word ∷ block) (row ∷ rows) (mark ∷ marks) = row_weight word row mark + block_weight block rows marks
+
+abbrev pub IsWithin : List (List ℕ) → List (List ℕ) → List (List Bool) → Type 0
+IsWithin block received marks = block_weight block received marks ≤ 16

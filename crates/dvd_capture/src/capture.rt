@@ -1,0 +1,117 @@
+//! Captured blocks are read from a source.
+ghost use Rattle.std.specs.Prelude.{◌≡◌, ◌≢◌, ℕ, ◌+◌, ◌*◌, ◌<◌, ◌≤◌, ◌==◌, if◌then◌else◌, length, take, slice_set};
+ghost use Rattle.dvd_block.specs.Recording.{row_at};
+ghost use Rattle.dvd_ports.specs.Causes.{Rose};
+ghost use Rattle.dvd_ports.specs.Whole.{ConsumesFewer};
+ghost use Rattle.dvd_capture.specs.Captured.{Captures, EndsAfter, block_size, marks_in, record_size};
+ghost use Rattle.dvd_capture.specs.Parts.{marks_rows, received_rows};
+ghost use Rattle.dvd_capture.specs.Works.{marks_of_work, rows_of, stage_of};
+ghost use Rattle.dvd_capture.specs.declared.stage.Stage.TheVariants.{Empty, Fetched};
+ghost use Rattle.dvd_capture.specs.declared.capture.FetchAnswer.TheVariants.{Full, End, Short, ReadFault};
+
+use crate::form::Form;
+use crate::parts::{Marks, Received};
+use crate::stage::Stage;
+use crate::work::Work;
+use dvd_block::row_of_record;
+use dvd_ports::{Failed, Source, read_whole};
+
+/// What a source gave for one block.
+#[derive(Clone, Copy, Debug, PartialEq, Eq)]
+pub enum FetchAnswer {
+    /// The whole block.
+    Full,
+    /// Nothing: the source ended before the first byte.
+    End,
+    /// So many bytes and then its end.
+    Short { bytes: u32 },
+    /// A fault.
+    ReadFault,
+}
+
+/// Reads one captured block, by as many calls as it takes. A block that isn't whole leaves the work at stage Empty.
+pub fn fetch<S: Source>(src: &mut S, form: Form, work: &mut Work) -> FetchAnswer
+    ensures full { result ≡ Full → Captures form (S.seen src.old).bytes (S.seen src.new).bytes (rows_of work.new) (marks_of_work work.new) }
+    ensures end { result ≡ End → EndsAfter form (S.seen src.old).bytes (S.seen src.new).bytes 0 }
+    ensures short { (count : ℕ) → result ≡ Short count → (0 < count) × EndsAfter form (S.seen src.old).bytes (S.seen src.new).bytes count }
+    ensures fault { result ≡ ReadFault → ConsumesFewer (S.seen src.old).bytes (S.seen src.new).bytes (block_size form) }
+    ensures cause { result ≡ ReadFault → Rose (S.seen src.old).faults (S.seen src.new).faults }
+    ensures later { (S.seen src.old).faults ≤ (S.seen src.new).faults }
+    ensures fetched { result ≡ Full → stage_of work.new ≡ Fetched }
+    ensures empty { result ≢ Full → stage_of work.new ≡ Empty }
+    ensures answers { work.new.answers ≡ work.old.answers }
+    ensures columns { work.new.columns ≡ work.old.columns }
+    ensures sectors { work.new.sectors ≡ work.old.sectors }
+{
+    work.set_stage(Stage::Empty);
+    let answer = fetch_rows(src, form, &mut work.received, &mut work.marks);
+    if answer == FetchAnswer::Full {
+        work.set_stage(Stage::Fetched);
+    }
+    answer
+}
+
+// Reads the 208 recorded rows of a block.
+fn fetch_rows<S: Source>(
+    src: &mut S,
+    form: Form,
+    received: &mut Received,
+    marks: &mut Marks,
+) -> FetchAnswer
+    ensures full { result ≡ Full → Captures form (S.seen src.old).bytes (S.seen src.new).bytes (received_rows received.new) (marks_rows marks.new) }
+    ensures end { result ≡ End → EndsAfter form (S.seen src.old).bytes (S.seen src.new).bytes 0 }
+    ensures short { (count : ℕ) → result ≡ Short count → (0 < count) × EndsAfter form (S.seen src.old).bytes (S.seen src.new).bytes count }
+    ensures fault { result ≡ ReadFault → ConsumesFewer (S.seen src.old).bytes (S.seen src.new).bytes (block_size form) }
+    ensures cause { result ≡ ReadFault → Rose (S.seen src.old).faults (S.seen src.new).faults }
+    ensures later { (S.seen src.old).faults ≤ (S.seen src.new).faults }
+{
+    let size = form.record_size();
+    for m in 0..208 {
+        let mut buffer = [0; 205];
+        let bytes = &mut buffer[..size];
+        match read_whole(src, bytes) {
+            Ok(count) if count < size => return cut_off(size * m + count),
+            Ok(_) => put_record(received, marks, m, form, bytes),
+            Err(Failed) => return FetchAnswer::ReadFault,
+        }
+    }
+    FetchAnswer::Full
+}
+
+// What is answered where a source ended after so many bytes of a block.
+fn cut_off(bytes: usize) -> FetchAnswer
+    requires { bytes < 42640 }
+    ensures { result ≡ (if bytes == 0 then End else Short bytes) }
+{
+    if bytes == 0 {
+        FetchAnswer::End
+    } else {
+        FetchAnswer::Short {
+            bytes: bytes as u32,
+        }
+    }
+}
+
+// Sets the row that stands at recorded row `m`, and its marks.
+fn put_record(received: &mut Received, marks: &mut Marks, m: usize, form: Form, bytes: &[u8])
+    requires row { m < 208 }
+    requires size { length bytes.now ≡ record_size form }
+    ensures received { received_rows received.new ≡ slice_set (received_rows received.old) (row_at m) (take 182 bytes.now) }
+    ensures marks { marks_rows marks.new ≡ slice_set (marks_rows marks.old) (row_at m) (marks_in form bytes.now) }
+{
+    let i = row_of_record(m);
+    received.set_row(i, &bytes[..182]);
+    put_marks(marks, i, form, bytes);
+}
+
+// Sets the marks of row `i` to those in a recorded row.
+fn put_marks(marks: &mut Marks, i: usize, form: Form, bytes: &[u8])
+    requires row { i < 208 }
+    requires size { length bytes.now ≡ record_size form }
+    ensures { marks_rows marks.new ≡ slice_set (marks_rows marks.old) i (marks_in form bytes.now) }
+{
+    match form {
+        Form::Plain => marks.clear_row(i),
+        Form::Marked => marks.set_row(i, &bytes[182..]),
+    }
+}

@@ -1,0 +1,323 @@
+//! The buffers of a captured block. Whoever decodes several rows or columns at once lends them one by one.
+ghost use Rattle.std.specs.Prelude.{◌≡◌, ℕ, ◌<◌, ◌≢◌, ◌==◌, Bool, false, List, [], length, vec_len, IfOk, replicate, slice_index_or, slice_set, map};
+ghost use Rattle.std.specs.declared.option.Option.TheVariants.{None, Some};
+ghost use Rattle.std.specs.Int.{bit_at};
+ghost use Rattle.dvd_block.specs.Product.{line};
+ghost use Rattle.dvd_capture.specs.MarkBits.{mark_at, marks_of};
+
+use dvd_ports::NoMemory;
+use rs_decode::Fix;
+use std::alloc::Global;
+
+/// The received rows: 208 of 182 bytes, 37,856 bytes in sum.
+#[derive(Drop)]
+pub struct Received {
+    rows: Vec<[u8; 182]>,
+    pub ghost size: { vec_len rows ≡ 208 },
+}
+
+/// A mark for each received place, a bit each: 208 rows of 23 bytes, 4,784 bytes in sum.
+#[derive(Drop)]
+pub struct Marks {
+    rows: Vec<[u8; 23]>,
+    pub ghost size: { vec_len rows ≡ 208 },
+}
+
+/// What was found for one row: the codeword near it and what that corrects, or, for a failed row, no `fix`.
+#[derive(Clone, Copy, Debug, PartialEq, Eq, Drop)]
+pub struct AnswerRow {
+    pub bytes: [u8; 182],
+    pub fix: Option<Fix>,
+}
+
+/// The row answers: 208 with 37,856 bytes in sum.
+#[derive(Drop)]
+pub struct Answers {
+    rows: Vec<AnswerRow>,
+    pub ghost size: { vec_len rows ≡ 208 },
+}
+
+/// What was found for one column of row answers: its codeword, if it was answered.
+#[derive(Clone, Copy, Debug, PartialEq, Eq, Drop)]
+pub struct ColumnAnswer {
+    pub bytes: [u8; 208],
+    pub answered: bool,
+}
+
+/// The columns: 182 with 37,856 bytes in sum.
+#[derive(Drop)]
+pub struct Columns {
+    all: Vec<ColumnAnswer>,
+    pub ghost size: { vec_len all ≡ 182 },
+}
+
+/// The Main Data of the sixteen sectors of a block: 32,768 bytes in sum.
+#[derive(Drop)]
+pub struct Sectors {
+    all: Vec<[u8; 2048]>,
+    pub ghost size: { vec_len all ≡ 16 },
+}
+
+impl Received {
+    ghost use Rattle.dvd_capture.specs.Parts.{received_rows};
+
+    /// Zeros. `NoMemory` may come at any time, and nothing is taken then.
+    pub(crate) fn new(alloc: Global) -> Result<Received, NoMemory>
+        ensures { IfOk result (λ received. received_rows received ≡ replicate 208 (replicate 182 0)) }
+    {
+        let rows = vec![in alloc; [0; 182]; 208].map_err(|_| NoMemory)?;
+        Ok(Received { rows })
+    }
+
+    /// Received row `i`.
+    pub fn row(&self, i: usize) -> &[u8; 182]
+        requires { i < 208 }
+        ensures { result.now ≡ line (received_rows self.now) i }
+    {
+        &self.rows[i]
+    }
+
+    /// Sets all rows.
+    pub(crate) fn set_rows(&mut self, rows: &[[u8; 182]])
+        requires { length rows.now ≡ 208 }
+        ensures { received_rows self.new ≡ rows.now }
+    {
+        self.rows.copy_from_slice(rows);
+    }
+
+    /// Sets row `i`, and nothing else.
+    pub(crate) fn set_row(&mut self, i: usize, row: &[u8])
+        requires row { i < 208 }
+        requires size { length row.now ≡ 182 }
+        ensures { received_rows self.new ≡ slice_set (received_rows self.old) i row.now }
+    {
+        self.rows[i].copy_from_slice(row);
+    }
+
+    /// Sets the byte in row `i` at place `j`, and nothing else.
+    pub(crate) fn set(&mut self, i: usize, j: usize, byte: u8)
+        requires row { i < 208 }
+        requires place { j < 182 }
+        ensures { received_rows self.new ≡ slice_set (received_rows self.old) i (slice_set (line (received_rows self.old) i) j byte) }
+    {
+        self.rows[i][j] = byte;
+    }
+}
+
+impl Marks {
+    ghost use Rattle.dvd_capture.specs.Parts.{marks_rows};
+    ghost use Rattle.dvd_capture.specs.Answers.{marks_line};
+
+    /// No marks. `NoMemory` may come at any time, and nothing is taken then.
+    pub(crate) fn new(alloc: Global) -> Result<Marks, NoMemory>
+        ensures { IfOk result (λ marks. marks_rows marks ≡ replicate 208 (replicate 182 false)) }
+    {
+        let rows = vec![in alloc; [0; 23]; 208].map_err(|_| NoMemory)?;
+        Ok(Marks { rows })
+    }
+
+    /// Writes the marks of row `i`.
+    pub fn row(&self, i: usize, out: &mut [bool; 182])
+        requires { i < 208 }
+        ensures { out.new ≡ marks_line (marks_rows self.now) i }
+    {
+        for (j, mark) in out.iter_mut().enumerate() {
+            *mark = is_marked(&self.rows[i], j);
+        }
+    }
+
+    /// The mark in row `i` at place `j`.
+    pub(crate) fn get(&self, i: usize, j: usize) -> bool
+        requires row { i < 208 }
+        requires place { j < 182 }
+        ensures { result ≡ slice_index_or (marks_line (marks_rows self.now) i) j false }
+    {
+        is_marked(&self.rows[i], j)
+    }
+
+    /// Sets the mark in row `i` at place `j`, and nothing else.
+    pub(crate) fn set(&mut self, i: usize, j: usize, mark: bool)
+        requires row { i < 208 }
+        requires place { j < 182 }
+        ensures { marks_rows self.new ≡ slice_set (marks_rows self.old) i (slice_set (marks_line (marks_rows self.old) i) j mark) }
+    {
+        set_mark(&mut self.rows[i], j, mark);
+    }
+
+    /// Sets the mark bits of row `i`, and nothing else.
+    pub(crate) fn set_row(&mut self, i: usize, bits: &[u8])
+        requires row { i < 208 }
+        requires size { length bits.now ≡ 23 }
+        ensures { marks_rows self.new ≡ slice_set (marks_rows self.old) i (marks_of bits.now) }
+    {
+        self.rows[i].copy_from_slice(bits);
+    }
+
+    /// Takes the marks of row `i` away, and no others.
+    pub(crate) fn clear_row(&mut self, i: usize)
+        requires { i < 208 }
+        ensures { marks_rows self.new ≡ slice_set (marks_rows self.old) i (replicate 182 false) }
+    {
+        self.set_row(i, &[0; 23]);
+    }
+
+    /// Takes all marks away.
+    pub(crate) fn clear(&mut self)
+        ensures { marks_rows self.new ≡ replicate 208 (replicate 182 false) }
+    {
+        self.rows.fill([0; 23]);
+    }
+}
+
+// The mark of place `j` in a row of mark bits.
+fn is_marked(bits: &[u8; 23], j: usize) -> bool
+    requires { j < 182 }
+    ensures { result ≡ mark_at bits.now j }
+{
+    bits[j / 8] >> (7 - j % 8) & 1 == 1
+}
+
+// Sets it.
+fn set_mark(bits: &mut [u8; 23], j: usize, mark: bool)
+    requires { j < 182 }
+    ensures { marks_of bits.new ≡ slice_set (marks_of bits.old) j mark }
+{
+    bits[j / 8] = with_bit(bits[j / 8], 7 - j % 8, mark);
+}
+
+// A byte with this bit.
+fn with_bit(byte: u8, place: usize, set: bool) -> u8
+    requires { place < 8 }
+    ensures same { (bit_at result place == 1) ≡ set }
+    ensures others { (k : ℕ) → k < 8 → k ≢ place → bit_at result k ≡ bit_at byte k }
+{
+    let bit = 1u8 << place;
+    if set { byte | bit } else { byte & !bit }
+}
+
+impl AnswerRow {
+    /// Sets both fields.
+    pub fn set(&mut self, bytes: &[u8; 182], fix: Option<Fix>)
+        ensures bytes { self.new.bytes ≡ bytes.now }
+        ensures fix { self.new.fix ≡ fix }
+    {
+        self.bytes = *bytes;
+        self.fix = fix;
+    }
+}
+
+impl Answers {
+    ghost use Rattle.dvd_capture.specs.Parts.{answer_rows};
+    ghost use Rattle.dvd_capture.specs.Lends.{LendsAnswers};
+    ghost use Rattle.std.specs.Borrow.{sem};
+
+    /// Zeros with no `fix`. `NoMemory` may come at any time, and nothing is taken then.
+    pub(crate) fn new(alloc: Global) -> Result<Answers, NoMemory>
+        ensures { IfOk result (λ answers. answer_rows answers ≡ replicate 208 (record { bytes = replicate 182 0; fix = None })) }
+    {
+        let empty = AnswerRow {
+            bytes: [0; 182],
+            fix: None,
+        };
+        let rows = vec![in alloc; empty; 208].map_err(|_| NoMemory)?;
+        Ok(Answers { rows })
+    }
+
+    /// The row answers.
+    pub fn rows(&self) -> &[AnswerRow]
+        ensures rows { result.now ≡ answer_rows self.now }
+        ensures size { length result.now ≡ 208 }
+    {
+        &self.rows
+    }
+
+    /// The row answers, lent for writing. Their number stays.
+    pub fn rows_mut(&mut self) -> &mut [AnswerRow]
+        ensures* writes_back { sem 𝓛 (LendsAnswers self.entry result) }
+        ensures rows { result.now ≡ answer_rows self.old }
+        ensures size { length result.now ≡ 208 }
+    {
+        &mut self.rows
+    }
+}
+
+impl ColumnAnswer {
+    /// Sets both fields.
+    pub fn set(&mut self, bytes: &[u8; 208], answered: bool)
+        ensures bytes { self.new.bytes ≡ bytes.now }
+        ensures answered { self.new.answered ≡ answered }
+    {
+        self.bytes = *bytes;
+        self.answered = answered;
+    }
+}
+
+impl Columns {
+    ghost use Rattle.dvd_capture.specs.Parts.{column_answers};
+    ghost use Rattle.dvd_capture.specs.Lends.{LendsColumns};
+    ghost use Rattle.std.specs.Borrow.{sem};
+
+    /// Zeros, none answered. `NoMemory` may come at any time, and nothing is taken then.
+    pub(crate) fn new(alloc: Global) -> Result<Columns, NoMemory>
+        ensures { IfOk result (λ columns. column_answers columns ≡ replicate 182 (record { bytes = replicate 208 0; answered = false })) }
+    {
+        let empty = ColumnAnswer {
+            bytes: [0; 208],
+            answered: false,
+        };
+        let all = vec![in alloc; empty; 182].map_err(|_| NoMemory)?;
+        Ok(Columns { all })
+    }
+
+    /// The columns.
+    pub fn all(&self) -> &[ColumnAnswer]
+        ensures columns { result.now ≡ column_answers self.now }
+        ensures size { length result.now ≡ 182 }
+    {
+        &self.all
+    }
+
+    /// The columns, lent for writing. Their number stays.
+    pub fn all_mut(&mut self) -> &mut [ColumnAnswer]
+        ensures* writes_back { sem 𝓛 (LendsColumns self.entry result) }
+        ensures columns { result.now ≡ column_answers self.old }
+        ensures size { length result.now ≡ 182 }
+    {
+        &mut self.all
+    }
+}
+
+impl Sectors {
+    ghost use Rattle.dvd_capture.specs.Parts.{sector_bytes};
+
+    /// Zeros. `NoMemory` may come at any time, and nothing is taken then.
+    pub(crate) fn new(alloc: Global) -> Result<Sectors, NoMemory>
+        ensures { IfOk result (λ sectors. sector_bytes sectors ≡ replicate 16 (replicate 2048 0)) }
+    {
+        let all = vec![in alloc; [0; 2048]; 16].map_err(|_| NoMemory)?;
+        Ok(Sectors { all })
+    }
+
+    /// Sets sector `f`, and nothing else.
+    pub fn set(&mut self, f: usize, main: &[u8; 2048])
+        requires { f < 16 }
+        ensures { sector_bytes self.new ≡ slice_set (sector_bytes self.old) f main.now }
+    {
+        self.all[f] = *main;
+    }
+
+    /// Sector `f`.
+    pub(crate) fn sector(&self, f: usize) -> &[u8; 2048]
+        requires { f < 16 }
+        ensures { result.now ≡ line (sector_bytes self.now) f }
+    {
+        &self.all[f]
+    }
+
+    /// Sets all sectors to zeros.
+    pub(crate) fn blank(&mut self)
+        ensures { sector_bytes self.new ≡ replicate 16 (replicate 2048 0) }
+    {
+        self.all.fill([0; 2048]);
+    }
+}

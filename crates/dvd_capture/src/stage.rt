@@ -1,0 +1,14 @@
+//! How far a captured block is.
+
+/// What a `Work` holds.
+#[derive(Clone, Copy, Debug, PartialEq, Eq)]
+pub enum Stage {
+    /// No block.
+    Empty,
+    /// A received block with its marks.
+    Fetched,
+    /// Beside it the row answers. No block has two-pass agreement with them.
+    Refused,
+    /// Beside them the block that has it.
+    Fixed,
+}

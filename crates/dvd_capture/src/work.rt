@@ -1,0 +1,189 @@
+//! A captured block: what was received, and what was found of it.
+ghost use Rattle.std.proofs.Props.{props};
+ghost use Rattle.std.specs.Prelude.{◌≡◌, ℕ, ◌<◌, ◌≢◌, ◌↔◌, Bool, false, List, replicate, slice_index, slice_index_or, slice_set, IfOk, IfSome, IfNone, OnSome};
+ghost use Rattle.std.specs.declared.option.Option.TheVariants.{None, Some};
+ghost use Rattle.dvd_block.specs.Product.{line, place};
+ghost use Rattle.dvd_capture.specs.Answers.{AreAnswers, IsFix, marks_line, row_answer};
+ghost use Rattle.dvd_capture.specs.Parts.{answer_rows, column_words, marks_rows, received_rows};
+ghost use Rattle.dvd_capture.specs.Rule.{AgreesWith-prop, HasAnswers, HasBlock, HasNoTwoPass};
+ghost use Rattle.dvd_capture.specs.TwoPass.{IsTwoPass, from_columns};
+ghost use Rattle.dvd_capture.specs.declared.stage.Stage.TheVariants.{Empty, Fetched, Refused, Fixed};
+
+use crate::parts::{Answers, Columns, Marks, Received, Sectors};
+use crate::stage::Stage;
+use dvd_block::Block;
+use dvd_ports::NoMemory;
+use rs_decode::Fix;
+use std::alloc::Global;
+
+/// A received block with its marks, what was found of it, and its sixteen sectors. The five buffers are lent apart from
+/// each other.
+#[derive(Drop)]
+pub struct Work {
+    pub received: Received,
+    pub marks: Marks,
+    pub answers: Answers,
+    pub columns: Columns,
+    pub sectors: Sectors,
+    stage: Stage,
+
+    /// Where there are row answers, they are those of the received rows and marks.
+    pub ghost answered: { HasAnswers stage → AreAnswers (received_rows received) (marks_rows marks) (answer_rows answers) } by { Prim.hlevel props },
+
+    /// At stage Refused no block has two-pass agreement.
+    pub ghost refused: { stage ≡ Refused → HasNoTwoPass (received_rows received) (marks_rows marks) },
+
+    /// At stage Fixed the columns are the block that has it.
+    pub ghost fixed: { stage ≡ Fixed → IsTwoPass (received_rows received) (marks_rows marks) (from_columns (column_words columns)) } by { Prim.hlevel AgreesWith-prop },
+}
+
+impl Work {
+    ghost use Rattle.dvd_block.specs.Buffers.{block_rows};
+    ghost use Rattle.dvd_capture.specs.Works.{answers_of_work, block_of, marks_of_work, rows_of, sectors_of, stage_of};
+
+    /// No block, all bytes 0 and no marks. `NoMemory` may come at any time, and nothing is taken then.
+    pub fn new(alloc: Global) -> Result<Work, NoMemory>
+        ensures stage { IfOk result (λ work. stage_of work ≡ Empty) }
+        ensures received { IfOk result (λ work. rows_of work ≡ replicate 208 (replicate 182 0)) }
+        ensures marks { IfOk result (λ work. marks_of_work work ≡ replicate 208 (replicate 182 false)) }
+        ensures answers { IfOk result (λ work. answers_of_work work ≡ replicate 208 (record { bytes = replicate 182 0; fix = None })) }
+        ensures columns { IfOk result (λ work. column_words work.columns ≡ replicate 182 (replicate 208 0)) }
+        ensures sectors { IfOk result (λ work. sectors_of work ≡ replicate 16 (replicate 2048 0)) }
+    {
+        Ok(Work {
+            received: Received::new(alloc)?,
+            marks: Marks::new(alloc)?,
+            answers: Answers::new(alloc)?,
+            columns: Columns::new(alloc)?,
+            sectors: Sectors::new(alloc)?,
+            stage: Stage::Empty,
+        })
+    }
+
+    /// The stage.
+    pub fn stage(&self) -> Stage
+        ensures { result ≡ stage_of self.now }
+    {
+        self.stage
+    }
+
+    /// Sets the stage, and all else stays. Where it says that something was found, that stands in the buffers.
+    pub fn set_stage(&mut self, stage: Stage)
+        requires answered { HasAnswers stage → AreAnswers (rows_of self.old) (marks_of_work self.old) (answers_of_work self.old) }
+        requires refused { stage ≡ Refused → HasNoTwoPass (rows_of self.old) (marks_of_work self.old) }
+        requires fixed { stage ≡ Fixed → IsTwoPass (rows_of self.old) (marks_of_work self.old) (block_of self.old) }
+        ensures stage { stage_of self.new ≡ stage }
+        ensures received { self.new.received ≡ self.old.received }
+        ensures marks { self.new.marks ≡ self.old.marks }
+        ensures answers { self.new.answers ≡ self.old.answers }
+        ensures columns { self.new.columns ≡ self.old.columns }
+        ensures sectors { self.new.sectors ≡ self.old.sectors }
+    {
+        self.stage = stage;
+    }
+
+    /// Receives this block with no marks.
+    pub fn load_block(&mut self, block: &Block)
+        ensures stage { stage_of self.new ≡ Fetched }
+        ensures received { rows_of self.new ≡ block_rows block.now }
+        ensures marks { marks_of_work self.new ≡ replicate 208 (replicate 182 false) }
+        ensures answers { self.new.answers ≡ self.old.answers }
+        ensures columns { self.new.columns ≡ self.old.columns }
+        ensures sectors { self.new.sectors ≡ self.old.sectors }
+    {
+        self.set_stage(Stage::Empty);
+        self.received.set_rows(block.lines.rows());
+        self.marks.clear();
+        self.set_stage(Stage::Fetched);
+    }
+
+    /// Sets the received byte in row `i` at place `j` and its mark. All others stay.
+    pub fn damage(&mut self, i: usize, j: usize, byte: u8, mark: bool)
+        requires stage { HasBlock (stage_of self.old) }
+        requires row { i < 208 }
+        requires place { j < 182 }
+        ensures stage { stage_of self.new ≡ Fetched }
+        ensures received { rows_of self.new ≡ slice_set (rows_of self.old) i (slice_set (line (rows_of self.old) i) j byte) }
+        ensures marks { marks_of_work self.new ≡ slice_set (marks_of_work self.old) i (slice_set (marks_line (marks_of_work self.old) i) j mark) }
+        ensures answers { self.new.answers ≡ self.old.answers }
+        ensures columns { self.new.columns ≡ self.old.columns }
+        ensures sectors { self.new.sectors ≡ self.old.sectors }
+    {
+        self.stage = Stage::Fetched;
+        self.received.set(i, j, byte);
+        self.marks.set(i, j, mark);
+    }
+
+    /// The received byte in row `i` at place `j`.
+    pub fn received(&self, i: usize, j: usize) -> u8
+        requires stage { HasBlock (stage_of self.now) }
+        requires row { i < 208 }
+        requires place { j < 182 }
+        ensures { result ≡ place (rows_of self.now) i j }
+    {
+        self.received.row(i)[j]
+    }
+
+    /// Whether it is marked.
+    pub fn marked(&self, i: usize, j: usize) -> bool
+        requires stage { HasBlock (stage_of self.now) }
+        requires row { i < 208 }
+        requires place { j < 182 }
+        ensures { result ≡ slice_index_or (marks_line (marks_of_work self.now) i) j false }
+    {
+        self.marks.get(i, j)
+    }
+
+    /// What the answer to row `i` corrects: none exactly where no codeword is near the row.
+    pub fn answer(&self, i: usize) -> Option<Fix>
+        requires stage { HasAnswers (stage_of self.now) }
+        requires row { i < 208 }
+        ensures failed { (result ≡ None) ↔ (row_answer (rows_of self.now) (marks_of_work self.now) i ≡ None) }
+        ensures fix { (word : List ℕ) → row_answer (rows_of self.now) (marks_of_work self.now) i ≡ Some word
+            → IfSome result (IsFix (line (rows_of self.now) i) (marks_line (marks_of_work self.now) i) word) }
+    {
+        self.answers.rows()[i].fix
+    }
+
+    /// Byte `j` of the codeword near row `i`.
+    pub fn answer_byte(&self, i: usize, j: usize) -> u8
+        requires stage { HasAnswers (stage_of self.now) }
+        requires row { i < 208 }
+        requires place { j < 182 }
+        requires answered { row_answer (rows_of self.now) (marks_of_work self.now) i ≢ None }
+        ensures { IfSome (row_answer (rows_of self.now) (marks_of_work self.now) i) (λ word. result ≡ slice_index word j) }
+    {
+        self.answers.rows()[i].bytes[j]
+    }
+
+    /// The byte in row `i` at place `j` of the block that has two-pass agreement.
+    pub fn block_byte(&self, i: usize, j: usize) -> u8
+        requires stage { stage_of self.now ≡ Fixed }
+        requires row { i < 208 }
+        requires place { j < 182 }
+        ensures column { result ≡ place (block_of self.now) i j }
+        ensures fixed { (block : List (List ℕ)) → IsTwoPass (rows_of self.now) (marks_of_work self.now) block → result ≡ place block i j }
+    {
+        self.columns.all()[j].bytes[i]
+    }
+
+    /// The 2,048 bytes of sector `f`.
+    pub fn sector(&self, f: usize) -> &[u8]
+        requires { f < 16 }
+        ensures { result.now ≡ line (sectors_of self.now) f }
+    {
+        self.sectors.sector(f)
+    }
+
+    /// Sets the sixteen sectors to zeros. All else stays.
+    pub fn blank(&mut self)
+        ensures sectors { sectors_of self.new ≡ replicate 16 (replicate 2048 0) }
+        ensures stage { stage_of self.new ≡ stage_of self.old }
+        ensures received { self.new.received ≡ self.old.received }
+        ensures marks { self.new.marks ≡ self.old.marks }
+        ensures answers { self.new.answers ≡ self.old.answers }
+        ensures columns { self.new.columns ≡ self.old.columns }
+    {
+        self.sectors.blank();
+    }
+}
