@@ -1,0 +1,119 @@
+-- The columns of the rows' answers, and the rows of the columns' words.
+use Rattle.std.proofs.Common.{◌≡◌, ◌∙◌, ℕ, ◌+◌, ◌<◌, Bool, true, false, cond, not, List, [], length, map, get_or, set, position, slice_index, All, inl, inr, refl, sym, ap, arith, Some, None}
+use Rattle.std.specs.Prelude.{◌↔◌, IsTrue}
+use Rattle.std.specs.declared.option.Option.{Option}
+use Rattle.std.proofs.lemmas.Bool.{cases_eq}
+use Rattle.std.proofs.lemmas.List.{get_or-map, get_or-set_same, get_or-set_other, length-map}
+use Rattle.std.proofs.lemmas.Grind.{same_number_lists}
+use Rattle.gf_field.specs.Words.{IsByte, IsCodeword, IsNear}
+use Rattle.rs_decode.specs.Errors.{HasNoneNear}
+use Rattle.rs_decode.specs.Nearest.{near_of, vanishes_at_all}
+use Rattle.rs_decode.proofs.Nearest.{near_of-some, none-near_of, codeword-vanishes, vanishing-codeword}
+use Rattle.dvd_block.specs.Product.{line}
+use Rattle.dvd_capture.specs.TwoPass.{answer_column, byte_at, column_answer, failed_of, from_columns}
+use Rattle.dvd_capture.specs.declared.parts.AnswerRow.{AnswerRow}
+use Rattle.dvd_capture.specs.declared.parts.ColumnAnswer.{ColumnAnswer}
+use Rattle.dvd_capture.proofs.Columns.{from_columns-line}
+use Rattle.dvd_read.specs.Found.{answer_word, column_word, words_of}
+use Rattle.dvd_read.proofs.Positions.{first_passes, none_passes}
+use Rattle.dvd_read.proofs.RowAnswers.{blank_answer}
+
+-- the bytes of a column of answers before row i
+abbrev pub IsReadBefore : List AnswerRow → ℕ → List ℕ → ℕ → Type 0
+IsReadBefore answers j word i = (k : ℕ) (d : AnswerRow) → k < i → get_or word k 0 ≡ byte_at j (answer_word (get_or answers k d))
+
+pub column_read : (answers : List AnswerRow) (j : ℕ) (word : List ℕ) → length answers ≡ 208 → length word ≡ 208 → IsReadBefore answers j word 208
+    → word ≡ answer_column (map answer_word answers) j
+unfolding answer_column
+column_read answers j word size word_size read =
+    same_number_lists word (map (byte_at j) (map answer_word answers))
+    (word_size ∙ sym (length-map (map answer_word answers) (byte_at j) ∙ length-map answers answer_word ∙ size))
+    (λ k within.
+    let below : k < 208 = omega arith in
+    let inside : k < length answers = omega arith in
+    let inside_words : k < length (map answer_word answers) = rw length-map inside in
+    read k blank_answer below
+    ∙ ap (byte_at j) (sym (get_or-map answer_word answers k blank_answer None inside))
+    ∙ sym (get_or-map (byte_at j) (map answer_word answers) k None 0 inside_words))
+
+-- a column that stands nowhere
+abbrev pub blank_column : ColumnAnswer
+blank_column = record { bytes = []; answered = false }
+
+-- the bytes of a row of the columns' words before place j
+abbrev pub IsRowBefore : List ColumnAnswer → ℕ → List ℕ → ℕ → Type 0
+IsRowBefore columns i row j = (k : ℕ) (d : ColumnAnswer) → k < j → get_or row k 0 ≡ slice_index (get_or columns k d).bytes i
+
+pub row_read : (columns : List ColumnAnswer) (i : ℕ) (row : List ℕ) → i < 208 → length columns ≡ 182 → length row ≡ 182 → IsRowBefore columns i row 182
+    → row ≡ line (from_columns (words_of columns)) i
+row_read columns i row below size row_size read =
+    let bytes : ColumnAnswer → List ℕ = λ column. column.bytes in
+    same_number_lists row (map (λ word. slice_index word i) (words_of columns))
+    (row_size ∙ sym (length-map (words_of columns) (λ word. slice_index word i) ∙ length-map columns bytes ∙ size))
+    (λ k within.
+    let inside : k < length columns = omega arith in
+    let k_below : k < 182 = omega arith in
+    let inside_words : k < length (words_of columns) = rw length-map inside in
+    read k blank_column k_below
+    ∙ ap (λ word. slice_index word i) (sym (get_or-map bytes columns k blank_column [] inside))
+    ∙ sym (get_or-map (λ word. slice_index word i) (words_of columns) k [] 0 inside_words))
+    ∙ sym (from_columns-line (words_of columns) i below)
+
+-- the second pass answers a column by the codeword near it
+pub column_found : (answers : List (Option (List ℕ))) (failed : List Bool) (word old : List ℕ) (j : ℕ) (column : ColumnAnswer)
+    → old ≡ answer_column answers j → failed ≡ failed_of answers → IsNear 208 16 old failed word
+    → column.bytes ≡ word → column.answered ≡ true → column_word column ≡ column_answer answers j
+column_found answers failed word old j column old_is failed_is near bytes answered =
+    ap (λ flag. cond flag (Some column.bytes) None) answered ∙ ap Some bytes
+    ∙ sym (near_of-some 208 16 old word failed (omega arith) near)
+    ∙ ap (λ w. near_of 208 16 w failed) old_is ∙ ap (near_of 208 16 (answer_column answers j)) failed_is
+
+pub column_missing : (answers : List (Option (List ℕ))) (failed : List Bool) (old : List ℕ) (j : ℕ) (column : ColumnAnswer)
+    → old ≡ answer_column answers j → failed ≡ failed_of answers → length old ≡ 208 → length failed ≡ 208 → HasNoneNear 208 16 old failed
+    → column.answered ≡ false → column_word column ≡ column_answer answers j
+column_missing answers failed old j column old_is failed_is size failed_size none answered =
+    ap (λ flag. cond flag (Some column.bytes) None) answered
+    ∙ sym (none-near_of 208 16 old failed size failed_size none)
+    ∙ ap (λ w. near_of 208 16 w failed) old_is ∙ ap (near_of 208 16 (answer_column answers j)) failed_is
+
+-- the columns before column j are answered
+abbrev pub AreColumnsBefore : List (Option (List ℕ)) → List ColumnAnswer → ℕ → Type 0
+AreColumnsBefore answers columns j = (k : ℕ) (d : ColumnAnswer) → k < j → column_word (get_or columns k d) ≡ column_answer answers k
+
+pub columns-next : (answers : List (Option (List ℕ))) (columns : List ColumnAnswer) (j : ℕ) (column : ColumnAnswer) → j < length columns
+    → AreColumnsBefore answers columns j → column_word column ≡ column_answer answers j → AreColumnsBefore answers (set columns j column) (j + 1)
+columns-next answers columns j column within before here k d below = elim (cases_eq k j) [
+  | inl same ↦
+      ap (λ n. column_word (get_or (set columns j column) n d)) same ∙ ap column_word (get_or-set_same columns j column d within) ∙ here
+      ∙ ap (column_answer answers) (sym same)
+  | inr other ↦ ap column_word (get_or-set_other columns j k column d other) ∙ before k d (omega arith)
+]
+
+-- an answer that is true exactly for codewords is the test
+pub codeword_tested : (answer : Bool) (row : List ℕ) → length row ≡ 182 → All IsByte row → IsTrue answer ↔ IsCodeword 182 10 row → answer ≡ vanishes_at_all 10 row
+codeword_tested true row size bytes decides = sym (codeword-vanishes 182 10 row (decides.0 refl))
+codeword_tested false row size bytes decides = refused (vanishes_at_all 10 row) refl where
+  refused : (test : Bool) → vanishes_at_all 10 row ≡ test → false ≡ test
+  refused true passes = decides.1 (vanishing-codeword 182 10 row size bytes passes)
+  refused false fails = refl
+
+-- a test of the flags passes first where the first column without an answer stands
+pub missing_first : (columns : List ColumnAnswer) (j : ℕ) → j < length columns → ((k : ℕ) (d : ColumnAnswer) → k < j → (get_or columns k d).answered ≡ true)
+    → (get_or columns j blank_column).answered ≡ false → position (λ (column : ColumnAnswer). not column.answered) columns ≡ Some j
+missing_first columns j within before here =
+    first_passes (λ (column : ColumnAnswer). not column.answered) columns j blank_column within
+    (λ k below. ap not (before k blank_column below)) (ap not here)
+
+pub missing_none : (columns : List ColumnAnswer) → ((k : ℕ) (d : ColumnAnswer) → k < length columns → (get_or columns k d).answered ≡ true)
+    → position (λ (column : ColumnAnswer). not column.answered) columns ≡ None
+missing_none columns all = none_passes (λ (column : ColumnAnswer). not column.answered) columns blank_column (λ k within. ap not (all k blank_column within))
+
+-- and so for the rows of a block
+pub wrong_first : (block : List (List ℕ)) (i : ℕ) → i < length block → ((k : ℕ) → k < i → vanishes_at_all 10 (line block k) ≡ true)
+    → vanishes_at_all 10 (line block i) ≡ false → position (λ row. not (vanishes_at_all 10 row)) block ≡ Some i
+wrong_first block i within before here =
+    first_passes (λ row. not (vanishes_at_all 10 row)) block i [] within (λ k below. ap not (before k below)) (ap not here)
+
+pub wrong_none : (block : List (List ℕ)) → ((k : ℕ) → k < length block → vanishes_at_all 10 (line block k) ≡ true)
+    → position (λ row. not (vanishes_at_all 10 row)) block ≡ None
+wrong_none block all = none_passes (λ row. not (vanishes_at_all 10 row)) block [] (λ k within. ap not (all k within))

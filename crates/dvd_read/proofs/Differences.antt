@@ -1,0 +1,60 @@
+-- Places where two blocks differ, counted one after the other.
+use Rattle.std.proofs.Common.{◌≡◌, ◌∙◌, ℕ, ◌+◌, ◌<◌, ◌≤◌, Bool, true, false, cond, not, nat_eq, List, [], ◌∷◌, ◌++◌, length, take, get_or, refl, sym, arith, add-one}
+use mir.Val.{bool_byte}
+use Rattle.std.proofs.Math.Seq.{take-suc}
+use Rattle.std.proofs.lemmas.List.{length-take-le}
+use Rattle.dvd_block.specs.Product.{line}
+use Rattle.dvd_read.specs.Found.{block_differences, differences}
+
+differences-push : (xs ys : List ℕ) (x y : ℕ) → length xs ≡ length ys → differences (xs ++ x ∷ []) (ys ++ y ∷ []) ≡ differences xs ys + cond (nat_eq x y) 0 1
+unfolding differences
+differences-push [] [] x y size = omega arith
+differences-push [] (b ∷ ys) x y size = absurd (omega arith)
+differences-push (a ∷ xs) [] x y size = absurd (omega arith)
+differences-push (a ∷ xs) (b ∷ ys) x y size =
+    let rest : differences (xs ++ x ∷ []) (ys ++ y ∷ []) ≡ differences xs ys + cond (nat_eq x y) 0 1 = differences-push xs ys x y (omega arith) in
+    omega arith
+
+as_number : (same : Bool) → bool_byte (not same) ≡ cond same 0 1
+as_number true = refl
+as_number false = refl
+
+at_most_one : (same : Bool) → cond same 0 1 ≤ 1
+at_most_one true = omega arith
+at_most_one false = omega arith
+
+-- a count of differences goes on by one place
+pub differences-next : (xs ys : List ℕ) (i count : ℕ) → i < length xs → i < length ys → count ≡ differences (take i xs) (take i ys)
+    → count + bool_byte (not (nat_eq (get_or xs i 0) (get_or ys i 0))) ≡ differences (take (i + 1) xs) (take (i + 1) ys)
+differences-next xs ys i count within_x within_y counted =
+    let sizes : length (take i xs) ≡ length (take i ys) = length-take-le i xs (omega arith) ∙ sym (length-take-le i ys (omega arith)) in
+    rw (add-one, take-suc xs i 0 within_x, take-suc ys i 0 within_y, differences-push (take i xs) (take i ys) (get_or xs i 0) (get_or ys i 0) sizes)
+    (omega (arith, counted, as_number (nat_eq (get_or xs i 0) (get_or ys i 0))))
+
+pub differences-few : (x y i count : ℕ) → count ≤ i → count + bool_byte (not (nat_eq x y)) ≤ i + 1
+differences-few x y i count few = omega (arith, few, as_number (nat_eq x y), at_most_one (nat_eq x y))
+
+block_differences-push : (xs ys : List (List ℕ)) (x y : List ℕ) → length xs ≡ length ys → block_differences (xs ++ x ∷ []) (ys ++ y ∷ []) ≡ block_differences xs ys + differences x y
+unfolding block_differences
+block_differences-push [] [] x y size = omega arith
+block_differences-push [] (b ∷ ys) x y size = absurd (omega arith)
+block_differences-push (a ∷ xs) [] x y size = absurd (omega arith)
+block_differences-push (a ∷ xs) (b ∷ ys) x y size =
+    let rest : block_differences (xs ++ x ∷ []) (ys ++ y ∷ []) ≡ block_differences xs ys + differences x y = block_differences-push xs ys x y (omega arith) in
+    omega arith
+
+-- and by one row
+pub block_differences-next : (xs ys : List (List ℕ)) (i count more : ℕ) → i < length xs → i < length ys → count ≡ block_differences (take i xs) (take i ys)
+    → more ≡ differences (line xs i) (line ys i) → count + more ≡ block_differences (take (i + 1) xs) (take (i + 1) ys)
+block_differences-next xs ys i count more within_x within_y counted row =
+    let sizes : length (take i xs) ≡ length (take i ys) = length-take-le i xs (omega arith) ∙ sym (length-take-le i ys (omega arith)) in
+    rw (add-one, take-suc xs i [] within_x, take-suc ys i [] within_y, block_differences-push (take i xs) (take i ys) (line xs i) (line ys i) sizes)
+    (omega (arith, counted, row))
+
+pub differences-none : differences [] [] ≡ 0
+unfolding differences
+differences-none = refl
+
+pub block_differences-none : block_differences [] [] ≡ 0
+unfolding block_differences
+block_differences-none = refl

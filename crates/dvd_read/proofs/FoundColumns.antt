@@ -1,0 +1,91 @@
+-- The columns that the code answered are those of the second pass.
+use Rattle.std.proofs.Common.{◌≡◌, ◌∙◌, ℕ, ◌<◌, ◌≤◌, Bool, true, false, cond, not, List, [], ◌∷◌, length, map, get_or, position, unwrap_or, refl, sym, ap, subst, arith, Some, None, is_none}
+use Rattle.std.specs.List.{prefix_len}
+use Rattle.std.specs.declared.option.Option.{Option}
+use Rattle.std.proofs.lemmas.List.{get_or-map, ext_get_or, length-map}
+use Rattle.rs_decode.specs.Nearest.{vanishes_at_all}
+use Rattle.rs_decode.specs.Filling.{marked}
+use Rattle.dvd_capture.specs.TwoPass.{AgreesWith, failed_of, from_columns}
+use Rattle.dvd_capture.specs.declared.parts.ColumnAnswer.{ColumnAnswer}
+use Rattle.dvd_read.specs.Causes.{missing_column, two_pass_cause}
+use Rattle.dvd_read.specs.Found.{AreColumns, block_found, column_word, columns_of, words_of}
+use Rattle.dvd_read.specs.declared.cause.Cause.TheVariants.{Column, Row}
+use Rattle.dvd_read.proofs.ColumnAnswers.{blank_column}
+use Rattle.dvd_read.proofs.Outcomes.{get_or-columns_of, length-columns_of, column_cause, row_cause, fixed-agrees}
+use Rattle.dvd_read.proofs.Positions.{none_fails}
+
+answers-are : (answers : List (Option (List ℕ))) (columns : List ColumnAnswer) → length columns ≡ 182 → AreColumns answers columns → map column_word columns ≡ columns_of answers
+answers-are answers columns size are =
+    ext_get_or None (map column_word columns) (columns_of answers) (length-map columns column_word ∙ size ∙ sym (length-columns_of answers))
+    (λ j within.
+    let inside : j < length columns = subst (λ n. j < n) (length-map columns column_word) within in
+    let below : j < 182 = omega arith in
+    get_or-map column_word columns j blank_column None inside ∙ are j blank_column below ∙ sym (get_or-columns_of answers j None below))
+
+-- a test after a map counts as its own test before it
+prefix_len-map : {X Y : Type 0} (p : Y → Bool) (q : X → Bool) (f : X → Y) (xs : List X) → ((x : X) → p (f x) ≡ q x) → prefix_len p (map f xs) ≡ prefix_len q xs
+prefix_len-map p q f [] same = refl
+prefix_len-map p q f (x ∷ xs) same = rw (same x, prefix_len-map p q f xs same) refl
+
+unanswered-by : (flag : Bool) (bytes : List ℕ) → is_none (cond flag (Some bytes) None) ≡ not flag
+unanswered-by true bytes = refl
+unanswered-by false bytes = refl
+
+-- the first column without an answer
+missing-is : (answers : List (Option (List ℕ))) (columns : List ColumnAnswer) → length columns ≡ 182 → AreColumns answers columns
+    → position (λ (column : ColumnAnswer). not column.answered) columns ≡ missing_column answers
+missing-is answers columns size are =
+    let lengths = prefix_len-map (λ word. not (is_none word)) (λ (column : ColumnAnswer). not (not column.answered)) column_word columns
+    (λ column. ap not (unanswered-by column.answered column.bytes)) in
+    position-by (λ (column : ColumnAnswer). not column.answered) is_none columns (map column_word columns) (sym (length-map columns column_word)) (sym lengths)
+    ∙ ap (position is_none) (answers-are answers columns size are)
+  where
+    position-by : {X Y : Type 0} (p : X → Bool) (q : Y → Bool) (xs : List X) (ys : List Y) → length xs ≡ length ys
+        → prefix_len (λ x. not (p x)) xs ≡ prefix_len (λ y. not (q y)) ys → position p xs ≡ position q ys
+    position-by p q xs ys sizes lengths = rw (sizes, lengths) refl
+
+word-by : (flag : Bool) (bytes : List ℕ) → flag ≡ true → bytes ≡ unwrap_or (cond flag (Some bytes) None) []
+word-by true bytes is = refl
+word-by false bytes is = cc
+
+-- where each column is answered, the columns' words are those of the block found
+pub words-found : (answers : List (Option (List ℕ))) (columns : List ColumnAnswer) → length columns ≡ 182 → AreColumns answers columns
+    → position (λ (column : ColumnAnswer). not column.answered) columns ≡ None → from_columns (words_of columns) ≡ block_found answers
+unfolding block_found
+words-found answers columns size are none =
+    let bytes : ColumnAnswer → List ℕ = λ column. column.bytes in
+    ap from_columns
+    (ext_get_or [] (words_of columns) (map (λ column. unwrap_or column []) (columns_of answers))
+    (length-map columns bytes ∙ size ∙ sym (length-map (columns_of answers) (λ column. unwrap_or column []) ∙ length-columns_of answers))
+    (λ j within.
+    let inside : j < length columns = subst (λ n. j < n) (length-map columns bytes) within in
+    let below : j < 182 = omega arith in
+    let answered : (get_or columns j blank_column).answered ≡ true =
+    unnot _ (none_fails (λ (column : ColumnAnswer). not column.answered) columns j blank_column none inside) in
+    get_or-map bytes columns j blank_column [] inside
+    ∙ word-by (get_or columns j blank_column).answered (get_or columns j blank_column).bytes answered
+    ∙ ap (λ column. unwrap_or column []) (are j blank_column below ∙ sym (get_or-columns_of answers j None below))
+    ∙ sym (get_or-map (λ column. unwrap_or column []) (columns_of answers) j None [] (omega (arith, length-columns_of answers)))))
+  where
+    unnot : (b : Bool) → not b ≡ false → b ≡ true
+    unnot true is = refl
+    unnot false is = sym is
+
+pub column_refused : (answers : List (Option (List ℕ))) (columns : List ColumnAnswer) (j : ℕ) → length columns ≡ 182 → AreColumns answers columns
+    → marked (failed_of answers) ≤ 16 → position (λ (column : ColumnAnswer). not column.answered) columns ≡ Some j → two_pass_cause answers ≡ Some (Column j)
+column_refused answers columns j size are few first = column_cause answers j few (sym (missing-is answers columns size are) ∙ first)
+
+pub row_refused : (answers : List (Option (List ℕ))) (columns : List ColumnAnswer) (i : ℕ) → length columns ≡ 182 → AreColumns answers columns
+    → marked (failed_of answers) ≤ 16 → position (λ (column : ColumnAnswer). not column.answered) columns ≡ None
+    → position (λ row. not (vanishes_at_all 10 row)) (from_columns (words_of columns)) ≡ Some i → two_pass_cause answers ≡ Some (Row i)
+row_refused answers columns i size are few none first =
+    row_cause answers i few (sym (missing-is answers columns size are) ∙ none)
+    (ap (position (λ row. not (vanishes_at_all 10 row))) (sym (words-found answers columns size are none)) ∙ first)
+
+pub block_accepted : (answers : List (Option (List ℕ))) (columns : List ColumnAnswer) → length answers ≡ 208 → length columns ≡ 182 → AreColumns answers columns
+    → marked (failed_of answers) ≤ 16 → position (λ (column : ColumnAnswer). not column.answered) columns ≡ None
+    → position (λ row. not (vanishes_at_all 10 row)) (from_columns (words_of columns)) ≡ None
+    → (two_pass_cause answers ≡ None) × AgreesWith answers (block_found answers)
+block_accepted answers columns answers_size size are few none fine =
+    fixed-agrees answers answers_size few (sym (missing-is answers columns size are) ∙ none)
+    (ap (position (λ row. not (vanishes_at_all 10 row))) (sym (words-found answers columns size are none)) ∙ fine)

@@ -1,0 +1,156 @@
+-- The answer to one row, and the answers to all of them as words.
+use Rattle.std.proofs.Common.{◌≡◌, ◌∙◌, ℕ, zero, suc, ◌+◌, ◌<◌, ◌≤◌, Bool, true, false, cond, List, [], ◌∷◌, length, map, take, get_or, set, inl, inr, refl, sym, ap, subst, arith, Some, None, is_none, MatchOption}
+use mir.Val.{bool_byte}
+use Rattle.std.specs.declared.option.Option.{Option}
+use Rattle.std.proofs.lemmas.Bool.{cases_eq}
+use Rattle.std.proofs.lemmas.List.{get_or-map, get_or-set_same, get_or-set_other, ext_get_or, length-map}
+use Rattle.gf_field.specs.Words.{IsNear}
+use Rattle.rs_decode.specs.Errors.{HasNoneNear, error_count}
+use Rattle.rs_decode.specs.Filling.{marked}
+use Rattle.rs_decode.specs.Nearest.{near_of}
+use Rattle.rs_decode.specs.declared.errors.Fix.{Fix}
+use Rattle.rs_decode.proofs.Nearest.{near_of-some, none-near_of}
+use Rattle.rs_decode.proofs.Marks.{marked-next_marked, marked-next_clear}
+use Rattle.dvd_block.specs.Product.{line}
+use Rattle.dvd_capture.proofs.Columns.{length-answers_of}
+use Rattle.dvd_capture.specs.Answers.{AreAnswers, IsAnswer, IsFix, marks_line}
+use Rattle.dvd_capture.specs.MarkBits.{marks_of}
+use Rattle.dvd_capture.specs.Parts.{marks_rows, received_rows}
+use Rattle.dvd_capture.specs.declared.parts.Marks.{Marks}
+use Rattle.dvd_capture.specs.declared.parts.Received.{Received}
+use Rattle.dvd_capture.specs.TwoPass.{answers_of, failed_of}
+use Rattle.dvd_capture.specs.declared.parts.AnswerRow.{AnswerRow}
+use Rattle.dvd_read.specs.Found.{answer_by, answer_word}
+
+-- what is told of a row's answer by its fix
+abbrev AnswerBy : List ℕ → List Bool → List ℕ → Option Fix → Type 0
+AnswerBy row marks bytes fix = MatchOption fix (near_of 182 10 row marks ≡ None) (IsFix row marks bytes)
+
+pub row_fixed : (row word : List ℕ) (marks : List Bool) (fix : Fix) (answer : AnswerRow) → IsNear 182 10 row marks word
+    → fix.errors ≡ error_count row word marks → fix.erased ≡ marked marks → answer.bytes ≡ word → answer.fix ≡ Some fix → IsAnswer row marks answer
+row_fixed row word marks fix answer near errors erased bytes_are fix_is =
+    let told : AnswerBy row marks word (Some fix) = (near_of-some 182 10 row word marks (omega arith) near, errors, erased) in
+    subst (AnswerBy row marks answer.bytes) (sym fix_is) (subst (λ bytes. AnswerBy row marks bytes (Some fix)) (sym bytes_are) told)
+
+pub row_failed : (row : List ℕ) (marks : List Bool) (answer : AnswerRow) → length row ≡ 182 → length marks ≡ 182 → HasNoneNear 182 10 row marks
+    → answer.fix ≡ None → IsAnswer row marks answer
+row_failed row marks answer row_size marks_size none fix_is =
+    let told : AnswerBy row marks answer.bytes None = none-near_of 182 10 row marks row_size marks_size none in
+    subst (AnswerBy row marks answer.bytes) (sym fix_is) told
+
+-- the word of an answer is what the first pass answers
+word_by : (row bytes : List ℕ) (marks : List Bool) (fix : Option Fix) → AnswerBy row marks bytes fix → answer_by fix bytes ≡ near_of 182 10 row marks
+word_by row bytes marks None is = sym is
+word_by row bytes marks (Some fix) is = sym is.0
+
+pub answer_word-is : (row : List ℕ) (marks : List Bool) (answer : AnswerRow) → IsAnswer row marks answer → answer_word answer ≡ near_of 182 10 row marks
+answer_word-is row marks answer is = word_by row answer.bytes marks answer.fix is
+
+get_or-answers_of : (received : List (List ℕ)) (marks : List (List Bool)) (i : ℕ) (d : Option (List ℕ)) → i < length received → i < length marks
+    → get_or (answers_of received marks) i d ≡ near_of 182 10 (get_or received i []) (get_or marks i [])
+unfolding answers_of
+get_or-answers_of [] marks i d within marks_within = absurd (omega arith)
+get_or-answers_of (row ∷ received) [] i d within marks_within = absurd (omega arith)
+get_or-answers_of (row ∷ received) (mark ∷ marks) zero d within marks_within = refl
+get_or-answers_of (row ∷ received) (mark ∷ marks) (suc i) d within marks_within = get_or-answers_of received marks i d (omega arith) (omega arith)
+
+-- the answers to the rows before row i
+abbrev pub AreAnswersBefore : List (List ℕ) → List (List Bool) → List AnswerRow → ℕ → Type 0
+AreAnswersBefore received marks answers i =
+    (k : ℕ) (d : AnswerRow) → k < i → IsAnswer (line received k) (marks_line marks k) (get_or answers k d)
+
+pub answers-next : (received : List (List ℕ)) (marks : List (List Bool)) (answers : List AnswerRow) (i : ℕ) (answer : AnswerRow) → i < length answers
+    → AreAnswersBefore received marks answers i → IsAnswer (line received i) (marks_line marks i) answer
+    → AreAnswersBefore received marks (set answers i answer) (i + 1)
+answers-next received marks answers i answer within before here k d below = elim (cases_eq k i) [
+  | inl same ↦
+      subst (λ (n : ℕ). IsAnswer (line received n) (marks_line marks n) (get_or (set answers i answer) n d)) (sym same)
+      (subst (IsAnswer (line received i) (marks_line marks i)) (sym (get_or-set_same answers i answer d within)) here)
+  | inr other ↦
+      subst (IsAnswer (line received k) (marks_line marks k)) (sym (get_or-set_other answers i k answer d other)) (before k d (omega arith))
+]
+
+-- the flags of the rows before row i
+abbrev pub AreFlagsBefore : List AnswerRow → List Bool → ℕ → Type 0
+AreFlagsBefore answers failed i = (k : ℕ) (d : AnswerRow) → k < i → get_or failed k false ≡ is_none (answer_word (get_or answers k d))
+
+flag-by : (bytes : List ℕ) (fix : Option Fix) → is_none fix ≡ is_none (answer_by fix bytes)
+flag-by bytes None = refl
+flag-by bytes (Some fix) = refl
+
+pub flag-is : (answer : AnswerRow) → is_none answer.fix ≡ is_none (answer_word answer)
+flag-is answer = flag-by answer.bytes answer.fix
+
+-- an answer that stands nowhere
+pub blank_answer : AnswerRow
+blank_answer = record { bytes = []; fix = None }
+
+pub flags-all : (answers : List AnswerRow) (failed : List Bool) → length answers ≡ 208 → length failed ≡ 208 → AreFlagsBefore answers failed 208
+    → failed ≡ failed_of (map answer_word answers)
+flags-all answers failed size failed_size flags =
+    ext_get_or false failed (failed_of (map answer_word answers))
+    (failed_size ∙ sym (length-map (map answer_word answers) is_none ∙ length-map answers answer_word ∙ size))
+    (λ k within.
+    let below : k < 208 = omega arith in
+    let inside : k < length answers = omega arith in
+    let inside_words : k < length (map answer_word answers) = rw length-map inside in
+    flags k blank_answer below
+    ∙ ap is_none (sym (get_or-map answer_word answers k blank_answer None inside))
+    ∙ sym (get_or-map is_none (map answer_word answers) k None false inside_words))
+
+-- the answers of all rows are those of the first pass
+pub answers-are : (received : List (List ℕ)) (marks : List (List Bool)) (answers : List AnswerRow) → length received ≡ 208 → length marks ≡ 208 → length answers ≡ 208
+    → AreAnswers received marks answers → map answer_word answers ≡ answers_of received marks
+answers-are received marks answers size marks_size answers_size are =
+    ext_get_or None (map answer_word answers) (answers_of received marks)
+    (length-map answers answer_word ∙ answers_size ∙ sym (length-answers_of received marks 208 size marks_size))
+    (λ k within.
+    let inside : k < length answers = subst (λ n. k < n) (length-map answers answer_word) within in
+    let below : k < 208 = omega arith in
+    get_or-map answer_word answers k blank_answer None inside
+    ∙ answer_word-is (line received k) (marks_line marks k) (get_or answers k blank_answer) (are k blank_answer below)
+    ∙ sym (get_or-answers_of received marks k None (omega arith) (omega arith)))
+
+next-by : (marks : List Bool) (i : ℕ) (flag : Bool) → i < length marks → get_or marks i false ≡ flag
+    → marked (take i marks) + cond flag 1 0 ≡ marked (take (i + 1) marks)
+next-by marks i true within is = omega (arith, marked-next_marked marks i within is)
+next-by marks i false within is = omega (arith, marked-next_clear marks i within is)
+
+-- one more flag counts where it is set
+pub marked-next : (marks : List Bool) (i : ℕ) → i < length marks → marked (take i marks) + cond (get_or marks i false) 1 0 ≡ marked (take (i + 1) marks)
+marked-next marks i within = next-by marks i (get_or marks i false) within refl
+
+as_number : (flag : Bool) → bool_byte flag ≡ cond flag 1 0
+as_number true = refl
+as_number false = refl
+
+flag_small : (flag : Bool) → cond flag 1 0 ≤ 1
+flag_small true = omega arith
+flag_small false = omega arith
+
+-- a count that goes on by a flag
+pub flag-counted : (marks : List Bool) (i count : ℕ) → i < length marks → count ≡ marked (take i marks)
+    → count + bool_byte (get_or marks i false) ≡ marked (take (i + 1) marks)
+flag-counted marks i count within counted =
+    omega (arith, marked-next marks i within, as_number (get_or marks i false))
+
+pub flag-few : (marks : List Bool) (i count : ℕ) → count ≤ i → count + bool_byte (get_or marks i false) ≤ i + 1
+flag-few marks i count few = omega (arith, as_number (get_or marks i false), flag_small (get_or marks i false))
+
+-- at a captured block
+pub block_answers : (received : Received) (marks : Marks) (answers : List AnswerRow) → length answers ≡ 208
+    → AreAnswers (received_rows received) (marks_rows marks) answers → map answer_word answers ≡ answers_of (received_rows received) (marks_rows marks)
+block_answers received marks answers size are =
+    answers-are (received_rows received) (marks_rows marks) answers (omega (arith, received.size, received.rows.ok.0))
+    (length-map marks.rows.items marks_of ∙ rows_size) size are
+  where
+    rows_size : length marks.rows.items ≡ 208
+    rows_size = omega (arith, marks.size, marks.rows.ok.0)
+
+pub length-block_answers : (received : Received) (marks : Marks) → length (answers_of (received_rows received) (marks_rows marks)) ≡ 208
+length-block_answers received marks =
+    length-answers_of (received_rows received) (marks_rows marks) 208 (omega (arith, received.size, received.rows.ok.0))
+    (length-map marks.rows.items marks_of ∙ rows_size)
+  where
+    rows_size : length marks.rows.items ≡ 208
+    rows_size = omega (arith, marks.size, marks.rows.ok.0)

@@ -1,0 +1,11 @@
+use Rattle.dvd_capture.specs.Parts.{sector_bytes}
+use Rattle.dvd_capture.specs.TwoPass.{from_columns}
+use Rattle.dvd_read.specs.Found.{words_of}
+use Rattle.dvd_read.proofs.FrameFaults.{AreMainsBefore, NoFaultBefore}
+use Rattle.dvd_read.proofs.frames.read_frames.Given as goal
+
+abbrev pub invariant-loop-f : goal.invariant-loop-f
+invariant-loop-f l = record {
+  right : NoFaultBefore (from_columns (words_of l.columns)) l.plan l.f;
+  mains : AreMainsBefore (from_columns (words_of l.columns)) l.plan (sector_bytes l.sectors) l.f;
+}

@@ -1,0 +1,6 @@
+use Rattle.std.proofs.Common.{◌≡◌, ◌≤◌, take}
+use Rattle.rs_decode.specs.Filling.{marked}
+use Rattle.dvd_read.proofs.rows.count_failed.Given as goal
+
+abbrev pub invariant-loop-flag : goal.invariant-loop-flag
+invariant-loop-flag l = record { counted : l.count ≡ marked (take l.flag-index l.failed); few : l.count ≤ l.flag-index }

@@ -1,0 +1,31 @@
+-- The laws of reading a block.
+use Rattle.std.specs.Prelude.{◌≡◌, ℕ, Bool, List, map, length, None}
+use Rattle.std.specs.List.{range_with_len}
+use Rattle.dvd_block.specs.Product.{IsBlockOf}
+use Rattle.dvd_capture.specs.TwoPass.{IsTwoPass, answers_of}
+use Rattle.dvd_capture.specs.Within.{IsWithin}
+use Rattle.dvd_layout.specs.declared.entry.BlockPlan.{BlockPlan}
+use Rattle.dvd_layout.specs.Place.{HasNumbers}
+use Rattle.dvd_read.specs.Causes.{two_pass_cause}
+use Rattle.dvd_read.specs.Made.{IsMadeOf, IsReceived}
+use Rattle.dvd_read.specs.Reading.{block_cause, block_in, block_sectors}
+
+-- where two passes have no cause, the block found has two-pass agreement
+abbrev pub NoCauseIsTwoPass : Type 0
+NoCauseIsTwoPass =
+    (received : List (List ℕ)) (marks : List (List Bool)) → length received ≡ 208 → length marks ≡ 208
+    → two_pass_cause (answers_of received marks) ≡ None → IsTwoPass received marks (block_in received marks)
+
+-- where some block has it, there is no cause, and the block found is that block
+abbrev pub TwoPassIsFound : Type 0
+TwoPassIsFound =
+    (received : List (List ℕ)) (marks : List (List Bool)) (block : List (List ℕ)) → length received ≡ 208 → length marks ≡ 208
+    → IsTwoPass received marks block → (two_pass_cause (answers_of received marks) ≡ None) × (block_in received marks ≡ block)
+
+-- Where twice the bad rows plus the lost rows is at most 16 against the block that was recorded of sixteen data frames,
+-- what is read has no cause, and the sectors are the Main Data of these frames.
+abbrev pub WithinIsReadBack : Type 0
+WithinIsReadBack =
+    (entry : BlockPlan) (dim : Bool) (cpr : List ℕ) (main : ℕ → List ℕ) (frames block received : List (List ℕ)) (marks : List (List Bool)) → HasNumbers entry
+    → IsMadeOf entry dim cpr main frames → IsBlockOf frames block → IsReceived received marks → IsWithin block received marks
+    → (block_cause received marks entry ≡ None) × (block_sectors received marks entry ≡ map main (range_with_len 0 16))

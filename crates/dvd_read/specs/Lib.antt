@@ -1,0 +1,6 @@
+pub mod Causes
+pub mod Found
+pub mod Frames
+pub mod Laws
+pub mod Made
+pub mod Reading

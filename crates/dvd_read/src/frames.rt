@@ -1,0 +1,99 @@
+//! The checks of a block's sixteen data frames, and their Main Data.
+ghost use Rattle.std.specs.Prelude.{◌≡◌, ◌+◌, ◌<◌, ◌≤◌, ◌++◌, None, Some, length, take, replicate, slice_index_or, IfErr, OnErr, OnOk};
+ghost use Rattle.dvd_block.specs.Product.{line};
+ghost use Rattle.dvd_capture.specs.Parts.{sector_bytes};
+ghost use Rattle.dvd_capture.specs.TwoPass.{from_columns};
+ghost use Rattle.dvd_capture.specs.Works.{block_of, sectors_of, stage_of};
+ghost use Rattle.dvd_layout.specs.Place.{HasNumbers};
+ghost use Rattle.dvd_read.specs.Found.{words_of};
+ghost use Rattle.dvd_read.specs.Frames.{cause_in, frame_of, frames_cause, main_data};
+
+use crate::cause::Cause;
+use crate::columns::read_row;
+use dvd_capture::parts::{ColumnAnswer, Sectors};
+use dvd_capture::{Stage, Work};
+use dvd_frame::{FrameCause, read_frame};
+use dvd_layout::{BlockPlan, id_of, rule_of};
+
+/// Checks the sixteen data frames of a block that two passes fixed, as those of an entry of a plan, and sets the sectors to
+/// their unscrambled Main Data. After a cause, that of the first frame that has one, the sectors are zeros.
+/// The stage and all else stay.
+pub fn sectors(work: &mut Work, plan: &BlockPlan) -> Result<(), Cause>
+    requires stage { stage_of work.old ≡ Stage.Fixed }
+    requires numbers { HasNumbers plan.now }
+
+    ensures refused { IfErr result (λ cause. frames_cause (block_of work.old) plan.now ≡ Some cause) }
+    ensures right { OnOk result (frames_cause (block_of work.old) plan.now ≡ None) }
+    ensures main { OnOk result (sectors_of work.new ≡ main_data (block_of work.old) plan.now) }
+    ensures zeros { OnErr result (sectors_of work.new ≡ replicate 16 (replicate 2048 0)) }
+
+    ensures stage { stage_of work.new ≡ Stage.Fixed }
+    ensures received { work.new.received ≡ work.old.received }
+    ensures marks { work.new.marks ≡ work.old.marks }
+    ensures answers { work.new.answers ≡ work.old.answers }
+    ensures columns { work.new.columns ≡ work.old.columns }
+{
+    match read_frames(work.columns.all(), plan, &mut work.sectors) {
+        Ok(()) => Ok(()),
+        Err(cause) => {
+            work.blank();
+            Err(cause)
+        }
+    }
+}
+
+// Reads the frames of the block of these columns into the sectors, up to the first that has a cause.
+fn read_frames(
+    columns: &[ColumnAnswer],
+    plan: &BlockPlan,
+    sectors: &mut Sectors,
+) -> Result<(), Cause>
+    requires columns { length columns.now ≡ 182 }
+    requires numbers { HasNumbers plan.now }
+    ensures refused { IfErr result (λ cause. frames_cause (from_columns (words_of columns.now)) plan.now ≡ Some cause) }
+    ensures right { OnOk result (frames_cause (from_columns (words_of columns.now)) plan.now ≡ None) }
+    ensures main { OnOk result (sector_bytes sectors.new ≡ main_data (from_columns (words_of columns.now)) plan.now) }
+{
+    let mut frame = [0; 2064];
+    let mut main = [0; 2048];
+    for f in 0..16usize {
+        copy_frame(columns, f, &mut frame);
+        let rule = rule_of(plan.content, f);
+        if let Err(cause) = read_frame(&frame, id_of(plan, false, f), rule, &mut main) {
+            return Err(cause_of(f as u8, cause));
+        }
+        sectors.set(f, &main);
+    }
+    Ok(())
+}
+
+fn cause_of(f: u8, cause: FrameCause) -> Cause
+    ensures { result ≡ cause_in f cause }
+{
+    match cause {
+        FrameCause::Ied => Cause::Ied { f },
+        FrameCause::Address { found } => Cause::Address { f, found },
+        FrameCause::Edc => Cause::Edc { f },
+    }
+}
+
+// Writes frame `f` of the block of these columns.
+fn copy_frame(columns: &[ColumnAnswer], f: usize, frame: &mut [u8; 2064])
+    requires columns { length columns.now ≡ 182 }
+    requires frame { f < 16 }
+    ensures { frame.new ≡ frame_of (from_columns (words_of columns.now)) f }
+{
+    let mut row = [0; 182];
+    for q in 0..12usize {
+        read_row(columns, 12 * f + q, &mut row);
+        put_front(frame, 172 * q, &row);
+    }
+}
+
+// Writes the first 172 bytes of a row behind what stands before them.
+fn put_front(frame: &mut [u8; 2064], at: usize, row: &[u8; 182])
+    requires { at + 172 ≤ 2064 }
+    ensures { take (at + 172) frame.new ≡ take at frame.old ++ take 172 row.now }
+{
+    frame[at..at + 172].copy_from_slice(&row[..172]);
+}

@@ -1,0 +1,17 @@
+//! What holds of every captured block that is read: each function's contract is one law, and its body is empty.
+ghost use Rattle.dvd_read.specs.Laws.{NoCauseIsTwoPass, TwoPassIsFound, WithinIsReadBack};
+
+/// Where two passes have no cause, the block found has two-pass agreement with what was received.
+pub fn no_cause_is_two_pass()
+    ensures { NoCauseIsTwoPass }
+{}
+
+/// Where some block has two-pass agreement, there is no cause, and the block found is that block.
+pub fn two_pass_is_found()
+    ensures { TwoPassIsFound }
+{}
+
+/// Within the bound, what is read of a block has no cause and gives back the sectors that were recorded.
+pub fn within_is_read_back()
+    ensures { WithinIsReadBack }
+{}

@@ -1,0 +1,17 @@
+//! Reading of a captured ECC block (ECMA-267, clause 18): two passes over its rows and columns give the one block that
+//! agrees with what was received, and the checks of its sixteen data frames (clauses 16 and 17) give their Main Data.
+#![tactic(auto)]
+
+mod cause; // why a block is refused, and what was fixed
+mod columns; // the second pass: columns of the rows' answers
+mod frames; // the checks of the sixteen data frames
+pub mod laws; // what holds of every captured block that is read
+mod passes; // both passes, and the test of the rows
+mod rows; // the first pass: rows
+
+pub use cause::{Cause, Fixed};
+pub use frames::sectors;
+pub use passes::two_pass;
+
+#[cfg(test)]
+mod tests;

@@ -1,0 +1,168 @@
+//! Worked values from outside the program.
+use crate::{Cause, Fixed, sectors, two_pass};
+use dvd_block::Block;
+use dvd_capture::{Stage, Work};
+use dvd_frame::{Area, Id, Rule, make_frame};
+use dvd_layout::{BlockPlan, Content};
+use gf_field::mul;
+use std::alloc::Global;
+use std::test::Fail;
+
+// The row codeword of the generator polynomial: it stands at the last eleven places.
+const GENERATOR: [u8; 11] = [
+    0x01, 0xD8, 0xC2, 0x9F, 0x6F, 0xC7, 0x5E, 0x5F, 0x71, 0x9D, 0xC1,
+];
+
+// The first nine coefficients of the column code's generator polynomial.
+const COLUMN: [u8; 9] = [0x01, 0x3B, 0x0D, 0x68, 0xBD, 0x44, 0xD1, 0x1E, 0x08];
+
+const FIRST: BlockPlan = BlockPlan {
+    first: 0x03_0000,
+    area: Area::DataZone,
+    layer: 0,
+    content: Content::Image(0),
+};
+
+// A received block of zeros.
+fn zero_block(alloc: Global) -> Result<Work, Fail> {
+    let mut work = Work::new(alloc)?;
+    work.load_block(&Block::new(alloc)?);
+    Ok(work)
+}
+
+fn put(work: &mut Work, i: usize, j: usize, byte: u8, mark: bool) {
+    if work.stage() == Stage::Fetched && i < 208 && j < 182 {
+        work.damage(i, j, byte, mark);
+    }
+}
+
+// Marks all places of row `i`.
+fn lose_row(work: &mut Work, i: usize) {
+    for j in 0..182usize {
+        put(work, i, j, 0, true);
+    }
+}
+
+// Puts a multiple of the generator's codeword into row `i` from place `j` on.
+fn put_codeword(work: &mut Work, i: usize, j: usize, factor: u8) {
+    for (k, byte) in GENERATOR.iter().enumerate() {
+        if j <= 181 {
+            put(work, i, j + k, mul(factor, *byte), false);
+        }
+    }
+}
+
+// Both passes, where a block was received.
+fn decode(work: &mut Work) -> Option<Result<Fixed, Cause>> {
+    if work.stage() == Stage::Fetched {
+        Some(two_pass(work))
+    } else {
+        None
+    }
+}
+
+// The checks of the first data block's frames, where both passes fixed it.
+fn check(work: &mut Work) -> Option<Result<(), Cause>> {
+    if work.stage() == Stage::Fixed {
+        Some(sectors(work, &FIRST))
+    } else {
+        None
+    }
+}
+
+#[test]
+fn sixteen_lost_rows_are_filled_and_seventeen_are_not(rt: HostRuntime) -> Result<(), Fail> {
+    let mut work = zero_block(rt.alloc())?;
+    for t in 0..16usize {
+        lose_row(&mut work, 13 * t);
+    }
+    let fixed = Fixed {
+        bytes: 0,
+        failed_rows: 16,
+    };
+    assert_eq!(rt; decode(&mut work), Some(Ok(fixed)));
+    let mut work = zero_block(rt.alloc())?;
+    for t in 0..17usize {
+        lose_row(&mut work, 12 * t);
+    }
+    assert_eq!(rt; decode(&mut work), Some(Err(Cause::Rows { failed: 17 })));
+    Ok(())
+}
+
+#[test]
+fn eight_rows_of_another_codeword_are_fixed(rt: HostRuntime) -> Result<(), Fail> {
+    let mut work = zero_block(rt.alloc())?;
+    for t in 0..8usize {
+        put_codeword(&mut work, 20 * t, 171, 1);
+    }
+    let fixed = Fixed {
+        bytes: 88,
+        failed_rows: 0,
+    };
+    assert_eq!(rt; decode(&mut work), Some(Ok(fixed)));
+
+    // A lost row more is too much for the columns.
+    let mut work = zero_block(rt.alloc())?;
+    for t in 0..8usize {
+        put_codeword(&mut work, 20 * t, 171, 1);
+    }
+    lose_row(&mut work, 207);
+    assert_eq!(rt; decode(&mut work), Some(Err(Cause::Column { j: 171 })));
+    Ok(())
+}
+
+#[test]
+fn a_row_that_is_no_codeword_refuses_the_block(rt: HostRuntime) -> Result<(), Fail> {
+    let mut work = zero_block(rt.alloc())?;
+    for t in 0..8usize {
+        put_codeword(&mut work, 191 + t, 171, mul(COLUMN[t], 0xC1));
+    }
+    put_codeword(&mut work, 199, 161, 0x08);
+    assert_eq!(rt; decode(&mut work), Some(Err(Cause::Row { i: 191 })));
+    Ok(())
+}
+
+// The first data block over zeros. `spoiled` changes a main byte of frame 2, and a bit of frame 3's IED is always changed.
+fn spoiled_block(alloc: Global, spoiled: bool) -> Result<Work, Fail> {
+    let mut block = Block::new(alloc)?;
+    for f in 0..16u32 {
+        let id = Id::new(Area::DataZone, 0, false, 0x03_0000 + f);
+        let mut frame = [0; 2064];
+        make_frame(id, &[0; 6], Rule::Whole, &[0; 2048], &mut frame);
+        if f == 2 && spoiled {
+            frame[100] ^= 0x01;
+        }
+        if f == 3 {
+            frame[5] ^= 0x40;
+        }
+        block.put_frame(f as usize, &frame);
+    }
+    block.add_parity();
+    let mut work = Work::new(alloc)?;
+    work.load_block(&block);
+    Ok(work)
+}
+
+#[test]
+fn the_first_frame_with_a_fault_is_named(rt: HostRuntime) -> Result<(), Fail> {
+    let whole = Fixed {
+        bytes: 0,
+        failed_rows: 0,
+    };
+    for (spoiled, cause) in [(true, Cause::Edc { f: 2 }), (false, Cause::Ied { f: 3 })] {
+        let mut work = spoiled_block(rt.alloc(), spoiled)?;
+        assert_eq!(rt; decode(&mut work), Some(Ok(whole)));
+        assert_eq!(rt; check(&mut work), Some(Err(cause)));
+        assert!(rt; work.sector(15).iter().all(|byte| *byte == 0));
+    }
+    Ok(())
+}
+
+#[test]
+fn a_block_of_zeros_names_no_place(rt: HostRuntime) -> Result<(), Fail> {
+    let mut work = zero_block(rt.alloc())?;
+    assert!(rt; decode(&mut work).is_some());
+    let cause = Cause::Address { f: 0, found: 0 };
+    assert_eq!(rt; check(&mut work), Some(Err(cause)));
+    Ok(())
+}
