@@ -1,0 +1,16 @@
+pub mod Outcomes
+pub mod Reached
+pub mod Told
+pub mod UnitLemmas
+pub mod Digits
+pub mod Silent
+pub mod RunLemmas
+pub mod Lengths
+pub mod BlockFrames
+pub mod MasterTurns
+pub mod Recovered
+pub mod RecoverTurns
+pub mod Repairs
+pub mod Repaired
+pub mod MasteredStream
+pub mod BoundKept

@@ -1,0 +1,5 @@
+use Rattle.dvd_top.proofs.Repaired.{repaired}
+use Rattle.dvd_top.proofs.laws.damage_within_the_bound_is_repaired.Goals as goal
+
+pub returns : goal.returns
+returns c = repaired

@@ -1,0 +1,14 @@
+pub mod Follows
+pub mod Frames
+pub mod Lines
+pub mod Master
+pub mod Outcome
+pub mod Recover
+pub mod Recovering
+pub mod Run
+pub mod Settings
+pub mod Turns
+pub mod Units
+pub mod Words
+pub mod Laws
+pub mod Bound

@@ -1,0 +1,67 @@
+//! What the words of a command line ask for.
+
+use dvd_capture::Form;
+use dvd_layout::{Shape, Zones};
+
+/// The commands.
+#[derive(Clone, Copy, Debug, PartialEq, Eq)]
+pub enum Task {
+    /// A scrambled data frame for each sector.
+    Frames,
+    /// The recording frames of each ECC block of a disk.
+    Master,
+    /// The image sectors that are read from a stream of captured blocks.
+    Recover,
+}
+
+/// A command with its options. A field without an option in its command has its default, or 0.
+#[derive(Clone, Copy, Debug, PartialEq, Eq)]
+pub struct Settings {
+    pub task: Task,
+    /// The number of the first sector.
+    pub first: u32,
+    /// How many sectors there are, on layer 0 where there are two.
+    pub sectors: u32,
+    /// How many sectors layer 1 has.
+    pub sectors1: u32,
+    pub shape: Shape,
+    pub zones: Zones,
+    /// How many blocks the Initial Zone has.
+    pub initial: u32,
+    /// How many blocks the zones behind the data have.
+    pub tail: u32,
+    /// CPR_MAI of the frames in the Data Zone.
+    pub cpr: [u8; 6],
+    /// How the bytes of a captured block stand in a stream.
+    pub form: Form,
+}
+
+impl Settings {
+    ghost use Rattle.std.specs.Prelude.{◌≡◌};
+    ghost use Rattle.dvd_top.specs.Settings.{plain_settings};
+
+    /// A command over so many sectors, with the defaults of the other options.
+    pub fn plain(task: Task, first: u32, sectors: u32) -> Settings
+        ensures { result ≡ plain_settings task first sectors }
+    {
+        Settings {
+            task,
+            first,
+            sectors,
+            sectors1: 0,
+            shape: Shape::Single,
+            zones: Zones::DataOnly,
+            initial: 0,
+            tail: 16,
+            cpr: [0; 6],
+            form: Form::Plain,
+        }
+    }
+
+    /// The same with captured blocks in that form.
+    pub fn in_form(self, form: Form) -> Settings
+        ensures { result ≡ record self { form = form } }
+    {
+        Settings { form, ..self }
+    }
+}
