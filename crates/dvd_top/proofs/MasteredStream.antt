@@ -19,10 +19,12 @@ use Rattle.dvd_layout.specs.declared.layout.Layout.{Layout}
 use Rattle.dvd_layout.specs.declared.layout.Zones.{Zones}
 use Rattle.dvd_top.specs.Laws.{MasteredStreamIsRecovered}
 use Rattle.dvd_top.specs.Master.{IsMastered, bytes_of_entry, filled, frames_of, image_bytes, image_sectors, master_units}
+use Rattle.dvd_top.specs.Outcome.{full_units}
 use Rattle.dvd_top.specs.Recover.{IsRecovered, deed_by, recover_units}
-use Rattle.dvd_top.specs.Units.{Deed, Deeds, HasDone, and_then, start, unit_bytes}
+use Rattle.dvd_top.specs.Units.{Units, Deed, Deeds, HasDone, and_then, start, unit_bytes}
 use Rattle.dvd_top.proofs.Repaired.{one_entry, repaired}
-use Rattle.dvd_top.proofs.UnitLemmas.{start-suc}
+use Rattle.dvd_top.proofs.Outcomes.{end_done}
+use Rattle.dvd_top.proofs.UnitLemmas.{start-suc, whole_is}
 
 -- the rows of a block are 182 bytes wide
 widths-of : (block : List (List ℕ)) → IsProduct block → All (λ row. length row ≡ 182) block
@@ -82,21 +84,29 @@ module _ (layout : Layout) (zones : Zones) (cpr image : List ℕ) (cpr_size : le
       (omega (arith, length-drop (start (master_units layout zones cpr) k) image, start-suc (master_units layout zones cpr) k))
       ∙ ap (bytes_of_entry layout) stands
 
+  -- the stream has every unit of recovery
+  mastered-size : (k : ℕ) (mastered : Deeds) → HasDone (master_units layout zones cpr) image k mastered
+      → length mastered.out ≡ start (recover_units layout zones Plain) k
+  unfolding HasDone start
+  mastered-size zero mastered masters = ap (λ (d : Deeds). length d.out) masters
+  mastered-size (suc k) mastered masters =
+      ap (λ (d : Deeds). length d.out) masters.4
+      ∙ ap (λ (d : Deed). length (masters.0.out ++ d.out)) masters.3.does
+      ∙ length-append masters.0.out (recording masters.3.block)
+      ∙ omega (arith, mastered-size k masters.0 masters.2, recording-size masters.3.block masters.3.is_block.product)
+
   blocks_back : (rest : List ℕ) (k : ℕ) (mastered recovered : Deeds) → start (master_units layout zones cpr) k ≤ length image
       → HasDone (master_units layout zones cpr) image k mastered → HasDone (recover_units layout zones Plain) (mastered.out ++ rest) k recovered
-      → (recovered ≡ record { out = take (start (master_units layout zones cpr) k) image; lines = []; bad = 0 })
-      × (length mastered.out ≡ start (recover_units layout zones Plain) k)
+      → recovered ≡ record { out = take (start (master_units layout zones cpr) k) image; lines = []; bad = 0 }
   unfolding HasDone start
-  blocks_back rest zero mastered recovered within masters recovers = (recovers, ap (λ (d : Deeds). length d.out) masters)
+  blocks_back rest zero mastered recovered within masters recovers = recovers
   blocks_back rest (suc k) mastered recovered within masters recovers =
-      let earlier = blocks_back (recording masters.3.block ++ rest) k masters.0 recovers.0 (omega (arith, start-suc (master_units layout zones cpr) k)) masters.2
-      (subst (λ (l : List ℕ). HasDone (recover_units layout zones Plain) l k recovers.0) (whole ∙ append_assoc masters.0.out (recording masters.3.block) rest) recovers.2) in (
-        recovers.4
-            ∙ ap (λ (d : Deeds). and_then d recovers.1) earlier.0
-            ∙ ap (λ (d : Deed). and_then (record { out = take (start (master_units layout zones cpr) k) image; lines = []; bad = 0 }) d) (back earlier.1)
-            ∙ ap (λ (l : List ℕ). record { out = l; lines = []; bad = 0 }) (sym (take-add (start (master_units layout zones cpr) k) (bytes_of_entry layout (slice_get (plan_of layout zones) k)) image)),
-        ap length out_is ∙ length-append masters.0.out (recording mast.block) ∙ omega (arith, earlier.1, size, start-suc (recover_units layout zones Plain) k),
-      )
+      recovers.4
+      ∙ ap (λ (d : Deeds). and_then d recovers.1)
+      (blocks_back (recording masters.3.block ++ rest) k masters.0 recovers.0 (omega (arith, start-suc (master_units layout zones cpr) k)) masters.2
+      (subst (λ (l : List ℕ). HasDone (recover_units layout zones Plain) l k recovers.0) (whole ∙ append_assoc masters.0.out (recording masters.3.block) rest) recovers.2))
+      ∙ ap (λ (d : Deed). and_then (record { out = take (start (master_units layout zones cpr) k) image; lines = []; bad = 0 }) d) back
+      ∙ ap (λ (l : List ℕ). record { out = l; lines = []; bad = 0 }) (sym (take-add (start (master_units layout zones cpr) k) (bytes_of_entry layout (slice_get (plan_of layout zones) k)) image))
     where
       mast : IsMastered layout zones cpr k (unit_bytes (master_units layout zones cpr) image k) masters.1
       mast = masters.3
@@ -110,20 +120,39 @@ module _ (layout : Layout) (zones : Zones) (cpr image : List ℕ) (cpr_size : le
       whole : mastered.out ++ rest ≡ (masters.0.out ++ recording mast.block) ++ rest
       whole = ap (λ (l : List ℕ). l ++ rest) out_is
 
-      does : length masters.0.out ≡ start (recover_units layout zones Plain) k → IsRecovered layout zones Plain k (recording mast.block) recovers.1
-      does before =
+      does : IsRecovered layout zones Plain k (recording mast.block) recovers.1
+      does =
           subst (λ (own : List ℕ). IsRecovered layout zones Plain k own recovers.1)
-          (ap (λ (l : List ℕ). unit_bytes (recover_units layout zones Plain) l k) whole ∙ own_bytes masters.0.out (recording mast.block) rest k before size)
+          (ap (λ (l : List ℕ). unit_bytes (recover_units layout zones Plain) l k) whole ∙ own_bytes masters.0.out (recording mast.block) rest k (mastered-size k masters.0 masters.2) size)
           recovers.3
 
-      back : length masters.0.out ≡ start (recover_units layout zones Plain) k → recovers.1 ≡ record { out = unit_bytes (master_units layout zones cpr) image k; lines = []; bad = false }
-      back before =
+      back : recovers.1 ≡ record { out = unit_bytes (master_units layout zones cpr) image k; lines = []; bad = false }
+      back =
           block_back layout zones cpr k mast.entry (unit_bytes (master_units layout zones cpr) image k) mast.block recovers.1 mast.stands cpr_size
-          (own_size k mast.entry mast.stands within) mast.is_block (does before)
+          (own_size k mast.entry mast.stands within) mast.is_block does
+
+-- all units are whole in an input of just their bytes
+full-all : (units : Units) (bytes : List ℕ) → length bytes ≡ start units units.count → full_units units bytes ≡ units.count
+full-all units bytes size = whole_is units (length bytes) units.count units.count (omega arith) (omega (arith, size)) (λ less. absurd (omega (arith, less)))
 
 pub stream_recovered : MasteredStreamIsRecovered
-stream_recovered layout zones cpr image mastered recovered cpr_size image_size masters recovers =
-    let blocks = length (plan_of layout zones) in
-    (blocks_back layout zones cpr image cpr_size [] blocks mastered recovered (omega (arith, image_size)) masters
-    (subst (λ (l : List ℕ). HasDone (recover_units layout zones Plain) l blocks recovered) (sym (append-nil mastered.out)) recovers)).0
-    ∙ ap (λ (l : List ℕ). record { out = l; lines = []; bad = 0 }) (take_all (start (master_units layout zones cpr) blocks) image (omega (arith, image_size)))
+stream_recovered layout zones cpr image mastered recovered cpr_size image_size masters recovers = (
+  back,
+  end_done (recover_units layout zones Plain) mastered.out recovered.bad size (ap (λ (d : Deeds). d.bad) back),
+)
+  where
+    all_masters : HasDone (master_units layout zones cpr) image (length (plan_of layout zones)) mastered
+    all_masters = subst (λ (n : ℕ). HasDone (master_units layout zones cpr) image n mastered) (full-all (master_units layout zones cpr) image image_size) masters
+
+    size : length mastered.out ≡ start (recover_units layout zones Plain) (length (plan_of layout zones))
+    size = mastered-size layout zones cpr image cpr_size (length (plan_of layout zones)) mastered all_masters
+
+    all_recovers : HasDone (recover_units layout zones Plain) (mastered.out ++ []) (length (plan_of layout zones)) recovered
+    all_recovers =
+        subst (λ (l : List ℕ). HasDone (recover_units layout zones Plain) l (length (plan_of layout zones)) recovered) (sym (append-nil mastered.out))
+        (subst (λ (n : ℕ). HasDone (recover_units layout zones Plain) mastered.out n recovered) (full-all (recover_units layout zones Plain) mastered.out size) recovers)
+
+    back : recovered ≡ record { out = image; lines = []; bad = 0 }
+    back =
+        blocks_back layout zones cpr image cpr_size [] (length (plan_of layout zones)) mastered recovered (omega (arith, image_size)) all_masters all_recovers
+        ∙ ap (λ (l : List ℕ). record { out = l; lines = []; bad = 0 }) (take_all (start (master_units layout zones cpr) (length (plan_of layout zones))) image (omega (arith, image_size)))

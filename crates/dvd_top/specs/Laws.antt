@@ -11,6 +11,8 @@ use Rattle.dvd_layout.specs.declared.entry.BlockPlan.{BlockPlan}
 use Rattle.dvd_layout.specs.declared.layout.Layout.{Layout}
 use Rattle.dvd_layout.specs.declared.layout.Zones.{Zones}
 use Rattle.dvd_top.specs.Master.{filled, frames_of, image_bytes, master_units}
+use Rattle.dvd_top.specs.Outcome.{full_units, outcome_end}
+use Rattle.dvd_top.specs.declared.ends.LoopEnd.TheVariants.{Done}
 use Rattle.dvd_top.specs.Recover.{IsRecovered, recover_units}
 use Rattle.dvd_top.specs.Units.{Deed, Deeds, HasDone, start}
 
@@ -24,11 +26,13 @@ DamageWithinTheBoundIsRepaired =
     → length own ≡ block_size form → IsWithin block (captured_rows form own) (captured_marks form own)
     → IsRecovered layout zones form k own deed → deed ≡ record { out = image; lines = []; bad = false }
 
--- From a mastered stream recovery gives the image back, and no line names a block.
+-- What a whole run of recovery does for the stream that a whole run of mastering wrote of a whole image:
+-- the image is written, no line names a block, and the end is Done.
 abbrev pub MasteredStreamIsRecovered : Type 0
 MasteredStreamIsRecovered =
     (layout : Layout) (zones : Zones) (cpr image : List ℕ) (mastered recovered : Deeds)
     → length cpr ≡ 6 → length image ≡ start (master_units layout zones cpr) (length (plan_of layout zones))
-    → HasDone (master_units layout zones cpr) image (length (plan_of layout zones)) mastered
-    → HasDone (recover_units layout zones Plain) mastered.out (length (plan_of layout zones)) recovered
-    → recovered ≡ record { out = image; lines = []; bad = 0 }
+    → HasDone (master_units layout zones cpr) image (full_units (master_units layout zones cpr) image) mastered
+    → HasDone (recover_units layout zones Plain) mastered.out (full_units (recover_units layout zones Plain) mastered.out) recovered
+    → (recovered ≡ record { out = image; lines = []; bad = 0 })
+    × (outcome_end (recover_units layout zones Plain) mastered.out recovered.bad ≡ Done)

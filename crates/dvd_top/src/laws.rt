@@ -6,7 +6,7 @@ pub fn damage_within_the_bound_is_repaired()
     ensures { DamageWithinTheBoundIsRepaired }
 {}
 
-/// From a mastered stream recovery gives the image back, and no line names a block.
+/// From a mastered stream recovery gives the image back, no line names a block, and the end is Done.
 pub fn mastered_stream_is_recovered()
     ensures { MasteredStreamIsRecovered }
 {}
