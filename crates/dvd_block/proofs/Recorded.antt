@@ -1,5 +1,5 @@
 -- Rows in the order of recording, one behind the other.
-use Rattle.std.proofs.Common.{◌≡◌, ℕ, zero, suc, ◌+◌, ◌-◌, ◌*◌, ◌≤◌, List, [], ◌++◌, Result, Ok, Err, OnErr, Option, refl, sym, ◌∙◌, ap, subst, append_assoc, arith}
+use Rattle.std.proofs.Common.{◌≡◌, ◌≢◌, ℕ, zero, suc, ◌+◌, ◌-◌, ◌*◌, ◌≤◌, List, [], ◌∷◌, ◌++◌, Result, Ok, Err, OnErr, Option, refl, sym, ◌∙◌, ap, subst, append_assoc, arith}
 use Rattle.std.specs.Io.KnownBytes.{Appends}
 use Rattle.dvd_ports.specs.Whole.{AppendsPrefix}
 use Rattle.dvd_ports.proofs.KnownLemmas.{Appends-none, Appends-then}
@@ -54,6 +54,11 @@ frame_written old mid new f frame block before is now =
     ∙ sym (recorded-add 0 (13 * f) 13 block) ∙ ap (λ (c : ℕ). recorded 0 c block) count)
     (Appends-then old mid new (recorded 0 (13 * f) block) frame before now)
 
+-- what begins with something isn't empty
+begins_more : (xs ys : List ℕ) → xs ≢ [] → xs ++ ys ≢ []
+begins_more [] ys some none = some refl
+begins_more (x ∷ xs) ys some none = cc
+
 -- a part of a frame
 pub frame_begun : (old mid new : Option (List ℕ)) (f : ℕ) (frame : List ℕ) (block : List (List ℕ)) → f + 1 ≤ 16 → Appends old mid (recorded 0 (13 * f) block)
     → frame ≡ recorded (13 * f) 13 block → AppendsPrefix mid new frame → AppendsPrefix old new (recording block)
@@ -75,6 +80,7 @@ frame_begun old mid new f frame block inside before is begun =
           ∙ ap (λ (m : ℕ). recorded m (13 + left) block) (sym from))
           ∙ sym (recorded-add 0 (13 * f) (13 + left) block)
           ∙ ap (λ (c : ℕ). recorded 0 c block) count;
+      more = begins_more begun.rest behind begun.more;
     }
 
 -- a fact about a failed call that doesn't depend on its error

@@ -36,6 +36,7 @@ pub fn fetch<S: Source>(src: &mut S, form: Form, work: &mut Work) -> FetchAnswer
     ensures short { (count : ℕ) → result ≡ Short count → (0 < count) × EndsAfter form (S.seen src.old).bytes (S.seen src.new).bytes count }
     ensures fault { result ≡ ReadFault → ConsumesFewer (S.seen src.old).bytes (S.seen src.new).bytes (block_size form) }
     ensures cause { result ≡ ReadFault → Rose (S.seen src.old).faults (S.seen src.new).faults }
+    ensures steady { result ≢ ReadFault → (S.seen src.new).faults ≡ (S.seen src.old).faults }
     ensures later { (S.seen src.old).faults ≤ (S.seen src.new).faults }
     ensures fetched { result ≡ Full → stage_of work.new ≡ Fetched }
     ensures empty { result ≢ Full → stage_of work.new ≡ Empty }
@@ -63,6 +64,7 @@ fn fetch_rows<S: Source>(
     ensures short { (count : ℕ) → result ≡ Short count → (0 < count) × EndsAfter form (S.seen src.old).bytes (S.seen src.new).bytes count }
     ensures fault { result ≡ ReadFault → ConsumesFewer (S.seen src.old).bytes (S.seen src.new).bytes (block_size form) }
     ensures cause { result ≡ ReadFault → Rose (S.seen src.old).faults (S.seen src.new).faults }
+    ensures steady { result ≢ ReadFault → (S.seen src.new).faults ≡ (S.seen src.old).faults }
     ensures later { (S.seen src.old).faults ≤ (S.seen src.new).faults }
 {
     let size = form.record_size();

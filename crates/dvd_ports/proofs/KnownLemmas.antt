@@ -1,5 +1,5 @@
 -- How known bytes grow and shrink over several calls.
-use Rattle.std.proofs.Common.{◌≡◌, ℕ, ◌+◌, ◌-◌, ◌<◌, ◌≤◌, min, List, [], ◌∷◌, ◌++◌, length, take, drop, None, Some, Option, refl, sym, ap, ◌∙◌, subst, append_assoc, append-nil, arith, take-append-drop, length-drop, length-append}
+use Rattle.std.proofs.Common.{◌≡◌, ◌≢◌, ℕ, ◌+◌, ◌-◌, ◌<◌, ◌≤◌, min, List, [], ◌∷◌, ◌++◌, length, take, drop, None, Some, Option, refl, sym, ap, ◌∙◌, subst, append_assoc, append-nil, arith, take-append-drop, length-drop, length-append}
 use Rattle.std.proofs.Math.Seq.{take-add, take-append-add}
 use Rattle.std.proofs.lemmas.List.{take_at, take_all, take-append-le, length-take, length-take-le}
 use Rattle.std.specs.Io.KnownBytes.{Appends, Consumes, Keeps}
@@ -25,6 +25,10 @@ Consumes-then None b c bs cs p q = tt
 Consumes-then (Some x) None c bs cs p q = absurd p
 Consumes-then (Some x) (Some y) None bs cs p q = absurd q
 Consumes-then (Some x) (Some y) (Some z) bs cs p q = p ∙ ap (λ l. bs ++ l) q ∙ sym (append_assoc bs cs z)
+
+-- where bytes are left, what is left isn't empty
+pub drop-more : (piece : List ℕ) (i : ℕ) → i < length piece → drop i piece ≢ []
+drop-more piece i inside none = absurd (omega (arith, length-drop i piece, ap length none))
 
 -- a write takes the first of the bytes of the piece from the i-th on
 pub writes_more : (old mid new : Option (List ℕ)) (piece : List ℕ) (i n : ℕ) → Appends old mid (take i piece) → Appends mid new (take n (take (length piece - i) (drop i piece))) → Appends old new (take (i + n) piece)

@@ -1,5 +1,5 @@
 -- When a call may answer that an object failed: only where the object's count of faults rose.
-use Rattle.std.specs.Prelude.{ℕ, ◌+◌, ◌-◌, ◌^◌, ◌≤◌, min, Result, OnErr}
+use Rattle.std.specs.Prelude.{ℕ, ◌+◌, ◌-◌, ◌^◌, ◌≤◌, ◌≡◌, min, Result, OnOk, OnErr}
 
 -- one more, but a count stays at the last number of 64 bits
 abbrev pub next_count : ℕ → ℕ
@@ -9,7 +9,8 @@ next_count n = min (n + 1) (2 ^ 64 - 1)
 abbrev pub Rose : ℕ → ℕ → Type 0
 Rose before now = next_count before ≤ now
 
--- the count hasn't fallen, and the call failed only where it rose
+-- the count hasn't fallen; the call failed only where it rose, and where it succeeded the count is as it was
 pub record HasCause {T E : Type 0} (before now : ℕ) (result : Result T E) : Type 0 where
   pub later : before ≤ now
   pub failed : OnErr result (Rose before now)
+  pub steady : OnOk result (now ≡ before)

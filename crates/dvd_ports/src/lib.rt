@@ -1,7 +1,8 @@
 //! Sources and sinks of bytes: what a call moves, when it may fail, and what it leaves.
 //!
 //! Every object counts its own faults. Code that is generic over a source or a sink can't raise that count, so a
-//! contract that allows an answer `only where the count rose` refuses a body that gives up by itself.
+//! contract that allows an answer `only where the count rose` refuses a body that gives up by itself, and one that
+//! allows success only where the count is as it was refuses a body that tries a failed call again.
 #![tactic(auto)]
 
 /// The two traits and their errors.

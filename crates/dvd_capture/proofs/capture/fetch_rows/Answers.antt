@@ -29,7 +29,7 @@ loop-m-preserved g c = record {
       row_put c.args.form _ _ _ _ _ _ _ c.loop-m.m (row_at c.loop-m.m) c.in-Ok.count c.read_whole.new.buf
       (sym c.loop-m.received.rows.ok.0 ∙ c.loop-m.received.size) (marks-height c.loop-m.marks) (row_at-lt c.loop-m.m (omega arith)) (record_at-row_at c.loop-m.m (omega arith))
       length_is (omega (arith, c.if-count-size.false, c.record_size-size.ensures)) c.loop-m.invariant.part c.in-Ok.ensures.taken c.put_record.ensures.received c.put_record.ensures.marks;
-  later = omega (arith, c.loop-m.invariant.later, c.in-Ok.ensures.cause.later);
+  steady = c.in-Ok.ensures.cause.steady ∙ c.loop-m.invariant.steady;
 }
 
 pub returns-clause-full : goal.returns-clause-full

@@ -1,4 +1,4 @@
-use Rattle.std.proofs.Common.{length, take, ◌≤◌, ◌-◌}
+use Rattle.std.proofs.Common.{length, take, ◌≡◌, ◌≤◌, ◌-◌}
 use Rattle.std.specs.Io.KnownBytes.{Consumes}
 use Rattle.dvd_ports.proofs.whole.read_whole.Given as goal
 
@@ -6,7 +6,7 @@ abbrev pub invariant-loop-filled : goal.invariant-loop-filled
 invariant-loop-filled g l = record {
   bytes : Consumes (g.S.Source.seen l.fn.src).bytes (g.S.Source.seen l.src).bytes (take l.filled l.buf);
   within : l.filled ≤ length l.buf;
-  later : (g.S.Source.seen l.fn.src).faults ≤ (g.S.Source.seen l.src).faults;
+  steady : (g.S.Source.seen l.src).faults ≡ (g.S.Source.seen l.fn.src).faults;
 }
 
 abbrev pub decreases-loop-filled : goal.decreases-loop-filled

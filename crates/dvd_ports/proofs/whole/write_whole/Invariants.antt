@@ -1,4 +1,4 @@
-use Rattle.std.proofs.Common.{length, take, ◌≤◌, ◌-◌}
+use Rattle.std.proofs.Common.{length, take, ◌≡◌, ◌≤◌, ◌-◌}
 use Rattle.std.specs.Io.KnownBytes.{Appends}
 use Rattle.dvd_ports.proofs.whole.write_whole.Given as goal
 
@@ -6,7 +6,7 @@ abbrev pub invariant-loop-written : goal.invariant-loop-written
 invariant-loop-written g l = record {
   bytes : Appends (g.K.Sink.seen l.fn.out).bytes (g.K.Sink.seen l.out).bytes (take l.written l.buf);
   within : l.written ≤ length l.buf;
-  later : (g.K.Sink.seen l.fn.out).faults ≤ (g.K.Sink.seen l.out).faults;
+  steady : (g.K.Sink.seen l.out).faults ≡ (g.K.Sink.seen l.fn.out).faults;
 }
 
 abbrev pub decreases-loop-written : goal.decreases-loop-written
