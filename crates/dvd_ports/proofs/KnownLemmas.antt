@@ -1,8 +1,9 @@
 -- How known bytes grow and shrink over several calls.
-use Rattle.std.proofs.Common.{◌≡◌, ◌≢◌, ℕ, ◌+◌, ◌-◌, ◌<◌, ◌≤◌, min, List, [], ◌∷◌, ◌++◌, length, take, drop, None, Some, Option, refl, sym, ap, ◌∙◌, subst, append_assoc, append-nil, arith, take-append-drop, length-drop, length-append}
+use Rattle.std.proofs.Common.{◌≡◌, ◌≢◌, ℕ, ◌+◌, ◌-◌, ◌<◌, ◌≤◌, min, List, [], ◌∷◌, ◌++◌, length, take, drop, None, Some, Option, Result, Ok, Err, refl, sym, ap, ◌∙◌, subst, append_assoc, append-nil, arith, take-append-drop, length-drop, length-append}
 use Rattle.std.proofs.Math.Seq.{take-add, take-append-add}
 use Rattle.std.proofs.lemmas.List.{take_at, take_all, take-append-le, length-take, length-take-le}
-use Rattle.std.specs.Io.KnownBytes.{Appends, Consumes, Keeps}
+use Rattle.std.specs.Io.KnownBytes.{Appends, Consumes, Keeps, WriteAppends}
+use Rattle.dvd_ports.specs.Whole.{AppendsFront, AppendsPrefix}
 
 pub Appends-none : (a : Option (List ℕ)) → Appends a a []
 Appends-none None = tt
@@ -27,8 +28,27 @@ Consumes-then (Some x) (Some y) None bs cs p q = absurd q
 Consumes-then (Some x) (Some y) (Some z) bs cs p q = p ∙ ap (λ l. bs ++ l) q ∙ sym (append_assoc bs cs z)
 
 -- where bytes are left, what is left isn't empty
-pub drop-more : (piece : List ℕ) (i : ℕ) → i < length piece → drop i piece ≢ []
+drop-more : (piece : List ℕ) (i : ℕ) → i < length piece → drop i piece ≢ []
 drop-more piece i inside none = absurd (omega (arith, length-drop i piece, ap length none))
+
+-- a write that failed leaves what was taken of the piece before, and the rest
+pub write_begun : (old mid new : Option (List ℕ)) (piece : List ℕ) (i : ℕ) → Appends old mid (take i piece) → Keeps mid new → i < length piece → AppendsPrefix old new piece
+write_begun old mid new piece i before kept inside = record {
+  taken = take i piece;
+  rest = drop i piece;
+  grows = Appends-kept old mid new (take i piece) before kept;
+  whole = take-append-drop i piece;
+  more = drop-more piece i inside;
+}
+
+-- whether it failed or not, a write took a front of the piece
+pub write_front : {E : Type 0} (old new : Option (List ℕ)) (result : Result ℕ E) (piece : List ℕ) → WriteAppends old new result piece → AppendsFront old new piece
+write_front old new (Ok n) piece took = record { taken = take n piece; rest = drop n piece; grows = took; whole = take-append-drop n piece }
+write_front old new (Err e) piece kept = record { taken = []; rest = piece; grows = Appends-kept old old new [] (Appends-none old) kept; whole = refl }
+
+-- what was taken stays where nothing more was
+pub front_kept : (old mid new : Option (List ℕ)) (piece : List ℕ) → AppendsFront old mid piece → Keeps mid new → AppendsFront old new piece
+front_kept old mid new piece front kept = record { taken = front.taken; rest = front.rest; grows = Appends-kept old mid new front.taken front.grows kept; whole = front.whole }
 
 -- a write takes the first of the bytes of the piece from the i-th on
 pub writes_more : (old mid new : Option (List ℕ)) (piece : List ℕ) (i n : ℕ) → Appends old mid (take i piece) → Appends mid new (take n (take (length piece - i) (drop i piece))) → Appends old new (take (i + n) piece)

@@ -1,6 +1,11 @@
--- What the contracts see of a sink over a writer of std.
+-- What the contracts see of a source over a reader of std, and of a sink over a writer.
 use Rattle.dvd_ports.specs.declared.adapters.StdSink.{StdSink}
+use Rattle.dvd_ports.specs.declared.adapters.StdSource.{StdSource}
 
--- the writer that it stands over
+-- the reader that a source stands over
+abbrev pub source_reader : {R : Type 0} → StdSource R → R
+source_reader source = source.reader
+
+-- the writer that a sink stands over
 abbrev pub sink_writer : {W : Type 0} → StdSink W → W
 sink_writer sink = sink.writer

@@ -1,4 +1,5 @@
 pub mod Adapters
+pub mod Calls
 pub mod Causes
 pub mod Memory
 pub mod Seen

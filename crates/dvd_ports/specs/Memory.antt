@@ -1,5 +1,6 @@
 -- What the contracts see of a source and of a sink in memory.
-use Rattle.std.specs.Prelude.{ℕ, List}
+use Rattle.std.specs.Prelude.{ℕ, List, Some}
+use Rattle.dvd_ports.specs.Seen.{Seen}
 
 -- The bytes left, how many a call gives at most, the numbers of the calls that fail, the number of the next call,
 -- and how often a call failed. Only calls into a buffer that isn't empty have numbers.
@@ -18,3 +19,14 @@ pub record SinkState : Type 0 where
   pub fails : List ℕ
   pub calls : ℕ
   pub faults : ℕ
+
+-- what is seen of them: their bytes are told
+abbrev pub source_seen : SourceState → Seen
+source_seen s = record { bytes = Some s.left; faults = s.faults }
+
+abbrev pub sink_seen : SinkState → Seen
+sink_seen s = record { bytes = Some s.held; faults = s.faults }
+
+-- what is seen of a source over a slice, which never fails
+abbrev pub slice_seen : List ℕ → Seen
+slice_seen left = record { bytes = Some left; faults = 0 }

@@ -1,11 +1,15 @@
 //! Sources and sinks over std's readers and writers. Each counts its own errors, in 64 bits; the last number stays.
-ghost use Rattle.std.specs.Prelude.{◌≡◌, ◌<◌, length, take, None, IfOk, is_ok, if◌then◌else◌};
-ghost use Rattle.std.specs.Io.{ReadsAtMost, WritesAtMost};
-ghost use Rattle.std.specs.Io.KnownBytes.{Appends, ReadConsumes, WriteAppends};
-ghost use Rattle.dvd_ports.specs.Causes.{HasCause, next_count};
+ghost use Rattle.std.specs.Prelude.{◌≡◌, ◌<◌, length, take, None, IfOk, OnErr, is_ok, if◌then◌else◌};
+ghost use Rattle.std.specs.Io.KnownBytes.{Appends};
+ghost use Rattle.dvd_ports.specs.Calls.{IsRead, IsWrite};
+ghost use Rattle.dvd_ports.specs.Causes.{next_count};
+ghost use Rattle.dvd_ports.specs.Whole.{AppendsFront};
 
 use crate::{Failed, Sink, Source};
 use std::io::{Read, Write};
+
+#[cfg(test)]
+mod tests;
 
 /// A source over a reader. It tells what std knows of the reader's bytes.
 #[derive(Drop)]
@@ -15,8 +19,12 @@ pub struct StdSource<R: Read> {
 }
 
 impl<R: Read> StdSource<R> {
+    ghost use Rattle.dvd_ports.specs.Adapters.{source_reader};
+
+    /// A source over this reader, of which nothing is read here.
     pub fn new(reader: R) -> StdSource<R>
-        ensures { ⟦<StdSource<R> as Source>⟧.seen result ≡ record { bytes = R.remaining reader; faults = 0 } }
+        ensures reader { source_reader result ≡ reader }
+        ensures seen { ⟦<StdSource<R> as Source>⟧.seen result ≡ record { bytes = R.remaining reader; faults = 0 } }
     {
         StdSource { reader, faults: 0 }
     }
@@ -31,11 +39,7 @@ impl<R: Read> Source for StdSource<R> {
             else next_count (⟦<StdSource<R> as Source>⟧.seen self.old).faults) }
 
         // As every source.
-        ensures bound { ReadsAtMost result buf.new }
-        ensures bytes { ReadConsumes (⟦<StdSource<R> as Source>⟧.seen self.old).bytes
-            (⟦<StdSource<R> as Source>⟧.seen self.new).bytes result buf.new }
-        ensures cause { HasCause (⟦<StdSource<R> as Source>⟧.seen self.old).faults
-            (⟦<StdSource<R> as Source>⟧.seen self.new).faults result }
+        ensures call { IsRead (⟦<StdSource<R> as Source>⟧.seen self.old) (⟦<StdSource<R> as Source>⟧.seen self.new) result buf.new }
         ensures empty { length buf.old ≡ 0 → (result ≡ Ok 0) × (self.new ≡ self.old) }
     {
         if buf.is_empty() {
@@ -60,8 +64,12 @@ pub struct StdSink<W: Write> {
 }
 
 impl<W: Write> StdSink<W> {
+    ghost use Rattle.dvd_ports.specs.Adapters.{sink_writer};
+
+    /// A sink over this writer, to which nothing is written here.
     pub fn new(writer: W) -> StdSink<W>
-        ensures { ⟦<StdSink<W> as Sink>⟧.seen result ≡ record { bytes = None; faults = 0 } }
+        ensures writer { sink_writer result ≡ writer }
+        ensures seen { ⟦<StdSink<W> as Sink>⟧.seen result ≡ record { bytes = None; faults = 0 } }
     {
         StdSink { writer, faults: 0 }
     }
@@ -72,34 +80,36 @@ impl<W: Write> Sink for StdSink<W> {
 
     ghost seen = { λ s. record { bytes = None; faults = s.faults } };
 
+    #[tactic(auto, using(crate::proofs::KnownLemmas::write_front, crate::proofs::KnownLemmas::front_kept))]
     fn write(&mut self, buf: &[u8]) -> Result<usize, Failed>
         ensures counts { (⟦<StdSink<W> as Sink>⟧.seen self.new).faults
             ≡ (if is_ok result then (⟦<StdSink<W> as Sink>⟧.seen self.old).faults
             else next_count (⟦<StdSink<W> as Sink>⟧.seen self.old).faults) }
 
-        // What std knows of the writer's bytes.
+        // What std knows of the writer's bytes. Where only the flush failed, the writer may have the whole piece.
         ensures written { IfOk result (λ count.
             Appends (W.contents (sink_writer self.old)) (W.contents (sink_writer self.new)) (take count buf.now)) }
+        ensures begun { OnErr result (AppendsFront (W.contents (sink_writer self.old)) (W.contents (sink_writer self.new)) buf.now) }
 
         // As every sink.
-        ensures bound { WritesAtMost result buf.now }
-        ensures progress { 0 < length buf.now → IfOk result (λ count. 0 < count) }
-        ensures bytes { WriteAppends (⟦<StdSink<W> as Sink>⟧.seen self.old).bytes
-            (⟦<StdSink<W> as Sink>⟧.seen self.new).bytes result buf.now }
-        ensures cause { HasCause (⟦<StdSink<W> as Sink>⟧.seen self.old).faults
-            (⟦<StdSink<W> as Sink>⟧.seen self.new).faults result }
+        ensures call { IsWrite (⟦<StdSink<W> as Sink>⟧.seen self.old) (⟦<StdSink<W> as Sink>⟧.seen self.new) result buf.now }
         ensures empty { length buf.now ≡ 0 → (result ≡ Ok 0) × (self.new ≡ self.old) }
     {
         if buf.is_empty() {
             return Ok(0);
         }
-        if let Ok(count) = self.writer.write(buf)
-            && count > 0
-            && self.writer.flush().is_ok()
-        {
-            return Ok(count);
+        match self.writer.write(buf) {
+            Ok(count) if count > 0 => match self.writer.flush() {
+                Ok(()) => Ok(count),
+                Err(_) => {
+                    self.faults = self.faults.saturating_add(1);
+                    Err(Failed)
+                }
+            },
+            _ => {
+                self.faults = self.faults.saturating_add(1);
+                Err(Failed)
+            }
         }
-        self.faults = self.faults.saturating_add(1);
-        Err(Failed)
     }
 }

@@ -1,8 +1,6 @@
 //! Sources, sinks and their errors.
-ghost use Rattle.std.specs.Prelude.{◌≡◌, ◌<◌, length, IfOk};
-ghost use Rattle.std.specs.Io.{ReadsAtMost, WritesAtMost};
-ghost use Rattle.std.specs.Io.KnownBytes.{ReadConsumes, WriteAppends};
-ghost use Rattle.dvd_ports.specs.Causes.{HasCause};
+ghost use Rattle.std.specs.Prelude.{◌≡◌, length};
+ghost use Rattle.dvd_ports.specs.Calls.{IsRead, IsWrite};
 ghost use Rattle.dvd_ports.specs.Seen.{Seen};
 
 use thiserror::Error;
@@ -29,11 +27,7 @@ pub trait Source {
 
     /// Moves bytes to the front of `buf` and answers how many. Into a buffer with room, 0 is the end of the input.
     fn read(&mut self, buf: &mut [u8]) -> Result<usize, Failed>
-        ensures bound { ReadsAtMost result buf.new }
-
-        // They are the first that were left. After `Failed` none is lost.
-        ensures bytes { ReadConsumes (seen self.old).bytes (seen self.new).bytes result buf.new }
-        ensures cause { HasCause (seen self.old).faults (seen self.new).faults result }
+        ensures call { IsRead (seen self.old) (seen self.new) result buf.new }
         ensures empty { length buf.old ≡ 0 → (result ≡ Ok 0) × (self.new ≡ self.old) };
 }
 
@@ -44,11 +38,6 @@ pub trait Sink {
 
     /// Takes bytes from the front of `buf` and answers how many: at least one, if there is one.
     fn write(&mut self, buf: &[u8]) -> Result<usize, Failed>
-        ensures bound { WritesAtMost result buf.now }
-        ensures progress { 0 < length buf.now → IfOk result (λ count. 0 < count) }
-
-        // They stand behind those taken before. After `Failed` none was taken.
-        ensures bytes { WriteAppends (seen self.old).bytes (seen self.new).bytes result buf.now }
-        ensures cause { HasCause (seen self.old).faults (seen self.new).faults result }
+        ensures call { IsWrite (seen self.old) (seen self.new) result buf.now }
         ensures empty { length buf.now ≡ 0 → (result ≡ Ok 0) × (self.new ≡ self.old) };
 }

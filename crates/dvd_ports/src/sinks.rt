@@ -1,8 +1,8 @@
 //! Sinks over memory. They fail exactly where they are told to.
 ghost use Rattle.std.specs.Prelude.{◌≡◌, ◌<◌, ◌≤◌, ◌↔◌, ◌-◌, ◌⊎◌, ◌++◌, [], length, take, min, Some, None, Contains, IfOk, IsErr, OnErr};
-ghost use Rattle.std.specs.Io.{WritesAtMost};
-ghost use Rattle.std.specs.Io.KnownBytes.{WriteAppends};
-ghost use Rattle.dvd_ports.specs.Causes.{HasCause, next_count};
+ghost use Rattle.dvd_ports.specs.Calls.{IsWrite};
+ghost use Rattle.dvd_ports.specs.Causes.{next_count};
+ghost use Rattle.dvd_ports.specs.Memory.{sink_seen};
 
 use crate::{Failed, NoMemory, Sink};
 use std::alloc::Global;
@@ -33,7 +33,7 @@ impl Model for MemSink {
 }
 
 impl MemSink {
-    /// Takes the memory for `room` bytes here; no write takes any.
+    /// A sink with room for so many bytes, whose memory is taken here; no write takes any.
     pub fn new(
         alloc: Global,
         room: usize,
@@ -64,7 +64,7 @@ impl MemSink {
 }
 
 impl Sink for MemSink {
-    ghost seen = { λ s. record { bytes = Some s.held; faults = s.faults } };
+    ghost seen = { sink_seen };
 
     fn write(&mut self, buf: &[u8]) -> Result<usize, Failed>
         ensures fails { IsErr result
@@ -77,10 +77,7 @@ impl Sink for MemSink {
             ≡ record self.old { calls = next_count self.old.calls; faults = next_count self.old.faults }) }
 
         // As every sink.
-        ensures bound { WritesAtMost result buf.now }
-        ensures progress { 0 < length buf.now → IfOk result (λ count. 0 < count) }
-        ensures bytes { WriteAppends (Some self.old.held) (Some self.new.held) result buf.now }
-        ensures cause { HasCause self.old.faults self.new.faults result }
+        ensures call { IsWrite (sink_seen self.old) (sink_seen self.new) result buf.now }
         ensures empty { length buf.now ≡ 0 → (result ≡ Ok 0) × (self.new ≡ self.old) }
     {
         if buf.is_empty() {
@@ -105,6 +102,7 @@ impl Sink for MemSink {
 pub struct NullSink;
 
 impl NullSink {
+    /// The sink that keeps nothing.
     pub fn new() -> NullSink
         ensures { ⟦<NullSink as Sink>⟧.seen result ≡ record { bytes = None; faults = 0 } }
     {
@@ -119,10 +117,7 @@ impl Sink for NullSink {
         ensures takes { result ≡ Ok (length buf.now) }
 
         // As every sink.
-        ensures bound { WritesAtMost result buf.now }
-        ensures progress { 0 < length buf.now → IfOk result (λ count. 0 < count) }
-        ensures bytes { WriteAppends None None result buf.now }
-        ensures cause { HasCause 0 0 result }
+        ensures call { IsWrite (⟦<NullSink as Sink>⟧.seen self.old) (⟦<NullSink as Sink>⟧.seen self.new) result buf.now }
         ensures empty { length buf.now ≡ 0 → (result ≡ Ok 0) × (self.new ≡ self.old) }
     {
         Ok(buf.len())

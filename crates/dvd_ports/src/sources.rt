@@ -1,8 +1,8 @@
 //! Sources over memory. They tell their bytes, and fail exactly where they are told to.
 ghost use Rattle.std.specs.Prelude.{◌≡◌, ◌<◌, ◌≤◌, ◌↔◌, ◌++◌, length, take, drop, min, Some, Contains, IfOk, IsErr, OnErr};
-ghost use Rattle.std.specs.Io.{ReadsAtMost};
-ghost use Rattle.std.specs.Io.KnownBytes.{ReadConsumes};
-ghost use Rattle.dvd_ports.specs.Causes.{HasCause, next_count};
+ghost use Rattle.dvd_ports.specs.Calls.{IsRead};
+ghost use Rattle.dvd_ports.specs.Causes.{next_count};
+ghost use Rattle.dvd_ports.specs.Memory.{slice_seen, source_seen};
 
 use crate::{Failed, Source};
 use std::marker::Model;
@@ -22,6 +22,7 @@ impl<'a> Model for SliceSource<'a> {
 }
 
 impl<'a> SliceSource<'a> {
+    /// A source of these bytes.
     pub fn new(bytes: &'a [u8]) -> SliceSource<'a>
         ensures { result ≡ bytes.now }
     {
@@ -30,7 +31,7 @@ impl<'a> SliceSource<'a> {
 }
 
 impl<'a> Source for SliceSource<'a> {
-    ghost seen = { λ left. record { bytes = Some left; faults = 0 } };
+    ghost seen = { slice_seen };
 
     fn read(&mut self, buf: &mut [u8]) -> Result<usize, Failed>
         ensures gives { result ≡ Ok (min (length buf.old) (length self.old)) }
@@ -38,9 +39,7 @@ impl<'a> Source for SliceSource<'a> {
         ensures leaves { IfOk result (λ count. self.new ≡ drop count self.old) }
 
         // As every source.
-        ensures bound { ReadsAtMost result buf.new }
-        ensures bytes { ReadConsumes (Some self.old) (Some self.new) result buf.new }
-        ensures cause { HasCause 0 0 result }
+        ensures call { IsRead (slice_seen self.old) (slice_seen self.new) result buf.new }
         ensures empty { length buf.old ≡ 0 → (result ≡ Ok 0) × (self.new ≡ self.old) }
     {
         let count = buf.len().min(self.rest.len());
@@ -74,6 +73,7 @@ impl Model for MemSource {
 }
 
 impl MemSource {
+    /// A source of these bytes, at most `step` of them a call; the calls with these numbers fail.
     pub fn new(bytes: Vec<u8>, step: usize, fails: Vec<u64>) -> MemSource
         requires { 1 ≤ step }
         ensures { result ≡ record { left = bytes.items; step = step; fails = fails.items; calls = 0; faults = 0 } }
@@ -90,7 +90,7 @@ impl MemSource {
 }
 
 impl Source for MemSource {
-    ghost seen = { λ s. record { bytes = Some s.left; faults = s.faults } };
+    ghost seen = { source_seen };
 
     fn read(&mut self, buf: &mut [u8]) -> Result<usize, Failed>
         ensures fails { IsErr result ↔ ((0 < length buf.old) × Contains self.old.fails self.old.calls) }
@@ -100,11 +100,10 @@ impl Source for MemSource {
             self.new ≡ record self.old { left = drop count self.old.left; calls = next_count self.old.calls }) }
         ensures failed { OnErr result (self.new
             ≡ record self.old { calls = next_count self.old.calls; faults = next_count self.old.faults }) }
+        ensures untouched { OnErr result (buf.new ≡ buf.old) }
 
         // As every source.
-        ensures bound { ReadsAtMost result buf.new }
-        ensures bytes { ReadConsumes (Some self.old.left) (Some self.new.left) result buf.new }
-        ensures cause { HasCause self.old.faults self.new.faults result }
+        ensures call { IsRead (source_seen self.old) (source_seen self.new) result buf.new }
         ensures empty { length buf.old ≡ 0 → (result ≡ Ok 0) × (self.new ≡ self.old) }
     {
         if buf.is_empty() {

@@ -8,6 +8,7 @@ ghost use Rattle.dvd_ports.specs.Whole.{AppendsPrefix, ConsumesFewer};
 use crate::{Failed, Sink, Source, WriteFault};
 
 /// Writes the whole piece, by as many calls as it takes. After a fault a prefix of it was taken.
+#[tactic(auto, using(crate::proofs::KnownLemmas::write_begun, crate::proofs::KnownLemmas::writes_more))]
 pub fn write_whole<K: Sink>(out: &mut K, buf: &[u8]) -> Result<(), WriteFault>
     ensures written { OnOk result (Appends (K.seen out.old).bytes (K.seen out.new).bytes buf.now) }
     ensures begun { OnErr result (AppendsPrefix (K.seen out.old).bytes (K.seen out.new).bytes buf.now) }
@@ -25,6 +26,7 @@ pub fn write_whole<K: Sink>(out: &mut K, buf: &[u8]) -> Result<(), WriteFault>
 
 /// Fills the buffer, by as many calls as it takes, and answers how many bytes came: fewer than the buffer's length
 /// only at the end of the input. After a fault fewer bytes than that were taken from the source.
+#[tactic(auto, using(crate::proofs::KnownLemmas::reads_more, crate::proofs::KnownLemmas::reads_inside))]
 pub fn read_whole<S: Source>(src: &mut S, buf: &mut [u8]) -> Result<usize, Failed>
     ensures bound { ReadsAtMost result buf.new }
     ensures taken { IfOk result (λ count. Consumes (S.seen src.old).bytes (S.seen src.new).bytes (take count buf.new)) }
