@@ -31,7 +31,8 @@ impl Block {
 
     /// Zeros. `NoMemory` may come at any time, and nothing is taken then.
     pub fn new(alloc: Global) -> Result<Block, NoMemory>
-        ensures { IfOk result (λ block. block_rows block ≡ replicate 208 (replicate 182 0)) }
+        ensures rows { IfOk result (λ block. block_rows block ≡ replicate 208 (replicate 182 0)) }
+        ensures cells { IfOk result (λ block. cells_all block.cells ≡ replicate 182 (replicate 16 0)) }
     {
         Ok(Block {
             lines: Lines::new(alloc)?,

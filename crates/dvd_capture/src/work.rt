@@ -4,7 +4,7 @@ ghost use Rattle.std.specs.Prelude.{◌≡◌, ℕ, ◌<◌, ◌≢◌, ◌↔�
 ghost use Rattle.std.specs.declared.option.Option.TheVariants.{None, Some};
 ghost use Rattle.dvd_block.specs.Product.{line, place};
 ghost use Rattle.dvd_capture.specs.Answers.{AreAnswers, IsFix, marks_line, row_answer};
-ghost use Rattle.dvd_capture.specs.Parts.{answer_rows, column_words, marks_rows, received_rows};
+ghost use Rattle.dvd_capture.specs.Parts.{answer_rows, column_answers, column_words, marks_rows, received_rows};
 ghost use Rattle.dvd_capture.specs.Rule.{AgreesWith-prop, HasAnswers, HasBlock, HasNoTwoPass};
 ghost use Rattle.dvd_capture.specs.TwoPass.{IsTwoPass, from_columns};
 ghost use Rattle.dvd_capture.specs.declared.stage.Stage.TheVariants.{Empty, Fetched, Refused, Fixed};
@@ -41,13 +41,13 @@ impl Work {
     ghost use Rattle.dvd_block.specs.Buffers.{block_rows};
     ghost use Rattle.dvd_capture.specs.Works.{answers_of_work, block_of, marks_of_work, rows_of, sectors_of, stage_of};
 
-    /// No block, all bytes 0 and no marks. `NoMemory` may come at any time, and nothing is taken then.
+    /// No block: all bytes 0, no marks, no row and no column answered. `NoMemory` may come at any time, and nothing is taken then.
     pub fn new(alloc: Global) -> Result<Work, NoMemory>
         ensures stage { IfOk result (λ work. stage_of work ≡ Empty) }
         ensures received { IfOk result (λ work. rows_of work ≡ replicate 208 (replicate 182 0)) }
         ensures marks { IfOk result (λ work. marks_of_work work ≡ replicate 208 (replicate 182 false)) }
         ensures answers { IfOk result (λ work. answers_of_work work ≡ replicate 208 (record { bytes = replicate 182 0; fix = None })) }
-        ensures columns { IfOk result (λ work. column_words work.columns ≡ replicate 182 (replicate 208 0)) }
+        ensures columns { IfOk result (λ work. column_answers work.columns ≡ replicate 182 (record { bytes = replicate 208 0; answered = false })) }
         ensures sectors { IfOk result (λ work. sectors_of work ≡ replicate 16 (replicate 2048 0)) }
     {
         Ok(Work {
