@@ -63,7 +63,7 @@ bits-mod n number =
 spread : (start bit power : ℕ) → (2 * start + bit) * power ≡ start * (2 * power) + bit * power
 spread start bit power = omega arith
 
-fold-bits : (n number start : ℕ) → fold (λ (a x : ℕ). 2 * a + x) start (bits n number) ≡ start * 2 ^ n + number % 2 ^ n
+pub fold-bits : (n number start : ℕ) → fold (λ (a x : ℕ). 2 * a + x) start (bits n number) ≡ start * 2 ^ n + number % 2 ^ n
 unfolding bits
 fold-bits zero number start = omega arith
 fold-bits (suc n) number start =

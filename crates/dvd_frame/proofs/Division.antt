@@ -6,7 +6,8 @@ use Rattle.std.specs.Int.Bits.{xor_zero_l, xor_zero_r, xor_assoc}
 use Rattle.std.proofs.lemmas.List.{length-append, length-replicate, append_assoc}
 use Rattle.std.proofs.lemmas.Nat.Bits.{bit_at-zero}
 use Rattle.dvd_frame.specs.Bits.{bits, bits_of, number_of}
-use Rattle.dvd_frame.specs.Edc.{plus_front, remainder, divided_from, divisor, edc_of}
+use Rattle.dvd_frame.specs.Edc.{plus_front, remainder, divisor, edc_of}
+use Rattle.dvd_frame.specs.Registers.{divided_from}
 use Rattle.dvd_frame.specs.Id.{word_bytes}
 use Rattle.dvd_frame.proofs.BitLists.{length-bits, plus_front-bits, bits_more, bits-mod, number_of-bits}
 

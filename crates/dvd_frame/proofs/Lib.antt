@@ -5,3 +5,4 @@ pub mod Masking
 pub mod FrameParts
 pub mod IdChecks
 pub mod ReadBack
+pub mod Multiples

@@ -1,38 +1,25 @@
 -- Main Data combined with the scrambling bytes.
-use Rattle.std.proofs.Common.{◌≡◌, ℕ, zero, suc, ◌+◌, ◌-◌, ◌<◌, ◌≤◌, inl, inr, List, [], ◌∷◌, ◌++◌, length, get_or, take, drop, refl, sym, ◌∙◌, ap, arith}
+use Rattle.std.proofs.Common.{◌≡◌, ℕ, ◌+◌, ◌-◌, ◌<◌, ◌≤◌, inl, inr, List, ◌++◌, length, get_or, take, drop, sym, ◌∙◌, ap, zero-add, arith}
 use Rattle.std.specs.Prelude.{bit_xor}
 use Rattle.std.specs.Int.Bits.{xor_zero_r, xor_assoc, xor_self}
 use Rattle.std.proofs.lemmas.List.{get_or-drop, get_or-take, get_or_append_left, get_or-append_right, length-append, length-drop}
+use Rattle.std.proofs.lemmas.List.FromFn.{length-map-range_with_len, get_or-map-range_with_len}
 use Rattle.std.proofs.lemmas.Grind.{same_number_lists}
 use Rattle.std.proofs.lemmas.Bool.{cases_lt}
 use Rattle.std.proofs.lemmas.Bool.Decides.{nat_tests}
-use Rattle.dvd_frame.specs.Scrambling.{mask, masked, masked_from, scrambled_count, scrambling_byte, preset_of}
+use Rattle.dvd_frame.specs.Scrambling.{mask, masked, scrambled_count, scrambling_byte, preset_of}
 use Rattle.dvd_frame.specs.declared.scrambling.Rule.{Rule}
 
-length-masked_from : (k word : ℕ) (rule : Rule) (main : List ℕ) → length (masked_from k word rule main) ≡ length main
-unfolding masked_from
-length-masked_from k word rule [] = refl
-length-masked_from k word rule (byte ∷ main) = ap suc (length-masked_from (suc k) word rule main)
-
 pub length-masked : (word : ℕ) (rule : Rule) (main : List ℕ) → length (masked word rule main) ≡ length main
-length-masked word rule main = length-masked_from 0 word rule main
-
-get_or-masked_from : (k word : ℕ) (rule : Rule) (main : List ℕ) (i : ℕ) → i < length main
-    → get_or (masked_from k word rule main) i 0 ≡ bit_xor (get_or main i 0) (mask word rule (k + i))
-unfolding masked_from
-get_or-masked_from k word rule [] i below = absurd (omega arith)
-get_or-masked_from k word rule (byte ∷ main) zero below =
-    let here : k ≡ k + 0 = omega arith in ap (λ (x : ℕ). bit_xor byte (mask word rule x)) here
-get_or-masked_from k word rule (byte ∷ main) (suc i) below =
-    let here : suc k + i ≡ k + suc i = omega arith in
-    get_or-masked_from (suc k) word rule main i (omega arith) ∙ ap (λ (x : ℕ). bit_xor (get_or main i 0) (mask word rule x)) here
+unfolding masked
+length-masked word rule main = length-map-range_with_len (λ (k : ℕ). bit_xor (get_or main k 0) (mask word rule k)) 0 (length main)
 
 -- one masked byte
 pub get_or-masked : (word : ℕ) (rule : Rule) (main : List ℕ) (i : ℕ) → i < length main
     → get_or (masked word rule main) i 0 ≡ bit_xor (get_or main i 0) (mask word rule i)
+unfolding masked
 get_or-masked word rule main i below =
-    let here : 0 + i ≡ i = omega arith in
-    get_or-masked_from 0 word rule main i below ∙ ap (λ (x : ℕ). bit_xor (get_or main i 0) (mask word rule x)) here
+    get_or-map-range_with_len (λ (k : ℕ). bit_xor (get_or main k 0) (mask word rule k)) 0 (length main) i i 0 below (zero-add i)
 
 mask_within : (word : ℕ) (rule : Rule) (k : ℕ) → k < scrambled_count rule → mask word rule k ≡ scrambling_byte (preset_of word) k
 unfolding mask
@@ -42,17 +29,20 @@ mask_past : (word : ℕ) (rule : Rule) (k : ℕ) → scrambled_count rule ≤ k 
 unfolding mask
 mask_past word rule k past = grind (arith, nat_tests)
 
-masked_from_twice : (k word : ℕ) (rule : Rule) (main : List ℕ) → masked_from k word rule (masked_from k word rule main) ≡ main
-unfolding masked_from
-masked_from_twice k word rule [] = refl
-masked_from_twice k word rule (byte ∷ main) =
-    let m : ℕ = mask word rule k in
-    ap (λ (b : ℕ). b ∷ masked_from (suc k) word rule (masked_from (suc k) word rule main)) (xor_assoc byte m m ∙ ap (bit_xor byte) (xor_self m) ∙ xor_zero_r byte)
-    ∙ ap (λ (l : List ℕ). byte ∷ l) (masked_from_twice (suc k) word rule main)
-
 -- masked twice, Main Data are as they were
 pub masked_twice : (word : ℕ) (rule : Rule) (main : List ℕ) → masked word rule (masked word rule main) ≡ main
-masked_twice word rule main = masked_from_twice 0 word rule main
+masked_twice word rule main =
+    let once : List ℕ = masked word rule main in
+    let size : length once ≡ length main = length-masked word rule main in
+    same_number_lists (masked word rule once) main (length-masked word rule once ∙ size)
+    (λ k below. each k (omega (arith, length-masked word rule once, size)))
+  where
+    each : (k : ℕ) → k < length main → get_or (masked word rule (masked word rule main)) k 0 ≡ get_or main k 0
+    each k below =
+        let byte : ℕ = get_or main k 0 in
+        let m : ℕ = mask word rule k in
+        get_or-masked word rule (masked word rule main) k (omega (arith, length-masked word rule main))
+        ∙ ap (λ (b : ℕ). bit_xor b m) (get_or-masked word rule main k below) ∙ xor_assoc byte m m ∙ ap (bit_xor byte) (xor_self m) ∙ xor_zero_r byte
 
 -- the first bytes combined with the sequence, and the others as they were
 pub masked_parts : (word : ℕ) (rule : Rule) (main front : List ℕ) (count : ℕ) → count ≡ scrambled_count rule → count ≤ length main → length front ≡ count

@@ -1,20 +1,17 @@
 -- A frame that was made is read back.
-use Rattle.std.proofs.Common.{◌≡◌, ℕ, ◌+◌, ◌<◌, ◌≤◌, ◌^◌, Bool, true, false, List, [], ◌∷◌, ◌++◌, length, take, drop, All, Option, Some, None, cond, not, refl, sym, ◌∙◌, ap, arith}
+use Rattle.std.proofs.Common.{◌≡◌, ℕ, ◌<◌, ◌^◌, true, List, ◌++◌, length, take, drop, None, refl, sym, ◌∙◌, ap, arith}
 use Rattle.std.specs.Int.{from_be_bytes, w32}
 use Rattle.std.specs.Str.{bytes_eq}
-use Rattle.std.specs.Prelude.{◌==◌, bit_and}
+use Rattle.std.specs.Prelude.{bit_and}
 use Rattle.std.proofs.lemmas.Nat.{from_be_bytes-to_be_bytes_4}
-use Rattle.std.proofs.lemmas.List.{append_assoc, take_at, drop_at, take_all, length-append}
+use Rattle.std.proofs.lemmas.List.{append_assoc, take_at, drop_at, length-append}
 use Rattle.std.proofs.lemmas.Slice.Eq.{bytes_eq-Decides}
 use Rattle.std.proofs.Common.{eq-eqb}
-use Rattle.gf_field.specs.Words.{IsCodeword}
 use Rattle.dvd_frame.specs.Edc.{edc_of}
 use Rattle.dvd_frame.specs.Frame.{frame_head, data_frame, found_word, main_in, frame_cause}
 use Rattle.dvd_frame.specs.Id.{word_bytes, ied_of, has_check, is_same_place}
 use Rattle.dvd_frame.specs.Scrambling.{masked}
 use Rattle.dvd_frame.specs.declared.scrambling.Rule.{Rule}
-use Rattle.dvd_frame.specs.declared.reading.FrameCause.{FrameCause}
-use Rattle.dvd_frame.specs.declared.reading.FrameCause.TheVariants.{Ied, Address, Edc}
 use Rattle.dvd_frame.proofs.IdChecks.{ied_right, length-ied_of}
 use Rattle.dvd_frame.proofs.Masking.{masked_twice, length-masked}
 

@@ -6,7 +6,8 @@ use Rattle.std.proofs.lemmas.List.{length_push, get_or-drop, drop-append-le, dro
 use Rattle.std.proofs.lemmas.Nat.{xor_lt}
 use Rattle.std.proofs.lemmas.Nat.Bits.{bit_at-lt}
 use Rattle.dvd_frame.specs.Bits.{bits, number_of}
-use Rattle.dvd_frame.specs.Scrambling.{sequence, window, scrambling_byte}
+use Rattle.dvd_frame.specs.Registers.{window}
+use Rattle.dvd_frame.specs.Scrambling.{sequence, scrambling_byte}
 use Rattle.dvd_frame.proofs.BitLists.{length-bits, bits_more, bits-mod, number_of-bits}
 
 pub length-sequence : (preset n : ℕ) → length (sequence preset n) ≡ 15 + n
@@ -52,6 +53,6 @@ shifted_window preset n register bit shows is =
 
 -- a register that shows the window at byte k has that byte in its lowest eight bits
 pub byte_shown : (preset k register : ℕ) → bits 15 register ≡ window preset k → register % 256 ≡ scrambling_byte preset k
-unfolding scrambling_byte bits
+unfolding scrambling_byte window bits
 byte_shown preset k register shows =
-    sym (number_of-bits 8 register) ∙ ap (λ (l : List ℕ). number_of (drop 7 l)) shows
+    sym (number_of-bits 8 register) ∙ ap (λ (l : List ℕ). number_of (drop 7 l)) shows ∙ ap number_of (drop-drop 7 (8 * k) (sequence preset (8 * k)))

@@ -23,8 +23,3 @@ remainder (suc n) (bit ∷ rest) = remainder n (if bit == 1 then plus_front rest
 -- The EDC of a list of bytes: of their bits and 32 zeros the last 32 are left.
 unfoldable pub edc_of : List ℕ → List ℕ
 edc_of bytes = word_bytes (number_of (remainder (8 * length bytes) (bits_of bytes ++ replicate 32 0)))
-
--- What division leaves once these bytes are read too: the register's bits stand for what is left of all before them.
-unfoldable pub divided_from : ℕ → List ℕ → List ℕ
-divided_from register bytes =
-    remainder (8 * length bytes) (plus_front (bits_of bytes ++ replicate 32 0) (bits 32 register))

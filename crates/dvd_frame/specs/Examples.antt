@@ -5,7 +5,7 @@ use Rattle.gf_field.specs.Words.{value}
 use Rattle.dvd_frame.specs.Bits.{bits, bits_of}
 use Rattle.dvd_frame.specs.Edc.{plus_front, remainder, edc_of}
 use Rattle.dvd_frame.specs.Id.{id_word, word_bytes, has_check}
-use Rattle.dvd_frame.specs.Scrambling.{preset_of, sequence, window, scrambling_byte}
+use Rattle.dvd_frame.specs.Scrambling.{preset_of, sequence, scrambling_byte}
 use Rattle.dvd_frame.specs.declared.id.Area.TheVariants.{DataZone, LeadIn}
 
 -- the first data sector, the first reference sector, and a data sector of layer 1 on a disk of two layers
@@ -50,9 +50,9 @@ preset-0300F0 = refl
 
 -- scrambling bytes 0 to 6 of the preset 0001
 bytes-0001 : scrambling_byte 0x0001 0 ∷ scrambling_byte 0x0001 1 ∷ scrambling_byte 0x0001 2 ∷ scrambling_byte 0x0001 6 ∷ [] ≡ 0x01 ∷ 0x00 ∷ 0x22 ∷ 0x98 ∷ []
-unfolding scrambling_byte window sequence bits
+unfolding scrambling_byte sequence bits
 bytes-0001 = refl
 
 bytes-5500 : scrambling_byte 0x5500 0 ∷ scrambling_byte 0x5500 1 ∷ scrambling_byte 0x5500 2 ∷ [] ≡ 0x00 ∷ 0x0A ∷ 0x01 ∷ []
-unfolding scrambling_byte window sequence bits
+unfolding scrambling_byte sequence bits
 bytes-5500 = refl

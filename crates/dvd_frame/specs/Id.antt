@@ -1,6 +1,8 @@
 -- Identification data (ECMA-267, 16.1) and their error detection code, the IED (16.2).
-use Rattle.std.specs.Prelude.{◌≡◌, ℕ, zero, suc, ◌+◌, ◌*◌, ◌/◌, ◌%◌, ◌^◌, ◌==◌, ◌&&◌, bit_and, Bool, if◌then◌else◌, List, [], ◌∷◌, ◌++◌}
+use Rattle.std.specs.Prelude.{◌≡◌, ℕ, ◌+◌, ◌*◌, ◌^◌, ◌==◌, ◌&&◌, bit_and, Bool, if◌then◌else◌, List, [], ◌∷◌, ◌++◌, map, find}
 use Rattle.std.specs.Int.{to_be_bytes, w32}
+use Rattle.std.specs.List.{flat_map, range_with_len}
+use Rattle.std.specs.Option.{unwrap_or}
 use Rattle.gf_field.specs.Field.{alpha}
 use Rattle.gf_field.specs.Words.{value}
 use Rattle.dvd_frame.specs.declared.id.Area.{Area}
@@ -34,16 +36,11 @@ is_same_place word other = bit_and word 0x0DFFFFFF == bit_and other 0x0DFFFFFF
 abbrev pub has_check : List ℕ → Bool
 has_check six = (value six 1 == 0) && (value six alpha == 0)
 
--- the number below a bound that passes a test, the greatest if there are more
-unfoldable pub passing : (ℕ → Bool) → ℕ → ℕ
-passing test zero = 0
-passing test (suc n) = if test n then n else passing test n
+-- every pair of bytes
+unfoldable pub all_pairs : List (List ℕ)
+all_pairs = flat_map (λ first. map (λ second. first ∷ second ∷ []) (range_with_len 0 256)) (range_with_len 0 256)
 
--- two bytes by their number
-abbrev pub byte_pair : ℕ → List ℕ
-byte_pair n = n / 256 ∷ n % 256 ∷ []
-
--- The IED: of all two bytes those with which the ID is a codeword. There is exactly one such pair,
--- and no formula for it stands here; the code solves the two equations.
+-- The IED: of all pairs of bytes the one with which the ID is a codeword; there is exactly one.
+-- The code doesn't search: it encodes the ID with the code of six bytes and two parity bytes.
 unfoldable pub ied_of : ℕ → List ℕ
-ied_of word = byte_pair (passing (λ n. has_check (word_bytes word ++ byte_pair n)) 65536)
+ied_of word = unwrap_or (find (λ pair. has_check (word_bytes word ++ pair)) all_pairs) []

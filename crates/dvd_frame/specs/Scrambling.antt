@@ -1,6 +1,7 @@
 -- Scrambled frames (ECMA-267, 17): which Main Data bytes are combined with which bytes.
 -- The standard's circuit is a register of 15 bits; here its bits are one sequence.
-use Rattle.std.specs.Prelude.{ℕ, zero, suc, ◌+◌, ◌*◌, ◌/◌, ◌%◌, bit_xor, nat_lt, if◌then◌else◌, List, [], ◌∷◌, ◌++◌, drop, slice_index}
+use Rattle.std.specs.Prelude.{ℕ, zero, suc, ◌+◌, ◌*◌, ◌/◌, ◌%◌, bit_xor, nat_lt, if◌then◌else◌, List, [], ◌∷◌, ◌++◌, length, drop, map, slice_index}
+use Rattle.std.specs.List.{range_with_len}
 use Rattle.dvd_frame.specs.Bits.{bits, number_of}
 use Rattle.dvd_frame.specs.declared.scrambling.Rule.{Rule}
 use Rattle.dvd_frame.specs.declared.scrambling.Rule.TheVariants.{Whole, Off, First160}
@@ -18,13 +19,9 @@ sequence preset zero = bits 15 preset
 sequence preset (suc n) =
     sequence preset n ++ bit_xor (slice_index (sequence preset n) n) (slice_index (sequence preset n) (n + 4)) ∷ []
 
--- u(8k) to u(8k+14), the bits that the register shows at byte k
-unfoldable pub window : ℕ → ℕ → List ℕ
-window preset k = drop (8 * k) (sequence preset (8 * k))
-
--- scrambling byte k: the bits u(8k+7) to u(8k+14)
+-- scrambling byte k: of the first 15 + 8k bits the last eight, u(8k+7) to u(8k+14)
 unfoldable pub scrambling_byte : ℕ → ℕ → ℕ
-scrambling_byte preset k = number_of (drop 7 (window preset k))
+scrambling_byte preset k = number_of (drop (8 * k + 7) (sequence preset (8 * k)))
 
 -- how many Main Data bytes are scrambled
 abbrev pub scrambled_count : Rule → ℕ
@@ -36,11 +33,6 @@ scrambled_count First160 = 160
 unfoldable pub mask : ℕ → Rule → ℕ → ℕ
 mask word rule k = if nat_lt k (scrambled_count rule) then scrambling_byte (preset_of word) k else 0
 
--- Main Data bytes from place k on, masked
-unfoldable pub masked_from : ℕ → ℕ → Rule → List ℕ → List ℕ
-masked_from k word rule [] = []
-masked_from k word rule (byte ∷ bytes) = bit_xor byte (mask word rule k) ∷ masked_from (suc k) word rule bytes
-
--- Main Data as they stand in a scrambled frame. Masked twice they are as they were.
-abbrev pub masked : ℕ → Rule → List ℕ → List ℕ
-masked word rule main = masked_from 0 word rule main
+-- Main Data as they stand in a scrambled frame: byte k combined with mask k. Masked twice they are as they were.
+unfoldable pub masked : ℕ → Rule → List ℕ → List ℕ
+masked word rule main = map (λ k. bit_xor (slice_index main k) (mask word rule k)) (range_with_len 0 (length main))

@@ -3,8 +3,9 @@
 ghost use Rattle.std.specs.Prelude.{◌≡◌, ℕ, ◌+◌, ◌<◌, ◌≤◌, List, ◌∷◌, ◌++◌, length};
 ghost use Rattle.gf_field.specs.Words.{IsCodeword};
 ghost use Rattle.dvd_frame.specs.Bits.{bits};
-ghost use Rattle.dvd_frame.specs.Edc.{plus_front, remainder, divided_from, edc_of};
+ghost use Rattle.dvd_frame.specs.Edc.{plus_front, remainder, edc_of};
 ghost use Rattle.dvd_frame.specs.Id.{word_bytes, ied_of};
+ghost use Rattle.dvd_frame.specs.Registers.{divided_from};
 
 use crate::id::Id;
 use byteorder::{BigEndian, ByteOrder};

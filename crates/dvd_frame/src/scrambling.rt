@@ -1,7 +1,8 @@
 //! Scrambling of Main Data (ECMA-267, 17): each byte is combined with a byte of a sequence that the ID selects.
 ghost use Rattle.std.specs.Prelude.{◌≡◌, ℕ, ◌+◌, ◌-◌, ◌*◌, ◌/◌, ◌%◌, ◌^◌, ◌<◌, ◌≤◌, List, bit_xor, slice_index, length, drop};
 ghost use Rattle.dvd_frame.specs.Bits.{bits, number_of};
-ghost use Rattle.dvd_frame.specs.Scrambling.{presets, scrambled_count, sequence, window, scrambling_byte, masked};
+ghost use Rattle.dvd_frame.specs.Registers.{window};
+ghost use Rattle.dvd_frame.specs.Scrambling.{presets, scrambled_count, sequence, scrambling_byte, masked};
 
 use crate::id::Id;
 use std::marker::Model;

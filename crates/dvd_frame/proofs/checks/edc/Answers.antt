@@ -1,6 +1,6 @@
 use Rattle.std.proofs.Common.{ap, sym, ◌∙◌, arith}
 use Rattle.std.proofs.lemmas.List.{drop_all}
-use Rattle.dvd_frame.specs.Edc.{divided_from}
+use Rattle.dvd_frame.specs.Registers.{divided_from}
 use Rattle.dvd_frame.proofs.Division.{edc_read}
 use Rattle.dvd_frame.proofs.checks.edc.Goals as goal
 

@@ -1,5 +1,5 @@
 use Rattle.std.proofs.Common.{◌≡◌, ◌^◌, ◌<◌, drop}
-use Rattle.dvd_frame.specs.Edc.{divided_from}
+use Rattle.dvd_frame.specs.Registers.{divided_from}
 use Rattle.dvd_frame.proofs.checks.edc.Given as goal
 
 abbrev pub invariant-loop-byte : goal.invariant-loop-byte

@@ -1,4 +1,4 @@
-use Rattle.std.proofs.Common.{◌≡◌, ◌∙◌, ℕ, ◌+◌, List, sym, ap, take, length, arith}
+use Rattle.std.proofs.Common.{◌≡◌, ◌∙◌, ℕ, ◌+◌, sym, ap, take, length, arith}
 use Rattle.dvd_frame.specs.Edc.{edc_of}
 use Rattle.dvd_frame.proofs.reading.edc_with.Goals as goal
 

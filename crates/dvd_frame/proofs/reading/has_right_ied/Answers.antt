@@ -1,4 +1,4 @@
-use Rattle.std.proofs.Common.{◌∙◌, sym, ap, subst, take, All}
+use Rattle.std.proofs.Common.{◌∙◌, sym, ap, subst, All}
 use Rattle.std.proofs.lemmas.List.Elements.{All-from_get_or, All-take}
 use Rattle.gf_field.specs.Words.{IsByte}
 use Rattle.dvd_frame.specs.Id.{has_check}

@@ -1,6 +1,7 @@
 use Rattle.std.proofs.Common.{◌≡◌, ℕ, ◌<◌, ◌≤◌, get_or}
 use Rattle.std.specs.Prelude.{bit_xor}
-use Rattle.dvd_frame.specs.Scrambling.{window, scrambling_byte}
+use Rattle.dvd_frame.specs.Registers.{window}
+use Rattle.dvd_frame.specs.Scrambling.{scrambling_byte}
 use Rattle.dvd_frame.proofs.scrambling.combine.Given as goal
 
 abbrev pub invariant-loop-byte : goal.invariant-loop-byte

@@ -2,7 +2,8 @@ use Rattle.std.proofs.Common.{◌≡◌, ℕ, ◌/◌, List, length, take, ap, �
 use Rattle.std.specs.Prelude.{bit_and, slice_index}
 use Rattle.std.proofs.lemmas.List.{length-take-le}
 use Rattle.std.proofs.lemmas.Nat.{and_mask}
-use Rattle.dvd_frame.specs.Scrambling.{presets, preset_of, window, masked}
+use Rattle.dvd_frame.specs.Registers.{window}
+use Rattle.dvd_frame.specs.Scrambling.{presets, preset_of, masked}
 use Rattle.dvd_frame.proofs.Masking.{masked_parts, masked_twice}
 use Rattle.dvd_frame.proofs.scrambling.scramble.Goals as goal
 

@@ -1,5 +1,6 @@
 use Rattle.std.proofs.Common.{◌≡◌, ℕ, ◌+◌, ◌*◌, drop, ap, ◌∙◌, arith}
-use Rattle.dvd_frame.specs.Scrambling.{sequence, window}
+use Rattle.dvd_frame.specs.Registers.{window}
+use Rattle.dvd_frame.specs.Scrambling.{sequence}
 use Rattle.dvd_frame.proofs.scrambling.shifted_by_byte.Goals as goal
 
 pub returns-clause-step : goal.returns-clause-step

@@ -1,0 +1,14 @@
+-- What the registers of the code hold, of which the standard's definitions don't speak.
+use Rattle.std.specs.Prelude.{ℕ, ◌*◌, List, ◌++◌, length, drop, replicate}
+use Rattle.dvd_frame.specs.Bits.{bits, bits_of}
+use Rattle.dvd_frame.specs.Edc.{plus_front, remainder}
+use Rattle.dvd_frame.specs.Scrambling.{sequence}
+
+-- u(8k) to u(8k+14), the 15 bits that the register of a preset shows at byte k
+unfoldable pub window : ℕ → ℕ → List ℕ
+window preset k = drop (8 * k) (sequence preset (8 * k))
+
+-- What division leaves once these bytes are read too: the register's bits stand for what is left of all before them.
+unfoldable pub divided_from : ℕ → List ℕ → List ℕ
+divided_from register bytes =
+    remainder (8 * length bytes) (plus_front (bits_of bytes ++ replicate 32 0) (bits 32 register))
