@@ -1,5 +1,5 @@
 -- Control data stand in lead-ins alone: on layer 0, and on layer 1 where its track is read from the inside.
-use Rattle.std.proofs.Common.{◌≡◌, ◌⊎◌, ℕ, ◌+◌, ◌<◌, List, [], ◌∷◌, ◌++◌, All, get_or, sym, ap, ◌∙◌, ◌≢◌, replicate, nat_eq, false, cond, inl, inr, refl, subst, arith, Some, slice_get}
+use Rattle.std.proofs.Common.{◌≡◌, ℕ, ◌<◌, List, [], ◌∷◌, All, get_or, ◌≢◌, replicate, nat_eq, false, inl, inr, refl, subst, arith}
 use Rattle.std.specs.List.{AllByRecursion, flat_map}
 use Rattle.std.proofs.lemmas.List.Elements.{All-nil, All-append, All-filter, All-from_recursion, All-get_or, recursion_from_All}
 use Rattle.std.proofs.lemmas.List.FromFn.{get_or-map-range_with_len}
@@ -15,10 +15,10 @@ use Rattle.dvd_layout.specs.declared.layout.Zones.{Zones}
 use Rattle.dvd_layout.specs.declared.layout.Zones.TheVariants.{DataOnly, All as AllZones}
 use Rattle.dvd_layout.specs.declared.zone.Zone.{Zone}
 use Rattle.dvd_layout.specs.Content.{content_at}
-use Rattle.dvd_layout.specs.Plan.{entry_of, entries_of, is_data, zones_by, all_zones, zone_table, plan_of}
+use Rattle.dvd_layout.specs.Plan.{IsEntry, entry_of, entries_of, is_data, zones_by, zone_table, plan_of}
 use Rattle.dvd_layout.proofs.Blocks.{length-entries_of}
 use Rattle.dvd_control.specs.Format.{HasLeadIn, fields_for, format_bytes}
-use Rattle.dvd_control.specs.MainData.{IsEntry, main_by, main_bytes}
+use Rattle.dvd_control.specs.MainData.{main_bytes}
 
 -- what holds of a layer with this content
 abbrev pub ControlInLeadIn : Shape → ℕ → Content → Type 0
@@ -40,10 +40,10 @@ zones_by-right layout Parallel =
 zones_by-right layout Opposite = (tt, (tt, (tt, (inl refl, (tt, (tt, (tt, (tt, (tt, (tt, tt))))))))))
 
 zone_table-right : (layout : Layout) (zones : Zones) → All (IsRightZone layout.shape) (zone_table layout zones)
-zone_table-right layout AllZones = All-from_recursion (IsRightZone layout.shape) (all_zones layout) (zones_by-right layout layout.shape)
+zone_table-right layout AllZones = All-from_recursion (IsRightZone layout.shape) (zones_by layout layout.shape) (zones_by-right layout layout.shape)
 zone_table-right layout DataOnly =
-    All-filter (λ zone. is_data zone.area) (IsRightZone layout.shape) (all_zones layout)
-    (All-from_recursion (IsRightZone layout.shape) (all_zones layout) (zones_by-right layout layout.shape))
+    All-filter (λ zone. is_data zone.area) (IsRightZone layout.shape) (zones_by layout layout.shape)
+    (All-from_recursion (IsRightZone layout.shape) (zones_by layout layout.shape) (zones_by-right layout layout.shape))
 
 content_at-right : (shape : Shape) (layer b : ℕ) (content : Content) → ControlInLeadIn shape layer content → ControlInLeadIn shape layer (content_at content b)
 content_at-right shape layer b Control right = right
@@ -80,19 +80,22 @@ pub control-has_lead_in : (layout : Layout) (entry : BlockPlan) → IsEntry layo
 control-has_lead_in layout entry is control = subst (ControlInLeadIn layout.shape entry.layer) control (entry-in_lead_in layout entry is)
 
 -- Main Data by the content of an entry
-pub main_bytes-at : (layout : Layout) (entry : BlockPlan) (f : ℕ) (content : Content) → entry.content ≡ content
-    → main_by content layout entry.layer f ≡ main_bytes layout entry f
+pub zero_bytes : (layout : Layout) (entry : BlockPlan) (f : ℕ) → entry.content ≡ Zero → replicate 2048 0 ≡ main_bytes layout entry f
 unfolding main_bytes
-main_bytes-at layout entry f content is = ap (λ c. main_by c layout entry.layer f) (sym is)
+zero_bytes layout entry f is = rw is refl
+
+pub reference_bytes : (layout : Layout) (entry : BlockPlan) (f : ℕ) → entry.content ≡ Reference → replicate 2048 0xAC ≡ main_bytes layout entry f
+unfolding main_bytes
+reference_bytes layout entry f is = rw is refl
 
 pub control_first : (layout : Layout) (entry : BlockPlan) (f : ℕ) → entry.content ≡ Control → f ≡ 0
     → format_bytes (fields_for layout entry.layer) ≡ main_bytes layout entry f
-control_first layout entry f is first =
-    ap (λ n. main_by Control layout entry.layer n) (sym first) ∙ main_bytes-at layout entry f Control is
+unfolding main_bytes
+control_first layout entry f is first = rw (is, first) refl
 
 pub control_behind : (layout : Layout) (entry : BlockPlan) (f : ℕ) → entry.content ≡ Control → f ≢ 0
     → replicate 2048 0 ≡ main_bytes layout entry f
+unfolding main_bytes
 control_behind layout entry f is behind =
     let not_first : nat_eq f 0 ≡ false = grind (arith, nat_tests) in
-    ap (λ test. cond test (format_bytes (fields_for layout entry.layer)) (replicate 2048 0)) (sym not_first)
-    ∙ main_bytes-at layout entry f Control is
+    rw (is, not_first) refl

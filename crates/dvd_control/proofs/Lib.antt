@@ -1,2 +1,3 @@
+pub mod LastSectors
 pub mod LeadIns
 pub mod RoundTrip

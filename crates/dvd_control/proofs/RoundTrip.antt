@@ -1,8 +1,8 @@
 -- What is written of a physical format is read back.
-use Rattle.std.proofs.Common.{◌≡◌, ◌∙◌, ap, ℕ, ◌+◌, ◌*◌, ◌/◌, ◌%◌, ◌<◌, ◌^◌, Bool, true, false, cond, nat_eq, refl, arith, Some, None}
+use Rattle.std.proofs.Common.{◌≡◌, ap, ℕ, ◌+◌, ◌*◌, ◌/◌, ◌%◌, ◌<◌, ◌^◌, Bool, true, false, cond, nat_eq, refl, arith, None}
 use Rattle.std.proofs.lemmas.Bool.Decides.{nat_tests}
 use Rattle.dvd_control.specs.declared.format.PhysicalFormat.{PhysicalFormat}
-use Rattle.dvd_control.specs.Format.{Fields, fields_of, fields_in, format_bytes, control_fault}
+use Rattle.dvd_control.specs.Format.{fields_of, fields_in, format_bytes, control_fault}
 
 -- byte 2: layers, track path and kind
 abbrev byte_2 : Bool → Bool → ℕ → ℕ

@@ -1,9 +1,9 @@
 -- The physical format sector of the Control Data Zone (ECMA-267, physical format information).
-use Rattle.std.specs.Prelude.{◌≡◌, ◌⊎◌, ℕ, ◌+◌, ◌-◌, ◌*◌, ◌/◌, ◌%◌, ◌==◌, nat_lt, Bool, true, false, not, ◌||◌, if◌then◌else◌, List, [], ◌∷◌, ◌++◌, replicate, slice_index, Some, None}
+use Rattle.std.specs.Prelude.{◌≡◌, ◌⊎◌, ℕ, ◌+◌, ◌-◌, ◌*◌, ◌/◌, ◌%◌, ◌==◌, nat_lt, Bool, false, not, ◌||◌, if◌then◌else◌, List, [], ◌∷◌, ◌++◌, replicate, slice_index, Some, None}
 use Rattle.std.specs.declared.option.Option.{Option}
 use Rattle.dvd_layout.specs.declared.layout.Layout.{Layout}
 use Rattle.dvd_layout.specs.declared.layout.Shape.{Shape}
-use Rattle.dvd_layout.specs.declared.layout.Shape.TheVariants.{Single, Parallel, Opposite}
+use Rattle.dvd_layout.specs.declared.layout.Shape.TheVariants.{Parallel}
 use Rattle.dvd_layout.specs.Lengths.{has_two_layers, is_opposite, padded}
 use Rattle.dvd_control.specs.declared.format.PhysicalFormat.{PhysicalFormat}
 use Rattle.dvd_control.specs.declared.format.ControlFault.{ControlFault}
@@ -88,13 +88,8 @@ control_fault bytes =
     else if not (number_at bytes 5 == 0x30000) || nat_lt (number_at bytes 9) (number_at bytes 5) then Some (Range (number_at bytes 5) (number_at bytes 9))
     else None
 
--- the last sector of the Data Zone that the lead-in of a layer tells: that layer's, and on the opposite path layer 1's
-abbrev pub last_by : Shape → Layout → ℕ → ℕ
-last_by Single layout layer = 0x30000 + padded layout.sectors0 - 1
-last_by Parallel layout layer = 0x30000 + padded (if layer == 0 then layout.sectors0 else layout.sectors1) - 1
-last_by Opposite layout layer = 0xFD0000 - padded layout.sectors0 + padded layout.sectors1 - 1
-
--- the physical format that the lead-in of a layer tells: version 1, 10.08 Mbit/s, no burst cutting area
+-- the physical format that the lead-in of a layer tells: version 1, 10.08 Mbit/s, no burst cutting area; the last sector is
+-- that layer's, and on the opposite track path layer 1's
 unfoldable pub fields_for : Layout → ℕ → Fields
 fields_for layout layer = record {
   version = 1;
@@ -105,7 +100,8 @@ fields_for layout layer = record {
   density = (if has_two_layers layout.shape then 1 else 0);
   pitch = 0;
   first = 0x30000;
-  last = last_by layout.shape layout layer;
+  last = (if is_opposite layout.shape then 0xFD0000 - padded layout.sectors0 + padded layout.sectors1 - 1
+      else 0x30000 + padded (if layer == 0 then layout.sectors0 else layout.sectors1) - 1);
   layer0_last = (if is_opposite layout.shape then 0x30000 + padded layout.sectors0 - 1 else 0);
   bca = false;
 }

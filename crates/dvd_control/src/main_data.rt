@@ -1,6 +1,8 @@
 //! The Main Data of the frames that hold no image.
 ghost use Rattle.std.specs.Prelude.{◌≡◌, ◌<◌};
-ghost use Rattle.dvd_control.specs.MainData.{IsEntry, IsImage, main_bytes};
+ghost use Rattle.dvd_layout.specs.Content.{IsImage};
+ghost use Rattle.dvd_layout.specs.Plan.{IsEntry};
+ghost use Rattle.dvd_control.specs.MainData.{main_bytes};
 
 use crate::format::PhysicalFormat;
 use dvd_layout::{BlockPlan, Content, Layout};

@@ -1,7 +1,7 @@
 //! Sector numbers of a physical format: those of a layout, and three bytes for each.
 ghost use Rattle.std.specs.Prelude.{◌≡◌, ◌+◌, ◌-◌, ◌<◌, ◌≤◌, ◌^◌};
 ghost use Rattle.dvd_layout.specs.Lengths.{padded};
-ghost use Rattle.dvd_control.specs.Format.{HasLeadIn, last_by, number_at, three_bytes};
+ghost use Rattle.dvd_control.specs.Format.{HasLeadIn, fields_for, number_at, three_bytes};
 
 use dvd_layout::{Layout, Shape};
 
@@ -26,9 +26,10 @@ pub(crate) fn last_of_layer_0(layout: &Layout) -> u32
 }
 
 // The last sector of the Data Zone that the lead-in of a layer tells.
+#[tactic(auto, unfolding(crate::specs::Format::fields_for))]
 pub(crate) fn last_of(layout: &Layout, layer: u8) -> u32
     requires { HasLeadIn layout.now.shape layer }
-    ensures last { result ≡ last_by layout.now.shape layout.now layer }
+    ensures last { result ≡ (fields_for layout.now layer).last }
     ensures behind { 0x30000 ≤ result }
     ensures number { result < 2 ^ 24 }
 {

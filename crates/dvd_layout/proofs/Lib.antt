@@ -1,2 +1,6 @@
+pub mod AtPlaces
 pub mod Blocks
+pub mod InOrder
+pub mod NoFault
 pub mod Ranges
+pub mod SameLengths

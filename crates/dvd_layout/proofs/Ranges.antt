@@ -15,8 +15,8 @@ use Rattle.dvd_layout.specs.declared.layout.Zones.TheVariants.{DataOnly, All as 
 use Rattle.dvd_layout.specs.declared.zone.Zone.{Zone}
 use Rattle.dvd_layout.specs.Place.{HasNumbers}
 use Rattle.dvd_layout.proofs.Blocks.{length-entries_of}
-use Rattle.dvd_layout.specs.Lengths.{is_opposite, has_two_layers, padded}
-use Rattle.dvd_layout.specs.Plan.{IsInRange, entry_of, entries_of, plan_of, zone_of, second_first, behind, lead_in, inside_out, out_and_in, first_data, second_data, zones_by, all_zones, zone_table, is_data}
+use Rattle.dvd_layout.specs.Lengths.{is_opposite, padded}
+use Rattle.dvd_layout.specs.Plan.{IsInRange, entry_of, entries_of, plan_of, zone_of, second_first, behind, lead_in, inside_out, out_and_in, first_data, second_data, zones_by, zone_table, is_data}
 
 abbrev Each : List Zone → Type 0
 Each zones = AllByRecursion IsInRange zones
@@ -105,9 +105,9 @@ zones_by-in_range layout Parallel = each-append (inside_out layout (first_data l
 zones_by-in_range layout Opposite = out_and_in-in_range layout
 
 pub zone_table-in_range : (layout : Layout) (zones : Zones) → All IsInRange (zone_table layout zones)
-zone_table-in_range layout AllZones = All-from_recursion IsInRange (all_zones layout) (zones_by-in_range layout layout.shape)
+zone_table-in_range layout AllZones = All-from_recursion IsInRange (zones_by layout layout.shape) (zones_by-in_range layout layout.shape)
 zone_table-in_range layout DataOnly =
-    All-filter (λ zone. is_data zone.area) IsInRange (all_zones layout) (All-from_recursion IsInRange (all_zones layout) (zones_by-in_range layout layout.shape))
+    All-filter (λ zone. is_data zone.area) IsInRange (zones_by layout layout.shape) (All-from_recursion IsInRange (zones_by layout layout.shape) (zones_by-in_range layout layout.shape))
 
 -- each block of a zone in range has numbers of 24 bits
 entries_of-numbers : (zone : Zone) → IsInRange zone → All HasNumbers (entries_of zone)

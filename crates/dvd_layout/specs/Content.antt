@@ -3,6 +3,13 @@ use Rattle.std.specs.Prelude.{ℕ, ◌+◌, ◌*◌}
 use Rattle.dvd_layout.specs.declared.entry.Content.{Content}
 use Rattle.dvd_layout.specs.declared.entry.Content.TheVariants.{Zero, Reference, Control, Image}
 
+-- a content that is image sectors
+abbrev pub IsImage : Content → Type 0
+IsImage (Image sector) = Unit {0}
+IsImage Zero = ⊥
+IsImage Reference = ⊥
+IsImage Control = ⊥
+
 -- the first image sector, or 0 where there is none
 abbrev pub image_from : Content → ℕ
 image_from (Image sector) = sector

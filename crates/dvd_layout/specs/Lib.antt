@@ -1,4 +1,5 @@
 pub mod Content
+pub mod Laws
 pub mod Lengths
 pub mod Place
 pub mod Plan

@@ -1,5 +1,5 @@
 -- Where image sectors stand on the disk, and what an entry of a plan says of its data frames.
-use Rattle.std.specs.Prelude.{ℕ, ◌+◌, ◌-◌, ◌<◌, ◌^◌, ◌==◌, nat_lt, if◌then◌else◌}
+use Rattle.std.specs.Prelude.{ℕ, ◌+◌, ◌-◌, ◌<◌, ◌^◌, ◌==◌, nat_lt, min, List, sum_by, if◌then◌else◌}
 use Rattle.dvd_frame.specs.declared.scrambling.Rule.{Rule}
 use Rattle.dvd_frame.specs.declared.scrambling.Rule.TheVariants.{Whole, Off, First160}
 use Rattle.dvd_layout.specs.declared.entry.BlockPlan.{BlockPlan}
@@ -11,6 +11,17 @@ use Rattle.dvd_layout.specs.Plan.{second_first}
 -- the image sectors of both layers
 abbrev pub total_sectors : Layout → ℕ
 total_sectors layout = layout.sectors0 + layout.sectors1
+
+-- how many image sectors a block of this content holds: sixteen, or what is left of the image
+abbrev pub image_sectors : Layout → Content → ℕ
+image_sectors layout (Image sector) = min 16 (total_sectors layout - sector)
+image_sectors layout Zero = 0
+image_sectors layout Reference = 0
+image_sectors layout Control = 0
+
+-- the image sectors of all these blocks
+abbrev pub image_before : Layout → List BlockPlan → ℕ
+image_before layout entries = sum_by (λ entry. image_sectors layout entry.content) entries
 
 -- the layer and the sector number of an image sector: those of layer 0 come first
 abbrev pub place_of : Layout → ℕ → ℕ × ℕ

@@ -1,6 +1,6 @@
 -- The zone table of a disk and the plan of its ECC blocks (ECMA-267, section 5, Format of the Information Zone).
 -- A table is a list of zones, a plan the blocks of its zones one after the other. The code computes one entry without a list.
-use Rattle.std.specs.Prelude.{◌≡◌, ℕ, ◌+◌, ◌-◌, ◌*◌, ◌^◌, ◌<◌, ◌≤◌, List, [], ◌∷◌, ◌++◌, map, Bool, true, false, filter, if◌then◌else◌}
+use Rattle.std.specs.Prelude.{◌≡◌, ℕ, ◌+◌, ◌-◌, ◌*◌, ◌^◌, ◌<◌, ◌≤◌, List, [], ◌∷◌, ◌++◌, map, Bool, true, false, filter, if◌then◌else◌, Some, slice_get}
 use Rattle.std.specs.List.{flat_map, range_with_len}
 use Rattle.dvd_frame.specs.declared.id.Area.{Area}
 use Rattle.dvd_frame.specs.declared.id.Area.TheVariants.{DataZone, LeadIn, LeadOut, Middle}
@@ -78,9 +78,6 @@ zones_by layout Single = inside_out layout (first_data layout)
 zones_by layout Parallel = inside_out layout (first_data layout) ++ inside_out layout (second_data layout)
 zones_by layout Opposite = out_and_in layout
 
-abbrev pub all_zones : Layout → List Zone
-all_zones layout = zones_by layout layout.shape
-
 abbrev pub is_data : Area → Bool
 is_data DataZone = true
 is_data LeadIn = false
@@ -89,9 +86,15 @@ is_data Middle = false
 
 -- the zones that a stream holds
 abbrev pub zone_table : Layout → Zones → List Zone
-zone_table layout All = all_zones layout
-zone_table layout DataOnly = filter (λ zone. is_data zone.area) (all_zones layout)
+zone_table layout All = zones_by layout layout.shape
+zone_table layout DataOnly = filter (λ zone. is_data zone.area) (zones_by layout layout.shape)
 
 -- the blocks of a stream, zone after zone
 unfoldable pub plan_of : Layout → Zones → List BlockPlan
 plan_of layout zones = flat_map entries_of (zone_table layout zones)
+
+-- an entry of a plan of this layout
+pub record IsEntry (layout : Layout) (entry : BlockPlan) : Type 0 where
+  pub zones : Zones
+  pub place : ℕ
+  pub stands : slice_get (plan_of layout zones) place ≡ Some entry

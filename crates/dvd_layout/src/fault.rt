@@ -6,24 +6,24 @@ use thiserror::Error;
 #[derive(Clone, Copy, Debug, PartialEq, Eq, Error)]
 pub enum LayoutFault {
     /// A layer has no sector.
-    #[error("empty layer {layer}")]
+    #[error("layer {layer} has no sector")]
     EmptyLayer { layer: u8 },
     /// Layer 0 of two isn't whole blocks.
-    #[error("odd layer {sectors}")]
+    #[error("layer 0 of two has {sectors} sectors, which are no whole blocks")]
     OddLayer { sectors: u32 },
     /// A disk of one layer has sectors for a second.
-    #[error("second layer {sectors}")]
+    #[error("a disk of one layer has {sectors} sectors for a second")]
     SecondLayer { sectors: u32 },
     /// On the opposite track path layer 1 is longer than layer 0.
-    #[error("layer longer {sectors}")]
+    #[error("layer 1 has {sectors} sectors, more than layer 0 on the opposite path")]
     LayerLonger { sectors: u32 },
     /// The Initial Zone would begin below the first sector number.
-    #[error("initial too long {blocks}")]
+    #[error("an Initial Zone of {blocks} blocks would begin below the first sector number")]
     InitialTooLong { blocks: u32 },
     /// The zone behind the data is too long.
-    #[error("tail too long {blocks}")]
+    #[error("{blocks} blocks behind the data are too many")]
     TailTooLong { blocks: u32 },
     /// A layer ends above the last sector number that it may have.
-    #[error("layer {layer} too long {end}")]
+    #[error("layer {layer} would end at sector number {end}")]
     LayerTooLong { layer: u8, end: u64 },
 }

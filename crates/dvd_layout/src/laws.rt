@@ -1,17 +1,37 @@
 //! What holds of every lawful layout. Each function's contract is a law of the definitions; the bodies are empty.
-ghost use Rattle.std.specs.Prelude.{◌≡◌, ℕ, ◌<◌, All};
-ghost use Rattle.dvd_layout.specs.declared.layout.Layout.{Layout};
-ghost use Rattle.dvd_layout.specs.declared.layout.Zones.{Zones as WhichZones};
-ghost use Rattle.dvd_layout.specs.Place.{HasNumbers, place_of, total_sectors};
-ghost use Rattle.dvd_layout.specs.Plan.{plan_of};
+ghost use Rattle.dvd_layout.specs.Laws.{ImageIsWhole, ImageStandsInOrder, LayoutIsByLengths, LayoutsBreakNoRule, PlacesDiffer, PlanFollowsPlaces, PlanNumbersHave24Bits};
+
+/// A layout breaks no rule.
+pub fn layouts_break_no_rule()
+    ensures { LayoutsBreakNoRule }
+{}
+
+/// Two layouts of the same lengths are the same.
+pub fn layout_is_by_lengths()
+    ensures { LayoutIsByLengths }
+{}
 
 /// Every sector number of a plan has 24 bits, those of the last frames of its blocks too, and every layer is one of two.
 pub fn plan_numbers_have_24_bits()
-    ensures { (layout : Layout) (zones : WhichZones) → All HasNumbers (plan_of layout zones) }
+    ensures { PlanNumbersHave24Bits }
 {}
 
 /// No two image sectors have one place.
 pub fn places_differ()
-    ensures { (layout : Layout) (a b : ℕ) → a < total_sectors layout → b < total_sectors layout
-        → place_of layout a ≡ place_of layout b → a ≡ b }
+    ensures { PlacesDiffer }
+{}
+
+/// The blocks before a block of image hold exactly the image sectors before its first.
+pub fn image_stands_in_order()
+    ensures { ImageStandsInOrder }
+{}
+
+/// The blocks of a plan hold the whole image.
+pub fn image_is_whole()
+    ensures { ImageIsWhole }
+{}
+
+/// The image sectors of a block stand at the block's sector numbers, one after the other.
+pub fn plan_follows_places()
+    ensures { PlanFollowsPlaces }
 {}

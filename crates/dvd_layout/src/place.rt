@@ -1,8 +1,9 @@
 //! Where image sectors stand on the disk.
-ghost use Rattle.std.specs.Prelude.{◌≡◌, ◌↔◌, ℕ, ◌<◌, Some, IfSome};
+ghost use Rattle.std.specs.Prelude.{◌≡◌, ◌↔◌, ℕ, ◌<◌, ◌≤◌, Some, IfSome};
 ghost use Rattle.dvd_layout.specs.Lengths.{has_two_layers};
-ghost use Rattle.dvd_layout.specs.Place.{place_of, total_sectors};
+ghost use Rattle.dvd_layout.specs.Place.{image_sectors, place_of, total_sectors};
 
+use crate::entry::Content;
 use crate::layout::Layout;
 use crate::plan::DATA_FIRST;
 
@@ -19,6 +20,17 @@ impl Layout {
         ensures { result ≡ has_two_layers self.now.shape }
     {
         self.shape.has_two_layers()
+    }
+
+    /// How many image sectors a block of this content holds.
+    pub fn image_sectors(&self, content: Content) -> usize
+        ensures value { result ≡ image_sectors self.now content }
+        ensures most { result ≤ 16 }
+    {
+        match content {
+            Content::Image(sector) => self.total().saturating_sub(sector).min(16) as usize,
+            Content::Zero | Content::Reference | Content::Control => 0,
+        }
     }
 
     /// The layer and the sector number of an image sector.

@@ -2,7 +2,7 @@
 ghost use Rattle.std.specs.Prelude.{◌≡◌, ◌+◌, ◌*◌, ◌^◌, ◌<◌, ◌≤◌, ◌++◌, length, Some, slice_get};
 ghost use Rattle.arrayvec.specs.ArrayVec.{array_vec_len};
 ghost use Rattle.dvd_layout.specs.Lengths.{blocks_of};
-ghost use Rattle.dvd_layout.specs.Plan.{all_zones, behind, first_data, inside_out, lead_in, out_and_in, plan_of, second_data, second_first, zone_of, zone_table};
+ghost use Rattle.dvd_layout.specs.Plan.{behind, first_data, inside_out, lead_in, out_and_in, plan_of, second_data, second_first, zone_of, zone_table, zones_by};
 
 use crate::entry::{BlockPlan, Content};
 use crate::layout::{Layout, Shape, Zones, blocks_of};
@@ -47,7 +47,7 @@ impl Layout {
 
     // Every zone of the disk.
     fn all_zones(&self) -> ZoneTable
-        ensures { result.items ≡ all_zones self.now }
+        ensures { result.items ≡ zones_by self.now self.now.shape }
     {
         let mut table = ArrayVec::new();
         match self.shape {

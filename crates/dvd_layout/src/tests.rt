@@ -121,6 +121,25 @@ fn image_sectors_have_places(rt: HostRuntime) -> Result<(), LayoutFault> {
 }
 
 #[test]
+fn blocks_hold_their_image_sectors(rt: HostRuntime) -> Result<(), LayoutFault> {
+    let single = Layout::new(Shape::Single, 33, 0, 0, 16)?;
+    let opposite = opposite()?;
+    let counts = [
+        (single, Content::Image(16), 16),
+        (single, Content::Image(32), 1),
+        (single, Content::Image(48), 0),
+        (single, Content::Control, 0),
+        (opposite, Content::Image(16), 16),
+        (opposite, Content::Image(32), 16),
+        (opposite, Content::Zero, 0),
+    ];
+    for (layout, content, count) in counts {
+        assert_eq!(rt; layout.image_sectors(content), count);
+    }
+    Ok(())
+}
+
+#[test]
 fn frames_have_ids_and_rules(rt: HostRuntime) {
     let entry = BlockPlan {
         first: 0xFC_FFE0,

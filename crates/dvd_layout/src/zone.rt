@@ -1,7 +1,7 @@
 //! A zone: ECC blocks of one kind, one after the other.
 ghost use Rattle.std.specs.Prelude.{◌≡◌, ◌<◌, length, Some, slice_get, All};
 ghost use Rattle.std.specs.List.{flat_map};
-ghost use Rattle.dvd_layout.specs.Plan.{entry_of, entries_of, IsInRange};
+ghost use Rattle.dvd_layout.specs.Plan.{entry_of, entries_of, IsInRange, zone_of};
 
 use crate::entry::{BlockPlan, Content};
 use dvd_frame::Area;
@@ -10,16 +10,23 @@ use dvd_frame::Area;
 /// The image sector of its content is the first of its first block.
 #[derive(Clone, Copy, Debug, PartialEq, Eq)]
 pub struct Zone {
+    /// The number of its first sector.
     pub first: u32,
+    /// How many ECC blocks it has.
     pub blocks: u32,
+    /// The area that the IDs of its frames name.
     pub area: Area,
+    /// 0 or 1.
     pub layer: u8,
+    /// What stands in its first block.
     pub content: Content,
 }
 
 // An empty zone fills the unused places of a table.
 impl Default for Zone {
-    fn default() -> Zone {
+    fn default() -> Zone
+        ensures { result ≡ zone_of 0 0 Area.DataZone 0 Content.Zero }
+    {
         Zone {
             first: 0,
             blocks: 0,

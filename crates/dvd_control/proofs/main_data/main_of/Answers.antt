@@ -1,17 +1,16 @@
 use Rattle.std.proofs.Common.{◌∙◌, ap}
-use Rattle.dvd_layout.specs.declared.entry.Content.TheVariants.{Zero, Reference}
 use Rattle.dvd_control.specs.Format.{format_bytes}
-use Rattle.dvd_control.proofs.LeadIns.{control-has_lead_in, control_first, control_behind, main_bytes-at}
+use Rattle.dvd_control.proofs.LeadIns.{control-has_lead_in, control_first, control_behind, reference_bytes, zero_bytes}
 use Rattle.dvd_control.proofs.main_data.main_of.Goals as goal
 
 pub of_layout-requires : goal.of_layout-requires
 of_layout-requires c = control-has_lead_in c.args.layout.now c.args.plan.now c.requires.entry c.in-Control.is
 
 pub returns-in-Zero : goal.returns-in-Zero
-returns-in-Zero c = main_bytes-at c.args.layout.now c.args.plan.now c.args.f Zero c.in-Zero.is
+returns-in-Zero c = zero_bytes c.args.layout.now c.args.plan.now c.args.f c.in-Zero.is
 
 pub returns-in-Reference : goal.returns-in-Reference
-returns-in-Reference c = main_bytes-at c.args.layout.now c.args.plan.now c.args.f Reference c.in-Reference.is
+returns-in-Reference c = reference_bytes c.args.layout.now c.args.plan.now c.args.f c.in-Reference.is
 
 pub returns-in-Control : goal.returns-in-Control
 returns-in-Control c =

@@ -1,0 +1,5 @@
+use Rattle.dvd_layout.proofs.InOrder.{plan_of-whole}
+use Rattle.dvd_layout.proofs.laws.image_is_whole.Goals as goal
+
+pub returns : goal.returns
+returns c = plan_of-whole

@@ -1,0 +1,5 @@
+use Rattle.dvd_layout.proofs.InOrder.{plan_of-in_order}
+use Rattle.dvd_layout.proofs.laws.image_stands_in_order.Goals as goal
+
+pub returns : goal.returns
+returns c = plan_of-in_order

@@ -1,0 +1,5 @@
+use Rattle.dvd_layout.proofs.SameLengths.{same_lengths-same}
+use Rattle.dvd_layout.proofs.laws.layout_is_by_lengths.Goals as goal
+
+pub returns : goal.returns
+returns c = same_lengths-same

@@ -1,0 +1,5 @@
+use Rattle.dvd_layout.proofs.NoFault.{no_fault}
+use Rattle.dvd_layout.proofs.laws.layouts_break_no_rule.Goals as goal
+
+pub returns : goal.returns
+returns c = no_fault
