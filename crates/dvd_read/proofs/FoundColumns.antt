@@ -7,11 +7,11 @@ use Rattle.rs_decode.specs.Nearest.{vanishes_at_all}
 use Rattle.rs_decode.specs.Filling.{marked}
 use Rattle.dvd_capture.specs.TwoPass.{AgreesWith, failed_of, from_columns}
 use Rattle.dvd_capture.specs.declared.parts.ColumnAnswer.{ColumnAnswer}
-use Rattle.dvd_read.specs.Causes.{missing_column, two_pass_cause}
+use Rattle.dvd_read.specs.Causes.{two_pass_cause}
 use Rattle.dvd_read.specs.Found.{AreColumns, block_found, column_word, columns_of, words_of}
 use Rattle.dvd_read.specs.declared.cause.Cause.TheVariants.{Column, Row}
 use Rattle.dvd_read.proofs.ColumnAnswers.{blank_column}
-use Rattle.dvd_read.proofs.Outcomes.{get_or-columns_of, length-columns_of, column_cause, row_cause, fixed-agrees}
+use Rattle.dvd_read.proofs.Outcomes.{missing_column, get_or-columns_of, length-columns_of, column_cause, row_cause, fixed-agrees}
 use Rattle.dvd_read.proofs.Positions.{none_fails}
 
 answers-are : (answers : List (Option (List ℕ))) (columns : List ColumnAnswer) → length columns ≡ 182 → AreColumns answers columns → map column_word columns ≡ columns_of answers

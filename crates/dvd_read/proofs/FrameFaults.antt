@@ -1,32 +1,42 @@
 -- The frames of a block, one after the other.
-use Rattle.std.proofs.Common.{◌≡◌, ◌∙◌, ℕ, suc, ◌+◌, ◌-◌, ◌*◌, ◌<◌, List, [], ◌++◌, length, map, take, get_or, set, inl, inr, refl, sym, ap, subst, arith, Some, None, add-one}
-use Rattle.std.specs.List.{range_with_len}
-use Rattle.std.specs.Option.{option_map, option_or}
+use Rattle.std.proofs.Common.{◌≡◌, ◌∙◌, ℕ, zero, suc, ◌+◌, ◌*◌, ◌<◌, ◌≤◌, List, [], ◌∷◌, ◌++◌, length, take, get_or, slice_get, set, inl, inr, refl, sym, ap, arith, Some, None}
+use Rattle.std.specs.List.{filter_map, flat_map, range_with_len}
+use Rattle.std.specs.Option.{option_map}
 use Rattle.std.specs.declared.option.Option.{Option}
 use Rattle.std.proofs.lemmas.Bool.{cases_eq}
-use Rattle.std.proofs.lemmas.List.{get_or-set_same, get_or-set_other, ext_get_or, take_all}
-use Rattle.std.proofs.lemmas.List.FromFn.{length-map-range_with_len, get_or-map-range_with_len}
+use Rattle.std.proofs.lemmas.List.{append-nil, get_or-set_same, get_or-set_other, map-id, take_all}
+use Rattle.std.proofs.lemmas.List.Concat.{flat_map-append}
+use Rattle.std.proofs.lemmas.List.FromFn.{fill_by_all, map-range_with_len_more}
 use Rattle.dvd_block.specs.Product.{line}
 use Rattle.dvd_frame.specs.Frame.{frame_cause, main_in}
 use Rattle.dvd_frame.specs.declared.reading.FrameCause.{FrameCause}
 use Rattle.dvd_frame.specs.declared.scrambling.Rule.{Rule}
 use Rattle.dvd_layout.specs.declared.entry.BlockPlan.{BlockPlan}
 use Rattle.dvd_layout.specs.Place.{rule_for}
-use Rattle.dvd_read.specs.Frames.{cause_in, fault_at, first_fault_from, frame_of, frames_cause, fronts, main_at, main_data, wanted_word}
+use Rattle.dvd_read.specs.Frames.{cause_in, fault_at, frame_of, frames_cause, main_data, wanted_word}
+
+-- places 0 to 171 of the first n rows of frame f
+abbrev pub fronts : List (List ℕ) → ℕ → ℕ → List ℕ
+fronts block f n = flat_map (λ q. take 172 (line block (12 * f + q))) (range_with_len 0 n)
+
+-- what a function gives of n + 1 numbers
+flat_map-next : {X : Type 0} (h : ℕ → List X) (n : ℕ) → flat_map h (range_with_len 0 (n + 1)) ≡ flat_map h (range_with_len 0 n) ++ h n
+flat_map-next h n =
+    let more : range_with_len 0 (n + 1) ≡ range_with_len 0 n ++ n ∷ [] =
+    sym (map-id (range_with_len 0 (n + 1))) ∙ map-range_with_len_more (λ k. k) 0 n n (omega arith) ∙ ap (λ l. l ++ n ∷ []) (map-id (range_with_len 0 n)) in
+    ap (flat_map h) more ∙ flat_map-append h (range_with_len 0 n) (n ∷ []) ∙ ap (λ l. flat_map h (range_with_len 0 n) ++ l) (append-nil (h n))
+
+pub fronts-more : (block : List (List ℕ)) (f q : ℕ) → fronts block f (q + 1) ≡ fronts block f q ++ take 172 (line block (12 * f + q))
+fronts-more block f q = flat_map-next (λ q. take 172 (line block (12 * f + q))) q
 
 -- one row more
-pub fronts-next : (block : List (List ℕ)) (i q : ℕ) (old new row : List ℕ) → take (172 * q + 172) new ≡ take (172 * q) old ++ take 172 row
-    → take (172 * q) old ≡ fronts block i q → row ≡ line block (i + q) → take (172 * (q + 1)) new ≡ fronts block i (q + 1)
-unfolding fronts
-fronts-next block i q old new row put front is =
+pub fronts-next : (block : List (List ℕ)) (f q : ℕ) (old new row : List ℕ) → take (172 * q + 172) new ≡ take (172 * q) old ++ take 172 row
+    → take (172 * q) old ≡ fronts block f q → row ≡ line block (12 * f + q) → take (172 * (q + 1)) new ≡ fronts block f (q + 1)
+fronts-next block f q old new row put front is =
     let size : 172 * (q + 1) ≡ 172 * q + 172 = omega arith in
-    rw (size, add-one) (put ∙ ap (λ (l : List ℕ). l ++ take 172 row) front ∙ ap (λ (r : List ℕ). fronts block i q ++ take 172 r) is)
+    rw (size, fronts-more block f q) (put ∙ ap (λ (l : List ℕ). l ++ take 172 row) front ∙ ap (λ (r : List ℕ). fronts block f q ++ take 172 r) is)
 
-pub fronts-none : (block : List (List ℕ)) (i : ℕ) (frame : List ℕ) → take (172 * 0) frame ≡ fronts block i 0
-unfolding fronts
-fronts-none block i frame = refl
-
-pub fronts-all : (block : List (List ℕ)) (f : ℕ) (frame : List ℕ) → length frame ≡ 2064 → take (172 * 12) frame ≡ fronts block (12 * f) 12 → frame ≡ frame_of block f
+pub fronts-all : (block : List (List ℕ)) (f : ℕ) (frame : List ℕ) → length frame ≡ 2064 → take (172 * 12) frame ≡ fronts block f 12 → frame ≡ frame_of block f
 unfolding frame_of
 fronts-all block f frame size front = sym (take_all 2064 frame (omega arith)) ∙ front
 
@@ -38,32 +48,44 @@ fault_by block entry f frame cause is caused =
 
 -- no frame before frame f has a cause
 abbrev pub NoFaultBefore : List (List ℕ) → BlockPlan → ℕ → Type 0
-NoFaultBefore block entry f = frames_cause block entry ≡ first_fault_from block entry f (16 - f)
+NoFaultBefore block entry f = (k : ℕ) → k < f → fault_at block entry k ≡ None
 
-from-suc : (block : List (List ℕ)) (entry : BlockPlan) (f : ℕ) → f < 16
-    → first_fault_from block entry f (16 - f) ≡ option_or (fault_at block entry f) (first_fault_from block entry (f + 1) (16 - (f + 1)))
-unfolding first_fault_from
-from-suc block entry f below =
-    let left : 16 - f ≡ suc (16 - (f + 1)) = omega arith in
-    rw (left, add-one) refl
+-- the first value that a function gives of the numbers from a on
+first_at : {X : Type 0} (h : ℕ → Option X) (a n k : ℕ) (x : X) → a ≤ k → k < a + n → ((i : ℕ) → i < k → h i ≡ None) → h k ≡ Some x
+    → slice_get (filter_map h (range_with_len a n)) 0 ≡ Some x
+first_at h a zero k x from below before here = absurd (omega arith)
+first_at h a (suc n) k x from below before here = elim (cases_eq a k) [
+  | inl same ↦
+      let first : h a ≡ Some x = ap h same ∙ here in
+      rw first refl
+  | inr other ↦ rw (before a (omega arith)) (first_at h (a + 1) n k x (omega arith) (omega arith) before here)
+]
 
-pub fault-next : (block : List (List ℕ)) (entry : BlockPlan) (f : ℕ) (frame : List ℕ) → f < 16 → NoFaultBefore block entry f → frame ≡ frame_of block f
+-- where it gives none, none is first
+first_none : {X : Type 0} (h : ℕ → Option X) (a n : ℕ) → ((i : ℕ) → i < a + n → h i ≡ None) → slice_get (filter_map h (range_with_len a n)) 0 ≡ None
+first_none h a zero none = refl
+first_none h a (suc n) none = rw (none a (omega arith)) (first_none h (a + 1) n (λ i below. none i (omega arith)))
+
+pub fault-next : (block : List (List ℕ)) (entry : BlockPlan) (f : ℕ) (frame : List ℕ) → NoFaultBefore block entry f → frame ≡ frame_of block f
     → frame_cause frame (wanted_word entry f) (rule_for entry.content f) ≡ None → NoFaultBefore block entry (f + 1)
-fault-next block entry f frame below before is right =
-    before ∙ from-suc block entry f below ∙ ap (λ fault. option_or fault (first_fault_from block entry (f + 1) (16 - (f + 1)))) (fault_by block entry f frame None is right)
+fault-next block entry f frame before is right k below = elim (cases_eq k f) [
+  | inl same ↦ ap (fault_at block entry) same ∙ fault_by block entry f frame None is right
+  | inr other ↦ before k (omega arith)
+]
 
 pub fault-here : (block : List (List ℕ)) (entry : BlockPlan) (f : ℕ) (frame : List ℕ) (cause : FrameCause) → f < 16 → NoFaultBefore block entry f → frame ≡ frame_of block f
     → frame_cause frame (wanted_word entry f) (rule_for entry.content f) ≡ Some cause → frames_cause block entry ≡ Some (cause_in f cause)
+unfolding frames_cause
 fault-here block entry f frame cause below before is caused =
-    before ∙ from-suc block entry f below ∙ ap (λ fault. option_or fault (first_fault_from block entry (f + 1) (16 - (f + 1)))) (fault_by block entry f frame (Some cause) is caused)
+    first_at (fault_at block entry) 0 16 f (cause_in f cause) (omega arith) (omega arith) before (fault_by block entry f frame (Some cause) is caused)
 
 pub fault-none : (block : List (List ℕ)) (entry : BlockPlan) → NoFaultBefore block entry 16 → frames_cause block entry ≡ None
-unfolding first_fault_from
-fault-none block entry before = before
+unfolding frames_cause
+fault-none block entry before = first_none (fault_at block entry) 0 16 (λ i below. before i (omega arith))
 
 -- the sectors before frame f are its Main Data
 abbrev pub AreMainsBefore : List (List ℕ) → BlockPlan → List (List ℕ) → ℕ → Type 0
-AreMainsBefore block entry sectors f = (k : ℕ) → k < f → get_or sectors k [] ≡ main_at block entry k
+AreMainsBefore block entry sectors f = (k : ℕ) → k < f → get_or sectors k [] ≡ main_in (frame_of block k) (rule_for entry.content k)
 
 pub mains-next : (block : List (List ℕ)) (entry : BlockPlan) (sectors : List (List ℕ)) (f : ℕ) (frame main : List ℕ) → f < length sectors
     → AreMainsBefore block entry sectors f → frame ≡ frame_of block f → main ≡ main_in frame (rule_for entry.content f)
@@ -71,24 +93,17 @@ pub mains-next : (block : List (List ℕ)) (entry : BlockPlan) (sectors : List (
 mains-next block entry sectors f frame main within before is main_is k below = elim (cases_eq k f) [
   | inl same ↦
       ap (λ (n : ℕ). get_or (set sectors f main) n []) same ∙ get_or-set_same sectors f main [] within
-      ∙ main_is ∙ ap (λ (l : List ℕ). main_in l (rule_for entry.content f)) is ∙ ap (main_at block entry) (sym same)
+      ∙ main_is ∙ ap (λ (l : List ℕ). main_in l (rule_for entry.content f)) is ∙ ap (λ (n : ℕ). main_in (frame_of block n) (rule_for entry.content n)) (sym same)
   | inr other ↦ get_or-set_other sectors f k main [] other ∙ before k (omega arith)
 ]
 
 pub mains-all : (block : List (List ℕ)) (entry : BlockPlan) (sectors : List (List ℕ)) → length sectors ≡ 16 → AreMainsBefore block entry sectors 16
     → sectors ≡ main_data block entry
 unfolding main_data
-mains-all block entry sectors size mains =
-    ext_get_or [] sectors (map (main_at block entry) (range_with_len 0 16)) (size ∙ sym (length-map-range_with_len (main_at block entry) 0 16))
-    (λ k within.
-    let below : k < 16 = omega arith in
-    mains k below ∙ sym (get_or-map-range_with_len (main_at block entry) 0 16 k k [] below (omega arith)))
+mains-all block entry sectors size mains = fill_by_all (λ f. main_in (frame_of block f) (rule_for entry.content f)) sectors 16 [] size mains
 
 -- the cause against the ID and by the rule that were wanted
 pub cause_as : (frame : List ℕ) (want word : ℕ) (rule wanted_rule : Rule) (cause : Option FrameCause) → want ≡ word → rule ≡ wanted_rule
     → frame_cause frame want rule ≡ cause → frame_cause frame word wanted_rule ≡ cause
 cause_as frame want word rule wanted_rule cause same_word same_rule is =
     ap (λ (w : ℕ). frame_cause frame w wanted_rule) (sym same_word) ∙ ap (frame_cause frame want) (sym same_rule) ∙ is
-
-pub fault-past : (block : List (List ℕ)) (entry : BlockPlan) (f : ℕ) → f ≡ 16 → NoFaultBefore block entry f → frames_cause block entry ≡ None
-fault-past block entry f is before = fault-none block entry (subst (NoFaultBefore block entry) is before)

@@ -5,4 +5,5 @@ pub mod Outcomes
 pub mod FoundColumns
 pub mod Differences
 pub mod FrameFaults
+pub mod BlockRead
 pub mod Mastered

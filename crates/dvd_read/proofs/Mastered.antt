@@ -1,9 +1,9 @@
 -- The frames of a block that was made of sixteen data frames are read back from it.
-use Rattle.std.proofs.Common.{◌≡◌, ◌∙◌, ℕ, zero, suc, ◌+◌, ◌-◌, ◌*◌, ◌^◌, ◌<◌, ◌≤◌, min, Bool, true, false, cond, List, [], ◌++◌, length, map, take, drop, replicate, is_none, inl, inr, refl, sym, ap, subst, arith, None}
+use Rattle.std.proofs.Common.{◌≡◌, ◌∙◌, ℕ, zero, suc, ◌+◌, ◌-◌, ◌*◌, ◌^◌, ◌<◌, ◌≤◌, min, Bool, true, false, List, [], ◌++◌, length, map, take, drop, inl, inr, refl, sym, ap, subst, arith, None}
 use Rattle.std.specs.Prelude.{bit_and}
 use Rattle.std.specs.Int.{bit_at}
 use Rattle.std.specs.List.{range_with_len}
-use Rattle.std.specs.Option.{option_map, option_or}
+use Rattle.std.specs.Option.{option_map}
 use Rattle.std.proofs.lemmas.Bool.{cases_lt}
 use Rattle.std.proofs.lemmas.Nat.Bits.{bit_at_and, bit_at_above, bit_at_cat_low, same_from_bits}
 use Rattle.std.proofs.lemmas.List.FromFn.{length-map-range_with_len, get_or-map-range_with_len}
@@ -24,17 +24,13 @@ use Rattle.dvd_frame.specs.declared.scrambling.Rule.{Rule}
 use Rattle.dvd_frame.proofs.ReadBack.{read_back}
 use Rattle.dvd_layout.specs.declared.entry.BlockPlan.{BlockPlan}
 use Rattle.dvd_layout.specs.Place.{HasNumbers, rule_for}
-use Rattle.dvd_read.specs.Frames.{cause_in, fault_at, first_fault_from, frame_of, frames_cause, fronts, main_at, main_data, wanted_word}
-use Rattle.dvd_capture.specs.TwoPass.{answers_of}
+use Rattle.dvd_read.specs.Frames.{cause_in, fault_at, frame_of, frames_cause, main_data, wanted_word}
 use Rattle.dvd_capture.specs.Within.{IsWithin}
 use Rattle.dvd_capture.proofs.Bound.{within_agrees}
-use Rattle.dvd_capture.proofs.Columns.{length-answers_of}
-use Rattle.dvd_read.specs.Causes.{two_pass_cause}
-use Rattle.dvd_read.specs.Found.{block_found}
 use Rattle.dvd_read.specs.Made.{IsMadeOf, IsReceived}
-use Rattle.dvd_read.specs.Reading.{block_cause, block_sectors}
-use Rattle.dvd_read.proofs.FrameFaults.{mains-all}
-use Rattle.dvd_read.proofs.Outcomes.{agrees-no_cause, found-agrees}
+use Rattle.dvd_read.specs.Reading.{block_cause, block_sectors, IsReadAs}
+use Rattle.dvd_read.proofs.BlockRead.{read-determined}
+use Rattle.dvd_read.proofs.FrameFaults.{fault-none, fronts, fronts-more, mains-all}
 
 -- b29 plays no part in the place that an ID names
 place-of_dim : (w : ℕ) → w < 2 ^ 29 → bit_and (1 * 2 ^ 29 + w) 0x0DFFFFFF ≡ bit_and w 0x0DFFFFFF
@@ -91,12 +87,15 @@ row_front block frame f q product holds f_below q_below size =
     ∙ sym (get_or-take 172 (drop (172 * q) frame) p 0 below ∙ get_or-drop (172 * q) frame p 0))
 
 fronts-are : (block : List (List ℕ)) (frame : List ℕ) (f q : ℕ) → IsProduct block → HoldsFrame f frame block → f < 16 → q ≤ 12 → length frame ≡ 2064
-    → fronts block (12 * f) q ≡ take (172 * q) frame
-unfolding fronts
+    → fronts block f q ≡ take (172 * q) frame
 fronts-are block frame f zero product holds f_below most size = refl
 fronts-are block frame f (suc q) product holds f_below most size =
     let more : 172 * suc q ≡ 172 * q + 172 = omega arith in
-    rw (more, take-add, fronts-are block frame f q product holds f_below (omega arith) size, row_front block frame f q product holds f_below (omega arith) size) refl
+    let next : suc q ≡ q + 1 = omega arith in
+    rw (more, take-add)
+    (ap (fronts block f) next ∙ fronts-more block f q
+    ∙ ap (λ l. l ++ take 172 (line block (12 * f + q))) (fronts-are block frame f q product holds f_below (omega arith) size)
+    ∙ ap (λ l. take (172 * q) frame ++ l) (row_front block frame f q product holds f_below (omega arith) size))
 
 -- frame f of a block is the frame that it was made of
 pub frame_of-made : (block : List (List ℕ)) (frame : List ℕ) (f : ℕ) → IsProduct block → HoldsFrame f frame block → f < 16 → length frame ≡ 2064 → frame_of block f ≡ frame
@@ -118,14 +117,9 @@ length-data_frame word cpr main rule cpr_size size =
       length-ied_of word,
     )
 
-first_none : (block : List (List ℕ)) (entry : BlockPlan) (n f : ℕ) → f + n ≡ 16 → ((k : ℕ) → k < 16 → fault_at block entry k ≡ None) → first_fault_from block entry f n ≡ None
-unfolding first_fault_from
-first_none block entry zero f is none = refl
-first_none block entry (suc n) f is none = rw (none f (omega arith)) (first_none block entry n (suc f) (omega arith) none)
-
 frame_fine : (entry : BlockPlan) (dim : Bool) (cpr : List ℕ) (main : ℕ → List ℕ) (frames block : List (List ℕ)) (f : ℕ) → HasNumbers entry
     → IsMadeOf entry dim cpr main frames → IsBlockOf frames block → f < 16
-    → (fault_at block entry f ≡ None) × (main_at block entry f ≡ main f)
+    → (fault_at block entry f ≡ None) × (main_in (frame_of block f) (rule_for entry.content f) ≡ main f)
 frame_fine entry dim cpr main frames block f numbers made is below =
     let word = id_word entry.area entry.layer dim (entry.first + f) in
     let rule = rule_for entry.content f in
@@ -144,7 +138,7 @@ pub made-read : (entry : BlockPlan) (dim : Bool) (cpr : List ℕ) (main : ℕ �
     → IsMadeOf entry dim cpr main frames → IsBlockOf frames block
     → (frames_cause block entry ≡ None) × (main_data block entry ≡ map main (range_with_len 0 16))
 made-read entry dim cpr main frames block numbers made is = (
-  first_none block entry 16 0 (omega arith) (λ k below. (frame_fine entry dim cpr main frames block k numbers made is below).0),
+  fault-none block entry (λ k below. (frame_fine entry dim cpr main frames block k numbers made is below).0),
   sym (mains-all block entry (map main (range_with_len 0 16)) (length-map-range_with_len main 0 16)
       (λ k below. get_or-map-range_with_len main 0 16 k k [] below (omega arith) ∙ sym (frame_fine entry dim cpr main frames block k numbers made is below).1)),
 )
@@ -153,17 +147,13 @@ made-read entry dim cpr main frames block numbers made is = (
 pub within-read : (entry : BlockPlan) (dim : Bool) (cpr : List ℕ) (main : ℕ → List ℕ) (frames block received : List (List ℕ)) (marks : List (List Bool)) → HasNumbers entry
     → IsMadeOf entry dim cpr main frames → IsBlockOf frames block → IsReceived received marks → IsWithin block received marks
     → (block_cause received marks entry ≡ None) × (block_sectors received marks entry ≡ map main (range_with_len 0 16))
-unfolding block_cause block_sectors
 within-read entry dim cpr main frames block received marks numbers made is size within =
-    let agrees = within_agrees block received marks is.product size.widths size.marks_widths within in
-    let answers = answers_of received marks in
-    let answers_size = length-answers_of received marks 208 size.height size.marks_height in
-    let passes : two_pass_cause answers ≡ None = agrees-no_cause answers block answers_size agrees in
-    let found : block_found answers ≡ block = found-agrees answers block answers_size agrees in
-    let read = made-read entry dim cpr main frames block numbers made is in
-    let none : option_or (two_pass_cause answers) (frames_cause (block_found answers) entry) ≡ None =
-    ap (λ cause. option_or cause (frames_cause (block_found answers) entry)) passes ∙ ap (λ (b : List (List ℕ)). frames_cause b entry) found ∙ read.0 in (
-      none,
-      ap (λ cause. cond (is_none cause) (main_data (block_found answers) entry) (replicate 16 (replicate 2048 0))) none
-          ∙ ap (λ (b : List (List ℕ)). main_data b entry) found ∙ read.1,
-    )
+    let back = made-read entry dim cpr main frames block numbers made is in
+    let read : IsReadAs received marks entry (map main (range_with_len 0 16)) = record {
+      block = block;
+      agrees = within_agrees block received marks is.product size.widths size.marks_widths within;
+      right = back.0;
+      main = sym back.1;
+    } in
+    let determined = read-determined received marks entry (map main (range_with_len 0 16)) size.height size.marks_height read in
+    (determined.0, sym determined.1)

@@ -1,5 +1,5 @@
 -- What two passes find and why they refuse: there is no cause exactly where a block agrees with the answers.
-use Rattle.std.proofs.Common.{◌≡◌, ◌∙◌, ℕ, ◌<◌, ◌≤◌, Bool, true, false, if◌then◌else◌, not, nat_lt, List, [], length, map, get_or, slice_index, unwrap_or, All, refl, sym, ap, subst, arith, Some, None, is_none}
+use Rattle.std.proofs.Common.{◌≡◌, ◌∙◌, ℕ, ◌<◌, ◌≤◌, Bool, true, false, if◌then◌else◌, not, nat_lt, List, [], length, map, get_or, position, slice_index, unwrap_or, All, refl, sym, ap, subst, arith, Some, None, is_none}
 use Rattle.std.specs.Option.{option_map, option_or}
 use Rattle.std.specs.declared.option.Option.{Option}
 use Rattle.std.proofs.lemmas.Bool.{lt-ltb}
@@ -14,11 +14,19 @@ use Rattle.rs_decode.proofs.Nearest.{near_of-is_near, codeword-vanishes, vanishi
 use Rattle.dvd_block.specs.Product.{line}
 use Rattle.dvd_capture.specs.TwoPass.{AgreesWith, answer_column, column_answer, failed_of, from_columns}
 use Rattle.dvd_capture.proofs.Columns.{AreNearColumns, agrees-from_columns, column-answered, few_fail, from_columns-line, length-answer_column, length-from_columns, near_columns-agree}
-use Rattle.dvd_read.specs.Causes.{missing_column, two_pass_cause, wrong_row}
+use Rattle.dvd_read.specs.Causes.{two_pass_cause}
 use Rattle.dvd_read.specs.Found.{block_found, columns_of}
 use Rattle.dvd_read.specs.declared.cause.Cause.{Cause}
 use Rattle.dvd_read.specs.declared.cause.Cause.TheVariants.{Rows, Column, Row}
 use Rattle.dvd_read.proofs.Positions.{none_passes, none_fails}
+
+-- the first column without an answer
+abbrev pub missing_column : List (Option (List ℕ)) → Option ℕ
+missing_column answers = position is_none (columns_of answers)
+
+-- the first row of the block found that isn't a codeword
+abbrev pub wrong_row : List (Option (List ℕ)) → Option ℕ
+wrong_row answers = position (λ row. not (vanishes_at_all 10 row)) (block_found answers)
 
 pub length-columns_of : (answers : List (Option (List ℕ))) → length (columns_of answers) ≡ 182
 unfolding columns_of

@@ -9,17 +9,12 @@ use Rattle.dvd_read.specs.Found.{block_found, columns_of}
 use Rattle.dvd_read.specs.declared.cause.Cause.{Cause}
 use Rattle.dvd_read.specs.declared.cause.Cause.TheVariants.{Rows, Column, Row}
 
--- the first column without an answer
-abbrev pub missing_column : List (Option (List ℕ)) → Option ℕ
-missing_column answers = position is_none (columns_of answers)
-
--- the first row of the block found that isn't a codeword
-abbrev pub wrong_row : List (Option (List ℕ)) → Option ℕ
-wrong_row answers = position (λ row. not (vanishes_at_all 10 row)) (block_found answers)
-
--- Too many failed rows, the first column without an answer, or the first wrong row. There is no cause exactly where
--- some block agrees with the answers, and it is the block found.
+-- Too many failed rows, the first column without an answer, or the first row of the block found that isn't a codeword.
+-- There is no cause exactly where some block agrees with the answers, and it is the block found.
 unfoldable pub two_pass_cause : List (Option (List ℕ)) → Option Cause
 two_pass_cause answers =
     if nat_lt 16 (marked (failed_of answers)) then Some (Rows (marked (failed_of answers)))
-    else option_or (option_map Column (missing_column answers)) (option_map Row (wrong_row answers))
+    else
+    option_or
+    (option_map Column (position is_none (columns_of answers)))
+    (option_map Row (position (λ row. not (vanishes_at_all 10 row)) (block_found answers)))

@@ -1,7 +1,7 @@
 -- The sixteen data frames of a block, and why they are refused (ECMA-267, clauses 16 to 18).
-use Rattle.std.specs.Prelude.{ℕ, zero, suc, ◌+◌, ◌*◌, false, List, [], ◌++◌, take, map, None}
-use Rattle.std.specs.List.{range_with_len}
-use Rattle.std.specs.Option.{option_map, option_or}
+use Rattle.std.specs.Prelude.{ℕ, ◌+◌, ◌*◌, false, List, take, map, slice_get}
+use Rattle.std.specs.List.{filter_map, flat_map, range_with_len}
+use Rattle.std.specs.Option.{option_map}
 use Rattle.std.specs.declared.option.Option.{Option}
 use Rattle.dvd_frame.specs.Id.{id_word}
 use Rattle.dvd_frame.specs.Frame.{frame_cause, main_in}
@@ -13,14 +13,9 @@ use Rattle.dvd_layout.specs.Place.{rule_for}
 use Rattle.dvd_read.specs.declared.cause.Cause.{Cause}
 use Rattle.dvd_read.specs.declared.cause.Cause.TheVariants.{Ied, Address, Edc}
 
--- places 0 to 171 of so many rows from row i on, one after the other
-unfoldable pub fronts : List (List ℕ) → ℕ → ℕ → List ℕ
-fronts block i zero = []
-fronts block i (suc n) = fronts block i n ++ take 172 (line block (i + n))
-
--- frame f: twelve rows of 172 bytes
+-- frame f: places 0 to 171 of twelve rows, one after the other
 unfoldable pub frame_of : List (List ℕ) → ℕ → List ℕ
-frame_of block f = fronts block (12 * f) 12
+frame_of block f = flat_map (λ q. take 172 (line block (12 * f + q))) (range_with_len 0 12)
 
 -- the ID word of frame f of a plan's entry; that the disk has two layers is not looked at
 abbrev pub wanted_word : BlockPlan → ℕ → ℕ
@@ -35,19 +30,10 @@ cause_in f frames.Edc = Edc f
 abbrev pub fault_at : List (List ℕ) → BlockPlan → ℕ → Option Cause
 fault_at block entry f = option_map (cause_in f) (frame_cause (frame_of block f) (wanted_word entry f) (rule_for entry.content f))
 
--- the cause of the first of n frames from frame f on that has one
-unfoldable pub first_fault_from : List (List ℕ) → BlockPlan → ℕ → ℕ → Option Cause
-first_fault_from block entry f zero = None
-first_fault_from block entry f (suc n) = option_or (fault_at block entry f) (first_fault_from block entry (suc f) n)
+-- the first of the causes of the sixteen frames
+unfoldable pub frames_cause : List (List ℕ) → BlockPlan → Option Cause
+frames_cause block entry = slice_get (filter_map (fault_at block entry) (range_with_len 0 16)) 0
 
--- the cause of the first of the sixteen frames that has one
-abbrev pub frames_cause : List (List ℕ) → BlockPlan → Option Cause
-frames_cause block entry = first_fault_from block entry 0 16
-
--- the unscrambled Main Data of frame f
-abbrev pub main_at : List (List ℕ) → BlockPlan → ℕ → List ℕ
-main_at block entry f = main_in (frame_of block f) (rule_for entry.content f)
-
--- and of all sixteen
+-- the unscrambled Main Data of the sixteen frames
 unfoldable pub main_data : List (List ℕ) → BlockPlan → List (List ℕ)
-main_data block entry = map (main_at block entry) (range_with_len 0 16)
+main_data block entry = map (λ f. main_in (frame_of block f) (rule_for entry.content f)) (range_with_len 0 16)

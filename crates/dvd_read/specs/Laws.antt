@@ -8,7 +8,7 @@ use Rattle.dvd_layout.specs.declared.entry.BlockPlan.{BlockPlan}
 use Rattle.dvd_layout.specs.Place.{HasNumbers}
 use Rattle.dvd_read.specs.Causes.{two_pass_cause}
 use Rattle.dvd_read.specs.Made.{IsMadeOf, IsReceived}
-use Rattle.dvd_read.specs.Reading.{block_cause, block_in, block_sectors}
+use Rattle.dvd_read.specs.Reading.{block_cause, block_in, block_sectors, IsReadAs}
 
 -- where two passes have no cause, the block found has two-pass agreement
 abbrev pub NoCauseIsTwoPass : Type 0
@@ -21,6 +21,18 @@ abbrev pub TwoPassIsFound : Type 0
 TwoPassIsFound =
     (received : List (List ℕ)) (marks : List (List Bool)) (block : List (List ℕ)) → length received ≡ 208 → length marks ≡ 208
     → IsTwoPass received marks block → (two_pass_cause (answers_of received marks) ≡ None) × (block_in received marks ≡ block)
+
+-- what is read as an entry has no cause, and its sectors are those of the block found
+abbrev pub WhatIsReadIsDetermined : Type 0
+WhatIsReadIsDetermined =
+    (rows : List (List ℕ)) (marks : List (List Bool)) (entry : BlockPlan) (sectors : List (List ℕ)) → length rows ≡ 208 → length marks ≡ 208
+    → IsReadAs rows marks entry sectors → (block_cause rows marks entry ≡ None) × (sectors ≡ block_sectors rows marks entry)
+
+-- and where there is no cause, these sectors are read
+abbrev pub NoCauseIsRead : Type 0
+NoCauseIsRead =
+    (rows : List (List ℕ)) (marks : List (List Bool)) (entry : BlockPlan) → length rows ≡ 208 → length marks ≡ 208
+    → block_cause rows marks entry ≡ None → IsReadAs rows marks entry (block_sectors rows marks entry)
 
 -- Where twice the bad rows plus the lost rows is at most 16 against the block that was recorded of sixteen data frames,
 -- what is read has no cause, and the sectors are the Main Data of these frames.

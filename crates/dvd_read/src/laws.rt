@@ -1,5 +1,5 @@
 //! What holds of every captured block that is read: each function's contract is one law, and its body is empty.
-ghost use Rattle.dvd_read.specs.Laws.{NoCauseIsTwoPass, TwoPassIsFound, WithinIsReadBack};
+ghost use Rattle.dvd_read.specs.Laws.{NoCauseIsRead, NoCauseIsTwoPass, TwoPassIsFound, WhatIsReadIsDetermined, WithinIsReadBack};
 
 /// Where two passes have no cause, the block found has two-pass agreement with what was received.
 pub fn no_cause_is_two_pass()
@@ -9,6 +9,17 @@ pub fn no_cause_is_two_pass()
 /// Where some block has two-pass agreement, there is no cause, and the block found is that block.
 pub fn two_pass_is_found()
     ensures { TwoPassIsFound }
+{}
+
+/// What is read of a block as an entry of a plan is determined by its rows and marks: there is no cause, and the sectors are
+/// those of the block found.
+pub fn what_is_read_is_determined()
+    ensures { WhatIsReadIsDetermined }
+{}
+
+/// A block without a cause is read, and its sectors are those of the block found.
+pub fn no_cause_is_read()
+    ensures { NoCauseIsRead }
 {}
 
 /// Within the bound, what is read of a block has no cause and gives back the sectors that were recorded.

@@ -7,11 +7,13 @@ mod columns; // the second pass: columns of the rows' answers
 mod frames; // the checks of the sixteen data frames
 pub mod laws; // what holds of every captured block that is read
 mod passes; // both passes, and the test of the rows
+mod reading; // a captured block read as an entry of a plan
 mod rows; // the first pass: rows
 
 pub use cause::{Cause, Fixed};
 pub use frames::sectors;
 pub use passes::two_pass;
+pub use reading::read_block;
 
 #[cfg(test)]
 mod tests;

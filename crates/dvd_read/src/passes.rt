@@ -77,10 +77,8 @@ fn find_block(
     answer_rows(received, marks, answers);
     let mut failed = [false; 208];
     mark_failed(answers, &mut failed);
-    match find_columns(answers, &failed, columns) {
-        Ok(()) => Ok(count_failed(&failed)),
-        Err(cause) => Err(cause),
-    }
+    find_columns(answers, &failed, columns)?;
+    Ok(count_failed(&failed))
 }
 
 // Answers the columns and tests the rows of the block that they are.

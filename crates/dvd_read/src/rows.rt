@@ -3,7 +3,7 @@ ghost use Rattle.std.specs.Prelude.{◌≡◌, ℕ, ◌<◌, ◌≤◌, length, 
 ghost use Rattle.rs_decode.specs.Filling.{marked};
 ghost use Rattle.dvd_capture.specs.Answers.{AreAnswers, IsAnswer};
 ghost use Rattle.dvd_capture.specs.Parts.{marks_rows, received_rows};
-ghost use Rattle.dvd_capture.specs.TwoPass.{failed_of};
+ghost use Rattle.dvd_capture.specs.TwoPass.{answers_of, failed_of};
 ghost use Rattle.dvd_read.specs.Found.{answer_word};
 
 use dvd_capture::parts::{AnswerRow, Marks, Received};
@@ -13,7 +13,8 @@ use rs_decode::decode;
 /// Answers all rows.
 pub(crate) fn answer_rows(received: &Received, marks: &Marks, answers: &mut [AnswerRow])
     requires { length answers.old ≡ 208 }
-    ensures { AreAnswers (received_rows received.now) (marks_rows marks.now) answers.new }
+    ensures answers { AreAnswers (received_rows received.now) (marks_rows marks.now) answers.new }
+    ensures words { map answer_word answers.new ≡ answers_of (received_rows received.now) (marks_rows marks.now) }
 {
     let code = Pi::new();
     let mut row_marks = [false; 182];

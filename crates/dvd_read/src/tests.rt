@@ -1,5 +1,5 @@
 //! Worked values from outside the program.
-use crate::{Cause, Fixed, sectors, two_pass};
+use crate::{Cause, Fixed, read_block, sectors, two_pass};
 use dvd_block::Block;
 use dvd_capture::{Stage, Work};
 use dvd_frame::{Area, Id, Rule, make_frame};
@@ -59,6 +59,20 @@ fn decode(work: &mut Work) -> Option<Result<Fixed, Cause>> {
     } else {
         None
     }
+}
+
+// What is read of a block as the first data block, where one was received.
+fn read(work: &mut Work) -> Option<Result<Fixed, Cause>> {
+    if work.stage() == Stage::Fetched {
+        Some(read_block(work, &FIRST))
+    } else {
+        None
+    }
+}
+
+// Whether all bytes of sector `f` are `byte`.
+fn is_sector_of(work: &Work, f: usize, byte: u8) -> bool {
+    f < 16 && work.sector(f).iter().all(|b| *b == byte)
 }
 
 // The checks of the first data block's frames, where both passes fixed it.
@@ -122,17 +136,18 @@ fn a_row_that_is_no_codeword_refuses_the_block(rt: HostRuntime) -> Result<(), Fa
     Ok(())
 }
 
-// The first data block over zeros. `spoiled` changes a main byte of frame 2, and a bit of frame 3's IED is always changed.
-fn spoiled_block(alloc: Global, spoiled: bool) -> Result<Work, Fail> {
+// The first data block, with byte f as the Main Data of frame f. A main byte of frame `edc` is changed, and a bit of the
+// IED of frame `ied`.
+fn data_block(alloc: Global, edc: Option<u32>, ied: Option<u32>) -> Result<Work, Fail> {
     let mut block = Block::new(alloc)?;
     for f in 0..16u32 {
         let id = Id::new(Area::DataZone, 0, false, 0x03_0000 + f);
         let mut frame = [0; 2064];
-        make_frame(id, &[0; 6], Rule::Whole, &[0; 2048], &mut frame);
-        if f == 2 && spoiled {
+        make_frame(id, &[0; 6], Rule::Whole, &[f as u8; 2048], &mut frame);
+        if edc == Some(f) {
             frame[100] ^= 0x01;
         }
-        if f == 3 {
+        if ied == Some(f) {
             frame[5] ^= 0x40;
         }
         block.put_frame(f as usize, &frame);
@@ -149,8 +164,8 @@ fn the_first_frame_with_a_fault_is_named(rt: HostRuntime) -> Result<(), Fail> {
         bytes: 0,
         failed_rows: 0,
     };
-    for (spoiled, cause) in [(true, Cause::Edc { f: 2 }), (false, Cause::Ied { f: 3 })] {
-        let mut work = spoiled_block(rt.alloc(), spoiled)?;
+    for (edc, cause) in [(Some(2), Cause::Edc { f: 2 }), (None, Cause::Ied { f: 3 })] {
+        let mut work = data_block(rt.alloc(), edc, Some(3))?;
         assert_eq!(rt; decode(&mut work), Some(Ok(whole)));
         assert_eq!(rt; check(&mut work), Some(Err(cause)));
         assert!(rt; work.sector(15).iter().all(|byte| *byte == 0));
@@ -164,5 +179,37 @@ fn a_block_of_zeros_names_no_place(rt: HostRuntime) -> Result<(), Fail> {
     assert!(rt; decode(&mut work).is_some());
     let cause = Cause::Address { f: 0, found: 0 };
     assert_eq!(rt; check(&mut work), Some(Err(cause)));
+    Ok(())
+}
+
+#[test]
+fn sectors_are_read_back_or_are_zeros(rt: HostRuntime) -> Result<(), Fail> {
+    let whole = Fixed {
+        bytes: 0,
+        failed_rows: 0,
+    };
+    let mut work = data_block(rt.alloc(), None, None)?;
+    assert_eq!(rt; read(&mut work), Some(Ok(whole)));
+    for f in 0..16u8 {
+        assert!(rt; is_sector_of(&work, usize::from(f), f));
+    }
+
+    // The sectors of the block before are gone after a cause of the frames, and of the two passes.
+    work.load_block(&Block::new(rt.alloc())?);
+    let cause = Cause::Address { f: 0, found: 0 };
+    assert_eq!(rt; read(&mut work), Some(Err(cause)));
+    for f in 0..16usize {
+        assert!(rt; is_sector_of(&work, f, 0));
+    }
+    let mut work = data_block(rt.alloc(), None, None)?;
+    assert_eq!(rt; read(&mut work), Some(Ok(whole)));
+    work.load_block(&Block::new(rt.alloc())?);
+    for t in 0..17usize {
+        lose_row(&mut work, 12 * t);
+    }
+    assert_eq!(rt; read(&mut work), Some(Err(Cause::Rows { failed: 17 })));
+    for f in 0..16usize {
+        assert!(rt; is_sector_of(&work, f, 0));
+    }
     Ok(())
 }

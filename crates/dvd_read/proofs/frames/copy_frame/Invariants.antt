@@ -1,8 +1,8 @@
 use Rattle.std.proofs.Common.{◌≡◌, ◌*◌, length, take}
 use Rattle.dvd_capture.specs.TwoPass.{from_columns}
 use Rattle.dvd_read.specs.Found.{words_of}
-use Rattle.dvd_read.specs.Frames.{fronts}
+use Rattle.dvd_read.proofs.FrameFaults.{fronts}
 use Rattle.dvd_read.proofs.frames.copy_frame.Given as goal
 
 abbrev pub invariant-loop-q : goal.invariant-loop-q
-invariant-loop-q l = record { size : length l.frame ≡ 2064; front : take (172 * l.q) l.frame ≡ fronts (from_columns (words_of l.columns)) (12 * l.f) l.q }
+invariant-loop-q l = record { size : length l.frame ≡ 2064; front : take (172 * l.q) l.frame ≡ fronts (from_columns (words_of l.columns)) l.f l.q }

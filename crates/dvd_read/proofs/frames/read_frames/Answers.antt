@@ -3,7 +3,7 @@ use Rattle.dvd_capture.specs.Parts.{sector_bytes}
 use Rattle.dvd_capture.specs.TwoPass.{from_columns}
 use Rattle.dvd_frame.specs.Frame.{main_in}
 use Rattle.dvd_read.specs.Found.{words_of}
-use Rattle.dvd_read.proofs.FrameFaults.{AreMainsBefore, cause_as, fault-here, fault-next, fault-past, mains-all, mains-next}
+use Rattle.dvd_read.proofs.FrameFaults.{AreMainsBefore, cause_as, fault-here, fault-next, fault-none, mains-all, mains-next}
 use Rattle.dvd_read.proofs.frames.read_frames.Goals as goal
 
 pub returns-in-Err-clause-refused : goal.returns-in-Err-clause-refused
@@ -21,14 +21,14 @@ loop-f-preserved c =
     let size : length sectors ≡ 16 = omega (arith, c.loop-f.sectors.size, c.loop-f.sectors.all.ok.0) in
     let right = cause_as c.copy_frame.new.frame _ _ _ _ None c.id_of.ensures c.rule_of-rule.ensures c.in_default.ensures.right in
     record {
-      right = fault-next block c.args.plan.now f c.copy_frame.new.frame (omega arith) c.loop-f.invariant.right c.copy_frame.ensures right;
+      right = fault-next block c.args.plan.now f c.copy_frame.new.frame c.loop-f.invariant.right c.copy_frame.ensures right;
       mains = subst (λ (l : List (List ℕ)). AreMainsBefore block c.args.plan.now l (f + 1)) (sym c.set.ensures)
           (mains-next block c.args.plan.now sectors f c.copy_frame.new.frame c.read_frame.new.out (omega arith) c.loop-f.invariant.mains c.copy_frame.ensures
           (c.in_default.ensures.main ∙ ap (main_in c.copy_frame.new.frame) c.rule_of-rule.ensures));
     }
 
 pub returns-clause-right : goal.returns-clause-right
-returns-clause-right c = fault-past (from_columns (words_of c.args.columns.now)) c.args.plan.now c.loop-f.f (omega arith) c.loop-f.invariant.right
+returns-clause-right c = fault-none (from_columns (words_of c.args.columns.now)) c.args.plan.now (λ k below. c.loop-f.invariant.right k (omega arith))
 
 pub returns-clause-main : goal.returns-clause-main
 returns-clause-main c =
