@@ -1,0 +1,39 @@
+-- A loop and its closing line.
+use Rattle.std.proofs.Common.{◌≡◌, inl, inr, ℕ, List, [], ◌∷◌, refl, ap, sym, subst, ◌∙◌}
+use Rattle.dvd_loop.specs.Machine.{Closes, Does, IsClosed, IsOutcome, Outcome, Units, ended}
+use Rattle.dvd_loop.specs.Machine.Step.{Tell}
+use Rattle.dvd_loop.specs.Streams.{Counts, HaveCauses, Streams, is_read_fault, is_report_fault, is_write_fault}
+use Rattle.dvd_loop.specs.declared.ends.LoopEnd.{LoopEnd}
+use Rattle.dvd_loop.specs.declared.ends.LoopEnd.TheVariants.{BadMarks, Damaged, Done, Long, NoControl, ReadFault, ReportFault, Short, WriteFault}
+use Rattle.dvd_loop.proofs.StepLemmas.{and_then}
+
+line_takes : (line : List ℕ) (end : LoopEnd) (outcome : Outcome) → Does (Tell line ∷ []) (λ after. after ≡ ended end) outcome → outcome.taken ≡ []
+line_takes line end outcome does = elim does [
+  | inl (front, left, whole, some, is) ↦ ap (λ (o : Outcome). o.taken) is
+  | inr (after, is, taken) ↦ (ap (λ (o : Outcome). o.taken) taken ∙ ap (λ (o : Outcome). o.taken) is)
+]
+
+-- a closing line takes nothing of the input
+pub closes_takes : (closing : LoopEnd → List ℕ) (end : LoopEnd) (outcome : Outcome) → Closes closing end outcome → outcome.taken ≡ []
+closes_takes closing ReportFault outcome is = ap (λ (o : Outcome). o.taken) is
+closes_takes closing Done outcome does = line_takes (closing Done) Done outcome does
+closes_takes closing ReadFault outcome does = line_takes (closing ReadFault) ReadFault outcome does
+closes_takes closing WriteFault outcome does = line_takes (closing WriteFault) WriteFault outcome does
+closes_takes closing (Short k held) outcome does = line_takes (closing (Short k held)) (Short k held) outcome does
+closes_takes closing Long outcome does = line_takes (closing Long) Long outcome does
+closes_takes closing (Damaged bad) outcome does = line_takes (closing (Damaged bad)) (Damaged bad) outcome does
+closes_takes closing NoControl outcome does = line_takes (closing NoControl) NoControl outcome does
+closes_takes closing (BadMarks k at) outcome does = line_takes (closing (BadMarks k at)) (BadMarks k at) outcome does
+
+-- a loop, and its closing line behind it
+pub closed : (closing : LoopEnd → List ℕ) (units : Units) (bytes : List ℕ) (within : LoopEnd) (loop line : Outcome) → IsOutcome units bytes loop → loop.end ≡ within → Closes closing within line → IsClosed closing units bytes within (and_then loop line)
+closed closing units bytes within loop line runs ends closes = record { loop = loop; runs = runs; ends = ends; line = line; closes = closes; all = refl }
+
+-- The counts of a loop and of its closing line: the line's is the report's alone.
+pub causes_closed : (within end : LoopEnd) (old mid new : Streams) → HaveCauses within within old mid → new.source.faults ≡ mid.source.faults → new.output.faults ≡ mid.output.faults
+    → Counts (is_report_fault end) old.report.faults new.report.faults → HaveCauses within end old new
+causes_closed within end old mid new loop source output report = record {
+  source = subst (λ n. Counts (is_read_fault within) old.source.faults n) (sym source) loop.source;
+  output = subst (λ n. Counts (is_write_fault within) old.output.faults n) (sym output) loop.output;
+  report = report;
+}

@@ -1,0 +1,163 @@
+-- The same units and bytes come to one outcome, where no fault comes.
+use Rattle.std.proofs.Common.{◌≡◌, inl, inr, ◌⊎◌, ℕ, zero, suc, ◌+◌, List, [], ◌∷◌, ◌++◌, length, refl, ap, sym, subst, ◌∙◌, append-nil}
+use Rattle.dvd_loop.specs.Laws.{AreDetermined, IsFaultless, IsUnbroken, OutcomesAgree}
+use Rattle.dvd_loop.specs.Machine.{Does, EndsBehind, EndsWithin, Goes, GoesOn, IsTaken, IsUnit, IsWithin, Outcome, Step, Units, bad_of, end_by, ended, taking}
+use Rattle.dvd_loop.specs.Machine.Part.{Whole, Cut, Broken}
+use Rattle.dvd_loop.specs.Turns.{told, written}
+use Rattle.dvd_loop.specs.declared.ends.Behind.{Behind}
+use Rattle.dvd_loop.specs.declared.ends.Behind.TheVariants as behind
+use Rattle.dvd_loop.specs.declared.ends.LoopEnd.TheVariants.{BadMarks, Long, ReadFault, Short}
+use Rattle.dvd_loop.specs.declared.ends.Turn.{Turn}
+use Rattle.dvd_loop.specs.declared.ends.Turn.TheVariants.{Good, Bad, Last}
+use Rattle.dvd_loop.proofs.Faultless.{all_done, faultless_behind, not_by_fault}
+use Rattle.dvd_loop.proofs.Fronts.{same_front, same_left}
+use Rattle.dvd_loop.proofs.StepLemmas.{onto}
+
+-- They are one, but for what was taken of a unit that breaks a rule.
+pub record Agree (a b : Outcome) : Type 0 where
+  pub out : a.out ≡ b.out
+  pub lines : a.lines ≡ b.lines
+  pub end : a.end ≡ b.end
+  pub taken : IsUnbroken a.end → a.taken ≡ b.taken
+
+abbrev AllAgree : (Outcome → Type 0) → (Outcome → Type 0) → Type 0
+AllAgree A B = (a b : Outcome) → A a → B b → IsFaultless a.end → IsFaultless b.end → Agree a b
+
+same_agree : (a b : Outcome) → a ≡ b → Agree a b
+same_agree a b is = record {
+  out = ap (λ (o : Outcome). o.out) is;
+  lines = ap (λ (o : Outcome). o.lines) is;
+  end = ap (λ (o : Outcome). o.end) is;
+  taken = λ not. ap (λ (o : Outcome). o.taken) is;
+}
+
+-- outcomes that agree do so behind the same bytes and steps
+onto_agree : (own w t : List ℕ) (a b : Outcome) → Agree a b → Agree (onto own w t a) (onto own w t b)
+onto_agree own w t a b agree = record {
+  out = ap (λ l. w ++ l) agree.out;
+  lines = ap (λ l. t ++ l) agree.lines;
+  end = agree.end;
+  taken = λ not. ap (λ l. own ++ l) (agree.taken not);
+}
+
+agree_as : (a b x y : Outcome) → a ≡ x → b ≡ y → Agree x y → Agree a b
+agree_as a b x y p q agree = subst (λ o. Agree o b) (sym p) (subst (Agree x) (sym q) agree)
+
+steps_agree : (steps : List Step) (A B : Outcome → Type 0) → AllAgree A B → AllAgree (Does steps A) (Does steps B)
+steps_agree steps A B agree a b does others p q =
+    let x = all_done steps A a does p in
+    let y = all_done steps B b others q in
+    agree_as a b _ _ x.is y.is (onto_agree [] (written steps) (told steps) x.after y.after (agree x.after y.after x.holds y.holds (faultless_behind steps A a x p) (faultless_behind steps B b y q)))
+
+turns_agree : (turn : Turn) (A : Outcome → Type 0) → AllAgree A A → AllAgree (GoesOn turn A) (GoesOn turn A)
+turns_agree Good A agree = agree
+turns_agree Bad A agree = agree
+turns_agree Last A agree = λ a b p q none other. same_agree a b (p ∙ sym q)
+
+by_no_fault : (x a b : Outcome) → (a ≡ x) ⊎ (a ≡ ended ReadFault) → (b ≡ x) ⊎ (b ≡ ended ReadFault) → IsFaultless a.end → IsFaultless b.end → Agree a b
+by_no_fault x a b p q none other = elim p [
+  | inr fault ↦ absurd (not_by_fault a _ fault (λ f. f) none)
+  | inl is ↦ elim q [
+    | inr fault ↦ absurd (not_by_fault b _ fault (λ f. f) other)
+    | inl same ↦ same_agree a b (is ∙ sym same)
+  ]
+]
+
+behind_agree : (stands : Behind) (bad : ℕ) (left : List ℕ) → AllAgree (EndsBehind stands bad left) (EndsBehind stands bad left)
+behind_agree behind.Done bad left a b p q none other = same_agree a b (p ∙ sym q)
+behind_agree behind.NoControl bad left a b p q none other = same_agree a b (p ∙ sym q)
+behind_agree behind.Asks bad [] a b p q none other = by_no_fault (ended (end_by bad)) a b p q none other
+behind_agree behind.Asks bad (byte ∷ left) a b p q none other = by_no_fault (taking (byte ∷ []) (ended Long)) a b p q none other
+
+module _ (units : Units) (det : AreDetermined units) where
+  -- how all of the bytes begin, where the loop ends within a unit
+  abbrev EndsAs : ℕ → List ℕ → Outcome → Type 0
+  EndsAs k bytes outcome =
+      ((units.begins k bytes ≡ Cut) × (outcome ≡ taking bytes (ended (Short k (length bytes)))))
+      ⊎ ((at : ℕ) × (own : List ℕ) × (units.begins k bytes ≡ Broken at) × (outcome ≡ taking own (ended (BadMarks k at))))
+
+  ends_as : (k : ℕ) (bytes : List ℕ) (outcome : Outcome) → IsWithin units k bytes outcome → IsFaultless outcome.end → EndsAs k bytes outcome
+  ends_as k bytes outcome w none =
+      elim (units.begins k w.own) as (λ part. units.begins k w.own ≡ part → EndsWithin part k (length w.own) w.left outcome.end → EndsAs k bytes outcome) [
+        | Whole size ↦ λ begins ends. absurd ends
+        | Cut ↦ λ begins ends. elim ends [
+          | inr fault ↦ absurd (subst IsFaultless fault none)
+          | inl (short, all) ↦
+              let whole : w.own ≡ bytes = sym (w.front ∙ ap (λ l. w.own ++ l) all ∙ append-nil w.own) in
+              inl (subst (λ l. units.begins k l ≡ Cut) whole begins, w.takes ∙ ap (λ e. taking w.own (ended e)) short ∙ ap (λ l. taking l (ended (Short k (length l)))) whole)
+        ]
+        | Broken at ↦ λ begins ends. elim ends [
+          | inr fault ↦ absurd (subst IsFaultless fault none)
+          | inl marks ↦ inr (at, w.own, subst (λ l. units.begins k l ≡ Broken at) (sym w.front) (det.broken k at w.own w.left begins), w.takes ∙ ap (λ e. taking w.own (ended e)) marks)
+        ]
+      ] refl w.ends
+
+  within_agree : (k : ℕ) (bytes : List ℕ) → AllAgree (IsWithin units k bytes) (IsWithin units k bytes)
+  within_agree k bytes a b w v none other =
+      elim (ends_as k bytes a w none) [
+        | inl (cut, is) ↦ elim (ends_as k bytes b v other) [
+          | inl (same, so) ↦ same_agree a b (is ∙ sym so)
+          | inr (at, own, broken, so) ↦ absurd (let no : Cut ≡ Broken at = sym cut ∙ broken in cc)
+        ]
+        | inr (at, own, broken, is) ↦ elim (ends_as k bytes b v other) [
+          | inl (cut, so) ↦ absurd (let no : Cut ≡ Broken at = sym cut ∙ broken in cc)
+          | inr (place, held, same, so) ↦ agree_as a b _ _ is so (record {
+            out = refl;
+            lines = refl;
+            end = ap (λ n. BadMarks k n) (let is : Broken at ≡ Broken place = sym broken ∙ same in cc);
+            taken = λ not. absurd not;
+          })
+        ]
+      ]
+
+  whole_unit : (k : ℕ) (bytes own left : List ℕ) → bytes ≡ own ++ left → units.begins k own ≡ Whole (length own) → units.begins k bytes ≡ Whole (length own)
+  whole_unit k bytes own left front whole = subst (λ l. units.begins k l ≡ Whole (length own)) (sym front) (det.whole k own left whole)
+
+  not_both : {A : Type 0} (k : ℕ) (bytes own left : List ℕ) (a : Outcome) → IsWithin units k bytes a → IsFaultless a.end
+      → bytes ≡ own ++ left → units.begins k own ≡ Whole (length own) → A
+  not_both k bytes own left a w none front whole =
+      let all = whole_unit k bytes own left front whole in
+      elim (ends_as k bytes a w none) [
+        | inl (cut, is) ↦ absurd (let no : Cut ≡ Whole (length own) = sym cut ∙ all in cc)
+        | inr (at, held, broken, is) ↦ absurd (let no : Broken at ≡ Whole (length own) = sym broken ∙ all in cc)
+      ]
+
+  -- one unit alone is taken, and one thing done for it
+  taken_agree : (before : List (List ℕ)) (After : List ℕ → List ℕ → Turn → Outcome → Type 0)
+      → ((own left : List ℕ) (turn : Turn) → AllAgree (After own left turn) (After own left turn))
+      → (bytes : List ℕ) → AllAgree (IsTaken units before After bytes) (IsTaken units before After bytes)
+  taken_agree before After agree bytes a b t s none other =
+      let whole = whole_unit (length before) bytes t.own t.left t.front t.unit.whole in
+      let so = whole_unit (length before) bytes s.own s.left s.front s.unit.whole in
+      let same : length t.own ≡ length s.own = (let is : Whole (length t.own) ≡ Whole (length s.own) = sym whole ∙ so in cc) in
+      let own = same_front t.own s.own t.left s.left (sym t.front ∙ s.front) same in
+      let left = same_left t.own s.own t.left s.left (sym t.front ∙ s.front) own in
+      let does = det.does before t.own t.steps s.steps t.turn s.turn t.unit (subst (λ l. IsUnit units before l s.steps s.turn) (sym own) s.unit) in
+      let others : Does t.steps (After t.own t.left t.turn) s.after =
+      subst (λ l. Does t.steps (After l t.left t.turn) s.after) (sym own) (subst (λ l. Does t.steps (After s.own l t.turn) s.after) (sym left)
+      (subst (λ u. Does t.steps (After s.own s.left u) s.after) (sym does.1) (subst (λ l. Does l (After s.own s.left s.turn) s.after) (sym does.0) s.does))) in
+      agree_as a b _ _ t.takes (s.takes ∙ ap (λ l. taking l s.after) (sym own)) (onto_agree t.own [] [] t.after s.after
+      (steps_agree t.steps (After t.own t.left t.turn) (After t.own t.left t.turn) (agree t.own t.left t.turn) t.after s.after t.does others
+      (subst (λ (o : Outcome). IsFaultless o.end) t.takes none) (subst (λ (o : Outcome). IsFaultless o.end) s.takes other)))
+
+  goes_agree : (n : ℕ) (before : List (List ℕ)) (bad : ℕ) (bytes : List ℕ) → AllAgree (Goes units n before bad bytes) (Goes units n before bad bytes)
+  unfolding Goes
+  goes_agree zero before bad bytes a b (steps, closes, does) (others, closing, rest) none other =
+      steps_agree steps (EndsBehind units.behind bad bytes) (EndsBehind units.behind bad bytes) (behind_agree units.behind bad bytes) a b does
+      (subst (λ l. Does l (EndsBehind units.behind bad bytes) b) (sym (det.closes before steps others closes closing)) rest) none other
+  goes_agree (suc n) before bad bytes a b goes others none other = elim goes [
+    | inl w ↦ elim others [
+      | inl v ↦ within_agree (length before) bytes a b w v none other
+      | inr s ↦ not_both (length before) bytes s.own s.left a w none s.front s.unit.whole
+    ]
+    | inr t ↦ elim others [
+      | inl v ↦ not_both (length before) bytes t.own t.left b v other t.front t.unit.whole
+      | inr s ↦ taken_agree before (λ own left turn. GoesOn turn (Goes units n (before ++ own ∷ []) (bad + bad_of turn) left))
+          (λ own left turn. turns_agree turn (Goes units n (before ++ own ∷ []) (bad + bad_of turn) left) (goes_agree n (before ++ own ∷ []) (bad + bad_of turn) left)) bytes a b t s none other
+    ]
+  ]
+
+pub agrees : (units : Units) → OutcomesAgree units
+agrees units det bytes a b p q none other =
+    let same = steps_agree units.opens (Goes units units.count [] 0 bytes) (Goes units units.count [] 0 bytes) (goes_agree units det units.count [] 0 bytes) a b p q none other in
+    (same.out, same.lines, same.end, same.taken)

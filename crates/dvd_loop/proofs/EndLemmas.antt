@@ -1,0 +1,140 @@
+-- What stands behind the last unit, as a loop comes to it.
+use Rattle.std.proofs.Common.{◌≡◌, ◌≢◌, inl, inr, ℕ, ◌<◌, List, [], ◌∷◌, ◌++◌, length, refl, ap, sym, subst, append-nil, arith}
+use Rattle.std.specs.Io.KnownBytes.{Appends, Consumes, IsAtEnd}
+use Rattle.dvd_ports.specs.Seen.{Seen}
+use Rattle.dvd_ports.specs.Whole.{AppendsPrefix}
+use Rattle.dvd_ports.proofs.KnownLemmas.{Appends-none}
+use Rattle.dvd_loop.specs.Machine.{Closes, Does, EndsBehind, Outcome, end_by, ended, stepping, taking}
+use Rattle.dvd_loop.specs.Machine.Step.{Tell}
+use Rattle.dvd_loop.specs.Streams.{Comes, Counts, IsTold, Streams, is_report_fault, streams}
+use Rattle.dvd_loop.specs.declared.ends.Behind.{Behind}
+use Rattle.dvd_loop.specs.declared.ends.Behind.TheVariants.{Asks}
+use Rattle.dvd_loop.specs.declared.ends.LoopEnd.{LoopEnd}
+use Rattle.dvd_loop.specs.declared.ends.LoopEnd.TheVariants.{BadMarks, Damaged, Done, Long, NoControl, ReadFault, ReportFault, Short, WriteFault}
+use Rattle.dvd_loop.proofs.StreamLemmas.{Consumes-none, left_of, none_left, stays, told_before}
+
+pub empty : (xs : List ℕ) → length xs ≡ 0 → xs ≡ []
+empty [] is = refl
+empty (x ∷ xs) is = absurd (omega arith)
+
+-- nothing is asked for
+pub not_asked : (behind : Behind) (bad : ℕ) (old : Streams) (end : LoopEnd) → ((left : List ℕ) → EndsBehind behind bad left (ended end)) → Comes (EndsBehind behind bad) old old end
+not_asked behind bad old end ends = record {
+  bytes = (left_of old.source.bytes).0;
+  told = (left_of old.source.bytes).1;
+  outcome = ended end;
+  holds = ends (left_of old.source.bytes).0;
+  ends = refl;
+  moved = stays old;
+}
+
+module _ (bad : ℕ) (source new_source output report : Seen) (own : List ℕ) (reads : Consumes source.bytes new_source.bytes own) where
+  -- the input has ended
+  pub asked_end : (end : LoopEnd) → length own ≡ 0 → IsAtEnd new_source.bytes → end ≡ end_by bad → Comes (EndsBehind Asks bad) (streams source output report) (streams new_source output report) end
+  asked_end end none at_end is =
+      let nothing = empty own none in record {
+        bytes = [];
+        told = subst (λ l. IsTold source.bytes (l ++ [])) nothing (told_before source.bytes new_source.bytes own [] reads (none_left new_source.bytes at_end));
+        outcome = ended end;
+        holds = inl (ap ended is);
+        ends = refl;
+        moved = record { reads = subst (Consumes source.bytes new_source.bytes) nothing reads; writes = Appends-none output.bytes; tells = Appends-none report.bytes };
+      }
+
+  one : (xs : List ℕ) → length xs ≡ 1 → (x : ℕ) × (xs ≡ x ∷ [])
+  one [] is = absurd (omega arith)
+  one (x ∷ []) is = (x, refl)
+  one (x ∷ y ∷ xs) is = absurd (omega arith)
+
+  -- one byte more came
+  pub asked_long : length own ≡ 1 → Comes (EndsBehind Asks bad) (streams source output report) (streams new_source output report) Long
+  asked_long is =
+      let byte = one own is in
+      let left = left_of new_source.bytes in record {
+        bytes = byte.0 ∷ left.0;
+        told = subst (λ l. IsTold source.bytes (l ++ left.0)) byte.1 (told_before source.bytes new_source.bytes own left.0 reads left.1);
+        outcome = taking (byte.0 ∷ []) (ended Long);
+        holds = inl refl;
+        ends = refl;
+        moved = record { reads = subst (Consumes source.bytes new_source.bytes) byte.1 reads; writes = Appends-none output.bytes; tells = Appends-none report.bytes };
+      }
+
+  by_fault : (left : List ℕ) → EndsBehind Asks bad left (ended ReadFault)
+  by_fault [] = inr refl
+  by_fault (byte ∷ left) = inr refl
+
+  -- the read failed
+  pub asked_fault : length own < 1 → Comes (EndsBehind Asks bad) (streams source output report) (streams new_source output report) ReadFault
+  asked_fault few =
+      let nothing = empty own (omega arith) in
+      let left = left_of new_source.bytes in record {
+        bytes = left.0;
+        told = subst (λ l. IsTold source.bytes (l ++ left.0)) nothing (told_before source.bytes new_source.bytes own left.0 reads left.1);
+        outcome = ended ReadFault;
+        holds = by_fault left.0;
+        ends = refl;
+        moved = record { reads = subst (Consumes source.bytes new_source.bytes) nothing reads; writes = Appends-none output.bytes; tells = Appends-none report.bytes };
+      }
+
+-- the closing line of an end that isn't a fault of the report
+closes_as : (closing : LoopEnd → List ℕ) (end : LoopEnd) (outcome : Outcome) → end ≢ ReportFault → Does (Tell (closing end) ∷ []) (λ after. after ≡ ended end) outcome → Closes closing end outcome
+closes_as closing ReportFault outcome not does = absurd (not refl)
+closes_as closing Done outcome not does = does
+closes_as closing ReadFault outcome not does = does
+closes_as closing WriteFault outcome not does = does
+closes_as closing (Short unit held) outcome not does = does
+closes_as closing Long outcome not does = does
+closes_as closing (Damaged bad) outcome not does = does
+closes_as closing NoControl outcome not does = does
+closes_as closing (BadMarks unit at) outcome not does = does
+
+pub not_report : (end : LoopEnd) → end ≢ ReportFault → (old new : ℕ) → new ≡ old → Counts (is_report_fault end) old new
+not_report ReportFault not old new same = absurd (not refl)
+not_report Done not old new same = same
+not_report ReadFault not old new same = same
+not_report WriteFault not old new same = same
+not_report (Short unit held) not old new same = same
+not_report Long not old new same = same
+not_report (Damaged bad) not old new same = same
+not_report NoControl not old new same = same
+not_report (BadMarks unit at) not old new same = same
+
+-- none is tried
+pub closed_none : (closing : LoopEnd → List ℕ) (old : Streams) → Comes (λ bytes. Closes closing ReportFault) old old ReportFault
+closed_none closing old = record {
+  bytes = (left_of old.source.bytes).0;
+  told = (left_of old.source.bytes).1;
+  outcome = ended ReportFault;
+  holds = refl;
+  ends = refl;
+  moved = stays old;
+}
+
+module _ (closing : LoopEnd → List ℕ) (end : LoopEnd) (not : end ≢ ReportFault) (source output report new_report : Seen) where
+  pub closed_line : Appends report.bytes new_report.bytes (closing end) → Comes (λ bytes. Closes closing end) (streams source output report) (streams source output new_report) end
+  closed_line tells = record {
+    bytes = (left_of source.bytes).0;
+    told = (left_of source.bytes).1;
+    outcome = stepping (Tell (closing end)) (ended end);
+    holds = closes_as closing end _ not (inr (ended end, refl, refl));
+    ends = refl;
+    moved = record {
+      reads = Consumes-none source.bytes;
+      writes = Appends-none output.bytes;
+      tells = subst (Appends report.bytes new_report.bytes) (sym (append-nil (closing end))) tells;
+    };
+  }
+
+  pub closed_fault : AppendsPrefix report.bytes new_report.bytes (closing end) → Comes (λ bytes. Closes closing end) (streams source output report) (streams source output new_report) ReportFault
+  closed_fault begun = record {
+    bytes = (left_of source.bytes).0;
+    told = (left_of source.bytes).1;
+    outcome = stepping (Tell begun.taken) (ended ReportFault);
+    holds = closes_as closing end _ not (inl (begun.taken, begun.rest, sym begun.whole, begun.more, refl));
+    ends = refl;
+    moved = record {
+      reads = Consumes-none source.bytes;
+      writes = Appends-none output.bytes;
+      tells = subst (Appends report.bytes new_report.bytes) (sym (append-nil begun.taken)) begun.grows;
+    };
+  }

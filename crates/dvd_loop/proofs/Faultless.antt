@@ -1,0 +1,70 @@
+-- What is done where no fault comes: all of the steps, and then what stands behind them.
+use Rattle.std.proofs.Common.{◌≡◌, inl, inr, List, [], ◌∷◌, ◌++◌, refl, ap, sym, subst, ◌∙◌, append_assoc}
+use Rattle.dvd_loop.specs.Laws.{IsFaultless}
+use Rattle.dvd_loop.specs.Machine.{Does, Fails, Outcome, Step, stepping}
+use Rattle.dvd_loop.specs.Machine.Step.{Write, Tell}
+use Rattle.dvd_loop.specs.Turns.{told, written}
+use Rattle.dvd_loop.specs.declared.ends.LoopEnd.{LoopEnd}
+use Rattle.dvd_loop.specs.declared.ends.LoopEnd.TheVariants.{BadMarks, Damaged, Done, Long, NoControl, ReadFault, ReportFault, Short, WriteFault}
+use Rattle.dvd_loop.proofs.StepLemmas.{onto}
+
+-- an outcome that ends with a fault isn't without one
+pub not_by_fault : (a b : Outcome) → a ≡ b → (IsFaultless b.end → ⊥) → IsFaultless a.end → ⊥
+not_by_fault a b is fault none = fault (subst (λ (o : Outcome). IsFaultless o.end) is none)
+
+-- no step failed
+abbrev pub IsNoStepFault : LoopEnd → Type 0
+IsNoStepFault WriteFault = ⊥
+IsNoStepFault ReportFault = ⊥
+IsNoStepFault end = Unit {0}
+
+no_step_fault : (end : LoopEnd) → IsFaultless end → IsNoStepFault end
+no_step_fault Done none = tt
+no_step_fault ReadFault none = absurd none
+no_step_fault WriteFault none = absurd none
+no_step_fault ReportFault none = absurd none
+no_step_fault (Short unit held) none = tt
+no_step_fault Long none = tt
+no_step_fault (Damaged bad) none = tt
+no_step_fault NoControl none = tt
+no_step_fault (BadMarks unit at) none = tt
+
+-- what is behind steps that were all taken
+pub record AllDone (steps : List Step) (After : Outcome → Type 0) (outcome : Outcome) : Type 0 where
+  pub after : Outcome
+  pub holds : After after
+  pub is : outcome ≡ onto [] (written steps) (told steps) after
+
+done_first : (step : Step) (steps : List Step) (After : Outcome → Type 0) (outcome after : Outcome) → outcome ≡ stepping step after
+    → AllDone steps After after → AllDone (step ∷ steps) After outcome
+done_first (Write bytes) steps After outcome after is rest = record {
+  after = rest.after;
+  holds = rest.holds;
+  is = is ∙ ap (stepping (Write bytes)) rest.is ∙ ap (λ l. record rest.after { out = l; lines = told steps ++ rest.after.lines }) (sym (append_assoc bytes (written steps) rest.after.out));
+}
+done_first (Tell line) steps After outcome after is rest = record {
+  after = rest.after;
+  holds = rest.holds;
+  is = is ∙ ap (stepping (Tell line)) rest.is ∙ ap (λ l. record rest.after { out = written steps ++ rest.after.out; lines = l }) (sym (append_assoc line (told steps) rest.after.lines));
+}
+
+failed_step : (step : Step) (outcome : Outcome) → Fails step outcome → IsNoStepFault outcome.end → ⊥
+failed_step (Write bytes) outcome (front, left, whole, some, fails) none = subst (λ (o : Outcome). IsNoStepFault o.end) fails none
+failed_step (Tell line) outcome (front, left, whole, some, fails) none = subst (λ (o : Outcome). IsNoStepFault o.end) fails none
+
+same_end : (step : Step) (after : Outcome) → (stepping step after).end ≡ after.end
+same_end (Write bytes) after = refl
+same_end (Tell line) after = refl
+
+pub all_done_but : (steps : List Step) (After : Outcome → Type 0) (outcome : Outcome) → Does steps After outcome → IsNoStepFault outcome.end → AllDone steps After outcome
+all_done_but [] After outcome does none = record { after = outcome; holds = does; is = refl }
+all_done_but (step ∷ steps) After outcome does none = elim does [
+  | inl fails ↦ absurd (failed_step step outcome fails none)
+  | inr (after, does, is) ↦ done_first step steps After outcome after is (all_done_but steps After after does (subst IsNoStepFault (ap (λ (o : Outcome). o.end) is ∙ same_end step after) none))
+]
+
+pub all_done : (steps : List Step) (After : Outcome → Type 0) (outcome : Outcome) → Does steps After outcome → IsFaultless outcome.end → AllDone steps After outcome
+all_done steps After outcome does none = all_done_but steps After outcome does (no_step_fault outcome.end none)
+
+pub faultless_behind : (steps : List Step) (After : Outcome → Type 0) (outcome : Outcome) (done : AllDone steps After outcome) → IsFaultless outcome.end → IsFaultless done.after.end
+faultless_behind steps After outcome done none = subst (λ (o : Outcome). IsFaultless o.end) done.is none

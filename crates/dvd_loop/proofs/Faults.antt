@@ -1,0 +1,286 @@
+-- What a fault leaves: after a failed read what the end of the input there would leave, and after any fault fronts.
+use Rattle.std.proofs.Common.{◌≡◌, inl, inr, ℕ, zero, suc, ◌+◌, List, [], ◌∷◌, ◌++◌, length, refl, ap, sym, subst, ◌∙◌, append_assoc, append-nil, arith}
+use Rattle.dvd_loop.specs.Laws.{AreTotal, FaultsLeaveFronts, IsFaultless, IsFrontOf, ReadFaultEndsInput}
+use Rattle.dvd_loop.specs.Machine.{Does, EndsBehind, EndsWithin, Fails, Goes, GoesOn, IsWithin, Outcome, Part, Step, Units, bad_of, end_by, ended, stepping, taking}
+use Rattle.dvd_loop.specs.Machine.Part.{Whole, Cut, Broken}
+use Rattle.dvd_loop.specs.Machine.Step.{Write, Tell}
+use Rattle.dvd_loop.specs.Turns.{told, written}
+use Rattle.dvd_loop.specs.declared.ends.Behind.{Behind}
+use Rattle.dvd_loop.specs.declared.ends.Behind.TheVariants as behind
+use Rattle.dvd_loop.specs.declared.ends.LoopEnd.{LoopEnd}
+use Rattle.dvd_loop.specs.declared.ends.LoopEnd.TheVariants.{BadMarks, Done, Long, NoControl, ReadFault, ReportFault, Short, WriteFault}
+use Rattle.dvd_loop.specs.declared.ends.Turn.{Turn}
+use Rattle.dvd_loop.specs.declared.ends.Turn.TheVariants.{Good, Bad, Last}
+use Rattle.dvd_loop.proofs.Faultless.{IsNoStepFault, all_done_but}
+use Rattle.dvd_loop.proofs.StepLemmas.{does_all, onto}
+use Rattle.dvd_loop.proofs.Totality.{Exists, all_exist, behind_exists, end_by_none, goes_exist, one_fewer, steps_exist, turns_exist}
+
+-- the outcome of what was taken alone, without the failed read
+pub record EndsThere (A : List ℕ → Outcome → Type 0) (a : Outcome) : Type 0 where
+  pub outcome : Outcome
+  pub holds : A a.taken outcome
+  pub faultless : IsFaultless outcome.end
+  pub taken : outcome.taken ≡ a.taken
+  pub out : outcome.out ≡ a.out
+  pub lines : outcome.lines ≡ a.lines
+
+-- a failed read leaves so much
+abbrev LeaveThat : (List ℕ → Outcome → Type 0) → List ℕ → Type 0
+LeaveThat A bytes = (a : Outcome) → A bytes a → a.end ≡ ReadFault → EndsThere A a
+
+there_as : (A : List ℕ → Outcome → Type 0) (a x : Outcome) → a ≡ x → EndsThere A x → EndsThere A a
+there_as A a x is there = subst (EndsThere A) (sym is) there
+
+steps_there : (steps : List Step) (A : List ℕ → Outcome → Type 0) (bytes : List ℕ) → LeaveThat A bytes → LeaveThat (λ l. Does steps (A l)) bytes
+steps_there steps A bytes leaves a does fault =
+    let done = all_done_but steps (A bytes) a does (subst IsNoStepFault (sym fault) tt) in
+    let there = leaves done.after done.holds (sym (ap (λ (o : Outcome). o.end) done.is) ∙ fault) in
+    there_as (λ l. Does steps (A l)) a (onto [] (written steps) (told steps) done.after) done.is (record {
+      outcome = onto [] (written steps) (told steps) there.outcome;
+      holds = does_all steps (A done.after.taken) there.outcome there.holds;
+      faultless = there.faultless;
+      taken = there.taken;
+      out = ap (λ l. written steps ++ l) there.out;
+      lines = ap (λ l. told steps ++ l) there.lines;
+    })
+
+turns_there : (turn : Turn) (A : List ℕ → Outcome → Type 0) (bytes : List ℕ) → LeaveThat A bytes → LeaveThat (λ l. GoesOn turn (A l)) bytes
+turns_there Good A bytes leaves a goes fault = leaves a goes fault
+turns_there Bad A bytes leaves a goes fault = leaves a goes fault
+turns_there Last A bytes leaves a is fault = absurd (let no : Done ≡ ReadFault = sym (ap (λ (o : Outcome). o.end) is) ∙ fault in cc)
+
+-- the failed read of one byte more
+no_byte : (bad : ℕ) → EndsThere (EndsBehind behind.Asks bad) (ended ReadFault)
+no_byte bad = record {
+  outcome = ended (end_by bad);
+  holds = inl refl;
+  faultless = end_by_none bad;
+  taken = refl;
+  out = refl;
+  lines = refl;
+}
+
+end_by_not : (bad : ℕ) → end_by bad ≡ ReadFault → ⊥
+end_by_not zero is = cc
+end_by_not (suc bad) is = cc
+
+behind_there : (stands : Behind) (bad : ℕ) (bytes : List ℕ) → LeaveThat (EndsBehind stands bad) bytes
+behind_there behind.Done bad bytes a is fault = absurd (let no : Done ≡ ReadFault = sym (ap (λ (o : Outcome). o.end) is) ∙ fault in cc)
+behind_there behind.NoControl bad bytes a is fault = absurd (let no : NoControl ≡ ReadFault = sym (ap (λ (o : Outcome). o.end) is) ∙ fault in cc)
+behind_there behind.Asks bad [] a ends fault = elim ends [
+  | inl is ↦ absurd (end_by_not bad (sym (ap (λ (o : Outcome). o.end) is) ∙ fault))
+  | inr is ↦ there_as (EndsBehind behind.Asks bad) a (ended ReadFault) is (no_byte bad)
+]
+behind_there behind.Asks bad (byte ∷ left) a ends fault = elim ends [
+  | inl is ↦ absurd (let no : Long ≡ ReadFault = sym (ap (λ (o : Outcome). o.end) is) ∙ fault in cc)
+  | inr is ↦ there_as (EndsBehind behind.Asks bad) a (ended ReadFault) is (no_byte bad)
+]
+
+module _ (units : Units) where
+  within_there : (k : ℕ) (bytes : List ℕ) → LeaveThat (IsWithin units k) bytes
+  within_there k bytes a w fault =
+      let P = IsWithin units k in
+      let there : (end : LoopEnd) → EndsWithin (units.begins k w.own) k (length w.own) [] end → IsFaultless end → EndsThere P a =
+      λ end ends none. there_as P a (taking w.own (ended a.end)) w.takes (record {
+        outcome = taking w.own (ended end);
+        holds = record { own = w.own; left = []; front = refl; ends = ends; takes = refl };
+        faultless = none;
+        taken = refl;
+        out = refl;
+        lines = refl;
+      }) in
+      let Ends : Part → List ℕ → LoopEnd → Type 0 = λ part left end. EndsWithin part k (length w.own) left end in
+      elim (units.begins k w.own) as (λ part. Ends part w.left a.end → ((end : LoopEnd) → Ends part [] end → IsFaultless end → EndsThere P a) → EndsThere P a) [
+        | Whole size ↦ λ ends by. absurd ends
+        | Cut ↦ λ ends by. by (Short k (length w.own)) (inl (refl, refl)) tt
+        | Broken at ↦ λ ends by. by (BadMarks k at) (inl refl) tt
+      ] w.ends there
+
+  goes_there : (n : ℕ) (before : List (List ℕ)) (bad : ℕ) (bytes : List ℕ) → LeaveThat (Goes units n before bad) bytes
+  unfolding Goes
+  goes_there zero before bad bytes a (steps, closes, does) fault =
+      let there = steps_there steps (EndsBehind units.behind bad) bytes (behind_there units.behind bad bytes) a does fault in record {
+        outcome = there.outcome;
+        holds = (steps, closes, there.holds);
+        faultless = there.faultless;
+        taken = there.taken;
+        out = there.out;
+        lines = there.lines;
+      }
+  goes_there (suc n) before bad bytes a goes fault = elim goes [
+    | inl w ↦
+        let there = within_there (length before) bytes a w fault in record {
+          outcome = there.outcome;
+          holds = inl there.holds;
+          faultless = there.faultless;
+          taken = there.taken;
+          out = there.out;
+          lines = there.lines;
+        }
+    | inr t ↦
+        let Next : List ℕ → Outcome → Type 0 = Goes units n (before ++ t.own ∷ []) (bad + bad_of t.turn) in
+        let there = steps_there t.steps (λ l. GoesOn t.turn (Next l)) t.left (turns_there t.turn Next t.left (goes_there n (before ++ t.own ∷ []) (bad + bad_of t.turn) t.left)) t.after t.does
+        (sym (ap (λ (o : Outcome). o.end) t.takes) ∙ fault) in
+        there_as (Goes units (suc n) before bad) a (taking t.own t.after) t.takes (record {
+          outcome = taking t.own there.outcome;
+          holds = inr (record {
+            own = t.own;
+            left = t.after.taken;
+            steps = t.steps;
+            turn = t.turn;
+            front = refl;
+            unit = t.unit;
+            after = there.outcome;
+            does = there.holds;
+            takes = refl;
+          });
+          faultless = there.faultless;
+          taken = ap (λ l. t.own ++ l) there.taken;
+          out = there.out;
+          lines = there.lines;
+        })
+  ]
+
+pub ends_there : (units : Units) → ReadFaultEndsInput units
+ends_there units bytes a runs fault =
+    let there = steps_there units.opens (Goes units units.count [] 0) bytes (goes_there units units.count [] 0 bytes) a runs fault in
+    (there.outcome, there.holds, there.faultless, there.taken, there.out, there.lines)
+
+-- an outcome without a fault of which this one has fronts
+pub record Beyond (A : Outcome → Type 0) (a : Outcome) : Type 0 where
+  pub outcome : Outcome
+  pub holds : A outcome
+  pub faultless : IsFaultless outcome.end
+  pub out : IsFrontOf a.out outcome.out
+  pub lines : IsFrontOf a.lines outcome.lines
+
+abbrev LeaveFronts : (Outcome → Type 0) → Type 0
+LeaveFronts A = (a : Outcome) → A a → Beyond A a
+
+beyond_as : (A : Outcome → Type 0) (a x : Outcome) → a ≡ x → Beyond A x → Beyond A a
+beyond_as A a x is beyond = subst (Beyond A) (sym is) beyond
+
+-- nothing is a front of anything
+beyond_none : (A : Outcome → Type 0) (a : Outcome) → Exists A → a.out ≡ [] → a.lines ≡ [] → Beyond A a
+beyond_none A a (outcome, holds, none) out lines = record {
+  outcome = outcome;
+  holds = holds;
+  faultless = none;
+  out = (outcome.out, ap (λ l. l ++ outcome.out) (sym out));
+  lines = (outcome.lines, ap (λ l. l ++ outcome.lines) (sym lines));
+}
+
+front_longer : (own front whole : List ℕ) → IsFrontOf front whole → IsFrontOf (own ++ front) (own ++ whole)
+front_longer own front whole (left, is) = (left, ap (λ l. own ++ l) is ∙ sym (append_assoc own front left))
+
+-- what was done of a step that failed, with nothing behind it
+front_cut : (own front left more : List ℕ) → own ≡ front ++ left → IsFrontOf (front ++ []) (own ++ more)
+front_cut own front left more is = (left ++ more, ap (λ l. l ++ more) is ∙ append_assoc front left more ∙ ap (λ l. l ++ (left ++ more)) (sym (append-nil front)))
+
+-- the step was taken, and then what came after
+abbrev Stepped : Step → (Outcome → Type 0) → Outcome → Type 0
+Stepped step After outcome = (after : Outcome) × After after × (outcome ≡ stepping step after)
+
+failed_beyond : (step : Step) (After : Outcome → Type 0) (a : Outcome) → Fails step a → Exists After → Beyond (Stepped step After) a
+failed_beyond (Write bytes) After a (front, left, whole, some, fails) (after, holds, none) =
+    beyond_as _ a (stepping (Write front) (ended WriteFault)) fails (record {
+      outcome = stepping (Write bytes) after;
+      holds = (after, holds, refl);
+      faultless = none;
+      out = front_cut bytes front left after.out whole;
+      lines = (after.lines, refl);
+    })
+failed_beyond (Tell line) After a (front, left, whole, some, fails) (after, holds, none) =
+    beyond_as _ a (stepping (Tell front) (ended ReportFault)) fails (record {
+      outcome = stepping (Tell line) after;
+      holds = (after, holds, refl);
+      faultless = none;
+      out = (after.out, refl);
+      lines = front_cut line front left after.lines whole;
+    })
+
+stepped_beyond : (step : Step) (After : Outcome → Type 0) (after : Outcome) → Beyond After after → Beyond (Stepped step After) (stepping step after)
+stepped_beyond (Write bytes) After after beyond = record {
+  outcome = stepping (Write bytes) beyond.outcome;
+  holds = (beyond.outcome, beyond.holds, refl);
+  faultless = beyond.faultless;
+  out = front_longer bytes after.out beyond.outcome.out beyond.out;
+  lines = beyond.lines;
+}
+stepped_beyond (Tell line) After after beyond = record {
+  outcome = stepping (Tell line) beyond.outcome;
+  holds = (beyond.outcome, beyond.holds, refl);
+  faultless = beyond.faultless;
+  out = beyond.out;
+  lines = front_longer line after.lines beyond.outcome.lines beyond.lines;
+}
+
+beyond_by : (A B : Outcome → Type 0) (a : Outcome) → ((o : Outcome) → A o → B o) → Beyond A a → Beyond B a
+beyond_by A B a to beyond = record { outcome = beyond.outcome; holds = to beyond.outcome beyond.holds; faultless = beyond.faultless; out = beyond.out; lines = beyond.lines }
+
+steps_beyond : (steps : List Step) (A : Outcome → Type 0) → Exists A → LeaveFronts A → LeaveFronts (Does steps A)
+steps_beyond [] A exists leaves a does = leaves a does
+steps_beyond (step ∷ steps) A exists leaves a does = elim does [
+  | inl fails ↦ beyond_by _ (Does (step ∷ steps) A) a (λ o is. inr is) (failed_beyond step (Does steps A) a fails (steps_exist steps A exists))
+  | inr (after, does, is) ↦
+      beyond_as (Does (step ∷ steps) A) a (stepping step after) is
+      (beyond_by _ (Does (step ∷ steps) A) (stepping step after) (λ o is. inr is) (stepped_beyond step (Does steps A) after (steps_beyond steps A exists leaves after does)))
+]
+
+turns_beyond : (turn : Turn) (A : Outcome → Type 0) → LeaveFronts A → LeaveFronts (GoesOn turn A)
+turns_beyond Good A leaves a goes = leaves a goes
+turns_beyond Bad A leaves a goes = leaves a goes
+turns_beyond Last A leaves a is = beyond_as (GoesOn Last A) a (ended Done) is (record { outcome = ended Done; holds = refl; faultless = tt; out = ([], refl); lines = ([], refl) })
+
+nothing_behind : (stands : Behind) (bad : ℕ) (left : List ℕ) (a : Outcome) → EndsBehind stands bad left a → (a.out ≡ []) × (a.lines ≡ [])
+nothing_behind behind.Done bad left a is = (ap (λ (o : Outcome). o.out) is, ap (λ (o : Outcome). o.lines) is)
+nothing_behind behind.NoControl bad left a is = (ap (λ (o : Outcome). o.out) is, ap (λ (o : Outcome). o.lines) is)
+nothing_behind behind.Asks bad [] a ends = elim ends [
+  | inl is ↦ (ap (λ (o : Outcome). o.out) is, ap (λ (o : Outcome). o.lines) is)
+  | inr is ↦ (ap (λ (o : Outcome). o.out) is, ap (λ (o : Outcome). o.lines) is)
+]
+nothing_behind behind.Asks bad (byte ∷ left) a ends = elim ends [
+  | inl is ↦ (ap (λ (o : Outcome). o.out) is, ap (λ (o : Outcome). o.lines) is)
+  | inr is ↦ (ap (λ (o : Outcome). o.out) is, ap (λ (o : Outcome). o.lines) is)
+]
+
+module _ (units : Units) (total : AreTotal units) where
+  goes_beyond : (n : ℕ) (before : List (List ℕ)) (bad : ℕ) (bytes : List ℕ) → length before + n ≡ units.count → LeaveFronts (Goes units n before bad bytes)
+  unfolding Goes
+  goes_beyond zero before bad bytes all a (steps, closes, does) =
+      beyond_by (Does steps (EndsBehind units.behind bad bytes)) (Goes units zero before bad bytes) a (λ o rest. (steps, closes, rest))
+      (steps_beyond steps (EndsBehind units.behind bad bytes) (behind_exists units.behind bad bytes)
+      (λ o ends. let none = nothing_behind units.behind bad bytes o ends in beyond_none (EndsBehind units.behind bad bytes) o (behind_exists units.behind bad bytes) none.0 none.1)
+      a does)
+  goes_beyond (suc n) before bad bytes all a goes = elim goes [
+    | inl w ↦
+        let exists = goes_exist units total (suc n) before bad bytes all in
+        beyond_none (Goes units (suc n) before bad bytes) a exists (ap (λ (o : Outcome). o.out) w.takes) (ap (λ (o : Outcome). o.lines) w.takes)
+    | inr t ↦
+        let Next = Goes units n (before ++ t.own ∷ []) (bad + bad_of t.turn) t.left in
+        let fewer = one_fewer before t.own n units.count all in
+        let beyond = steps_beyond t.steps (GoesOn t.turn Next) (turns_exist t.turn Next (goes_exist units total n (before ++ t.own ∷ []) (bad + bad_of t.turn) t.left fewer))
+        (turns_beyond t.turn Next (goes_beyond n (before ++ t.own ∷ []) (bad + bad_of t.turn) t.left fewer)) t.after t.does in
+        beyond_as (Goes units (suc n) before bad bytes) a (taking t.own t.after) t.takes (record {
+          outcome = taking t.own beyond.outcome;
+          holds = inr (record {
+            own = t.own;
+            left = t.left;
+            steps = t.steps;
+            turn = t.turn;
+            front = t.front;
+            unit = t.unit;
+            after = beyond.outcome;
+            does = beyond.holds;
+            takes = refl;
+          });
+          faultless = beyond.faultless;
+          out = beyond.out;
+          lines = beyond.lines;
+        })
+  ]
+
+pub leave_fronts : (units : Units) → FaultsLeaveFronts units
+leave_fronts units total bytes a runs =
+    let beyond = steps_beyond units.opens (Goes units units.count [] 0 bytes) (all_exist units total bytes) (goes_beyond units total units.count [] 0 bytes (omega arith)) a runs in
+    (beyond.outcome, beyond.holds, beyond.faultless, beyond.out, beyond.lines)

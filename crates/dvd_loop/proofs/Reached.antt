@@ -1,0 +1,183 @@
+-- What the loop has reached before a unit: whatever may come of the units to come is, behind what was done, an outcome of all.
+use Rattle.std.proofs.Common.{◌≡◌, ◌≢◌, inl, inr, ℕ, zero, suc, ◌+◌, ◌<◌, List, [], ◌∷◌, ◌++◌, length, refl, ap, sym, subst, append_assoc, append-nil, length-append, arith}
+use Rattle.dvd_loop.specs.Machine.{Does, EndsBehind, Goes, GoesOn, IsOutcome, IsUnit, Outcome, Step, Units, bad_of, ended, taking}
+use Rattle.dvd_loop.specs.Streams.{Comes, HaveMoved, Streams}
+use Rattle.dvd_loop.specs.Turns.{EndsAt, IsTurnDone, Nothing, told, written}
+use Rattle.dvd_loop.specs.declared.ends.LoopEnd.{LoopEnd}
+use Rattle.dvd_loop.specs.declared.ends.LoopEnd.TheVariants.{Done}
+use Rattle.dvd_loop.specs.declared.ends.Turn.{Turn}
+use Rattle.dvd_loop.specs.declared.ends.Turn.TheVariants.{Good, Bad, Last}
+use Rattle.dvd_loop.proofs.StepLemmas.{does_all, does_as, onto}
+use Rattle.dvd_loop.proofs.StreamLemmas.{comes_after, left_of, moves_on, stays}
+
+-- k units were taken, these; so many are to come
+pub record Reached (units : Units) (k : ℕ) (before : List (List ℕ)) (old now : Streams) (bad : ℕ) : Type 0 where
+  pub to_come : ℕ
+  pub all : k + to_come ≡ units.count
+  pub number : length before ≡ k
+  pub taken : List ℕ
+  pub out : List ℕ
+  pub lines : List ℕ
+  pub moved : HaveMoved old now taken out lines
+  pub reaches : (left : List ℕ) (after : Outcome) → Goes units to_come before bad left after → IsOutcome units (taken ++ left) (onto taken out lines after)
+
+-- the steps of a unit, behind what was done before it
+onto_unit : (taken out lines own w t : List ℕ) (after : Outcome) → onto taken out lines (taking own (onto [] w t after)) ≡ onto (taken ++ own) (out ++ w) (lines ++ t) after
+onto_unit taken out lines own w t after = simp append_assoc
+
+pub goes_on : (turn : Turn) (Goes : Outcome → Type 0) (outcome : Outcome) → turn ≢ Last → Goes outcome → GoesOn turn Goes outcome
+goes_on Good Goes outcome not goes = goes
+goes_on Bad Goes outcome not goes = goes
+goes_on Last Goes outcome not goes = absurd (not refl)
+
+module _ (units : Units) where
+  -- the opening was done
+  pub reached_first : (old now : Streams) → HaveMoved old now [] (written units.opens) (told units.opens) → Reached units 0 [] old now 0
+  reached_first old now moved = record {
+    to_come = units.count;
+    all = omega arith;
+    number = refl;
+    taken = [];
+    out = written units.opens;
+    lines = told units.opens;
+    moved = moved;
+    reaches = λ left after goes. does_all units.opens (Goes units units.count [] 0 left) after goes;
+  }
+
+  -- the opening ended the loop
+  pub opening_ends : (old new : Streams) (end : LoopEnd) → Comes (λ bytes. Does units.opens Nothing) old new end → Comes (IsOutcome units) old new end
+  opening_ends old new end comes = record {
+    bytes = comes.bytes;
+    told = comes.told;
+    outcome = comes.outcome;
+    holds = does_as units.opens Nothing (Goes units units.count [] 0 comes.bytes) (λ after none. absurd none) comes.outcome comes.holds;
+    ends = comes.ends;
+    moved = comes.moved;
+  }
+
+  -- what may come of a unit that was taken and done
+  pub taken_unit : (n : ℕ) (before : List (List ℕ)) (own left : List ℕ) (steps : List Step) (turn : Turn) (bad : ℕ) (after : Outcome) → IsUnit units before own steps turn
+      → GoesOn turn (Goes units n (before ++ own ∷ []) (bad + bad_of turn) left) after → Goes units (suc n) before bad (own ++ left) (taking own (onto [] (written steps) (told steps) after))
+  unfolding Goes
+  taken_unit n before own left steps turn bad after unit goes = inr (record {
+    own = own;
+    left = left;
+    steps = steps;
+    turn = turn;
+    front = refl;
+    unit = unit;
+    after = onto [] (written steps) (told steps) after;
+    does = does_all steps (GoesOn turn (Goes units n (before ++ own ∷ []) (bad + bad_of turn) left)) after goes;
+    takes = refl;
+  })
+
+  -- a loop that ends within a unit or its steps
+  ends_at : (n : ℕ) (before : List (List ℕ)) (bad : ℕ) (bytes : List ℕ) (outcome : Outcome) → EndsAt units before bytes outcome → Goes units (suc n) before bad bytes outcome
+  unfolding Goes
+  ends_at n before bad bytes outcome at = elim at [
+    | inl within ↦ inl within
+    | inr t ↦ inr (record {
+      own = t.own;
+      left = t.left;
+      steps = t.steps;
+      turn = t.turn;
+      front = t.front;
+      unit = t.unit;
+      after = t.after;
+      does = does_as t.steps Nothing (GoesOn t.turn (Goes units n (before ++ t.own ∷ []) (bad + bad_of t.turn) t.left)) (λ after none. absurd none) t.after t.does;
+      takes = t.takes;
+    })
+  ]
+
+  module _ (k : ℕ) (before : List (List ℕ)) (old now : Streams) (bad : ℕ) (r : Reached units k before old now bad) where
+    -- there is one unit to come at least
+    more : k < units.count → (n : ℕ) × (r.to_come ≡ suc n)
+    more lt = elim r.to_come as (λ m. k + m ≡ units.count → (n : ℕ) × (m ≡ suc n)) [
+      | zero ↦ λ all. absurd (omega arith)
+      | suc n ↦ λ all. (n, refl)
+    ] r.all
+
+    reaches_next : (n : ℕ) → r.to_come ≡ suc n → (left : List ℕ) (after : Outcome) → Goes units (suc n) before bad left after → IsOutcome units (r.taken ++ left) (onto r.taken r.out r.lines after)
+    reaches_next n is left after goes = r.reaches left after (subst (λ m. Goes units m before bad left after) (sym is) goes)
+
+    -- the outcome of all where that unit was taken and done
+    reaches_taken : (n : ℕ) → r.to_come ≡ suc n → (own left : List ℕ) (steps : List Step) (turn : Turn) (after : Outcome) → IsUnit units before own steps turn
+        → GoesOn turn (Goes units n (before ++ own ∷ []) (bad + bad_of turn) left) after
+        → IsOutcome units ((r.taken ++ own) ++ left) (onto (r.taken ++ own) (r.out ++ written steps) (r.lines ++ told steps) after)
+    reaches_taken n is own left steps turn after unit goes =
+        subst (λ l. IsOutcome units l (onto (r.taken ++ own) (r.out ++ written steps) (r.lines ++ told steps) after)) (sym (append_assoc r.taken own left))
+        (subst (IsOutcome units (r.taken ++ (own ++ left))) (onto_unit r.taken r.out r.lines own (written steps) (told steps) after)
+        (reaches_next n is (own ++ left) (taking own (onto [] (written steps) (told steps) after)) (taken_unit n before own left steps turn bad after unit goes)))
+
+    module _ (ready : List (List ℕ) → Type 0) (new : Streams) (turn : Turn) (t : IsTurnDone units before ready now new turn) (lt : k < units.count) where
+      moved_next : HaveMoved old new (r.taken ++ t.own) (r.out ++ written t.steps) (r.lines ++ told t.steps)
+      moved_next = moves_on old now new r.taken r.out r.lines t.own (written t.steps) (told t.steps) r.moved t.moved
+
+      -- the unit was taken and done, and more may come
+      pub reached_next : turn ≢ Last → (more_bad : ℕ) → more_bad ≡ bad + bad_of turn → Reached units (k + 1) (before ++ t.own ∷ []) old new more_bad
+      reached_next not more_bad is_bad =
+          let n = more lt in record {
+            to_come = n.0;
+            all = omega (arith, r.all, n.1);
+            number = omega (arith, length-append before (t.own ∷ []), r.number);
+            taken = r.taken ++ t.own;
+            out = r.out ++ written t.steps;
+            lines = r.lines ++ told t.steps;
+            moved = moved_next;
+            reaches = λ left after goes.
+                reaches_taken n.0 n.1 t.own left t.steps turn after t.unit
+                (goes_on turn (Goes units n.0 (before ++ t.own ∷ []) (bad + bad_of turn) left) after not (subst (λ b. Goes units n.0 (before ++ t.own ∷ []) b left after) is_bad goes));
+          }
+
+      -- the unit was the last
+      pub last_ends : turn ≡ Last → Comes (IsOutcome units) old new Done
+      last_ends is_last =
+          let n = more lt in
+          let left = left_of new.source.bytes in
+          let goes : GoesOn turn (Goes units n.0 (before ++ t.own ∷ []) (bad + bad_of turn) left.0) (ended Done) =
+          subst (λ u. GoesOn u (Goes units n.0 (before ++ t.own ∷ []) (bad + bad_of turn) left.0) (ended Done)) (sym is_last) refl in
+          comes_after (λ bytes outcome. (bytes ≡ left.0) × (outcome ≡ ended Done)) (IsOutcome units) old new new Done
+          (r.taken ++ t.own) (r.out ++ written t.steps) (r.lines ++ told t.steps) moved_next
+          (λ bytes after is.
+          subst (λ l. IsOutcome units ((r.taken ++ t.own) ++ l) (onto (r.taken ++ t.own) (r.out ++ written t.steps) (r.lines ++ told t.steps) after)) (sym is.0)
+          (subst (λ o. IsOutcome units ((r.taken ++ t.own) ++ left.0) (onto (r.taken ++ t.own) (r.out ++ written t.steps) (r.lines ++ told t.steps) o)) (sym is.1)
+          (reaches_taken n.0 n.1 t.own left.0 t.steps turn (ended Done) t.unit goes)))
+          (record {
+            bytes = left.0;
+            told = left.1;
+            outcome = ended Done;
+            holds = (refl, refl);
+            ends = refl;
+            moved = stays new;
+          })
+
+    -- the unit ended the loop
+    pub turn_ends : (new : Streams) (end : LoopEnd) → k < units.count → Comes (EndsAt units before) now new end → Comes (IsOutcome units) old new end
+    turn_ends new end lt comes =
+        let n = more lt in
+        comes_after (EndsAt units before) (IsOutcome units) old now new end r.taken r.out r.lines r.moved
+        (λ left after at. reaches_next n.0 n.1 left after (ends_at n.0 before bad left after at)) comes
+
+    module _ (all : k ≡ units.count) (steps : List Step) (closes : units.closes before steps) where
+      reaches_closed : (left : List ℕ) (after : Outcome) → Does steps (EndsBehind units.behind bad left) after → IsOutcome units (r.taken ++ left) (onto r.taken r.out r.lines after)
+      unfolding Goes
+      reaches_closed left after does =
+          let none : r.to_come ≡ 0 = omega (arith, r.all) in
+          r.reaches left after (subst (λ m. Goes units m before bad left after) (sym none) (steps, closes, does))
+
+      -- the closing ended the loop
+      pub closing_ends : (new : Streams) (end : LoopEnd) → Comes (λ bytes. Does steps Nothing) now new end → Comes (IsOutcome units) old new end
+      closing_ends new end comes =
+          comes_after (λ bytes. Does steps Nothing) (IsOutcome units) old now new end r.taken r.out r.lines r.moved
+          (λ left after does. reaches_closed left after (does_as steps Nothing (EndsBehind units.behind bad left) (λ o none. absurd none) after does)) comes
+
+      -- what stands behind the closing ended it
+      pub behind_ends : (mid new : Streams) (end : LoopEnd) → HaveMoved now mid [] (written steps) (told steps) → Comes (EndsBehind units.behind bad) mid new end → Comes (IsOutcome units) old new end
+      behind_ends mid new end moved comes =
+          comes_after (EndsBehind units.behind bad) (IsOutcome units) old mid new end (r.taken ++ []) (r.out ++ written steps) (r.lines ++ told steps)
+          (moves_on old now mid r.taken r.out r.lines [] (written steps) (told steps) r.moved moved)
+          (λ left after holds.
+          subst (λ l. IsOutcome units l (onto (r.taken ++ []) (r.out ++ written steps) (r.lines ++ told steps) after)) (ap (λ l. l ++ left) (sym (append-nil r.taken)))
+          (subst (IsOutcome units (r.taken ++ left)) (onto_unit r.taken r.out r.lines [] (written steps) (told steps) after)
+          (reaches_closed left (onto [] (written steps) (told steps) after) (does_all steps (EndsBehind units.behind bad left) after holds))))
+          comes

@@ -1,0 +1,43 @@
+-- Steps that are taken: all of them, some of them, and with other things behind them.
+use Rattle.std.proofs.Common.{inl, inr, List, [], ◌∷◌, ◌++◌, ℕ, ap, append_assoc}
+use Rattle.dvd_loop.specs.Machine.{Does, Outcome, Step}
+use Rattle.dvd_loop.specs.Machine.Step.{Write, Tell}
+use Rattle.dvd_loop.specs.Turns.{told, written}
+
+-- so much was taken, written and told, and then what came after
+abbrev pub onto : List ℕ → List ℕ → List ℕ → Outcome → Outcome
+onto taken out lines after = record { taken = taken ++ after.taken; out = out ++ after.out; lines = lines ++ after.lines; end = after.end }
+
+-- all of one, and then all of the other, which ends it
+abbrev pub and_then : Outcome → Outcome → Outcome
+and_then loop line = record { taken = loop.taken ++ line.taken; out = loop.out ++ line.out; lines = loop.lines ++ line.lines; end = line.end }
+
+-- all steps were taken, and then came what After says
+pub does_all : (steps : List Step) (After : Outcome → Type 0) (after : Outcome) → After after → Does steps After (onto [] (written steps) (told steps) after)
+does_all [] After after holds = holds
+does_all (Write bytes ∷ steps) After after holds = inr (
+  onto [] (written steps) (told steps) after,
+  does_all steps After after holds,
+  ap (λ l. record after { out = l; lines = told steps ++ after.lines }) (append_assoc bytes (written steps) after.out),
+)
+does_all (Tell line ∷ steps) After after holds = inr (
+  onto [] (written steps) (told steps) after,
+  does_all steps After after holds,
+  ap (λ l. record after { out = written steps ++ after.out; lines = l }) (append_assoc line (told steps) after.lines),
+)
+
+-- what holds of what comes behind steps may be said otherwise
+pub does_as : (steps : List Step) (A B : Outcome → Type 0) → ((after : Outcome) → A after → B after) → (outcome : Outcome) → Does steps A outcome → Does steps B outcome
+does_as [] A B to outcome does = to outcome does
+does_as (step ∷ steps) A B to outcome does = elim does [
+  | inl fails ↦ inl fails
+  | inr (after, does, is) ↦ inr (after, does_as steps A B to after does, is)
+]
+
+-- behind the steps of one list stand those of another
+pub does_then : (steps more : List Step) (After : Outcome → Type 0) (outcome : Outcome) → Does steps (Does more After) outcome → Does (steps ++ more) After outcome
+does_then [] more After outcome does = does
+does_then (step ∷ steps) more After outcome does = elim does [
+  | inl fails ↦ inl fails
+  | inr (after, does, is) ↦ inr (after, does_then steps more After after does, is)
+]

@@ -1,0 +1,94 @@
+-- What a run that ends as done has taken: the bytes of all units.
+use Rattle.std.proofs.Common.{◌≡◌, inl, inr, ℕ, zero, suc, ◌+◌, List, [], ◌∷◌, ◌++◌, length, length-append, refl, ap, sym, subst, ◌∙◌, add-one, arith}
+use Rattle.dvd_loop.specs.Laws.{IsFaultless, IsNever, start}
+use Rattle.dvd_loop.specs.Machine.{Does, EndsBehind, Goes, IsOutcome, Outcome, Units, bad_of, sized}
+use Rattle.dvd_loop.specs.Turns.{told, written}
+use Rattle.dvd_loop.specs.declared.ends.Behind.{Behind}
+use Rattle.dvd_loop.specs.declared.ends.Behind.TheVariants as behind
+use Rattle.dvd_loop.specs.declared.ends.LoopEnd.TheVariants.{Done, Long, NoControl, ReadFault, Short}
+use Rattle.dvd_loop.specs.declared.ends.Turn.TheVariants.{Last}
+use Rattle.dvd_loop.proofs.Faultless.{all_done}
+use Rattle.dvd_loop.proofs.Over.{start-suc, start-zero}
+use Rattle.dvd_loop.proofs.Sizes.{goes_one}
+use Rattle.dvd_loop.proofs.StepLemmas.{onto}
+
+-- So many bytes are taken, and all of them where one more is asked for behind the last unit.
+record TakesAll (stands : Behind) (count : ℕ) (bytes : List ℕ) (a : Outcome) : Type 0 where
+  number : length a.taken ≡ count
+  all : stands ≡ behind.Asks → a.taken ≡ bytes
+
+end_is : (a b : Outcome) → a ≡ b → a.end ≡ Done → b.end ≡ Done
+end_is a b is done = subst (λ (o : Outcome). o.end ≡ Done) is done
+
+none_taken : (stands : Behind) (bytes : List ℕ) (a x : Outcome) → a ≡ x → x.taken ≡ [] → (stands ≡ behind.Asks → x.taken ≡ bytes) → TakesAll stands 0 bytes a
+none_taken stands bytes a x is none all = subst (TakesAll stands 0 bytes) (sym is) (record { number = ap length none; all = all })
+
+behind_takes : (stands : Behind) (bad : ℕ) (bytes : List ℕ) (a : Outcome) → EndsBehind stands bad bytes a → a.end ≡ Done → TakesAll stands 0 bytes a
+behind_takes behind.Done bad bytes a is done = none_taken behind.Done bytes a _ is refl (λ no. absurd cc)
+behind_takes behind.NoControl bad bytes a is done = absurd (let no : NoControl ≡ Done = end_is a _ is done in cc)
+behind_takes behind.Asks bad [] a ends done = elim ends [
+  | inl is ↦ none_taken behind.Asks [] a _ is refl (λ asks. refl)
+  | inr is ↦ absurd (let no : ReadFault ≡ Done = end_is a _ is done in cc)
+]
+behind_takes behind.Asks bad (byte ∷ left) a ends done = elim ends [
+  | inl is ↦ absurd (let no : Long ≡ Done = end_is a _ is done in cc)
+  | inr is ↦ absurd (let no : ReadFault ≡ Done = end_is a _ is done in cc)
+]
+
+takes_more : (stands : Behind) (own left w t : List ℕ) (count : ℕ) (after : Outcome) → TakesAll stands count left after
+    → TakesAll stands (length own + count) (own ++ left) (onto own w t after)
+takes_more stands own left w t count after takes = record {
+  number = length-append own after.taken ∙ ap (λ n. length own + n) takes.number;
+  all = λ asks. ap (λ l. own ++ l) (takes.all asks);
+}
+
+module _ (units : Units) (size : ℕ → ℕ) (begins : (k : ℕ) (bytes : List ℕ) → units.begins k bytes ≡ sized (size k) bytes) (never : IsNever units Last) where
+  -- the units to come take their bytes
+  record TakesRest (before : ℕ) (bytes : List ℕ) (a : Outcome) : Type 0 where
+    count : ℕ
+    further : start size before + count ≡ start size units.count
+    takes : TakesAll units.behind count bytes a
+
+  rest_as : (before : ℕ) (bytes : List ℕ) (a x : Outcome) → a ≡ x → TakesRest before bytes x → TakesRest before bytes a
+  rest_as before bytes a x is rest = subst (TakesRest before bytes) (sym is) rest
+
+  goes_take : (n : ℕ) (before : List (List ℕ)) (bad : ℕ) (bytes : List ℕ) (a : Outcome) → length before + n ≡ units.count
+      → Goes units n before bad bytes a → IsFaultless a.end → a.end ≡ Done → TakesRest (length before) bytes a
+  unfolding Goes
+  goes_take zero before bad bytes a all (steps, closes, does) none done =
+      let behind = all_done steps (EndsBehind units.behind bad bytes) a does none in
+      let here : length before ≡ units.count = omega arith in
+      let takes = behind_takes units.behind bad bytes behind.after behind.holds (end_is a _ behind.is done) in
+      rest_as (length before) bytes a _ behind.is (record {
+        count = 0;
+        further = omega (arith, ap (start size) here);
+        takes = record { number = takes.number; all = takes.all };
+      })
+  goes_take (suc n) before bad bytes a all goes none done = elim (goes_one units size begins n before (λ own steps unit. never (length before) before own steps unit.does) bad bytes a goes none) [
+    | inl short ↦ absurd (let no : Short (length before) (length bytes) ≡ Done = end_is a _ short.is done in cc)
+    | inr t ↦
+        let one : length (before ++ t.own ∷ []) ≡ length before + 1 = length-append before (t.own ∷ []) in
+        let later : start size (length (before ++ t.own ∷ [])) ≡ start size (length before) + length t.own =
+        ap (start size) (one ∙ add-one (length before)) ∙ start-suc size (length before) ∙ ap (λ m. start size (length before) + m) (sym t.size_is) in
+        let rest = goes_take n (before ++ t.own ∷ []) (bad + bad_of t.turn) t.left t.after (omega arith) t.goes t.faultless (end_is a _ t.is done) in
+        rest_as (length before) bytes a _ t.is (record {
+          count = length t.own + rest.count;
+          further = omega (arith, later, rest.further);
+          takes = subst (λ l. TakesAll units.behind (length t.own + rest.count) l (onto t.own (written t.steps) (told t.steps) t.after)) (sym t.front)
+              (takes_more units.behind t.own t.left (written t.steps) (told t.steps) rest.count t.after rest.takes);
+        })
+  ]
+
+  takes_rest : (bytes : List ℕ) (a : Outcome) → units.opens ≡ [] → IsOutcome units bytes a → a.end ≡ Done → TakesRest 0 bytes a
+  takes_rest bytes a opens runs done =
+      goes_take units.count [] 0 bytes a (omega arith) (subst (λ l. Does l (Goes units units.count [] 0 bytes) a) opens runs) (subst IsFaultless (sym done) tt) done
+
+  -- A run that ends as done has taken the bytes of all units.
+  pub taken_number : (bytes : List ℕ) (a : Outcome) → units.opens ≡ [] → IsOutcome units bytes a → a.end ≡ Done → length a.taken ≡ start size units.count
+  taken_number bytes a opens runs done =
+      let rest = takes_rest bytes a opens runs done in
+      omega (arith, rest.takes.number, rest.further, start-zero size)
+
+  -- They are the whole input, where one byte more is asked for behind them.
+  pub taken_all : (bytes : List ℕ) (a : Outcome) → units.opens ≡ [] → units.behind ≡ behind.Asks → IsOutcome units bytes a → a.end ≡ Done → a.taken ≡ bytes
+  taken_all bytes a opens asks runs done = (takes_rest bytes a opens runs done).takes.all asks

@@ -1,0 +1,94 @@
+-- Every input has an outcome without a fault.
+use Rattle.std.proofs.Common.{◌≡◌, inl, inr, ℕ, zero, suc, ◌+◌, List, [], ◌∷◌, ◌++◌, length, length-append, refl, sym, subst, append-nil, arith}
+use Rattle.dvd_loop.specs.Laws.{AreTotal, IsFaultless, OutcomeExists}
+use Rattle.dvd_loop.specs.Machine.{Does, EndsBehind, EndsWithin, Goes, GoesOn, Outcome, Step, Units, bad_of, end_by, ended, taking}
+use Rattle.dvd_loop.specs.Turns.{told, written}
+use Rattle.dvd_loop.specs.declared.ends.Behind.{Behind}
+use Rattle.dvd_loop.specs.declared.ends.Behind.TheVariants as behind
+use Rattle.dvd_loop.specs.declared.ends.LoopEnd.TheVariants.{BadMarks, Done, Long, NoControl, Short}
+use Rattle.dvd_loop.specs.declared.ends.Turn.{Turn}
+use Rattle.dvd_loop.specs.declared.ends.Turn.TheVariants.{Good, Bad, Last}
+use Rattle.dvd_loop.proofs.StepLemmas.{does_all, onto}
+
+-- some outcome without a fault is there
+abbrev pub Exists : (Outcome → Type 0) → Type 0
+Exists A = (outcome : Outcome) × A outcome × IsFaultless outcome.end
+
+pub steps_exist : (steps : List Step) (A : Outcome → Type 0) → Exists A → Exists (Does steps A)
+steps_exist steps A (after, holds, none) = (onto [] (written steps) (told steps) after, does_all steps A after holds, none)
+
+pub turns_exist : (turn : Turn) (A : Outcome → Type 0) → Exists A → Exists (GoesOn turn A)
+turns_exist Good A exists = exists
+turns_exist Bad A exists = exists
+turns_exist Last A exists = (ended Done, refl, tt)
+
+pub end_by_none : (bad : ℕ) → IsFaultless (end_by bad)
+end_by_none zero = tt
+end_by_none (suc bad) = tt
+
+pub behind_exists : (stands : Behind) (bad : ℕ) (left : List ℕ) → Exists (EndsBehind stands bad left)
+behind_exists behind.Done bad left = (ended Done, refl, tt)
+behind_exists behind.NoControl bad left = (ended NoControl, refl, tt)
+behind_exists behind.Asks bad [] = (ended (end_by bad), inl refl, end_by_none bad)
+behind_exists behind.Asks bad (byte ∷ left) = (taking (byte ∷ []) (ended Long), inl refl, tt)
+
+-- one unit fewer is to come
+pub one_fewer : (before : List (List ℕ)) (own : List ℕ) (n count : ℕ) → length before + suc n ≡ count → length (before ++ own ∷ []) + n ≡ count
+one_fewer before own n count all = omega (arith, length-append before (own ∷ []))
+
+module _ (units : Units) (total : AreTotal units) where
+  pub goes_exist : (n : ℕ) (before : List (List ℕ)) (bad : ℕ) (bytes : List ℕ) → length before + n ≡ units.count → Exists (Goes units n before bad bytes)
+  unfolding Goes
+  goes_exist zero before bad bytes all =
+      let closing = total.closes before (omega arith) in
+      let exists = steps_exist closing.0 (EndsBehind units.behind bad bytes) (behind_exists units.behind bad bytes) in
+      (exists.0, (closing.0, closing.1, exists.1), exists.2)
+  goes_exist (suc n) before bad bytes all = elim (total.begins (length before) bytes (omega arith)) [
+    | inl (own, left, front, whole) ↦
+        let unit = total.does before own (omega arith) whole in
+        let exists = steps_exist unit.0 (GoesOn unit.1 (Goes units n (before ++ own ∷ []) (bad + bad_of unit.1) left))
+        (turns_exist unit.1 (Goes units n (before ++ own ∷ []) (bad + bad_of unit.1) left)
+        (goes_exist n (before ++ own ∷ []) (bad + bad_of unit.1) left (one_fewer before own n units.count all))) in (
+          taking own exists.0,
+          inr (record {
+            own = own;
+            left = left;
+            steps = unit.0;
+            turn = unit.1;
+            front = front;
+            unit = record { whole = whole; does = unit.2 };
+            after = exists.0;
+            does = exists.1;
+            takes = refl;
+          }),
+          exists.2,
+        )
+    | inr (inl cut) ↦ (
+      taking bytes (ended (Short (length before) (length bytes))),
+      inl (record {
+        own = bytes;
+        left = [];
+        front = sym (append-nil bytes);
+        ends = subst (λ part. EndsWithin part (length before) (length bytes) [] (Short (length before) (length bytes))) (sym cut) (inl (refl, refl));
+        takes = refl;
+      }),
+      tt,
+    )
+    | inr (inr (own, left, at, front, broken)) ↦ (
+      taking own (ended (BadMarks (length before) at)),
+      inl (record {
+        own = own;
+        left = left;
+        front = front;
+        ends = subst (λ part. EndsWithin part (length before) (length own) left (BadMarks (length before) at)) (sym broken) (inl refl);
+        takes = refl;
+      }),
+      tt,
+    )
+  ]
+
+  pub all_exist : (bytes : List ℕ) → Exists (Goes units units.count [] 0 bytes)
+  all_exist bytes = goes_exist units.count [] 0 bytes (omega arith)
+
+pub exists : (units : Units) → OutcomeExists units
+exists units total bytes = steps_exist units.opens (Goes units units.count [] 0 bytes) (all_exist units total bytes)

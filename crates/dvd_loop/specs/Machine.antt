@@ -1,0 +1,160 @@
+-- A command goes over its input unit by unit: sectors, blocks. This page says what a run of it takes, writes and tells, and
+-- how it ends, with the faults of its streams among the ends. All of it is this project's own; no unit is known here.
+use Rattle.std.specs.Prelude.{◌≡◌, ◌≢◌, ◌⊎◌, ℕ, zero, suc, ◌+◌, List, [], ◌∷◌, ◌++◌, length, nat_le, if◌then◌else◌}
+use Rattle.dvd_loop.specs.declared.ends.LoopEnd.{LoopEnd}
+use Rattle.dvd_loop.specs.declared.ends.LoopEnd.TheVariants.{Done, ReadFault, WriteFault, ReportFault, Short, Long, Damaged, NoControl, BadMarks}
+use Rattle.dvd_loop.specs.declared.ends.Turn.{Turn}
+use Rattle.dvd_loop.specs.declared.ends.Turn.TheVariants.{Good, Bad, Last}
+use Rattle.dvd_loop.specs.declared.ends.Behind.{Behind}
+use Rattle.dvd_loop.specs.declared.ends.Behind.TheVariants as behind
+
+-- How bytes begin, from the first of a unit on: with the whole unit, which has so many of them; with a part of it, which is
+-- all that there is; or with one that breaks a rule at that place.
+pub data Part : Type 0 where
+  Whole : ℕ → Part
+  Cut : Part
+  Broken : ℕ → Part
+
+-- One piece of what is done: bytes are written to the output, or a line is told to the report.
+pub data Step : Type 0 where
+  Write : List ℕ → Step
+  Tell : List ℕ → Step
+
+-- How many units there are, and how the bytes of unit k begin. What is done before anything is read; what may be done for
+-- unit k, by the units before it and by its own bytes, and what the unit then is; what may be done behind the last, by all
+-- of them; and what stands there. What is done is a list of steps, taken in their order.
+pub record Units : Type 1 where
+  pub count : ℕ
+  pub begins : ℕ → List ℕ → Part
+  pub opens : List Step
+  pub does : ℕ → List (List ℕ) → List ℕ → List Step → Turn → Type 0
+  pub closes : List (List ℕ) → List Step → Type 0
+  pub behind : Behind
+
+-- What was taken of the input, written to the output and told to the report, and how it ended.
+pub record Outcome : Type 0 where
+  pub taken : List ℕ
+  pub out : List ℕ
+  pub lines : List ℕ
+  pub end : LoopEnd
+
+-- it ends, and no more is taken or done
+abbrev pub ended : LoopEnd → Outcome
+ended end = record { taken = []; out = []; lines = []; end = end }
+
+-- these bytes were taken, and then what came after
+abbrev pub taking : List ℕ → Outcome → Outcome
+taking own after = record after { taken = own ++ after.taken }
+
+-- a step was taken, and then what came after
+abbrev pub stepping : Step → Outcome → Outcome
+stepping (Write bytes) after = record after { out = bytes ++ after.out }
+stepping (Tell line) after = record after { lines = line ++ after.lines }
+
+-- the stream failed within the step: a front of it was done, and something was left
+abbrev pub Fails : Step → Outcome → Type 0
+Fails (Write bytes) outcome = (front left : List ℕ) × (bytes ≡ front ++ left) × (left ≢ []) × (outcome ≡ stepping (Write front) (ended WriteFault))
+Fails (Tell line) outcome = (front left : List ℕ) × (line ≡ front ++ left) × (left ≢ []) × (outcome ≡ stepping (Tell front) (ended ReportFault))
+
+-- The steps are taken one after the other, and After holds of what comes then; or one of them fails, and nothing comes.
+abbrev pub Does : List Step → (Outcome → Type 0) → Outcome → Type 0
+Does [] After outcome = After outcome
+Does (step ∷ steps) After outcome = Fails step outcome ⊎ ((after : Outcome) × Does steps After after × (outcome ≡ stepping step after))
+
+-- How it ends within unit k, so many bytes of which were taken, these being left: the input has ended, or a rule is broken
+-- in what was taken; or a read failed.
+abbrev pub EndsWithin : Part → ℕ → ℕ → List ℕ → LoopEnd → Type 0
+EndsWithin (Whole size) k held left end = ⊥
+EndsWithin Cut k held left end = ((end ≡ Short k held) × (left ≡ [])) ⊎ (end ≡ ReadFault)
+EndsWithin (Broken at) k held left end = (end ≡ BadMarks k at) ⊎ (end ≡ ReadFault)
+
+-- It ends within unit k: a part of it is taken, and nothing is done.
+pub record IsWithin (units : Units) (k : ℕ) (bytes : List ℕ) (outcome : Outcome) : Type 0 where
+  pub own : List ℕ
+  pub left : List ℕ
+  pub front : bytes ≡ own ++ left
+  pub ends : EndsWithin (units.begins k own) k (length own) left outcome.end
+  pub takes : outcome ≡ taking own (ended outcome.end)
+
+-- These may be the bytes of the unit behind those, and this may be done for it.
+pub record IsUnit (units : Units) (before : List (List ℕ)) (own : List ℕ) (steps : List Step) (turn : Turn) : Type 0 where
+  pub whole : units.begins (length before) own ≡ Whole (length own)
+  pub does : units.does (length before) before own steps turn
+
+-- The unit behind those is taken and done, and After holds of what comes then, by its bytes, those left and what it is.
+pub record IsTaken (units : Units) (before : List (List ℕ)) (After : List ℕ → List ℕ → Turn → Outcome → Type 0) (bytes : List ℕ) (outcome : Outcome) : Type 0 where
+  pub own : List ℕ
+  pub left : List ℕ
+  pub steps : List Step
+  pub turn : Turn
+  pub front : bytes ≡ own ++ left
+  pub unit : IsUnit units before own steps turn
+  pub after : Outcome
+  pub does : Does steps (After own left turn) after
+  pub takes : outcome ≡ taking own after
+
+-- how many bad units it is
+abbrev pub bad_of : Turn → ℕ
+bad_of Good = 0
+bad_of Bad = 1
+bad_of Last = 0
+
+-- the last unit ends the run
+abbrev pub GoesOn : Turn → (Outcome → Type 0) → Outcome → Type 0
+GoesOn Last Goes outcome = outcome ≡ ended Done
+GoesOn Good Goes outcome = Goes outcome
+GoesOn Bad Goes outcome = Goes outcome
+
+-- the end of an input that ended behind the last unit, so many being bad
+abbrev pub end_by : ℕ → LoopEnd
+end_by zero = Done
+end_by (suc bad) = Damaged (suc bad)
+
+-- One byte more is asked for behind the last unit, and there is none, or it is one too many, or the read fails; or nothing
+-- is asked for.
+abbrev pub EndsBehind : Behind → ℕ → List ℕ → Outcome → Type 0
+EndsBehind behind.Done bad left outcome = outcome ≡ ended Done
+EndsBehind behind.NoControl bad left outcome = outcome ≡ ended NoControl
+EndsBehind behind.Asks bad [] outcome = (outcome ≡ ended (end_by bad)) ⊎ (outcome ≡ ended ReadFault)
+EndsBehind behind.Asks bad (byte ∷ left) outcome = (outcome ≡ taking (byte ∷ []) (ended Long)) ⊎ (outcome ≡ ended ReadFault)
+
+-- what comes behind those units, so many of them bad, where so many are to come
+unfoldable pub Goes : Units → ℕ → List (List ℕ) → ℕ → List ℕ → Outcome → Type 0
+Goes units zero before bad left outcome = (steps : List Step) × units.closes before steps × Does steps (EndsBehind units.behind bad left) outcome
+Goes units (suc n) before bad bytes outcome =
+    IsWithin units (length before) bytes outcome
+    ⊎ IsTaken units before (λ own left turn. GoesOn turn (Goes units n (before ++ own ∷ []) (bad + bad_of turn) left)) bytes outcome
+
+-- A run of these units over these bytes.
+abbrev pub IsOutcome : Units → List ℕ → Outcome → Type 0
+IsOutcome units bytes outcome = Does units.opens (Goes units units.count [] 0 bytes) outcome
+
+-- Behind a loop that ended so stands its closing line. There is none after a fault of the report, and a fault at it ends the run.
+abbrev pub Closes : (LoopEnd → List ℕ) → LoopEnd → Outcome → Type 0
+Closes closing ReportFault outcome = outcome ≡ ended ReportFault
+Closes closing end outcome = Does (Tell (closing end) ∷ []) (λ after. after ≡ ended end) outcome
+
+-- A run of these units over these bytes whose loop ended so, and its closing line.
+pub record IsClosed (closing : LoopEnd → List ℕ) (units : Units) (bytes : List ℕ) (within : LoopEnd) (outcome : Outcome) : Type 0 where
+  pub loop : Outcome
+  pub runs : IsOutcome units bytes loop
+  pub ends : loop.end ≡ within
+  pub line : Outcome
+  pub closes : Closes closing within line
+  pub all : outcome ≡ record { taken = loop.taken ++ line.taken; out = loop.out ++ line.out; lines = loop.lines ++ line.lines; end = line.end }
+
+-- bytes that begin with a unit of that size, whatever they are
+abbrev pub sized : ℕ → List ℕ → Part
+sized size bytes = if nat_le size (length bytes) then Whole size else Cut
+
+-- Units of these sizes, for each of which something may be done by its number and its bytes; nothing opens or closes them,
+-- and the input has to end behind the last.
+abbrev pub plain_units : ℕ → (ℕ → ℕ) → (ℕ → List ℕ → List Step → Turn → Type 0) → Units
+plain_units count size does = record {
+  count = count;
+  begins = λ k. sized (size k);
+  opens = [];
+  does = λ k before. does k;
+  closes = λ before steps. steps ≡ [];
+  behind = behind.Asks;
+}

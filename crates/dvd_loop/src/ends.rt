@@ -1,0 +1,89 @@
+//! How a loop ends, what a unit turns out to be, and what stands behind the last one.
+ghost use Rattle.std.specs.Prelude.{◌≡◌, ◌≢◌, true, false};
+ghost use Rattle.dvd_loop.specs.declared.ends.LoopEnd.TheVariants.{ReadFault as read_fault, WriteFault as write_fault};
+ghost use Rattle.dvd_loop.specs.declared.ends.Turn.TheVariants.{Last as last};
+ghost use Rattle.dvd_loop.specs.Machine.{bad_of};
+
+use dvd_ports::{Failed, WriteFault};
+
+/// How the loop of a command ends.
+#[derive(Clone, Copy, Debug, PartialEq, Eq)]
+pub enum LoopEnd {
+    /// The input was read to its end, or to the unit that answers, and the output is whole.
+    Done,
+    /// A read failed.
+    ReadFault,
+    /// A write failed.
+    WriteFault,
+    /// A line of the report couldn't be written.
+    ReportFault,
+    /// The input ended in this unit, after so many of its bytes.
+    Short { unit: u32, bytes: u32 },
+    /// One byte more came than was expected.
+    Long,
+    /// The input was whole, and so many units are bad.
+    Damaged { blocks: u32 },
+    /// No unit answered.
+    NoControl,
+    /// This unit breaks a rule of its form at that byte.
+    BadMarks { block: u32, at: u32 },
+}
+
+/// A call of the source failed.
+impl From<Failed> for LoopEnd {
+    ghost from_gives = { λ _ end. end ≡ read_fault };
+
+    fn from(_: Failed) -> Self {
+        LoopEnd::ReadFault
+    }
+}
+
+/// The output couldn't be written. A fault of the report is named where it comes.
+impl From<WriteFault> for LoopEnd {
+    ghost from_gives = { λ _ end. end ≡ write_fault };
+
+    fn from(_: WriteFault) -> Self {
+        LoopEnd::WriteFault
+    }
+}
+
+/// What a unit that was read and done is.
+#[derive(Clone, Copy, Debug, PartialEq, Eq)]
+pub enum Turn {
+    Good,
+    /// It counts among the damaged units.
+    Bad,
+    /// It answers, and the loop ends as Done behind it.
+    Last,
+}
+
+impl Turn {
+    /// Whether the loop ends behind it.
+    pub fn is_last(self) -> bool
+        ensures yes { result ≡ true → self ≡ last }
+        ensures no { result ≡ false → self ≢ last }
+    {
+        matches!(self, Turn::Last)
+    }
+
+    /// How many bad units it is.
+    pub fn bad(self) -> u32
+        ensures { result ≡ bad_of self }
+    {
+        match self {
+            Turn::Bad => 1,
+            Turn::Good | Turn::Last => 0,
+        }
+    }
+}
+
+/// What stands behind the last unit.
+#[derive(Clone, Copy, Debug, PartialEq, Eq)]
+pub enum Behind {
+    /// The end of the input: one byte more is asked for.
+    Asks,
+    /// The end of the loop, which takes nothing more.
+    Done,
+    /// The same, where a unit was to answer and none did.
+    NoControl,
+}

@@ -1,0 +1,80 @@
+//! The loop over units that all commands share, and the line that closes it.
+ghost use Rattle.std.specs.Prelude.{◌≡◌, ◌≢◌, ℕ, List, [], true, false};
+ghost use Rattle.dvd_ports.specs.Seen.{Seen};
+ghost use Rattle.dvd_loop.specs.Machine.{Closes, EndsBehind, IsOutcome};
+ghost use Rattle.dvd_loop.specs.Streams.{streams, Comes, Counts, HaveCauses, is_report_fault};
+ghost use Rattle.dvd_loop.specs.declared.ends.LoopEnd.{LoopEnd as HowItEnds};
+
+use crate::{Behind, LoopEnd, Turns};
+use dvd_ports::{Failed, Sink, Source, WriteFault, read_whole, write_whole};
+
+/// Opens a command, goes over its units, closes it, and looks at what stands behind the last unit.
+pub fn follow<C: Turns, S: Source, K: Sink, E: Sink>(
+    command: &mut C,
+    src: &mut S,
+    out: &mut K,
+    report: &mut E,
+) -> LoopEnd
+    requires { C.ready command.old [] }
+    ensures follows { Comes (IsOutcome (C.units (C.key command.old)))
+        (streams (S.seen src.old) (K.seen out.old) (E.seen report.old))
+        (streams (S.seen src.new) (K.seen out.new) (E.seen report.new)) result }
+    ensures causes { HaveCauses result result
+        (streams (S.seen src.old) (K.seen out.old) (E.seen report.old))
+        (streams (S.seen src.new) (K.seen out.new) (E.seen report.new)) }
+    ensures same { C.key command.new ≡ C.key command.old }
+    ensures left { C.left command.new result }
+{
+    if let Err(end) = command.open(out, report) {
+        return end;
+    }
+    let mut bad = 0;
+    for k in 0..command.count() {
+        match command.turn(k, src, out, report) {
+            Ok(turn) if turn.is_last() => return LoopEnd::Done,
+            Ok(turn) => bad += turn.bad(),
+            Err(end) => return end,
+        }
+    }
+    match command.close(out, report) {
+        Ok(()) => seek_end(command.behind(), bad, src),
+        Err(end) => end,
+    }
+}
+
+// Asks for one byte more, where one is to be asked for.
+fn seek_end<S: Source>(behind: Behind, bad: u32, src: &mut S) -> LoopEnd
+    ensures comes { (output report : Seen) → Comes (EndsBehind behind bad)
+        (streams (S.seen src.old) output report) (streams (S.seen src.new) output report) result }
+    ensures causes { (output report : Seen) → HaveCauses result result
+        (streams (S.seen src.old) output report) (streams (S.seen src.new) output report) }
+{
+    match behind {
+        Behind::Done => LoopEnd::Done,
+        Behind::NoControl => LoopEnd::NoControl,
+        Behind::Asks => match read_whole(src, &mut [0; 1]) {
+            Ok(0) if bad == 0 => LoopEnd::Done,
+            Ok(0) => LoopEnd::Damaged { blocks: bad },
+            Ok(_) => LoopEnd::Long,
+            Err(Failed) => LoopEnd::ReadFault,
+        },
+    }
+}
+
+/// Tells the closing line of a loop that ended so. After a fault of the report none is tried; where the line can't be told
+/// the end is that fault, in place of the other.
+pub fn close<E: Sink>(end: LoopEnd, line: &[u8], report: &mut E) -> LoopEnd
+    ensures closes { (closing : HowItEnds → List ℕ) (source output : Seen) → closing end ≡ line.now → Comes (λ bytes. Closes closing end)
+        (streams source output (E.seen report.old)) (streams source output (E.seen report.new)) result }
+    ensures same { result ≢ LoopEnd.ReportFault → result ≡ end }
+    ensures cause { end ≢ LoopEnd.ReportFault → Counts (is_report_fault result) (E.seen report.old).faults (E.seen report.new).faults }
+    ensures none { end ≡ LoopEnd.ReportFault → report.new ≡ report.old }
+{
+    match end {
+        LoopEnd::ReportFault => end,
+        _ => match write_whole(report, line) {
+            Ok(()) => end,
+            Err(WriteFault) => LoopEnd::ReportFault,
+        },
+    }
+}

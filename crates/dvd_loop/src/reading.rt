@@ -1,0 +1,27 @@
+//! The bytes of one unit.
+ghost use Rattle.std.specs.Prelude.{◌<◌, ◌^◌, length, IfErr, OnOk};
+ghost use Rattle.std.specs.Io.KnownBytes.{Consumes};
+ghost use Rattle.dvd_ports.specs.Seen.{Seen};
+ghost use Rattle.dvd_loop.specs.Streams.{streams};
+ghost use Rattle.dvd_loop.specs.Turns.{EndsShort, HaveCausesFor};
+
+use crate::LoopEnd;
+use dvd_ports::{Source, read_whole};
+
+/// Reads unit `k`, which has as many bytes as the buffer, or answers how the loop ends within it.
+pub fn read_unit<S: Source>(src: &mut S, k: u32, unit: &mut [u8]) -> Result<(), LoopEnd>
+    requires { length unit.old < 2 ^ 32 }
+    ensures whole { OnOk result (Consumes (S.seen src.old).bytes (S.seen src.new).bytes unit.new) }
+    ensures short { IfErr result (EndsShort k (length unit.new) (S.seen src.old) (S.seen src.new)) }
+    ensures causes { (output report : Seen) → HaveCausesFor result
+        (streams (S.seen src.old) output report) (streams (S.seen src.new) output report) }
+{
+    let held = read_whole(src, unit)?;
+    if held < unit.len() {
+        return Err(LoopEnd::Short {
+            unit: k,
+            bytes: held as u32,
+        });
+    }
+    Ok(())
+}
