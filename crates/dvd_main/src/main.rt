@@ -18,7 +18,7 @@ fn main(rt: HostRuntime) -> ExitCode {
         }
         Err(NoMemory) => Status::NoMemory,
     };
-    ExitCode::from(status as u8)
+    ExitCode::from(status.number())
 }
 
 // The words behind the program's own name; none where one of them isn't UTF-8, which is no command.

@@ -4,7 +4,7 @@ use Rattle.std.proofs.lemmas.List.FromFn.{get_or-map-range_with_len}
 use Rattle.dvd_block.specs.Product.{line, place, IsProduct, HoldsFrame, IsBlockOf}
 use Rattle.dvd_layout.specs.declared.entry.BlockPlan.{BlockPlan}
 use Rattle.dvd_layout.specs.declared.layout.Layout.{Layout}
-use Rattle.dvd_top.specs.Master.{frame_of, frames_of}
+use Rattle.dvd_top.specs.Commands.Master.{frame_of, frames_of}
 
 -- a frame stays where the rows of another are written
 pub holds_other : (g f : ℕ) (frame : List ℕ) (old new : List (List ℕ)) → g < f → ((i : ℕ) → (i < 12 * f) ⊎ (12 * f + 12 ≤ i) → line new i ≡ line old i) → HoldsFrame g frame old → HoldsFrame g frame new

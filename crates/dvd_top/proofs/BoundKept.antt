@@ -1,86 +1,41 @@
--- A run that does for each block what recovery says keeps the bound.
-use Rattle.std.proofs.Common.{min, ◌*◌, ◌-◌, ◌≡◌, inl, inr, ◌∙◌, ℕ, zero, suc, ◌<◌, ◌≤◌, false, List, [], ◌++◌, length, take, drop, cond, refl, sym, ap, subst, arith, Some, append_assoc, append-nil}
-use Rattle.std.specs.Io.KnownBytes.{Appends}
-use Rattle.std.specs.declared.option.Option.{Option}
-use Rattle.std.proofs.Common.{None}
+-- A run of recovery keeps the bound.
+use Rattle.std.proofs.Common.{◌≡◌, ◌∙◌, min, ℕ, ◌+◌, ◌-◌, ◌*◌, ◌≤◌, List, [], ◌∷◌, ◌++◌, length, length-append, take, drop, slice_get, Some, refl, ap, sym, subst, append-nil, add-one, arith}
+use Rattle.std.proofs.Math.Nat.{mul-suc}
 use Rattle.std.proofs.lemmas.List.{length-drop, length-take-le}
-use Rattle.std.proofs.lemmas.Bool.{cases_eq, cases_lt, le-leb, lt-leb}
+use Rattle.std.proofs.lemmas.Option.{slice_get_within}
 use Rattle.dvd_capture.specs.Captured.{block_size}
 use Rattle.dvd_capture.specs.declared.form.Form.{Form}
-use Rattle.dvd_layout.specs.Content.{image_from}
-use Rattle.dvd_layout.specs.Place.{total_sectors}
+use Rattle.dvd_capture.proofs.Fetching.{part-append, part-behind}
+use Rattle.dvd_layout.specs.Content.{IsImage, image_from}
+use Rattle.dvd_layout.specs.Place.{image_sectors, total_sectors}
+use Rattle.dvd_layout.specs.Plan.{plan_of}
 use Rattle.dvd_layout.specs.declared.entry.BlockPlan.{BlockPlan}
 use Rattle.dvd_layout.specs.declared.entry.Content.{Content}
 use Rattle.dvd_layout.specs.declared.entry.Content.TheVariants.{Zero, Reference, Control, Image}
 use Rattle.dvd_layout.specs.declared.layout.Layout.{Layout}
 use Rattle.dvd_layout.specs.declared.layout.Zones.{Zones}
-use Rattle.dvd_top.specs.Bound.{IsWholeEnd, KeepsBound, OfLayout, image_part}
-use Rattle.dvd_top.specs.Follows.{Follows, IsOutcome, Objects}
-use Rattle.dvd_top.specs.Master.{image_bytes, image_sectors}
-use Rattle.dvd_top.specs.Outcome.{full_units, outcome_end}
-use Rattle.dvd_top.specs.Recover.{recover_units}
+use Rattle.dvd_layout.proofs.InOrder.{plan_of-in_order}
+use Rattle.dvd_loop.specs.Laws.{IsFaultless, IsFrontOf, first}
+use Rattle.dvd_loop.specs.Machine.{Closes, Does, IsClosed, IsOutcome, Outcome, Step, ended}
+use Rattle.dvd_loop.specs.Machine.Step.{Tell, Write}
+use Rattle.dvd_loop.specs.Turns.{written}
+use Rattle.dvd_loop.specs.declared.ends.LoopEnd.{LoopEnd}
+use Rattle.dvd_loop.specs.declared.ends.LoopEnd.TheVariants.{Done, ReportFault}
+use Rattle.dvd_loop.specs.declared.ends.Turn.{Turn}
+use Rattle.dvd_loop.specs.declared.ends.Turn.TheVariants.{Good}
+use Rattle.dvd_loop.proofs.Apart.{takes_unit}
+use Rattle.dvd_loop.proofs.Faultless.{all_done}
+use Rattle.dvd_top.specs.Bound.{IsBorne, KeepsBound, block_bytes, image_part}
+use Rattle.dvd_top.specs.Commands.{meaning}
+use Rattle.dvd_top.specs.Commands.Master.{image_bytes}
+use Rattle.dvd_top.specs.Commands.Recover.{IsRecovered, recover_units}
+use Rattle.dvd_top.specs.Laws.{BoundIsKept}
 use Rattle.dvd_top.specs.Lines.{closing_line}
-use Rattle.dvd_top.specs.Run.{HasLayout, IsWholeRun, OfUnits, units_for}
-use Rattle.dvd_top.specs.declared.ends.Status.{Status}
-use Rattle.dvd_top.specs.Units.{Units, Deed, Deeds, HasDone, and_then, start, unit_bytes, whole_units}
-use Rattle.dvd_top.specs.declared.ends.LoopEnd.{LoopEnd}
-use Rattle.dvd_top.specs.declared.ends.LoopEnd.TheVariants.{Done, ReadFault, WriteFault, ReportFault, Short, Long, Damaged, NoControl}
+use Rattle.dvd_top.specs.Settings.{IsLayoutOf}
 use Rattle.dvd_top.specs.declared.settings.Settings.{Settings}
-use Rattle.dvd_top.specs.declared.settings.Task.{Task}
-use Rattle.dvd_top.specs.declared.settings.Task.TheVariants.{Frames, Master, Recover}
+use Rattle.dvd_top.proofs.PlanBytes.{start-blocks}
+use Rattle.dvd_top.proofs.RecoveredWidths.{length-first, never_last}
 use Rattle.dvd_top.proofs.Repaired.{repaired}
-use Rattle.dvd_top.proofs.UnitLemmas.{start-le, start-suc}
-
--- what is done for several units, taken apart at unit k
-record Apart (units : Units) (bytes : List ℕ) (k : ℕ) (deeds : Deeds) : Type 0 where
-  pub before : Deeds
-  pub deed : Deed
-  pub later : List ℕ
-  pub later_lines : List ℕ
-  pub done : HasDone units bytes k before
-  pub does : units.does k (take (start units k) bytes) (unit_bytes units bytes k) deed
-  pub gave : HasDone units bytes (suc k) (and_then before deed)
-  pub out : deeds.out ≡ (before.out ++ deed.out) ++ later
-  pub lines : deeds.lines ≡ (before.lines ++ deed.lines) ++ later_lines
-
-apart : (units : Units) (bytes : List ℕ) (n k : ℕ) (deeds : Deeds) → k < n → HasDone units bytes n deeds → Apart units bytes k deeds
-unfolding HasDone
-apart units bytes zero k deeds below done = absurd (omega (arith, below))
-apart units bytes (suc n) k deeds below done = elim (cases_eq k n) [
-  | inl is ↦ subst (λ (i : ℕ). Apart units bytes i deeds) (sym is) (record {
-    before = done.0;
-    deed = done.1;
-    later = [];
-    later_lines = [];
-    done = done.2;
-    does = done.3;
-    gave = (done.0, done.1, done.2, done.3, refl);
-    out = ap (λ (d : Deeds). d.out) done.4 ∙ sym (append-nil (done.0.out ++ done.1.out));
-    lines = ap (λ (d : Deeds). d.lines) done.4 ∙ sym (append-nil (done.0.lines ++ done.1.lines));
-  })
-  | inr apart_from ↦
-      let first = apart units bytes n k done.0 (omega (arith, below, apart_from)) done.2 in
-      record {
-        before = first.before;
-        deed = first.deed;
-        later = first.later ++ done.1.out;
-        later_lines = first.later_lines ++ done.1.lines;
-        done = first.done;
-        does = first.does;
-        gave = first.gave;
-        out = ap (λ (d : Deeds). d.out) done.4 ∙ ap (λ (l : List ℕ). l ++ done.1.out) first.out ∙ append_assoc (first.before.out ++ first.deed.out) first.later done.1.out;
-        lines = ap (λ (d : Deeds). d.lines) done.4 ∙ ap (λ (l : List ℕ). l ++ done.1.lines) first.lines ∙ append_assoc (first.before.lines ++ first.deed.lines) first.later_lines done.1.lines;
-      }
-]
-
--- the units that are whole stand in the input
-whole-there : (units : Units) (size n : ℕ) → start units (whole_units units size n) ≤ size
-unfolding whole_units start
-whole-there units size zero = omega arith
-whole-there units size (suc n) = elim (cases_lt size (start units (suc n))) [
-  | inl lt ↦ subst (λ b. start units (cond b (suc n) (whole_units units size n)) ≤ size) (sym (lt-leb (start units (suc n)) size lt)) (whole-there units size n)
-  | inr ge ↦ subst (λ b. start units (cond b (suc n) (whole_units units size n)) ≤ size) (sym (le-leb (start units (suc n)) size ge)) ge
-]
 
 -- the image has the bytes that stand in a block
 length-part : (layout : Layout) (content : Content) (image : List ℕ) → length image ≡ 2048 * total_sectors layout
@@ -91,79 +46,77 @@ length-part layout Zero image size = refl
 length-part layout Reference image size = refl
 length-part layout Control image size = refl
 
-length-image_part : (layout : Layout) (entry : BlockPlan) (image : List ℕ) → length image ≡ 2048 * total_sectors layout → length (image_part layout entry image) ≡ image_bytes layout entry
-length-image_part layout entry image size = length-part layout entry.content image size
+-- a block that is whole in the stream has its bytes
+length-own : (size k : ℕ) (bytes : List ℕ) → size * (k + 1) ≤ length bytes → length (take size (drop (size * k) bytes)) ≡ size
+length-own size k bytes there =
+    length-take-le size (drop (size * k) bytes) (omega (arith, subst (λ n. size * n ≤ length bytes) (add-one k) there, mul-suc size k, length-drop (size * k) bytes))
 
-pub bound_kept : (layout : Layout) (zones : Zones) (form : Form) (bytes closing : List ℕ) (old new : Objects) (deeds : Deeds)
-    → HasDone (recover_units layout zones form) bytes (full_units (recover_units layout zones form) bytes) deeds
-    → Appends old.output.bytes new.output.bytes deeds.out → Appends old.report.bytes new.report.bytes (deeds.lines ++ closing)
-    → KeepsBound layout zones form bytes old new
-bound_kept layout zones form bytes closing old new deeds done writes tells = λ cpr image k entry block below made within.
-    let units = recover_units layout zones form in
-    let parts = apart units bytes (full_units units bytes) k deeds below done in
-    let part = image_part layout entry image in
-    let there : start units (suc k) ≤ length bytes =
-    omega (arith, start-le units (suc k) (full_units units bytes) (omega (arith, below)), whole-there units (length bytes) units.count) in
-    let own : length (unit_bytes units bytes k) ≡ block_size form =
-    length-take-le (block_size form) (drop (start units k) bytes) (omega (arith, there, start-suc units k, length-drop (start units k) bytes)) in
-    let back : parts.deed ≡ record { out = part; lines = []; bad = false } =
-    repaired layout zones form cpr k entry part (unit_bytes units bytes k) block parts.deed made.stands made.is_image made.cpr_size
-    (length-image_part layout entry image made.image_size) made.is_block own within parts.does in
-    let out : deeds.out ≡ (parts.before.out ++ part) ++ parts.later = parts.out ∙ ap (λ (d : Deed). (parts.before.out ++ d.out) ++ parts.later) back in
-    let lines : deeds.lines ++ closing ≡ parts.before.lines ++ (parts.later_lines ++ closing) =
-    ap (λ (l : List ℕ). l ++ closing) (parts.lines ∙ ap (λ (d : Deed). (parts.before.lines ++ d.lines) ++ parts.later_lines) back ∙ ap (λ (l : List ℕ). l ++ parts.later_lines) (append-nil parts.before.lines))
-    ∙ append_assoc parts.before.lines parts.later_lines closing in
+-- a part that stands behind so many bytes
+part_there : (a n : ℕ) (before part out : List ℕ) → length before ≡ a → length part ≡ n → IsFrontOf (before ++ (part ++ [])) out → take n (drop a out) ≡ part
+part_there a n before part out at size (left, is) =
+    let own : length (part ++ []) ≡ n = ap length (append-nil part) ∙ size in
+    ap (λ l. take n (drop a l)) is
+    ∙ part-append (before ++ (part ++ [])) left a n (omega (arith, length-append before (part ++ []), own))
+    ∙ part-behind before (part ++ []) a n at own
+    ∙ append-nil part
+
+-- the blocks before a data block write the bytes before its first image sector, or as many zeros
+length-before : (layout : Layout) (zones : Zones) (form : Form) (k : ℕ) (entry : BlockPlan) (bytes : List ℕ) (a : Outcome) → slice_get (plan_of layout zones) k ≡ Some entry → IsImage entry.content
+    → IsOutcome (first k (recover_units layout zones form)) bytes a → a.end ≡ Done → length a.out ≡ 2048 * image_from entry.content
+length-before layout zones form k entry bytes a stands is_image runs done =
+    let within = slice_get_within (plan_of layout zones) k entry stands in
+    length-first layout zones form k bytes a runs done
+    ∙ start-blocks layout zones k (omega arith)
+    ∙ ap (λ n. 2048 * n) (plan_of-in_order layout zones k entry stands is_image)
+
+-- what may be done for a block that is borne
+alone : (layout : Layout) (zones : Zones) (form : Form) (bytes cpr image : List ℕ) (k : ℕ) (entry : BlockPlan) → IsBorne layout zones form bytes cpr image k entry
+    → (steps : List Step) (turn : Turn) → IsRecovered layout zones form k (block_bytes form bytes k) steps turn → (steps ≡ Write (image_part layout entry image) ∷ []) × (turn ≡ Good)
+alone layout zones form bytes cpr image k entry b steps turn does =
+    repaired layout zones form cpr k entry (image_part layout entry image) (block_bytes form bytes k) b.block steps turn b.stands b.is_image b.cpr_size
+    (length-part layout entry.content image b.image_size) b.is_block (length-own (block_size form) k bytes b.whole) b.within does
+
+-- in a run whose loop ended without a fault its sectors stand at their place
+at_place : (layout : Layout) (zones : Zones) (form : Form) (bytes : List ℕ) (a : Outcome) → IsOutcome (recover_units layout zones form) bytes a → IsFaultless a.end
+    → (cpr image : List ℕ) (k : ℕ) (entry : BlockPlan) → IsBorne layout zones form bytes cpr image k entry
+    → take (image_bytes layout entry) (drop (2048 * image_from entry.content) a.out) ≡ image_part layout entry image
+at_place layout zones form bytes a runs none cpr image k entry b =
+    let in_plan = slice_get_within (plan_of layout zones) k entry b.stands in
+    let (steps, turn, t) = takes_unit (recover_units layout zones form) (block_size form) (λ j l. refl) (never_last layout zones form) refl bytes a runs none k in_plan b.whole in
+    let does : IsRecovered layout zones form k (block_bytes form bytes k) steps turn = subst (λ j. IsRecovered layout zones form j (block_bytes form bytes k) steps turn) t.number t.unit.does in
+    let back = alone layout zones form bytes cpr image k entry b steps turn does in
+    let before = length-before layout zones form k entry bytes t.alone b.stands b.is_image t.runs t.ends in
+    part_there (2048 * image_from entry.content) (image_bytes layout entry) t.alone.out (image_part layout entry image) a.out before
+    (length-part layout entry.content image b.image_size) (subst (λ s. IsFrontOf (t.alone.out ++ written s) a.out) back.0 t.out)
+
+-- a closing line that was told writes nothing, and ends as its loop
+told_line : (line : List ℕ) (end : LoopEnd) (a : Outcome) → Does (Tell line ∷ []) (λ after. after ≡ ended end) a → IsFaultless a.end → (a.out ≡ []) × (a.end ≡ end)
+told_line line end a does none =
+    let done = all_done (Tell line ∷ []) (λ after. after ≡ ended end) a does none in (
+      ap (λ (o : Outcome). o.out) done.is ∙ ap (λ (o : Outcome). o.out) done.holds,
+      ap (λ (o : Outcome). o.end) done.is ∙ ap (λ (o : Outcome). o.end) done.holds,
+    )
+
+closed : (closing : LoopEnd → List ℕ) (end : LoopEnd) (a : Outcome) → Closes closing end a → IsFaultless a.end → (a.out ≡ []) × (a.end ≡ end)
+closed closing ReportFault a is none = absurd (subst (λ (o : Outcome). IsFaultless o.end) is none)
+closed closing end a does none = told_line (closing end) end a does none
+
+closed_keeps : (settings : Settings) (within : LoopEnd) (bytes : List ℕ) (outcome : Outcome) (layout : Layout) → IsLayoutOf settings layout
+    → IsClosed (closing_line settings.command) (recover_units layout settings.zones settings.form) bytes within outcome → IsFaultless outcome.end → KeepsBound settings bytes outcome
+closed_keeps settings within bytes outcome layout is_layout c none =
+    let line = closed (closing_line settings.command) within c.line c.closes (subst (λ (o : Outcome). IsFaultless o.end) c.all none) in
+    let loop_none : IsFaultless c.loop.end = subst IsFaultless (ap (λ (o : Outcome). o.end) c.all ∙ line.1 ∙ sym c.ends) none in
+    let out : outcome.out ≡ c.loop.out = ap (λ (o : Outcome). o.out) c.all ∙ ap (λ l. c.loop.out ++ l) line.0 ∙ append-nil c.loop.out in
     record {
-      before = parts.before;
-      later = parts.later;
-      later_lines = parts.later_lines ++ closing;
-      done = parts.done;
-      gave = subst (λ (d : Deed). HasDone units bytes (suc k) (and_then parts.before d)) back parts.gave;
-      writes = subst (λ (l : List ℕ). Appends old.output.bytes new.output.bytes l) out writes;
-      tells = subst (λ (l : List ℕ). Appends old.report.bytes new.report.bytes l) lines tells;
+      layout = layout;
+      is_layout = is_layout;
+      at_place = λ cpr image k entry b.
+          ap (λ l. take (image_bytes layout entry) (drop (2048 * image_from entry.content) l)) out
+          ∙ at_place layout settings.zones settings.form bytes c.loop c.runs loop_none cpr image k entry b;
+      alone = alone layout settings.zones settings.form bytes;
     }
 
-outcome_keeps : (layout : Layout) (zones : Zones) (form : Form) (bytes : List ℕ) (old new : Objects) (end : LoopEnd)
-    → IsOutcome (recover_units layout zones form) bytes old new end → KeepsBound layout zones form bytes old new
-outcome_keeps layout zones form bytes old new end o =
-    bound_kept layout zones form bytes [] old new o.deeds o.done o.writes
-    (subst (λ (l : List ℕ). Appends old.report.bytes new.report.bytes l) (sym (append-nil o.deeds.lines)) o.tells)
-
--- a loop that ended without a fault keeps the bound
-pub loop_keeps : (layout : Layout) (zones : Zones) (form : Form) (bytes : List ℕ) (old new : Objects) (end : LoopEnd)
-    → IsWholeEnd end → Follows (recover_units layout zones form) bytes old new end → KeepsBound layout zones form bytes old new
-loop_keeps layout zones form bytes old new Done whole follows = outcome_keeps layout zones form bytes old new Done follows
-loop_keeps layout zones form bytes old new (Short unit count) whole follows = outcome_keeps layout zones form bytes old new (Short unit count) follows
-loop_keeps layout zones form bytes old new Long whole follows = outcome_keeps layout zones form bytes old new Long follows
-loop_keeps layout zones form bytes old new (Damaged blocks) whole follows = outcome_keeps layout zones form bytes old new (Damaged blocks) follows
-loop_keeps layout zones form bytes old new NoControl whole follows = outcome_keeps layout zones form bytes old new NoControl follows
-loop_keeps layout zones form bytes old new ReadFault whole follows = absurd whole
-loop_keeps layout zones form bytes old new WriteFault whole follows = absurd whole
-loop_keeps layout zones form bytes old new ReportFault whole follows = absurd whole
-
-IsRecover : Task → Type 0
-IsRecover Recover = Unit {0}
-IsRecover Master = ⊥
-IsRecover Frames = ⊥
-
-keeps_by : (task : Task) (chosen : Option Layout) (settings : Settings) (bytes : List ℕ) (old new : Objects) (result : Status)
-    → IsRecover task → HasLayout task settings chosen → IsWholeRun settings.task (units_for task chosen settings) bytes old new result
-    → OfLayout settings (λ layout. KeepsBound layout settings.zones settings.form bytes old new)
-unfolding IsRecover
-keeps_by Recover (Some layout) settings bytes old new result is has_layout run = record {
-  layout = layout;
-  has_lengths = has_layout;
-  holds = bound_kept layout settings.zones settings.form bytes (closing_line settings.task (outcome_end (recover_units layout settings.zones settings.form) bytes run.deeds.bad))
-      old new run.deeds run.done run.writes run.tells;
-}
-keeps_by Recover None settings bytes old new result is has_layout run = absurd has_layout
-keeps_by Master chosen settings bytes old new result is has_layout run = absurd is
-keeps_by Frames chosen settings bytes old new result is has_layout run = absurd is
-
--- and so does a whole run
-pub run_keeps : (settings : Settings) (bytes : List ℕ) (old new : Objects) (result : Status) → settings.task ≡ Recover
-    → OfUnits settings (λ units. IsWholeRun settings.task units bytes old new result)
-    → OfLayout settings (λ layout. KeepsBound layout settings.zones settings.form bytes old new)
-unfolding IsRecover
-run_keeps settings bytes old new result is run =
-    keeps_by settings.task run.layout settings bytes old new result (subst IsRecover (sym is) (record {})) run.has_layout run.holds
+pub kept : BoundIsKept
+kept settings within bytes outcome is run none =
+    let (layout, is_layout, c) = subst (λ command. (meaning command).OfUnits settings (λ units. IsClosed (closing_line settings.command) units bytes within outcome)) is run in
+    closed_keeps settings within bytes outcome layout is_layout c none

@@ -1,30 +1,40 @@
 -- From a mastered stream recovery gives the image back, block by block.
-use Rattle.std.proofs.Common.{◌≡◌, ◌∙◌, ◌⊎◌, inl, inr, ℕ, zero, suc, ◌*◌, ◌≤◌, Bool, false, List, [], ◌++◌, length, take, drop, slice_get, All, sym, ap, subst, arith, Some, append_assoc, append-nil, length-append}
-use Rattle.std.proofs.Math.Seq.{take-add}
+use Rattle.std.proofs.Common.{◌≡◌, ◌∙◌, ◌⊎◌, inl, inr, ℕ, suc, ◌+◌, ◌-◌, ◌*◌, ◌<◌, ◌≤◌, Bool, List, [], ◌∷◌, length, take, drop, slice_get, All, Some, refl, ap, sym, subst, append-nil, arith}
+use Rattle.std.specs.List.{flat_map, range_with_len}
 use Rattle.std.proofs.lemmas.List.{length-drop, length-take-le, nil_from_length, take_all}
 use Rattle.dvd_block.specs.Product.{IsBlockOf, IsProduct}
 use Rattle.dvd_block.specs.Recording.{recording}
 use Rattle.dvd_capture.specs.Captured.{captured_marks, captured_rows}
 use Rattle.dvd_capture.specs.Within.{IsWithin}
 use Rattle.dvd_capture.specs.declared.form.Form.TheVariants.{Plain}
-use Rattle.dvd_capture.proofs.Fetching.{part-append, part-behind}
 use Rattle.dvd_capture.proofs.RecordedRows.{length-recorded, recording_captured}
 use Rattle.dvd_capture.proofs.Undamaged.{undamaged_within}
-use Rattle.dvd_control.specs.MainData.{IsImage}
+use Rattle.dvd_layout.specs.Content.{IsImage}
+use Rattle.dvd_layout.specs.Place.{image_sectors, total_sectors}
 use Rattle.dvd_layout.specs.Plan.{plan_of}
 use Rattle.dvd_layout.specs.declared.entry.BlockPlan.{BlockPlan}
 use Rattle.dvd_layout.specs.declared.entry.Content.{Content}
 use Rattle.dvd_layout.specs.declared.entry.Content.TheVariants.{Zero, Reference, Control, Image}
 use Rattle.dvd_layout.specs.declared.layout.Layout.{Layout}
 use Rattle.dvd_layout.specs.declared.layout.Zones.{Zones}
+use Rattle.dvd_loop.specs.Laws.{IsFaultless, start}
+use Rattle.dvd_loop.specs.Machine.{IsOutcome, Outcome, Step}
+use Rattle.dvd_loop.specs.Turns.{told, written}
+use Rattle.dvd_loop.specs.declared.ends.LoopEnd.{LoopEnd}
+use Rattle.dvd_loop.specs.declared.ends.LoopEnd.TheVariants.{Done}
+use Rattle.dvd_loop.specs.declared.ends.Turn.{Turn}
+use Rattle.dvd_loop.specs.declared.ends.Turn.TheVariants.{Good}
+use Rattle.dvd_loop.proofs.Over.{AreGood, InPieces, over, over_is, start-le, start-suc}
+use Rattle.dvd_top.specs.Commands.Master.{IsMastered, bytes_of_block, filled, frames_of, image_bytes, master_units}
+use Rattle.dvd_top.specs.Commands.Recover.{IsDone, IsRecovered, recover_units}
+use Rattle.dvd_top.specs.Performing.{IsPassedOver}
 use Rattle.dvd_top.specs.Laws.{MasteredStreamIsRecovered}
-use Rattle.dvd_top.specs.Master.{IsMastered, bytes_of_entry, filled, frames_of, image_bytes, image_sectors, master_units}
-use Rattle.dvd_top.specs.Outcome.{full_units}
-use Rattle.dvd_top.specs.Recover.{IsRecovered, deed_by, recover_units}
-use Rattle.dvd_top.specs.Units.{Units, Deed, Deeds, HasDone, and_then, start, unit_bytes}
-use Rattle.dvd_top.proofs.Repaired.{one_entry, repaired}
-use Rattle.dvd_top.proofs.Outcomes.{end_done}
-use Rattle.dvd_top.proofs.UnitLemmas.{start-suc, whole_is}
+use Rattle.dvd_top.proofs.MasterBlocks.{size_is}
+use Rattle.dvd_top.proofs.OnlyThese.{only_these, runs_only}
+use Rattle.dvd_top.proofs.Pieces.{length-pieces, piece-at, pieces-front}
+use Rattle.dvd_top.proofs.PlanBytes.{start-all}
+use Rattle.dvd_top.proofs.PlanEntries.{one_entry}
+use Rattle.dvd_top.proofs.Repaired.{repaired}
 
 -- the rows of a block are 182 bytes wide
 widths-of : (block : List (List ℕ)) → IsProduct block → All (λ row. length row ≡ 182) block
@@ -33,126 +43,155 @@ widths-of block is i d within = (is.rows i d within).size
 recording-size : (block : List (List ℕ)) → IsProduct block → length (recording block) ≡ 37_856
 recording-size block is = length-recorded block is.height (widths-of block is) 208 (omega arith)
 
+-- a block that was recorded is within the bound
 recording-within : (block : List (List ℕ)) → IsProduct block → IsWithin block (captured_rows Plain (recording block)) (captured_marks Plain (recording block))
 recording-within block is =
-    subst (λ (rows : List (List ℕ)). IsWithin block rows (captured_marks Plain (recording block))) (sym (recording_captured block is.height (widths-of block is)))
-    (undamaged_within block (recording block))
+    subst (λ rows. IsWithin block rows (captured_marks Plain (recording block))) (sym (recording_captured block is.height (widths-of block is))) (undamaged_within block (recording block))
 
--- nothing is recovered of a block without image sectors, which has no image bytes
-nothing_back : (layout : Layout) (k : ℕ) (content : Content) (entry : BlockPlan) (rows : List (List ℕ)) (marks : List (List Bool)) (image : List ℕ)
-    → (IsImage content → ⊥) → length image ≡ 2048 * image_sectors layout content
-    → deed_by content layout k entry rows marks ≡ record { out = image; lines = []; bad = false }
-nothing_back layout k (Image a) entry rows marks image none size = absurd (none record {})
-nothing_back layout k Zero entry rows marks image none size = ap (λ (l : List ℕ). record { out = l; lines = []; bad = false }) (sym (nil_from_length image size))
-nothing_back layout k Reference entry rows marks image none size = ap (λ (l : List ℕ). record { out = l; lines = []; bad = false }) (sym (nil_from_length image size))
-nothing_back layout k Control entry rows marks image none size = ap (λ (l : List ℕ). record { out = l; lines = []; bad = false }) (sym (nil_from_length image size))
+-- A block gives these image bytes back, and no line names it.
+record IsBack (image : List ℕ) (steps : List Step) (turn : Turn) : Type 0 where
+  good : turn ≡ Good
+  writes : written steps ≡ image
+  silent : told steps ≡ []
 
-image_or_none : (content : Content) → IsImage content ⊎ (IsImage content → ⊥)
-image_or_none (Image a) = inl record {}
-image_or_none Zero = inr (λ is. is)
-image_or_none Reference = inr (λ is. is)
-image_or_none Control = inr (λ is. is)
+-- one without image sectors gives none
+none_back : (layout : Layout) (content : Content) (image : List ℕ) (steps : List Step) (turn : Turn) → image_sectors layout content ≡ 0 → length image ≡ 2048 * image_sectors layout content
+    → IsPassedOver steps turn → IsBack image steps turn
+none_back layout content image steps turn none size (nothing, good) = record {
+  good = good;
+  writes = ap written nothing ∙ sym (nil_from_length image (omega arith));
+  silent = ap told nothing;
+}
 
--- What is recovered of a mastered block: the image bytes that it was mastered from, and none if it holds no image.
-block_back : (layout : Layout) (zones : Zones) (cpr : List ℕ) (k : ℕ) (entry : BlockPlan) (image : List ℕ) (block : List (List ℕ)) (deed : Deed)
-    → slice_get (plan_of layout zones) k ≡ Some entry → length cpr ≡ 6 → length image ≡ image_bytes layout entry
-    → IsBlockOf (frames_of layout entry cpr (filled image)) block
-    → IsRecovered layout zones Plain k (recording block) deed → deed ≡ record { out = image; lines = []; bad = false }
-block_back layout zones cpr k entry image block deed stands cpr_size image_size is does = elim (image_or_none entry.content) [
-  | inl is_image ↦ repaired layout zones Plain cpr k entry image (recording block) block deed stands is_image cpr_size image_size is (recording-size block is.product)
-      (recording-within block is.product) does
-  | inr none ↦
-      does.does
-      ∙ ap (λ (e : BlockPlan). deed_by e.content layout k e (captured_rows Plain (recording block)) (captured_marks Plain (recording block)))
-      (one_entry (plan_of layout zones) k does.entry entry does.stands stands)
-      ∙ nothing_back layout k entry.content entry (captured_rows Plain (recording block)) (captured_marks Plain (recording block)) image none image_size
-]
+-- a block is passed over, or holds image sectors
+passed_back : (layout : Layout) (content : Content) (k : ℕ) (entry : BlockPlan) (rows : List (List ℕ)) (marks : List (List Bool)) (image : List ℕ) (steps : List Step) (turn : Turn)
+    → length image ≡ 2048 * image_sectors layout content → IsDone content layout k entry rows marks steps turn → IsImage content ⊎ IsBack image steps turn
+passed_back layout (Image sector) k entry rows marks image steps turn size done = inl tt
+passed_back layout Zero k entry rows marks image steps turn size done = inr (none_back layout Zero image steps turn refl size done)
+passed_back layout Reference k entry rows marks image steps turn size done = inr (none_back layout Reference image steps turn refl size done)
+passed_back layout Control k entry rows marks image steps turn size done = inr (none_back layout Control image steps turn refl size done)
 
-module _ (layout : Layout) (zones : Zones) (cpr image : List ℕ) (cpr_size : length cpr ≡ 6) where
-  -- the bytes of a mastered block, and what stands behind it
-  own_bytes : (out block rest : List ℕ) (k : ℕ) → length out ≡ start (recover_units layout zones Plain) k → length block ≡ 37_856
-      → unit_bytes (recover_units layout zones Plain) ((out ++ block) ++ rest) k ≡ block
-  own_bytes out block rest k size block_is =
-      part-append (out ++ block) rest (start (recover_units layout zones Plain) k) 37_856 (omega (arith, length-append out block, size, block_is))
-      ∙ part-behind out block (start (recover_units layout zones Plain) k) 37_856 size block_is
+-- What recovery does for a mastered block: the image bytes are written that it was mastered from.
+block_back : (layout : Layout) (zones : Zones) (cpr : List ℕ) (k : ℕ) (entry : BlockPlan) (image : List ℕ) (block : List (List ℕ)) (steps : List Step) (turn : Turn)
+    → slice_get (plan_of layout zones) k ≡ Some entry → length cpr ≡ 6 → length image ≡ image_bytes layout entry → IsBlockOf (frames_of layout entry cpr (filled image)) block
+    → IsRecovered layout zones Plain k (recording block) steps turn → IsBack image steps turn
+block_back layout zones cpr k entry image block steps turn stands cpr_size size is does =
+    let rows = captured_rows Plain (recording block) in
+    let marks = captured_marks Plain (recording block) in
+    let done : IsDone entry.content layout k entry rows marks steps turn =
+    subst (λ e. IsDone e.content layout k e rows marks steps turn) (one_entry (plan_of layout zones) k does.entry entry does.stands stands) does.does in
+    elim (passed_back layout entry.content k entry rows marks image steps turn size done) [
+      | inr back ↦ back
+      | inl is_image ↦
+          let back = repaired layout zones Plain cpr k entry image (recording block) block steps turn stands is_image cpr_size size is
+          (recording-size block is.product) (recording-within block is.product) does in
+          record { good = back.1; writes = ap written back.0 ∙ append-nil image; silent = ap told back.0 }
+    ]
 
-  -- how many image bytes a block takes
-  own_size : (k : ℕ) (entry : BlockPlan) → slice_get (plan_of layout zones) k ≡ Some entry → start (master_units layout zones cpr) (suc k) ≤ length image
-      → length (unit_bytes (master_units layout zones cpr) image k) ≡ image_bytes layout entry
-  own_size k entry stands within =
-      length-take-le (bytes_of_entry layout (slice_get (plan_of layout zones) k)) (drop (start (master_units layout zones cpr) k) image)
-      (omega (arith, length-drop (start (master_units layout zones cpr) k) image, start-suc (master_units layout zones cpr) k))
-      ∙ ap (bytes_of_entry layout) stands
+-- what mastering writes for block k of the image bytes that it takes
+record IsRecorded (layout : Layout) (zones : Zones) (cpr : List ℕ) (k : ℕ) (own out : List ℕ) : Type 0 where
+  entry : BlockPlan
+  stands : slice_get (plan_of layout zones) k ≡ Some entry
+  block : List (List ℕ)
+  is_block : IsBlockOf (frames_of layout entry cpr (filled own)) block
+  writes : out ≡ recording block
 
-  -- the stream has every unit of recovery
-  mastered-size : (k : ℕ) (mastered : Deeds) → HasDone (master_units layout zones cpr) image k mastered
-      → length mastered.out ≡ start (recover_units layout zones Plain) k
-  unfolding HasDone start
-  mastered-size zero mastered masters = ap (λ (d : Deeds). length d.out) masters
-  mastered-size (suc k) mastered masters =
-      ap (λ (d : Deeds). length d.out) masters.4
-      ∙ ap (λ (d : Deed). length (masters.0.out ++ d.out)) masters.3.does
-      ∙ length-append masters.0.out (recording masters.3.block)
-      ∙ omega (arith, mastered-size k masters.0 masters.2, recording-size masters.3.block masters.3.is_block.product)
+recorded : (layout : Layout) (zones : Zones) (cpr : List ℕ) (k : ℕ) (own : List ℕ) (steps : List Step) (turn : Turn) → IsMastered layout zones cpr k own steps turn
+    → IsRecorded layout zones cpr k own (written steps)
+recorded layout zones cpr k own steps turn m = record {
+  entry = m.entry;
+  stands = m.stands;
+  block = m.block;
+  is_block = m.is_block;
+  writes = ap written m.writes ∙ append-nil (recording m.block);
+}
 
-  blocks_back : (rest : List ℕ) (k : ℕ) (mastered recovered : Deeds) → start (master_units layout zones cpr) k ≤ length image
-      → HasDone (master_units layout zones cpr) image k mastered → HasDone (recover_units layout zones Plain) (mastered.out ++ rest) k recovered
-      → recovered ≡ record { out = take (start (master_units layout zones cpr) k) image; lines = []; bad = 0 }
-  unfolding HasDone start
-  blocks_back rest zero mastered recovered within masters recovers = recovers
-  blocks_back rest (suc k) mastered recovered within masters recovers =
-      recovers.4
-      ∙ ap (λ (d : Deeds). and_then d recovers.1)
-      (blocks_back (recording masters.3.block ++ rest) k masters.0 recovers.0 (omega (arith, start-suc (master_units layout zones cpr) k)) masters.2
-      (subst (λ (l : List ℕ). HasDone (recover_units layout zones Plain) l k recovers.0) (whole ∙ append_assoc masters.0.out (recording masters.3.block) rest) recovers.2))
-      ∙ ap (λ (d : Deed). and_then (record { out = take (start (master_units layout zones cpr) k) image; lines = []; bad = 0 }) d) back
-      ∙ ap (λ (l : List ℕ). record { out = l; lines = []; bad = 0 }) (sym (take-add (start (master_units layout zones cpr) k) (bytes_of_entry layout (slice_get (plan_of layout zones) k)) image))
-    where
-      mast : IsMastered layout zones cpr k (unit_bytes (master_units layout zones cpr) image k) masters.1
-      mast = masters.3
+masters_good : (layout : Layout) (zones : Zones) (cpr : List ℕ) → AreGood (master_units layout zones cpr) (bytes_of_block layout zones) (λ k own out lines. IsRecorded layout zones cpr k own out)
+masters_good layout zones cpr = record {
+  begins = λ k bytes. refl;
+  opens = refl;
+  does = λ before own steps turn lt unit. (unit.does.good, recorded layout zones cpr (length before) own steps turn unit.does);
+  closes = λ before steps none. none;
+  asks = refl;
+}
 
-      size : length (recording mast.block) ≡ 37_856
-      size = recording-size mast.block mast.is_block.product
+-- nothing is told where nothing is told for each
+none_told : (ks : List ℕ) → flat_map (λ (k : ℕ). let none : List ℕ = [] in none) ks ≡ []
+none_told [] = refl
+none_told (k ∷ ks) = none_told ks
 
-      out_is : mastered.out ≡ masters.0.out ++ recording mast.block
-      out_is = ap (λ (d : Deeds). d.out) masters.4 ∙ ap (λ (d : Deed). masters.0.out ++ d.out) mast.does
+-- an outcome by its parts
+outcome_is : (a : Outcome) (taken out lines : List ℕ) (end : LoopEnd) → a.taken ≡ taken → a.out ≡ out → a.lines ≡ lines → a.end ≡ end → a ≡ record { taken = taken; out = out; lines = lines; end = end }
+outcome_is a taken out lines end taken_is out_is lines_are end_is =
+    ap (λ l. record a { taken = l }) taken_is
+    ∙ ap (λ l. record a { taken = taken; out = l }) out_is
+    ∙ ap (λ l. record a { taken = taken; out = out; lines = l }) lines_are
+    ∙ ap (λ e. record { taken = taken; out = out; lines = lines; end = e }) end_is
 
-      whole : mastered.out ++ rest ≡ (masters.0.out ++ recording mast.block) ++ rest
-      whole = ap (λ (l : List ℕ). l ++ rest) out_is
+module _ (layout : Layout) (zones : Zones) (cpr image : List ℕ) (cpr_size : length cpr ≡ 6) (image_size : length image ≡ 2048 * total_sectors layout) where
+  abbrev count : ℕ
+  count = length (plan_of layout zones)
 
-      does : IsRecovered layout zones Plain k (recording mast.block) recovers.1
-      does =
-          subst (λ (own : List ℕ). IsRecovered layout zones Plain k own recovers.1)
-          (ap (λ (l : List ℕ). unit_bytes (recover_units layout zones Plain) l k) whole ∙ own_bytes masters.0.out (recording mast.block) rest k (mastered-size k masters.0 masters.2) size)
-          recovers.3
+  abbrev size : ℕ → ℕ
+  size = bytes_of_block layout zones
 
-      back : recovers.1 ≡ record { out = unit_bytes (master_units layout zones cpr) image k; lines = []; bad = false }
-      back =
-          block_back layout zones cpr k mast.entry (unit_bytes (master_units layout zones cpr) image k) mast.block recovers.1 mast.stands cpr_size
-          (own_size k mast.entry mast.stands within) mast.is_block does
+  -- the image bytes of block k
+  abbrev part : ℕ → List ℕ
+  part k = take (size k) (drop (start size k) image)
 
--- all units are whole in an input of just their bytes
-full-all : (units : Units) (bytes : List ℕ) → length bytes ≡ start units units.count → full_units units bytes ≡ units.count
-full-all units bytes size = whole_is units (length bytes) units.count units.count (omega arith) (omega (arith, size)) (λ less. absurd (omega (arith, less)))
+  image_all : length image ≡ start size count
+  image_all = image_size ∙ sym (start-all layout zones)
+
+  length-part : (k : ℕ) (entry : BlockPlan) → k < count → slice_get (plan_of layout zones) k ≡ Some entry → length (part k) ≡ image_bytes layout entry
+  length-part k entry lt stands =
+      let last : suc k + (count - suc k) ≡ count = omega arith in
+      let inside : start size (suc k) ≤ start size count = subst (λ m. start size (suc k) ≤ start size m) last (start-le size (suc k) (count - suc k)) in
+      length-take-le (size k) (drop (start size k) image) (omega (arith, inside, start-suc size k, image_all, length-drop (start size k) image)) ∙ size_is layout zones k entry stands
+
+  module _ (mastered : Outcome) (pieces : InPieces size (λ k own out lines. IsRecorded layout zones cpr k own out) 0 count image image mastered) where
+    recorded-at : (k : ℕ) → k < count → IsRecorded layout zones cpr k (part k) (pieces.outs k)
+    recorded-at k lt = pieces.each k (omega arith) (omega arith)
+
+    out_size : (k : ℕ) → k < count → length (pieces.outs k) ≡ 37_856
+    out_size k lt = let r = recorded-at k lt in ap length r.writes ∙ recording-size r.block r.is_block.product
+
+    stream-size : length mastered.out ≡ start (λ k. 37_856) count
+    stream-size = ap length pieces.out_is ∙ length-pieces pieces.outs (λ k. 37_856) count out_size
+
+    -- block k of the stream is what was recorded there
+    captured : (k : ℕ) (own : List ℕ) (lt : k < count) → own ≡ take 37_856 (drop (start (λ k. 37_856) k) mastered.out) → own ≡ recording (recorded-at k lt).block
+    captured k own lt is =
+        is ∙ ap (λ l. take 37_856 (drop (start (λ k. 37_856) k) l)) pieces.out_is ∙ piece-at pieces.outs (λ k. 37_856) count k out_size lt ∙ (recorded-at k lt).writes
+
+    back-at : (k : ℕ) (own : List ℕ) (steps : List Step) (turn : Turn) → k < count → own ≡ take 37_856 (drop (start (λ k. 37_856) k) mastered.out)
+        → IsRecovered layout zones Plain k own steps turn → IsBack (part k) steps turn
+    back-at k own steps turn lt is does =
+        let r = recorded-at k lt in
+        block_back layout zones cpr k r.entry (part k) r.block steps turn r.stands cpr_size (length-part k r.entry lt r.stands) r.is_block
+        (subst (λ l. IsRecovered layout zones Plain k l steps turn) (captured k own lt is) does)
+
+    recovers_good : AreGood (only_these (recover_units layout zones Plain) (λ k. 37_856) (λ k bytes. refl) mastered.out) (λ k. 37_856) (λ k own out lines. (out ≡ part k) × (lines ≡ []))
+    recovers_good = record {
+      begins = λ k bytes. refl;
+      opens = refl;
+      does = λ before own steps turn lt unit.
+          let back = back-at (length before) own steps turn lt unit.does.1 unit.does.0 in (back.good, (back.writes, back.silent));
+      closes = λ before steps none. none;
+      asks = refl;
+    }
+
+    stream_back : (recovered : Outcome) → IsOutcome (recover_units layout zones Plain) mastered.out recovered → IsFaultless recovered.end
+        → recovered ≡ record { taken = mastered.out; out = image; lines = []; end = Done }
+    stream_back recovered runs none =
+        let units = recover_units layout zones Plain in
+        let all = over_is (only_these units (λ k. 37_856) (λ k bytes. refl) mastered.out) (λ k. 37_856) (λ k own. part k) (λ k own. []) recovers_good mastered.out recovered
+        (runs_only units (λ k. 37_856) (λ k bytes. refl) mastered.out recovered runs) none stream-size in
+        let out : recovered.out ≡ image = all.0 ∙ pieces-front size image count ∙ take_all (start size count) image (omega (arith, image_all)) in
+        let lines : recovered.lines ≡ [] = all.1 ∙ none_told (range_with_len 0 count) in
+        outcome_is recovered mastered.out image [] Done all.3 out lines all.2
 
 pub stream_recovered : MasteredStreamIsRecovered
-stream_recovered layout zones cpr image mastered recovered cpr_size image_size masters recovers = (
-  back,
-  end_done (recover_units layout zones Plain) mastered.out recovered.bad size (ap (λ (d : Deeds). d.bad) back),
-)
-  where
-    all_masters : HasDone (master_units layout zones cpr) image (length (plan_of layout zones)) mastered
-    all_masters = subst (λ (n : ℕ). HasDone (master_units layout zones cpr) image n mastered) (full-all (master_units layout zones cpr) image image_size) masters
-
-    size : length mastered.out ≡ start (recover_units layout zones Plain) (length (plan_of layout zones))
-    size = mastered-size layout zones cpr image cpr_size (length (plan_of layout zones)) mastered all_masters
-
-    all_recovers : HasDone (recover_units layout zones Plain) (mastered.out ++ []) (length (plan_of layout zones)) recovered
-    all_recovers =
-        subst (λ (l : List ℕ). HasDone (recover_units layout zones Plain) l (length (plan_of layout zones)) recovered) (sym (append-nil mastered.out))
-        (subst (λ (n : ℕ). HasDone (recover_units layout zones Plain) mastered.out n recovered) (full-all (recover_units layout zones Plain) mastered.out size) recovers)
-
-    back : recovered ≡ record { out = image; lines = []; bad = 0 }
-    back =
-        blocks_back layout zones cpr image cpr_size [] (length (plan_of layout zones)) mastered recovered (omega (arith, image_size)) all_masters all_recovers
-        ∙ ap (λ (l : List ℕ). record { out = l; lines = []; bad = 0 }) (take_all (start (master_units layout zones cpr) (length (plan_of layout zones))) image (omega (arith, image_size)))
+stream_recovered layout zones cpr image mastered recovered cpr_size image_size masters none recovers no_fault =
+    let pieces = over (master_units layout zones cpr) (bytes_of_block layout zones) (λ k own out lines. IsRecorded layout zones cpr k own out) (masters_good layout zones cpr)
+    image mastered masters none (image_all layout zones cpr image cpr_size image_size) in
+    (pieces.end, stream_back layout zones cpr image cpr_size image_size mastered pieces recovered recovers no_fault)

@@ -1,32 +1,34 @@
 -- A data block whose damage is within the bound gives back the image sectors that it was mastered from.
-use Rattle.std.proofs.Common.{◌≡◌, ◌∙◌, ℕ, ◌*◌, ◌<◌, Bool, false, List, [], length, take, drop, slice_get, refl, sym, ap, subst, arith, Some, None, is_some}
-use Rattle.std.specs.declared.option.Option.{Option}
+use Rattle.std.proofs.Common.{◌≡◌, ◌∙◌, ℕ, ◌*◌, ◌<◌, Bool, false, inl, inr, List, [], ◌∷◌, length, take, drop, ap, subst, arith}
 use Rattle.std.proofs.lemmas.List.{length-take-le, length-drop, length-replicate}
 use Rattle.std.proofs.lemmas.List.Elements.{All-from_get_or}
 use Rattle.std.proofs.lemmas.List.FromFn.{length-map-range_with_len, get_or-map-range_with_len}
-use Rattle.std.proofs.lemmas.Option.{get_or_from_slice_get}
 use Rattle.dvd_block.specs.Recording.{record_at}
 use Rattle.dvd_capture.specs.Captured.{block_size, captured_marks, captured_rows, marks_in, record_of}
 use Rattle.dvd_capture.specs.declared.form.Form.{Form}
 use Rattle.dvd_capture.specs.declared.form.Form.TheVariants.{Plain, Marked}
 use Rattle.dvd_capture.proofs.Fetching.{record_at-lt}
 use Rattle.dvd_capture.proofs.MarkLists.{length-marks_of}
-use Rattle.dvd_control.specs.MainData.{IsImage}
+use Rattle.dvd_layout.specs.Content.{IsImage}
 use Rattle.dvd_layout.specs.Lengths.{has_two_layers}
 use Rattle.dvd_layout.specs.Plan.{plan_of}
 use Rattle.dvd_layout.specs.declared.entry.BlockPlan.{BlockPlan}
 use Rattle.dvd_layout.specs.declared.entry.Content.{Content}
 use Rattle.dvd_layout.specs.declared.entry.Content.TheVariants.{Zero, Reference, Control, Image}
 use Rattle.dvd_layout.specs.declared.layout.Layout.{Layout}
+use Rattle.dvd_layout.specs.Place.{image_sectors}
+use Rattle.dvd_loop.specs.Machine.{Step}
+use Rattle.dvd_loop.specs.Machine.Step.{Write}
+use Rattle.dvd_loop.specs.declared.ends.Turn.{Turn}
 use Rattle.dvd_read.specs.Made.{IsReceived}
-use Rattle.dvd_read.specs.Reading.{block_cause, block_sectors}
-use Rattle.dvd_read.specs.declared.cause.Cause.{Cause}
+use Rattle.dvd_read.proofs.BlockRead.{read-determined}
 use Rattle.dvd_read.proofs.Mastered.{within-read}
+use Rattle.dvd_top.specs.Commands.Master.{cpr_in, filled, frames_of}
+use Rattle.dvd_top.specs.Commands.Recover.{IsDone}
+use Rattle.dvd_top.specs.Performing.{IsImageDone, sectors_out}
 use Rattle.dvd_top.specs.Laws.{DamageWithinTheBoundIsRepaired}
-use Rattle.dvd_top.specs.Master.{cpr_in, filled, frames_of, image_sectors}
-use Rattle.dvd_top.specs.Recover.{deed_by, lines_for, sectors_out}
-use Rattle.dvd_top.proofs.MasterTurns.{has_numbers}
-use Rattle.dvd_top.proofs.Repairs.{data_block-made, few-sectors, sector, written-image}
+use Rattle.dvd_top.proofs.PlanEntries.{has_numbers, one_entry}
+use Rattle.dvd_top.proofs.Repairs.{data_block-made, few-sectors, sector, sectors_list, written-image}
 
 -- the rows and marks of the bytes of a block are received ones
 row_in : Form → List ℕ → ℕ → List ℕ
@@ -64,29 +66,31 @@ captured-received form own size = record {
     marks_height : length (captured_marks form own) ≡ 208
     marks_height = length-map-range_with_len (row_marks_in form own) 0 208
 
--- the entry at a place of a plan is the only one there
-pub one_entry : (plan : List BlockPlan) (k : ℕ) (a b : BlockPlan) → slice_get plan k ≡ Some a → slice_get plan k ≡ Some b → a ≡ b
-one_entry plan k a b first second = sym (get_or_from_slice_get plan k a a first) ∙ get_or_from_slice_get plan k b a second
-
--- of a block without a cause exactly its image sectors are written
-deed_of : (content : Content) (layout : Layout) (k : ℕ) (entry : BlockPlan) (rows : List (List ℕ)) (marks : List (List Bool)) (image : List ℕ)
-    → IsImage content → entry.content ≡ content → block_cause rows marks entry ≡ None → sectors_out (image_sectors layout entry.content) (block_sectors rows marks entry) ≡ image
-    → deed_by content layout k entry rows marks ≡ record { out = image; lines = []; bad = false }
-deed_of (Image a) layout k entry rows marks image is same none written =
-    ap (λ (cause : Option Cause). record { out = sectors_out (image_sectors layout entry.content) (block_sectors rows marks entry); lines = lines_for k entry cause; bad = is_some cause }) none
-    ∙ ap (λ (l : List ℕ). record { out = l; lines = []; bad = false }) written
-deed_of Zero layout k entry rows marks image is same none written = absurd is
-deed_of Reference layout k entry rows marks image is same none written = absurd is
-deed_of Control layout k entry rows marks image is same none written = absurd is
+-- what is done for a data block is done for image sectors
+pub image_done : (content : Content) (layout : Layout) (k : ℕ) (entry : BlockPlan) (rows : List (List ℕ)) (marks : List (List Bool)) (steps : List Step) (turn : Turn)
+    → IsImage content → IsDone content layout k entry rows marks steps turn → IsImageDone layout k entry rows marks steps turn
+image_done (Image a) layout k entry rows marks steps turn is done = done
+image_done Zero layout k entry rows marks steps turn is done = absurd is
+image_done Reference layout k entry rows marks steps turn is done = absurd is
+image_done Control layout k entry rows marks steps turn is done = absurd is
 
 pub repaired : DamageWithinTheBoundIsRepaired
-repaired layout zones form cpr k entry image own block deed stands is_image cpr_size image_size is_block size within does =
+repaired layout zones form cpr k entry image own block steps turn stands is_image cpr_size image_size is_block size within does =
     let few = few-sectors layout entry.content in
-    let read = within-read entry (has_two_layers layout.shape) (cpr_in entry.area cpr) (sector (filled image)) (frames_of layout entry cpr (filled image)) block
-    (captured_rows form own) (captured_marks form own) (has_numbers layout zones k entry stands)
-    (data_block-made layout entry cpr image is_image cpr_size (omega (arith, image_size, few))) is_block (captured-received form own size) within in
-    let written : sectors_out (image_sectors layout entry.content) (block_sectors (captured_rows form own) (captured_marks form own) entry) ≡ image =
-    ap (sectors_out (image_sectors layout entry.content)) read.1 ∙ written-image layout entry.content image few image_size in
-    does.does
-    ∙ ap (λ (e : BlockPlan). deed_by e.content layout k e (captured_rows form own) (captured_marks form own)) (one_entry (plan_of layout zones) k does.entry entry does.stands stands)
-    ∙ deed_of entry.content layout k entry (captured_rows form own) (captured_marks form own) image is_image refl read.0 written
+    let rows = captured_rows form own in
+    let marks = captured_marks form own in
+    let count = image_sectors layout entry.content in
+    let received = captured-received form own size in
+    let made = data_block-made layout entry cpr image is_image cpr_size (omega (arith, image_size, few)) in
+    let read = within-read entry (has_two_layers layout.shape) (cpr_in entry.area cpr) (sector (filled image)) (frames_of layout entry cpr (filled image)) block rows marks
+    (has_numbers layout zones k entry stands) made is_block received within in
+    let done : IsDone entry.content layout k entry rows marks steps turn =
+    subst (λ e. IsDone e.content layout k e rows marks steps turn) (one_entry (plan_of layout zones) k does.entry entry does.stands stands) does.does in
+    elim (image_done entry.content layout k entry rows marks steps turn is_image done) [
+      | inr refused ↦ let first = refused.first in let none = read.0 in cc
+      | inl given ↦
+          let sectors : given.sectors ≡ sectors_list (filled image) = (read-determined rows marks entry given.sectors received.height received.marks_height given.read).1 ∙ read.1 in (
+            given.writes ∙ ap (λ l. Write l ∷ []) (ap (sectors_out count) sectors ∙ written-image layout entry.content image few image_size),
+            given.good,
+          )
+    ]

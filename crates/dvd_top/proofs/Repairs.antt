@@ -1,24 +1,26 @@
 -- What is recovered of a data block whose damage is within the bound.
-use Rattle.std.proofs.Common.{◌≡◌, ◌∙◌, ℕ, zero, suc, ◌+◌, ◌-◌, ◌*◌, ◌<◌, ◌≤◌, List, [], ◌∷◌, ◌++◌, length, map, take, drop, replicate, get_or, refl, sym, ap, arith}
-use Rattle.std.specs.List.{flat_map, range_with_len}
-use Rattle.std.proofs.Math.Seq.{take-add, take-suc}
-use Rattle.std.proofs.lemmas.Grind.{flat_map-append}
+use Rattle.std.proofs.Common.{◌≡◌, ◌∙◌, ℕ, zero, suc, ◌+◌, ◌-◌, ◌*◌, ◌<◌, ◌≤◌, List, [], ◌++◌, length, map, take, drop, replicate, refl, sym, ap, arith, add-one}
+use Rattle.std.specs.List.{range_with_len}
+use Rattle.std.proofs.Math.Seq.{take-add}
 use Rattle.std.proofs.lemmas.List.{length-take-le, length-drop, length-append, take_at, length-replicate}
-use Rattle.std.proofs.lemmas.List.FromFn.{length-map-range_with_len, get_or-map-range_with_len}
-use Rattle.std.proofs.lemmas.List.{append-nil}
-use Rattle.dvd_control.specs.MainData.{IsImage}
+use Rattle.std.proofs.lemmas.List.FromFn.{get_or-map-range_with_len}
 use Rattle.dvd_frame.specs.Id.{id_word}
 use Rattle.dvd_frame.specs.Frame.{data_frame}
 use Rattle.dvd_frame.specs.declared.id.Area.{Area}
 use Rattle.dvd_frame.specs.declared.id.Area.TheVariants.{DataZone, LeadIn, LeadOut, Middle}
+use Rattle.dvd_block.specs.Product.{line}
 use Rattle.dvd_layout.specs.Lengths.{has_two_layers}
-use Rattle.dvd_layout.specs.Place.{rule_for}
+use Rattle.dvd_layout.specs.Content.{IsImage}
+use Rattle.dvd_layout.specs.Place.{image_sectors, rule_for}
 use Rattle.dvd_layout.specs.declared.entry.BlockPlan.{BlockPlan}
 use Rattle.dvd_layout.specs.declared.entry.Content.{Content}
 use Rattle.dvd_layout.specs.declared.entry.Content.TheVariants.{Zero, Reference, Control, Image}
 use Rattle.dvd_layout.specs.declared.layout.Layout.{Layout}
 use Rattle.dvd_read.specs.Made.{IsMadeOf}
-use Rattle.dvd_top.specs.Master.{cpr_in, filled, frame_of, frames_of, image_sectors, main_for}
+use Rattle.dvd_top.specs.Commands.Master.{cpr_in, filled, frames_of, main_for}
+use Rattle.dvd_top.specs.Performing.{sectors_out}
+use Rattle.dvd_top.proofs.BlockFrames.{line-frames_of}
+use Rattle.dvd_top.proofs.Recovered.{sectors_more}
 
 -- sixteen sectors of 2,048 bytes
 abbrev pub sector : List ℕ → ℕ → List ℕ
@@ -30,26 +32,18 @@ sectors_list sectors = map (sector sectors) (range_with_len 0 16)
 length-sector : (sectors : List ℕ) (f : ℕ) → length sectors ≡ 32768 → f < 16 → length (sector sectors f) ≡ 2048
 length-sector sectors f size below = length-take-le 2048 (drop (2048 * f) sectors) (omega (arith, length-drop (2048 * f) sectors))
 
-abbrev pub joined : List (List ℕ) → List ℕ
-joined sectors = flat_map (λ (s : List ℕ). s) sectors
-
-joined-push : (sectors : List (List ℕ)) (last : List ℕ) → joined (sectors ++ last ∷ []) ≡ joined sectors ++ last
-joined-push sectors last =
-    flat_map-append (λ (s : List ℕ). s) sectors (last ∷ []) ∙ ap (λ (l : List ℕ). flat_map (λ (s : List ℕ). s) sectors ++ l) (append-nil last)
-
 -- the first n of them, one after the other
-sectors-joined : (sectors : List ℕ) (n : ℕ) → n ≤ 16 → joined (take n (sectors_list sectors)) ≡ take (2048 * n) sectors
+sectors-joined : (sectors : List ℕ) (n : ℕ) → n ≤ 16 → sectors_out n (sectors_list sectors) ≡ take (2048 * n) sectors
 sectors-joined sectors zero few = refl
 sectors-joined sectors (suc n) few =
     let list = sectors_list sectors in
-    let inside : n < length list = omega (arith, length-map-range_with_len (sector sectors) 0 16) in
     let more : 2048 * n + 2048 ≡ 2048 * suc n = omega arith in
-    ap joined (take-suc list n [] inside)
-    ∙ joined-push (take n list) (get_or list n [])
-    ∙ ap (λ (l : List ℕ). l ++ get_or list n []) (sectors-joined sectors n (omega arith))
-    ∙ ap (λ (l : List ℕ). take (2048 * n) sectors ++ l) (get_or-map-range_with_len (sector sectors) 0 16 n n [] (omega arith) (omega arith))
+    ap (λ m. sectors_out m list) (sym (add-one n))
+    ∙ sym (sectors_more list n)
+    ∙ ap (λ l. l ++ line list n) (sectors-joined sectors n (omega arith))
+    ∙ ap (λ l. take (2048 * n) sectors ++ l) (get_or-map-range_with_len (sector sectors) 0 16 n n [] (omega arith) (omega arith))
     ∙ sym (take-add (2048 * n) 2048 sectors)
-    ∙ ap (λ (m : ℕ). take m sectors) more
+    ∙ ap (λ m. take m sectors) more
 
 -- image bytes filled to sixteen sectors
 length-filled : (image : List ℕ) → length image ≤ 32768 → length (filled image) ≡ 32768
@@ -57,7 +51,7 @@ length-filled image most = omega (arith, length-append image (replicate (32768 -
 
 -- the image sectors of a data block are the image bytes that it was filled from
 pub written-image : (layout : Layout) (content : Content) (image : List ℕ) → image_sectors layout content ≤ 16 → length image ≡ 2048 * image_sectors layout content
-    → joined (take (image_sectors layout content) (sectors_list (filled image))) ≡ image
+    → sectors_out (image_sectors layout content) (sectors_list (filled image)) ≡ image
 written-image layout content image few size =
     sectors-joined (filled image) (image_sectors layout content) few
     ∙ take_at image (replicate (32768 - length image) 0) (2048 * image_sectors layout content) size
@@ -83,12 +77,11 @@ main-image Control layout entry sectors f is = absurd is
 -- a data block is made of its image sectors
 pub data_block-made : (layout : Layout) (entry : BlockPlan) (cpr image : List ℕ) → IsImage entry.content → length cpr ≡ 6 → length image ≤ 32768
     → IsMadeOf entry (has_two_layers layout.shape) (cpr_in entry.area cpr) (sector (filled image)) (frames_of layout entry cpr (filled image))
-unfolding frames_of
 data_block-made layout entry cpr image is_image cpr_size most = record {
   cpr_size = cpr-size entry.area cpr cpr_size;
   sizes = λ f below. length-sector (filled image) f (length-filled image most) below;
   are = λ f below.
-      get_or-map-range_with_len (frame_of layout entry cpr (filled image)) 0 16 f f [] below (omega arith)
+      line-frames_of layout entry cpr (filled image) f below
       ∙ ap (λ (main : List ℕ). data_frame (id_word entry.area entry.layer (has_two_layers layout.shape) (entry.first + f)) (cpr_in entry.area cpr) (rule_for entry.content f) main)
       (main-image entry.content layout entry (filled image) f is_image);
 }

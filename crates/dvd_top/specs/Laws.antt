@@ -1,38 +1,78 @@
--- What recovery gives back of what was mastered.
-use Rattle.std.specs.Prelude.{◌≡◌, ℕ, false, List, [], length, Some, slice_get}
+-- What holds of every run of a command.
+use Rattle.std.specs.Prelude.{◌≡◌, ℕ, ◌*◌, ◌<◌, List, [], ◌∷◌, length, All, Some, None, slice_get}
 use Rattle.dvd_block.specs.Product.{IsBlockOf}
 use Rattle.dvd_capture.specs.Captured.{block_size, captured_rows, captured_marks}
 use Rattle.dvd_capture.specs.Within.{IsWithin}
 use Rattle.dvd_capture.specs.declared.form.Form.{Form}
 use Rattle.dvd_capture.specs.declared.form.Form.TheVariants.{Plain}
-use Rattle.dvd_control.specs.MainData.{IsImage}
+use Rattle.dvd_layout.specs.Content.{IsImage, image_from}
+use Rattle.dvd_layout.specs.Place.{total_sectors}
 use Rattle.dvd_layout.specs.Plan.{plan_of}
 use Rattle.dvd_layout.specs.declared.entry.BlockPlan.{BlockPlan}
 use Rattle.dvd_layout.specs.declared.layout.Layout.{Layout}
 use Rattle.dvd_layout.specs.declared.layout.Zones.{Zones}
-use Rattle.dvd_top.specs.Master.{filled, frames_of, image_bytes, master_units}
-use Rattle.dvd_top.specs.Outcome.{full_units, outcome_end}
-use Rattle.dvd_top.specs.declared.ends.LoopEnd.TheVariants.{Done}
-use Rattle.dvd_top.specs.Recover.{IsRecovered, recover_units}
-use Rattle.dvd_top.specs.Units.{Deed, Deeds, HasDone, start}
+use Rattle.dvd_loop.specs.Laws.{IsFaultless, first}
+use Rattle.dvd_loop.specs.Machine.{IsOutcome, Outcome, Step}
+use Rattle.dvd_loop.specs.Machine.Step.{Write}
+use Rattle.dvd_loop.specs.declared.ends.LoopEnd.{LoopEnd}
+use Rattle.dvd_loop.specs.declared.ends.LoopEnd.TheVariants.{Done}
+use Rattle.dvd_loop.specs.declared.ends.Turn.{Turn}
+use Rattle.dvd_loop.specs.declared.ends.Turn.TheVariants.{Good}
+use Rattle.dvd_top.specs.Bound.{KeepsBound}
+use Rattle.dvd_top.specs.Commands.Master.{filled, frames_of, image_bytes, master_units}
+use Rattle.dvd_top.specs.Commands.Recover.{IsRecovered, recover_units}
+use Rattle.dvd_top.specs.Headline.{IsLoop, IsRun, breaks}
+use Rattle.dvd_top.specs.declared.settings.Command.TheVariants.{Recover}
+use Rattle.dvd_top.specs.declared.settings.Settings.{Settings}
+
+-- What is done for an input is determined: the same settings and bytes come to one outcome, where no fault ends it.
+abbrev pub WhatIsDoneIsDetermined : Type 0
+WhatIsDoneIsDetermined =
+    (settings : Settings) (bytes : List ℕ) (a b : Outcome) → IsLoop settings bytes a → IsLoop settings bytes b → IsFaultless a.end → IsFaultless b.end → a ≡ b
+
+-- numbers that are bytes
+abbrev pub AreBytes : List ℕ → Type 0
+AreBytes numbers = All (λ byte. byte < 256) numbers
+
+-- Something is done for every input: where the settings break no rule of layouts, there is an outcome that no fault ends.
+abbrev pub SomethingIsDone : Type 0
+SomethingIsDone =
+    (settings : Settings) (bytes : List ℕ) → length settings.cpr ≡ 6 → AreBytes settings.cpr → AreBytes bytes → breaks settings ≡ None
+    → (outcome : Outcome) × IsLoop settings bytes outcome × IsFaultless outcome.end
+
+-- What the blocks before a data block take are the image's bytes before its first sector.
+abbrev pub ImageIsTakenInOrder : Type 0
+ImageIsTakenInOrder =
+    (layout : Layout) (zones : Zones) (cpr image : List ℕ) (k : ℕ) (entry : BlockPlan) (a : Outcome) → slice_get (plan_of layout zones) k ≡ Some entry → IsImage entry.content
+    → IsOutcome (first k (master_units layout zones cpr)) image a → a.end ≡ Done → length a.taken ≡ 2048 * image_from entry.content
+
+-- An image is mastered to its end exactly where it has 2,048 bytes for each sector of the layout.
+abbrev pub ImageIsTakenWhole : Type 0
+ImageIsTakenWhole =
+    (layout : Layout) (zones : Zones) (cpr image : List ℕ) (a : Outcome) → IsOutcome (master_units layout zones cpr) image a → IsFaultless a.end
+    → (a.end ≡ Done → length image ≡ 2048 * total_sectors layout) × (length image ≡ 2048 * total_sectors layout → a.end ≡ Done)
 
 -- A data block whose damage is within the bound: twice the bad rows plus the lost rows is at most 16 against the block that
 -- was mastered at that place, of any image and any CPR_MAI. Exactly its image sectors are written, and no line names it.
 abbrev pub DamageWithinTheBoundIsRepaired : Type 0
 DamageWithinTheBoundIsRepaired =
-    (layout : Layout) (zones : Zones) (form : Form) (cpr : List ℕ) (k : ℕ) (entry : BlockPlan) (image own : List ℕ) (block : List (List ℕ)) (deed : Deed)
+    (layout : Layout) (zones : Zones) (form : Form) (cpr : List ℕ) (k : ℕ) (entry : BlockPlan) (image own : List ℕ) (block : List (List ℕ)) (steps : List Step) (turn : Turn)
     → slice_get (plan_of layout zones) k ≡ Some entry → IsImage entry.content → length cpr ≡ 6 → length image ≡ image_bytes layout entry
     → IsBlockOf (frames_of layout entry cpr (filled image)) block
     → length own ≡ block_size form → IsWithin block (captured_rows form own) (captured_marks form own)
-    → IsRecovered layout zones form k own deed → deed ≡ record { out = image; lines = []; bad = false }
+    → IsRecovered layout zones form k own steps turn → (steps ≡ Write image ∷ []) × (turn ≡ Good)
 
--- What a whole run of recovery does for the stream that a whole run of mastering wrote of a whole image:
--- the image is written, no line names a block, and the end is Done.
+-- Of a run of recovery that no fault ended: the bound is kept.
+abbrev pub BoundIsKept : Type 0
+BoundIsKept =
+    (settings : Settings) (within : LoopEnd) (bytes : List ℕ) (outcome : Outcome) → settings.command ≡ Recover → IsRun settings within bytes outcome → IsFaultless outcome.end
+    → KeepsBound settings bytes outcome
+
+-- What recovery does for the stream that mastering wrote of a whole image: the image is written, no line names a block, and
+-- the end is Done.
 abbrev pub MasteredStreamIsRecovered : Type 0
 MasteredStreamIsRecovered =
-    (layout : Layout) (zones : Zones) (cpr image : List ℕ) (mastered recovered : Deeds)
-    → length cpr ≡ 6 → length image ≡ start (master_units layout zones cpr) (length (plan_of layout zones))
-    → HasDone (master_units layout zones cpr) image (full_units (master_units layout zones cpr) image) mastered
-    → HasDone (recover_units layout zones Plain) mastered.out (full_units (recover_units layout zones Plain) mastered.out) recovered
-    → (recovered ≡ record { out = image; lines = []; bad = 0 })
-    × (outcome_end (recover_units layout zones Plain) mastered.out recovered.bad ≡ Done)
+    (layout : Layout) (zones : Zones) (cpr image : List ℕ) (mastered recovered : Outcome) → length cpr ≡ 6 → length image ≡ 2048 * total_sectors layout
+    → IsOutcome (master_units layout zones cpr) image mastered → IsFaultless mastered.end
+    → IsOutcome (recover_units layout zones Plain) mastered.out recovered → IsFaultless recovered.end
+    → (mastered.end ≡ Done) × (recovered ≡ record { taken = mastered.out; out = image; lines = []; end = Done })

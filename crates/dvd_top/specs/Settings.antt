@@ -1,5 +1,5 @@
 -- Settings with their defaults, and the layout that they ask for.
-use Rattle.std.specs.Prelude.{◌≡◌, ℕ, Option, None, replicate}
+use Rattle.std.specs.Prelude.{◌≡◌, ℕ, Option, replicate}
 use Rattle.dvd_capture.specs.declared.form.Form.TheVariants.{Plain}
 use Rattle.dvd_layout.specs.Lengths.{first_fault}
 use Rattle.dvd_layout.specs.declared.fault.LayoutFault.{LayoutFault}
@@ -7,13 +7,12 @@ use Rattle.dvd_layout.specs.declared.layout.Layout.{Layout}
 use Rattle.dvd_layout.specs.declared.layout.Shape.TheVariants.{Single}
 use Rattle.dvd_layout.specs.declared.layout.Zones.TheVariants.{DataOnly}
 use Rattle.dvd_top.specs.declared.settings.Settings.{Settings}
-use Rattle.dvd_top.specs.declared.settings.Task.{Task}
-use Rattle.dvd_top.specs.declared.settings.Task.TheVariants.{Frames, Master, Recover}
+use Rattle.dvd_top.specs.declared.settings.Command.{Command}
 
 -- one layer, the Data Zone alone, and zeros but for a tail of sixteen blocks
-abbrev pub plain_settings : Task → ℕ → ℕ → Settings
-plain_settings task first sectors = record {
-  task = task;
+abbrev pub plain_settings : Command → ℕ → ℕ → Settings
+plain_settings command first sectors = record {
+  command = command;
   first = first;
   sectors = sectors;
   sectors1 = 0;
@@ -33,11 +32,6 @@ pub record IsLayoutOf (settings : Settings) (layout : Layout) : Type 0 where
   pub initial : layout.initial ≡ settings.initial
   pub tail : layout.tail ≡ settings.tail
 
--- the first rule of layouts that the settings break, where their command has a layout
-abbrev pub fault_for : Task → Settings → Option LayoutFault
-fault_for Frames settings = None
-fault_for Recover settings = first_fault settings.shape settings.sectors settings.sectors1 settings.initial settings.tail
-fault_for Master settings = first_fault settings.shape settings.sectors settings.sectors1 settings.initial settings.tail
-
-abbrev pub layout_fault : Settings → Option LayoutFault
-layout_fault settings = fault_for settings.task settings
+-- the first rule of layouts that these lengths break
+abbrev pub broken_rule : Settings → Option LayoutFault
+broken_rule settings = first_fault settings.shape settings.sectors settings.sectors1 settings.initial settings.tail

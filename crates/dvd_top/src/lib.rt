@@ -1,30 +1,16 @@
 //! The top of dvdecc: the commands, their loops, and the call that does all that the program does.
 #![tactic(auto)]
 
-/// How a loop and a run end.
-mod ends;
-/// The command `frames`.
-mod frames;
-/// The closing lines of the report.
-mod lines;
-/// The command `master`.
-mod master;
-/// The command `recover`.
-mod recover;
-/// What the words of a command line ask for.
-mod settings;
-/// The top call.
-mod top;
-/// The loop over units that all commands share.
-mod units;
-/// Reads the words.
-pub mod laws;
-mod words;
+mod commands; // the commands, a module each
+pub mod laws; // what holds of every run
+mod lines; // the closing lines of the report
+mod settings; // what the words of a command line ask for
+mod status; // how a run ends
+mod top; // the top call
+mod words; // reads the words
 
-pub use ends::{LoopEnd, Status};
-pub use frames::frames_loop;
-pub use master::master_loop;
-pub use recover::recover_loop;
-pub use settings::{Settings, Task};
+pub use commands::{frames_loop, master_loop, recover_loop};
+pub use dvd_loop::LoopEnd;
+pub use settings::{Command, Settings};
+pub use status::Status;
 pub use top::run;
-pub use units::{Command, follow};

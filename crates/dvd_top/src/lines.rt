@@ -1,20 +1,21 @@
 //! The closing lines of the report.
 ghost use Rattle.std.specs.Prelude.{◌≡◌, ◌+◌, ◌<◌, ◌≤◌, ◌++◌, length, decimal};
 ghost use Rattle.arrayvec.specs.ArrayVec.{array_vec_len};
-ghost use Rattle.dvd_top.specs.Lines.{closing_line, unit_name, setting_line, fault_text};
+ghost use Rattle.dvd_top.specs.Commands.{meaning};
+ghost use Rattle.dvd_top.specs.Lines.{closing_line, setting_line, fault_text};
 
-use crate::ends::LoopEnd;
-use crate::settings::Task;
+use crate::settings::Command;
 use arrayvec::ArrayVec;
 use dvd_layout::LayoutFault;
+use dvd_loop::LoopEnd;
 use itoa::Buffer;
 
 /// A line of the report.
-pub type Line = ArrayVec<u8, 64>;
+pub type Line = ArrayVec<u8, 80>;
 
 /// The line that closes the report of a run; empty where the report has failed.
-pub fn close_line(task: Task, end: LoopEnd) -> Line
-    ensures { result.items ≡ closing_line task end }
+pub fn close_line(command: Command, end: LoopEnd) -> Line
+    ensures { result.items ≡ closing_line command end }
 {
     let mut line = Line::new();
     match end {
@@ -24,7 +25,7 @@ pub fn close_line(task: Task, end: LoopEnd) -> Line
         LoopEnd::ReportFault => {}
         LoopEnd::Short { unit, bytes } => {
             put(&mut line, b"short: ");
-            put(&mut line, name_of_unit(task));
+            put(&mut line, name_of_unit(command));
             put(&mut line, b" ");
             put_number(&mut line, u64::from(unit));
             put(&mut line, b", ");
@@ -38,6 +39,13 @@ pub fn close_line(task: Task, end: LoopEnd) -> Line
             put(&mut line, b" blocks\n");
         }
         LoopEnd::NoControl => put(&mut line, b"no control block\n"),
+        LoopEnd::BadMarks { block, at } => {
+            put(&mut line, b"bad marks: block ");
+            put_number(&mut line, u64::from(block));
+            put(&mut line, b", byte ");
+            put_number(&mut line, u64::from(at));
+            put(&mut line, b"\n");
+        }
     }
     line
 }
@@ -56,7 +64,7 @@ pub fn refused_line(fault: LayoutFault) -> Line
 fn put_fault(line: &mut Line, fault: LayoutFault)
     requires { array_vec_len line.old ≡ 9 }
     ensures items { line.new.items ≡ line.old.items ++ fault_text fault }
-    ensures room { array_vec_len line.new < 64 }
+    ensures room { array_vec_len line.new < 80 }
 {
     match fault {
         LayoutFault::EmptyLayer { layer } => {
@@ -93,7 +101,7 @@ fn put_fault(line: &mut Line, fault: LayoutFault)
 }
 
 fn put_named(line: &mut Line, name: &[u8], number: u64)
-    requires { array_vec_len line.old + length name.now + 20 ≤ 64 }
+    requires { array_vec_len line.old + length name.now + 20 ≤ 80 }
     ensures items { line.new.items ≡ line.old.items ++ name.now ++ decimal number }
     ensures len { array_vec_len line.new ≤ array_vec_len line.old + length name.now + 20 }
 {
@@ -101,18 +109,18 @@ fn put_named(line: &mut Line, name: &[u8], number: u64)
     put_number(line, number);
 }
 
-fn name_of_unit(task: Task) -> &'static [u8]
-    ensures name { result.now ≡ unit_name task }
+fn name_of_unit(command: Command) -> &'static [u8]
+    ensures name { result.now ≡ (meaning command).unit_name }
     ensures short { length result.now ≤ 6 }
 {
-    match task {
-        Task::Frames => b"sector",
-        Task::Master | Task::Recover => b"block",
+    match command {
+        Command::Frames => b"sector",
+        Command::Master | Command::Recover => b"block",
     }
 }
 
 fn put(line: &mut Line, text: &[u8])
-    requires { array_vec_len line.old + length text.now ≤ 64 }
+    requires { array_vec_len line.old + length text.now ≤ 80 }
     ensures items { line.new.items ≡ line.old.items ++ text.now }
     ensures len { array_vec_len line.new ≡ array_vec_len line.old + length text.now }
 {
@@ -120,7 +128,7 @@ fn put(line: &mut Line, text: &[u8])
 }
 
 fn put_number(line: &mut Line, number: u64)
-    requires { array_vec_len line.old + 20 ≤ 64 }
+    requires { array_vec_len line.old + 20 ≤ 80 }
     ensures items { line.new.items ≡ line.old.items ++ decimal number }
     ensures len { array_vec_len line.new ≤ array_vec_len line.old + 20 }
 {
@@ -128,7 +136,7 @@ fn put_number(line: &mut Line, number: u64)
 }
 
 fn put_byte(line: &mut Line, number: u8)
-    requires { array_vec_len line.old + 3 ≤ 64 }
+    requires { array_vec_len line.old + 3 ≤ 80 }
     ensures items { line.new.items ≡ line.old.items ++ decimal number }
     ensures len { array_vec_len line.new ≤ array_vec_len line.old + 3 }
 {

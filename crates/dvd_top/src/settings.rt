@@ -1,11 +1,11 @@
 //! What the words of a command line ask for.
 
 use dvd_capture::Form;
-use dvd_layout::{Shape, Zones};
+use dvd_layout::{Layout, LayoutFault, Shape, Zones};
 
-/// The commands.
+/// The commands of the program.
 #[derive(Clone, Copy, Debug, PartialEq, Eq)]
-pub enum Task {
+pub enum Command {
     /// A scrambled data frame for each sector.
     Frames,
     /// The recording frames of each ECC block of a disk.
@@ -17,7 +17,7 @@ pub enum Task {
 /// A command with its options. A field without an option in its command has its default, or 0.
 #[derive(Clone, Copy, Debug, PartialEq, Eq)]
 pub struct Settings {
-    pub task: Task,
+    pub command: Command,
     /// The number of the first sector.
     pub first: u32,
     /// How many sectors there are, on layer 0 where there are two.
@@ -37,15 +37,15 @@ pub struct Settings {
 }
 
 impl Settings {
-    ghost use Rattle.std.specs.Prelude.{◌≡◌};
-    ghost use Rattle.dvd_top.specs.Settings.{plain_settings};
+    ghost use Rattle.std.specs.Prelude.{◌≡◌, None, Some, IsOk, IfErr, IfOk};
+    ghost use Rattle.dvd_top.specs.Settings.{IsLayoutOf, broken_rule, plain_settings};
 
     /// A command over so many sectors, with the defaults of the other options.
-    pub fn plain(task: Task, first: u32, sectors: u32) -> Settings
-        ensures { result ≡ plain_settings task first sectors }
+    pub fn plain(command: Command, first: u32, sectors: u32) -> Settings
+        ensures { result ≡ plain_settings command first sectors }
     {
         Settings {
-            task,
+            command,
             first,
             sectors,
             sectors1: 0,
@@ -63,5 +63,20 @@ impl Settings {
         ensures { result ≡ record self { form = form } }
     {
         Settings { form, ..self }
+    }
+
+    /// The layout of these lengths, or the first rule that they break.
+    pub fn layout(&self) -> Result<Layout, LayoutFault>
+        ensures lengths { IfOk result (IsLayoutOf self.now) }
+        ensures lawful { IsOk result → broken_rule self.now ≡ None }
+        ensures refused { IfErr result (λ fault. broken_rule self.now ≡ Some fault) }
+    {
+        Layout::new(
+            self.shape,
+            self.sectors,
+            self.sectors1,
+            self.initial,
+            self.tail,
+        )
     }
 }

@@ -1,12 +1,17 @@
 //! Reads the words of the command line.
 ghost use Rattle.std.specs.Prelude.{◌≡◌, ◌≤◌, ◌<◌, ◌^◌, ℕ, length, map, string_bytes, IfSome};
-ghost use Rattle.dvd_top.specs.Words.{reading, IsLawful, frames_reading, master_reading, recover_reading, recover_values, form_of, frames_values, decimal_of, hex_of, digits_onto};
+ghost use Rattle.dvd_top.specs.Commands.Frames.{frames_reading, frames_values};
+ghost use Rattle.dvd_top.specs.Commands.Master.{master_reading};
+ghost use Rattle.dvd_top.specs.Commands.Recover.{recover_reading, recover_values};
+ghost use Rattle.dvd_top.specs.Headline.{reading};
+ghost use Rattle.dvd_top.specs.Performing.{IsLawful};
+ghost use Rattle.dvd_top.specs.Words.{decimal_of, digits_onto, form_of, hex_of};
 
-use crate::settings::{Settings, Task};
+use crate::settings::{Command, Settings};
 use dvd_capture::Form;
 
 /// The settings that the words ask for, or none where they are no command of the program.
-#[tactic(auto, unfolding(crate::specs::Words::reading))]
+#[tactic(auto, unfolding(crate::specs::Headline::reading))]
 pub fn read_words(words: &[String]) -> Option<Settings>
     ensures value { result ≡ reading (map string_bytes words.now) }
     ensures lawful { IfSome result IsLawful }
@@ -47,7 +52,7 @@ fn frames_settings(first: &str, sectors: &str) -> Option<Settings>
     if sectors == 0 || u64::from(first) + u64::from(sectors) > 0x100_0000 {
         return None;
     }
-    Some(Settings::plain(Task::Frames, first, sectors))
+    Some(Settings::plain(Command::Frames, first, sectors))
 }
 
 // The option of `master`. Any number is lawful here; the layout may refuse it.
@@ -62,7 +67,7 @@ fn read_master(options: &[String]) -> Option<Settings>
         return None;
     }
     let sectors = read_decimal(value.as_str())?;
-    Some(Settings::plain(Task::Master, 0, sectors))
+    Some(Settings::plain(Command::Master, 0, sectors))
 }
 
 // The options of `recover`, in either order; the form may be left out.
@@ -97,7 +102,7 @@ fn recover_settings(sectors: &str, form: &str) -> Option<Settings>
 {
     let sectors = read_decimal(sectors)?;
     let form = read_form(form)?;
-    Some(Settings::plain(Task::Recover, 0, sectors).in_form(form))
+    Some(Settings::plain(Command::Recover, 0, sectors).in_form(form))
 }
 
 fn read_form(text: &str) -> Option<Form>

@@ -4,13 +4,23 @@
 #[cfg(test)]
 mod damage; // blocks within the bound and beyond it
 #[cfg(test)]
-mod disks; // disks of every shape read back
+mod disks; // disks of every shape, mastered and read back
 #[cfg(test)]
-mod frames; // frames, and what is left after each fault
+mod faults; // what is left after each fault
 #[cfg(test)]
-mod master; // streams of every shape
+mod fixture; // what the tests share
+#[cfg(test)]
+mod frames; // frames of a few sectors
+#[cfg(test)]
+mod largest; // the largest disk of each command
+#[cfg(test)]
+mod master; // recordings
 #[cfg(test)]
 mod recover; // streams read back, and those that aren't whole
+#[cfg(test)]
+mod usage; // words that ask for nothing
+#[cfg(test)]
+mod values; // derived equality
 
 use std::alloc::{AllocError, Global};
 

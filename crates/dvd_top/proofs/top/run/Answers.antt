@@ -1,65 +1,43 @@
-use Rattle.std.proofs.Common.{◌⊎◌, inl, sym, subst, ◌∙◌}
-use Rattle.dvd_top.specs.Follows.{objects, Follows, IsBegun}
-use Rattle.dvd_top.specs.Run.{OfUnits, IsWholeRun, IsReadFaultRun, IsWriteFaultRun, IsInPlace, IsReportFaultRun}
-use Rattle.dvd_top.proofs.RunLemmas.{same_settings, of_units, whole_run, read_run, write_run, report_run}
-use Rattle.dvd_top.proofs.BoundKept.{run_keeps}
+use Rattle.std.proofs.Common.{◌≡◌, inl, None, Some, map, string_bytes, ap, sym, subst, ◌∙◌}
+use Rattle.dvd_loop.specs.Streams.{streams}
+use Rattle.dvd_top.specs.Headline.{HasRun, HaveRisen, breaks, reading}
+use Rattle.dvd_top.specs.Lines.{closing_line}
+use Rattle.dvd_top.specs.declared.settings.Settings.{Settings}
+use Rattle.dvd_top.proofs.RunEnds.{bound_kept, ends_there_run, risen, sound_end}
+use Rattle.dvd_top.proofs.RunLemmas.{has_run, same_settings}
+use Rattle.dvd_top.proofs.top.run.Given as given
 use Rattle.dvd_top.proofs.top.run.Goals as goal
 
-pub returns-in-Ok-clause-whole : goal.returns-in-Ok-clause-whole
-returns-in-Ok-clause-whole g c = λ is settings bytes reads told.
-    let old = objects (g.S.Source.seen c.args.src.now) (g.K.Sink.seen c.args.out.now) (g.E.Sink.seen c.args.report.now) in
+-- the command was begun, and this is its run
+begun : (g : given.Over) (c : goal.After-into g) (settings : Settings) → reading (map string_bytes c.args.words.now) ≡ Some settings
+    → HasRun settings (streams (g.S.Source.seen c.args.src.now) (g.K.Sink.seen c.args.out.now) (g.E.Sink.seen c.args.report.now))
+    (streams (g.S.Source.seen c.perform.new.src) (g.K.Sink.seen c.perform.new.out) (g.E.Sink.seen c.close.new.report)) c.into.result
+begun g c settings reads =
+    let old = streams (g.S.Source.seen c.args.src.now) (g.K.Sink.seen c.args.out.now) (g.E.Sink.seen c.args.report.now) in
     let source = g.S.Source.seen c.perform.new.src in
     let output = g.K.Sink.seen c.perform.new.out in
-    let left = g.E.Sink.seen c.perform.new.report in
-    let new = g.E.Sink.seen c.close_loop.new.report in
-    let end = c.in-Ok.end in
     let read = c.in-Some.settings in
-    subst (λ s. OfUnits s (λ units. IsWholeRun s.task units bytes old (objects source output new) c.close_loop.result)) (same_settings _ _ _ (sym c.read_words.ensures.value ∙ c.in-Some.is) (reads))
-    ((of_units read (λ units. Follows units bytes old (objects source output left) end) (λ units. IsWholeRun read.task units bytes old (objects source output new) c.close_loop.result)
-    (λ units follows. whole_run read.task units bytes old source output left new c.close_loop.result end follows c.close_loop.ensures.closed is) (c.in-Ok.ensures.follows bytes told)))
+    let line : closing_line read.command c.in-Ok.end ≡ c.deref.result.now = cc (c.deref.ensures.0, c.close_line.ensures) in
+    subst (λ s. HasRun s old (streams source output (g.E.Sink.seen c.close.new.report)) c.into.result)
+    (same_settings _ _ _ (sym c.read_words.ensures.value ∙ c.in-Some.is) reads)
+    (has_run read old source output (g.E.Sink.seen c.perform.new.report) (g.E.Sink.seen c.close.new.report) c.in-Ok.end c.close.result c.in-Ok.ensures.performed
+    (c.close.ensures.closes (closing_line read.command) source output line)
+    (λ is. ap (λ r. g.E.Sink.seen r) (c.close.ensures.none is)) c.close.ensures.cause c.close.ensures.same c.into.result c.into.ensures)
 
-pub returns-in-Ok-clause-bound : goal.returns-in-Ok-clause-bound
-returns-in-Ok-clause-bound g c = λ is settings bytes reads told recover.
-    run_keeps settings bytes
-    (objects (g.S.Source.seen c.args.src.now) (g.K.Sink.seen c.args.out.now) (g.E.Sink.seen c.args.report.now))
-    (objects (g.S.Source.seen c.perform.new.src) (g.K.Sink.seen c.perform.new.out) (g.E.Sink.seen c.close_loop.new.report))
-    c.close_loop.result recover (returns-in-Ok-clause-whole g c is settings bytes reads told)
-
-pub returns-in-Ok-clause-read_fault : goal.returns-in-Ok-clause-read_fault
-returns-in-Ok-clause-read_fault g c = λ is settings bytes reads told.
-    let old = objects (g.S.Source.seen c.args.src.now) (g.K.Sink.seen c.args.out.now) (g.E.Sink.seen c.args.report.now) in
-    let source = g.S.Source.seen c.perform.new.src in
-    let output = g.K.Sink.seen c.perform.new.out in
-    let left = g.E.Sink.seen c.perform.new.report in
-    let new = g.E.Sink.seen c.close_loop.new.report in
-    let end = c.in-Ok.end in
-    let read = c.in-Some.settings in
-    subst (λ s. OfUnits s (λ units. IsReadFaultRun units old (objects source output new))) (same_settings _ _ _ (sym c.read_words.ensures.value ∙ c.in-Some.is) (reads))
-    ((of_units read (λ units. Follows units bytes old (objects source output left) end) (λ units. IsReadFaultRun units old (objects source output new))
-    (λ units follows. read_run read.task units bytes old source output left new c.close_loop.result end follows c.close_loop.ensures.closed is) (c.in-Ok.ensures.follows bytes told)))
-
-pub returns-in-Ok-clause-write_fault : goal.returns-in-Ok-clause-write_fault
-returns-in-Ok-clause-write_fault g c = λ is settings bytes reads told.
-    let old = objects (g.S.Source.seen c.args.src.now) (g.K.Sink.seen c.args.out.now) (g.E.Sink.seen c.args.report.now) in
-    let source = g.S.Source.seen c.perform.new.src in
-    let output = g.K.Sink.seen c.perform.new.out in
-    let left = g.E.Sink.seen c.perform.new.report in
-    let new = g.E.Sink.seen c.close_loop.new.report in
-    let end = c.in-Ok.end in
-    let read = c.in-Some.settings in
-    subst (λ s. OfUnits s (λ units. IsWriteFaultRun units bytes old (objects source output new))) (same_settings _ _ _ (sym c.read_words.ensures.value ∙ c.in-Some.is) (reads))
-    ((of_units read (λ units. Follows units bytes old (objects source output left) end) (λ units. IsWriteFaultRun units bytes old (objects source output new))
-    (λ units follows. write_run read.task units bytes old source output left new c.close_loop.result end follows c.close_loop.ensures.closed is) (c.in-Ok.ensures.follows bytes told)))
-
-pub returns-in-Ok-clause-report_fault : goal.returns-in-Ok-clause-report_fault
-returns-in-Ok-clause-report_fault g c = λ is settings bytes reads told.
-    let old = objects (g.S.Source.seen c.args.src.now) (g.K.Sink.seen c.args.out.now) (g.E.Sink.seen c.args.report.now) in
-    let source = g.S.Source.seen c.perform.new.src in
-    let output = g.K.Sink.seen c.perform.new.out in
-    let left = g.E.Sink.seen c.perform.new.report in
-    let new = g.E.Sink.seen c.close_loop.new.report in
-    let end = c.in-Ok.end in
-    let read = c.in-Some.settings in
-    subst (λ s. IsReportFaultRun s bytes old (objects source output new)) (same_settings _ _ _ (sym c.read_words.ensures.value ∙ c.in-Some.is) (reads))
-    (inl (of_units read (λ units. Follows units bytes old (objects source output left) end) (λ units. IsBegun units bytes old (objects source output new) ⊎ IsInPlace read.task units bytes old (objects source output new))
-    (λ units follows. report_run read.task units bytes old source output left new c.close_loop.result end follows c.close_loop.ensures.closed is) (c.in-Ok.ensures.follows bytes told)))
+pub returns-in-Ok : goal.returns-in-Ok
+returns-in-Ok g c =
+    let old = streams (g.S.Source.seen c.args.src.now) (g.K.Sink.seen c.args.out.now) (g.E.Sink.seen c.args.report.now) in
+    let new = streams (g.S.Source.seen c.perform.new.src) (g.K.Sink.seen c.perform.new.out) (g.E.Sink.seen c.close.new.report) in
+    let read : reading (map string_bytes c.args.words.now) ≡ Some c.in-Some.settings = sym c.read_words.ensures.value ∙ c.in-Some.is in
+    let run = begun g c c.in-Some.settings read in
+    let counts : HaveRisen c.into.result old new = subst (λ s. HaveRisen s old new) (sym run.is_status) (risen run.within run.end old new run.in_place run.causes) in record {
+      usage = λ none. absurd (cc (none, read));
+      setting = λ settings fault reads broken.
+          absurd (let no : breaks settings ≡ None = subst (λ s. breaks s ≡ None) (same_settings _ _ _ read reads) c.in-Ok.ensures.performed.lawful in cc (no, broken));
+      runs = λ settings reads lawful. inl (begun g c settings reads);
+      causes = counts;
+      complete = λ settings reads lawful memory source output report.
+          (run.end, run.is_status, sound_end run.end old new (subst (λ s. HaveRisen s old new) run.is_status counts) source output report);
+      read_fault = λ is settings reads. ends_there_run settings old new c.into.result (begun g c settings reads) is;
+      bound = λ whole settings reads is. bound_kept settings old new c.into.result (begun g c settings reads) whole is;
+    }

@@ -1,0 +1,164 @@
+-- What each command does for an input is determined.
+use Rattle.std.proofs.Common.{◌≡◌, ◌≢◌, inl, inr, ℕ, ◌+◌, ◌*◌, List, ◌∷◌, [], length, take, Bool, Some, None, slice_get, replicate, refl, ap, sym, subst, ◌∙◌}
+use Rattle.std.proofs.lemmas.List.FromFn.{length-map-range_with_len}
+use Rattle.dvd_block.proofs.OneBlock.{one_block_at_most}
+use Rattle.dvd_block.specs.Product.{IsBlockOf}
+use Rattle.dvd_block.specs.Recording.{record_at, recording}
+use Rattle.dvd_capture.specs.Captured.{block_size, captured_marks, captured_rows, marks_in, record_of}
+use Rattle.dvd_capture.specs.declared.form.Form.{Form}
+use Rattle.dvd_layout.specs.Place.{image_sectors}
+use Rattle.dvd_layout.specs.Plan.{plan_of}
+use Rattle.dvd_layout.specs.declared.entry.BlockPlan.{BlockPlan}
+use Rattle.dvd_layout.specs.declared.entry.Content.{Content}
+use Rattle.dvd_layout.specs.declared.entry.Content.TheVariants.{Zero, Reference, Control, Image}
+use Rattle.dvd_layout.specs.declared.layout.Layout.{Layout}
+use Rattle.dvd_layout.specs.declared.layout.Zones.{Zones}
+use Rattle.dvd_layout.proofs.SameLengths.{same_lengths-same}
+use Rattle.dvd_loop.specs.Laws.{AreDetermined, IsFaultless, IsUnbroken}
+use Rattle.dvd_loop.specs.Machine.{IsOutcome, Outcome, Step, plain_units}
+use Rattle.dvd_loop.specs.Machine.Step.{Write, Tell}
+use Rattle.dvd_loop.specs.declared.ends.LoopEnd.{LoopEnd}
+use Rattle.dvd_loop.specs.declared.ends.LoopEnd.TheVariants.{BadMarks, Damaged, Done as EndsDone, Long, NoControl, ReadFault, ReportFault, Short, WriteFault}
+use Rattle.dvd_loop.specs.declared.ends.Turn.{Turn}
+use Rattle.dvd_loop.specs.declared.ends.Turn.TheVariants.{Good}
+use Rattle.dvd_loop.proofs.Determinacy.{agrees}
+use Rattle.dvd_loop.proofs.PlainEnds.{never_bad_marks}
+use Rattle.dvd_loop.proofs.Sizes.{broken_stays, sized_never_broken, whole_stays}
+use Rattle.dvd_read.proofs.BlockRead.{read-determined}
+use Rattle.dvd_report.specs.Lines.{damage_line}
+use Rattle.dvd_top.specs.Commands.{meaning}
+use Rattle.dvd_top.specs.Commands.Frames.{sector_frame}
+use Rattle.dvd_top.specs.Commands.Master.{IsMastered, filled, frames_of, master_units}
+use Rattle.dvd_top.specs.Commands.Recover.{IsDone, IsGiven, IsRecovered, IsRefused, recover_units}
+use Rattle.dvd_top.specs.Performing.{IsImageDone, IsPassedOver, sectors_out}
+use Rattle.dvd_top.specs.Headline.{IsLoop}
+use Rattle.dvd_top.specs.Settings.{IsLayoutOf}
+use Rattle.dvd_top.specs.declared.settings.Command.{Command}
+use Rattle.dvd_top.specs.declared.settings.Command.TheVariants as command
+use Rattle.dvd_top.specs.declared.settings.Settings.{Settings}
+
+-- one thing alone may be done
+abbrev IsOneDeed : (List Step → Turn → Type 0) → Type 0
+IsOneDeed May = (steps others : List Step) (turn other : Turn) → May steps turn → May others other → (steps ≡ others) × (turn ≡ other)
+
+unbroken : (end : LoopEnd) → ((k at : ℕ) → end ≢ BadMarks k at) → IsUnbroken end
+unbroken EndsDone never = tt
+unbroken ReadFault never = tt
+unbroken WriteFault never = tt
+unbroken ReportFault never = tt
+unbroken (Short unit held) never = tt
+unbroken Long never = tt
+unbroken (Damaged bad) never = tt
+unbroken NoControl never = tt
+unbroken (BadMarks unit at) never = absurd (never unit at refl)
+
+-- Where one thing alone may be done for each unit, two runs without a fault are one.
+module _ (count : ℕ) (size : ℕ → ℕ) (does : ℕ → List ℕ → List Step → Turn → Type 0) (one : (k : ℕ) (own : List ℕ) → IsOneDeed (does k own)) where
+  are_determined : AreDetermined (plain_units count size does)
+  are_determined = record {
+    whole = whole_stays (plain_units count size does) size (λ k bytes. refl);
+    broken = broken_stays (plain_units count size does) size (λ k bytes. refl);
+    does = λ before own steps others turn other p q. one (length before) own steps others turn other p.does q.does;
+    closes = λ before steps others p q. p ∙ sym q;
+  }
+
+  one_run : (bytes : List ℕ) (a b : Outcome) → IsOutcome (plain_units count size does) bytes a → IsOutcome (plain_units count size does) bytes b
+      → IsFaultless a.end → IsFaultless b.end → a ≡ b
+  one_run bytes a b p q none other =
+      let same = agrees (plain_units count size does) are_determined bytes a b p q none other in
+      let taken = same.3 (unbroken a.end (never_bad_marks (plain_units count size does) bytes a p (λ k at own. sized_never_broken (size k) at own))) in
+      λ i. record { taken = taken i; out = same.0 i; lines = same.1 i; end = same.2 i }
+
+-- FRAMES. The frame of each sector is one.
+frame_is_one : (first k : ℕ) (own : List ℕ) → IsOneDeed (λ steps turn. (steps ≡ Write (sector_frame (first + k) own) ∷ []) × (turn ≡ Good))
+frame_is_one first k own steps others turn other p q = (p.0 ∙ sym q.0, p.1 ∙ sym q.1)
+
+-- the entry of a plan at a place is one
+one_entry : (entries : List BlockPlan) (k : ℕ) (a b : BlockPlan) → slice_get entries k ≡ Some a → slice_get entries k ≡ Some b → a ≡ b
+one_entry entries k a b p q = let is : Some a ≡ Some b = sym p ∙ q in cc
+
+-- MASTER. The sixteen frames of a block have one block at most.
+mastered_is_one : (layout : Layout) (zones : Zones) (cpr : List ℕ) (k : ℕ) (own : List ℕ) → IsOneDeed (IsMastered layout zones cpr k own)
+mastered_is_one layout zones cpr k own steps others turn other p q =
+    let entry : p.entry ≡ q.entry = one_entry (plan_of layout zones) k p.entry q.entry p.stands q.stands in
+    let block : p.block ≡ q.block =
+    one_block_at_most (frames_of layout q.entry cpr (filled own)) p.block q.block (subst (λ e. IsBlockOf (frames_of layout e cpr (filled own)) p.block) entry p.is_block) q.is_block in
+    (p.writes ∙ ap (λ b. Write (recording b) ∷ []) block ∙ sym q.writes, p.good ∙ sym q.good)
+
+-- RECOVER. A captured block has 208 rows, with marks for each.
+pub length-captured_rows : (form : Form) (own : List ℕ) → length (captured_rows form own) ≡ 208
+unfolding captured_rows
+length-captured_rows form own = length-map-range_with_len (λ i. take 182 (record_of form own (record_at i))) 0 208
+
+pub length-captured_marks : (form : Form) (own : List ℕ) → length (captured_marks form own) ≡ 208
+unfolding captured_marks
+length-captured_marks form own = length-map-range_with_len (λ i. marks_in form (record_of form own (record_at i))) 0 208
+
+-- What is read of it is one, and where something is read it has no cause.
+module _ (layout : Layout) (k : ℕ) (entry : BlockPlan) (rows : List (List ℕ)) (marks : List (List Bool)) (size : length rows ≡ 208) (marks_size : length marks ≡ 208) where
+  given_is_one : IsOneDeed (IsGiven layout entry rows marks)
+  given_is_one steps others turn other p q =
+      let sectors : p.sectors ≡ q.sectors =
+      (read-determined rows marks entry p.sectors size marks_size p.read).1 ∙ sym (read-determined rows marks entry q.sectors size marks_size q.read).1 in
+      (p.writes ∙ ap (λ s. Write (sectors_out (image_sectors layout entry.content) s) ∷ []) sectors ∙ sym q.writes, p.good ∙ sym q.good)
+
+  refused_is_one : IsOneDeed (IsRefused layout k entry rows marks)
+  refused_is_one steps others turn other p q =
+      let cause : p.cause ≡ q.cause = (let is : Some p.cause ≡ Some q.cause = sym p.first ∙ q.first in cc) in
+      (p.tells ∙ ap (λ c. Tell (damage_line k entry c) ∷ Write (replicate (2048 * image_sectors layout entry.content) 0) ∷ []) cause ∙ sym q.tells, p.bad ∙ sym q.bad)
+
+  not_both : (steps others : List Step) (turn other : Turn) → IsGiven layout entry rows marks steps turn → IsRefused layout k entry rows marks others other → ⊥
+  not_both steps others turn other p q = let no : None ≡ Some q.cause = sym (read-determined rows marks entry p.sectors size marks_size p.read).0 ∙ q.first in cc
+
+  image_is_one : IsOneDeed (IsImageDone layout k entry rows marks)
+  image_is_one steps others turn other p q = elim p [
+    | inl given ↦ elim q [
+      | inl same ↦ given_is_one steps others turn other given same
+      | inr refused ↦ absurd (not_both steps others turn other given refused)
+    ]
+    | inr refused ↦ elim q [
+      | inl given ↦ absurd (not_both others steps other turn given refused)
+      | inr same ↦ refused_is_one steps others turn other refused same
+    ]
+  ]
+
+  passed_is_one : IsOneDeed IsPassedOver
+  passed_is_one steps others turn other p q = (p.0 ∙ sym q.0, p.1 ∙ sym q.1)
+
+  done_is_one : (content : Content) → IsOneDeed (IsDone content layout k entry rows marks)
+  done_is_one (Image sector) = image_is_one
+  done_is_one Zero = passed_is_one
+  done_is_one Reference = passed_is_one
+  done_is_one Control = passed_is_one
+
+recovered_is_one : (layout : Layout) (zones : Zones) (form : Form) (k : ℕ) (own : List ℕ) → IsOneDeed (IsRecovered layout zones form k own)
+recovered_is_one layout zones form k own steps others turn other p q =
+    let rows = captured_rows form own in
+    let marks = captured_marks form own in
+    let entry : q.entry ≡ p.entry = one_entry (plan_of layout zones) k q.entry p.entry q.stands p.stands in
+    done_is_one layout k p.entry rows marks (length-captured_rows form own) (length-captured_marks form own) p.entry.content steps others turn other
+    p.does (subst (λ (e : BlockPlan). IsDone e.content layout k e rows marks others other) entry q.does)
+
+-- the layout of the settings is one
+one_layout : (settings : Settings) (a b : Layout) → IsLayoutOf settings a → IsLayoutOf settings b → a ≡ b
+one_layout settings a b p q =
+    same_lengths-same a b (p.shape ∙ sym q.shape) (p.sectors0 ∙ sym q.sectors0) (p.sectors1 ∙ sym q.sectors1) (p.initial ∙ sym q.initial) (p.tail ∙ sym q.tail)
+
+module _ (settings : Settings) (bytes : List ℕ) (a b : Outcome) (none : IsFaultless a.end) (other : IsFaultless b.end) where
+  abbrev IsOf : Command → Outcome → Type 0
+  IsOf word outcome = (meaning word).OfUnits settings (λ units. IsOutcome units bytes outcome)
+
+  by_command : (word : Command) → IsOf word a → IsOf word b → a ≡ b
+  by_command command.Frames p q = one_run settings.sectors (λ k. 2048) _ (frame_is_one settings.first) bytes a b p q none other
+  by_command command.Master (layout, is, p) (same, so, q) =
+      one_run (length (plan_of layout settings.zones)) _ (IsMastered layout settings.zones settings.cpr)
+      (mastered_is_one layout settings.zones settings.cpr) bytes a b p
+      (subst (λ l. IsOutcome (master_units l settings.zones settings.cpr) bytes b) (one_layout settings same layout so is) q) none other
+  by_command command.Recover (layout, is, p) (same, so, q) =
+      one_run (length (plan_of layout settings.zones)) (λ k. block_size settings.form) (IsRecovered layout settings.zones settings.form)
+      (recovered_is_one layout settings.zones settings.form) bytes a b p
+      (subst (λ l. IsOutcome (recover_units l settings.zones settings.form) bytes b) (one_layout settings same layout so is) q) none other
+
+pub determined : (settings : Settings) (bytes : List ℕ) (a b : Outcome) → IsLoop settings bytes a → IsLoop settings bytes b
+    → IsFaultless a.end → IsFaultless b.end → a ≡ b
+determined settings bytes a b p q none other = by_command settings bytes a b none other settings.command p q

@@ -1,0 +1,58 @@
+-- A run over known bytes is one of units that may have no others.
+use Rattle.std.proofs.Common.{◌≡◌, ◌∙◌, inl, inr, ℕ, zero, suc, ◌+◌, List, [], ◌∷◌, ◌++◌, length, length-append, take, drop, ap, sym, append_assoc, add-one, refl, arith}
+use Rattle.dvd_capture.proofs.Fetching.{part-append, part-behind}
+use Rattle.dvd_loop.specs.Laws.{start}
+use Rattle.dvd_loop.specs.Machine.{Goes, GoesOn, IsOutcome, Outcome, Units, bad_of, sized}
+use Rattle.dvd_loop.specs.declared.ends.Turn.{Turn}
+use Rattle.dvd_loop.specs.declared.ends.Turn.TheVariants.{Good, Bad, Last}
+use Rattle.dvd_loop.proofs.Over.{start-suc, start-zero}
+use Rattle.dvd_loop.proofs.Sizes.{unit_size}
+use Rattle.dvd_loop.proofs.StepLemmas.{does_as}
+
+goes_on_as : (turn : Turn) (A B : Outcome → Type 0) → ((after : Outcome) → A after → B after) → (after : Outcome) → GoesOn turn A after → GoesOn turn B after
+goes_on_as Good A B to after goes = to after goes
+goes_on_as Bad A B to after goes = to after goes
+goes_on_as Last A B to after goes = goes
+
+-- the bytes behind those of the units before
+own_is : (all front own left : List ℕ) (a n : ℕ) → all ≡ (front ++ own) ++ left → length front ≡ a → length own ≡ n → own ≡ take n (drop a all)
+own_is all front own left a n is at size =
+    sym (part-behind front own a n at size)
+    ∙ sym (part-append (front ++ own) left a n (omega (arith, length-append front own)))
+    ∙ ap (λ l. take n (drop a l)) (sym is)
+
+module _ (units : Units) (size : ℕ → ℕ) (begins : (k : ℕ) (bytes : List ℕ) → units.begins k bytes ≡ sized (size k) bytes) (all : List ℕ) where
+  -- the units, whose bytes are those that stand at their places
+  abbrev pub only_these : Units
+  only_these = record units { does = λ k before own steps turn. units.does k before own steps turn × (own ≡ take (size k) (drop (start size k) all)) }
+
+  goes_only : (n : ℕ) (before : List (List ℕ)) (bad : ℕ) (front left : List ℕ) (a : Outcome) → all ≡ front ++ left → length front ≡ start size (length before)
+      → Goes units n before bad left a → Goes only_these n before bad left a
+  unfolding Goes
+  goes_only zero before bad front left a is at goes = goes
+  goes_only (suc n) before bad front left a is at (inl w) = inl (record { own = w.own; left = w.left; front = w.front; ends = w.ends; takes = w.takes })
+  goes_only (suc n) before bad front left a is at (inr t) =
+      let own_size = unit_size units size begins (length before) t.own t.unit.whole in
+      let parts : all ≡ (front ++ t.own) ++ t.left = is ∙ ap (λ l. front ++ l) t.front ∙ sym (append_assoc front t.own t.left) in
+      let one = length-append before (t.own ∷ []) in
+      let further : length (front ++ t.own) ≡ start size (length (before ++ t.own ∷ [])) =
+      length-append front t.own ∙ omega (arith, at, own_size, start-suc size (length before)) ∙ ap (start size) (sym (one ∙ add-one (length before))) in
+      let A : Outcome → Type 0 = Goes units n (before ++ t.own ∷ []) (bad + bad_of t.turn) t.left in
+      let B : Outcome → Type 0 = Goes only_these n (before ++ t.own ∷ []) (bad + bad_of t.turn) t.left in
+      inr (record {
+        own = t.own;
+        left = t.left;
+        steps = t.steps;
+        turn = t.turn;
+        front = t.front;
+        unit = record { whole = t.unit.whole; does = (t.unit.does, own_is all front t.own t.left (start size (length before)) (size (length before)) parts at own_size) };
+        after = t.after;
+        does = does_as t.steps (GoesOn t.turn A) (GoesOn t.turn B)
+            (goes_on_as t.turn A B (λ after goes. goes_only n (before ++ t.own ∷ []) (bad + bad_of t.turn) (front ++ t.own) t.left after parts further goes)) t.after t.does;
+        takes = t.takes;
+      })
+
+  pub runs_only : (a : Outcome) → IsOutcome units all a → IsOutcome only_these all a
+  runs_only a runs =
+      does_as units.opens (Goes units units.count [] 0 all) (Goes only_these units.count [] 0 all)
+      (λ after goes. goes_only units.count [] 0 [] all after refl (sym (start-zero size)) goes) a runs

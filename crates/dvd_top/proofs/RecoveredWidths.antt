@@ -1,0 +1,114 @@
+-- How many bytes recovery writes for a block: those of its image sectors, whether it is read or refused.
+use Rattle.std.proofs.Common.{◌≡◌, ◌≢◌, ◌∙◌, inl, inr, ℕ, ◌+◌, ◌*◌, ◌<◌, ◌≤◌, Bool, List, [], ◌∷◌, length, take, drop, replicate, refl, ap, sym, subst, append-nil, arith}
+use Rattle.std.specs.List.{flat_map, range_with_len}
+use Rattle.std.proofs.lemmas.List.{length-drop, length-replicate, length-take-le}
+use Rattle.std.proofs.lemmas.List.Folds.{flat_map-map}
+use Rattle.std.proofs.lemmas.List.FromFn.{take-map-range_with_len}
+use Rattle.dvd_frame.specs.Frame.{found_word, main_in}
+use Rattle.dvd_frame.proofs.Masking.{length-masked}
+use Rattle.dvd_block.specs.Product.{IsProduct, line}
+use Rattle.dvd_capture.specs.Captured.{block_size, captured_marks, captured_rows}
+use Rattle.dvd_capture.specs.declared.form.Form.{Form}
+use Rattle.dvd_layout.specs.Place.{image_sectors, rule_for}
+use Rattle.dvd_layout.specs.declared.entry.BlockPlan.{BlockPlan}
+use Rattle.dvd_layout.specs.declared.entry.Content.{Content}
+use Rattle.dvd_layout.specs.declared.entry.Content.TheVariants.{Zero, Reference, Control, Image}
+use Rattle.dvd_layout.specs.declared.layout.Layout.{Layout}
+use Rattle.dvd_layout.specs.declared.layout.Zones.{Zones}
+use Rattle.dvd_loop.specs.Laws.{first, start}
+use Rattle.dvd_loop.specs.Machine.{IsOutcome, Outcome, Step}
+use Rattle.dvd_loop.specs.Machine.Step.{Write}
+use Rattle.dvd_loop.specs.Turns.{written}
+use Rattle.dvd_loop.specs.declared.ends.LoopEnd.TheVariants.{Done}
+use Rattle.dvd_loop.specs.declared.ends.Turn.{Turn}
+use Rattle.dvd_loop.specs.declared.ends.Turn.TheVariants.{Good, Bad, Last}
+use Rattle.dvd_read.specs.Frames.{frame_of, main_data}
+use Rattle.dvd_top.specs.Commands.Master.{bytes_of_block, image_bytes}
+use Rattle.dvd_top.specs.Commands.Recover.{IsDone, IsRecovered, recover_units}
+use Rattle.dvd_top.specs.Performing.{IsImageDone, IsPassedOver, sectors_out}
+use Rattle.dvd_top.proofs.MasterBlocks.{size_is}
+use Rattle.dvd_top.proofs.Pieces.{length-pieces, start-same}
+use Rattle.dvd_top.proofs.Repairs.{few-sectors}
+use Rattle.dvd_top.proofs.Written.{length-written}
+
+-- a frame in a block has twelve times 172 bytes
+length-frame_of : (block : List (List ℕ)) (f : ℕ) → IsProduct block → f < 16 → length (frame_of block f) ≡ 2064
+unfolding frame_of
+length-frame_of block f is below =
+    length-pieces (λ q. take 172 (line block (12 * f + q))) (λ q. 172) 12 front ∙ start-same 172 12
+  where
+    front : (q : ℕ) → q < 12 → length (take 172 (line block (12 * f + q))) ≡ 172
+    front q within =
+        let width : length (line block (12 * f + q)) ≡ 182 = (is.rows (12 * f + q) [] (omega (arith, is.height))).size in
+        length-take-le 172 (line block (12 * f + q)) (omega arith)
+
+-- the Main Data of frame f
+abbrev main_at : List (List ℕ) → BlockPlan → ℕ → List ℕ
+main_at block entry f = main_in (frame_of block f) (rule_for entry.content f)
+
+-- and 2,048 of Main Data
+length-main : (block : List (List ℕ)) (entry : BlockPlan) (f : ℕ) → IsProduct block → f < 16 → length (main_at block entry f) ≡ 2048
+length-main block entry f is below =
+    let frame = frame_of block f in
+    let size : length frame ≡ 2064 = length-frame_of block f is below in
+    length-masked (found_word frame) (rule_for entry.content f) (take 2048 (drop 12 frame))
+    ∙ length-take-le 2048 (drop 12 frame) (omega (arith, length-drop 12 frame))
+
+length-sectors_out : (block : List (List ℕ)) (entry : BlockPlan) (count : ℕ) → IsProduct block → count ≤ 16 → length (sectors_out count (main_data block entry)) ≡ 2048 * count
+unfolding main_data
+length-sectors_out block entry count is few =
+    ap (λ l. length (flat_map (λ (sector : List ℕ). sector) l)) (take-map-range_with_len (main_at block entry) 0 16 count few)
+    ∙ ap length (flat_map-map (λ (sector : List ℕ). sector) (main_at block entry) (range_with_len 0 count))
+    ∙ length-pieces (main_at block entry) (λ f. 2048) count (λ f below. length-main block entry f is (omega arith))
+    ∙ start-same 2048 count
+
+-- so many bytes are written, and the block isn't the last
+abbrev pub IsWide : ℕ → List Step → Turn → Type 0
+IsWide count steps turn = (length (written steps) ≡ count) × (turn ≢ Last)
+
+module _ (layout : Layout) (k : ℕ) (entry : BlockPlan) (rows : List (List ℕ)) (marks : List (List Bool)) (steps : List Step) (turn : Turn) where
+  write-wide : (bytes : List ℕ) → steps ≡ Write bytes ∷ [] → length (written steps) ≡ length bytes
+  write-wide bytes is = ap (λ s. length (written s)) is ∙ ap length (append-nil bytes)
+
+  image-wide : IsImageDone layout k entry rows marks steps turn → IsWide (image_bytes layout entry) steps turn
+  image-wide (inl given) =
+      let count = image_sectors layout entry.content in (
+        write-wide (sectors_out count given.sectors) given.writes ∙ ap (λ l. length (sectors_out count l)) given.read.main
+            ∙ length-sectors_out given.read.block entry count given.read.agrees.product (few-sectors layout entry.content),
+        λ last. let no : Good ≡ Last = sym given.good ∙ last in cc,
+      )
+  image-wide (inr refused) =
+      let zeros : List ℕ = replicate (2048 * image_sectors layout entry.content) 0 in (
+        ap (λ s. length (written s)) refused.tells ∙ ap length (append-nil zeros) ∙ length-replicate (2048 * image_sectors layout entry.content) 0,
+        λ last. let no : Bad ≡ Last = sym refused.bad ∙ last in cc,
+      )
+
+  passed-wide : image_bytes layout entry ≡ 0 → IsPassedOver steps turn → IsWide (image_bytes layout entry) steps turn
+  passed-wide none (nothing, good) = (ap (λ s. length (written s)) nothing ∙ sym none, λ last. let no : Good ≡ Last = sym good ∙ last in cc)
+
+  done-wide : (content : Content) → entry.content ≡ content → IsDone content layout k entry rows marks steps turn → IsWide (image_bytes layout entry) steps turn
+  done-wide (Image sector) is done = image-wide done
+  done-wide Zero is done = passed-wide (ap (λ c. 2048 * image_sectors layout c) is) done
+  done-wide Reference is done = passed-wide (ap (λ c. 2048 * image_sectors layout c) is) done
+  done-wide Control is done = passed-wide (ap (λ c. 2048 * image_sectors layout c) is) done
+
+module _ (layout : Layout) (zones : Zones) (form : Form) where
+  recovered-wide : (k : ℕ) (own : List ℕ) (steps : List Step) (turn : Turn) → IsRecovered layout zones form k own steps turn → IsWide (bytes_of_block layout zones k) steps turn
+  recovered-wide k own steps turn r =
+      subst (λ n. IsWide n steps turn) (sym (size_is layout zones k r.entry r.stands))
+      (done-wide layout k r.entry (captured_rows form own) (captured_marks form own) steps turn r.entry.content refl r.does)
+
+  -- no block is the last
+  pub never_last : (k : ℕ) (before : List (List ℕ)) (own : List ℕ) (steps : List Step) → IsRecovered layout zones form k own steps Last → ⊥
+  never_last k before own steps r = (recovered-wide k own steps Last r).1 refl
+
+  -- what the first k blocks write
+  pub length-first : (k : ℕ) (bytes : List ℕ) (a : Outcome) → IsOutcome (first k (recover_units layout zones form)) bytes a → a.end ≡ Done
+      → length a.out ≡ start (bytes_of_block layout zones) k
+  length-first k bytes a runs done =
+      length-written (first k (recover_units layout zones form)) (λ j. block_size form) (bytes_of_block layout zones) (record {
+        begins = λ j l. refl;
+        opens = refl;
+        does = λ before own steps turn does. recovered-wide (length before) own steps turn does;
+        closes = λ before steps none. none;
+      }) bytes a runs done

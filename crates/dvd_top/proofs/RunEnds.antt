@@ -1,0 +1,168 @@
+-- What follows for a run: what a failed read leaves, and that the bound is kept.
+use Rattle.std.proofs.Common.{◌≡◌, ◌≢◌, inl, inr, ℕ, List, [], ◌∷◌, ◌++◌, refl, ap, sym, subst, ◌∙◌, append-nil}
+use Rattle.dvd_ports.specs.Causes.{Rose}
+use Rattle.dvd_loop.specs.Laws.{IsFaultless}
+use Rattle.dvd_loop.specs.Machine.{Closes, Does, IsClosed, IsOutcome, Outcome, Units, ended}
+use Rattle.dvd_loop.specs.Machine.Step.{Tell}
+use Rattle.dvd_loop.specs.Streams.{Comes, Counts, HaveCauses, HaveMoved, Streams, is_report_fault}
+use Rattle.dvd_loop.specs.declared.ends.LoopEnd.{LoopEnd}
+use Rattle.dvd_loop.specs.declared.ends.LoopEnd.TheVariants.{BadMarks, Damaged, Done, Long, NoControl, ReadFault, ReportFault, Short, WriteFault}
+use Rattle.dvd_loop.proofs.Faults.{ends_there}
+use Rattle.dvd_loop.proofs.StepLemmas.{and_then}
+use Rattle.dvd_top.specs.Bound.{KeepsBound}
+use Rattle.dvd_top.specs.Commands.{meaning}
+use Rattle.dvd_top.specs.Headline.{EndsThere, HasRun, HaveRisen}
+use Rattle.dvd_top.specs.Statuses.{IsWhole, status_of}
+use Rattle.dvd_top.specs.Lines.{closing_line}
+use Rattle.dvd_top.specs.declared.settings.Command.{Command}
+use Rattle.dvd_top.specs.declared.settings.Command.TheVariants.{Frames, Master, Recover}
+use Rattle.dvd_top.specs.declared.settings.Settings.{Settings}
+use Rattle.dvd_top.specs.declared.status.Status.{Status}
+use Rattle.dvd_top.specs.declared.status.Status.TheVariants as status
+use Rattle.dvd_top.proofs.BoundKept.{kept}
+use Rattle.dvd_top.proofs.RunLemmas.{of_units}
+
+-- the line of an end that isn't the report's was told whole, or the report failed within it
+line_is : (closing : LoopEnd → List ℕ) (end : LoopEnd) (line : Outcome) → Does (Tell (closing end) ∷ []) (λ after. after ≡ ended end) line → line.end ≢ ReportFault
+    → line ≡ record { taken = []; out = []; lines = closing end; end = end }
+line_is closing end line does sound = elim does [
+  | inl (front, left, whole, some, is) ↦ absurd (sound (ap (λ (o : Outcome). o.end) is))
+  | inr (after, is, told) ↦
+      told ∙ ap (λ (o : Outcome). record { taken = o.taken; out = o.out; lines = closing end ++ o.lines; end = o.end }) is
+      ∙ ap (λ l. record { taken = []; out = []; lines = l; end = end }) (append-nil (closing end))
+]
+
+-- so it is behind any loop
+closes_is : (closing : LoopEnd → List ℕ) (within : LoopEnd) (line : Outcome) → Closes closing within line → line.end ≢ ReportFault → line ≡ record { taken = []; out = []; lines = closing within; end = within }
+closes_is closing ReportFault line is sound = absurd (sound (ap (λ (o : Outcome). o.end) is))
+closes_is closing Done line does sound = line_is closing Done line does sound
+closes_is closing ReadFault line does sound = line_is closing ReadFault line does sound
+closes_is closing WriteFault line does sound = line_is closing WriteFault line does sound
+closes_is closing (Short k held) line does sound = line_is closing (Short k held) line does sound
+closes_is closing Long line does sound = line_is closing Long line does sound
+closes_is closing (Damaged bad) line does sound = line_is closing (Damaged bad) line does sound
+closes_is closing NoControl line does sound = line_is closing NoControl line does sound
+closes_is closing (BadMarks k at) line does sound = line_is closing (BadMarks k at) line does sound
+
+-- what a loop over one's own bytes leaves, by an outcome
+abbrev Leaves : (List ℕ → List ℕ → List ℕ → Type 0) → Outcome → Type 0
+Leaves Moved b = IsFaultless b.end × Moved b.taken b.out b.lines
+
+taken_out : (command : Command) (settings : Settings) (Moved : List ℕ → List ℕ → List ℕ → Type 0) → (meaning command).OfUnits settings (λ units. (b : Outcome) × IsOutcome units b.taken b × Leaves Moved b)
+    → (b : Outcome) × (meaning command).OfUnits settings (λ units. IsOutcome units b.taken b) × Leaves Moved b
+taken_out Frames settings Moved holds = (holds.0, holds.1, holds.2)
+taken_out Master settings Moved holds = (holds.2.0, (holds.0, holds.1, holds.2.1), holds.2.2)
+taken_out Recover settings Moved holds = (holds.2.0, (holds.0, holds.1, holds.2.1), holds.2.2)
+
+-- a closed loop that a failed read ended: over the bytes that it took no fault would have ended it
+ends_over : (closing : LoopEnd → List ℕ) (units : Units) (bytes : List ℕ) (within : LoopEnd) (outcome : Outcome) (Moved : List ℕ → List ℕ → List ℕ → Type 0) → IsClosed closing units bytes within outcome → outcome.end ≡ ReadFault
+    → Moved outcome.taken outcome.out outcome.lines → (b : Outcome) × IsOutcome units b.taken b × Leaves (λ taken out lines. Moved taken out (lines ++ closing ReadFault)) b
+ends_over closing units bytes within outcome Moved c ends moved =
+    let end_is : c.line.end ≡ ReadFault = sym (ap (λ (o : Outcome). o.end) c.all) ∙ ends in
+    let line = closes_is closing within c.line c.closes (λ is. let no : ReadFault ≡ ReportFault = sym end_is ∙ is in cc) in
+    let within_is : within ≡ ReadFault = sym (ap (λ (o : Outcome). o.end) line) ∙ end_is in
+    let b = ends_there units bytes c.loop c.runs (c.ends ∙ within_is) in
+    let all : outcome ≡ and_then c.loop (record { taken = []; out = []; lines = closing ReadFault; end = ReadFault }) =
+    c.all ∙ ap (and_then c.loop) line ∙ ap (λ e. and_then c.loop (record { taken = []; out = []; lines = closing e; end = e })) within_is in
+    let after = subst (λ (o : Outcome). Moved o.taken o.out o.lines) all moved in
+    let taken = subst (λ l. Moved l (c.loop.out ++ []) (c.loop.lines ++ closing ReadFault)) (append-nil c.loop.taken ∙ sym b.3) after in
+    let out = subst (λ l. Moved b.0.taken l (c.loop.lines ++ closing ReadFault)) (append-nil c.loop.out ∙ sym b.4) taken in (
+      b.0,
+      subst (λ l. IsOutcome units l b.0) (sym b.3) b.1,
+      (b.2, subst (λ l. Moved b.0.taken b.0.out (l ++ closing ReadFault)) (sym b.5) out),
+    )
+
+read_end : (end : LoopEnd) → status.ReadFault ≡ status_of end → end ≡ ReadFault
+read_end ReadFault is = refl
+read_end Done is = cc
+read_end WriteFault is = cc
+read_end ReportFault is = cc
+read_end (Short k held) is = cc
+read_end Long is = cc
+read_end (Damaged bad) is = cc
+read_end NoControl is = cc
+read_end (BadMarks k at) is = cc
+
+pub ends_there_run : (settings : Settings) (old new : Streams) (result : Status) → HasRun settings old new result → result ≡ status.ReadFault → EndsThere settings old new
+ends_there_run settings old new result run is =
+    let comes = run.comes in
+    let ends : comes.outcome.end ≡ ReadFault = comes.ends ∙ read_end run.end (sym is ∙ run.is_status) in
+    let over = taken_out settings.command settings (λ taken out lines. HaveMoved old new taken out (lines ++ closing_line settings.command ReadFault))
+    (of_units settings (λ units. IsClosed (closing_line settings.command) units comes.bytes run.within comes.outcome)
+    (λ units. (b : Outcome) × IsOutcome units b.taken b × Leaves (λ taken out lines. HaveMoved old new taken out (lines ++ closing_line settings.command ReadFault)) b)
+    (λ units c. ends_over (closing_line settings.command) units comes.bytes run.within comes.outcome (HaveMoved old new) c ends comes.moved) comes.holds) in record {
+      outcome = over.0;
+      runs = over.1;
+      faultless = over.2.0;
+      moved = over.2.1;
+    }
+
+-- the statuses of ends that no fault made
+abbrev IsSound : Status → Type 0
+IsSound status.ReadFault = ⊥
+IsSound status.WriteFault = ⊥
+IsSound status.ReportFault = ⊥
+IsSound other = Unit {0}
+
+sound_status : (end : LoopEnd) → IsFaultless end → IsSound (status_of end)
+sound_status ReadFault none = none
+sound_status WriteFault none = none
+sound_status ReportFault none = none
+sound_status Done none = tt
+sound_status (Short k held) none = tt
+sound_status Long none = tt
+sound_status (Damaged bad) none = tt
+sound_status NoControl none = tt
+sound_status (BadMarks k at) none = tt
+
+faultless_by : (end : LoopEnd) → IsSound (status_of end) → IsFaultless end
+faultless_by ReadFault sound = sound
+faultless_by WriteFault sound = sound
+faultless_by ReportFault sound = sound
+faultless_by Done sound = tt
+faultless_by (Short k held) sound = tt
+faultless_by Long sound = tt
+faultless_by (Damaged bad) sound = tt
+faultless_by NoControl sound = tt
+faultless_by (BadMarks k at) sound = tt
+
+pub bound_kept : (settings : Settings) (old new : Streams) (result : Status) → HasRun settings old new result → IsWhole result → settings.command ≡ Recover → (end : LoopEnd) × Comes (KeepsBound settings) old new end
+bound_kept settings old new result run whole is =
+    let sound : IsFaultless run.end = faultless_by run.end (subst IsSound run.is_status (subst IsSound (sym whole.1) (sound_status whole.0 whole.2))) in (
+      run.end,
+      record {
+        bytes = run.comes.bytes;
+        told = run.comes.told;
+        outcome = run.comes.outcome;
+        holds = kept settings run.within run.comes.bytes run.comes.outcome is run.comes.holds (subst IsFaultless (sym run.comes.ends) sound);
+        ends = run.comes.ends;
+        moved = run.comes.moved;
+      },
+    )
+
+-- the counts by the status of a run that begins
+pub risen : (within end : LoopEnd) (old new : Streams) → (end ≢ ReportFault → end ≡ within) → HaveCauses within end old new → HaveRisen (status_of end) old new
+risen within end old new same causes = risen_by end old new (λ not. subst (λ w. HaveCauses w end old new) (sym (same not)) causes) causes.report
+  where
+    risen_by : (end : LoopEnd) (old new : Streams) → (end ≢ ReportFault → HaveCauses end end old new) → Counts (is_report_fault end) old.report.faults new.report.faults → HaveRisen (status_of end) old new
+    risen_by ReportFault old new causes report = report
+    risen_by ReadFault old new causes report = (causes (λ is. cc)).source
+    risen_by WriteFault old new causes report = (causes (λ is. cc)).output
+    risen_by Done old new causes report = let c = causes (λ is. cc) in (c.source, c.output, c.report)
+    risen_by (Short k held) old new causes report = let c = causes (λ is. cc) in (c.source, c.output, c.report)
+    risen_by Long old new causes report = let c = causes (λ is. cc) in (c.source, c.output, c.report)
+    risen_by (Damaged bad) old new causes report = let c = causes (λ is. cc) in (c.source, c.output, c.report)
+    risen_by NoControl old new causes report = let c = causes (λ is. cc) in (c.source, c.output, c.report)
+    risen_by (BadMarks k at) old new causes report = let c = causes (λ is. cc) in (c.source, c.output, c.report)
+
+-- where no count rose, no fault ended it
+pub sound_end : (end : LoopEnd) (old new : Streams) → HaveRisen (status_of end) old new → (Rose old.source.faults new.source.faults → ⊥) → (Rose old.output.faults new.output.faults → ⊥) → (Rose old.report.faults new.report.faults → ⊥) → IsFaultless end
+sound_end ReadFault old new risen source output report = source risen
+sound_end WriteFault old new risen source output report = output risen
+sound_end ReportFault old new risen source output report = report risen
+sound_end Done old new risen source output report = tt
+sound_end (Short k held) old new risen source output report = tt
+sound_end Long old new risen source output report = tt
+sound_end (Damaged bad) old new risen source output report = tt
+sound_end NoControl old new risen source output report = tt
+sound_end (BadMarks k at) old new risen source output report = tt

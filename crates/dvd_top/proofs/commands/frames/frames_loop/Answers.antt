@@ -1,0 +1,8 @@
+use Rattle.dvd_loop.proofs.LoopEnds.{never_told, plain_end}
+use Rattle.dvd_top.proofs.commands.frames.frames_loop.Goals as goal
+
+pub returns-clause-ends : goal.returns-clause-ends
+returns-clause-ends g c =
+    let f = c.run_frames.ensures.follows in
+    plain_end _ _ _ f.bytes f.outcome f.holds (λ k before own steps does. let no = does.1 in cc) c.run_frames.result f.ends
+    (never_told c.run_frames.result c.run_frames.ensures.causes.report)

@@ -1,0 +1,8 @@
+use Rattle.std.proofs.Common.{ℕ, ◌<◌}
+use Rattle.dvd_block.specs.Buffers.{block_rows}
+use Rattle.dvd_block.specs.Product.{HoldsFrame}
+use Rattle.dvd_top.specs.Commands.Master.{frame_of}
+use Rattle.dvd_top.proofs.commands.master.fill_block.Given as goal
+
+abbrev pub invariant-loop-f : goal.invariant-loop-f
+invariant-loop-f l = (g : ℕ) → g < l.f → HoldsFrame g (frame_of l.layout l.entry l.cpr l.sectors g) (block_rows l.block)

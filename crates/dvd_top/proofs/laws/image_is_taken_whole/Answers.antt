@@ -1,0 +1,5 @@
+use Rattle.dvd_top.proofs.ImageTaken.{whole}
+use Rattle.dvd_top.proofs.laws.image_is_taken_whole.Goals as goal
+
+pub returns : goal.returns
+returns c = whole

@@ -1,0 +1,5 @@
+use Rattle.dvd_top.proofs.SomethingDone.{something}
+use Rattle.dvd_top.proofs.laws.something_is_done.Goals as goal
+
+pub returns : goal.returns
+returns c = something

@@ -1,0 +1,77 @@
+-- The command `recover`: the image sectors that are read from a stream of captured blocks, or zeros and a line where a block is refused.
+use Rattle.std.specs.Prelude.{◌≡◌, ◌⊎◌, ℕ, ◌*◌, ◌&&◌, true, Bool, Option, Some, None, option_and_then, List, [], ◌∷◌, codes, length, replicate, take, slice_get, if◌then◌else◌}
+use Rattle.std.specs.List.{flat_map}
+use Rattle.std.specs.Str.{bytes_eq}
+use Rattle.dvd_capture.specs.Captured.{block_size, captured_rows, captured_marks}
+use Rattle.dvd_capture.specs.declared.form.Form.{Form}
+use Rattle.dvd_layout.specs.Place.{image_sectors}
+use Rattle.dvd_layout.specs.Plan.{plan_of}
+use Rattle.dvd_layout.specs.declared.entry.BlockPlan.{BlockPlan}
+use Rattle.dvd_layout.specs.declared.entry.Content.{Content}
+use Rattle.dvd_layout.specs.declared.entry.Content.TheVariants.{Zero, Reference, Control, Image}
+use Rattle.dvd_layout.specs.declared.layout.Layout.{Layout}
+use Rattle.dvd_layout.specs.declared.layout.Zones.{Zones}
+use Rattle.dvd_loop.specs.Machine.{Step, Units, plain_units}
+use Rattle.dvd_loop.specs.Machine.Step.{Write, Tell}
+use Rattle.dvd_loop.specs.declared.ends.Turn.{Turn}
+use Rattle.dvd_loop.specs.declared.ends.Turn.TheVariants.{Good, Bad}
+use Rattle.dvd_read.specs.Reading.{IsReadAs, block_cause}
+use Rattle.dvd_read.specs.declared.cause.Cause.{Cause}
+use Rattle.dvd_report.specs.Lines.{damage_line}
+use Rattle.dvd_top.specs.Meaning.{Meaning}
+use Rattle.dvd_top.specs.Settings.{IsLayoutOf, broken_rule, plain_settings}
+use Rattle.dvd_top.specs.Words.{decimal_of, form_of}
+use Rattle.dvd_top.specs.declared.settings.Command.TheVariants.{Recover}
+use Rattle.dvd_top.specs.declared.settings.Settings.{Settings}
+
+-- the values of `--sectors` and `--form`
+abbrev pub recover_values : List ℕ → List ℕ → Option Settings
+recover_values sectors form = option_and_then (λ n. option_and_then (λ f. Some (record (plain_settings Recover 0 n) { form = f })) (form_of form)) (decimal_of sectors)
+
+-- both options, in either order, or the first alone
+abbrev pub recover_reading : List (List ℕ) → Option Settings
+recover_reading (a ∷ x ∷ []) = if bytes_eq a (codes "--sectors") then recover_values x (codes "plain") else None
+recover_reading (a ∷ x ∷ b ∷ y ∷ []) =
+    if bytes_eq a (codes "--sectors") && bytes_eq b (codes "--form") then recover_values x y
+    else (if bytes_eq a (codes "--form") && bytes_eq b (codes "--sectors") then recover_values y x else None)
+recover_reading words = None
+
+-- The image sectors of the block that two passes determine are written, and its frames are right; padding sectors aren't.
+pub record IsGiven (layout : Layout) (entry : BlockPlan) (rows : List (List ℕ)) (marks : List (List Bool)) (steps : List Step) (turn : Turn) : Type 0 where
+  pub sectors : List (List ℕ)
+  pub read : IsReadAs rows marks entry sectors
+  pub writes : steps ≡ Write (flat_map (λ sector. sector) (take (image_sectors layout entry.content) sectors)) ∷ []
+  pub good : turn ≡ Good
+
+-- Or the block is refused for its first cause: its line is told, and then zeros are written in the place of its image sectors.
+pub record IsRefused (layout : Layout) (k : ℕ) (entry : BlockPlan) (rows : List (List ℕ)) (marks : List (List Bool)) (steps : List Step) (turn : Turn) : Type 0 where
+  pub cause : Cause
+  pub first : block_cause rows marks entry ≡ Some cause
+  pub tells : steps ≡ Tell (damage_line k entry cause) ∷ Write (replicate (2048 * image_sectors layout entry.content) 0) ∷ []
+  pub bad : turn ≡ Bad
+
+-- a block that holds no image is passed over
+abbrev pub IsDone : Content → Layout → ℕ → BlockPlan → List (List ℕ) → List (List Bool) → List Step → Turn → Type 0
+IsDone (Image sector) layout k entry rows marks steps turn = IsGiven layout entry rows marks steps turn ⊎ IsRefused layout k entry rows marks steps turn
+IsDone Zero layout k entry rows marks steps turn = (steps ≡ []) × (turn ≡ Good)
+IsDone Reference layout k entry rows marks steps turn = (steps ≡ []) × (turn ≡ Good)
+IsDone Control layout k entry rows marks steps turn = (steps ≡ []) × (turn ≡ Good)
+
+-- what is done for block k of the plan, whose captured bytes are its own
+pub record IsRecovered (layout : Layout) (zones : Zones) (form : Form) (k : ℕ) (own : List ℕ) (steps : List Step) (turn : Turn) : Type 0 where
+  pub entry : BlockPlan
+  pub stands : slice_get (plan_of layout zones) k ≡ Some entry
+  pub does : IsDone entry.content layout k entry (captured_rows form own) (captured_marks form own) steps turn
+
+abbrev pub recover_units : Layout → Zones → Form → Units
+recover_units layout zones form = plain_units (length (plan_of layout zones)) (λ k. block_size form) (IsRecovered layout zones form)
+
+abbrev pub recover_meaning : Meaning
+recover_meaning = record {
+  word = codes "recover";
+  unit_name = codes "block";
+  reading = recover_reading;
+  breaks = broken_rule;
+  has_buffers = true;
+  OfUnits = λ settings P. (layout : Layout) × IsLayoutOf settings layout × P (recover_units layout settings.zones settings.form);
+}

@@ -1,0 +1,99 @@
+-- The headline: what a run of the program does, for its words, for the bytes of its input and for faults of its streams.
+-- `run` promises each part in this order. What a run may take, write and tell unit by unit is said by Machine of dvd_loop.
+use Rattle.std.specs.Prelude.{◌≡◌, ◌≢◌, ◌⊎◌, IsTrue, List, ℕ, [], ◌∷◌, ◌++◌, Option, Some, None, codes, if◌then◌else◌}
+use Rattle.std.specs.Io.KnownBytes.{Appends}
+use Rattle.std.specs.Str.{bytes_eq}
+use Rattle.dvd_layout.specs.declared.fault.LayoutFault.{LayoutFault}
+use Rattle.dvd_loop.specs.Laws.{IsFaultless}
+use Rattle.dvd_loop.specs.Machine.{IsClosed, IsOutcome, Outcome}
+use Rattle.dvd_loop.specs.Streams.{Comes, HaveCauses, HaveMoved, Streams}
+use Rattle.dvd_loop.specs.declared.ends.LoopEnd.{LoopEnd}
+use Rattle.dvd_loop.specs.declared.ends.LoopEnd.TheVariants as ends
+use Rattle.dvd_ports.specs.Causes.{Rose}
+use Rattle.dvd_ports.specs.Seen.{Seen}
+use Rattle.dvd_ports.specs.Whole.{AppendsPrefix}
+use Rattle.dvd_top.specs.Bound.{KeepsBound}
+use Rattle.dvd_top.specs.Commands.{meaning}
+use Rattle.dvd_top.specs.Lines.{closing_line, setting_line}
+use Rattle.dvd_top.specs.Statuses.{IsWhole, status_of}
+use Rattle.dvd_top.specs.declared.settings.Command.TheVariants.{Frames, Master, Recover}
+use Rattle.dvd_top.specs.declared.settings.Settings.{Settings}
+use Rattle.dvd_top.specs.declared.status.Status.{Status}
+use Rattle.dvd_top.specs.declared.status.Status.TheVariants as status
+
+-- WORDS. The first names the command, and those behind it ask for settings, or for nothing.
+unfoldable pub reading : List (List ℕ) → Option Settings
+reading [] = None
+reading (word ∷ words) =
+    if bytes_eq word (meaning Frames).word then (meaning Frames).reading words
+    else (if bytes_eq word (meaning Master).word then (meaning Master).reading words
+    else (if bytes_eq word (meaning Recover).word then (meaning Recover).reading words else None))
+
+-- LAYOUT. The first rule of layouts that the settings break, if any.
+abbrev pub breaks : Settings → Option LayoutFault
+breaks settings = (meaning settings.command).breaks settings
+
+-- UNITS. What the command does for each unit of its input is said by its page in Commands, in short:
+-- frames: sector k is 2,048 bytes, and its scrambled data frame is written.
+-- master: block k takes the bytes of the image sectors that stand in it, and the recording of the one ECC block of its sixteen
+-- data frames is written.
+-- recover: block k is the bytes of a captured block. Of a block of image sectors these are written, as the one block has them
+-- that two passes determine, if its frames are right; else its line is told, which names its first cause, and then zeros
+-- are written in their place.
+--
+-- OUTCOME. The units are taken in their order, each whole and with all that is done for it, and behind the last one byte more
+-- is asked for. The loop ends before that where the input ends within a unit, of which nothing is done; where a read fails,
+-- and nothing is done of that unit; or where a write or a line fails, of which a front was done, and nothing comes after.
+-- The loop of the command over these bytes; and the same where it ended so, with its closing line behind it:
+abbrev pub IsLoop : Settings → List ℕ → Outcome → Type 0
+IsLoop settings bytes outcome = (meaning settings.command).OfUnits settings (λ units. IsOutcome units bytes outcome)
+
+abbrev pub IsRun : Settings → LoopEnd → List ℕ → Outcome → Type 0
+IsRun settings within bytes outcome =
+    (meaning settings.command).OfUnits settings (λ units. IsClosed (closing_line settings.command) units bytes within outcome)
+
+-- The streams have come to a run over some bytes, those of the source where it tells them. It ends as its loop does, or as
+-- ReportFault where its closing line can't be told; each of these faults raised the count of its stream, and no other moved.
+pub record HasRun (settings : Settings) (old new : Streams) (result : Status) : Type 0 where
+  pub within : LoopEnd
+  pub end : LoopEnd
+  pub comes : Comes (IsRun settings within) old new end
+  pub in_place : end ≢ ends.ReportFault → end ≡ within
+  pub causes : HaveCauses within end old new
+  pub is_status : result ≡ status_of end
+
+-- A run that doesn't begin: its line is told and its status this one, or the report failed within the line.
+abbrev pub HasNotBegun : Status → List ℕ → Seen → Seen → Status → Type 0
+HasNotBegun wanted line old new result =
+    ((result ≡ wanted) × Appends old.bytes new.bytes line × (new.faults ≡ old.faults)) ⊎ ((result ≡ status.ReportFault) × AppendsPrefix old.bytes new.bytes line × Rose old.faults new.faults)
+
+-- FAULTS. A fault is the status only where that stream's count rose; after any other status no count has moved.
+abbrev pub HaveRisen : Status → Streams → Streams → Type 0
+HaveRisen status.ReadFault old new = Rose old.source.faults new.source.faults
+HaveRisen status.WriteFault old new = Rose old.output.faults new.output.faults
+HaveRisen status.ReportFault old new = Rose old.report.faults new.report.faults
+HaveRisen other old new = (new.source.faults ≡ old.source.faults) × (new.output.faults ≡ old.output.faults) × (new.report.faults ≡ old.report.faults)
+
+-- After a failed read all is as if the input had ended there: a run over the bytes that were taken, but for its closing line.
+pub record EndsThere (settings : Settings) (old new : Streams) : Type 0 where
+  pub outcome : Outcome
+  pub runs : IsLoop settings outcome.taken outcome
+  pub faultless : IsFaultless outcome.end
+  pub moved : HaveMoved old new outcome.taken outcome.out (outcome.lines ++ closing_line settings.command ends.ReadFault)
+
+-- THE HEADLINE. What a run promises of its words, of its streams before and after, and of its status.
+pub record Headline (Untouched : Type 0) (words : List (List ℕ)) (old new : Streams) (result : Status) : Type 0 where
+  -- words that ask for nothing are Usage, and a layout that breaks a rule is Setting: nothing is read or written but the line
+  pub usage : reading words ≡ None → Untouched × HasNotBegun status.Usage (codes "usage\n") old.report new.report result
+  pub setting : (settings : Settings) (fault : LayoutFault) → reading words ≡ Some settings → breaks settings ≡ Some fault
+      → Untouched × HasNotBegun status.Setting (setting_line fault) old.report new.report result
+  -- else the command runs; or there is no memory for its buffers, and nothing is read or written but that line
+  pub runs : (settings : Settings) → reading words ≡ Some settings → breaks settings ≡ None
+      → HasRun settings old new result ⊎ (IsTrue (meaning settings.command).has_buffers × Untouched × HasNotBegun status.NoMemory (codes "no memory\n") old.report new.report result)
+  pub causes : HaveRisen result old new
+  -- These follow: where no stream failed, no fault ended it; what a failed read leaves; and of a captured block whose damage is
+  -- within the bound, against any block that was mastered for its place, exactly the mastered sectors are given back.
+  pub complete : (settings : Settings) → reading words ≡ Some settings → breaks settings ≡ None → result ≢ status.NoMemory
+      → (Rose old.source.faults new.source.faults → ⊥) → (Rose old.output.faults new.output.faults → ⊥) → (Rose old.report.faults new.report.faults → ⊥) → IsWhole result
+  pub read_fault : result ≡ status.ReadFault → (settings : Settings) → reading words ≡ Some settings → EndsThere settings old new
+  pub bound : IsWhole result → (settings : Settings) → reading words ≡ Some settings → settings.command ≡ Recover → (end : LoopEnd) × Comes (KeepsBound settings) old new end

@@ -1,0 +1,246 @@
+//! The command `master`: the recording frames of each ECC block of a disk.
+ghost use Rattle.std.specs.Prelude.{◌≡◌, ◌-◌, ◌*◌, ◌<◌, ◌≤◌, ℕ, List, length, take, drop, replicate, IfErr, IsErr, OnOk};
+ghost use Rattle.std.specs.Io.KnownBytes.{Consumes};
+ghost use Rattle.dvd_ports.specs.Seen.{Seen};
+ghost use Rattle.dvd_block.specs.Buffers.{block_rows, piece_bytes};
+ghost use Rattle.dvd_block.specs.Product.{IsBlockOf};
+ghost use Rattle.dvd_layout.specs.Place.{HasNumbers};
+ghost use Rattle.dvd_layout.specs.Plan.{IsEntry, plan_of};
+ghost use Rattle.dvd_layout.specs.declared.layout.Layout.{Layout as DiskLayout};
+ghost use Rattle.dvd_layout.specs.declared.layout.Zones.{Zones as WhichZones};
+ghost use Rattle.dvd_loop.specs.Laws.{IsPlainEnd};
+ghost use Rattle.dvd_loop.specs.Machine.{IsOutcome};
+ghost use Rattle.dvd_loop.specs.Streams.{streams, Comes, HaveCauses, no_stream};
+ghost use Rattle.dvd_loop.specs.Turns.{EndsShort, HaveCausesFor};
+ghost use Rattle.dvd_top.specs.Commands.Master.{cpr_in, frame_of, frames_of, image_bytes, main_for, master_units};
+ghost use Rattle.dvd_top.specs.Performing.{IsPerformed};
+ghost use Rattle.dvd_top.specs.Settings.{IsLayoutOf};
+
+use crate::settings::{Command, Settings};
+use crate::status::Refusal;
+use dvd_block::{Block, Piece};
+use dvd_control::main_of;
+use dvd_frame::{Area, make_frame};
+use dvd_layout::{BlockPlan, Content, Layout, Zones, id_of, rule_of};
+use dvd_loop::{Behind, LoopEnd, Turn, Turns, follow, read_unit};
+use dvd_ports::{NullSink, Sink, Source};
+use std::alloc::Global;
+
+/// Its blocks, in the order of the plan, and the buffers of one block.
+#[derive(Drop)]
+struct Master<'a> {
+    layout: Layout,
+    zones: Zones,
+    cpr: [u8; 6],
+    block: &'a mut Block,
+    piece: &'a mut Piece,
+}
+
+impl<'a> Turns for Master<'a> {
+    ghost Key = { DiskLayout × WhichZones × List ℕ };
+
+    ghost key = { λ m. (m.layout, m.zones, m.cpr) };
+
+    ghost units = { λ key. master_units key.0 key.1 key.2 };
+
+    ghost ready = { λ _ _. Unit {0} };
+
+    ghost left = { λ _ _. Unit {0} };
+
+    fn count(&self) -> u32 {
+        self.layout.blocks(self.zones) as u32
+    }
+
+    fn behind(&self) -> Behind {
+        Behind::Asks
+    }
+
+    fn open<K: Sink, E: Sink>(&self, _out: &mut K, _report: &mut E) -> Result<(), LoopEnd> {
+        Ok(())
+    }
+
+    fn turn<S: Source, K: Sink, E: Sink>(
+        &mut self,
+        k: u32,
+        src: &mut S,
+        out: &mut K,
+        _report: &mut E,
+    ) -> Result<Turn, LoopEnd> {
+        let entry = self.layout.plan(self.zones, u64::from(k));
+        let size = image_size(&self.layout, &entry);
+        read_image(src, k, self.piece, size)?;
+        fill_block(
+            &self.layout,
+            &entry,
+            &self.cpr,
+            self.piece.bytes(),
+            self.block,
+        );
+        self.block.write_recording(out)?;
+        Ok(Turn::Good)
+    }
+
+    fn close<K: Sink, E: Sink>(&self, _out: &mut K, _report: &mut E) -> Result<(), LoopEnd> {
+        Ok(())
+    }
+}
+
+/// Masters every block of the plan of the layout and the zones that the settings choose.
+pub fn master_loop<S: Source, K: Sink>(
+    settings: &Settings,
+    layout: &Layout,
+    block: &mut Block,
+    piece: &mut Piece,
+    src: &mut S,
+    out: &mut K,
+) -> LoopEnd
+    requires { IsLayoutOf settings.now layout.now }
+    ensures follows { Comes (IsOutcome (master_units layout.now settings.now.zones settings.now.cpr))
+        (streams (S.seen src.old) (K.seen out.old) no_stream) (streams (S.seen src.new) (K.seen out.new) no_stream) result }
+    ensures causes { HaveCauses result result
+        (streams (S.seen src.old) (K.seen out.old) no_stream) (streams (S.seen src.new) (K.seen out.new) no_stream) }
+    ensures ends { IsPlainEnd (length (plan_of layout.now settings.now.zones)) result }
+{
+    follow_blocks(
+        settings,
+        layout,
+        block,
+        piece,
+        src,
+        out,
+        &mut NullSink::new(),
+    )
+}
+
+// The same beside any report, which stays as it is.
+fn follow_blocks<S: Source, K: Sink, E: Sink>(
+    settings: &Settings,
+    layout: &Layout,
+    block: &mut Block,
+    piece: &mut Piece,
+    src: &mut S,
+    out: &mut K,
+    report: &mut E,
+) -> LoopEnd
+    ensures follows { Comes (IsOutcome (master_units layout.now settings.now.zones settings.now.cpr))
+        (streams (S.seen src.old) (K.seen out.old) (E.seen report.old))
+        (streams (S.seen src.new) (K.seen out.new) (E.seen report.new)) result }
+    ensures causes { HaveCauses result result
+        (streams (S.seen src.old) (K.seen out.old) (E.seen report.old))
+        (streams (S.seen src.new) (K.seen out.new) (E.seen report.new)) }
+{
+    let mut master = Master {
+        layout: *layout,
+        zones: settings.zones,
+        cpr: settings.cpr,
+        block,
+        piece,
+    };
+    follow(&mut master, src, out, report)
+}
+
+/// The command with its buffers, or why it doesn't begin.
+pub(crate) fn run_master<S: Source, K: Sink, E: Sink>(
+    alloc: Global,
+    settings: &Settings,
+    src: &mut S,
+    out: &mut K,
+    report: &mut E,
+) -> Result<LoopEnd, Refusal>
+    requires { settings.now.command ≡ Command.Master }
+    ensures performed { IsPerformed settings.now
+        (streams (S.seen src.old) (K.seen out.old) (E.seen report.old))
+        (streams (S.seen src.new) (K.seen out.new) (E.seen report.new)) result }
+    ensures untouched { IsErr result → (src.new ≡ src.old) × (out.new ≡ out.old) × (report.new ≡ report.old) }
+{
+    let layout = settings.layout()?;
+    let mut block = Block::new(alloc)?;
+    let mut piece = Piece::new(alloc)?;
+    Ok(follow_blocks(settings, &layout, &mut block, &mut piece, src, out, report))
+}
+
+// How many bytes of the image a block takes.
+fn image_size(layout: &Layout, entry: &BlockPlan) -> usize
+    ensures value { result ≡ image_bytes layout.now entry.now }
+    ensures most { result ≤ 32768 }
+{
+    2048 * layout.image_sectors(entry.content)
+}
+
+// Reads the image bytes of block `k` to the front of the piece, and zeros behind them.
+fn read_image<S: Source>(src: &mut S, k: u32, piece: &mut Piece, size: usize) -> Result<(), LoopEnd>
+    requires { size ≤ 32768 }
+    ensures length { length (piece_bytes piece.new) ≡ 32768 }
+    ensures whole { OnOk result (Consumes (S.seen src.old).bytes (S.seen src.new).bytes (take size (piece_bytes piece.new))) }
+    ensures zeros { OnOk result (drop size (piece_bytes piece.new) ≡ replicate (32768 - size) 0) }
+    ensures short { IfErr result (EndsShort k size (S.seen src.old) (S.seen src.new)) }
+    ensures causes { (output report : Seen) → HaveCausesFor result
+        (streams (S.seen src.old) output report) (streams (S.seen src.new) output report) }
+{
+    let bytes = piece.bytes_mut();
+    read_unit(src, k, &mut bytes[..size])?;
+    bytes[size..].fill(0);
+    Ok(())
+}
+
+// Puts the sixteen frames of a block into it, and adds the parity.
+fn fill_block(layout: &Layout, entry: &BlockPlan, cpr: &[u8; 6], sectors: &[u8], block: &mut Block)
+    requires size { length sectors.now ≡ 32768 }
+    requires entry { IsEntry layout.now entry.now }
+    requires numbers { HasNumbers entry.now }
+    ensures { IsBlockOf (frames_of layout.now entry.now cpr.now sectors.now) (block_rows block.new) }
+{
+    let mut frame = [0; 2064];
+    for f in 0..16 {
+        write_frame(layout, entry, cpr, sectors, f, &mut frame);
+        block.put_frame(f, &frame);
+    }
+    block.add_parity();
+}
+
+fn write_frame(
+    layout: &Layout,
+    entry: &BlockPlan,
+    cpr: &[u8; 6],
+    sectors: &[u8],
+    f: usize,
+    frame: &mut [u8; 2064],
+)
+    requires size { length sectors.now ≡ 32768 }
+    requires entry { IsEntry layout.now entry.now }
+    requires numbers { HasNumbers entry.now }
+    requires frame { f < 16 }
+    ensures { frame.new ≡ frame_of layout.now entry.now cpr.now sectors.now f }
+{
+    let mut main = [0; 2048];
+    write_main(layout, entry, sectors, f, &mut main);
+    let id = id_of(entry, layout.dim(), f);
+    make_frame(
+        id,
+        &cpr_of(entry.area, cpr),
+        rule_of(entry.content, f),
+        &main,
+        frame,
+    );
+}
+
+fn cpr_of(area: Area, cpr: &[u8; 6]) -> [u8; 6]
+    ensures { result ≡ cpr_in area cpr.now }
+{
+    match area {
+        Area::DataZone => *cpr,
+        Area::LeadIn | Area::LeadOut | Area::Middle => [0; 6],
+    }
+}
+
+fn write_main(layout: &Layout, entry: &BlockPlan, sectors: &[u8], f: usize, main: &mut [u8; 2048])
+    requires size { length sectors.now ≡ 32768 }
+    requires entry { IsEntry layout.now entry.now }
+    requires frame { f < 16 }
+    ensures { main.new ≡ main_for entry.now.content layout.now entry.now sectors.now f }
+{
+    match entry.content {
+        Content::Image(_) => main.copy_from_slice(&sectors[2048 * f..2048 * f + 2048]),
+        Content::Zero | Content::Reference | Content::Control => main_of(layout, entry, f, main),
+    }
+}

@@ -1,0 +1,208 @@
+//! The command `recover`: image sectors from a stream of captured blocks.
+ghost use Rattle.std.specs.Prelude.{◌≡◌, ◌≤◌, ℕ, List, length, IfErr, IsErr, OnErr, OnOk};
+ghost use Rattle.std.specs.Io.KnownBytes.{Appends};
+ghost use Rattle.dvd_ports.specs.Causes.{HasCause};
+ghost use Rattle.dvd_ports.specs.Seen.{Seen};
+ghost use Rattle.dvd_ports.specs.Whole.{AppendsPrefix};
+ghost use Rattle.dvd_capture.specs.Captured.{block_size, Captures};
+ghost use Rattle.dvd_capture.specs.Rule.{HasBlock};
+ghost use Rattle.dvd_capture.specs.Works.{rows_of, marks_of_work, sectors_of, stage_of};
+ghost use Rattle.dvd_capture.specs.declared.form.Form.{Form as CaptureForm};
+ghost use Rattle.dvd_layout.specs.Place.{HasNumbers};
+ghost use Rattle.dvd_layout.specs.Plan.{plan_of};
+ghost use Rattle.dvd_layout.specs.declared.layout.Layout.{Layout as DiskLayout};
+ghost use Rattle.dvd_layout.specs.declared.layout.Zones.{Zones as WhichZones};
+ghost use Rattle.dvd_loop.specs.Laws.{IsDamageEnd};
+ghost use Rattle.dvd_loop.specs.Machine.{IsOutcome};
+ghost use Rattle.dvd_loop.specs.Streams.{streams, Comes, HaveCauses};
+ghost use Rattle.dvd_loop.specs.Turns.{AreDone, EndsShort, HaveCausesFor};
+ghost use Rattle.dvd_top.specs.Commands.Recover.{IsDone, recover_units};
+ghost use Rattle.dvd_top.specs.Performing.{IsPerformed, IsImageDone, sectors_out};
+ghost use Rattle.dvd_top.specs.Settings.{IsLayoutOf};
+
+use crate::settings::{Command, Settings};
+use crate::status::Refusal;
+use dvd_capture::{FetchAnswer, Form, Work, fetch};
+use dvd_layout::{BlockPlan, Content, Layout, Zones};
+use dvd_loop::{Behind, LoopEnd, Turn, Turns, follow};
+use dvd_ports::{Sink, Source, WriteFault, write_whole};
+use dvd_read::read_block;
+use dvd_report::write_cause;
+use std::alloc::Global;
+
+/// Its blocks, in the order of the plan, and the memory of one block.
+#[derive(Drop)]
+struct Recover<'a> {
+    layout: Layout,
+    zones: Zones,
+    form: Form,
+    work: &'a mut Work,
+}
+
+impl<'a> Turns for Recover<'a> {
+    ghost Key = { DiskLayout × WhichZones × CaptureForm };
+
+    ghost key = { λ r. (r.layout, r.zones, r.form) };
+
+    ghost units = { λ key. recover_units key.0 key.1 key.2 };
+
+    ghost ready = { λ _ _. Unit {0} };
+
+    ghost left = { λ _ _. Unit {0} };
+
+    fn count(&self) -> u32 {
+        self.layout.blocks(self.zones) as u32
+    }
+
+    fn behind(&self) -> Behind {
+        Behind::Asks
+    }
+
+    fn open<K: Sink, E: Sink>(&self, _out: &mut K, _report: &mut E) -> Result<(), LoopEnd> {
+        Ok(())
+    }
+
+    fn turn<S: Source, K: Sink, E: Sink>(
+        &mut self,
+        k: u32,
+        src: &mut S,
+        out: &mut K,
+        report: &mut E,
+    ) -> Result<Turn, LoopEnd> {
+        let entry = self.layout.plan(self.zones, u64::from(k));
+        fetch_block(src, k, self.form, self.work)?;
+        recover_block(&self.layout, k, &entry, self.work, out, report)
+    }
+
+    fn close<K: Sink, E: Sink>(&self, _out: &mut K, _report: &mut E) -> Result<(), LoopEnd> {
+        Ok(())
+    }
+}
+
+/// Reads every block of the plan of the layout and the zones that the settings choose.
+pub fn recover_loop<S: Source, K: Sink, E: Sink>(
+    settings: &Settings,
+    layout: &Layout,
+    work: &mut Work,
+    src: &mut S,
+    out: &mut K,
+    report: &mut E,
+) -> LoopEnd
+    requires { IsLayoutOf settings.now layout.now }
+    ensures follows { Comes (IsOutcome (recover_units layout.now settings.now.zones settings.now.form))
+        (streams (S.seen src.old) (K.seen out.old) (E.seen report.old))
+        (streams (S.seen src.new) (K.seen out.new) (E.seen report.new)) result }
+    ensures causes { HaveCauses result result
+        (streams (S.seen src.old) (K.seen out.old) (E.seen report.old))
+        (streams (S.seen src.new) (K.seen out.new) (E.seen report.new)) }
+    ensures ends { IsDamageEnd (length (plan_of layout.now settings.now.zones)) result }
+{
+    let mut recover = Recover {
+        layout: *layout,
+        zones: settings.zones,
+        form: settings.form,
+        work,
+    };
+    follow(&mut recover, src, out, report)
+}
+
+/// The command with its buffers, or why it doesn't begin.
+pub(crate) fn run_recover<S: Source, K: Sink, E: Sink>(
+    alloc: Global,
+    settings: &Settings,
+    src: &mut S,
+    out: &mut K,
+    report: &mut E,
+) -> Result<LoopEnd, Refusal>
+    requires { settings.now.command ≡ Command.Recover }
+    ensures performed { IsPerformed settings.now
+        (streams (S.seen src.old) (K.seen out.old) (E.seen report.old))
+        (streams (S.seen src.new) (K.seen out.new) (E.seen report.new)) result }
+    ensures untouched { IsErr result → (src.new ≡ src.old) × (out.new ≡ out.old) × (report.new ≡ report.old) }
+{
+    let layout = settings.layout()?;
+    let mut work = Work::new(alloc)?;
+    Ok(recover_loop(settings, &layout, &mut work, src, out, report))
+}
+
+// Reads captured block `k`, or answers how the loop ends within it.
+fn fetch_block<S: Source>(src: &mut S, k: u32, form: Form, work: &mut Work) -> Result<(), LoopEnd>
+    ensures full { OnOk result (Captures form (S.seen src.old).bytes (S.seen src.new).bytes (rows_of work.new) (marks_of_work work.new)) }
+    ensures stage { OnOk result (HasBlock (stage_of work.new)) }
+    ensures short { IfErr result (EndsShort k (block_size form) (S.seen src.old) (S.seen src.new)) }
+    ensures causes { (output report : Seen) → HaveCausesFor result
+        (streams (S.seen src.old) output report) (streams (S.seen src.new) output report) }
+{
+    match fetch(src, form, work) {
+        FetchAnswer::Full => Ok(()),
+        FetchAnswer::End => Err(LoopEnd::Short { unit: k, bytes: 0 }),
+        FetchAnswer::Short { bytes } => Err(LoopEnd::Short { unit: k, bytes }),
+        FetchAnswer::ReadFault => Err(LoopEnd::ReadFault),
+    }
+}
+
+// Decodes a block of image sectors and writes them; or tells its cause and writes zeros. Any other block is passed over.
+fn recover_block<K: Sink, E: Sink>(
+    layout: &Layout,
+    k: u32,
+    entry: &BlockPlan,
+    work: &mut Work,
+    out: &mut K,
+    report: &mut E,
+) -> Result<Turn, LoopEnd>
+    requires numbers { HasNumbers entry.now }
+    requires stage { HasBlock (stage_of work.old) }
+    ensures done { (source : Seen) → AreDone (IsDone entry.now.content layout.now k entry.now (rows_of work.old) (marks_of_work work.old))
+        (streams source (K.seen out.old) (E.seen report.old)) (streams source (K.seen out.new) (E.seen report.new)) result }
+    ensures causes { (source : Seen) → HaveCausesFor result
+        (streams source (K.seen out.old) (E.seen report.old)) (streams source (K.seen out.new) (E.seen report.new)) }
+{
+    match entry.content {
+        Content::Image(_) => recover_image(layout, k, entry, work, out, report),
+        Content::Zero | Content::Reference | Content::Control => Ok(Turn::Good),
+    }
+}
+
+fn recover_image<K: Sink, E: Sink>(
+    layout: &Layout,
+    k: u32,
+    entry: &BlockPlan,
+    work: &mut Work,
+    out: &mut K,
+    report: &mut E,
+) -> Result<Turn, LoopEnd>
+    requires numbers { HasNumbers entry.now }
+    requires stage { HasBlock (stage_of work.old) }
+    ensures done { (source : Seen) → AreDone (IsImageDone layout.now k entry.now (rows_of work.old) (marks_of_work work.old))
+        (streams source (K.seen out.old) (E.seen report.old)) (streams source (K.seen out.new) (E.seen report.new)) result }
+    ensures causes { (source : Seen) → HaveCausesFor result
+        (streams source (K.seen out.old) (E.seen report.old)) (streams source (K.seen out.new) (E.seen report.new)) }
+{
+    let count = layout.image_sectors(entry.content);
+    match read_block(work, entry) {
+        Ok(_) => {
+            write_sectors(work, count, out)?;
+            Ok(Turn::Good)
+        }
+        Err(cause) => {
+            if let Err(WriteFault) = write_cause(u64::from(k), entry, &cause, report) {
+                return Err(LoopEnd::ReportFault);
+            }
+            write_sectors(work, count, out)?;
+            Ok(Turn::Bad)
+        }
+    }
+}
+
+// Writes the first sectors, each as one piece.
+fn write_sectors<K: Sink>(work: &Work, count: usize, out: &mut K) -> Result<(), WriteFault>
+    requires { count ≤ 16 }
+    ensures written { OnOk result (Appends (K.seen out.old).bytes (K.seen out.new).bytes (sectors_out count (sectors_of work.now))) }
+    ensures begun { OnErr result (AppendsPrefix (K.seen out.old).bytes (K.seen out.new).bytes (sectors_out count (sectors_of work.now))) }
+    ensures cause { HasCause (K.seen out.old).faults (K.seen out.new).faults result }
+{
+    for f in 0..count {
+        write_whole(out, work.sector(f))?;
+    }
+    Ok(())
+}

@@ -1,0 +1,79 @@
+//! How a run ends, and why a command doesn't begin.
+ghost use Rattle.std.specs.Prelude.{◌≡◌};
+ghost use Rattle.dvd_top.specs.Statuses.{status_of};
+ghost use Rattle.dvd_top.specs.declared.status.Refusal.TheVariants.{Setting as setting, NoMemory as no_memory};
+
+use dvd_layout::LayoutFault;
+use dvd_loop::LoopEnd;
+use dvd_ports::NoMemory;
+
+/// The exit statuses of the program.
+#[derive(Clone, Copy, Debug, PartialEq, Eq)]
+pub enum Status {
+    Done = 0,
+    Usage = 1,
+    Setting = 2,
+    ReadFault = 3,
+    WriteFault = 4,
+    Short = 5,
+    Long = 6,
+    Damaged = 7,
+    NoMemory = 8,
+    ReportFault = 9,
+    NoControl = 10,
+    BadMarks = 12,
+}
+
+impl Status {
+    ghost use Rattle.dvd_top.specs.Statuses.{number_of};
+
+    /// The number that the program ends with.
+    pub fn number(self) -> u8
+        ensures { result ≡ number_of self }
+    {
+        self as u8
+    }
+}
+
+/// The exit status of a run that ended so.
+impl From<LoopEnd> for Status {
+    ghost from_gives = { λ end status. status ≡ status_of end };
+
+    fn from(end: LoopEnd) -> Self {
+        match end {
+            LoopEnd::Done => Status::Done,
+            LoopEnd::ReadFault => Status::ReadFault,
+            LoopEnd::WriteFault => Status::WriteFault,
+            LoopEnd::ReportFault => Status::ReportFault,
+            LoopEnd::Short { .. } => Status::Short,
+            LoopEnd::Long => Status::Long,
+            LoopEnd::Damaged { .. } => Status::Damaged,
+            LoopEnd::NoControl => Status::NoControl,
+            LoopEnd::BadMarks { .. } => Status::BadMarks,
+        }
+    }
+}
+
+/// Why a command doesn't begin.
+#[derive(Clone, Copy, Debug, PartialEq, Eq)]
+pub enum Refusal {
+    /// The layout that the settings ask for is not lawful.
+    Setting(LayoutFault),
+    NoMemory,
+}
+
+impl From<LayoutFault> for Refusal {
+    ghost from_gives = { λ fault refusal. refusal ≡ setting fault };
+
+    fn from(fault: LayoutFault) -> Self {
+        Refusal::Setting(fault)
+    }
+}
+
+impl From<NoMemory> for Refusal {
+    ghost from_gives = { λ _ refusal. refusal ≡ no_memory };
+
+    fn from(_: NoMemory) -> Self {
+        Refusal::NoMemory
+    }
+}

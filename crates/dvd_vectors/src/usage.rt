@@ -1,0 +1,67 @@
+//! Words that ask for nothing.
+use crate::fixture::{Case, NEVER, SOUND, leave_fronts, zeros};
+use dvd_top::Status;
+use std::test::Fail;
+
+static TEXTS: [&str; 16] = [
+    "",
+    "Frames --first 030000 --sectors 1",
+    "--help",
+    "--version",
+    "frames",
+    "frames --first FFFFFF --sectors 2",
+    "frames --first 030000 --sectors 0",
+    "frames --first 030000 --sectors=1",
+    "frames --first 030000 --sectors +1",
+    "frames --first 030000 --sectors 00000000001",
+    "frames --first 030000 --sectors 1 --sectors 1",
+    "frames --first 030000 --first 030000",
+    "frames --first 030000 --sectors 1 --",
+    "frames --first 30000 --sectors 1",
+    "frames --first 03000g --sectors 1",
+    "master --sectors 17 --sectors 17",
+];
+
+// Where the report has no room for the line, the status tells it.
+static USAGE: [Case; 11] = [
+    (((1, NEVER, 0), SOUND, SOUND), (Status::Usage, 0, "usage\n")),
+    (((7, NEVER, 0), SOUND, SOUND), (Status::Usage, 0, "usage\n")),
+    ((SOUND, SOUND, SOUND), (Status::Usage, 0, "usage\n")),
+    ((SOUND, SOUND, (9, NEVER, 0)), (Status::ReportFault, 0, "")),
+    ((SOUND, SOUND, (9, NEVER, 1)), (Status::ReportFault, 0, "u")),
+    (
+        (SOUND, SOUND, (9, NEVER, 2)),
+        (Status::ReportFault, 0, "us"),
+    ),
+    (
+        (SOUND, SOUND, (9, NEVER, 3)),
+        (Status::ReportFault, 0, "usa"),
+    ),
+    (
+        (SOUND, SOUND, (9, NEVER, 4)),
+        (Status::ReportFault, 0, "usag"),
+    ),
+    (
+        (SOUND, SOUND, (9, NEVER, 5)),
+        (Status::ReportFault, 0, "usage"),
+    ),
+    ((SOUND, SOUND, (9, NEVER, 6)), (Status::Usage, 0, "usage\n")),
+    ((SOUND, SOUND, (9, NEVER, 7)), (Status::Usage, 0, "usage\n")),
+];
+
+#[test]
+fn words_that_ask_for_nothing_are_usage(rt: HostRuntime) -> Result<(), Fail> {
+    let bytes = zeros(rt.alloc(), 34_816)?;
+    for text in &TEXTS {
+        leave_fronts(&rt, text, &bytes, &[], &USAGE)?;
+    }
+    Ok(())
+}
+
+#[test]
+fn they_are_usage_over_no_input(rt: HostRuntime) -> Result<(), Fail> {
+    for text in &TEXTS {
+        leave_fronts(&rt, text, &[], &[], &USAGE)?;
+    }
+    Ok(())
+}
