@@ -11,7 +11,7 @@ use Rattle.dvd_loop.proofs.Faults.{ends_there}
 use Rattle.dvd_loop.proofs.StepLemmas.{and_then}
 use Rattle.dvd_top.specs.Bound.{KeepsBound}
 use Rattle.dvd_top.specs.Commands.{meaning}
-use Rattle.dvd_top.specs.Headline.{EndsThere, HasRun, HaveRisen}
+use Rattle.dvd_top.specs.Headline.{EndsThere, HasRun, HaveRisen, IsRun}
 use Rattle.dvd_top.specs.Statuses.{IsWhole, status_of}
 use Rattle.dvd_top.specs.Lines.{closing_line}
 use Rattle.dvd_top.specs.declared.settings.Command.{Command}
@@ -166,3 +166,11 @@ sound_end Long old new risen source output report = tt
 sound_end (Damaged bad) old new risen source output report = tt
 sound_end NoControl old new risen source output report = tt
 sound_end (BadMarks k at) old new risen source output report = tt
+
+-- and the run ends as its loop does
+pub complete_run : (settings : Settings) (old new : Streams) (result : Status) → HasRun settings old new result → HaveRisen result old new → (Rose old.source.faults new.source.faults → ⊥) → (Rose old.output.faults new.output.faults → ⊥) → (Rose old.report.faults new.report.faults → ⊥)
+    → (end : LoopEnd) × (result ≡ status_of end) × IsFaultless end × Comes (IsRun settings end) old new end
+complete_run settings old new result run counts source output report =
+    let sound = sound_end run.end old new (subst (λ s. HaveRisen s old new) run.is_status counts) source output report in
+    let in_place : run.end ≡ run.within = run.in_place (λ is. subst IsFaultless is sound) in
+    (run.end, run.is_status, sound, subst (λ w. Comes (IsRun settings w) old new run.end) (sym in_place) run.comes)

@@ -40,7 +40,6 @@ breaks settings = (meaning settings.command).breaks settings
 -- recover: block k is the bytes of a captured block. Of a block of image sectors these are written, as the one block has them
 -- that two passes determine, if its frames are right; else its line is told, which names its first cause, and then zeros
 -- are written in their place.
---
 -- OUTCOME. The units are taken in their order, each whole and with all that is done for it, and behind the last one byte more
 -- is asked for. The loop ends before that where the input ends within a unit, of which nothing is done; where a read fails,
 -- and nothing is done of that unit; or where a write or a line fails, of which a front was done, and nothing comes after.
@@ -91,9 +90,10 @@ pub record Headline (Untouched : Type 0) (words : List (List ℕ)) (old new : St
   pub runs : (settings : Settings) → reading words ≡ Some settings → breaks settings ≡ None
       → HasRun settings old new result ⊎ (IsTrue (meaning settings.command).has_buffers × Untouched × HasNotBegun status.NoMemory (codes "no memory\n") old.report new.report result)
   pub causes : HaveRisen result old new
-  -- These follow: where no stream failed, no fault ended it; what a failed read leaves; and of a captured block whose damage is
+  -- These follow: where no stream failed, it ends as its loop does, by no fault; what a failed read leaves; and of a captured block whose damage is
   -- within the bound, against any block that was mastered for its place, exactly the mastered sectors are given back.
   pub complete : (settings : Settings) → reading words ≡ Some settings → breaks settings ≡ None → result ≢ status.NoMemory
-      → (Rose old.source.faults new.source.faults → ⊥) → (Rose old.output.faults new.output.faults → ⊥) → (Rose old.report.faults new.report.faults → ⊥) → IsWhole result
+      → (Rose old.source.faults new.source.faults → ⊥) → (Rose old.output.faults new.output.faults → ⊥) → (Rose old.report.faults new.report.faults → ⊥)
+      → (end : LoopEnd) × (result ≡ status_of end) × IsFaultless end × Comes (IsRun settings end) old new end
   pub read_fault : result ≡ status.ReadFault → (settings : Settings) → reading words ≡ Some settings → EndsThere settings old new
   pub bound : IsWhole result → (settings : Settings) → reading words ≡ Some settings → settings.command ≡ Recover → (end : LoopEnd) × Comes (KeepsBound settings) old new end

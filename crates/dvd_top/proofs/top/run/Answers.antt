@@ -3,7 +3,7 @@ use Rattle.dvd_loop.specs.Streams.{streams}
 use Rattle.dvd_top.specs.Headline.{HasRun, HaveRisen, breaks, reading}
 use Rattle.dvd_top.specs.Lines.{closing_line}
 use Rattle.dvd_top.specs.declared.settings.Settings.{Settings}
-use Rattle.dvd_top.proofs.RunEnds.{bound_kept, ends_there_run, risen, sound_end}
+use Rattle.dvd_top.proofs.RunEnds.{bound_kept, complete_run, ends_there_run, risen}
 use Rattle.dvd_top.proofs.RunLemmas.{has_run, same_settings}
 use Rattle.dvd_top.proofs.top.run.Given as given
 use Rattle.dvd_top.proofs.top.run.Goals as goal
@@ -37,7 +37,7 @@ returns-in-Ok g c =
       runs = λ settings reads lawful. inl (begun g c settings reads);
       causes = counts;
       complete = λ settings reads lawful memory source output report.
-          (run.end, run.is_status, sound_end run.end old new (subst (λ s. HaveRisen s old new) run.is_status counts) source output report);
+          complete_run settings old new c.into.result (begun g c settings reads) counts source output report;
       read_fault = λ is settings reads. ends_there_run settings old new c.into.result (begun g c settings reads) is;
       bound = λ whole settings reads is. bound_kept settings old new c.into.result (begun g c settings reads) whole is;
     }
