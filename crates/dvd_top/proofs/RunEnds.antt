@@ -92,7 +92,7 @@ ends_there_run settings old new result run is =
     (λ units. (b : Outcome) × IsOutcome units b.taken b × Leaves (λ taken out lines. HaveMoved old new taken out (lines ++ closing_line settings.command ReadFault)) b)
     (λ units c. ends_over (closing_line settings.command) units comes.bytes run.within comes.outcome (HaveMoved old new) c ends comes.moved) comes.holds) in record {
       outcome = over.0;
-      runs = over.1;
+      is_loop = over.1;
       faultless = over.2.0;
       moved = over.2.1;
     }
@@ -126,15 +126,21 @@ faultless_by (Damaged bad) sound = tt
 faultless_by NoControl sound = tt
 faultless_by (BadMarks k at) sound = tt
 
-pub bound_kept : (settings : Settings) (old new : Streams) (result : Status) → HasRun settings old new result → IsWhole result → settings.command ≡ Recover → (end : LoopEnd) × Comes (KeepsBound settings) old new end
+pub bound_kept : (settings : Settings) (old new : Streams) (result : Status) → HasRun settings old new result → IsWhole result → settings.command ≡ Recover
+    → (end : LoopEnd) × (result ≡ status_of end) × Comes (λ bytes outcome. IsRun settings end bytes outcome × KeepsBound settings bytes outcome) old new end
 bound_kept settings old new result run whole is =
-    let sound : IsFaultless run.end = faultless_by run.end (subst IsSound run.is_status (subst IsSound (sym whole.1) (sound_status whole.0 whole.2))) in (
+    let sound : IsFaultless run.end = faultless_by run.end (subst IsSound run.is_status (subst IsSound (sym whole.1) (sound_status whole.0 whole.2))) in
+    let same : run.end ≡ run.within = run.same_end (λ is. subst IsFaultless is sound) in (
       run.end,
+      run.is_status,
       record {
         bytes = run.comes.bytes;
         told = run.comes.told;
         outcome = run.comes.outcome;
-        holds = kept settings run.within run.comes.bytes run.comes.outcome is run.comes.holds (subst IsFaultless (sym run.comes.ends) sound);
+        holds = (
+          subst (λ w. IsRun settings w run.comes.bytes run.comes.outcome) (sym same) run.comes.holds,
+          kept settings run.within run.comes.bytes run.comes.outcome is run.comes.holds (subst IsFaultless (sym run.comes.ends) sound),
+        );
         ends = run.comes.ends;
         moved = run.comes.moved;
       },
@@ -172,5 +178,5 @@ pub complete_run : (settings : Settings) (old new : Streams) (result : Status) �
     → (end : LoopEnd) × (result ≡ status_of end) × IsFaultless end × Comes (IsRun settings end) old new end
 complete_run settings old new result run counts source output report =
     let sound = sound_end run.end old new (subst (λ s. HaveRisen s old new) run.is_status counts) source output report in
-    let in_place : run.end ≡ run.within = run.in_place (λ is. subst IsFaultless is sound) in
-    (run.end, run.is_status, sound, subst (λ w. Comes (IsRun settings w) old new run.end) (sym in_place) run.comes)
+    let same : run.end ≡ run.within = run.same_end (λ is. subst IsFaultless is sound) in
+    (run.end, run.is_status, sound, subst (λ w. Comes (IsRun settings w) old new run.end) (sym same) run.comes)

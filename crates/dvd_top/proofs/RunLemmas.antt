@@ -82,7 +82,7 @@ module _ (settings : Settings) (old : Streams) (source output mid_report new_rep
         of_units settings (λ units. IsOutcome units bytes loop) (λ units. IsClosed (closing_line settings.command) units bytes within (and_then loop line))
         (λ units runs. closed (closing_line settings.command) units bytes within loop line runs ends closes) loops)
         (closes_takes (closing_line settings.command) within) loop.comes line;
-    in_place = same;
+    same_end = same;
     causes = causes_closed within end old (streams source output mid_report) (streams source output new_report) loop.causes refl refl report_counts;
     is_status = is_status;
   }

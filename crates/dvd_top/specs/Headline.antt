@@ -1,5 +1,5 @@
 -- The headline: what a run of the program does, for its words, for the bytes of its input and for faults of its streams.
--- `run` promises each part in this order. What a run may take, write and tell unit by unit is said by Machine of dvd_loop.
+-- `run` promises the record at the end. How a run goes from unit to unit is said in full by Machine of dvd_loop.
 use Rattle.std.specs.Prelude.{◌≡◌, ◌≢◌, ◌⊎◌, IsTrue, List, ℕ, [], ◌∷◌, ◌++◌, Option, Some, None, codes, if◌then◌else◌}
 use Rattle.std.specs.Io.KnownBytes.{Appends}
 use Rattle.std.specs.Str.{bytes_eq}
@@ -21,7 +21,7 @@ use Rattle.dvd_top.specs.declared.settings.Settings.{Settings}
 use Rattle.dvd_top.specs.declared.status.Status.{Status}
 use Rattle.dvd_top.specs.declared.status.Status.TheVariants as status
 
--- WORDS. The first names the command, and those behind it ask for settings, or for nothing.
+-- WORDS. The first names the command, and those behind it ask for its settings. Words that aren't read so ask for nothing.
 unfoldable pub reading : List (List ℕ) → Option Settings
 reading [] = None
 reading (word ∷ words) =
@@ -33,17 +33,15 @@ reading (word ∷ words) =
 abbrev pub breaks : Settings → Option LayoutFault
 breaks settings = (meaning settings.command).breaks settings
 
--- UNITS. What the command does for each unit of its input is said by its page in Commands, in short:
+-- UNITS. What is done for each unit of the input is said by the command's page in Commands, in short:
 -- frames: sector k is 2,048 bytes, and its scrambled data frame is written.
--- master: block k takes the bytes of the image sectors that stand in it, and the recording of the one ECC block of its sixteen
--- data frames is written.
--- recover: block k is the bytes of a captured block. Of a block of image sectors these are written, as the one block has them
--- that two passes determine, if its frames are right; else its line is told, which names its first cause, and then zeros
--- are written in their place.
--- OUTCOME. The units are taken in their order, each whole and with all that is done for it, and behind the last one byte more
--- is asked for. The loop ends before that where the input ends within a unit, of which nothing is done; where a read fails,
--- and nothing is done of that unit; or where a write or a line fails, of which a front was done, and nothing comes after.
--- The loop of the command over these bytes; and the same where it ended so, with its closing line behind it:
+-- master: block k is the bytes of its image sectors, and the recording of the one ECC block of its data frames is written.
+-- recover: block k is a captured block. Where the disk has image sectors, those in the one block that two passes determine are
+-- written if its frames are right; else a line names the block and the first cause, and then zeros are written in their place.
+-- OUTCOME. The units are taken in their order, each whole and with all that is done for it. Behind the last one byte more is
+-- asked for: the end is Long if it comes, else Done, or Damaged if blocks were refused. It is Short where the input ends before,
+-- and ReadFault where a read fails; nothing is done of a unit that isn't whole. Where a write or a line fails it is WriteFault or
+-- ReportFault: a front of that piece was done, and nothing behind it. After all ends but ReportFault a run tells its closing line.
 abbrev pub IsLoop : Settings → List ℕ → Outcome → Type 0
 IsLoop settings bytes outcome = (meaning settings.command).OfUnits settings (λ units. IsOutcome units bytes outcome)
 
@@ -51,13 +49,13 @@ abbrev pub IsRun : Settings → LoopEnd → List ℕ → Outcome → Type 0
 IsRun settings within bytes outcome =
     (meaning settings.command).OfUnits settings (λ units. IsClosed (closing_line settings.command) units bytes within outcome)
 
--- The streams have come to a run over some bytes, those of the source where it tells them. It ends as its loop does, or as
--- ReportFault where its closing line can't be told; each of these faults raised the count of its stream, and no other moved.
+-- The streams have come to a run over some bytes, those of the source where it tells them. `within` is how its loop ended, `end`
+-- the same, or ReportFault where the closing line failed; each of these raised the count of its stream, and no other count moved.
 pub record HasRun (settings : Settings) (old new : Streams) (result : Status) : Type 0 where
   pub within : LoopEnd
   pub end : LoopEnd
   pub comes : Comes (IsRun settings within) old new end
-  pub in_place : end ≢ ends.ReportFault → end ≡ within
+  pub same_end : end ≢ ends.ReportFault → end ≡ within
   pub causes : HaveCauses within end old new
   pub is_status : result ≡ status_of end
 
@@ -73,27 +71,29 @@ HaveRisen status.WriteFault old new = Rose old.output.faults new.output.faults
 HaveRisen status.ReportFault old new = Rose old.report.faults new.report.faults
 HaveRisen other old new = (new.source.faults ≡ old.source.faults) × (new.output.faults ≡ old.output.faults) × (new.report.faults ≡ old.report.faults)
 
--- After a failed read all is as if the input had ended there: a run over the bytes that were taken, but for its closing line.
+-- After a failed read output and report are as if the input had ended there, but for the closing line.
 pub record EndsThere (settings : Settings) (old new : Streams) : Type 0 where
   pub outcome : Outcome
-  pub runs : IsLoop settings outcome.taken outcome
+  pub is_loop : IsLoop settings outcome.taken outcome
   pub faultless : IsFaultless outcome.end
   pub moved : HaveMoved old new outcome.taken outcome.out (outcome.lines ++ closing_line settings.command ends.ReadFault)
 
--- THE HEADLINE. What a run promises of its words, of its streams before and after, and of its status.
+-- THE HEADLINE, of words, of the streams before and after, and of the status. Untouched: source and output are as they were.
 pub record Headline (Untouched : Type 0) (words : List (List ℕ)) (old new : Streams) (result : Status) : Type 0 where
-  -- words that ask for nothing are Usage, and a layout that breaks a rule is Setting: nothing is read or written but the line
+  -- words that ask for nothing are Usage, and a layout that breaks a rule is Setting: all that is done is to tell its line
   pub usage : reading words ≡ None → Untouched × HasNotBegun status.Usage (codes "usage\n") old.report new.report result
   pub setting : (settings : Settings) (fault : LayoutFault) → reading words ≡ Some settings → breaks settings ≡ Some fault
       → Untouched × HasNotBegun status.Setting (setting_line fault) old.report new.report result
-  -- else the command runs; or there is no memory for its buffers, and nothing is read or written but that line
+  -- else the command runs; or there is no memory for its buffers, and all that is done is to tell that
   pub runs : (settings : Settings) → reading words ≡ Some settings → breaks settings ≡ None
       → HasRun settings old new result ⊎ (IsTrue (meaning settings.command).has_buffers × Untouched × HasNotBegun status.NoMemory (codes "no memory\n") old.report new.report result)
-  pub causes : HaveRisen result old new
-  -- These follow: where no stream failed, it ends as its loop does, by no fault; what a failed read leaves; and of a captured block whose damage is
-  -- within the bound, against any block that was mastered for its place, exactly the mastered sectors are given back.
+  pub faults : HaveRisen result old new
+  -- These follow. Where no stream failed, the run ended as its loop, by no fault. What a failed read leaves. And if no fault
+  -- ended `recover`, each captured block whose damage is within the bound (twice its bad rows and its lost rows are at most 16),
+  -- against any block that was mastered for its place, has given exactly the mastered sectors, whatever became of the others.
   pub complete : (settings : Settings) → reading words ≡ Some settings → breaks settings ≡ None → result ≢ status.NoMemory
       → (Rose old.source.faults new.source.faults → ⊥) → (Rose old.output.faults new.output.faults → ⊥) → (Rose old.report.faults new.report.faults → ⊥)
       → (end : LoopEnd) × (result ≡ status_of end) × IsFaultless end × Comes (IsRun settings end) old new end
   pub read_fault : result ≡ status.ReadFault → (settings : Settings) → reading words ≡ Some settings → EndsThere settings old new
-  pub bound : IsWhole result → (settings : Settings) → reading words ≡ Some settings → settings.command ≡ Recover → (end : LoopEnd) × Comes (KeepsBound settings) old new end
+  pub bound : IsWhole result → (settings : Settings) → reading words ≡ Some settings → settings.command ≡ Recover
+      → (end : LoopEnd) × (result ≡ status_of end) × Comes (λ bytes outcome. IsRun settings end bytes outcome × KeepsBound settings bytes outcome) old new end

@@ -17,6 +17,7 @@ pub enum Command {
 /// A command with its options. A field without an option in its command has its default, or 0.
 #[derive(Clone, Copy, Debug, PartialEq, Eq)]
 pub struct Settings {
+    /// What is to be done.
     pub command: Command,
     /// The number of the first sector.
     pub first: u32,
@@ -24,13 +25,15 @@ pub struct Settings {
     pub sectors: u32,
     /// How many sectors layer 1 has.
     pub sectors1: u32,
+    /// How many layers the disk has, and the track path where there are two.
     pub shape: Shape,
+    /// Which zones of the disk a stream has.
     pub zones: Zones,
     /// How many blocks the Initial Zone has.
     pub initial: u32,
     /// How many blocks the zones behind the data have.
     pub tail: u32,
-    /// CPR_MAI of the frames in the Data Zone.
+    /// The six bytes CPR_MAI of the data frames in the Data Zone.
     pub cpr: [u8; 6],
     /// How the bytes of a captured block stand in a stream.
     pub form: Form,

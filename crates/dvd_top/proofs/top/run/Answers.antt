@@ -30,12 +30,12 @@ returns-in-Ok g c =
     let new = streams (g.S.Source.seen c.perform.new.src) (g.K.Sink.seen c.perform.new.out) (g.E.Sink.seen c.close.new.report) in
     let read : reading (map string_bytes c.args.words.now) ≡ Some c.in-Some.settings = sym c.read_words.ensures.value ∙ c.in-Some.is in
     let run = begun g c c.in-Some.settings read in
-    let counts : HaveRisen c.into.result old new = subst (λ s. HaveRisen s old new) (sym run.is_status) (risen run.within run.end old new run.in_place run.causes) in record {
+    let counts : HaveRisen c.into.result old new = subst (λ s. HaveRisen s old new) (sym run.is_status) (risen run.within run.end old new run.same_end run.causes) in record {
       usage = λ none. absurd (cc (none, read));
       setting = λ settings fault reads broken.
           absurd (let no : breaks settings ≡ None = subst (λ s. breaks s ≡ None) (same_settings _ _ _ read reads) c.in-Ok.ensures.performed.lawful in cc (no, broken));
       runs = λ settings reads lawful. inl (begun g c settings reads);
-      causes = counts;
+      faults = counts;
       complete = λ settings reads lawful memory source output report.
           complete_run settings old new c.into.result (begun g c settings reads) counts source output report;
       read_fault = λ is settings reads. ends_there_run settings old new c.into.result (begun g c settings reads) is;
