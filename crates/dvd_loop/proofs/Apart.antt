@@ -29,7 +29,8 @@ and_unit own steps outcome = record outcome { taken = outcome.taken ++ own; out 
 onto_done : (own : List ℕ) (steps : List Step) → onto own (written steps) (told steps) (ended Done) ≡ and_unit own steps (ended Done)
 onto_done own steps = simp append-nil
 
-onto_and : (taken out lines own : List ℕ) (steps : List Step) (outcome : Outcome) → onto taken out lines (and_unit own steps outcome) ≡ and_unit own steps (onto taken out lines outcome)
+onto_and : (taken out lines own : List ℕ) (steps : List Step) (outcome : Outcome)
+    → onto taken out lines (and_unit own steps outcome) ≡ and_unit own steps (onto taken out lines outcome)
 onto_and taken out lines own steps outcome = simp append_assoc
 
 each_later : (k : ℕ) (own : List ℕ) (more : List (List ℕ)) (parts : ℕ → List ℕ) → own ≡ parts 0 → ((j : ℕ) → j < k → get_or more j [] ≡ parts (suc j))
@@ -77,7 +78,8 @@ module _ (units : Units) (size : ℕ) (begins : (k : ℕ) (bytes : List ℕ) →
   unfolding Goes
   nothing_more count before bad bytes = ([], refl, refl)
 
-  own_is_first : (n : ℕ) (before : List (List ℕ)) (bad : ℕ) (bytes : List ℕ) (a : Outcome) (t : One n before bad bytes a) → t.own ≡ take size (drop (size * 0) bytes)
+  own_is_first : (n : ℕ) (before : List (List ℕ)) (bad : ℕ) (bytes : List ℕ) (a : Outcome) (t : One n before bad bytes a)
+      → t.own ≡ take size (drop (size * 0) bytes)
   own_is_first n before bad bytes a t = first_unit size t.own t.left t.size_is ∙ ap (λ l. take size (drop (size * 0) l)) (sym t.front)
 
   -- the unit at hand
@@ -146,7 +148,8 @@ module _ (units : Units) (size : ℕ) (begins : (k : ℕ) (bytes : List ℕ) →
   ]
 
   -- A run without a fault over as many bytes takes unit k.
-  pub takes_unit : units.opens ≡ [] → (bytes : List ℕ) (a : Outcome) → IsOutcome units bytes a → IsFaultless a.end → (k : ℕ) → k < units.count → size * (k + 1) ≤ length bytes
+  pub takes_unit : units.opens ≡ [] → (bytes : List ℕ) (a : Outcome) → IsOutcome units bytes a → IsFaultless a.end → (k : ℕ) → k < units.count
+      → size * (k + 1) ≤ length bytes
       → (steps : List Step) × (turn : Turn) × TakesUnit units size bytes a k (take size (drop (size * k) bytes)) steps turn
   takes_unit opens bytes a runs none k lt long =
       let goes : Goes units units.count [] 0 bytes a = subst (λ l. Does l (Goes units units.count [] 0 bytes) a) opens runs in

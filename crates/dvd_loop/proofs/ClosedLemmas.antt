@@ -26,11 +26,13 @@ closes_takes closing NoControl outcome does = line_takes (closing NoControl) NoC
 closes_takes closing (BadMarks k at) outcome does = line_takes (closing (BadMarks k at)) (BadMarks k at) outcome does
 
 -- a loop, and its closing line behind it
-pub closed : (closing : LoopEnd → List ℕ) (units : Units) (bytes : List ℕ) (within : LoopEnd) (loop line : Outcome) → IsOutcome units bytes loop → loop.end ≡ within → Closes closing within line → IsClosed closing units bytes within (and_then loop line)
+pub closed : (closing : LoopEnd → List ℕ) (units : Units) (bytes : List ℕ) (within : LoopEnd) (loop line : Outcome) → IsOutcome units bytes loop
+    → loop.end ≡ within → Closes closing within line → IsClosed closing units bytes within (and_then loop line)
 closed closing units bytes within loop line runs ends closes = record { loop = loop; runs = runs; ends = ends; line = line; closes = closes; all = refl }
 
 -- The counts of a loop and of its closing line: the line's is the report's alone.
-pub causes_closed : (within end : LoopEnd) (old mid new : Streams) → HaveCauses within within old mid → new.source.faults ≡ mid.source.faults → new.output.faults ≡ mid.output.faults
+pub causes_closed : (within end : LoopEnd) (old mid new : Streams) → HaveCauses within within old mid → new.source.faults ≡ mid.source.faults
+    → new.output.faults ≡ mid.output.faults
     → Counts (is_report_fault end) old.report.faults new.report.faults → HaveCauses within end old new
 causes_closed within end old mid new loop source output report = record {
   source = subst (λ n. Counts (is_read_fault within) old.source.faults n) (sym source) loop.source;

@@ -54,7 +54,8 @@ turns_agree Good A agree = agree
 turns_agree Bad A agree = agree
 turns_agree Last A agree = λ a b p q none other. same_agree a b (p ∙ sym q)
 
-by_no_fault : (x a b : Outcome) → (a ≡ x) ⊎ (a ≡ ended ReadFault) → (b ≡ x) ⊎ (b ≡ ended ReadFault) → IsFaultless a.end → IsFaultless b.end → Agree a b
+by_no_fault : (x a b : Outcome) → (a ≡ x) ⊎ (a ≡ ended ReadFault) → (b ≡ x) ⊎ (b ≡ ended ReadFault) → IsFaultless a.end → IsFaultless b.end
+    → Agree a b
 by_no_fault x a b p q none other = elim p [
   | inr fault ↦ absurd (not_by_fault a _ fault (λ f. f) none)
   | inl is ↦ elim q [
@@ -110,7 +111,8 @@ module _ (units : Units) (det : AreDetermined units) where
         ]
       ]
 
-  whole_unit : (k : ℕ) (bytes own left : List ℕ) → bytes ≡ own ++ left → units.begins k own ≡ Whole (length own) → units.begins k bytes ≡ Whole (length own)
+  whole_unit : (k : ℕ) (bytes own left : List ℕ) → bytes ≡ own ++ left → units.begins k own ≡ Whole (length own)
+      → units.begins k bytes ≡ Whole (length own)
   whole_unit k bytes own left front whole = subst (λ l. units.begins k l ≡ Whole (length own)) (sym front) (det.whole k own left whole)
 
   not_both : {A : Type 0} (k : ℕ) (bytes own left : List ℕ) (a : Outcome) → IsWithin units k bytes a → IsFaultless a.end

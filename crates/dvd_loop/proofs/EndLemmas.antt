@@ -18,7 +18,8 @@ empty [] is = refl
 empty (x ∷ xs) is = absurd (omega arith)
 
 -- nothing is asked for
-pub not_asked : (behind : Behind) (bad : ℕ) (old : Streams) (end : LoopEnd) → ((left : List ℕ) → EndsBehind behind bad left (ended end)) → Comes (EndsBehind behind bad) old old end
+pub not_asked : (behind : Behind) (bad : ℕ) (old : Streams) (end : LoopEnd) → ((left : List ℕ) → EndsBehind behind bad left (ended end))
+    → Comes (EndsBehind behind bad) old old end
 not_asked behind bad old end ends = record {
   bytes = (left_of old.source.bytes).0;
   told = (left_of old.source.bytes).1;
@@ -30,7 +31,8 @@ not_asked behind bad old end ends = record {
 
 module _ (bad : ℕ) (source new_source output report : Seen) (own : List ℕ) (reads : Consumes source.bytes new_source.bytes own) where
   -- the input has ended
-  pub asked_end : (end : LoopEnd) → length own ≡ 0 → IsAtEnd new_source.bytes → end ≡ end_by bad → Comes (EndsBehind Asks bad) (streams source output report) (streams new_source output report) end
+  pub asked_end : (end : LoopEnd) → length own ≡ 0 → IsAtEnd new_source.bytes → end ≡ end_by bad
+      → Comes (EndsBehind Asks bad) (streams source output report) (streams new_source output report) end
   asked_end end none at_end is =
       let nothing = empty own none in record {
         bytes = [];
@@ -77,7 +79,8 @@ module _ (bad : ℕ) (source new_source output report : Seen) (own : List ℕ) (
       }
 
 -- the closing line of an end that isn't a fault of the report
-closes_as : (closing : LoopEnd → List ℕ) (end : LoopEnd) (outcome : Outcome) → end ≢ ReportFault → Does (Tell (closing end) ∷ []) (λ after. after ≡ ended end) outcome → Closes closing end outcome
+closes_as : (closing : LoopEnd → List ℕ) (end : LoopEnd) (outcome : Outcome) → end ≢ ReportFault
+    → Does (Tell (closing end) ∷ []) (λ after. after ≡ ended end) outcome → Closes closing end outcome
 closes_as closing ReportFault outcome not does = absurd (not refl)
 closes_as closing Done outcome not does = does
 closes_as closing ReadFault outcome not does = does
@@ -111,7 +114,8 @@ closed_none closing old = record {
 }
 
 module _ (closing : LoopEnd → List ℕ) (end : LoopEnd) (not : end ≢ ReportFault) (source output report new_report : Seen) where
-  pub closed_line : Appends report.bytes new_report.bytes (closing end) → Comes (λ bytes. Closes closing end) (streams source output report) (streams source output new_report) end
+  pub closed_line : Appends report.bytes new_report.bytes (closing end)
+      → Comes (λ bytes. Closes closing end) (streams source output report) (streams source output new_report) end
   closed_line tells = record {
     bytes = (left_of source.bytes).0;
     told = (left_of source.bytes).1;
@@ -125,7 +129,8 @@ module _ (closing : LoopEnd → List ℕ) (end : LoopEnd) (not : end ≢ ReportF
     };
   }
 
-  pub closed_fault : AppendsPrefix report.bytes new_report.bytes (closing end) → Comes (λ bytes. Closes closing end) (streams source output report) (streams source output new_report) ReportFault
+  pub closed_fault : AppendsPrefix report.bytes new_report.bytes (closing end)
+      → Comes (λ bytes. Closes closing end) (streams source output report) (streams source output new_report) ReportFault
   closed_fault begun = record {
     bytes = (left_of source.bytes).0;
     told = (left_of source.bytes).1;

@@ -40,7 +40,8 @@ module _ (size before : ℕ) where
         ends_as 0 (byte ∷ left) a _ is (record { taken = ap (λ n. take n (byte ∷ left)) one; by = inr (inr (omega (arith, zero-mul size), refl)) })
   ]
 
-  ends_short : (n : ℕ) (bytes : List ℕ) (a : Outcome) → length bytes < size → a ≡ taking bytes (ended (Short before (length bytes))) → Ends (suc n) size before bytes a
+  ends_short : (n : ℕ) (bytes : List ℕ) (a : Outcome) → length bytes < size → a ≡ taking bytes (ended (Short before (length bytes)))
+      → Ends (suc n) size before bytes a
   ends_short n bytes a fewer is =
       let zeroth : before ≡ before + 0 = omega arith in
       ends_as (suc n) bytes a _ is (record {
@@ -65,7 +66,8 @@ module _ (size before : ℕ) where
       })
 
 module _ (units : Units) (size : ℕ) (are : AreOfOneSize units size) where
-  goes_end : (n : ℕ) (before : List (List ℕ)) (bad : ℕ) (bytes : List ℕ) (a : Outcome) → Goes units n before bad bytes a → IsFaultless a.end → Ends n size (length before) bytes a
+  goes_end : (n : ℕ) (before : List (List ℕ)) (bad : ℕ) (bytes : List ℕ) (a : Outcome) → Goes units n before bad bytes a → IsFaultless a.end
+      → Ends n size (length before) bytes a
   unfolding Goes
   goes_end zero before bad bytes a (steps, closes, does) none =
       let done = all_done steps (EndsBehind units.behind bad bytes) a does none in

@@ -56,15 +56,18 @@ same_end : (step : Step) (after : Outcome) → (stepping step after).end ≡ aft
 same_end (Write bytes) after = refl
 same_end (Tell line) after = refl
 
-pub all_done_but : (steps : List Step) (After : Outcome → Type 0) (outcome : Outcome) → Does steps After outcome → IsNoStepFault outcome.end → AllDone steps After outcome
+pub all_done_but : (steps : List Step) (After : Outcome → Type 0) (outcome : Outcome) → Does steps After outcome → IsNoStepFault outcome.end
+    → AllDone steps After outcome
 all_done_but [] After outcome does none = record { after = outcome; holds = does; is = refl }
 all_done_but (step ∷ steps) After outcome does none = elim does [
   | inl fails ↦ absurd (failed_step step outcome fails none)
   | inr (after, does, is) ↦ done_first step steps After outcome after is (all_done_but steps After after does (subst IsNoStepFault (ap (λ (o : Outcome). o.end) is ∙ same_end step after) none))
 ]
 
-pub all_done : (steps : List Step) (After : Outcome → Type 0) (outcome : Outcome) → Does steps After outcome → IsFaultless outcome.end → AllDone steps After outcome
+pub all_done : (steps : List Step) (After : Outcome → Type 0) (outcome : Outcome) → Does steps After outcome → IsFaultless outcome.end
+    → AllDone steps After outcome
 all_done steps After outcome does none = all_done_but steps After outcome does (no_step_fault outcome.end none)
 
-pub faultless_behind : (steps : List Step) (After : Outcome → Type 0) (outcome : Outcome) (done : AllDone steps After outcome) → IsFaultless outcome.end → IsFaultless done.after.end
+pub faultless_behind : (steps : List Step) (After : Outcome → Type 0) (outcome : Outcome) (done : AllDone steps After outcome)
+    → IsFaultless outcome.end → IsFaultless done.after.end
 faultless_behind steps After outcome done none = subst (λ (o : Outcome). IsFaultless o.end) done.is none

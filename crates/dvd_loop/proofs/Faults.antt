@@ -245,7 +245,8 @@ nothing_behind behind.Asks bad (byte ∷ left) a ends = elim ends [
 ]
 
 module _ (units : Units) (total : AreTotal units) where
-  goes_beyond : (n : ℕ) (before : List (List ℕ)) (bad : ℕ) (bytes : List ℕ) → length before + n ≡ units.count → LeaveFronts (Goes units n before bad bytes)
+  goes_beyond : (n : ℕ) (before : List (List ℕ)) (bad : ℕ) (bytes : List ℕ) → length before + n ≡ units.count
+      → LeaveFronts (Goes units n before bad bytes)
   unfolding Goes
   goes_beyond zero before bad bytes all a (steps, closes, does) =
       beyond_by (Does steps (EndsBehind units.behind bad bytes)) (Goes units zero before bad bytes) a (λ o rest. (steps, closes, rest))

@@ -31,7 +31,8 @@ start-le size k (suc n) =
     subst (λ m. start size k ≤ start size m) is (omega (arith, start-le size k n, start-suc size (k + n)))
 
 -- pieces that are the same one by one
-pub same_pieces : (f g : ℕ → List ℕ) (a n : ℕ) → ((k : ℕ) → a ≤ k → k < a + n → f k ≡ g k) → flat_map f (range_with_len a n) ≡ flat_map g (range_with_len a n)
+pub same_pieces : (f g : ℕ → List ℕ) (a n : ℕ) → ((k : ℕ) → a ≤ k → k < a + n → f k ≡ g k)
+    → flat_map f (range_with_len a n) ≡ flat_map g (range_with_len a n)
 same_pieces f g a zero same = refl
 same_pieces f g a (suc n) same =
     ap (λ l. l ++ flat_map f (range_with_len (a + 1) n)) (same a (omega arith) (omega arith))
@@ -58,7 +59,8 @@ first_piece k piece others n all is =
 pub record AreGood (units : Units) (size : ℕ → ℕ) (P : ℕ → List ℕ → List ℕ → List ℕ → Type 0) : Type 0 where
   pub begins : (k : ℕ) (bytes : List ℕ) → units.begins k bytes ≡ sized (size k) bytes
   pub opens : units.opens ≡ []
-  pub does : (before : List (List ℕ)) (own : List ℕ) (steps : List Step) (turn : Turn) → length before < units.count → IsUnit units before own steps turn
+  pub does : (before : List (List ℕ)) (own : List ℕ) (steps : List Step) (turn : Turn) → length before < units.count
+      → IsUnit units before own steps turn
       → (turn ≡ Good) × P (length before) own (written steps) (told steps)
   pub closes : (before : List (List ℕ)) (steps : List Step) → units.closes before steps → steps ≡ []
   pub asks : units.behind ≡ Asks
@@ -92,12 +94,14 @@ module _ (units : Units) (size : ℕ → ℕ) (P : ℕ → List ℕ → List ℕ
   ]
 
   -- the bytes of unit k, behind those of the units before it
-  own_bytes : (k : ℕ) (all front own left : List ℕ) → all ≡ front ++ (own ++ left) → length front ≡ start size k → length own ≡ size k → own ≡ take (size k) (drop (start size k) all)
+  own_bytes : (k : ℕ) (all front own left : List ℕ) → all ≡ front ++ (own ++ left) → length front ≡ start size k → length own ≡ size k
+      → own ≡ take (size k) (drop (start size k) all)
   own_bytes k all front own left is at whole =
       sym (take-append_seam own left) ∙ ap (λ n. take n (own ++ left)) whole
       ∙ ap (take (size k)) (sym (drop-append_seam front (own ++ left)) ∙ ap (λ n. drop n (front ++ (own ++ left))) at ∙ ap (drop (start size k)) (sym is))
 
-  one_more : (k n : ℕ) (all own left w t : List ℕ) (after : Outcome) → P k (take (size k) (drop (start size k) all)) w t → InPieces size P (k + 1) n all left after
+  one_more : (k n : ℕ) (all own left w t : List ℕ) (after : Outcome) → P k (take (size k) (drop (start size k) all)) w t
+      → InPieces size P (k + 1) n all left after
       → InPieces size P k (suc n) all (own ++ left) (onto own w t after)
   one_more k n all own left w t after here r = record {
     outs = with_piece k w r.outs;
@@ -119,7 +123,8 @@ module _ (units : Units) (size : ℕ → ℕ) (P : ℕ → List ℕ → List ℕ
     taken = ap (λ l. own ++ l) r.taken;
   }
 
-  goes_over : (n : ℕ) (before : List (List ℕ)) (all front left : List ℕ) (a : Outcome) → all ≡ front ++ left → length front ≡ start size (length before) → length before + n ≡ units.count
+  goes_over : (n : ℕ) (before : List (List ℕ)) (all front left : List ℕ) (a : Outcome) → all ≡ front ++ left
+      → length front ≡ start size (length before) → length before + n ≡ units.count
       → length all ≡ start size units.count → Goes units n before 0 left a → IsFaultless a.end → InPieces size P (length before) n all left a
   unfolding Goes
   goes_over zero before all front left a is at count whole (steps, closes, does) none =
@@ -150,7 +155,8 @@ module _ (units : Units) (size : ℕ → ℕ) (P : ℕ → List ℕ → List ℕ
       ]
 
   -- A run without a fault over exactly the bytes of all units: each does its own, and the run ends as done.
-  pub over : (bytes : List ℕ) (a : Outcome) → IsOutcome units bytes a → IsFaultless a.end → length bytes ≡ start size units.count → InPieces size P 0 units.count bytes bytes a
+  pub over : (bytes : List ℕ) (a : Outcome) → IsOutcome units bytes a → IsFaultless a.end → length bytes ≡ start size units.count
+      → InPieces size P 0 units.count bytes bytes a
   over bytes a runs none whole =
       goes_over units.count [] bytes [] bytes a refl (sym (start-zero size)) (omega arith) whole
       (subst (λ l. Does l (Goes units units.count [] 0 bytes) a) are.opens runs) none

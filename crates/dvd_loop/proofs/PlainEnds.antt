@@ -16,7 +16,8 @@ use Rattle.dvd_loop.proofs.Totality.{one_fewer}
 -- So may a run of these units end, where Many tells how many of the first k units may be bad.
 record Allows (units : Units) (Many : ℕ → ℕ → Type 0) (May : LoopEnd → Type 0) : Type 0 where
   none : Many 0 0
-  counts : (k bad : ℕ) (before : List (List ℕ)) (own : List ℕ) (steps : List Step) (turn : Turn) → Many k bad → units.does k before own steps turn → Many (k + 1) (bad + bad_of turn)
+  counts : (k bad : ℕ) (before : List (List ℕ)) (own : List ℕ) (steps : List Step) (turn : Turn) → Many k bad → units.does k before own steps turn
+      → Many (k + 1) (bad + bad_of turn)
   read : May ReadFault
   write : May WriteFault
   report : May ReportFault
@@ -34,7 +35,8 @@ AllEndSo May A = (a : Outcome) → A a → May a.end
 end_as : (May : LoopEnd → Type 0) (a b : Outcome) → a ≡ b → May b.end → May a.end
 end_as May a b is may = subst (λ (o : Outcome). May o.end) (sym is) may
 
-steps_end : (May : LoopEnd → Type 0) → May WriteFault → May ReportFault → (steps : List Step) (A : Outcome → Type 0) → AllEndSo May A → AllEndSo May (Does steps A)
+steps_end : (May : LoopEnd → Type 0) → May WriteFault → May ReportFault → (steps : List Step) (A : Outcome → Type 0) → AllEndSo May A
+    → AllEndSo May (Does steps A)
 steps_end May write report [] A so a does = so a does
 steps_end May write report (Write bytes ∷ steps) A so a does = elim does [
   | inl (front, left, whole, some, fails) ↦ end_as May a _ fails write
@@ -84,7 +86,8 @@ module _ (units : Units) (Many : ℕ → ℕ → Type 0) (May : LoopEnd → Type
   turns_end k before own steps Bad does A so a goes = so a goes
   turns_end k before own steps Last does A so a goes = end_as May a _ goes (allows.last k before own steps does)
 
-  goes_end : (n : ℕ) (before : List (List ℕ)) (bad : ℕ) (bytes : List ℕ) → length before + n ≡ units.count → Many (length before) bad → AllEndSo May (Goes units n before bad bytes)
+  goes_end : (n : ℕ) (before : List (List ℕ)) (bad : ℕ) (bytes : List ℕ) → length before + n ≡ units.count → Many (length before) bad
+      → AllEndSo May (Goes units n before bad bytes)
   unfolding Goes
   goes_end zero before bad bytes all are a (steps, closes, does) =
       let here : length before ≡ units.count = omega arith in

@@ -19,10 +19,12 @@ pub record Reached (units : Units) (k : ℕ) (before : List (List ℕ)) (old now
   pub out : List ℕ
   pub lines : List ℕ
   pub moved : HaveMoved old now taken out lines
-  pub reaches : (left : List ℕ) (after : Outcome) → Goes units to_come before bad left after → IsOutcome units (taken ++ left) (onto taken out lines after)
+  pub reaches : (left : List ℕ) (after : Outcome) → Goes units to_come before bad left after
+      → IsOutcome units (taken ++ left) (onto taken out lines after)
 
 -- the steps of a unit, behind what was done before it
-onto_unit : (taken out lines own w t : List ℕ) (after : Outcome) → onto taken out lines (taking own (onto [] w t after)) ≡ onto (taken ++ own) (out ++ w) (lines ++ t) after
+onto_unit : (taken out lines own w t : List ℕ) (after : Outcome)
+    → onto taken out lines (taking own (onto [] w t after)) ≡ onto (taken ++ own) (out ++ w) (lines ++ t) after
 onto_unit taken out lines own w t after = simp append_assoc
 
 pub goes_on : (turn : Turn) (Goes : Outcome → Type 0) (outcome : Outcome) → turn ≢ Last → Goes outcome → GoesOn turn Goes outcome
@@ -56,8 +58,10 @@ module _ (units : Units) where
   }
 
   -- what may come of a unit that was taken and done
-  pub taken_unit : (n : ℕ) (before : List (List ℕ)) (own left : List ℕ) (steps : List Step) (turn : Turn) (bad : ℕ) (after : Outcome) → IsUnit units before own steps turn
-      → GoesOn turn (Goes units n (before ++ own ∷ []) (bad + bad_of turn) left) after → Goes units (suc n) before bad (own ++ left) (taking own (onto [] (written steps) (told steps) after))
+  pub taken_unit : (n : ℕ) (before : List (List ℕ)) (own left : List ℕ) (steps : List Step) (turn : Turn) (bad : ℕ) (after : Outcome)
+      → IsUnit units before own steps turn
+      → GoesOn turn (Goes units n (before ++ own ∷ []) (bad + bad_of turn) left) after
+      → Goes units (suc n) before bad (own ++ left) (taking own (onto [] (written steps) (told steps) after))
   unfolding Goes
   taken_unit n before own left steps turn bad after unit goes = inr (record {
     own = own;
@@ -72,7 +76,8 @@ module _ (units : Units) where
   })
 
   -- a loop that ends within a unit or its steps
-  ends_at : (n : ℕ) (before : List (List ℕ)) (bad : ℕ) (bytes : List ℕ) (outcome : Outcome) → EndsAt units before bytes outcome → Goes units (suc n) before bad bytes outcome
+  ends_at : (n : ℕ) (before : List (List ℕ)) (bad : ℕ) (bytes : List ℕ) (outcome : Outcome) → EndsAt units before bytes outcome
+      → Goes units (suc n) before bad bytes outcome
   unfolding Goes
   ends_at n before bad bytes outcome at = elim at [
     | inl within ↦ inl within
@@ -97,11 +102,13 @@ module _ (units : Units) where
       | suc n ↦ λ all. (n, refl)
     ] r.all
 
-    reaches_next : (n : ℕ) → r.to_come ≡ suc n → (left : List ℕ) (after : Outcome) → Goes units (suc n) before bad left after → IsOutcome units (r.taken ++ left) (onto r.taken r.out r.lines after)
+    reaches_next : (n : ℕ) → r.to_come ≡ suc n → (left : List ℕ) (after : Outcome) → Goes units (suc n) before bad left after
+        → IsOutcome units (r.taken ++ left) (onto r.taken r.out r.lines after)
     reaches_next n is left after goes = r.reaches left after (subst (λ m. Goes units m before bad left after) (sym is) goes)
 
     -- the outcome of all where that unit was taken and done
-    reaches_taken : (n : ℕ) → r.to_come ≡ suc n → (own left : List ℕ) (steps : List Step) (turn : Turn) (after : Outcome) → IsUnit units before own steps turn
+    reaches_taken : (n : ℕ) → r.to_come ≡ suc n → (own left : List ℕ) (steps : List Step) (turn : Turn) (after : Outcome)
+        → IsUnit units before own steps turn
         → GoesOn turn (Goes units n (before ++ own ∷ []) (bad + bad_of turn) left) after
         → IsOutcome units ((r.taken ++ own) ++ left) (onto (r.taken ++ own) (r.out ++ written steps) (r.lines ++ told steps) after)
     reaches_taken n is own left steps turn after unit goes =
@@ -159,7 +166,8 @@ module _ (units : Units) where
         (λ left after at. reaches_next n.0 n.1 left after (ends_at n.0 before bad left after at)) comes
 
     module _ (all : k ≡ units.count) (steps : List Step) (closes : units.closes before steps) where
-      reaches_closed : (left : List ℕ) (after : Outcome) → Does steps (EndsBehind units.behind bad left) after → IsOutcome units (r.taken ++ left) (onto r.taken r.out r.lines after)
+      reaches_closed : (left : List ℕ) (after : Outcome) → Does steps (EndsBehind units.behind bad left) after
+          → IsOutcome units (r.taken ++ left) (onto r.taken r.out r.lines after)
       unfolding Goes
       reaches_closed left after does =
           let none : r.to_come ≡ 0 = omega (arith, r.all) in
@@ -172,7 +180,8 @@ module _ (units : Units) where
           (λ left after does. reaches_closed left after (does_as steps Nothing (EndsBehind units.behind bad left) (λ o none. absurd none) after does)) comes
 
       -- what stands behind the closing ended it
-      pub behind_ends : (mid new : Streams) (end : LoopEnd) → HaveMoved now mid [] (written steps) (told steps) → Comes (EndsBehind units.behind bad) mid new end → Comes (IsOutcome units) old new end
+      pub behind_ends : (mid new : Streams) (end : LoopEnd) → HaveMoved now mid [] (written steps) (told steps)
+          → Comes (EndsBehind units.behind bad) mid new end → Comes (IsOutcome units) old new end
       behind_ends mid new end moved comes =
           comes_after (EndsBehind units.behind bad) (IsOutcome units) old mid new end (r.taken ++ []) (r.out ++ written steps) (r.lines ++ told steps)
           (moves_on old now mid r.taken r.out r.lines [] (written steps) (told steps) r.moved moved)

@@ -13,7 +13,8 @@ abbrev pub and_then : Outcome → Outcome → Outcome
 and_then loop line = record { taken = loop.taken ++ line.taken; out = loop.out ++ line.out; lines = loop.lines ++ line.lines; end = line.end }
 
 -- all steps were taken, and then came what After says
-pub does_all : (steps : List Step) (After : Outcome → Type 0) (after : Outcome) → After after → Does steps After (onto [] (written steps) (told steps) after)
+pub does_all : (steps : List Step) (After : Outcome → Type 0) (after : Outcome) → After after
+    → Does steps After (onto [] (written steps) (told steps) after)
 does_all [] After after holds = holds
 does_all (Write bytes ∷ steps) After after holds = inr (
   onto [] (written steps) (told steps) after,
@@ -27,7 +28,8 @@ does_all (Tell line ∷ steps) After after holds = inr (
 )
 
 -- what holds of what comes behind steps may be said otherwise
-pub does_as : (steps : List Step) (A B : Outcome → Type 0) → ((after : Outcome) → A after → B after) → (outcome : Outcome) → Does steps A outcome → Does steps B outcome
+pub does_as : (steps : List Step) (A B : Outcome → Type 0) → ((after : Outcome) → A after → B after) → (outcome : Outcome) → Does steps A outcome
+    → Does steps B outcome
 does_as [] A B to outcome does = to outcome does
 does_as (step ∷ steps) A B to outcome does = elim does [
   | inl fails ↦ inl fails
@@ -35,7 +37,8 @@ does_as (step ∷ steps) A B to outcome does = elim does [
 ]
 
 -- behind the steps of one list stand those of another
-pub does_then : (steps more : List Step) (After : Outcome → Type 0) (outcome : Outcome) → Does steps (Does more After) outcome → Does (steps ++ more) After outcome
+pub does_then : (steps more : List Step) (After : Outcome → Type 0) (outcome : Outcome) → Does steps (Does more After) outcome
+    → Does (steps ++ more) After outcome
 does_then [] more After outcome does = does
 does_then (step ∷ steps) more After outcome does = elim does [
   | inl fails ↦ inl fails

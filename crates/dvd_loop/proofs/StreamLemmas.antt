@@ -41,7 +41,8 @@ none_left None end = tt
 none_left (Some bytes) end = end
 
 -- What a loop has come to, where the streams had moved before.
-pub comes_after : (P Q : List ℕ → Outcome → Type 0) (old now new : Streams) (end : LoopEnd) (taken out lines : List ℕ) → HaveMoved old now taken out lines
+pub comes_after : (P Q : List ℕ → Outcome → Type 0) (old now new : Streams) (end : LoopEnd) (taken out lines : List ℕ)
+    → HaveMoved old now taken out lines
     → ((left : List ℕ) (after : Outcome) → P left after → Q (taken ++ left) (onto taken out lines after)) → Comes P now new end → Comes Q old new end
 comes_after P Q old now new end taken out lines moved reaches comes = record {
   bytes = taken ++ comes.bytes;
@@ -53,7 +54,8 @@ comes_after P Q old now new end taken out lines moved reaches comes = record {
 }
 
 -- no count has moved, and then they moved so
-pub causes_first : (old now new : Streams) (within end : LoopEnd) → HaveCauses Done Done old now → HaveCauses within end now new → HaveCauses within end old new
+pub causes_first : (old now new : Streams) (within end : LoopEnd) → HaveCauses Done Done old now → HaveCauses within end now new
+    → HaveCauses within end old new
 causes_first old now new within end first next = record {
   source = subst (λ n. Counts (is_read_fault within) n new.source.faults) first.source next.source;
   output = subst (λ n. Counts (is_write_fault within) n new.output.faults) first.output next.output;
@@ -61,7 +63,8 @@ causes_first old now new within end first next = record {
 }
 
 -- what a loop has come to may be said otherwise
-pub comes_as : (P Q : List ℕ → Outcome → Type 0) (old new : Streams) (end : LoopEnd) → ((bytes : List ℕ) (outcome : Outcome) → P bytes outcome → Q bytes outcome) → Comes P old new end → Comes Q old new end
+pub comes_as : (P Q : List ℕ → Outcome → Type 0) (old new : Streams) (end : LoopEnd)
+    → ((bytes : List ℕ) (outcome : Outcome) → P bytes outcome → Q bytes outcome) → Comes P old new end → Comes Q old new end
 comes_as P Q old new end to comes = record {
   bytes = comes.bytes;
   told = comes.told;

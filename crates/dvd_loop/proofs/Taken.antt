@@ -20,7 +20,8 @@ record TakesAll (stands : Behind) (count : ℕ) (bytes : List ℕ) (a : Outcome)
 end_is : (a b : Outcome) → a ≡ b → a.end ≡ Done → b.end ≡ Done
 end_is a b is done = subst (λ (o : Outcome). o.end ≡ Done) is done
 
-none_taken : (stands : Behind) (bytes : List ℕ) (a x : Outcome) → a ≡ x → x.taken ≡ [] → (stands ≡ behind.Asks → x.taken ≡ bytes) → TakesAll stands 0 bytes a
+none_taken : (stands : Behind) (bytes : List ℕ) (a x : Outcome) → a ≡ x → x.taken ≡ [] → (stands ≡ behind.Asks → x.taken ≡ bytes)
+    → TakesAll stands 0 bytes a
 none_taken stands bytes a x is none all = subst (TakesAll stands 0 bytes) (sym is) (record { number = ap length none; all = all })
 
 behind_takes : (stands : Behind) (bad : ℕ) (bytes : List ℕ) (a : Outcome) → EndsBehind stands bad bytes a → a.end ≡ Done → TakesAll stands 0 bytes a
@@ -84,11 +85,13 @@ module _ (units : Units) (size : ℕ → ℕ) (begins : (k : ℕ) (bytes : List 
       goes_take units.count [] 0 bytes a (omega arith) (subst (λ l. Does l (Goes units units.count [] 0 bytes) a) opens runs) (subst IsFaultless (sym done) tt) done
 
   -- A run that ends as done has taken the bytes of all units.
-  pub taken_number : (bytes : List ℕ) (a : Outcome) → units.opens ≡ [] → IsOutcome units bytes a → a.end ≡ Done → length a.taken ≡ start size units.count
+  pub taken_number : (bytes : List ℕ) (a : Outcome) → units.opens ≡ [] → IsOutcome units bytes a → a.end ≡ Done
+      → length a.taken ≡ start size units.count
   taken_number bytes a opens runs done =
       let rest = takes_rest bytes a opens runs done in
       omega (arith, rest.takes.number, rest.further, start-zero size)
 
   -- They are the whole input, where one byte more is asked for behind them.
-  pub taken_all : (bytes : List ℕ) (a : Outcome) → units.opens ≡ [] → units.behind ≡ behind.Asks → IsOutcome units bytes a → a.end ≡ Done → a.taken ≡ bytes
+  pub taken_all : (bytes : List ℕ) (a : Outcome) → units.opens ≡ [] → units.behind ≡ behind.Asks → IsOutcome units bytes a → a.end ≡ Done
+      → a.taken ≡ bytes
   taken_all bytes a opens asks runs done = (takes_rest bytes a opens runs done).takes.all asks

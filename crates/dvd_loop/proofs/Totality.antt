@@ -37,7 +37,8 @@ pub one_fewer : (before : List (List ℕ)) (own : List ℕ) (n count : ℕ) → 
 one_fewer before own n count all = omega (arith, length-append before (own ∷ []))
 
 module _ (units : Units) (total : AreTotal units) where
-  pub goes_exist : (n : ℕ) (before : List (List ℕ)) (bad : ℕ) (bytes : List ℕ) → length before + n ≡ units.count → Exists (Goes units n before bad bytes)
+  pub goes_exist : (n : ℕ) (before : List (List ℕ)) (bad : ℕ) (bytes : List ℕ) → length before + n ≡ units.count
+      → Exists (Goes units n before bad bytes)
   unfolding Goes
   goes_exist zero before bad bytes all =
       let closing = total.closes before (omega arith) in

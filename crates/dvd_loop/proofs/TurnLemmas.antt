@@ -25,8 +25,10 @@ err_is (Err e) end is = ap (λ x. Err x) is
 
 module _ (units : Units) (before : List (List ℕ)) where
   -- the loop ends within the unit
-  pub turn_short : (ready : List (List ℕ) → Type 0) (size : ℕ) (source new_source output report : Seen) (end : LoopEnd) → ((own : List ℕ) → length own < size → units.begins (length before) own ≡ Cut)
-      → EndsShort (length before) size source new_source end → IsTurn units before ready (streams source output report) (streams new_source output report) (Err end)
+  pub turn_short : (ready : List (List ℕ) → Type 0) (size : ℕ) (source new_source output report : Seen) (end : LoopEnd)
+      → ((own : List ℕ) → length own < size → units.begins (length before) own ≡ Cut)
+      → EndsShort (length before) size source new_source end
+      → IsTurn units before ready (streams source output report) (streams new_source output report) (Err end)
   turn_short ready size source new_source output report end cut short = elim short.ends [
     | inl input ↦ record {
       bytes = short.own ++ [];
@@ -62,8 +64,10 @@ module _ (units : Units) (before : List (List ℕ)) where
       moved = record { reads = subst (Consumes source.bytes new_source.bytes) (sym (append-nil short.own)) short.reads; writes = Appends-none output.bytes; tells = Appends-none report.bytes }
 
   -- the unit was read whole, these steps may be taken for it, and so they were
-  pub turn_of : (ready : List (List ℕ) → Type 0) (old now new : Streams) (own : List ℕ) (steps : List Step) (turn : Turn) → IsUnit units before own steps turn → HaveMoved old now own [] [] → ready (before ++ own ∷ [])
-      → (answer : Result Turn LoopEnd) → AreSteps steps now new answer → ((value : Turn) → answer ≡ Ok value → value ≡ turn) → IsTurn units before ready old new answer
+  pub turn_of : (ready : List (List ℕ) → Type 0) (old now new : Streams) (own : List ℕ) (steps : List Step) (turn : Turn)
+      → IsUnit units before own steps turn → HaveMoved old now own [] [] → ready (before ++ own ∷ [])
+      → (answer : Result Turn LoopEnd) → AreSteps steps now new answer → ((value : Turn) → answer ≡ Ok value → value ≡ turn)
+      → IsTurn units before ready old new answer
   turn_of ready old now new own steps turn unit moved next (Ok value) done same = record {
     own = own;
     steps = steps;
@@ -87,14 +91,16 @@ module _ (units : Units) (before : List (List ℕ)) where
 
 module _ (source output new_output report : Seen) where
   -- one write, whole or begun
-  pub step_written : (bytes : List ℕ) → Appends output.bytes new_output.bytes bytes → HaveMoved (streams source output report) (streams source new_output report) [] (bytes ++ []) []
+  pub step_written : (bytes : List ℕ) → Appends output.bytes new_output.bytes bytes
+      → HaveMoved (streams source output report) (streams source new_output report) [] (bytes ++ []) []
   step_written bytes writes = record {
     reads = Consumes-none source.bytes;
     writes = subst (Appends output.bytes new_output.bytes) (sym (append-nil bytes)) writes;
     tells = Appends-none report.bytes;
   }
 
-  pub step_begun : (bytes : List ℕ) (steps : List Step) → AppendsPrefix output.bytes new_output.bytes bytes → Comes (λ input. Does (Write bytes ∷ steps) Nothing) (streams source output report) (streams source new_output report) WriteFault
+  pub step_begun : (bytes : List ℕ) (steps : List Step) → AppendsPrefix output.bytes new_output.bytes bytes
+      → Comes (λ input. Does (Write bytes ∷ steps) Nothing) (streams source output report) (streams source new_output report) WriteFault
   step_begun bytes steps begun = record {
     bytes = (left_of source.bytes).0;
     told = (left_of source.bytes).1;
@@ -110,14 +116,16 @@ module _ (source output new_output report : Seen) where
 
 module _ (source output report new_report : Seen) where
   -- one line, whole or begun
-  pub step_told : (line : List ℕ) → Appends report.bytes new_report.bytes line → HaveMoved (streams source output report) (streams source output new_report) [] [] (line ++ [])
+  pub step_told : (line : List ℕ) → Appends report.bytes new_report.bytes line
+      → HaveMoved (streams source output report) (streams source output new_report) [] [] (line ++ [])
   step_told line tells = record {
     reads = Consumes-none source.bytes;
     writes = Appends-none output.bytes;
     tells = subst (Appends report.bytes new_report.bytes) (sym (append-nil line)) tells;
   }
 
-  pub line_begun : (line : List ℕ) (steps : List Step) → AppendsPrefix report.bytes new_report.bytes line → Comes (λ input. Does (Tell line ∷ steps) Nothing) (streams source output report) (streams source output new_report) ReportFault
+  pub line_begun : (line : List ℕ) (steps : List Step) → AppendsPrefix report.bytes new_report.bytes line
+      → Comes (λ input. Does (Tell line ∷ steps) Nothing) (streams source output report) (streams source output new_report) ReportFault
   line_begun line steps begun = record {
     bytes = (left_of source.bytes).0;
     told = (left_of source.bytes).1;
@@ -132,7 +140,8 @@ module _ (source output report new_report : Seen) where
   }
 
 -- steps behind a line that was told
-pub steps_behind_line : (line : List ℕ) (steps : List Step) (old now new : Streams) {A : Type 0} (answer : Result A LoopEnd) → HaveMoved old now [] [] (line ++ []) → AreSteps steps now new answer → AreSteps (Tell line ∷ steps) old new answer
+pub steps_behind_line : (line : List ℕ) (steps : List Step) (old now new : Streams) {A : Type 0} (answer : Result A LoopEnd)
+    → HaveMoved old now [] [] (line ++ []) → AreSteps steps now new answer → AreSteps (Tell line ∷ steps) old new answer
 steps_behind_line line steps old now new (Ok value) told_line done =
     subst (λ l. HaveMoved old new [] (written steps) (l ++ told steps)) (append-nil line) (moves_on old now new [] [] (line ++ []) [] (written steps) (told steps) told_line done)
 steps_behind_line line steps old now new (Err end) told_line done =
@@ -140,23 +149,27 @@ steps_behind_line line steps old now new (Err end) told_line done =
     (λ left after does. inr (after, does, ap (λ l. onto [] [] l after) (append-nil line))) done
 
 -- no count has moved, and then the output's rose
-pub causes_written : {A : Type 0} (answer : Result A LoopEnd) (old : Streams) (source output new_output report : Seen) → answer ≡ Err WriteFault → HaveCauses Done Done old (streams source output report) → Rose output.faults new_output.faults
+pub causes_written : {A : Type 0} (answer : Result A LoopEnd) (old : Streams) (source output new_output report : Seen) → answer ≡ Err WriteFault
+    → HaveCauses Done Done old (streams source output report) → Rose output.faults new_output.faults
     → HaveCausesFor answer old (streams source new_output report)
 causes_written answer old source output new_output report is first rose =
     subst (λ a. HaveCausesFor a old (streams source new_output report)) (sym is)
     (causes_first old (streams source output report) (streams source new_output report) WriteFault WriteFault first (record { source = refl; output = rose; report = refl }))
 
 -- no count has moved, and then what the answer says
-pub causes_after : {A : Type 0} (answer : Result A LoopEnd) (old now new : Streams) → HaveCauses Done Done old now → HaveCausesFor answer now new → HaveCausesFor answer old new
+pub causes_after : {A : Type 0} (answer : Result A LoopEnd) (old now new : Streams) → HaveCauses Done Done old now → HaveCausesFor answer now new
+    → HaveCausesFor answer old new
 causes_after (Ok value) old now new first next = causes_first old now new Done Done first next
 causes_after (Err end) old now new first next = causes_first old now new end end first next
 
 -- one write is all that is done for a good unit
 module _ (May : List Step → Turn → Type 0) (bytes : List ℕ) (may : May (Write bytes ∷ []) Good) (source output new_output report : Seen) where
-  pub write_done : Appends output.bytes new_output.bytes bytes → AreDone May (streams source output report) (streams source new_output report) (Ok Good)
+  pub write_done : Appends output.bytes new_output.bytes bytes
+      → AreDone May (streams source output report) (streams source new_output report) (Ok Good)
   write_done writes = record { steps = Write bytes ∷ []; turn = Good; may = may; done = step_written source output new_output report bytes writes; is = λ value is. cc }
 
-  pub write_begun : (answer : Result Turn LoopEnd) → answer ≡ Err WriteFault → AppendsPrefix output.bytes new_output.bytes bytes → AreDone May (streams source output report) (streams source new_output report) answer
+  pub write_begun : (answer : Result Turn LoopEnd) → answer ≡ Err WriteFault → AppendsPrefix output.bytes new_output.bytes bytes
+      → AreDone May (streams source output report) (streams source new_output report) answer
   write_begun answer is begun = record {
     steps = Write bytes ∷ [];
     turn = Good;
@@ -175,7 +188,8 @@ module _ (count : ℕ) (size : ℕ → ℕ) (May : ℕ → List ℕ → List Ste
       (λ own fewer. ap (λ j. sized (size j) own) number ∙ sized_fewer (size k) own fewer)
       (subst (λ j. EndsShort j (size k) source new_source end) (sym number) short))
 
-  pub plain_done : (own : List ℕ) → length own ≡ size k → Consumes source.bytes new_source.bytes own → (new_output new_report : Seen) (answer : Result Turn LoopEnd)
+  pub plain_done : (own : List ℕ) → length own ≡ size k → Consumes source.bytes new_source.bytes own
+      → (new_output new_report : Seen) (answer : Result Turn LoopEnd)
       → AreDone (May k own) (streams new_source output report) (streams new_source new_output new_report) answer → ready (before ++ own ∷ [])
       → IsTurn (plain_units count size May) before ready (streams source output report) (streams new_source new_output new_report) answer
   plain_done own whole reads new_output new_report answer done next =

@@ -52,7 +52,8 @@ length-own size k bytes there =
     length-take-le size (drop (size * k) bytes) (omega (arith, subst (λ n. size * n ≤ length bytes) (add-one k) there, mul-suc size k, length-drop (size * k) bytes))
 
 -- a part that stands behind so many bytes
-part_there : (a n : ℕ) (before part out : List ℕ) → length before ≡ a → length part ≡ n → IsFrontOf (before ++ (part ++ [])) out → take n (drop a out) ≡ part
+part_there : (a n : ℕ) (before part out : List ℕ) → length before ≡ a → length part ≡ n → IsFrontOf (before ++ (part ++ [])) out
+    → take n (drop a out) ≡ part
 part_there a n before part out at size (left, is) =
     let own : length (part ++ []) ≡ n = ap length (append-nil part) ∙ size in
     ap (λ l. take n (drop a l)) is
@@ -61,7 +62,8 @@ part_there a n before part out at size (left, is) =
     ∙ append-nil part
 
 -- the blocks before a data block write the bytes before its first image sector, or as many zeros
-length-before : (layout : Layout) (zones : Zones) (form : Form) (k : ℕ) (entry : BlockPlan) (bytes : List ℕ) (a : Outcome) → slice_get (plan_of layout zones) k ≡ Some entry → IsImage entry.content
+length-before : (layout : Layout) (zones : Zones) (form : Form) (k : ℕ) (entry : BlockPlan) (bytes : List ℕ) (a : Outcome)
+    → slice_get (plan_of layout zones) k ≡ Some entry → IsImage entry.content
     → IsOutcome (first k (recover_units layout zones form)) bytes a → a.end ≡ Done → length a.out ≡ 2048 * image_from entry.content
 length-before layout zones form k entry bytes a stands is_image runs done =
     let within = slice_get_within (plan_of layout zones) k entry stands in
@@ -70,14 +72,17 @@ length-before layout zones form k entry bytes a stands is_image runs done =
     ∙ ap (λ n. 2048 * n) (plan_of-in_order layout zones k entry stands is_image)
 
 -- what may be done for a block that is borne
-alone : (layout : Layout) (zones : Zones) (form : Form) (bytes cpr image : List ℕ) (k : ℕ) (entry : BlockPlan) → IsBorne layout zones form bytes cpr image k entry
-    → (steps : List Step) (turn : Turn) → IsRecovered layout zones form k (block_bytes form bytes k) steps turn → (steps ≡ Write (image_part layout entry image) ∷ []) × (turn ≡ Good)
+alone : (layout : Layout) (zones : Zones) (form : Form) (bytes cpr image : List ℕ) (k : ℕ) (entry : BlockPlan)
+    → IsBorne layout zones form bytes cpr image k entry
+    → (steps : List Step) (turn : Turn) → IsRecovered layout zones form k (block_bytes form bytes k) steps turn
+    → (steps ≡ Write (image_part layout entry image) ∷ []) × (turn ≡ Good)
 alone layout zones form bytes cpr image k entry b steps turn does =
     repaired layout zones form cpr k entry (image_part layout entry image) (block_bytes form bytes k) b.block steps turn b.stands b.is_image b.cpr_size
     (length-part layout entry.content image b.image_size) b.is_block (length-own (block_size form) k bytes b.whole) b.within does
 
 -- in a run whose loop ended without a fault its sectors stand at their place
-at_place : (layout : Layout) (zones : Zones) (form : Form) (bytes : List ℕ) (a : Outcome) → IsOutcome (recover_units layout zones form) bytes a → IsFaultless a.end
+at_place : (layout : Layout) (zones : Zones) (form : Form) (bytes : List ℕ) (a : Outcome) → IsOutcome (recover_units layout zones form) bytes a
+    → IsFaultless a.end
     → (cpr image : List ℕ) (k : ℕ) (entry : BlockPlan) → IsBorne layout zones form bytes cpr image k entry
     → take (image_bytes layout entry) (drop (2048 * image_from entry.content) a.out) ≡ image_part layout entry image
 at_place layout zones form bytes a runs none cpr image k entry b =
@@ -90,7 +95,8 @@ at_place layout zones form bytes a runs none cpr image k entry b =
     (length-part layout entry.content image b.image_size) (subst (λ s. IsFrontOf (t.alone.out ++ written s) a.out) back.0 t.out)
 
 -- a closing line that was told writes nothing, and ends as its loop
-told_line : (line : List ℕ) (end : LoopEnd) (a : Outcome) → Does (Tell line ∷ []) (λ after. after ≡ ended end) a → IsFaultless a.end → (a.out ≡ []) × (a.end ≡ end)
+told_line : (line : List ℕ) (end : LoopEnd) (a : Outcome) → Does (Tell line ∷ []) (λ after. after ≡ ended end) a → IsFaultless a.end
+    → (a.out ≡ []) × (a.end ≡ end)
 told_line line end a does none =
     let done = all_done (Tell line ∷ []) (λ after. after ≡ ended end) a does none in (
       ap (λ (o : Outcome). o.out) done.is ∙ ap (λ (o : Outcome). o.out) done.holds,
@@ -102,7 +108,8 @@ closed closing ReportFault a is none = absurd (subst (λ (o : Outcome). IsFaultl
 closed closing end a does none = told_line (closing end) end a does none
 
 closed_keeps : (settings : Settings) (within : LoopEnd) (bytes : List ℕ) (outcome : Outcome) (layout : Layout) → IsLayoutOf settings layout
-    → IsClosed (closing_line settings.command) (recover_units layout settings.zones settings.form) bytes within outcome → IsFaultless outcome.end → KeepsBound settings bytes outcome
+    → IsClosed (closing_line settings.command) (recover_units layout settings.zones settings.form) bytes within outcome → IsFaultless outcome.end
+    → KeepsBound settings bytes outcome
 closed_keeps settings within bytes outcome layout is_layout c none =
     let line = closed (closing_line settings.command) within c.line c.closes (subst (λ (o : Outcome). IsFaultless o.end) c.all none) in
     let loop_none : IsFaultless c.loop.end = subst IsFaultless (ap (λ (o : Outcome). o.end) c.all ∙ line.1 ∙ sym c.ends) none in

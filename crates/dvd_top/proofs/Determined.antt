@@ -107,7 +107,8 @@ module _ (layout : Layout) (k : ℕ) (entry : BlockPlan) (rows : List (List ℕ)
       let cause : p.cause ≡ q.cause = (let is : Some p.cause ≡ Some q.cause = sym p.first ∙ q.first in cc) in
       (p.tells ∙ ap (λ c. Tell (damage_line k entry c) ∷ Write (replicate (2048 * image_sectors layout entry.content) 0) ∷ []) cause ∙ sym q.tells, p.bad ∙ sym q.bad)
 
-  not_both : (steps others : List Step) (turn other : Turn) → IsGiven layout entry rows marks steps turn → IsRefused layout k entry rows marks others other → ⊥
+  not_both : (steps others : List Step) (turn other : Turn) → IsGiven layout entry rows marks steps turn
+      → IsRefused layout k entry rows marks others other → ⊥
   not_both steps others turn other p q = let no : None ≡ Some q.cause = sym (read-determined rows marks entry p.sectors size marks_size p.read).0 ∙ q.first in cc
 
   image_is_one : IsOneDeed (IsImageDone layout k entry rows marks)

@@ -9,13 +9,15 @@ use Rattle.std.proofs.lemmas.Bool.{lt-ltb, le-ltb}
 use Rattle.dvd_top.specs.Words.{digits_onto}
 
 -- no number has a digit that is not one of its base
-pub digits_none : (base value : ℕ) (text : List ℕ) (i : ℕ) → i < length text → base ≤ digit_value (get_or text i 0) → digits_onto base value (drop i text) ≡ None
+pub digits_none : (base value : ℕ) (text : List ℕ) (i : ℕ) → i < length text → base ≤ digit_value (get_or text i 0)
+    → digits_onto base value (drop i text) ≡ None
 unfolding digits_onto
 digits_none base value text i lt bad =
     ap (digits_onto base value) (drop_more text i 0 lt)
     ∙ ap (λ b. cond b (digits_onto base (base * value + digit_value (get_or text i 0)) (drop (i + 1) text)) None) (le-ltb (digit_value (get_or text i 0)) base bad)
 
-pub digits_more : (base value : ℕ) (text : List ℕ) (i : ℕ) → i < length text → digit_value (get_or text i 0) < base → digits_onto base value (drop i text) ≡ digits_onto base (base * value + digit_value (get_or text i 0)) (drop (i + 1) text)
+pub digits_more : (base value : ℕ) (text : List ℕ) (i : ℕ) → i < length text → digit_value (get_or text i 0) < base
+    → digits_onto base value (drop i text) ≡ digits_onto base (base * value + digit_value (get_or text i 0)) (drop (i + 1) text)
 unfolding digits_onto
 digits_more base value text i lt good =
     ap (digits_onto base value) (drop_more text i 0 lt)

@@ -102,7 +102,8 @@ most_sectors layout Reference = omega arith
 most_sectors layout Control = omega arith
 
 -- the image bytes of a block, with the zeros behind them, are sixteen sectors
-pub bytes-filled : (layout : Layout) (content : Content) (own : List ℕ) → HasBytes (2048 * image_sectors layout content) own → HasBytes 32768 (filled own)
+pub bytes-filled : (layout : Layout) (content : Content) (own : List ℕ) → HasBytes (2048 * image_sectors layout content) own
+    → HasBytes 32768 (filled own)
 bytes-filled layout content own all =
     let most : length own ≤ 32768 = omega (arith, all.size, most_sectors layout content) in
     bytes-append (length own) (32768 - length own) 32768 own (replicate (32768 - length own) 0) (omega arith)

@@ -87,7 +87,8 @@ unfolding edc_of
 bytes-edc bytes = bytes-word _
 
 -- of six bytes CPR_MAI and 2,048 bytes Main Data
-pub bytes-frame : (word : ℕ) (cpr : List ℕ) (rule : Rule) (main : List ℕ) → HasBytes 6 cpr → HasBytes 2048 main → HasBytes 2064 (data_frame word cpr rule main)
+pub bytes-frame : (word : ℕ) (cpr : List ℕ) (rule : Rule) (main : List ℕ) → HasBytes 6 cpr → HasBytes 2048 main
+    → HasBytes 2064 (data_frame word cpr rule main)
 bytes-frame word cpr rule main six whole =
     let head = frame_head word cpr in
     bytes-append 2060 4 2064 (head ++ masked word rule main) (edc_of (head ++ main)) (omega arith)

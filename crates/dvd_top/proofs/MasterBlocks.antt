@@ -12,7 +12,8 @@ use Rattle.dvd_loop.specs.declared.ends.Turn.TheVariants.{Good}
 use Rattle.dvd_top.specs.Commands.Master.{IsMastered, bytes_of_block, bytes_of_entry, filled, frames_of, image_bytes}
 
 -- the image bytes of a piece, and the zeros behind them, are the piece
-filled_is : (piece : List ℕ) (size : ℕ) → length piece ≡ 32768 → size ≤ 32768 → drop size piece ≡ replicate (32768 - size) 0 → filled (take size piece) ≡ piece
+filled_is : (piece : List ℕ) (size : ℕ) → length piece ≡ 32768 → size ≤ 32768 → drop size piece ≡ replicate (32768 - size) 0
+    → filled (take size piece) ≡ piece
 filled_is piece size long most zeros =
     ap (λ n. take size piece ++ replicate (32768 - n) 0) (length-take-le size piece (omega arith)) ∙ ap (λ l. take size piece ++ l) (sym zeros) ∙ take-append-drop size piece
 
@@ -21,7 +22,8 @@ module _ (layout : Layout) (zones : Zones) (k : ℕ) (entry : BlockPlan) (stands
   pub size_is : bytes_of_block layout zones k ≡ image_bytes layout entry
   size_is = ap (bytes_of_entry layout) stands
 
-  pub mastered : (cpr piece : List ℕ) (size : ℕ) → length piece ≡ 32768 → size ≤ 32768 → drop size piece ≡ replicate (32768 - size) 0 → (block : List (List ℕ))
+  pub mastered : (cpr piece : List ℕ) (size : ℕ) → length piece ≡ 32768 → size ≤ 32768 → drop size piece ≡ replicate (32768 - size) 0
+      → (block : List (List ℕ))
       → IsBlockOf (frames_of layout entry cpr piece) block → IsMastered layout zones cpr k (take size piece) (Write (recording block) ∷ []) Good
   mastered cpr piece size long most zeros block is_block = record {
     entry = entry;

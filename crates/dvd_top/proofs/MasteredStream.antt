@@ -44,7 +44,8 @@ recording-size : (block : List (List ℕ)) → IsProduct block → length (recor
 recording-size block is = length-recorded block is.height (widths-of block is) 208 (omega arith)
 
 -- a block that was recorded is within the bound
-recording-within : (block : List (List ℕ)) → IsProduct block → IsWithin block (captured_rows Plain (recording block)) (captured_marks Plain (recording block))
+recording-within : (block : List (List ℕ)) → IsProduct block
+    → IsWithin block (captured_rows Plain (recording block)) (captured_marks Plain (recording block))
 recording-within block is =
     subst (λ rows. IsWithin block rows (captured_marks Plain (recording block))) (sym (recording_captured block is.height (widths-of block is))) (undamaged_within block (recording block))
 
@@ -55,7 +56,8 @@ record IsBack (image : List ℕ) (steps : List Step) (turn : Turn) : Type 0 wher
   silent : told steps ≡ []
 
 -- one without image sectors gives none
-none_back : (layout : Layout) (content : Content) (image : List ℕ) (steps : List Step) (turn : Turn) → image_sectors layout content ≡ 0 → length image ≡ 2048 * image_sectors layout content
+none_back : (layout : Layout) (content : Content) (image : List ℕ) (steps : List Step) (turn : Turn) → image_sectors layout content ≡ 0
+    → length image ≡ 2048 * image_sectors layout content
     → IsPassedOver steps turn → IsBack image steps turn
 none_back layout content image steps turn none size (nothing, good) = record {
   good = good;
@@ -65,7 +67,8 @@ none_back layout content image steps turn none size (nothing, good) = record {
 
 -- a block is passed over, or holds image sectors
 passed_back : (layout : Layout) (content : Content) (k : ℕ) (entry : BlockPlan) (rows : List (List ℕ)) (marks : List (List Bool)) (image : List ℕ) (steps : List Step) (turn : Turn)
-    → length image ≡ 2048 * image_sectors layout content → IsDone content layout k entry rows marks steps turn → IsImage content ⊎ IsBack image steps turn
+    → length image ≡ 2048 * image_sectors layout content → IsDone content layout k entry rows marks steps turn
+    → IsImage content ⊎ IsBack image steps turn
 passed_back layout (Image sector) k entry rows marks image steps turn size done = inl tt
 passed_back layout Zero k entry rows marks image steps turn size done = inr (none_back layout Zero image steps turn refl size done)
 passed_back layout Reference k entry rows marks image steps turn size done = inr (none_back layout Reference image steps turn refl size done)
@@ -73,7 +76,8 @@ passed_back layout Control k entry rows marks image steps turn size done = inr (
 
 -- What recovery does for a mastered block: the image bytes are written that it was mastered from.
 block_back : (layout : Layout) (zones : Zones) (cpr : List ℕ) (k : ℕ) (entry : BlockPlan) (image : List ℕ) (block : List (List ℕ)) (steps : List Step) (turn : Turn)
-    → slice_get (plan_of layout zones) k ≡ Some entry → length cpr ≡ 6 → length image ≡ image_bytes layout entry → IsBlockOf (frames_of layout entry cpr (filled image)) block
+    → slice_get (plan_of layout zones) k ≡ Some entry → length cpr ≡ 6 → length image ≡ image_bytes layout entry
+    → IsBlockOf (frames_of layout entry cpr (filled image)) block
     → IsRecovered layout zones Plain k (recording block) steps turn → IsBack image steps turn
 block_back layout zones cpr k entry image block steps turn stands cpr_size size is does =
     let rows = captured_rows Plain (recording block) in
@@ -96,7 +100,8 @@ record IsRecorded (layout : Layout) (zones : Zones) (cpr : List ℕ) (k : ℕ) (
   is_block : IsBlockOf (frames_of layout entry cpr (filled own)) block
   writes : out ≡ recording block
 
-recorded : (layout : Layout) (zones : Zones) (cpr : List ℕ) (k : ℕ) (own : List ℕ) (steps : List Step) (turn : Turn) → IsMastered layout zones cpr k own steps turn
+recorded : (layout : Layout) (zones : Zones) (cpr : List ℕ) (k : ℕ) (own : List ℕ) (steps : List Step) (turn : Turn)
+    → IsMastered layout zones cpr k own steps turn
     → IsRecorded layout zones cpr k own (written steps)
 recorded layout zones cpr k own steps turn m = record {
   entry = m.entry;
@@ -106,7 +111,8 @@ recorded layout zones cpr k own steps turn m = record {
   writes = ap written m.writes ∙ append-nil (recording m.block);
 }
 
-masters_good : (layout : Layout) (zones : Zones) (cpr : List ℕ) → AreGood (master_units layout zones cpr) (bytes_of_block layout zones) (λ k own out lines. IsRecorded layout zones cpr k own out)
+masters_good : (layout : Layout) (zones : Zones) (cpr : List ℕ)
+    → AreGood (master_units layout zones cpr) (bytes_of_block layout zones) (λ k own out lines. IsRecorded layout zones cpr k own out)
 masters_good layout zones cpr = record {
   begins = λ k bytes. refl;
   opens = refl;
@@ -121,7 +127,8 @@ none_told [] = refl
 none_told (k ∷ ks) = none_told ks
 
 -- an outcome by its parts
-outcome_is : (a : Outcome) (taken out lines : List ℕ) (end : LoopEnd) → a.taken ≡ taken → a.out ≡ out → a.lines ≡ lines → a.end ≡ end → a ≡ record { taken = taken; out = out; lines = lines; end = end }
+outcome_is : (a : Outcome) (taken out lines : List ℕ) (end : LoopEnd) → a.taken ≡ taken → a.out ≡ out → a.lines ≡ lines → a.end ≡ end
+    → a ≡ record { taken = taken; out = out; lines = lines; end = end }
 outcome_is a taken out lines end taken_is out_is lines_are end_is =
     ap (λ l. record a { taken = l }) taken_is
     ∙ ap (λ l. record a { taken = taken; out = l }) out_is
@@ -159,7 +166,8 @@ module _ (layout : Layout) (zones : Zones) (cpr image : List ℕ) (cpr_size : le
     stream-size = ap length pieces.out_is ∙ length-pieces pieces.outs (λ k. 37_856) count out_size
 
     -- block k of the stream is what was recorded there
-    captured : (k : ℕ) (own : List ℕ) (lt : k < count) → own ≡ take 37_856 (drop (start (λ k. 37_856) k) mastered.out) → own ≡ recording (recorded-at k lt).block
+    captured : (k : ℕ) (own : List ℕ) (lt : k < count) → own ≡ take 37_856 (drop (start (λ k. 37_856) k) mastered.out)
+        → own ≡ recording (recorded-at k lt).block
     captured k own lt is =
         is ∙ ap (λ l. take 37_856 (drop (start (λ k. 37_856) k) l)) pieces.out_is ∙ piece-at pieces.outs (λ k. 37_856) count k out_size lt ∙ (recorded-at k lt).writes
 

@@ -9,7 +9,8 @@ use Rattle.dvd_loop.proofs.Over.{start-suc, start-zero}
 use Rattle.dvd_loop.proofs.Sizes.{unit_size}
 use Rattle.dvd_loop.proofs.StepLemmas.{does_as}
 
-goes_on_as : (turn : Turn) (A B : Outcome → Type 0) → ((after : Outcome) → A after → B after) → (after : Outcome) → GoesOn turn A after → GoesOn turn B after
+goes_on_as : (turn : Turn) (A B : Outcome → Type 0) → ((after : Outcome) → A after → B after) → (after : Outcome) → GoesOn turn A after
+    → GoesOn turn B after
 goes_on_as Good A B to after goes = to after goes
 goes_on_as Bad A B to after goes = to after goes
 goes_on_as Last A B to after goes = goes
@@ -26,7 +27,8 @@ module _ (units : Units) (size : ℕ → ℕ) (begins : (k : ℕ) (bytes : List 
   abbrev pub only_these : Units
   only_these = record units { does = λ k before own steps turn. units.does k before own steps turn × (own ≡ take (size k) (drop (start size k) all)) }
 
-  goes_only : (n : ℕ) (before : List (List ℕ)) (bad : ℕ) (front left : List ℕ) (a : Outcome) → all ≡ front ++ left → length front ≡ start size (length before)
+  goes_only : (n : ℕ) (before : List (List ℕ)) (bad : ℕ) (front left : List ℕ) (a : Outcome) → all ≡ front ++ left
+      → length front ≡ start size (length before)
       → Goes units n before bad left a → Goes only_these n before bad left a
   unfolding Goes
   goes_only zero before bad front left a is at goes = goes

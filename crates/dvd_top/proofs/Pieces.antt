@@ -19,7 +19,8 @@ pub start-same : (size n : ℕ) → start (λ k. size) n ≡ size * n
 start-same size zero = start-zero (λ k. size) ∙ sym (mul-zero size)
 start-same size (suc n) = omega (arith, start-suc (λ k. size) n, start-same size n, mul-suc size n)
 
-pub length-pieces : (f : ℕ → List ℕ) (size : ℕ → ℕ) (n : ℕ) → ((k : ℕ) → k < n → length (f k) ≡ size k) → length (flat_map f (range_with_len 0 n)) ≡ start size n
+pub length-pieces : (f : ℕ → List ℕ) (size : ℕ → ℕ) (n : ℕ) → ((k : ℕ) → k < n → length (f k) ≡ size k)
+    → length (flat_map f (range_with_len 0 n)) ≡ start size n
 length-pieces f size zero each = sym (start-zero size)
 length-pieces f size (suc n) each =
     ap length (pieces-more f 0 n n (omega arith)) ∙ length-append (flat_map f (range_with_len 0 n)) (f n)
@@ -44,7 +45,8 @@ piece-at f size (suc n) k each lt =
     ]
 
 -- the pieces that bytes consist of are the front of them
-pub pieces-front : (size : ℕ → ℕ) (all : List ℕ) (n : ℕ) → flat_map (λ k. take (size k) (drop (start size k) all)) (range_with_len 0 n) ≡ take (start size n) all
+pub pieces-front : (size : ℕ → ℕ) (all : List ℕ) (n : ℕ)
+    → flat_map (λ k. take (size k) (drop (start size k) all)) (range_with_len 0 n) ≡ take (start size n) all
 pieces-front size all zero = ap (λ m. take m all) (sym (start-zero size))
 pieces-front size all (suc n) =
     pieces-more (λ k. take (size k) (drop (start size k) all)) 0 n n (omega arith)

@@ -27,7 +27,8 @@ start-entries layout (entry ∷ entries) (suc k) within =
     omega (arith, start-suc size k, start-entries layout all k (omega arith), here, more)
 
 module _ (layout : Layout) (zones : Zones) where
-  pub start-blocks : (k : ℕ) → k ≤ length (plan_of layout zones) → start (bytes_of_block layout zones) k ≡ 2048 * image_before layout (take k (plan_of layout zones))
+  pub start-blocks : (k : ℕ) → k ≤ length (plan_of layout zones)
+      → start (bytes_of_block layout zones) k ≡ 2048 * image_before layout (take k (plan_of layout zones))
   start-blocks k within = start-entries layout (plan_of layout zones) k within
 
   -- all blocks hold the bytes of the whole image

@@ -31,7 +31,8 @@ use Rattle.dvd_top.specs.Performing.{IsImageDone, IsPassedOver, sectors_out}
 pub passed_over : (old : Streams) → AreDone IsPassedOver old old (Ok Good)
 passed_over old = record { steps = []; turn = Good; may = (refl, refl); done = stays old; is = λ value is. cc }
 
-pub passed_by : (content : Content) → (content ≡ Zero) ⊎ ((content ≡ Reference) ⊎ (content ≡ Control)) → (layout : Layout) (k : ℕ) (entry : BlockPlan) (rows : List (List ℕ)) (marks : List (List Bool)) (old : Streams)
+pub passed_by : (content : Content) → (content ≡ Zero) ⊎ ((content ≡ Reference) ⊎ (content ≡ Control))
+    → (layout : Layout) (k : ℕ) (entry : BlockPlan) (rows : List (List ℕ)) (marks : List (List Bool)) (old : Streams)
     → AreDone (IsDone content layout k entry rows marks) old old (Ok Good)
 passed_by content is layout k entry rows marks old = elim is [
   | inl zero_is ↦ subst (λ c. AreDone (IsDone c layout k entry rows marks) old old (Ok Good)) (sym zero_is) (passed_over old)
@@ -44,7 +45,8 @@ passed_by content is layout k entry rows marks old = elim is [
 -- what is done for the rows and marks of captured bytes is done for the block of the plan
 pub recovered : (layout : Layout) (zones : Zones) (form : Form) (k : ℕ) (entry : BlockPlan) → slice_get (plan_of layout zones) k ≡ Some entry
     → (own : List ℕ) (rows : List (List ℕ)) (marks : List (List Bool)) → rows ≡ captured_rows form own → marks ≡ captured_marks form own
-    → (old new : Streams) (answer : Result Turn LoopEnd) → AreDone (IsDone entry.content layout k entry rows marks) old new answer → AreDone (IsRecovered layout zones form k own) old new answer
+    → (old new : Streams) (answer : Result Turn LoopEnd) → AreDone (IsDone entry.content layout k entry rows marks) old new answer
+    → AreDone (IsRecovered layout zones form k own) old new answer
 recovered layout zones form k entry stands own rows marks rows_are marks_are old new answer done = record {
   steps = done.steps;
   turn = done.turn;
@@ -62,7 +64,8 @@ module _ (layout : Layout) (k : ℕ) (entry : BlockPlan) (rows : List (List ℕ)
   abbrev pub zeros : List ℕ
   zeros = replicate (2048 * image_sectors layout entry.content) 0
 
-  pub given : (sectors : List (List ℕ)) → IsReadAs rows marks entry sectors → IsImageDone layout k entry rows marks (Write (sectors_out (image_sectors layout entry.content) sectors) ∷ []) Good
+  pub given : (sectors : List (List ℕ)) → IsReadAs rows marks entry sectors
+      → IsImageDone layout k entry rows marks (Write (sectors_out (image_sectors layout entry.content) sectors) ∷ []) Good
   given sectors read = inl (record { sectors = sectors; read = read; writes = refl; good = refl })
 
   module _ (cause : Cause) (first : block_cause rows marks entry ≡ Some cause) where
@@ -73,7 +76,8 @@ module _ (layout : Layout) (k : ℕ) (entry : BlockPlan) (rows : List (List ℕ)
     refused = inr (record { cause = cause; first = first; tells = refl; bad = refl })
 
     -- the report failed within the line
-    pub line_fails : (source output report new_report : Seen) (answer : Result Turn LoopEnd) → answer ≡ Err ReportFault → AppendsPrefix report.bytes new_report.bytes line
+    pub line_fails : (source output report new_report : Seen) (answer : Result Turn LoopEnd) → answer ≡ Err ReportFault
+        → AppendsPrefix report.bytes new_report.bytes line
         → AreDone (IsImageDone layout k entry rows marks) (streams source output report) (streams source output new_report) answer
     line_fails source output report new_report answer is begun = record {
       steps = Tell line ∷ Write zeros ∷ [];
@@ -99,7 +103,8 @@ module _ (layout : Layout) (k : ℕ) (entry : BlockPlan) (rows : List (List ℕ)
       }
 
       -- both were done
-      pub zeros_done : Appends output.bytes new_output.bytes zeros → AreDone (IsImageDone layout k entry rows marks) (streams source output report) (streams source new_output new_report) (Ok Bad)
+      pub zeros_done : Appends output.bytes new_output.bytes zeros
+          → AreDone (IsImageDone layout k entry rows marks) (streams source output report) (streams source new_output new_report) (Ok Bad)
       zeros_done writes = record {
         steps = Tell line ∷ Write zeros ∷ [];
         turn = Bad;

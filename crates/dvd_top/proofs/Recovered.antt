@@ -11,7 +11,8 @@ use Rattle.dvd_block.specs.Product.{line}
 use Rattle.dvd_top.specs.Performing.{sectors_out}
 
 -- fewer sectors are the front of more
-sectors_front : (sectors : List (List ℕ)) (f more : ℕ) → sectors_out f sectors ++ flat_map (λ sector. sector) (take more (drop f sectors)) ≡ sectors_out (f + more) sectors
+sectors_front : (sectors : List (List ℕ)) (f more : ℕ)
+    → sectors_out f sectors ++ flat_map (λ sector. sector) (take more (drop f sectors)) ≡ sectors_out (f + more) sectors
 sectors_front sectors f more =
     sym (flat_map-append (λ (sector : List ℕ). sector) (take f sectors) (take more (drop f sectors))) ∙ ap (flat_map (λ (sector : List ℕ). sector)) (sym (take-add f more sectors))
 
@@ -31,7 +32,8 @@ begins_more [] ys some none = some refl
 begins_more (x ∷ xs) ys some none = cc
 
 -- a part of sector f was written behind the sectors before it
-pub sectors_begun : (a b c : Option (List ℕ)) (sectors : List (List ℕ)) (f count : ℕ) → f < count → Appends a b (sectors_out f sectors) → AppendsPrefix b c (line sectors f) → AppendsPrefix a c (sectors_out count sectors)
+pub sectors_begun : (a b c : Option (List ℕ)) (sectors : List (List ℕ)) (f count : ℕ) → f < count → Appends a b (sectors_out f sectors)
+    → AppendsPrefix b c (line sectors f) → AppendsPrefix a c (sectors_out count sectors)
 sectors_begun a b c sectors f count lt p q =
     let rest = flat_map (λ (sector : List ℕ). sector) (take (count - (f + 1)) (drop (f + 1) sectors)) in
     let all : f + 1 + (count - (f + 1)) ≡ count = omega arith in record {

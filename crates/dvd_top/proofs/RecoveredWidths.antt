@@ -54,7 +54,8 @@ length-main block entry f is below =
     length-masked (found_word frame) (rule_for entry.content f) (take 2048 (drop 12 frame))
     ∙ length-take-le 2048 (drop 12 frame) (omega (arith, length-drop 12 frame))
 
-length-sectors_out : (block : List (List ℕ)) (entry : BlockPlan) (count : ℕ) → IsProduct block → count ≤ 16 → length (sectors_out count (main_data block entry)) ≡ 2048 * count
+length-sectors_out : (block : List (List ℕ)) (entry : BlockPlan) (count : ℕ) → IsProduct block → count ≤ 16
+    → length (sectors_out count (main_data block entry)) ≡ 2048 * count
 unfolding main_data
 length-sectors_out block entry count is few =
     ap (λ l. length (flat_map (λ (sector : List ℕ). sector) l)) (take-map-range_with_len (main_at block entry) 0 16 count few)
@@ -86,14 +87,16 @@ module _ (layout : Layout) (k : ℕ) (entry : BlockPlan) (rows : List (List ℕ)
   passed-wide : image_bytes layout entry ≡ 0 → IsPassedOver steps turn → IsWide (image_bytes layout entry) steps turn
   passed-wide none (nothing, good) = (ap (λ s. length (written s)) nothing ∙ sym none, λ last. let no : Good ≡ Last = sym good ∙ last in cc)
 
-  done-wide : (content : Content) → entry.content ≡ content → IsDone content layout k entry rows marks steps turn → IsWide (image_bytes layout entry) steps turn
+  done-wide : (content : Content) → entry.content ≡ content → IsDone content layout k entry rows marks steps turn
+      → IsWide (image_bytes layout entry) steps turn
   done-wide (Image sector) is done = image-wide done
   done-wide Zero is done = passed-wide (ap (λ c. 2048 * image_sectors layout c) is) done
   done-wide Reference is done = passed-wide (ap (λ c. 2048 * image_sectors layout c) is) done
   done-wide Control is done = passed-wide (ap (λ c. 2048 * image_sectors layout c) is) done
 
 module _ (layout : Layout) (zones : Zones) (form : Form) where
-  recovered-wide : (k : ℕ) (own : List ℕ) (steps : List Step) (turn : Turn) → IsRecovered layout zones form k own steps turn → IsWide (bytes_of_block layout zones k) steps turn
+  recovered-wide : (k : ℕ) (own : List ℕ) (steps : List Step) (turn : Turn) → IsRecovered layout zones form k own steps turn
+      → IsWide (bytes_of_block layout zones k) steps turn
   recovered-wide k own steps turn r =
       subst (λ n. IsWide n steps turn) (sym (size_is layout zones k r.entry r.stands))
       (done-wide layout k r.entry (captured_rows form own) (captured_marks form own) steps turn r.entry.content refl r.does)

@@ -50,7 +50,8 @@ length-filled : (image : List ℕ) → length image ≤ 32768 → length (filled
 length-filled image most = omega (arith, length-append image (replicate (32768 - length image) 0), length-replicate {A = ℕ} (32768 - length image) 0)
 
 -- the image sectors of a data block are the image bytes that it was filled from
-pub written-image : (layout : Layout) (content : Content) (image : List ℕ) → image_sectors layout content ≤ 16 → length image ≡ 2048 * image_sectors layout content
+pub written-image : (layout : Layout) (content : Content) (image : List ℕ) → image_sectors layout content ≤ 16
+    → length image ≡ 2048 * image_sectors layout content
     → sectors_out (image_sectors layout content) (sectors_list (filled image)) ≡ image
 written-image layout content image few size =
     sectors-joined (filled image) (image_sectors layout content) few
@@ -68,7 +69,8 @@ cpr-size LeadIn cpr size = length-replicate {A = ℕ} 6 0
 cpr-size LeadOut cpr size = length-replicate {A = ℕ} 6 0
 cpr-size Middle cpr size = length-replicate {A = ℕ} 6 0
 
-main-image : (content : Content) (layout : Layout) (entry : BlockPlan) (sectors : List ℕ) (f : ℕ) → IsImage content → main_for content layout entry sectors f ≡ sector sectors f
+main-image : (content : Content) (layout : Layout) (entry : BlockPlan) (sectors : List ℕ) (f : ℕ) → IsImage content
+    → main_for content layout entry sectors f ≡ sector sectors f
 main-image (Image a) layout entry sectors f is = refl
 main-image Zero layout entry sectors f is = absurd is
 main-image Reference layout entry sectors f is = absurd is

@@ -23,7 +23,8 @@ use Rattle.dvd_top.proofs.BoundKept.{kept}
 use Rattle.dvd_top.proofs.RunLemmas.{of_units}
 
 -- the line of an end that isn't the report's was told whole, or the report failed within it
-line_is : (closing : LoopEnd → List ℕ) (end : LoopEnd) (line : Outcome) → Does (Tell (closing end) ∷ []) (λ after. after ≡ ended end) line → line.end ≢ ReportFault
+line_is : (closing : LoopEnd → List ℕ) (end : LoopEnd) (line : Outcome) → Does (Tell (closing end) ∷ []) (λ after. after ≡ ended end) line
+    → line.end ≢ ReportFault
     → line ≡ record { taken = []; out = []; lines = closing end; end = end }
 line_is closing end line does sound = elim does [
   | inl (front, left, whole, some, is) ↦ absurd (sound (ap (λ (o : Outcome). o.end) is))
@@ -33,7 +34,8 @@ line_is closing end line does sound = elim does [
 ]
 
 -- so it is behind any loop
-closes_is : (closing : LoopEnd → List ℕ) (within : LoopEnd) (line : Outcome) → Closes closing within line → line.end ≢ ReportFault → line ≡ record { taken = []; out = []; lines = closing within; end = within }
+closes_is : (closing : LoopEnd → List ℕ) (within : LoopEnd) (line : Outcome) → Closes closing within line → line.end ≢ ReportFault
+    → line ≡ record { taken = []; out = []; lines = closing within; end = within }
 closes_is closing ReportFault line is sound = absurd (sound (ap (λ (o : Outcome). o.end) is))
 closes_is closing Done line does sound = line_is closing Done line does sound
 closes_is closing ReadFault line does sound = line_is closing ReadFault line does sound
@@ -48,15 +50,18 @@ closes_is closing (BadMarks k at) line does sound = line_is closing (BadMarks k 
 abbrev Leaves : (List ℕ → List ℕ → List ℕ → Type 0) → Outcome → Type 0
 Leaves Moved b = IsFaultless b.end × Moved b.taken b.out b.lines
 
-taken_out : (command : Command) (settings : Settings) (Moved : List ℕ → List ℕ → List ℕ → Type 0) → (meaning command).OfUnits settings (λ units. (b : Outcome) × IsOutcome units b.taken b × Leaves Moved b)
+taken_out : (command : Command) (settings : Settings) (Moved : List ℕ → List ℕ → List ℕ → Type 0)
+    → (meaning command).OfUnits settings (λ units. (b : Outcome) × IsOutcome units b.taken b × Leaves Moved b)
     → (b : Outcome) × (meaning command).OfUnits settings (λ units. IsOutcome units b.taken b) × Leaves Moved b
 taken_out Frames settings Moved holds = (holds.0, holds.1, holds.2)
 taken_out Master settings Moved holds = (holds.2.0, (holds.0, holds.1, holds.2.1), holds.2.2)
 taken_out Recover settings Moved holds = (holds.2.0, (holds.0, holds.1, holds.2.1), holds.2.2)
 
 -- a closed loop that a failed read ended: over the bytes that it took no fault would have ended it
-ends_over : (closing : LoopEnd → List ℕ) (units : Units) (bytes : List ℕ) (within : LoopEnd) (outcome : Outcome) (Moved : List ℕ → List ℕ → List ℕ → Type 0) → IsClosed closing units bytes within outcome → outcome.end ≡ ReadFault
-    → Moved outcome.taken outcome.out outcome.lines → (b : Outcome) × IsOutcome units b.taken b × Leaves (λ taken out lines. Moved taken out (lines ++ closing ReadFault)) b
+ends_over : (closing : LoopEnd → List ℕ) (units : Units) (bytes : List ℕ) (within : LoopEnd) (outcome : Outcome) (Moved : List ℕ → List ℕ → List ℕ → Type 0)
+    → IsClosed closing units bytes within outcome → outcome.end ≡ ReadFault
+    → Moved outcome.taken outcome.out outcome.lines
+    → (b : Outcome) × IsOutcome units b.taken b × Leaves (λ taken out lines. Moved taken out (lines ++ closing ReadFault)) b
 ends_over closing units bytes within outcome Moved c ends moved =
     let end_is : c.line.end ≡ ReadFault = sym (ap (λ (o : Outcome). o.end) c.all) ∙ ends in
     let line = closes_is closing within c.line c.closes (λ is. let no : ReadFault ≡ ReportFault = sym end_is ∙ is in cc) in
@@ -83,7 +88,8 @@ read_end (Damaged bad) is = cc
 read_end NoControl is = cc
 read_end (BadMarks k at) is = cc
 
-pub ends_there_run : (settings : Settings) (old new : Streams) (result : Status) → HasRun settings old new result → result ≡ status.ReadFault → EndsThere settings old new
+pub ends_there_run : (settings : Settings) (old new : Streams) (result : Status) → HasRun settings old new result → result ≡ status.ReadFault
+    → EndsThere settings old new
 ends_there_run settings old new result run is =
     let comes = run.comes in
     let ends : comes.outcome.end ≡ ReadFault = comes.ends ∙ read_end run.end (sym is ∙ run.is_status) in
@@ -126,7 +132,8 @@ faultless_by (Damaged bad) sound = tt
 faultless_by NoControl sound = tt
 faultless_by (BadMarks k at) sound = tt
 
-pub bound_kept : (settings : Settings) (old new : Streams) (result : Status) → HasRun settings old new result → IsWhole result → settings.command ≡ Recover
+pub bound_kept : (settings : Settings) (old new : Streams) (result : Status) → HasRun settings old new result → IsWhole result
+    → settings.command ≡ Recover
     → (end : LoopEnd) × (result ≡ status_of end) × Comes (λ bytes outcome. IsRun settings end bytes outcome × KeepsBound settings bytes outcome) old new end
 bound_kept settings old new result run whole is =
     let sound : IsFaultless run.end = faultless_by run.end (subst IsSound run.is_status (subst IsSound (sym whole.1) (sound_status whole.0 whole.2))) in
@@ -147,10 +154,12 @@ bound_kept settings old new result run whole is =
     )
 
 -- the counts by the status of a run that begins
-pub risen : (within end : LoopEnd) (old new : Streams) → (end ≢ ReportFault → end ≡ within) → HaveCauses within end old new → HaveRisen (status_of end) old new
+pub risen : (within end : LoopEnd) (old new : Streams) → (end ≢ ReportFault → end ≡ within) → HaveCauses within end old new
+    → HaveRisen (status_of end) old new
 risen within end old new same causes = risen_by end old new (λ not. subst (λ w. HaveCauses w end old new) (sym (same not)) causes) causes.report
   where
-    risen_by : (end : LoopEnd) (old new : Streams) → (end ≢ ReportFault → HaveCauses end end old new) → Counts (is_report_fault end) old.report.faults new.report.faults → HaveRisen (status_of end) old new
+    risen_by : (end : LoopEnd) (old new : Streams) → (end ≢ ReportFault → HaveCauses end end old new)
+        → Counts (is_report_fault end) old.report.faults new.report.faults → HaveRisen (status_of end) old new
     risen_by ReportFault old new causes report = report
     risen_by ReadFault old new causes report = (causes (λ is. cc)).source
     risen_by WriteFault old new causes report = (causes (λ is. cc)).output
@@ -162,7 +171,8 @@ risen within end old new same causes = risen_by end old new (λ not. subst (λ w
     risen_by (BadMarks k at) old new causes report = let c = causes (λ is. cc) in (c.source, c.output, c.report)
 
 -- where no count rose, no fault ended it
-pub sound_end : (end : LoopEnd) (old new : Streams) → HaveRisen (status_of end) old new → (Rose old.source.faults new.source.faults → ⊥) → (Rose old.output.faults new.output.faults → ⊥) → (Rose old.report.faults new.report.faults → ⊥) → IsFaultless end
+pub sound_end : (end : LoopEnd) (old new : Streams) → HaveRisen (status_of end) old new → (Rose old.source.faults new.source.faults → ⊥)
+    → (Rose old.output.faults new.output.faults → ⊥) → (Rose old.report.faults new.report.faults → ⊥) → IsFaultless end
 sound_end ReadFault old new risen source output report = source risen
 sound_end WriteFault old new risen source output report = output risen
 sound_end ReportFault old new risen source output report = report risen
@@ -174,7 +184,8 @@ sound_end NoControl old new risen source output report = tt
 sound_end (BadMarks k at) old new risen source output report = tt
 
 -- and the run ends as its loop does
-pub complete_run : (settings : Settings) (old new : Streams) (result : Status) → HasRun settings old new result → HaveRisen result old new → (Rose old.source.faults new.source.faults → ⊥) → (Rose old.output.faults new.output.faults → ⊥) → (Rose old.report.faults new.report.faults → ⊥)
+pub complete_run : (settings : Settings) (old new : Streams) (result : Status) → HasRun settings old new result → HaveRisen result old new
+    → (Rose old.source.faults new.source.faults → ⊥) → (Rose old.output.faults new.output.faults → ⊥) → (Rose old.report.faults new.report.faults → ⊥)
     → (end : LoopEnd) × (result ≡ status_of end) × IsFaultless end × Comes (IsRun settings end) old new end
 complete_run settings old new result run counts source output report =
     let sound = sound_end run.end old new (subst (λ s. HaveRisen s old new) run.is_status counts) source output report in

@@ -25,7 +25,8 @@ same_settings read a b p q = cc
 abbrev pub OfUnits : Settings → (Units → Type 0) → Type 0
 OfUnits settings P = (meaning settings.command).OfUnits settings P
 
-units_as : (command : Command) (settings : Settings) (P Q : Units → Type 0) → ((units : Units) → P units → Q units) → (meaning command).OfUnits settings P → (meaning command).OfUnits settings Q
+units_as : (command : Command) (settings : Settings) (P Q : Units → Type 0) → ((units : Units) → P units → Q units)
+    → (meaning command).OfUnits settings P → (meaning command).OfUnits settings Q
 units_as Frames settings P Q to holds = to _ holds
 units_as Master settings P Q to holds = (holds.0, holds.1, to _ holds.2)
 units_as Recover settings P Q to holds = (holds.0, holds.1, to _ holds.2)
@@ -58,7 +59,8 @@ stayed (BadMarks k at) not old new counts = counts
 
 module _ (settings : Settings) (old : Streams) (source output mid_report new_report : Seen) (within end : LoopEnd) (loop : HasLooped settings old (streams source output mid_report) within)
     (line : Comes (λ bytes. Closes (closing_line settings.command) within) (streams source output mid_report) (streams source output new_report) end)
-    (none : within ≡ ReportFault → new_report ≡ mid_report) (cause : within ≢ ReportFault → Counts (is_report_fault end) mid_report.faults new_report.faults) where
+    (none : within ≡ ReportFault → new_report ≡ mid_report) (cause : within ≢ ReportFault
+    → Counts (is_report_fault end) mid_report.faults new_report.faults) where
   -- a loop that the report failed in has no closing line, and its end is that of the run
   end_is : within ≡ ReportFault → end ≡ ReportFault
   end_is is =
@@ -73,7 +75,8 @@ module _ (settings : Settings) (old : Streams) (source output mid_report new_rep
     | inr not ↦ subst (λ n. Counts (is_report_fault end) n new_report.faults) (stayed within not old.report.faults mid_report.faults loop.causes.report) (cause not)
   ]
 
-  pub has_run : (end ≢ ReportFault → end ≡ within) → (result : Status) → result ≡ status_of end → HasRun settings old (streams source output new_report) result
+  pub has_run : (end ≢ ReportFault → end ≡ within) → (result : Status) → result ≡ status_of end
+      → HasRun settings old (streams source output new_report) result
   has_run same result is_status = record {
     within = within;
     end = end;

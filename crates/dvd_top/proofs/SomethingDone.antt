@@ -57,7 +57,8 @@ module _ (count : ℕ) (size : ℕ → ℕ) (does : ℕ → List ℕ → List St
   units = plain_units count size does
 
   -- the input ends within the unit behind those
-  short_exists : (n : ℕ) (before : List (List ℕ)) (bad : ℕ) (bytes : List ℕ) → length bytes < size (length before) → Exists (Goes units (suc n) before bad bytes)
+  short_exists : (n : ℕ) (before : List (List ℕ)) (bad : ℕ) (bytes : List ℕ) → length bytes < size (length before)
+      → Exists (Goes units (suc n) before bad bytes)
   unfolding Goes
   short_exists n before bad bytes fewer =
       let short : LoopEnd = Short (length before) (length bytes) in (
@@ -73,7 +74,8 @@ module _ (count : ℕ) (size : ℕ → ℕ) (does : ℕ → List ℕ → List St
       )
 
   -- or the unit is taken, and the units to come have an outcome
-  taken_exists : (n : ℕ) (before : List (List ℕ)) (bad : ℕ) (own left : List ℕ) → length own ≡ size (length before) → HasDeed (does (length before) own)
+  taken_exists : (n : ℕ) (before : List (List ℕ)) (bad : ℕ) (own left : List ℕ) → length own ≡ size (length before)
+      → HasDeed (does (length before) own)
       → ((turn : Turn) → Exists (Goes units n (before ++ own ∷ []) (bad + bad_of turn) left)) → Exists (Goes units (suc n) before bad (own ++ left))
   unfolding Goes
   taken_exists n before bad own left long (steps, turn, may) later =
@@ -98,7 +100,8 @@ module _ (count : ℕ) (size : ℕ → ℕ) (does : ℕ → List ℕ → List St
   unfolding Goes
   none_exist before bad bytes = let exists = behind_exists Asks bad bytes in (exists.0, ([], refl, exists.1), exists.2)
 
-  goes_exist : (n : ℕ) (before : List (List ℕ)) (bad : ℕ) (bytes : List ℕ) → length before + n ≡ count → All IsByte bytes → Exists (Goes units n before bad bytes)
+  goes_exist : (n : ℕ) (before : List (List ℕ)) (bad : ℕ) (bytes : List ℕ) → length before + n ≡ count → All IsByte bytes
+      → Exists (Goes units n before bad bytes)
   goes_exist zero before bad bytes all are = none_exist before bad bytes
   goes_exist (suc n) before bad bytes all are = elim (cases_lt (length bytes) (size (length before))) [
     | inl fewer ↦ short_exists n before bad bytes fewer
@@ -123,7 +126,8 @@ some_entry entries k within = elim (slice_get_cases entries k).1 [
 ]
 
 -- MASTER. The sixteen frames of a block have a block.
-mastered_some : (layout : Layout) (zones : Zones) (cpr : List ℕ) → HasBytes 6 cpr → HaveDeeds (length (plan_of layout zones)) (bytes_of_block layout zones) (IsMastered layout zones cpr)
+mastered_some : (layout : Layout) (zones : Zones) (cpr : List ℕ) → HasBytes 6 cpr
+    → HaveDeeds (length (plan_of layout zones)) (bytes_of_block layout zones) (IsMastered layout zones cpr)
 mastered_some layout zones cpr six k own within are =
     let some = some_entry (plan_of layout zones) k within in
     let entry = some.0 in
@@ -162,14 +166,16 @@ module _ (layout : Layout) (k : ℕ) (entry : BlockPlan) (rows : List (List ℕ)
   done_some Reference = passed_some
   done_some Control = passed_some
 
-recovered_some : (layout : Layout) (zones : Zones) (form : Form) → HaveDeeds (length (plan_of layout zones)) (λ k. block_size form) (IsRecovered layout zones form)
+recovered_some : (layout : Layout) (zones : Zones) (form : Form)
+    → HaveDeeds (length (plan_of layout zones)) (λ k. block_size form) (IsRecovered layout zones form)
 recovered_some layout zones form k own within are =
     let some = some_entry (plan_of layout zones) k within in
     let done = done_some layout k some.0 (captured_rows form own) (captured_marks form own) (length-captured_rows form own) (length-captured_marks form own) some.0.content in
     (done.0, done.1, record { entry = some.0; stands = some.1; does = done.2 })
 
 module _ (settings : Settings) (bytes : List ℕ) (six : HasBytes 6 settings.cpr) (are : All IsByte bytes) where
-  by_command : (word : Command) → (meaning word).breaks settings ≡ None → Exists (λ outcome. (meaning word).OfUnits settings (λ units. IsOutcome units bytes outcome))
+  by_command : (word : Command) → (meaning word).breaks settings ≡ None
+      → Exists (λ outcome. (meaning word).OfUnits settings (λ units. IsOutcome units bytes outcome))
   by_command command.Frames none = runs_exist settings.sectors (λ k. 2048) _ (λ k own lt is. (Write (sector_frame (settings.first + k) own) ∷ [], Good, (refl, refl))) bytes are
   by_command command.Master none =
       let layout = layout_for settings none in

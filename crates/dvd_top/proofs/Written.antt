@@ -29,7 +29,8 @@ pub record AreWide (units : Units) (size wide : ℕ → ℕ) : Type 0 where
   pub closes : (before : List (List ℕ)) (steps : List Step) → units.closes before steps → steps ≡ []
 
 module _ (units : Units) (size wide : ℕ → ℕ) (are : AreWide units size wide) where
-  goes_wide : (n : ℕ) (before : List (List ℕ)) (bad : ℕ) (bytes : List ℕ) (a : Outcome) → length before + n ≡ units.count → Goes units n before bad bytes a → IsFaultless a.end → a.end ≡ Done
+  goes_wide : (n : ℕ) (before : List (List ℕ)) (bad : ℕ) (bytes : List ℕ) (a : Outcome) → length before + n ≡ units.count
+      → Goes units n before bad bytes a → IsFaultless a.end → a.end ≡ Done
       → start wide (length before) + length a.out ≡ start wide units.count
   unfolding Goes
   goes_wide zero before bad bytes a all (steps, closes, does) none done =
