@@ -1,7 +1,13 @@
 //! Derived equality and copying: each value is like its copy, and unlike each other one.
-use dvd_capture::Form;
-use dvd_layout::{Shape, Zones};
+use dvd_capture::parts::{AnswerRow, ColumnAnswer};
+use dvd_capture::{FetchAnswer, Form, Stage};
+use dvd_control::{ControlFault, PhysicalFormat};
+use dvd_frame::{Area, FrameCause, Id, Rule};
+use dvd_layout::{BlockPlan, Content, Layout, LayoutFault, Shape, Zone, Zones};
+use dvd_loop::{Behind, Turn};
+use dvd_read::{Cause, Fixed};
 use dvd_top::{Command, LoopEnd, Settings, Status};
+use rs_decode::Fix;
 use std::test::Fail;
 
 static COMMANDS: [Command; 3] = [Command::Frames, Command::Master, Command::Recover];
@@ -90,6 +96,212 @@ static SETTINGS: [Settings; 11] = [
     },
 ];
 
+static RULES: [Rule; 3] = [Rule::Whole, Rule::Off, Rule::First160];
+
+static AREAS: [Area; 4] = [Area::DataZone, Area::LeadIn, Area::LeadOut, Area::Middle];
+
+static FRAME_CAUSES: [FrameCause; 4] = [
+    FrameCause::Ied,
+    FrameCause::Address { found: 1 },
+    FrameCause::Address { found: 2 },
+    FrameCause::Edc,
+];
+
+static FIXES: [Fix; 3] = [
+    Fix {
+        errors: 1,
+        erased: 1,
+    },
+    Fix {
+        errors: 1,
+        erased: 2,
+    },
+    Fix {
+        errors: 2,
+        erased: 1,
+    },
+];
+
+static SHAPES: [Shape; 3] = [Shape::Single, Shape::Parallel, Shape::Opposite];
+
+static ZONES: [Zones; 2] = [Zones::DataOnly, Zones::All];
+
+static CONTENTS: [Content; 5] = [
+    Content::Zero,
+    Content::Reference,
+    Content::Control,
+    Content::Image(1),
+    Content::Image(2),
+];
+
+const ENTRY: BlockPlan = BlockPlan {
+    first: 1,
+    area: Area::DataZone,
+    layer: 0,
+    content: Content::Zero,
+};
+
+static ENTRIES: [BlockPlan; 5] = [
+    ENTRY,
+    BlockPlan { first: 2, ..ENTRY },
+    BlockPlan {
+        area: Area::Middle,
+        ..ENTRY
+    },
+    BlockPlan { layer: 1, ..ENTRY },
+    BlockPlan {
+        content: Content::Control,
+        ..ENTRY
+    },
+];
+
+const ZONE: Zone = Zone {
+    first: 1,
+    blocks: 1,
+    area: Area::DataZone,
+    layer: 0,
+    content: Content::Zero,
+};
+
+static ZONE_LIST: [Zone; 6] = [
+    ZONE,
+    Zone { first: 2, ..ZONE },
+    Zone { blocks: 2, ..ZONE },
+    Zone {
+        area: Area::Middle,
+        ..ZONE
+    },
+    Zone { layer: 1, ..ZONE },
+    Zone {
+        content: Content::Control,
+        ..ZONE
+    },
+];
+
+static LAYOUT_FAULTS: [LayoutFault; 15] = [
+    LayoutFault::EmptyLayer { layer: 0 },
+    LayoutFault::EmptyLayer { layer: 1 },
+    LayoutFault::OddLayer { sectors: 1 },
+    LayoutFault::OddLayer { sectors: 2 },
+    LayoutFault::SecondLayer { sectors: 1 },
+    LayoutFault::SecondLayer { sectors: 2 },
+    LayoutFault::LayerLonger { sectors: 1 },
+    LayoutFault::LayerLonger { sectors: 2 },
+    LayoutFault::InitialTooLong { blocks: 1 },
+    LayoutFault::InitialTooLong { blocks: 2 },
+    LayoutFault::TailTooLong { blocks: 1 },
+    LayoutFault::TailTooLong { blocks: 2 },
+    LayoutFault::LayerTooLong { layer: 0, end: 1 },
+    LayoutFault::LayerTooLong { layer: 0, end: 2 },
+    LayoutFault::LayerTooLong { layer: 1, end: 1 },
+];
+
+static CONTROL_FAULTS: [ControlFault; 9] = [
+    ControlFault::Category { byte: 1 },
+    ControlFault::Category { byte: 2 },
+    ControlFault::Size { byte: 1 },
+    ControlFault::Size { byte: 2 },
+    ControlFault::Layers { byte: 1 },
+    ControlFault::Layers { byte: 2 },
+    ControlFault::Range { first: 1, last: 1 },
+    ControlFault::Range { first: 1, last: 2 },
+    ControlFault::Range { first: 2, last: 1 },
+];
+
+static FORMS: [Form; 2] = [Form::Plain, Form::Marked];
+
+static STAGES: [Stage; 4] = [Stage::Empty, Stage::Fetched, Stage::Refused, Stage::Fixed];
+
+static FETCHES: [FetchAnswer; 5] = [
+    FetchAnswer::Full,
+    FetchAnswer::End,
+    FetchAnswer::Short { bytes: 1 },
+    FetchAnswer::Short { bytes: 2 },
+    FetchAnswer::ReadFault,
+];
+
+static ROW_ANSWERS: [AnswerRow; 3] = [
+    AnswerRow {
+        bytes: [0; 182],
+        fix: None,
+    },
+    AnswerRow {
+        bytes: [1; 182],
+        fix: None,
+    },
+    AnswerRow {
+        bytes: [0; 182],
+        fix: Some(Fix {
+            errors: 0,
+            erased: 0,
+        }),
+    },
+];
+
+static COLUMN_ANSWERS: [ColumnAnswer; 3] = [
+    ColumnAnswer {
+        bytes: [0; 208],
+        answered: false,
+    },
+    ColumnAnswer {
+        bytes: [1; 208],
+        answered: false,
+    },
+    ColumnAnswer {
+        bytes: [0; 208],
+        answered: true,
+    },
+];
+
+static FIXED: [Fixed; 3] = [
+    Fixed {
+        bytes: 1,
+        failed_rows: 1,
+    },
+    Fixed {
+        bytes: 1,
+        failed_rows: 2,
+    },
+    Fixed {
+        bytes: 2,
+        failed_rows: 1,
+    },
+];
+
+static CAUSES: [Cause; 13] = [
+    Cause::Rows { failed: 1 },
+    Cause::Rows { failed: 2 },
+    Cause::Column { j: 1 },
+    Cause::Column { j: 2 },
+    Cause::Row { i: 1 },
+    Cause::Row { i: 2 },
+    Cause::Ied { f: 1 },
+    Cause::Ied { f: 2 },
+    Cause::Address { f: 1, found: 1 },
+    Cause::Address { f: 1, found: 2 },
+    Cause::Address { f: 2, found: 1 },
+    Cause::Edc { f: 1 },
+    Cause::Edc { f: 2 },
+];
+
+static TURNS: [Turn; 3] = [Turn::Good, Turn::Bad, Turn::Last];
+
+static BEHINDS: [Behind; 3] = [Behind::Asks, Behind::Done, Behind::NoControl];
+
+// The bytes of a physical format that differ from one with a Data Zone of one block, and what stands there.
+static FORMAT_BYTES: [(usize, u8); 10] = [
+    (0, 0),
+    (0, 1),
+    (1, 1),
+    (2, 0x20),
+    (2, 0x10),
+    (2, 1),
+    (3, 0x10),
+    (3, 1),
+    (11, 0x1F),
+    (15, 1),
+];
+
 // Whether each value is like its copy alone.
 fn are_unlike<T: Copy + PartialEq>(values: &[T]) -> bool {
     let mut are_unlike = true;
@@ -102,9 +314,75 @@ fn are_unlike<T: Copy + PartialEq>(values: &[T]) -> bool {
     are_unlike
 }
 
+// The physical format of a Data Zone of one block, with another byte.
+fn format_with(at: usize, byte: u8) -> Result<PhysicalFormat, ControlFault> {
+    let mut sector = [0; 2048];
+    sector[5] = 3;
+    sector[9] = 3;
+    sector[11] = 0x0F;
+    if at < sector.len() {
+        sector[at] = byte;
+    }
+    PhysicalFormat::from_bytes(&sector)
+}
+
 #[test]
-fn each_value_is_like_itself_alone(rt: HostRuntime) -> Result<(), Fail> {
+fn each_value_of_the_program_is_like_itself_alone(rt: HostRuntime) -> Result<(), Fail> {
     assert!(rt; are_unlike(&COMMANDS) && are_unlike(&SETTINGS));
     assert!(rt; are_unlike(&STATUSES) && are_unlike(&ENDS));
+    assert!(rt; are_unlike(&TURNS) && are_unlike(&BEHINDS));
+    Ok(())
+}
+
+#[test]
+fn each_cause_is_like_itself_alone(rt: HostRuntime) -> Result<(), Fail> {
+    assert!(rt; are_unlike(&FIXES) && are_unlike(&FIXED) && are_unlike(&FRAME_CAUSES));
+    assert!(rt; are_unlike(&CAUSES) && are_unlike(&LAYOUT_FAULTS) && are_unlike(&CONTROL_FAULTS));
+    Ok(())
+}
+
+#[test]
+fn each_part_of_a_disk_is_like_itself_alone(rt: HostRuntime) -> Result<(), Fail> {
+    assert!(rt;
+        are_unlike(&RULES)
+            && are_unlike(&AREAS)
+            && are_unlike(&[Id::from_word(1), Id::from_word(2)])
+    );
+    assert!(rt; are_unlike(&SHAPES) && are_unlike(&ZONES) && are_unlike(&CONTENTS));
+    assert!(rt; are_unlike(&ENTRIES) && are_unlike(&ZONE_LIST));
+    assert!(rt; are_unlike(&FORMS) && are_unlike(&STAGES) && are_unlike(&FETCHES));
+    assert!(rt; are_unlike(&ROW_ANSWERS) && are_unlike(&COLUMN_ANSWERS));
+    Ok(())
+}
+
+#[test]
+fn each_layout_is_like_itself_alone(rt: HostRuntime) -> Result<(), Fail> {
+    let layouts = [
+        Layout::new(Shape::Parallel, 16, 16, 0, 1),
+        Layout::new(Shape::Opposite, 16, 16, 0, 1),
+        Layout::new(Shape::Parallel, 32, 16, 0, 1),
+        Layout::new(Shape::Parallel, 16, 17, 0, 1),
+        Layout::new(Shape::Parallel, 16, 16, 1, 1),
+        Layout::new(Shape::Parallel, 16, 16, 0, 2),
+    ];
+    assert!(rt; are_unlike(&layouts));
+    for layout in layouts {
+        assert!(rt; layout.is_ok());
+    }
+    Ok(())
+}
+
+#[test]
+fn each_physical_format_is_like_itself_alone(rt: HostRuntime) -> Result<(), Fail> {
+    for (i, (at, byte)) in FORMAT_BYTES.iter().enumerate() {
+        let format = format_with(*at, *byte);
+        assert!(rt; format.is_ok(), "byte {at}");
+        for (j, (other_at, other)) in FORMAT_BYTES.iter().enumerate() {
+            assert!(rt;
+                (format == format_with(*other_at, *other)) == (i == j),
+                "bytes {at} and {other_at}"
+            );
+        }
+    }
     Ok(())
 }
