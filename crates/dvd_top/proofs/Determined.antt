@@ -38,8 +38,8 @@ use Rattle.dvd_top.specs.declared.settings.Command.TheVariants as command
 use Rattle.dvd_top.specs.declared.settings.Settings.{Settings}
 
 -- one thing alone may be done
-abbrev IsOneDeed : (List Step → Turn → Type 0) → Type 0
-IsOneDeed May = (steps others : List Step) (turn other : Turn) → May steps turn → May others other → (steps ≡ others) × (turn ≡ other)
+abbrev MayOne : (List Step → Turn → Type 0) → Type 0
+MayOne May = (steps others : List Step) (turn other : Turn) → May steps turn → May others other → (steps ≡ others) × (turn ≡ other)
 
 unbroken : (end : LoopEnd) → ((k at : ℕ) → end ≢ BadMarks k at) → IsUnbroken end
 unbroken EndsDone never = tt
@@ -53,7 +53,7 @@ unbroken NoControl never = tt
 unbroken (BadMarks unit at) never = absurd (never unit at refl)
 
 -- Where one thing alone may be done for each unit, two runs without a fault are one.
-module _ (count : ℕ) (size : ℕ → ℕ) (does : ℕ → List ℕ → List Step → Turn → Type 0) (one : (k : ℕ) (own : List ℕ) → IsOneDeed (does k own)) where
+module _ (count : ℕ) (size : ℕ → ℕ) (does : ℕ → List ℕ → List Step → Turn → Type 0) (one : (k : ℕ) (own : List ℕ) → MayOne (does k own)) where
   are_determined : AreDetermined (plain_units count size does)
   are_determined = record {
     whole = whole_stays (plain_units count size does) size (λ k bytes. refl);
@@ -70,7 +70,7 @@ module _ (count : ℕ) (size : ℕ → ℕ) (does : ℕ → List ℕ → List St
       λ i. record { taken = taken i; out = same.0 i; lines = same.1 i; end = same.2 i }
 
 -- FRAMES. The frame of each sector is one.
-frame_is_one : (first k : ℕ) (own : List ℕ) → IsOneDeed (λ steps turn. (steps ≡ Write (sector_frame (first + k) own) ∷ []) × (turn ≡ Good))
+frame_is_one : (first k : ℕ) (own : List ℕ) → MayOne (λ steps turn. (steps ≡ Write (sector_frame (first + k) own) ∷ []) × (turn ≡ Good))
 frame_is_one first k own steps others turn other p q = (p.0 ∙ sym q.0, p.1 ∙ sym q.1)
 
 -- the entry of a plan at a place is one
@@ -78,7 +78,7 @@ one_entry : (entries : List BlockPlan) (k : ℕ) (a b : BlockPlan) → slice_get
 one_entry entries k a b p q = let is : Some a ≡ Some b = sym p ∙ q in cc
 
 -- MASTER. The sixteen frames of a block have one block at most.
-mastered_is_one : (layout : Layout) (zones : Zones) (cpr : List ℕ) (k : ℕ) (own : List ℕ) → IsOneDeed (IsMastered layout zones cpr k own)
+mastered_is_one : (layout : Layout) (zones : Zones) (cpr : List ℕ) (k : ℕ) (own : List ℕ) → MayOne (IsMastered layout zones cpr k own)
 mastered_is_one layout zones cpr k own steps others turn other p q =
     let entry : p.entry ≡ q.entry = one_entry (plan_of layout zones) k p.entry q.entry p.stands q.stands in
     let block : p.block ≡ q.block =
@@ -96,13 +96,13 @@ length-captured_marks form own = length-map-range_with_len (λ i. marks_in form 
 
 -- What is read of it is one, and where something is read it has no cause.
 module _ (layout : Layout) (k : ℕ) (entry : BlockPlan) (rows : List (List ℕ)) (marks : List (List Bool)) (size : length rows ≡ 208) (marks_size : length marks ≡ 208) where
-  given_is_one : IsOneDeed (IsGiven layout entry rows marks)
+  given_is_one : MayOne (IsGiven layout entry rows marks)
   given_is_one steps others turn other p q =
       let sectors : p.sectors ≡ q.sectors =
       (read-determined rows marks entry p.sectors size marks_size p.read).1 ∙ sym (read-determined rows marks entry q.sectors size marks_size q.read).1 in
       (p.writes ∙ ap (λ s. Write (sectors_out (image_sectors layout entry.content) s) ∷ []) sectors ∙ sym q.writes, p.good ∙ sym q.good)
 
-  refused_is_one : IsOneDeed (IsRefused layout k entry rows marks)
+  refused_is_one : MayOne (IsRefused layout k entry rows marks)
   refused_is_one steps others turn other p q =
       let cause : p.cause ≡ q.cause = (let is : Some p.cause ≡ Some q.cause = sym p.first ∙ q.first in cc) in
       (p.tells ∙ ap (λ c. Tell (damage_line k entry c) ∷ Write (replicate (2048 * image_sectors layout entry.content) 0) ∷ []) cause ∙ sym q.tells, p.bad ∙ sym q.bad)
@@ -111,7 +111,7 @@ module _ (layout : Layout) (k : ℕ) (entry : BlockPlan) (rows : List (List ℕ)
       → IsRefused layout k entry rows marks others other → ⊥
   not_both steps others turn other p q = let no : None ≡ Some q.cause = sym (read-determined rows marks entry p.sectors size marks_size p.read).0 ∙ q.first in cc
 
-  image_is_one : IsOneDeed (IsImageDone layout k entry rows marks)
+  image_is_one : MayOne (IsImageDone layout k entry rows marks)
   image_is_one steps others turn other p q = elim p [
     | inl given ↦ elim q [
       | inl same ↦ given_is_one steps others turn other given same
@@ -123,16 +123,16 @@ module _ (layout : Layout) (k : ℕ) (entry : BlockPlan) (rows : List (List ℕ)
     ]
   ]
 
-  passed_is_one : IsOneDeed IsPassedOver
+  passed_is_one : MayOne IsPassedOver
   passed_is_one steps others turn other p q = (p.0 ∙ sym q.0, p.1 ∙ sym q.1)
 
-  done_is_one : (content : Content) → IsOneDeed (IsDone content layout k entry rows marks)
+  done_is_one : (content : Content) → MayOne (IsDone content layout k entry rows marks)
   done_is_one (Image sector) = image_is_one
   done_is_one Zero = passed_is_one
   done_is_one Reference = passed_is_one
   done_is_one Control = passed_is_one
 
-recovered_is_one : (layout : Layout) (zones : Zones) (form : Form) (k : ℕ) (own : List ℕ) → IsOneDeed (IsRecovered layout zones form k own)
+recovered_is_one : (layout : Layout) (zones : Zones) (form : Form) (k : ℕ) (own : List ℕ) → MayOne (IsRecovered layout zones form k own)
 recovered_is_one layout zones form k own steps others turn other p q =
     let rows = captured_rows form own in
     let marks = captured_marks form own in

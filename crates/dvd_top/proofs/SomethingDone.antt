@@ -45,14 +45,14 @@ use Rattle.dvd_top.proofs.FrameBytes.{HasBytes, IsByte, bytes-frame}
 use Rattle.dvd_top.proofs.Layouts.{layout_for}
 
 -- something may be done
-abbrev HasDeed : (List Step → Turn → Type 0) → Type 0
-HasDeed May = (steps : List Step) × (turn : Turn) × May steps turn
+abbrev MaySome : (List Step → Turn → Type 0) → Type 0
+MaySome May = (steps : List Step) × (turn : Turn) × May steps turn
 
-abbrev HaveDeeds : ℕ → (ℕ → ℕ) → (ℕ → List ℕ → List Step → Turn → Type 0) → Type 0
-HaveDeeds count size does = (k : ℕ) (own : List ℕ) → k < count → HasBytes (size k) own → HasDeed (does k own)
+abbrev MayEach : ℕ → (ℕ → ℕ) → (ℕ → List ℕ → List Step → Turn → Type 0) → Type 0
+MayEach count size does = (k : ℕ) (own : List ℕ) → k < count → HasBytes (size k) own → MaySome (does k own)
 
 -- Where something may be done for each unit of bytes, every input of bytes has an outcome without a fault.
-module _ (count : ℕ) (size : ℕ → ℕ) (does : ℕ → List ℕ → List Step → Turn → Type 0) (deed : HaveDeeds count size does) where
+module _ (count : ℕ) (size : ℕ → ℕ) (does : ℕ → List ℕ → List Step → Turn → Type 0) (may : MayEach count size does) where
   abbrev units : Units
   units = plain_units count size does
 
@@ -75,7 +75,7 @@ module _ (count : ℕ) (size : ℕ → ℕ) (does : ℕ → List ℕ → List St
 
   -- or the unit is taken, and the units to come have an outcome
   taken_exists : (n : ℕ) (before : List (List ℕ)) (bad : ℕ) (own left : List ℕ) → length own ≡ size (length before)
-      → HasDeed (does (length before) own)
+      → MaySome (does (length before) own)
       → ((turn : Turn) → Exists (Goes units n (before ++ own ∷ []) (bad + bad_of turn) left)) → Exists (Goes units (suc n) before bad (own ++ left))
   unfolding Goes
   taken_exists n before bad own left long (steps, turn, may) later =
@@ -109,7 +109,7 @@ module _ (count : ℕ) (size : ℕ → ℕ) (does : ℕ → List ℕ → List St
         let here = size (length before) in
         let own = take here bytes in
         let long = length-take-le here bytes le in
-        let unit = deed (length before) own (omega arith) (record { size = long; bytes = All-take IsByte here bytes are }) in
+        let unit = may (length before) own (omega arith) (record { size = long; bytes = All-take IsByte here bytes are }) in
         subst (λ l. Exists (Goes units (suc n) before bad l)) (take-append-drop here bytes)
         (taken_exists n before bad own (drop here bytes) long unit
         (λ turn. goes_exist n (before ++ own ∷ []) (bad + bad_of turn) (drop here bytes) (one_fewer before own n count all) (All-drop IsByte here bytes are)))
@@ -127,7 +127,7 @@ some_entry entries k within = elim (slice_get_cases entries k).1 [
 
 -- MASTER. The sixteen frames of a block have a block.
 mastered_some : (layout : Layout) (zones : Zones) (cpr : List ℕ) → HasBytes 6 cpr
-    → HaveDeeds (length (plan_of layout zones)) (bytes_of_block layout zones) (IsMastered layout zones cpr)
+    → MayEach (length (plan_of layout zones)) (bytes_of_block layout zones) (IsMastered layout zones cpr)
 mastered_some layout zones cpr six k own within are =
     let some = some_entry (plan_of layout zones) k within in
     let entry = some.0 in
@@ -145,7 +145,7 @@ mastered_some layout zones cpr six k own within are =
 
 -- RECOVER. A captured block has a cause, or it is read.
 module _ (layout : Layout) (k : ℕ) (entry : BlockPlan) (rows : List (List ℕ)) (marks : List (List Bool)) (size : length rows ≡ 208) (marks_size : length marks ≡ 208) where
-  image_some : (cause : Option Cause) → block_cause rows marks entry ≡ cause → HasDeed (IsImageDone layout k entry rows marks)
+  image_some : (cause : Option Cause) → block_cause rows marks entry ≡ cause → MaySome (IsImageDone layout k entry rows marks)
   image_some None none = (
     Write (sectors_out (image_sectors layout entry.content) (block_sectors rows marks entry)) ∷ [],
     Good,
@@ -157,17 +157,17 @@ module _ (layout : Layout) (k : ℕ) (entry : BlockPlan) (rows : List (List ℕ)
     inr (record { cause = cause; first = first; tells = refl; bad = refl }),
   )
 
-  passed_some : HasDeed IsPassedOver
+  passed_some : MaySome IsPassedOver
   passed_some = ([], Good, (refl, refl))
 
-  done_some : (content : Content) → HasDeed (IsDone content layout k entry rows marks)
+  done_some : (content : Content) → MaySome (IsDone content layout k entry rows marks)
   done_some (Image sector) = image_some (block_cause rows marks entry) refl
   done_some Zero = passed_some
   done_some Reference = passed_some
   done_some Control = passed_some
 
 recovered_some : (layout : Layout) (zones : Zones) (form : Form)
-    → HaveDeeds (length (plan_of layout zones)) (λ k. block_size form) (IsRecovered layout zones form)
+    → MayEach (length (plan_of layout zones)) (λ k. block_size form) (IsRecovered layout zones form)
 recovered_some layout zones form k own within are =
     let some = some_entry (plan_of layout zones) k within in
     let done = done_some layout k some.0 (captured_rows form own) (captured_marks form own) (length-captured_rows form own) (length-captured_marks form own) some.0.content in
