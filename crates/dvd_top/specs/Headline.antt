@@ -41,7 +41,7 @@ breaks settings = (meaning settings.command).breaks settings
 -- OUTCOME. The units are taken in their order, each whole and with all that is done for it. Behind the last one byte more is
 -- asked for: the end is Long if it comes, else Done, or Damaged if blocks were refused. It is Short where the input ends before,
 -- and ReadFault where a read fails; nothing is done of a unit that isn't whole. Where a write or a line fails it is WriteFault or
--- ReportFault: a front of that piece was done, and nothing behind it. After all ends but ReportFault a run tells its closing line.
+-- ReportFault: a front of that piece was done, not all, and nothing behind it. After all ends but ReportFault comes the closing line.
 abbrev pub IsLoop : Settings → List ℕ → Outcome → Type 0
 IsLoop settings bytes outcome = (meaning settings.command).OfUnits settings (λ units. IsOutcome units bytes outcome)
 
@@ -71,14 +71,14 @@ HaveRisen status.WriteFault old new = Rose old.output.faults new.output.faults
 HaveRisen status.ReportFault old new = Rose old.report.faults new.report.faults
 HaveRisen other old new = (new.source.faults ≡ old.source.faults) × (new.output.faults ≡ old.output.faults) × (new.report.faults ≡ old.report.faults)
 
--- After a failed read output and report are as if the input had ended there, but for the closing line.
+-- With the status ReadFault output and report are as if the input had ended there, but for the closing line.
 pub record EndsThere (settings : Settings) (old new : Streams) : Type 0 where
   pub outcome : Outcome
   pub is_loop : IsLoop settings outcome.taken outcome
   pub faultless : IsFaultless outcome.end
   pub moved : HaveMoved old new outcome.taken outcome.out (outcome.lines ++ closing_line settings.command ends.ReadFault)
 
--- THE HEADLINE, of words, of the streams before and after, and of the status. Untouched: source and output are as they were.
+-- THE HEADLINE, of words, of the streams before and after, and of the status. Untouched: that source and output are as they were.
 pub record Headline (Untouched : Type 0) (words : List (List ℕ)) (old new : Streams) (result : Status) : Type 0 where
   -- words that ask for nothing are Usage, and a layout that breaks a rule is Setting: all that is done is to tell its line
   pub usage : reading words ≡ None → Untouched × HasNotBegun status.Usage (codes "usage\n") old.report new.report result
@@ -89,7 +89,7 @@ pub record Headline (Untouched : Type 0) (words : List (List ℕ)) (old new : St
       → HasRun settings old new result ⊎ (IsTrue (meaning settings.command).has_buffers × Untouched × HasNotBegun status.NoMemory (codes "no memory\n") old.report new.report result)
   pub faults : HaveRisen result old new
   -- These follow. Where no stream failed, the run ended as its loop, by no fault. What a failed read leaves. And if no fault
-  -- ended `recover`, each captured block whose damage is within the bound (twice its bad rows and its lost rows are at most 16),
+  -- ended `recover`, each captured block whose damage is within the bound (twice its bad rows plus its lost rows is at most 16),
   -- against any block that was mastered for its place, has given exactly the mastered sectors, whatever became of the others.
   pub complete : (settings : Settings) → reading words ≡ Some settings → breaks settings ≡ None → result ≢ status.NoMemory
       → (Rose old.source.faults new.source.faults → ⊥) → (Rose old.output.faults new.output.faults → ⊥) → (Rose old.report.faults new.report.faults → ⊥)
