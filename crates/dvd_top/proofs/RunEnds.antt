@@ -12,7 +12,7 @@ use Rattle.dvd_loop.proofs.StepLemmas.{and_then}
 use Rattle.dvd_top.specs.Bound.{KeepsBound}
 use Rattle.dvd_top.specs.Commands.{meaning}
 use Rattle.dvd_top.specs.Headline.{EndsThere, HasRun, HaveRisen, IsRun}
-use Rattle.dvd_top.specs.Statuses.{IsWhole, status_of}
+use Rattle.dvd_top.specs.Statuses.{status_of}
 use Rattle.dvd_top.specs.Lines.{closing_line}
 use Rattle.dvd_top.specs.declared.settings.Command.{Command}
 use Rattle.dvd_top.specs.declared.settings.Command.TheVariants.{Frames, Master, Recover}
@@ -132,11 +132,11 @@ faultless_by (Damaged bad) sound = tt
 faultless_by NoControl sound = tt
 faultless_by (BadMarks k at) sound = tt
 
-pub bound_kept : (settings : Settings) (old new : Streams) (result : Status) → HasRun settings old new result → IsWhole result
-    → settings.command ≡ Recover
+pub bound_kept : (settings : Settings) (old new : Streams) (result : Status) → HasRun settings old new result
+    → (some : LoopEnd) → result ≡ status_of some → IsFaultless some → settings.command ≡ Recover
     → (end : LoopEnd) × (result ≡ status_of end) × Comes (λ bytes outcome. IsRun settings end bytes outcome × KeepsBound settings bytes outcome) old new end
-bound_kept settings old new result run whole is =
-    let sound : IsFaultless run.end = faultless_by run.end (subst IsSound run.is_status (subst IsSound (sym whole.1) (sound_status whole.0 whole.2))) in
+bound_kept settings old new result run some whole none is =
+    let sound : IsFaultless run.end = faultless_by run.end (subst IsSound run.is_status (subst IsSound (sym whole) (sound_status some none))) in
     let same : run.end ≡ run.within = run.same_end (λ is. subst IsFaultless is sound) in (
       run.end,
       run.is_status,

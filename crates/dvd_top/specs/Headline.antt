@@ -15,7 +15,7 @@ use Rattle.dvd_ports.specs.Whole.{AppendsPrefix}
 use Rattle.dvd_top.specs.Bound.{KeepsBound}
 use Rattle.dvd_top.specs.Commands.{meaning}
 use Rattle.dvd_top.specs.Lines.{closing_line, setting_line}
-use Rattle.dvd_top.specs.Statuses.{IsWhole, status_of}
+use Rattle.dvd_top.specs.Statuses.{status_of}
 use Rattle.dvd_top.specs.declared.settings.Command.TheVariants.{Frames, Master, Recover}
 use Rattle.dvd_top.specs.declared.settings.Settings.{Settings}
 use Rattle.dvd_top.specs.declared.status.Status.{Status}
@@ -95,5 +95,5 @@ pub record Headline (Untouched : Type 0) (words : List (List ℕ)) (old new : St
       → (Rose old.source.faults new.source.faults → ⊥) → (Rose old.output.faults new.output.faults → ⊥) → (Rose old.report.faults new.report.faults → ⊥)
       → (end : LoopEnd) × (result ≡ status_of end) × IsFaultless end × Comes (IsRun settings end) old new end
   pub read_fault : result ≡ status.ReadFault → (settings : Settings) → reading words ≡ Some settings → EndsThere settings old new
-  pub bound : IsWhole result → (settings : Settings) → reading words ≡ Some settings → settings.command ≡ Recover
+  pub bound : (some : LoopEnd) → result ≡ status_of some → IsFaultless some → (settings : Settings) → reading words ≡ Some settings → settings.command ≡ Recover
       → (end : LoopEnd) × (result ≡ status_of end) × Comes (λ bytes outcome. IsRun settings end bytes outcome × KeepsBound settings bytes outcome) old new end

@@ -1,6 +1,5 @@
 -- The exit statuses of the program.
-use Rattle.std.specs.Prelude.{◌≡◌, ℕ}
-use Rattle.dvd_loop.specs.Laws.{IsFaultless}
+use Rattle.std.specs.Prelude.{ℕ}
 use Rattle.dvd_loop.specs.declared.ends.LoopEnd.{LoopEnd}
 use Rattle.dvd_loop.specs.declared.ends.LoopEnd.TheVariants as ends
 use Rattle.dvd_top.specs.declared.status.Status.{Status}
@@ -17,10 +16,6 @@ status_of ends.Long = status.Long
 status_of (ends.Damaged blocks) = status.Damaged
 status_of ends.NoControl = status.NoControl
 status_of (ends.BadMarks block at) = status.BadMarks
-
--- the status of a run that no fault ended
-abbrev pub IsWhole : Status → Type 0
-IsWhole result = (end : LoopEnd) × (result ≡ status_of end) × IsFaultless end
 
 -- the numbers that the program ends with
 abbrev pub number_of : Status → ℕ

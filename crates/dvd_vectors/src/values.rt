@@ -376,10 +376,11 @@ fn each_layout_is_like_itself_alone(rt: HostRuntime) -> Result<(), Fail> {
 fn each_physical_format_is_like_itself_alone(rt: HostRuntime) -> Result<(), Fail> {
     for (i, (at, byte)) in FORMAT_BYTES.iter().enumerate() {
         let format = format_with(*at, *byte);
+        let copy = format;
         assert!(rt; format.is_ok(), "byte {at}");
         for (j, (other_at, other)) in FORMAT_BYTES.iter().enumerate() {
             assert!(rt;
-                (format == format_with(*other_at, *other)) == (i == j),
+                (copy == format_with(*other_at, *other)) == (i == j),
                 "bytes {at} and {other_at}"
             );
         }

@@ -39,5 +39,5 @@ returns-in-Ok g c =
       complete = λ settings reads lawful memory source output report.
           complete_run settings old new c.into.result (begun g c settings reads) counts source output report;
       read_fault = λ is settings reads. ends_there_run settings old new c.into.result (begun g c settings reads) is;
-      bound = λ whole settings reads is. bound_kept settings old new c.into.result (begun g c settings reads) whole is;
+      bound = λ some whole none settings reads is. bound_kept settings old new c.into.result (begun g c settings reads) some whole none is;
     }
