@@ -1,3 +1,3 @@
 pub mod Tables
 pub mod FieldLaws
-pub mod Steps
+pub mod Logarithms

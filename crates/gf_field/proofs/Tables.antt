@@ -1,9 +1,10 @@
 -- What the checker finds out of the field by computing, for each byte in turn.
-use Rattle.std.proofs.Common.{◌≡◌, ◌≢◌, ℕ, zero, suc, ◌*◌, ◌/◌, ◌%◌, ◌^◌, ◌<◌, Bool, true, not, ◌&&◌, ◌==◌, if◌then◌else◌, refl}
+use Rattle.std.proofs.Common.{◌≡◌, ◌≢◌, ℕ, zero, suc, ◌*◌, ◌/◌, ◌%◌, ◌^◌, ◌<◌, Bool, true, not, ◌&&◌, ◌==◌, if◌then◌else◌, List, [], ◌∷◌, get_or, refl, ap, ◌∙◌, arith}
 use Rattle.std.specs.Prelude.{nat_lt}
 use Rattle.std.specs.Bool.{Decides}
 use Rattle.std.proofs.lemmas.Bool.Decides.{Decides-eqb, Decides-not, Decides-and, Decides-ltb, Decides-below_and}
 use Rattle.gf_field.specs.Field.{alpha, plus, shift, shifted, partial_product, product}
+use Rattle.gf_field.specs.declared.powers.TheConstants.{POWERS, LOGARITHMS}
 
 -- a test holds of each number below n
 pub every : (ℕ → Bool) → ℕ → Bool
@@ -90,3 +91,33 @@ pub shifted-logarithm : (a : ℕ) → a < 255 → (logarithm (suc a) < 255) × (
 unfolding every logarithm shifts_to shifted shift
 shifted-logarithm = every-holds (λ a. nat_lt (logarithm (suc a)) 255 && shifted 1 (logarithm (suc a)) == suc a) (λ a. (logarithm (suc a) < 255) × (shifted 1 (logarithm (suc a)) ≡ suc a))
     (λ a. Decides-and (nat_lt (logarithm (suc a)) 255) (shifted 1 (logarithm (suc a)) == suc a) (Decides-ltb (logarithm (suc a)) 255) (Decides-eqb (shifted 1 (logarithm (suc a))) (suc a))) 255 refl
+
+-- ---- the tables of the program
+
+-- n numbers, from a on, each the one before it times x
+shifts_from : ℕ → ℕ → List ℕ
+shifts_from a zero = []
+shifts_from a (suc n) = a ∷ shifts_from (shift a) n
+
+shifted-after_shift : (a k : ℕ) → shifted (shift a) k ≡ shift (shifted a k)
+unfolding shifted
+shifted-after_shift a zero = refl
+shifted-after_shift a (suc k) = ap shift (shifted-after_shift a k)
+
+get_or-shifts_from : (a n k : ℕ) → k < n → get_or (shifts_from a n) k 0 ≡ shifted a k
+unfolding shifts_from shifted
+get_or-shifts_from a zero k below = absurd (omega arith)
+get_or-shifts_from a (suc n) zero below = refl
+get_or-shifts_from a (suc n) (suc k) below = get_or-shifts_from (shift a) n k (omega arith) ∙ shifted-after_shift a k
+
+POWERS-whole : POWERS ≡ shifts_from 1 510
+unfolding shifts_from shift
+POWERS-whole = refl
+
+pub POWERS-shifted : (k : ℕ) → k < 510 → get_or POWERS k 0 ≡ shifted 1 k
+POWERS-shifted k below = ap (λ powers. get_or powers k 0) POWERS-whole ∙ get_or-shifts_from 1 510 k below
+
+pub LOGARITHMS-shifted : (a : ℕ) → a < 255 → (get_or LOGARITHMS (suc a) 0 < 255) × (shifted 1 (get_or LOGARITHMS (suc a) 0) ≡ suc a)
+unfolding every shifted shift
+LOGARITHMS-shifted = every-holds (λ a. nat_lt (get_or LOGARITHMS (suc a) 0) 255 && shifted 1 (get_or LOGARITHMS (suc a) 0) == suc a) (λ a. (get_or LOGARITHMS (suc a) 0 < 255) × (shifted 1 (get_or LOGARITHMS (suc a) 0) ≡ suc a))
+    (λ a. Decides-and (nat_lt (get_or LOGARITHMS (suc a) 0) 255) (shifted 1 (get_or LOGARITHMS (suc a) 0) == suc a) (Decides-ltb (get_or LOGARITHMS (suc a) 0) 255) (Decides-eqb (shifted 1 (get_or LOGARITHMS (suc a) 0)) (suc a))) 255 refl

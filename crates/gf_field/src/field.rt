@@ -1,14 +1,14 @@
-//! Sums, products, inverses and powers of elements, by shifts alone: no call reads a table.
+//! Sums, products, inverses and powers of elements, by logarithms: to multiply is to add exponents of alpha.
 ghost use Rattle.std.specs.Prelude.{◌≡◌, ◌≢◌, ◌<◌};
-ghost use Rattle.gf_field.specs.Field.{alpha, plus, shift, product, power};
+ghost use Rattle.gf_field.specs.Field.{alpha, plus, product, power};
 
-/// The powers below x^8 of the polynomial x^8 + x^4 + x^3 + x^2 + 1.
-const REDUCTION: u8 = 0x1D;
+use crate::powers::{LOGARITHMS, POWERS};
 
 /// How many powers of alpha differ: alpha^255 is 01.
 const ORDER: u32 = 255;
 
 /// The sum of two elements, which is their difference too.
+#[inline]
 pub fn add(a: u8, b: u8) -> u8
     ensures { result ≡ plus a b }
 {
@@ -16,91 +16,75 @@ pub fn add(a: u8, b: u8) -> u8
 }
 
 /// The product of two elements.
-#[tactic(auto, using(crate::proofs::Steps::steps))]
+#[inline]
+#[tactic(auto, using(crate::proofs::Logarithms::products))]
 pub fn mul(a: u8, b: u8) -> u8
     ensures { result ≡ product a b }
 {
-    let mut sum = 0;
-    let mut shifted = a;
-    for k in 0..8u32 {
-        if (b >> k) & 1 == 1 {
-            sum ^= shifted;
-        }
-        shifted = double(shifted);
+    if a == 0 || b == 0 {
+        return 0;
     }
-    sum
+    power_at(exponent(a) + exponent(b))
 }
 
-/// The inverse of an element that isn't 0, which is its power 254, in eleven products.
+/// The inverse of an element that isn't 0.
+#[inline]
+#[tactic(auto, using(crate::proofs::Logarithms::inverse_by_powers))]
 pub fn inv(a: u8) -> u8
     requires { a ≢ 0 }
     ensures { product a result ≡ 1 }
 {
-    let power_2 = mul(a, a);
-    let power_3 = mul(power_2, a);
-    let power_12 = fourth_power(power_3);
-    let power_15 = mul(power_12, power_3);
-    let power_240 = fourth_power(fourth_power(power_15));
-    let power_252 = mul(power_240, power_12);
-    mul(power_252, power_2)
+    power_at(255 - exponent(a))
 }
 
 /// The quotient of two elements, of which the second isn't 0.
-#[tactic(auto, using(crate::proofs::Steps::quotient))]
+#[inline]
+#[tactic(auto, using(crate::proofs::Logarithms::quotients))]
 pub fn div(a: u8, b: u8) -> u8
     requires { b ≢ 0 }
     ensures { product result b ≡ a }
 {
-    mul(a, inv(b))
+    if a == 0 {
+        return 0;
+    }
+    power_at(exponent(a) + 255 - exponent(b))
 }
 
-/// The element alpha = 02 to the power k, in at most eight products and eight shifts.
-#[tactic(auto, using(crate::proofs::Steps::power_steps))]
+/// The element alpha = 02 to the power k.
+#[inline]
+#[tactic(auto, using(crate::proofs::Logarithms::exponents))]
 pub fn alpha_pow(k: u32) -> u8
     ensures { result ≡ power alpha k }
 {
-    let exponent = k % ORDER;
-    let mut result = 1;
-    for passed in 0..8u32 {
-        result = mul(result, result);
-        if (exponent >> (7 - passed)) & 1 == 1 {
-            result = double(result);
-        }
-    }
-    result
+    power_at((k % ORDER) as usize)
 }
 
 /// The logarithm of an element that isn't 0: the k below 255 with alpha^k = a.
-#[tactic(auto, using(crate::proofs::Steps::log_steps))]
-pub fn log(a: u8) -> u8
+#[inline]
+pub fn log(a: u8) -> u32
     requires { a ≢ 0 }
     ensures below { result < 255 }
     ensures reaches { power alpha result ≡ a }
 {
-    let mut reached = 1;
-    let mut k = 0;
-    while reached != a {
-        reached = double(reached);
-        k += 1;
-    }
-    k
+    exponent(a) as u32
 }
 
-/// An element times alpha.
-#[tactic(auto, unfolding(crate::specs::Field::shift))]
-fn double(a: u8) -> u8
-    ensures { result ≡ shift a }
+/// The exponent of alpha that reaches an element that isn't 0, as a place in the table of powers.
+#[inline]
+fn exponent(a: u8) -> usize
+    requires { a ≢ 0 }
+    ensures below { result < 255 }
+    ensures reaches { power alpha result ≡ a }
 {
-    if a < 0x80 {
-        a << 1
-    } else {
-        (a << 1) ^ REDUCTION
-    }
+    LOGARITHMS[a as usize] as usize
 }
 
-fn fourth_power(a: u8) -> u8
-    ensures { result ≡ product (product a a) (product a a) }
+/// The power of alpha at a place of the table.
+#[inline]
+#[tactic(auto, using(crate::proofs::Logarithms::POWERS_at))]
+fn power_at(place: usize) -> u8
+    requires { place < 510 }
+    ensures { result ≡ power alpha place }
 {
-    let square = mul(a, a);
-    mul(square, square)
+    POWERS[place]
 }

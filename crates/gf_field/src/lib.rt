@@ -1,11 +1,13 @@
 //! The field of 256 elements over which the codes of a DVD are defined (ECMA-267, clauses 16.2 and 18), and its laws.
 //!
 //! An element is a byte: its bit k is the coefficient of x^k, and products are reduced by x^8 + x^4 + x^3 + x^2 + 1.
+//! Products, quotients, inverses and powers are read from two tables, of the powers of alpha and of logarithms.
 //! `specs/Field.antt` defines sum, product and power, and `specs/Words.antt` words over the field and their codes.
 #![tactic(auto)]
 
 mod field;
 pub mod laws;
+mod powers;
 
 pub use field::{add, alpha_pow, div, inv, log, mul};
 

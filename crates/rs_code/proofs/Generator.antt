@@ -53,7 +53,7 @@ pub HasRoots-next : (r : ℕ) (generator : List ℕ) → HasRoots r generator �
 HasRoots-next r generator roots = λ k below. value-times_root generator (power alpha r) (power alpha k) ∙ by_place r generator roots k below
 
 -- the product of (x + alpha^k) for k below r, without its leading 1
-pub generator_of : ℕ → List ℕ
+unfoldable pub generator_of : ℕ → List ℕ
 generator_of zero = []
 generator_of (suc r) = times_root (generator_of r) (power alpha r)
 

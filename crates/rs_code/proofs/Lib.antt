@@ -1,8 +1,10 @@
 pub mod Codewords
 pub mod Distance
-pub mod Remainders
 pub mod Generator
+pub mod Multiples
 pub mod PowerSums
+pub mod Registers
+pub mod Remainders
 pub mod Ring
 pub mod Syndromes
 pub mod Values

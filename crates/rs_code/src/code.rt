@@ -1,11 +1,13 @@
 //! Codes of constant length.
-ghost use Rattle.std.specs.Prelude.{◌≡◌, ◌↔◌, ℕ, ◌-◌, ◌<◌, ◌≤◌, take, length, IsTrue};
+ghost use Rattle.std.specs.Prelude.{◌≡◌, ◌↔◌, ℕ, ◌+◌, ◌-◌, ◌++◌, ◌<◌, ◌≤◌, take, length, All, IsTrue};
 ghost use Rattle.arrayvec.specs.ArrayVec.{array_vec_len};
-ghost use Rattle.gf_field.specs.Words.{IsCodeword, IsEncoded};
+ghost use Rattle.gf_field.specs.Field.{alpha, power};
+ghost use Rattle.gf_field.specs.Words.{IsByte, IsCodeword, IsEncoded, value};
 ghost use Rattle.rs_code.specs.Polynomials.{HasRoots};
 ghost use Rattle.rs_code.specs.Syndromes.{syndromes_of};
 
-use crate::{division, evaluation};
+use crate::tables::{PI_LATER, PI_MULTIPLES, PO_LATER, PO_MULTIPLES};
+use crate::{division, evaluation, register};
 use arrayvec::ArrayVec;
 
 /// The code of a row of an ECC block with its ten PI bytes (ECMA-267, clause 18).
@@ -45,20 +47,51 @@ impl<const N: usize, const R: usize> Code<N, R> {
         ensures { IsEncoded N R (take (N - R) word.old) word.new }
     {
         let (message, parity) = word.split_at_mut(N - R);
-        division::divide(&self.generator, message, parity);
+        self.divide(message, parity);
     }
 
     /// The values of `word` at alpha^0 to alpha^(R-1), in this order.
     pub fn syndromes(&self, word: &[u8; N]) -> ArrayVec<u8, 32>
         ensures { result.items ≡ syndromes_of R word.now }
     {
-        evaluation::syndromes(word, R)
+        evaluation::syndromes(&self.remainder(word), R)
     }
 
     /// Whether `word` is a codeword.
     pub fn is_codeword(&self, word: &[u8; N]) -> bool
         ensures { IsTrue result ↔ IsCodeword N R word.now }
     {
-        evaluation::vanishes(word, R)
+        evaluation::is_zero(&self.remainder(word))
+    }
+
+    // The remainder of a whole word, which has the word's values at the roots of the generator.
+    // That the word is bytes is told too, since a word of constant length doesn't tell it.
+    fn remainder(&self, word: &[u8; N]) -> [u8; R]
+        ensures values { (k : ℕ) → k < R → value result (power alpha k) ≡ value word.now (power alpha k) }
+        ensures bytes { All IsByte result }
+        ensures word_bytes { All IsByte word.now }
+    {
+        let (message, parity) = word.split_at(N - R);
+        let mut remainder = [0; R];
+        self.divide(message, &mut remainder);
+        division::add_word(&mut remainder, parity);
+        remainder
+    }
+
+    // Sets `parity` so that it makes a codeword with `message`: by tables for the codes of an ECC block, else by the generator.
+    // That the message is bytes is told too, since a word of constant length doesn't tell it.
+    fn divide(&self, message: &[u8], parity: &mut [u8])
+        requires fits { length parity.old ≡ R }
+        ensures codeword { IsCodeword (length message.now + R) R (message.now ++ parity.new) }
+        ensures message_bytes { All IsByte message.now }
+        ensures parity_bytes { All IsByte parity.new }
+    {
+        if R == 10 {
+            register::divide(&PI_MULTIPLES, &PI_LATER, message, parity);
+        } else if R == 16 {
+            register::divide(&PO_MULTIPLES, &PO_LATER, message, parity);
+        } else {
+            division::divide(&self.generator, message, parity);
+        }
     }
 }

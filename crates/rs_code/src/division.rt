@@ -3,7 +3,7 @@
 ghost use Rattle.std.specs.Prelude.{◌≡◌, ℕ, ◌-◌, ◌<◌, ◌≤◌, List, [], ◌∷◌, ◌++◌, length, All};
 ghost use Rattle.arrayvec.specs.ArrayVec.{array_vec_len};
 ghost use Rattle.gf_field.specs.Words.{IsByte};
-ghost use Rattle.rs_code.specs.Polynomials.{times_root, HasRoots, IsRemainder};
+ghost use Rattle.rs_code.specs.Polynomials.{sum_of, times_root, HasRoots, IsRemainder};
 
 use arrayvec::ArrayVec;
 use gf_field::mul;
@@ -62,4 +62,15 @@ fn read_byte(generator: &[u8], register: &mut [u8], byte: u8)
         register[i] = register[i + 1] ^ mul(factor, generator[i]);
     }
     register[last] = mul(factor, generator[last]);
+}
+
+/// Adds a word to another of the same length. That the word is bytes is told too.
+pub fn add_word(sum: &mut [u8], word: &[u8])
+    requires { length word.now ≡ length sum.old }
+    ensures sum { sum.new ≡ sum_of sum.old word.now }
+    ensures word_bytes { All IsByte word.now }
+{
+    for i in 0..word.len() {
+        sum[i] ^= word[i];
+    }
 }

@@ -1,7 +1,6 @@
 //! The values of a word at points.
-ghost use Rattle.std.specs.Prelude.{◌≡◌, ◌↔◌, ℕ, ◌<◌, ◌≤◌, All, IsTrue};
-ghost use Rattle.gf_field.specs.Field.{alpha, power};
-ghost use Rattle.gf_field.specs.Words.{IsByte, value};
+ghost use Rattle.std.specs.Prelude.{◌≡◌, ◌↔◌, ◌≤◌, length, replicate, IsTrue};
+ghost use Rattle.gf_field.specs.Words.{value};
 ghost use Rattle.rs_code.specs.Syndromes.{syndromes_of};
 
 use arrayvec::ArrayVec;
@@ -21,17 +20,14 @@ pub fn syndromes(word: &[u8], parity: usize) -> ArrayVec<u8, 32>
     syndromes
 }
 
-/// Whether a word vanishes at alpha^0 to alpha^(`parity` - 1). Its bytes are told too, since a word of constant length tells none.
-pub fn vanishes(word: &[u8], parity: usize) -> bool
-    ensures vanishes { IsTrue result ↔ ((k : ℕ) → k < parity → value word.now (power alpha k) ≡ 0) }
-    ensures bytes { All IsByte word.now }
+/// Whether a word has zeros alone.
+pub fn is_zero(word: &[u8]) -> bool
+    ensures { IsTrue result ↔ (word.now ≡ replicate (length word.now) 0) }
 {
-    let mut point = 1;
-    for _k in 0..parity {
-        if value_at(word, point) != 0 {
+    for byte in word {
+        if *byte != 0 {
             return false;
         }
-        point = mul(point, 2);
     }
     true
 }

@@ -3,6 +3,8 @@
 //!
 //! - [`code`]: a code, with its encoder, its syndromes and its test.
 //! - `division`: the generator polynomial, and the division by it.
+//! - `register`: the division where the remainder fits one word of 128 bits.
+//! - `tables`: the multiples of two generators, for that division.
 //! - `evaluation`: the values of a word at points.
 //! - [`laws`]: what holds of every code, as contracts alone.
 #![tactic(auto)]
@@ -11,6 +13,8 @@ pub mod code;
 mod division;
 mod evaluation;
 pub mod laws;
+mod register;
+mod tables;
 #[cfg(test)]
 mod tests;
 

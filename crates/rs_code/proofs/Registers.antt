@@ -1,0 +1,343 @@
+-- A register of at most sixteen bytes in a number of 128 bits: its bytes after a shift and after a sum,
+-- the table of the generator's multiples, and the step of the division.
+use Rattle.std.proofs.Common.{◌≡◌, ℕ, zero, suc, ◌+◌, ◌-◌, ◌*◌, ◌/◌, ◌%◌, ◌^◌, ◌<◌, ◌≤◌, List, [], ◌∷◌, ◌++◌, length, get_or, take, All, replicate, reverse, refl, sym, ap, subst, ◌∙◌, arith, inl, inr, length-append, append_assoc, bit_and}
+use Rattle.std.specs.Int.{byte_at, to_be_bytes, w128}
+use Rattle.std.proofs.Math.Nat.{div-div-eq-div-mul, pow-succ'}
+use Rattle.std.proofs.lemmas.Nat.{xor_shr, xor_mod, xor_lt, xor_block, shr_below, mod-pow-add, and_mask}
+use Rattle.std.proofs.lemmas.List.{append_cancel_left, take_at, length-replicate, replicate_more, replicate-append-replicate, reverse-append, length-reverse, take_more}
+use Rattle.gf_field.specs.Field.{plus, product}
+use Rattle.gf_field.proofs.FieldLaws.{plus-byte, plus-product, product-byte, product-zero, zero-product, plus-comm, plus-zero, zero-plus, plus-self}
+use Rattle.rs_code.specs.Polynomials.{sum_of, scaled, IsRemainder}
+use Rattle.rs_code.specs.Registers.{bytes_of, Holds, HoldsRemainder, HasMultiples, after_byte, AreLater}
+use Rattle.rs_code.proofs.Ring.{ring}
+use Rattle.rs_code.proofs.Values.{length-sum_of, length-scaled, scaled-cons}
+use Rattle.rs_code.proofs.Remainders.{next_register, IsRemainder-start, IsRemainder-next}
+
+-- ---- bytes of a number
+
+pub length-bytes_of : (k n : ℕ) → length (bytes_of k n) ≡ k
+unfolding bytes_of
+length-bytes_of zero n = refl
+length-bytes_of (suc k) n = ap suc (length-bytes_of k n)
+
+byte_at-higher : (k n : ℕ) → byte_at (suc k) n ≡ byte_at k (n / 256)
+byte_at-higher zero n = omega arith
+byte_at-higher (suc k) n =
+    ap (λ m. n / m % 256) (pow-succ' 256 (suc k)) ∙ ap (λ m. m % 256) (sym (div-div-eq-div-mul n 256 (256 ^ suc k)))
+
+-- the upper bytes, and the lowest one
+pub bytes_of-last : (k n : ℕ) → bytes_of (suc k) n ≡ bytes_of k (n / 256) ++ n % 256 ∷ []
+unfolding bytes_of
+bytes_of-last zero n = refl
+bytes_of-last (suc k) n = rw (byte_at-higher k n, bytes_of-last k n) refl
+
+pub bytes_of-first : (k n : ℕ) → bytes_of (suc k) n ≡ byte_at k n ∷ bytes_of k n
+unfolding bytes_of
+bytes_of-first k n = refl
+
+sum_of-append : (a b c d : List ℕ) → length a ≡ length b → sum_of (a ++ c) (b ++ d) ≡ sum_of a b ++ sum_of c d
+unfolding sum_of
+sum_of-append [] [] c d same = refl
+sum_of-append [] (y ∷ b) c d same = absurd (omega arith)
+sum_of-append (x ∷ a) [] c d same = absurd (omega arith)
+sum_of-append (x ∷ a) (y ∷ b) c d same = ap (λ xs. plus x y ∷ xs) (sum_of-append a b c d (omega arith))
+
+sum_of-one : (x y : ℕ) → sum_of (x ∷ []) (y ∷ []) ≡ plus x y ∷ []
+unfolding sum_of
+sum_of-one x y = refl
+
+sum_of-nil : (ys : List ℕ) → sum_of [] ys ≡ []
+unfolding sum_of
+sum_of-nil ys = refl
+
+bytes_of-none : (n : ℕ) → bytes_of 0 n ≡ []
+unfolding bytes_of
+bytes_of-none n = refl
+
+-- a sum of numbers is a sum of their bytes
+pub bytes_of-plus : (k a b : ℕ) → bytes_of k (plus a b) ≡ sum_of (bytes_of k a) (bytes_of k b)
+bytes_of-plus zero a b = bytes_of-none (plus a b) ∙ rw (bytes_of-none a, bytes_of-none b) (sym (sum_of-nil []))
+bytes_of-plus (suc k) a b =
+    let upper : plus a b / 256 ≡ plus (a / 256) (b / 256) = xor_shr a b 8 in
+    let lowest : plus a b % 256 ≡ plus (a % 256) (b % 256) = xor_mod a b 8 in
+    bytes_of-last k (plus a b)
+    ∙ rw (upper, lowest, bytes_of-plus k (a / 256) (b / 256), bytes_of-last k a, bytes_of-last k b)
+    (sym (sum_of-append (bytes_of k (a / 256)) (bytes_of k (b / 256)) (a % 256 ∷ []) (b % 256 ∷ []) (length-bytes_of k (a / 256) ∙ sym (length-bytes_of k (b / 256)))
+    ∙ ap (λ xs. sum_of (bytes_of k (a / 256)) (bytes_of k (b / 256)) ++ xs) (sum_of-one (a % 256) (b % 256))))
+
+-- the lowest k bytes don't know the others
+pub bytes_of-rest : (k n : ℕ) → bytes_of k (n % 2 ^ (8 * k)) ≡ bytes_of k n
+bytes_of-rest zero n = bytes_of-none (n % 2 ^ (8 * 0)) ∙ sym (bytes_of-none n)
+bytes_of-rest (suc k) n =
+    let more : 8 * suc k ≡ 8 * k + 8 = omega arith in
+    let split : n % 2 ^ (8 * suc k) ≡ (n / 256 % 2 ^ (8 * k)) * 256 + n % 256 = ap (λ m. n % 2 ^ m) more ∙ mod-pow-add n (8 * k) 8 in
+    let upper : n % 2 ^ (8 * suc k) / 256 ≡ n / 256 % 2 ^ (8 * k) = omega arith in
+    let lowest : n % 2 ^ (8 * suc k) % 256 ≡ n % 256 = omega arith in
+    bytes_of-last k (n % 2 ^ (8 * suc k)) ∙ rw (upper, lowest, bytes_of-rest k (n / 256)) (sym (bytes_of-last k n))
+
+-- ---- sums and multiples
+
+-- a multiple by a sum is the sum of the multiples
+pub scaled-plus : (a b : ℕ) (word : List ℕ) → scaled (plus a b) word ≡ sum_of (scaled a word) (scaled b word)
+unfolding scaled sum_of
+scaled-plus a b [] = refl
+scaled-plus a b (byte ∷ word) = rw (plus-product a b byte, scaled-plus a b word) refl
+
+-- nothing of a word is zeros
+pub scaled-zero : (word : List ℕ) → scaled 0 word ≡ replicate (length word) 0
+unfolding scaled
+scaled-zero [] = refl
+scaled-zero (byte ∷ word) = rw (zero-product byte, scaled-zero word) refl
+
+sum_of-zeros_both : (n : ℕ) → sum_of (replicate n 0) (replicate n 0) ≡ replicate n 0
+unfolding sum_of
+sum_of-zeros_both zero = refl
+sum_of-zeros_both (suc n) = rw (plus-self 0, sum_of-zeros_both n) refl
+
+pub Holds-plus : (x y : ℕ) (a b : List ℕ) → length a ≡ length b → Holds x a → Holds y b → Holds (plus x y) (sum_of a b)
+Holds-plus x y a b same in_x in_y =
+    let long : length (sum_of a b) ≡ length a = length-sum_of a b same in
+    bytes_of-plus 16 x y
+    ∙ rw (in_x, in_y, long, ← same)
+    (sum_of-append a b (replicate (16 - length a) 0) (replicate (16 - length a) 0) same ∙ ap (λ xs. sum_of a b ++ xs) (sum_of-zeros_both (16 - length a)))
+
+length-zeros : (n : ℕ) → length {A = ℕ} (replicate n 0) ≡ n
+length-zeros n = length-replicate n 0
+
+bytes_of-zero : bytes_of 16 0 ≡ replicate 16 0
+unfolding bytes_of
+bytes_of-zero = refl
+
+-- the empty register
+pub Holds-zeros : (n : ℕ) → n ≤ 16 → Holds 0 (replicate n 0)
+Holds-zeros n fits =
+    let long = length-zeros n in
+    let whole : n + (16 - n) ≡ 16 = omega arith in
+    rw long (bytes_of-zero ∙ sym (replicate-append-replicate n (16 - n) 0 ∙ ap (λ m. replicate m 0) whole))
+
+-- ---- the table of multiples
+
+pub HasMultiples-start : (generator : List ℕ) (table : List ℕ) → length generator ≤ 16 → get_or table 0 0 ≡ 0 → HasMultiples generator table 1
+HasMultiples-start generator table fits is_zero factor below =
+    let none : factor ≡ 0 = omega arith in
+    rw (none, is_zero, scaled-zero generator) (Holds-zeros (length generator) fits)
+
+-- a power of two and a smaller number
+top_and_lower : (lower bit : ℕ) → lower < 2 ^ bit → plus (2 ^ bit) lower ≡ 2 ^ bit + lower
+top_and_lower lower bit below =
+    let block : plus (1 * 2 ^ bit + 0) (0 * 2 ^ bit + lower) ≡ plus 1 0 * 2 ^ bit + plus 0 lower = xor_block bit 1 0 0 lower (omega (arith, below)) below in
+    let left : 1 * 2 ^ bit + 0 ≡ 2 ^ bit = omega arith in
+    let right : 0 * 2 ^ bit + lower ≡ lower = omega arith in
+    let both : 1 * 2 ^ bit + lower ≡ 2 ^ bit + lower = omega arith in
+    cc (block, left, right, both, plus-zero 1, zero-plus lower)
+
+-- an upper place is the sum of the one below it and of the power of two
+pub Holds-upper : (generator : List ℕ) (bit factor lower multiple entry : ℕ) → factor ≡ 2 ^ bit → lower < factor → Holds multiple (scaled factor generator) → Holds entry (scaled lower generator) → Holds (plus entry multiple) (scaled (factor + lower) generator)
+Holds-upper generator bit factor lower multiple entry is_power below in_multiple in_entry =
+    let small : lower < 2 ^ bit = rw (← is_power) below in
+    let split : factor + lower ≡ plus lower factor = rw is_power (sym (top_and_lower lower bit small) ∙ plus-comm (2 ^ bit) lower) in
+    rw (split, scaled-plus lower factor generator)
+    (Holds-plus entry multiple (scaled lower generator) (scaled factor generator) (length-scaled lower generator ∙ sym (length-scaled factor generator)) in_entry in_multiple)
+
+-- ---- a byte is put in front
+
+-- the byte fits above the others
+front : (v n : ℕ) → v < 256 → n < 2 ^ 128 → plus (n / 256) (v * 2 ^ 120) ≡ v * 2 ^ 120 + n / 256
+front v n is_byte is_word =
+    let block : plus (0 * 2 ^ 120 + n / 256) (v * 2 ^ 120 + 0) ≡ plus 0 v * 2 ^ 120 + plus (n / 256) 0 = xor_block 120 0 v (n / 256) 0 (omega arith) (omega arith) in
+    let left : 0 * 2 ^ 120 + n / 256 ≡ n / 256 = omega arith in
+    let right : v * 2 ^ 120 + 0 ≡ v * 2 ^ 120 = omega arith in
+    cc (block, left, right, zero-plus v, plus-zero (n / 256))
+
+bytes_of-front : (v n : ℕ) → v < 256 → n < 2 ^ 128 → bytes_of 16 (plus (n / 256) (v * 2 ^ 120)) ≡ v ∷ bytes_of 15 (n / 256)
+bytes_of-front v n is_byte is_word =
+    let first : byte_at 15 (v * 2 ^ 120 + n / 256) ≡ v = omega arith in
+    let rest : (v * 2 ^ 120 + n / 256) % 2 ^ (8 * 15) ≡ n / 256 = omega arith in
+    ap (bytes_of 16) (front v n is_byte is_word) ∙ bytes_of-first 15 (v * 2 ^ 120 + n / 256)
+    ∙ rw first (ap (λ xs. v ∷ xs) (sym (bytes_of-rest 15 (v * 2 ^ 120 + n / 256)) ∙ ap (bytes_of 15) rest))
+
+pub Holds-front : (v n : ℕ) (bytes : List ℕ) → v < 256 → n < 2 ^ 128 → length bytes < 16 → Holds n bytes → Holds (plus (n / 256) (v * 2 ^ 120)) (v ∷ bytes)
+Holds-front v n bytes is_byte is_word fits holds =
+    let count : 16 - length bytes ≡ 16 - length (v ∷ bytes) + 1 = omega arith in
+    let padded : bytes ++ replicate (16 - length bytes) 0 ≡ (bytes ++ replicate (16 - length (v ∷ bytes)) 0) ++ 0 ∷ [] =
+    rw count (ap (λ xs. bytes ++ xs) (sym (replicate_more (16 - length (v ∷ bytes)) 0)) ∙ sym (append_assoc bytes (replicate (16 - length (v ∷ bytes)) 0) (0 ∷ []))) in
+    let long : length (bytes ++ replicate (16 - length (v ∷ bytes)) 0) ≡ 15 =
+    length-append bytes (replicate (16 - length (v ∷ bytes)) 0) ∙ omega (arith, length-zeros (16 - length (v ∷ bytes))) in
+    let upper : bytes_of 15 (n / 256) ≡ bytes ++ replicate (16 - length (v ∷ bytes)) 0 =
+    sym (take_at (bytes_of 15 (n / 256)) (n % 256 ∷ []) 15 (length-bytes_of 15 (n / 256)))
+    ∙ ap (take 15) (sym (bytes_of-last 15 n) ∙ holds ∙ padded)
+    ∙ take_at (bytes ++ replicate (16 - length (v ∷ bytes)) 0) (0 ∷ []) 15 long in
+    bytes_of-front v n is_byte is_word ∙ ap (λ xs. v ∷ xs) upper
+
+-- one coefficient more, before those that were read
+pub Holds-multiple_more : (factor coefficient byte n : ℕ) (read : List ℕ) → byte ≡ product factor coefficient → n < 2 ^ 128 → length read < 16 → Holds n (scaled factor (reverse read)) → Holds (plus (n / 256) (byte * 2 ^ 120 % 2 ^ 128)) (scaled factor (reverse (read ++ coefficient ∷ [])))
+Holds-multiple_more factor coefficient byte n read is is_word fits holds =
+    let small : byte < 256 = rw is (product-byte factor coefficient) in
+    let kept : byte * 2 ^ 120 % 2 ^ 128 ≡ byte * 2 ^ 120 = omega arith in
+    let order : scaled factor (reverse (read ++ coefficient ∷ [])) ≡ byte ∷ scaled factor (reverse read) =
+    ap (scaled factor) (reverse-append read (coefficient ∷ [])) ∙ scaled-cons factor coefficient (reverse read) ∙ ap (λ b. b ∷ scaled factor (reverse read)) (sym is) in
+    rw (kept, order) (Holds-front byte n (scaled factor (reverse read)) small is_word (omega (arith, length-scaled factor (reverse read), length-reverse read)) holds)
+
+pub Holds-multiple_start : (factor : ℕ) → Holds 0 (scaled factor [])
+unfolding scaled
+Holds-multiple_start factor = Holds-zeros 0 (omega arith)
+
+-- ---- a byte leaves the register
+
+bytes_of-left : (n : ℕ) → n < 2 ^ 128 → bytes_of 16 (n * 256 % 2 ^ 128) ≡ bytes_of 15 n ++ 0 ∷ []
+bytes_of-left n is_word =
+    let upper : n * 256 % 2 ^ 128 / 256 ≡ n % 2 ^ (8 * 15) = omega arith in
+    let lowest : n * 256 % 2 ^ 128 % 256 ≡ 0 = omega arith in
+    bytes_of-last 15 (n * 256 % 2 ^ 128) ∙ rw (upper, lowest, bytes_of-rest 15 n) refl
+
+-- the first byte, and the others with a zero after them
+Holds-parts : (n first : ℕ) (rest : List ℕ) → n < 2 ^ 128 → Holds n (first ∷ rest) → (n / 2 ^ 120 ≡ first) × (bytes_of 15 n ≡ rest ++ replicate (16 - length (first ∷ rest)) 0)
+Holds-parts n first rest is_word holds =
+    let parts : byte_at 15 n ∷ bytes_of 15 n ≡ first ∷ (rest ++ replicate (16 - length (first ∷ rest)) 0) = sym (bytes_of-first 15 n) ∙ holds in
+    let top : byte_at 15 n ≡ n / 2 ^ 120 = omega arith in
+    let is_first : byte_at 15 n ≡ first = cc in
+    let is_rest : bytes_of 15 n ≡ rest ++ replicate (16 - length (first ∷ rest)) 0 = cc in
+    (sym top ∙ is_first, is_rest)
+
+Holds-left : (n first : ℕ) (rest : List ℕ) → n < 2 ^ 128 → Holds n (first ∷ rest) → Holds (n * 256 % 2 ^ 128) (rest ++ 0 ∷ [])
+Holds-left n first rest is_word holds =
+    let zeros = 16 - length (first ∷ rest) in
+    let same : length (rest ++ 0 ∷ []) ≡ length (first ∷ rest) = length-append rest (0 ∷ []) ∙ omega arith in
+    let turned : replicate zeros 0 ++ 0 ∷ [] ≡ 0 ∷ replicate zeros 0 = (let more : zeros + 1 ≡ suc zeros = omega arith in replicate_more zeros 0 ∙ ap (λ m. replicate m 0) more) in
+    bytes_of-left n is_word
+    ∙ ap (λ xs. xs ++ 0 ∷ []) (Holds-parts n first rest is_word holds).1
+    ∙ append_assoc rest (replicate zeros 0) (0 ∷ [])
+    ∙ ap (λ xs. rest ++ xs) turned
+    ∙ sym (append_assoc rest (0 ∷ []) (replicate zeros 0))
+    ∙ ap (λ m. (rest ++ 0 ∷ []) ++ replicate (16 - m) 0) (sym same)
+
+-- the shifted register and a multiple of the generator are the next register
+Holds-next : (generator : List ℕ) (n byte entry first : ℕ) (rest : List ℕ) → n < 2 ^ 128 → length (first ∷ rest) ≡ length generator → Holds n (first ∷ rest) → Holds entry (scaled (plus first byte) generator) → Holds (plus (n * 256 % 2 ^ 128) entry) (next_register generator (first ∷ rest) byte)
+unfolding next_register
+Holds-next generator n byte entry first rest is_word long holds in_entry =
+    let same : length (rest ++ 0 ∷ []) ≡ length (scaled (plus first byte) generator) = length-append rest (0 ∷ []) ∙ omega (arith, length-scaled (plus first byte) generator) in
+    Holds-plus (n * 256 % 2 ^ 128) entry (rest ++ 0 ∷ []) (scaled (plus first byte) generator) same (Holds-left n first rest is_word holds) in_entry
+
+-- ---- the remainder in the register
+
+HoldsRemainder-from : (generator read bytes : List ℕ) (n : ℕ) → IsRemainder generator read bytes → Holds n bytes → HoldsRemainder generator read n
+HoldsRemainder-from generator read bytes n is holds =
+    let upper : bytes ≡ take (length generator) (bytes_of 16 n) = sym (ap (take (length generator)) holds ∙ take_at bytes (replicate (16 - length bytes) 0) (length generator) is.size) in
+    record {
+      remainder = subst (λ xs. IsRemainder generator read xs) upper is;
+      zeros = subst (λ xs. Holds n xs) upper holds;
+    }
+
+pub HoldsRemainder-start : (generator : List ℕ) → length generator ≤ 16 → HoldsRemainder generator [] 0
+HoldsRemainder-start generator fits =
+    HoldsRemainder-from generator [] (replicate (length generator) 0) 0 (IsRemainder-start generator) (Holds-zeros (length generator) fits)
+
+next_by_list : (generator read bytes table : List ℕ) (n byte : ℕ) → n < 2 ^ 128 → byte < 256 → 0 < length generator → HasMultiples generator table 256 → IsRemainder generator read bytes → Holds n bytes → HoldsRemainder generator (read ++ byte ∷ []) (plus (n * 256 % 2 ^ 128) (get_or table (plus (n / 2 ^ 120) byte) 0))
+next_by_list generator read [] table n byte is_word is_byte some_degree has is holds = let long : 0 ≡ length generator = is.size in absurd (omega arith)
+next_by_list generator read (first ∷ rest) table n byte is_word is_byte some_degree has is holds =
+    let top : n / 2 ^ 120 ≡ first = (Holds-parts n first rest is_word holds).0 in
+    let small : plus first byte < 256 = rw (← top) (plus-byte (n / 2 ^ 120) byte (omega arith) is_byte) in
+    let entry = has (plus first byte) small in
+    rw top (HoldsRemainder-from generator (read ++ byte ∷ []) (next_register generator (first ∷ rest) byte) (plus (n * 256 % 2 ^ 128) (get_or table (plus first byte) 0))
+    (IsRemainder-next generator read first rest byte is_byte is)
+    (Holds-next generator n byte (get_or table (plus first byte) 0) first rest is_word is.size holds entry))
+
+-- one byte more
+pub HoldsRemainder-next : (generator read table : List ℕ) (n byte : ℕ) → n < 2 ^ 128 → byte < 256 → 0 < length generator → HasMultiples generator table 256 → HoldsRemainder generator read n → HoldsRemainder generator (read ++ byte ∷ []) (after_byte table n byte)
+unfolding after_byte
+HoldsRemainder-next generator read table n byte is_word is_byte some_degree has before =
+    next_by_list generator read (take (length generator) (bytes_of 16 n)) table n byte is_word is_byte some_degree has before.remainder before.zeros
+
+-- as a loop over the message has it
+pub HoldsRemainder-more : (generator message table : List ℕ) (i n byte : ℕ) → i < length message → byte ≡ get_or message i 0 → HoldsRemainder generator (take i message ++ byte ∷ []) n → HoldsRemainder generator (take (i + 1) message) n
+HoldsRemainder-more generator message table i n byte inside is after =
+    rw (take_more message i 0 inside, ← is) after
+
+-- the bytes that are written out
+pub written_is : (n size : ℕ) (bytes written : List ℕ) → bytes ≡ to_be_bytes w128 n → written ≡ take size bytes → written ≡ take size (bytes_of 16 n)
+unfolding bytes_of
+written_is n size bytes written are is = is ∙ ap (take size) are
+
+-- ---- two bytes at once
+
+-- the number is known by its bytes
+bytes_of-same : (k a b : ℕ) → a < 2 ^ (8 * k) → b < 2 ^ (8 * k) → bytes_of k a ≡ bytes_of k b → a ≡ b
+bytes_of-same zero a b below_a below_b same = omega (arith, below_a, below_b)
+bytes_of-same (suc k) a b below_a below_b same =
+    let more : 8 * suc k ≡ 8 * k + 8 = omega arith in
+    let upper_a : a / 2 ^ 8 < 2 ^ (8 * k) = shr_below a (8 * k) 8 (rw (← more) below_a) in
+    let upper_b : b / 2 ^ 8 < 2 ^ (8 * k) = shr_below b (8 * k) 8 (rw (← more) below_b) in
+    let both : bytes_of k (a / 256) ++ a % 256 ∷ [] ≡ bytes_of k (b / 256) ++ b % 256 ∷ [] = sym (bytes_of-last k a) ∙ same ∙ bytes_of-last k b in
+    let fronts : bytes_of k (a / 256) ≡ bytes_of k (b / 256) =
+    sym (take_at (bytes_of k (a / 256)) (a % 256 ∷ []) k (length-bytes_of k (a / 256)))
+    ∙ ap (take k) both ∙ take_at (bytes_of k (b / 256)) (b % 256 ∷ []) k (length-bytes_of k (b / 256)) in
+    let ends : a % 256 ∷ [] ≡ b % 256 ∷ [] = append_cancel_left (bytes_of k (a / 256)) (a % 256 ∷ []) (b % 256 ∷ []) (both ∙ ap (λ xs. xs ++ b % 256 ∷ []) (sym fronts)) in
+    let lowest : a % 256 ≡ b % 256 = cc in
+    let upper : a / 256 ≡ b / 256 = bytes_of-same k (a / 256) (b / 256) upper_a upper_b fronts in
+    omega arith
+
+-- the entry of a sum is the sum of the entries
+entry-plus : (generator table : List ℕ) (a b : ℕ) → a < 256 → b < 256 → ((i : ℕ) → get_or table i 0 < 2 ^ 128) → HasMultiples generator table 256 → get_or table (plus a b) 0 ≡ plus (get_or table a 0) (get_or table b 0)
+entry-plus generator table a b byte_a byte_b words has =
+    let in_sum : Holds (get_or table (plus a b) 0) (sum_of (scaled a generator) (scaled b generator)) = rw (scaled-plus a b generator) at (has (plus a b) (plus-byte a b byte_a byte_b)) in
+    let same : length (scaled a generator) ≡ length (scaled b generator) = length-scaled a generator ∙ sym (length-scaled b generator) in
+    let by_parts = Holds-plus (get_or table a 0) (get_or table b 0) (scaled a generator) (scaled b generator) same (has a byte_a) (has b byte_b) in
+    bytes_of-same 16 (get_or table (plus a b) 0) (plus (get_or table a 0) (get_or table b 0)) (words (plus a b)) (xor_lt 128 (get_or table a 0) (get_or table b 0) (words a) (words b)) (in_sum ∙ sym by_parts)
+
+-- a shift of a sum is the sum of the shifts
+left-plus : (a b : ℕ) → plus a b * 2 ^ 8 % 2 ^ 128 ≡ plus (a * 2 ^ 8 % 2 ^ 128) (b * 2 ^ 8 % 2 ^ 128)
+left-plus a b =
+    let block : plus (a * 2 ^ 8 + 0) (b * 2 ^ 8 + 0) ≡ plus a b * 2 ^ 8 + plus 0 0 = xor_block 8 a b 0 0 (omega arith) (omega arith) in
+    let left : a * 2 ^ 8 + 0 ≡ a * 2 ^ 8 = omega arith in
+    let right : b * 2 ^ 8 + 0 ≡ b * 2 ^ 8 = omega arith in
+    let none : plus a b * 2 ^ 8 + 0 ≡ plus a b * 2 ^ 8 = omega arith in
+    let whole : plus a b * 2 ^ 8 ≡ plus (a * 2 ^ 8) (b * 2 ^ 8) = cc (block, left, right, none, plus-self 0) in
+    ap (λ m. m % 2 ^ 128) whole ∙ xor_mod (a * 2 ^ 8) (b * 2 ^ 8) 128
+
+regrouped : (a b c d : ℕ) → plus (plus a (plus b d)) c ≡ plus (plus a b) (plus c d)
+regrouped a b c d = simp ring
+
+last_out : (m q b : ℕ) → plus (plus m q) b ≡ plus (plus m b) q
+last_out m q b = simp ring
+
+after_pair_parts : (generator table later : List ℕ) (n a b : ℕ) → n < 2 ^ 128 → a < 256 → b < 256 → ((i : ℕ) → get_or table i 0 < 2 ^ 128) → HasMultiples generator table 256 → AreLater table later → plus (plus (n * 2 ^ 16 % 2 ^ 128) (get_or later (plus (n / 2 ^ 120) a) 0)) (get_or table (plus (n / 2 ^ 112 % 256) b) 0) ≡ after_byte table (after_byte table n a) b
+unfolding after_byte
+after_pair_parts generator table later n a b is_word byte_a byte_b words has are =
+    let far = plus (n / 2 ^ 120) a in
+    let far_byte : far < 256 = plus-byte (n / 2 ^ 120) a (omega arith) byte_a in
+    let entry = get_or table far 0 in
+    let entry_word : entry < 2 ^ 128 = words far in
+    let top = entry / 2 ^ 120 in
+    let top_byte : top < 256 = omega arith in
+    let middle = n / 2 ^ 112 % 256 in
+    let near_byte : plus middle b < 256 = plus-byte middle b (omega arith) byte_b in
+    let twice : n * 2 ^ 8 % 2 ^ 128 * 2 ^ 8 % 2 ^ 128 ≡ n * 2 ^ 16 % 2 ^ 128 = omega arith in
+    let next : n * 2 ^ 8 % 2 ^ 128 / 2 ^ 120 ≡ middle = omega arith in
+    let shifted_on : plus (n * 2 ^ 8 % 2 ^ 128) entry * 2 ^ 8 % 2 ^ 128 ≡ plus (n * 2 ^ 16 % 2 ^ 128) (entry * 2 ^ 8 % 2 ^ 128) = left-plus (n * 2 ^ 8 % 2 ^ 128) entry ∙ ap (λ m. plus m (entry * 2 ^ 8 % 2 ^ 128)) twice in
+    let factor : plus (plus (n * 2 ^ 8 % 2 ^ 128) entry / 2 ^ 120) b ≡ plus (plus middle b) top =
+    ap (λ m. plus m b) (xor_shr (n * 2 ^ 8 % 2 ^ 128) entry 120 ∙ ap (λ m. plus m top) next) ∙ last_out middle top b in
+    let split : get_or table (plus (plus (n * 2 ^ 8 % 2 ^ 128) entry / 2 ^ 120) b) 0 ≡ plus (get_or table (plus middle b) 0) (get_or table top 0) =
+    ap (λ m. get_or table m 0) factor ∙ entry-plus generator table (plus middle b) top near_byte top_byte words has in
+    let left_over : get_or later far 0 ≡ plus (entry * 2 ^ 8 % 2 ^ 128) (get_or table top 0) = are far far_byte ∙ ap (λ m. plus (entry * 2 ^ 8 % 2 ^ 128) (get_or table m 0)) (plus-zero top) in
+    ap (λ m. plus (plus (n * 2 ^ 16 % 2 ^ 128) m) (get_or table (plus middle b) 0)) left_over
+    ∙ regrouped (n * 2 ^ 16 % 2 ^ 128) (entry * 2 ^ 8 % 2 ^ 128) (get_or table (plus middle b) 0) (get_or table top 0)
+    ∙ sym (ap (λ m. plus m (get_or table (plus (plus (n * 2 ^ 8 % 2 ^ 128) entry / 2 ^ 120) b) 0)) shifted_on ∙ ap (plus (plus (n * 2 ^ 16 % 2 ^ 128) (entry * 2 ^ 8 % 2 ^ 128))) split)
+
+pub after_pair : (generator table later : List ℕ) (n a b : ℕ) → n < 2 ^ 128 → a < 256 → b < 256 → ((i : ℕ) → get_or table i 0 < 2 ^ 128) → HasMultiples generator table 256 → AreLater table later → plus (plus (n * 2 ^ 16 % 2 ^ 128) (get_or later (plus (n / 2 ^ 120) a) 0)) (get_or table (plus (bit_and (n / 2 ^ 112) 255) b) 0) ≡ after_byte table (after_byte table n a) b
+after_pair generator table later n a b is_word byte_a byte_b words has are =
+    rw (and_mask (n / 2 ^ 112) 8) (after_pair_parts generator table later n a b is_word byte_a byte_b words has are)
+
+after_byte-word : (table : List ℕ) (n byte : ℕ) → ((i : ℕ) → get_or table i 0 < 2 ^ 128) → after_byte table n byte < 2 ^ 128
+unfolding after_byte
+after_byte-word table n byte words = xor_lt 128 (n * 2 ^ 8 % 2 ^ 128) (get_or table (plus (n / 2 ^ 120) byte) 0) (omega arith) (words (plus (n / 2 ^ 120) byte))
+
+-- as a loop over the pairs of a message has it
+pub HoldsRemainder-pair : (generator message table : List ℕ) (i n : ℕ) → 2 * i + 1 < length message → get_or message (2 * i) 0 < 256 → get_or message (2 * i + 1) 0 < 256 → n < 2 ^ 128 → ((i : ℕ) → get_or table i 0 < 2 ^ 128) → 0 < length generator → HasMultiples generator table 256 → HoldsRemainder generator (take (2 * i) message) n → HoldsRemainder generator (take (2 * (i + 1)) message) (after_byte table (after_byte table n (get_or message (2 * i) 0)) (get_or message (2 * i + 1) 0))
+HoldsRemainder-pair generator message table i n inside byte_a byte_b is_word words some_degree has before =
+    let a = get_or message (2 * i) 0 in
+    let b = get_or message (2 * i + 1) 0 in
+    let first = HoldsRemainder-more generator message table (2 * i) (after_byte table n a) a (omega arith) refl (HoldsRemainder-next generator (take (2 * i) message) table n a is_word byte_a some_degree has before) in
+    let second = HoldsRemainder-more generator message table (2 * i + 1) (after_byte table (after_byte table n a) b) b inside refl
+    (HoldsRemainder-next generator (take (2 * i + 1) message) table (after_byte table n a) b (after_byte-word table n a words) byte_b some_degree has first) in
+    let next : 2 * (i + 1) ≡ 2 * i + 1 + 1 = omega arith in
+    rw next second

@@ -1,0 +1,30 @@
+-- A register of at most sixteen bytes in a number of 128 bits: they are its upper bytes, and zeros follow them.
+use Rattle.std.specs.Prelude.{◌≡◌, ℕ, ◌-◌, ◌*◌, ◌/◌, ◌%◌, ◌^◌, ◌<◌, List, ◌++◌, length, take, replicate, get_or}
+use Rattle.std.specs.Int.{bytes_high_first}
+use Rattle.gf_field.specs.Field.{plus}
+use Rattle.rs_code.specs.Polynomials.{scaled, IsRemainder}
+
+-- the lowest k bytes of a number, the highest of them first
+unfoldable pub bytes_of : ℕ → ℕ → List ℕ
+bytes_of k number = bytes_high_first k number
+
+-- the register's upper bytes are these, and the others are zeros
+abbrev pub Holds : ℕ → List ℕ → Type 0
+Holds register bytes = bytes_of 16 register ≡ bytes ++ replicate (16 - length bytes) 0
+
+-- the table has the generator times each factor below n, at the factor's place
+abbrev pub HasMultiples : List ℕ → List ℕ → ℕ → Type 0
+HasMultiples generator table n = (factor : ℕ) → factor < n → Holds (get_or table factor 0) (scaled factor generator)
+
+-- the register after one more byte; the byte that leaves it and the one that comes are the factor
+unfoldable pub after_byte : List ℕ → ℕ → ℕ → ℕ
+after_byte table register byte = plus (register * 2 ^ 8 % 2 ^ 128) (get_or table (plus (register / 2 ^ 120) byte) 0)
+
+-- what is left of each multiple after one byte more
+abbrev pub AreLater : List ℕ → List ℕ → Type 0
+AreLater table later = (factor : ℕ) → factor < 256 → get_or later factor 0 ≡ after_byte table (get_or table factor 0) 0
+
+-- the register holds the remainder of what was read
+pub record HoldsRemainder (generator read : List ℕ) (register : ℕ) : Type 0 where
+  pub remainder : IsRemainder generator read (take (length generator) (bytes_of 16 register))
+  pub zeros : Holds register (take (length generator) (bytes_of 16 register))
