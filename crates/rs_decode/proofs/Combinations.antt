@@ -1,17 +1,21 @@
 -- Bytes multiplied by a function of their points: by the distance to marked points, and by the values of a polynomial.
--- Their power sums are combinations of the old ones.
-use Rattle.std.proofs.Common.{◌≡◌, ℕ, zero, suc, ◌+◌, ◌<◌, ◌≤◌, List, [], ◌∷◌, length, get_or, drop, All, refl, ap, ◌∙◌, arith}
-use Rattle.std.proofs.Math.Seq.{drop-cons}
+-- Their power sums are combinations of the old ones: the connections of the register whose taps are the coefficients.
+use Rattle.std.proofs.Common.{◌≡◌, ◌≢◌, ℕ, zero, suc, ◌+◌, ◌-◌, ◌<◌, ◌≤◌, List, [], ◌∷◌, length, get_or, All, refl, sym, ap, ◌∙◌, arith, inl, inr}
+use Rattle.std.proofs.lemmas.Bool.{cases_eq}
 use Rattle.std.proofs.lemmas.List.Elements.{All-cons, All-nil}
 use Rattle.std.proofs.lemmas.Bool.Decides.{nat_tests}
 use Rattle.gf_field.specs.Field.{plus, product, power}
-use Rattle.gf_field.specs.Words.{IsByte}
-use Rattle.gf_field.proofs.FieldLaws.{plus-zero, zero-plus, product-assoc, product-byte, product-zero, zero-product, power-suc}
+use Rattle.gf_field.specs.Words.{IsByte, value}
+use Rattle.gf_field.proofs.FieldLaws.{plus-zero, product-assoc, product-byte, product-zero, zero-product, power-add}
 use Rattle.rs_code.specs.Distance.{weight}
 use Rattle.rs_code.proofs.Ring.{ring}
+use Rattle.rs_code.proofs.Values.{value-nil, value-cons}
 use Rattle.rs_code.specs.PowerSums.{power_sum}
-use Rattle.rs_decode.specs.Locator.{polynomial_at, combined, at_points}
+use Rattle.rs_decode.specs.Locator.{at_points}
+use Rattle.rs_decode.specs.Register.{total, connection}
 use Rattle.rs_decode.specs.Sums.{AreSums}
+use Rattle.rs_decode.proofs.Connections.{connection-total}
+use Rattle.rs_decode.proofs.Totals.{total-front, total-none, total-same}
 
 pub length-at_points : (f : ℕ → ℕ) (bytes points : List ℕ) → length bytes ≡ length points → length (at_points f bytes points) ≡ length bytes
 unfolding at_points
@@ -43,32 +47,73 @@ at_points-twice f g (byte ∷ bytes) (point ∷ points) =
     let rest = at_points-twice f g bytes points in
     cc
 
-one_more : (byte c point value up sum high : ℕ) → plus (product (product byte (plus c (product point value))) up) (plus (product c sum) high) ≡ plus (product c (plus (product byte up) sum)) (plus (product (product byte value) (product up point)) high)
-one_more byte c point value up sum high = simp ring
+-- a function that is 0 wherever a byte isn't takes all bytes, and their power sums, to 0
+pub power_sum-taken : (f : ℕ → ℕ) (bytes points : List ℕ) (k : ℕ)
+    → ((j : ℕ) → j < length bytes → get_or bytes j 0 ≢ 0 → f (get_or points j 0) ≡ 0) → power_sum (at_points f bytes points) points k ≡ 0
+unfolding at_points power_sum
+power_sum-taken f [] points k taken = refl
+power_sum-taken f (byte ∷ bytes) [] k taken = refl
+power_sum-taken f (byte ∷ bytes) (point ∷ points) k taken =
+    let here : product byte (f point) ≡ 0 =
+    elim (cases_eq byte 0) [
+      | inl none ↦ ap (λ b. product b (f point)) none ∙ zero-product (f point)
+      | inr some ↦ ap (product byte) (taken 0 (omega arith) some) ∙ product-zero byte
+    ] in
+    let rest = power_sum-taken f bytes points k (λ j below. taken (suc j) (omega arith)) in
+    rw (here, rest, zero-product (power point k)) (plus-zero 0)
+
+-- functions that agree
+pub power_sum-alike : (f g : ℕ → ℕ) (bytes points : List ℕ) (k : ℕ) → ((x : ℕ) → f x ≡ g x)
+    → power_sum (at_points f bytes points) points k ≡ power_sum (at_points g bytes points) points k
+unfolding at_points power_sum
+power_sum-alike f g [] points k alike = refl
+power_sum-alike f g (byte ∷ bytes) [] k alike = refl
+power_sum-alike f g (byte ∷ bytes) (point ∷ points) k alike =
+    ap (λ v. plus (product (product byte v) (power point k)) (power_sum (at_points f bytes points) points k)) (alike point)
+    ∙ ap (plus (product (product byte (g point)) (power point k))) (power_sum-alike f g bytes points k alike)
+
+one_more : (byte c high v up sum rest : ℕ)
+    → plus (product (product byte (plus (product c high) v)) up) (plus (product c sum) rest) ≡ plus (product c (plus (product byte (product up high)) sum)) (plus (product (product byte v) up) rest)
+one_more byte c high v up sum rest = simp ring
 
 -- a polynomial with one more coefficient
-power_sum-coefficient : (c : ℕ) (cs bytes points : List ℕ) (k : ℕ) → power_sum (at_points (polynomial_at (c ∷ cs)) bytes points) points k ≡ plus (product c (power_sum bytes points k)) (power_sum (at_points (polynomial_at cs) bytes points) points (suc k))
-unfolding at_points power_sum polynomial_at
+power_sum-coefficient : (c : ℕ) (cs bytes points : List ℕ) (k : ℕ)
+    → power_sum (at_points (value (c ∷ cs)) bytes points) points k ≡ plus (product c (power_sum bytes points (k + length cs))) (power_sum (at_points (value cs) bytes points) points k)
+unfolding at_points power_sum
 power_sum-coefficient c cs [] points k = simp (product-zero, plus-zero)
 power_sum-coefficient c cs (byte ∷ bytes) [] k = simp (product-zero, plus-zero)
 power_sum-coefficient c cs (byte ∷ bytes) (point ∷ points) k =
-    rw (power_sum-coefficient c cs bytes points k, power-suc)
-    (one_more byte c point (polynomial_at cs point) (power point k) (power_sum bytes points k) (power_sum (at_points (polynomial_at cs) bytes points) points (suc k)))
+    rw (power_sum-coefficient c cs bytes points k, value-cons c cs point, power-add point k (length cs))
+    (one_more byte c (power point (length cs)) (value cs point) (power point k) (power_sum bytes points (k + length cs)) (power_sum (at_points (value cs) bytes points) points k))
 
-power_sum-none : (bytes points : List ℕ) (k : ℕ) → power_sum (at_points (polynomial_at []) bytes points) points k ≡ 0
-unfolding at_points power_sum polynomial_at
-power_sum-none [] points k = refl
-power_sum-none (byte ∷ bytes) [] k = refl
-power_sum-none (byte ∷ bytes) (point ∷ points) k = simp (product-zero, zero-product, zero-plus, power_sum-none bytes points k)
+-- the sums that end at a place, each times a coefficient, are the power sum of the bytes times the polynomial's values
+total-sums : (taps sums bytes points : List ℕ) (k : ℕ) → k + length taps ≤ length sums → AreSums points bytes sums
+    → total (length taps) (λ i. product (get_or taps i 0) (get_or sums (k + length taps - suc i) 0)) ≡ power_sum (at_points (value taps) bytes points) points k
+total-sums [] sums bytes points k fits are =
+    total-none _ ∙ sym (power_sum-taken (value []) bytes points k (λ j below some. value-nil (get_or points j 0)))
+total-sums (c ∷ cs) sums bytes points k fits are =
+    let f : ℕ → ℕ = λ i. product (get_or (c ∷ cs) i 0) (get_or sums (k + length (c ∷ cs) - suc i) 0) in
+    let last : k + length (c ∷ cs) - 1 ≡ k + length cs = omega arith in
+    total-front (length cs) f
+    ∙ ap (λ j. plus (product c (get_or sums j 0)) (total (length cs) (λ i. f (suc i)))) last
+    ∙ ap (λ s. plus (product c s) (total (length cs) (λ i. f (suc i)))) (sym (are.sums_are (k + length cs) (omega arith)))
+    ∙ ap (plus (product c (power_sum bytes points (k + length cs))))
+    (total-same (length cs) (λ i. f (suc i)) (λ i. product (get_or cs i 0) (get_or sums (k + length cs - suc i) 0)) (λ i below.
+    let place : k + length (c ∷ cs) - suc (suc i) ≡ k + length cs - suc i = omega arith in
+    ap (λ j. product (get_or cs i 0) (get_or sums j 0)) place)
+    ∙ total-sums cs sums bytes points k (omega arith) are)
+    ∙ sym (power_sum-coefficient c cs bytes points k)
 
--- the power sums of the bytes times a polynomial's values combine the old sums by its coefficients
-pub combined-sums : (coefficients sums bytes points : List ℕ) (k : ℕ) → k + length coefficients ≤ length sums → AreSums points bytes sums → power_sum (at_points (polynomial_at coefficients) bytes points) points k ≡ combined coefficients (drop k sums)
-unfolding combined
-combined-sums [] sums bytes points k fits are = power_sum-none bytes points k
-combined-sums (c ∷ cs) sums bytes points k fits are =
-    let next : drop k sums ≡ get_or sums k 0 ∷ drop (suc k) sums = drop-cons sums k 0 (omega arith) in
-    power_sum-coefficient c cs bytes points k
-    ∙ rw (are.sums_are k (omega arith), combined-sums cs sums bytes points (suc k) (omega arith) are, next)
+-- so is a register's connection
+pub connection-sums : (len : ℕ) (taps sums bytes points : List ℕ) (n : ℕ) → length taps ≡ len + 1 → len ≤ n → n < length sums → AreSums points bytes sums
+    → connection len taps sums n ≡ power_sum (at_points (value taps) bytes points) points (n - len)
+connection-sums len taps sums bytes points n size reached inside are =
+    connection-total len taps sums n
+    ∙ ap (λ m. total m (λ i. product (get_or taps i 0) (get_or sums (n - i) 0))) (sym size)
+    ∙ total-same (length taps) (λ i. product (get_or taps i 0) (get_or sums (n - i) 0)) (λ i. product (get_or taps i 0) (get_or sums (n - len + length taps - suc i) 0)) (λ i below.
+    let place : n - i ≡ n - len + length taps - suc i = omega arith in
+    ap (λ j. product (get_or taps i 0) (get_or sums j 0)) place)
+    ∙ total-sums taps sums bytes points (n - len) (omega arith) are
 
 -- zeros stay zeros
 pub weight-at_points : (f : ℕ → ℕ) (bytes points : List ℕ) → weight (at_points f bytes points) ≤ weight bytes

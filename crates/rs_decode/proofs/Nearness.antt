@@ -1,6 +1,6 @@
--- The locator finds every error: where a codeword is near, it agrees with the received word at each place that is
--- neither marked nor a zero of the locator, and these are few enough to be filled.
-use Rattle.std.proofs.Common.{◌≡◌, ◌≢◌, ℕ, zero, suc, ◌+◌, ◌*◌, ◌/◌, ◌<◌, ◌≤◌, Bool, true, false, ◌||◌, List, [], ◌∷◌, length, get_or, All, replicate, refl, sym, ap, subst, ◌∙◌, arith, inl, inr, ◌==◌, if◌then◌else◌}
+-- The locator, a shortest register that generates the sums, finds every error: where a codeword is near, it agrees with the
+-- received word at each place that is neither marked nor a zero of the locator, and these are few enough to be filled.
+use Rattle.std.proofs.Common.{◌≡◌, ◌≢◌, ℕ, zero, suc, ◌+◌, ◌*◌, ◌<◌, ◌≤◌, Bool, true, false, ◌||◌, List, [], ◌∷◌, length, get_or, All, replicate, refl, sym, ap, subst, ◌∙◌, arith, inl, inr, ◌==◌, if◌then◌else◌}
 use Rattle.std.proofs.lemmas.List.{get_or-replicate}
 use Rattle.std.proofs.lemmas.Bool.{false≢true}
 use Rattle.std.proofs.lemmas.Bool.Decides.{nat_tests}
@@ -13,17 +13,19 @@ use Rattle.rs_code.specs.Polynomials.{sum_of}
 use Rattle.rs_code.specs.Syndromes.{syndromes_of}
 use Rattle.rs_code.proofs.Distance.{All-sum_of}
 use Rattle.rs_code.proofs.Syndromes.{length-syndromes_of, get_or-syndromes_of}
-use Rattle.rs_code.proofs.Values.{value-sum_of, length-sum_of, get_or-sum_of}
+use Rattle.rs_code.proofs.Values.{value-byte, value-sum_of, length-sum_of, get_or-sum_of}
 use Rattle.rs_code.specs.PowerSums.{points_of, power_sum}
 use Rattle.rs_code.proofs.PowerSums.{AreDistinct-points_of, All-points_of, length-points_of, value-power_sum, none_hidden}
 use Rattle.rs_decode.specs.Errors.{error_count}
 use Rattle.rs_decode.specs.Filling.{IsFilling, marked}
-use Rattle.rs_decode.specs.Locator.{polynomial_at, with_zeros, IsLocator, at_points, distances}
+use Rattle.rs_decode.specs.Locator.{with_zeros, at_points, distances}
+use Rattle.rs_decode.specs.Register.{Generates, IsLeast}
 use Rattle.rs_decode.specs.Sums.{AreSums}
 use Rattle.rs_decode.specs.Places.{picked}
-use Rattle.rs_decode.proofs.Combinations.{length-at_points, All-at_points, get_or-at_points, weight-at_points, combined-sums}
+use Rattle.rs_decode.proofs.Combinations.{length-at_points, All-at_points, get_or-at_points, weight-at_points}
+use Rattle.rs_decode.proofs.Locators.{shortest-few, power_sum-generated}
 use Rattle.rs_decode.proofs.Masking.{distances-byte, distances-marked, distances-unmarked, weight-error_count}
-use Rattle.rs_decode.proofs.Roots.{zeros_among, few_zeros, polynomial_at-byte}
+use Rattle.rs_decode.proofs.Roots.{zeros_among, few_zeros}
 
 one_place : (byte got c e m : ℕ) → c ≡ 2 * e + m → (if byte == got then 0 else 2) + c ≡ 2 * ((if byte == got then 0 else 1) + e) + (0 + m)
 one_place byte got c e m parts = grind (arith, nat_tests)
@@ -41,7 +43,7 @@ cost-parts (got ∷ received) (byte ∷ word) (false ∷ marks) size_r size_m =
     one_place byte got (cost word received marks) (error_count received word marks) (marked marks) (cost-parts received word marks (omega arith) (omega arith))
 
 -- the marks with the zeros, place by place
-pub get_or-with_zeros : (locator : List ℕ) (marks : List Bool) (points : List ℕ) (k : ℕ) → length marks ≡ length points → k < length marks → get_or (with_zeros locator marks points) k false ≡ (get_or marks k false || (polynomial_at locator (get_or points k 0) == 0))
+pub get_or-with_zeros : (locator : List ℕ) (marks : List Bool) (points : List ℕ) (k : ℕ) → length marks ≡ length points → k < length marks → get_or (with_zeros locator marks points) k false ≡ (get_or marks k false || (value locator (get_or points k 0) == 0))
 unfolding with_zeros
 get_or-with_zeros locator [] points k same inside = absurd (omega arith)
 get_or-with_zeros locator (mark ∷ marks) [] k same inside = absurd (omega arith)
@@ -60,12 +62,12 @@ mark_counts p w m z below = grind (arith, nat_tests)
 zero_counts : (p w m z : ℕ) → w ≤ m + z → (if p == 0 then 1 else 0) + w ≤ 0 + m + ((if p == 0 then 1 else 0) + z)
 zero_counts p w m z below = grind (arith, nat_tests)
 
-marked-with_zeros : (locator : List ℕ) (marks : List Bool) (points : List ℕ) → marked (with_zeros locator marks points) ≤ marked marks + zeros_among locator points
+marked-with_zeros : (locator : List ℕ) (marks : List Bool) (points : List ℕ) → marked (with_zeros locator marks points) ≤ marked marks + zeros_among (value locator) points
 unfolding with_zeros marked zeros_among
 marked-with_zeros locator [] points = omega arith
 marked-with_zeros locator (mark ∷ marks) [] = omega arith
-marked-with_zeros locator (true ∷ marks) (point ∷ points) = mark_counts (polynomial_at locator point) (marked (with_zeros locator marks points)) (marked marks) (zeros_among locator points) (marked-with_zeros locator marks points)
-marked-with_zeros locator (false ∷ marks) (point ∷ points) = zero_counts (polynomial_at locator point) (marked (with_zeros locator marks points)) (marked marks) (zeros_among locator points) (marked-with_zeros locator marks points)
+marked-with_zeros locator (true ∷ marks) (point ∷ points) = mark_counts (value locator point) (marked (with_zeros locator marks points)) (marked marks) (zeros_among (value locator) points) (marked-with_zeros locator marks points)
+marked-with_zeros locator (false ∷ marks) (point ∷ points) = zero_counts (value locator point) (marked (with_zeros locator marks points)) (marked marks) (zeros_among (value locator) points) (marked-with_zeros locator marks points)
 
 -- the syndromes are the power sums of what differs from a codeword
 pub AreSums-syndromes_of : (n r : ℕ) (received word : List ℕ) → length received ≡ n → IsCodeword n r word → AreSums (points_of n) (sum_of received word) (syndromes_of r received)
@@ -110,15 +112,15 @@ weight-masked n r received word marks short near =
     ∙ rw (get_or-sum_of received word k same, agree, plus-self) (zero-product (distances others (get_or points k 0))))
 
 -- the locator takes every byte that is left to 0
-all_located : (n t : ℕ) (masked sums locator : List ℕ) → n ≤ 255 → length masked ≡ n → weight masked ≤ t → 2 * t ≤ length sums → AreSums (points_of n) masked sums → IsLocator t sums locator → at_points (polynomial_at locator) masked (points_of n) ≡ replicate n 0
-all_located n t masked sums locator short size few enough are is =
+all_located : (n len : ℕ) (masked sums locator : List ℕ) → n ≤ 255 → length masked ≡ n → len ≤ weight masked → 2 * weight masked ≤ length sums
+    → AreSums (points_of n) masked sums → Generates len locator sums → at_points (value locator) masked (points_of n) ≡ replicate n 0
+all_located n len masked sums locator short size least few are generates =
     let points = points_of n in
     let long : length points ≡ n = length-points_of n in
-    let hidden = at_points (polynomial_at locator) masked points in
-    let hidden_size : length hidden ≡ n = length-at_points (polynomial_at locator) masked points (size ∙ sym long) ∙ size in
-    let width : length locator ≡ t + 1 = is.size in
-    none_hidden t points hidden (hidden_size ∙ sym long) (All-at_points (polynomial_at locator) masked points) (All-points_of n) (AreDistinct-points_of n short) (omega (arith, weight-at_points (polynomial_at locator) masked points))
-    (λ k below. combined-sums locator sums masked points k (omega arith) are ∙ is.vanishes k below)
+    let hidden = at_points (value locator) masked points in
+    let hidden_size : length hidden ≡ n = length-at_points (value locator) masked points (size ∙ sym long) ∙ size in
+    none_hidden (weight masked) points hidden (hidden_size ∙ sym long) (All-at_points (value locator) masked points) (All-points_of n) (AreDistinct-points_of n short) (weight-at_points (value locator) masked points)
+    (λ k below. power_sum-generated len locator sums masked points k generates (omega arith) are)
     ∙ ap (λ m. replicate m 0) hidden_size
 
 or_left : (mark : Bool) (l : ℕ) → (mark || (l == 0)) ≡ false → mark ≡ false
@@ -131,8 +133,8 @@ or_right false zero clear = absurd (false≢true (sym clear))
 or_right false (suc l) clear = λ is. absurd (omega arith)
 
 -- no error is left at a place that is neither marked nor a zero
-agrees_elsewhere : (n r : ℕ) (received word : List ℕ) (marks : List Bool) (locator : List ℕ) → n ≤ 255 → IsNear n r received marks word → All IsByte received → All IsByte locator → at_points (polynomial_at locator) (at_points (distances (picked marks (points_of n))) (sum_of received word) (points_of n)) (points_of n) ≡ replicate n 0 → (k : ℕ) → k < n → get_or (with_zeros locator marks (points_of n)) k false ≡ false → get_or word k 0 ≡ get_or received k 0
-agrees_elsewhere n r received word marks locator short near received_bytes locator_bytes hidden_is k inside clear =
+agrees_elsewhere : (n r : ℕ) (received word : List ℕ) (marks : List Bool) (locator : List ℕ) → n ≤ 255 → IsNear n r received marks word → All IsByte received → at_points (value locator) (at_points (distances (picked marks (points_of n))) (sum_of received word) (points_of n)) (points_of n) ≡ replicate n 0 → (k : ℕ) → k < n → get_or (with_zeros locator marks (points_of n)) k false ≡ false → get_or word k 0 ≡ get_or received k 0
+agrees_elsewhere n r received word marks locator short near received_bytes hidden_is k inside clear =
     let points = points_of n in
     let others = picked marks points in
     let errors = sum_of received word in
@@ -143,45 +145,57 @@ agrees_elsewhere n r received word marks locator short near received_bytes locat
     let masked_size : length masked ≡ n = length-at_points (distances others) errors points (size ∙ sym long) ∙ size in
     let parts = sym (get_or-with_zeros locator marks points k (near.marks_size ∙ sym long) (omega (arith, near.marks_size))) ∙ clear in
     let byte_point = All-get_or IsByte points k 0 (omega arith) (All-points_of n) in
-    let vanishes : product (product (get_or errors k 0) (distances others (get_or points k 0))) (polynomial_at locator (get_or points k 0)) ≡ 0 =
-    sym (get_or-at_points (polynomial_at locator) masked points k (masked_size ∙ sym long) (omega arith)
-    ∙ ap (λ b. product b (polynomial_at locator (get_or points k 0))) (get_or-at_points (distances others) errors points k (size ∙ sym long) (omega arith)))
+    let vanishes : product (product (get_or errors k 0) (distances others (get_or points k 0))) (value locator (get_or points k 0)) ≡ 0 =
+    sym (get_or-at_points (value locator) masked points k (masked_size ∙ sym long) (omega arith)
+    ∙ ap (λ b. product b (value locator (get_or points k 0))) (get_or-at_points (distances others) errors points k (size ∙ sym long) (omega arith)))
     ∙ ap (λ xs. get_or xs k 0) hidden_is ∙ get_or-replicate n k 0 0 inside in
-    let none = no_error (get_or errors k 0) (distances others (get_or points k 0)) (polynomial_at locator (get_or points k 0))
+    let none = no_error (get_or errors k 0) (distances others (get_or points k 0)) (value locator (get_or points k 0))
     (All-get_or IsByte errors k 0 (omega arith) (All-sum_of received word received_bytes near.codeword.bytes))
-    (distances-byte others (get_or points k 0)) (polynomial_at-byte locator (get_or points k 0) locator_bytes)
-    (distances-unmarked marks points k (AreDistinct-points_of n short) (All-points_of n) (omega arith) (or_left (get_or marks k false) (polynomial_at locator (get_or points k 0)) parts))
-    (or_right (get_or marks k false) (polynomial_at locator (get_or points k 0)) parts) vanishes in
+    (distances-byte others (get_or points k 0)) (value-byte locator (get_or points k 0))
+    (distances-unmarked marks points k (AreDistinct-points_of n short) (All-points_of n) (omega arith) (or_left (get_or marks k false) (value locator (get_or points k 0)) parts))
+    (or_right (get_or marks k false) (value locator (get_or points k 0)) parts) vanishes in
     sym (plus-zero_same (get_or received k 0) (get_or word k 0) (sym (get_or-sum_of received word k same) ∙ none))
 
 -- a near codeword fills the places that are marked or zeros of the locator
-pub located : (n r t : ℕ) (received word : List ℕ) (marks : List Bool) (sums locator : List ℕ) → n ≤ 255 → IsNear n r received marks word → All IsByte received → length sums + marked marks ≡ r → 2 * t ≤ length sums → length sums ≤ 2 * t + 1 → AreSums (points_of n) (at_points (distances (picked marks (points_of n))) (sum_of received word) (points_of n)) sums → IsLocator t sums locator → IsFilling n r received (with_zeros locator marks (points_of n)) word
-located n r t received word marks sums locator short near received_bytes left enough half are is =
+located : (n r len : ℕ) (received word : List ℕ) (marks : List Bool) (sums locator : List ℕ) → n ≤ 255 → IsNear n r received marks word → All IsByte received
+    → length sums + marked marks ≡ r → AreSums (points_of n) (at_points (distances (picked marks (points_of n))) (sum_of received word) (points_of n)) sums
+    → Generates len locator sums → IsLeast len sums → IsFilling n r received (with_zeros locator marks (points_of n)) word
+located n r len received word marks sums locator short near received_bytes left are generates least =
     let points = points_of n in
     let long : length points ≡ n = length-points_of n in
     let same : length received ≡ length word = near.received_size ∙ sym near.codeword.size in
     let parts = cost-parts received word marks same (near.marks_size ∙ sym near.codeword.size) in
     let within = near.within in
-    let few = weight-masked n r received word marks short near in
+    let masked = at_points (distances (picked marks points)) (sum_of received word) points in
+    let few : weight masked ≤ error_count received word marks = weight-masked n r received word marks short near in
     let size : length (sum_of received word) ≡ n = length-sum_of received word same ∙ near.received_size in
-    let masked_size = length-at_points (distances (picked marks points)) (sum_of received word) points (size ∙ sym long) ∙ size in
-    let hidden_is = all_located n t (at_points (distances (picked marks points)) (sum_of received word) points) sums locator short masked_size (omega arith) enough are is in
-    let marks_long : length (with_zeros locator marks points) ≡ n = length-with_zeros locator marks points (near.marks_size ∙ sym long) ∙ near.marks_size in
-    let roots : zeros_among locator points + 1 ≤ length locator = few_zeros points locator (AreDistinct-points_of n short) (All-points_of n) is.bytes is.nonzero in
-    let width : length locator ≡ t + 1 = is.size in
+    let masked_size : length masked ≡ n = length-at_points (distances (picked marks points)) (sum_of received word) points (size ∙ sym long) ∙ size in
+    let half : 2 * weight masked ≤ length sums = omega arith in
+    let no_longer : len ≤ weight masked = shortest-few len sums masked points (masked_size ∙ sym long) (omega arith) are least in
+    let hidden_is = all_located n len masked sums locator short masked_size no_longer half are generates in
+    let width : length locator ≡ len + 1 = generates.size in
+    let roots : zeros_among (value locator) points + 1 ≤ length locator =
+    few_zeros points locator (AreDistinct-points_of n short) (All-points_of n) generates.bytes (omega arith) generates.first in
     record {
       codeword = near.codeword;
-      agrees = λ k below clear. agrees_elsewhere n r received word marks locator short near received_bytes is.bytes hidden_is k (omega arith) clear;
+      agrees = λ k below clear.
+          agrees_elsewhere n r received word marks locator short near received_bytes hidden_is k
+          (omega (arith, length-with_zeros locator marks points (near.marks_size ∙ sym long), near.marks_size)) clear;
       within = omega (arith, marked-with_zeros locator marks points);
     }
 
 -- as the decoder finds it: with the marked points taken out of the syndromes, and the zeros of the locator marked
-pub filled-by_locator : (n r : ℕ) (received word : List ℕ) (marks doubtful : List Bool) (points syndromes sums locator : List ℕ) → n ≤ 255 → length received ≡ n → length marks ≡ n → All IsByte received → points ≡ picked marks (points_of (length marks)) → length points ≡ marked marks → syndromes ≡ syndromes_of r received → ((places bytes : List ℕ) → AreSums places bytes syndromes → AreSums places (at_points (distances points) bytes places) sums) → length sums + length points ≡ length syndromes → IsLocator (length sums / 2) sums locator → doubtful ≡ with_zeros locator marks (points_of (length marks)) → IsNear n r received marks word → IsFilling n r received doubtful word
-filled-by_locator n r received word marks doubtful points syndromes sums locator short size_r size_m bytes points_are few syndromes_are take_out left is doubtful_is near =
+pub located-by_shortest : (n r len : ℕ) (received word : List ℕ) (marks doubtful : List Bool) (points syndromes sums locator : List ℕ)
+    → n ≤ 255 → length received ≡ n → length marks ≡ n → All IsByte received
+    → points ≡ picked marks (points_of (length marks)) → length points ≡ marked marks → syndromes ≡ syndromes_of r received
+    → ((places bytes : List ℕ) → AreSums places bytes syndromes → AreSums places (at_points (distances points) bytes places) sums) → length sums + length points ≡ length syndromes
+    → Generates len locator sums → IsLeast len sums → doubtful ≡ with_zeros locator marks (points_of (length marks))
+    → IsNear n r received marks word → IsFilling n r received doubtful word
+located-by_shortest n r len received word marks doubtful points syndromes sums locator short size_r size_m bytes points_are few syndromes_are take_out left generates least doubtful_is near =
     let at : points_of (length marks) ≡ points_of n = ap points_of size_m in
     let syndromes_sums = subst (λ xs. AreSums (points_of n) (sum_of received word) xs) (sym syndromes_are) (AreSums-syndromes_of n r received word size_r near.codeword) in
     let masked = take_out (points_of n) (sum_of received word) syndromes_sums in
     let masked_sums = subst (λ xs. AreSums (points_of n) (at_points (distances xs) (sum_of received word) (points_of n)) sums) (points_are ∙ ap (picked marks) at) masked in
     let total : length sums + marked marks ≡ r = omega (arith, ap length syndromes_are, length-syndromes_of r received) in
-    let filling = located n r (length sums / 2) received word marks sums locator short near bytes total (omega arith) (omega arith) masked_sums is in
+    let filling = located n r len received word marks sums locator short near bytes total masked_sums generates least in
     subst (λ xs. IsFilling n r received xs word) (sym (doubtful_is ∙ ap (with_zeros locator marks) at)) filling

@@ -1,17 +1,25 @@
 -- A polynomial that isn't 0 has fewer zeros than coefficients.
--- With a zero a taken out by division by (x + a), it has one coefficient less and its other zeros.
-use Rattle.std.proofs.Common.{◌≡◌, ◌≢◌, ℕ, zero, suc, ◌+◌, ◌<◌, ◌≤◌, List, [], ◌∷◌, length, All, replicate, refl, sym, ap, ◌∙◌, arith, inl, inr, ◌==◌, if◌then◌else◌}
+-- With a zero a taken out by division by (x + a), it has one coefficient less and its other zeros. The division is plain where
+-- the lowest power stands first, so the polynomial is turned round for it.
+use Rattle.std.proofs.Common.{◌≡◌, ◌≢◌, ℕ, zero, suc, ◌+◌, ◌-◌, ◌<◌, ◌≤◌, List, [], ◌∷◌, ◌++◌, length, get_or, reverse, All, replicate, refl, sym, ap, subst, ◌∙◌, arith, inl, inr, ◌==◌, if◌then◌else◌}
+use Rattle.std.proofs.lemmas.List.{length-reverse, get_or-reverse, get_or-replicate}
+use Rattle.std.proofs.lemmas.Grind.{reverse_onto}
 use Rattle.std.proofs.lemmas.Bool.{cases_eq}
 use Rattle.std.proofs.lemmas.Bool.Decides.{nat_tests}
-use Rattle.std.proofs.lemmas.List.Elements.{All-head, All-tail, All-cons, All-nil}
-use Rattle.gf_field.specs.Field.{plus, product}
-use Rattle.gf_field.specs.Words.{IsByte}
-use Rattle.gf_field.proofs.FieldLaws.{plus-byte, plus-comm, plus-zero, plus-zero_same, product-byte, product-zero, product-zero_factor}
+use Rattle.std.proofs.lemmas.List.Elements.{All-head, All-tail, All-cons, All-nil, All-get_or, All-from_get_or}
+use Rattle.gf_field.specs.Field.{plus, product, power}
+use Rattle.gf_field.specs.Words.{IsByte, value}
+use Rattle.gf_field.proofs.FieldLaws.{plus-byte, plus-comm, plus-zero, plus-zero_same, power-suc, power-zero, product-byte, product-one, product-zero, product-zero_factor}
 use Rattle.rs_code.proofs.Ring.{ring}
+use Rattle.rs_code.proofs.Values.{value-nil, value-cons}
 use Rattle.rs_code.specs.PowerSums.{AreDistinct}
-use Rattle.rs_decode.specs.Locator.{polynomial_at}
 
-pub polynomial_at-byte : (coefficients : List ℕ) (x : ℕ) → All IsByte coefficients → polynomial_at coefficients x < 256
+-- the polynomial's value at x, the lowest power first
+polynomial_at : List ℕ → ℕ → ℕ
+polynomial_at [] x = 0
+polynomial_at (coefficient ∷ rest) x = plus coefficient (product x (polynomial_at rest x))
+
+polynomial_at-byte : (coefficients : List ℕ) (x : ℕ) → All IsByte coefficients → polynomial_at coefficients x < 256
 unfolding polynomial_at
 polynomial_at-byte [] x all = omega arith
 polynomial_at-byte (c ∷ cs) x all = plus-byte c (product x (polynomial_at cs x)) (All-head IsByte c cs all) (product-byte x (polynomial_at cs x))
@@ -43,10 +51,10 @@ unfolding quotient polynomial_at
 quotient-law x a [] = simp (product-zero, plus-zero)
 quotient-law x a (d ∷ ds) = divided x a d (polynomial_at ds x) (polynomial_at ds a) (polynomial_at (quotient a ds) x) (quotient-law x a ds)
 
--- the number of zeros among the points
-unfoldable pub zeros_among : List ℕ → List ℕ → ℕ
-zeros_among coefficients [] = 0
-zeros_among coefficients (x ∷ xs) = (if polynomial_at coefficients x == 0 then 1 else 0) + zeros_among coefficients xs
+-- the number of a function's zeros among the points
+unfoldable pub zeros_among : (ℕ → ℕ) → List ℕ → ℕ
+zeros_among f [] = 0
+zeros_among f (x ∷ xs) = (if f x == 0 then 1 else 0) + zeros_among f xs
 
 polynomial_at-zeros : (n x : ℕ) → polynomial_at (replicate n 0) x ≡ 0
 unfolding polynomial_at
@@ -73,7 +81,7 @@ same_tests p q onward back n m same =
     ]
 
 -- with a zero taken out, the zeros at all other points stay
-same_zeros : (a c : ℕ) (cs xs : List ℕ) → IsByte a → All IsByte cs → All IsByte xs → All (λ y. a ≢ y) xs → polynomial_at (c ∷ cs) a ≡ 0 → zeros_among (c ∷ cs) xs ≡ zeros_among (quotient a cs) xs
+same_zeros : (a c : ℕ) (cs xs : List ℕ) → IsByte a → All IsByte cs → All IsByte xs → All (λ y. a ≢ y) xs → polynomial_at (c ∷ cs) a ≡ 0 → zeros_among (polynomial_at (c ∷ cs)) xs ≡ zeros_among (polynomial_at (quotient a cs)) xs
 unfolding zeros_among polynomial_at
 same_zeros a c cs [] byte_a all all_points apart root = refl
 same_zeros a c cs (y ∷ xs) byte_a all all_points apart root =
@@ -104,12 +112,11 @@ all_zero c x cs root zeros =
     let first : c ≡ 0 = plus-zero_same c (product x (polynomial_at cs x)) root ∙ none in
     cc
 
--- a polynomial that isn't 0 has fewer zeros than coefficients
-pub few_zeros : (points coefficients : List ℕ) → AreDistinct points → All IsByte points → All IsByte coefficients → (coefficients ≡ replicate (length coefficients) 0 → ⊥) → zeros_among coefficients points + 1 ≤ length coefficients
+few_lowest_first : (points coefficients : List ℕ) → AreDistinct points → All IsByte points → All IsByte coefficients → (coefficients ≡ replicate (length coefficients) 0 → ⊥) → zeros_among (polynomial_at coefficients) points + 1 ≤ length coefficients
 unfolding zeros_among AreDistinct
-few_zeros points [] distinct all_points all nonzero = absurd (nonzero refl)
-few_zeros [] (c ∷ cs) distinct all_points all nonzero = omega arith
-few_zeros (x ∷ points) (c ∷ cs) distinct all_points all nonzero =
+few_lowest_first points [] distinct all_points all nonzero = absurd (nonzero refl)
+few_lowest_first [] (c ∷ cs) distinct all_points all nonzero = omega arith
+few_lowest_first (x ∷ points) (c ∷ cs) distinct all_points all nonzero =
     elim (cases_eq (polynomial_at (c ∷ cs) x) 0) [
       | inl root ↦
           let byte_x = All-head IsByte x points all_points in
@@ -117,12 +124,63 @@ few_zeros (x ∷ points) (c ∷ cs) distinct all_points all nonzero =
           let all_cs = All-tail IsByte c cs all in
           let quotient_nonzero : quotient x cs ≡ replicate (length (quotient x cs)) 0 → ⊥ =
           λ zeros. nonzero (all_zero c x cs root (zeros_from_quotient x cs (zeros ∙ ap (λ n. replicate n 0) (length-quotient x cs)))) in
-          let rest = few_zeros points (quotient x cs) distinct.1 tail_points (All-quotient x cs all_cs) quotient_nonzero in
+          let rest = few_lowest_first points (quotient x cs) distinct.1 tail_points (All-quotient x cs all_cs) quotient_nonzero in
           let same = same_zeros x c cs points byte_x all_cs tail_points distinct.0 root in
-          let counted : (if polynomial_at (c ∷ cs) x == 0 then 1 else 0) + zeros_among (c ∷ cs) points ≤ 1 + zeros_among (quotient x cs) points = one_at_most (polynomial_at (c ∷ cs) x) (zeros_among (c ∷ cs) points) (zeros_among (quotient x cs) points) same in
+          let counted : (if polynomial_at (c ∷ cs) x == 0 then 1 else 0) + zeros_among (polynomial_at (c ∷ cs)) points ≤ 1 + zeros_among (polynomial_at (quotient x cs)) points = one_at_most (polynomial_at (c ∷ cs) x) (zeros_among (polynomial_at (c ∷ cs)) points) (zeros_among (polynomial_at (quotient x cs)) points) same in
           omega (arith, length-quotient x cs)
       | inr no_root ↦
-          let rest = few_zeros points (c ∷ cs) distinct.1 (All-tail IsByte x points all_points) all nonzero in
-          let counted : (if polynomial_at (c ∷ cs) x == 0 then 1 else 0) + zeros_among (c ∷ cs) points ≡ zeros_among (c ∷ cs) points = not_counted (polynomial_at (c ∷ cs) x) (zeros_among (c ∷ cs) points) no_root in
+          let rest = few_lowest_first points (c ∷ cs) distinct.1 (All-tail IsByte x points all_points) all nonzero in
+          let counted : (if polynomial_at (c ∷ cs) x == 0 then 1 else 0) + zeros_among (polynomial_at (c ∷ cs)) points ≡ zeros_among (polynomial_at (c ∷ cs)) points = not_counted (polynomial_at (c ∷ cs) x) (zeros_among (polynomial_at (c ∷ cs)) points) no_root in
           omega arith
     ]
+
+pushed : (d c x p u : ℕ) → plus d (product x (plus p (product c u))) ≡ plus (plus d (product x p)) (product c (product u x))
+pushed d c x p u = simp ring
+
+-- a polynomial with one coefficient more
+polynomial_at-push : (cs : List ℕ) (c x : ℕ) → c < 256 → polynomial_at (cs ++ c ∷ []) x ≡ plus (polynomial_at cs x) (product c (power x (length cs)))
+unfolding polynomial_at
+polynomial_at-push [] c x byte =
+    rw (product-zero, power-zero, product-one c byte) (plus-comm c 0)
+polynomial_at-push (d ∷ cs) c x byte =
+    rw (polynomial_at-push cs c x byte, power-suc x (length cs)) (pushed d c x (polynomial_at cs x) (power x (length cs)))
+
+-- a word's value is that of its coefficients, the lowest power first
+value-reverse : (taps : List ℕ) (x : ℕ) → All IsByte taps → value taps x ≡ polynomial_at (reverse taps) x
+unfolding polynomial_at
+value-reverse [] x all = value-nil x
+value-reverse (c ∷ cs) x all =
+    value-cons c cs x
+    ∙ ap (plus (product c (power x (length cs)))) (value-reverse cs x (All-tail IsByte c cs all))
+    ∙ plus-comm (product c (power x (length cs))) (polynomial_at (reverse cs) x)
+    ∙ ap (λ n. plus (polynomial_at (reverse cs) x) (product c (power x n))) (sym (length-reverse cs))
+    ∙ sym (polynomial_at-push (reverse cs) c x (All-head IsByte c cs all))
+    ∙ ap (λ xs. polynomial_at xs x) (sym (reverse_onto cs c []))
+
+zeros_among-alike : (f g : ℕ → ℕ) (points : List ℕ) → ((x : ℕ) → f x ≡ g x) → zeros_among f points ≡ zeros_among g points
+unfolding zeros_among
+zeros_among-alike f g [] alike = refl
+zeros_among-alike f g (x ∷ points) alike = rw (alike x, zeros_among-alike f g points alike) refl
+
+All-reverse : (xs : List ℕ) → All IsByte xs → All IsByte (reverse xs)
+All-reverse xs all = All-from_get_or IsByte (reverse xs) 0 (λ k inside.
+    let long : length (reverse xs) ≡ length xs = length-reverse xs in
+    subst IsByte (sym (get_or-reverse xs k 0 (omega arith))) (All-get_or IsByte xs (length xs - 1 - k) 0 (omega arith) all))
+
+-- a leading 1 isn't 0, and stands last
+led-nonzero : (taps : List ℕ) → 0 < length taps → get_or taps 0 0 ≡ 1 → reverse taps ≡ replicate (length (reverse taps)) 0 → ⊥
+led-nonzero taps some first zeros =
+    let long : length (reverse taps) ≡ length taps = length-reverse taps in
+    let back : length taps - 1 - (length taps - 1) ≡ 0 = omega arith in
+    let last : get_or (reverse taps) (length taps - 1) 0 ≡ 1 =
+    get_or-reverse taps (length taps - 1) 0 (omega arith) ∙ ap (λ k. get_or taps k 0) back ∙ first in
+    let none : get_or (reverse taps) (length taps - 1) 0 ≡ 0 =
+    ap (λ xs. get_or xs (length taps - 1) 0) zeros ∙ get_or-replicate (length (reverse taps)) (length taps - 1) 0 0 (omega arith) in
+    omega (arith, last, none)
+
+-- a polynomial with the leading coefficient 1 has fewer zeros than coefficients
+pub few_zeros : (points taps : List ℕ) → AreDistinct points → All IsByte points → All IsByte taps → 0 < length taps → get_or taps 0 0 ≡ 1
+    → zeros_among (value taps) points + 1 ≤ length taps
+few_zeros points taps distinct all_points all some first =
+    let few = few_lowest_first points (reverse taps) distinct all_points (All-reverse taps all) (led-nonzero taps some first) in
+    omega (arith, length-reverse taps, zeros_among-alike (value taps) (polynomial_at (reverse taps)) points (λ x. value-reverse taps x all))

@@ -1,26 +1,19 @@
--- The steps of the search for a polynomial's zeros: Horner's rule from the highest power down, and the marks place by place.
-use Rattle.std.proofs.Common.{◌≡◌, ℕ, ◌+◌, ◌-◌, ◌<◌, ◌≤◌, Bool, true, false, ◌||◌, ◌==◌, List, length, get_or, drop, refl, sym, ap, ◌∙◌, arith}
-use Rattle.std.proofs.lemmas.List.{drop_all, drop_more, ext_get_or}
+-- The search for a polynomial's zeros: the marks place by place.
+use Rattle.std.proofs.Common.{◌≡◌, ◌≢◌, ℕ, ◌-◌, ◌<◌, ◌≤◌, Bool, true, false, ◌||◌, ◌==◌, List, length, get_or, refl, sym, ap, ◌∙◌, arith}
+use Rattle.std.proofs.lemmas.List.{ext_get_or}
 use Rattle.std.proofs.lemmas.Bool.{false≢true}
-use Rattle.gf_field.specs.Field.{alpha, plus, product, power}
+use Rattle.std.proofs.lemmas.Bool.Decides.{nat_tests}
+use Rattle.gf_field.specs.Field.{alpha, power}
+use Rattle.gf_field.specs.Words.{value}
+use Rattle.gf_field.proofs.FieldLaws.{power-alpha-differ}
 use Rattle.rs_code.specs.PowerSums.{points_of}
 use Rattle.rs_code.proofs.PowerSums.{length-points_of}
-use Rattle.rs_decode.specs.Locator.{polynomial_at, with_zeros}
+use Rattle.rs_decode.specs.Locator.{with_zeros}
 use Rattle.rs_decode.proofs.Marks.{get_or-points_of}
 use Rattle.rs_decode.proofs.Nearness.{get_or-with_zeros, length-with_zeros}
 
-pub polynomial_at-end : (coefficients : List ℕ) (n x : ℕ) → length coefficients ≤ n → polynomial_at (drop n coefficients) x ≡ 0
-unfolding polynomial_at
-polynomial_at-end coefficients n x past = rw (drop_all n coefficients past) refl
-
-pub polynomial_at-before : (coefficients : List ℕ) (i x : ℕ) → 0 < i → i ≤ length coefficients → polynomial_at (drop (i - 1) coefficients) x ≡ plus (get_or coefficients (i - 1) 0) (product x (polynomial_at (drop i coefficients) x))
-unfolding polynomial_at
-polynomial_at-before coefficients i x some inside =
-    let next : i - 1 + 1 ≡ i = omega arith in
-    rw (drop_more coefficients (i - 1) 0 (omega arith), next) refl
-
 -- place by place
-pub with_zeros-from_places : (locator : List ℕ) (marks after : List Bool) → length after ≡ length marks → ((k : ℕ) → k < length marks → get_or after k false ≡ (get_or marks k false || (polynomial_at locator (power alpha (length marks - 1 - k)) == 0))) → after ≡ with_zeros locator marks (points_of (length marks))
+pub with_zeros-from_places : (locator : List ℕ) (marks after : List Bool) → length after ≡ length marks → ((k : ℕ) → k < length marks → get_or after k false ≡ (get_or marks k false || (value locator (power alpha (length marks - 1 - k)) == 0))) → after ≡ with_zeros locator marks (points_of (length marks))
 with_zeros-from_places locator marks after size places =
     let long : length marks ≡ length (points_of (length marks)) = sym (length-points_of (length marks)) in
     let zeros = with_zeros locator marks (points_of (length marks)) in
@@ -29,15 +22,32 @@ with_zeros-from_places locator marks after size places =
     (λ k below.
     let point = get_or-points_of (length marks) k (omega arith) in
     places k (omega arith)
-    ∙ ap (λ x. get_or marks k false || (polynomial_at locator x == 0)) (sym point)
+    ∙ ap (λ x. get_or marks k false || (value locator x == 0)) (sym point)
     ∙ sym (get_or-with_zeros locator marks (points_of (length marks)) k long (omega arith)))
 
--- a marked place stays marked
-pub or_marked : (mark : Bool) (l : ℕ) → mark ≡ true → true ≡ (mark || (l == 0))
-or_marked true l mark_is = refl
-or_marked false l mark_is = absurd (false≢true mark_is)
+-- a place that is marked stays so
+pub or_marked : (mark test : Bool) → mark ≡ true → mark ≡ (mark || test)
+or_marked true test mark_is = refl
+or_marked false test mark_is = absurd (false≢true mark_is)
 
--- another is marked where it is a zero
-pub or_clear : (mark : Bool) (l : ℕ) → mark ≡ false → (l == 0) ≡ (mark || (l == 0))
-or_clear true l clear = absurd (false≢true (sym clear))
-or_clear false l clear = refl
+-- one that isn't gets marked where it is a zero
+pub or_found : (mark test : Bool) → mark ≡ false → test ≡ true → true ≡ (mark || test)
+or_found true test clear found = absurd (false≢true (sym clear))
+or_found false test clear found = sym found
+
+-- and where it is none, nothing changes
+pub or_false : (mark test : Bool) → test ≡ false → mark ≡ (mark || test)
+or_false true test none = refl
+or_false false test none = sym none
+
+pub is_zero : (n : ℕ) → n ≡ 0 → (n == 0) ≡ true
+is_zero n zero_is = grind (arith, nat_tests)
+
+pub is_not_zero : (n : ℕ) → n ≢ 0 → (n == 0) ≡ false
+is_not_zero n nonzero = grind (arith, nat_tests)
+
+-- the points of two places of a word differ
+pub points-differ : (n j k : ℕ) → n ≤ 255 → k < j → j < n → power alpha (n - 1 - k) ≢ power alpha (n - 1 - j)
+points-differ n j k short before inside same =
+    let e : n - 1 - k ≡ n - 1 - j = power-alpha-differ (n - 1 - k) (n - 1 - j) (omega arith) (omega arith) same in
+    absurd (omega arith)

@@ -1,8 +1,9 @@
--- The laws of decoding, for words of at most 255 bytes.
-use Rattle.std.specs.Prelude.{◌≡◌, ℕ, ◌≤◌, List, Bool, length, Some, ◌↔◌}
+-- The laws of decoding, for words of at most 255 bytes, and of registers.
+use Rattle.std.specs.Prelude.{◌≡◌, ℕ, ◌*◌, ◌≤◌, List, Bool, length, Some, ◌↔◌}
 use Rattle.gf_field.specs.Words.{IsNear}
 use Rattle.rs_decode.specs.Nearest.{near_of}
 use Rattle.rs_decode.specs.Filling.{IsFilling}
+use Rattle.rs_decode.specs.Register.{Generates, IsLeast}
 
 -- at most one codeword is near
 abbrev pub NearCodewordIsOnlyOne : Type 0
@@ -24,3 +25,8 @@ abbrev pub NearCodewordIsFound : Type 0
 NearCodewordIsFound =
     (n r : ℕ) (received : List ℕ) (marks : List Bool) (word : List ℕ) → n ≤ 255 → length received ≡ n → length marks ≡ n
     → (near_of n r received marks ≡ Some word) ↔ IsNear n r received marks word
+
+-- of the shortest registers that generate a list, where they are at most half as long as it, there is only one
+abbrev pub ShortestRegisterIsOnlyOne : Type 0
+ShortestRegisterIsOnlyOne =
+    (len : ℕ) (a b seq : List ℕ) → 2 * len ≤ length seq → IsLeast len seq → Generates len a seq → Generates len b seq → a ≡ b

@@ -3,7 +3,8 @@ pub mod Examples
 pub mod Filling
 pub mod Laws
 pub mod Locator
-pub mod Pivots
 pub mod Places
+pub mod Register
+pub mod Steps
 pub mod Sums
 pub mod Nearest

@@ -1,9 +1,11 @@
 //! Erasures: bytes that are known to be lost, at marked places.
 ghost use Rattle.std.specs.Prelude.{◌≡◌, IfOk, OnErr};
+ghost use Rattle.rs_code.specs.Syndromes.{syndromes_of};
 ghost use Rattle.rs_decode.specs.Filling.{IsFilling, HasNoFilling, marked};
 
 use crate::places::{marked_points, patch};
 use crate::sums::solve;
+use arrayvec::ArrayVec;
 use rs_code::Code;
 use thiserror::Error;
 
@@ -23,11 +25,26 @@ pub fn fill<const N: usize, const R: usize>(
     ensures err { OnErr result (HasNoFilling N R word.old marks.now) }
     ensures same { OnErr result (word.new ≡ word.old) }
 {
+    fill_from(code, code.syndromes(word), word, marks)
+}
+
+/// The same, by the word's syndromes.
+pub fn fill_from<const N: usize, const R: usize>(
+    code: &Code<N, R>,
+    syndromes: ArrayVec<u8, 32>,
+    word: &mut [u8; N],
+    marks: &[bool; N],
+) -> Result<u16, NoCodeword>
+    requires { syndromes.items ≡ syndromes_of R word.old }
+    ensures ok { IfOk result (λ count. IsFilling N R word.old marks.now word.new × (count ≡ marked marks.now)) }
+    ensures err { OnErr result (HasNoFilling N R word.old marks.now) }
+    ensures same { OnErr result (word.new ≡ word.old) }
+{
     let Some(points) = marked_points(marks, R) else {
         return Err(NoCodeword);
     };
-    let mut syndromes = code.syndromes(word);
-    let corrections = &mut syndromes[..points.len()];
+    let mut sums = syndromes;
+    let corrections = &mut sums[..points.len()];
     solve(&points, corrections);
     let mut filled = *word;
     patch(&mut filled, marks, corrections);

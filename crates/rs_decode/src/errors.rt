@@ -4,10 +4,10 @@ ghost use Rattle.gf_field.specs.Words.{IsNear};
 ghost use Rattle.rs_decode.specs.Errors.{HasNoneNear, error_count};
 ghost use Rattle.rs_decode.specs.Filling.{marked};
 
-use crate::elimination::locator;
-use crate::erasures::fill;
-use crate::locating::{count_errors, mark_zeros, take_out_points, tell_bytes};
+use crate::erasures::fill_from;
+use crate::locating::{count_errors, mark_zeros, sums_without, tell_bytes};
 use crate::places::marked_points;
+use crate::register::shortest;
 use rs_code::Code;
 use thiserror::Error;
 
@@ -49,14 +49,13 @@ pub fn decode<const N: usize, const R: usize>(
             erased: 0,
         });
     }
-    let mut sums = code.syndromes(word);
-    take_out_points(&points, &mut sums);
-    let most = sums.len() / 2;
-    let locator = locator(&sums, most);
+    let syndromes = code.syndromes(word);
+    let sums = sums_without(&points, &syndromes);
+    let locator = shortest(&sums);
     let mut doubtful = *marks;
-    mark_zeros(&locator[..most + 1], &mut doubtful);
+    mark_zeros(locator.taps, &mut doubtful);
     let mut found = *word;
-    let Ok(_filled) = fill(code, &mut found, &doubtful) else {
+    let Ok(_filled) = fill_from(code, syndromes, &mut found, &doubtful) else {
         return Err(Beyond);
     };
     let errors = count_errors(word, &found, marks);

@@ -1,7 +1,8 @@
-//! What holds of every received word of at most 255 bytes: each function's contract is one law, and its body is empty.
+//! What holds of every received word of at most 255 bytes, and of every list that registers generate: each function's
+//! contract is one law, and its body is empty.
 #![tactic(auto, using(crate::proofs::Near::laws))]
 
-ghost use Rattle.rs_decode.specs.Laws.{NearCodewordIsOnlyOne, NearCodewordIsFound, FillingIsOnlyOne, FillingIsNear};
+ghost use Rattle.rs_decode.specs.Laws.{NearCodewordIsOnlyOne, NearCodewordIsFound, FillingIsOnlyOne, FillingIsNear, ShortestRegisterIsOnlyOne};
 
 /// At most one codeword is near a received word with marks.
 pub fn near_codeword_is_only_one()
@@ -21,4 +22,9 @@ pub fn filling_is_near()
 /// A search through all words finds the near codeword, exactly where there is one.
 pub fn near_codeword_is_found()
     ensures { NearCodewordIsFound }
+{}
+
+/// A shortest register that generates a list, and is at most half as long as it, is the only one of its length.
+pub fn shortest_register_is_only_one()
+    ensures { ShortestRegisterIsOnlyOne }
 {}

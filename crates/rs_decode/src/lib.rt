@@ -3,21 +3,24 @@
 //! - [`erasures`]: `fill` finds the codeword that agrees with a word at all places that aren't marked.
 //! - [`errors`]: `decode` finds the codeword that is near a word with marks.
 //! - `locating`: the places where errors may be, from power sums and a locator.
-//! - `elimination`: the locator, a polynomial that vanishes at the points of the errors.
 //! - `places`: the marked places of a word.
+//! - [`register`]: `shortest` finds the shortest linear feedback register that generates a list.
+//! - `combining`: multiples of lists.
 //! - `sums`: the bytes at given points that have given power sums.
 //! - [`laws`]: what holds of every word, as contracts alone.
 #![tactic(auto)]
 
-mod elimination;
+mod combining;
 pub mod erasures;
 pub mod errors;
 pub mod laws;
 mod locating;
 mod places;
+pub mod register;
 mod sums;
 #[cfg(test)]
 mod tests;
 
 pub use erasures::{NoCodeword, fill};
 pub use errors::{Beyond, Fix, decode};
+pub use register::{Register, shortest};

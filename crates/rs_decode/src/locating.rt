@@ -2,26 +2,29 @@
 ghost use Rattle.std.specs.Prelude.{◌≡◌, ℕ, ◌+◌, ◌<◌, ◌≤◌, List, Bool, length, All, slice_index};
 ghost use Rattle.arrayvec.specs.ArrayVec.{array_vec_len};
 ghost use Rattle.gf_field.specs.Field.{plus, product};
-ghost use Rattle.gf_field.specs.Words.{IsByte};
+ghost use Rattle.gf_field.specs.Words.{IsByte, value};
 ghost use Rattle.rs_code.specs.PowerSums.{points_of};
 ghost use Rattle.rs_decode.specs.Errors.{error_count};
-ghost use Rattle.rs_decode.specs.Locator.{at_points, distances, polynomial_at, with_zeros};
+ghost use Rattle.rs_decode.specs.Locator.{at_points, distances, with_zeros};
 ghost use Rattle.rs_decode.specs.Sums.{AreSums};
 
 use arrayvec::ArrayVec;
 use gf_field::mul;
 
-/// Takes points out of the power sums, one after the other, which leaves as many sums less.
+/// The power sums with points taken out, one after the other, which leaves as many sums less.
 /// The sums that are left are those of the bytes multiplied by their points' distances to those that were taken out.
-pub fn take_out_points(points: &[u8], sums: &mut ArrayVec<u8, 32>)
-    requires { length points.now ≤ array_vec_len sums.old }
-    ensures len { array_vec_len sums.new + length points.now ≡ array_vec_len sums.old }
-    ensures are { (places bytes : List ℕ) → AreSums places bytes sums.old.items → AreSums places (at_points (distances points.now) bytes places) sums.new.items }
+pub fn sums_without(points: &[u8], sums: &[u8]) -> ArrayVec<u8, 32>
+    requires enough { length points.now ≤ length sums.now }
+    requires room { length sums.now ≤ 32 }
+    ensures len { array_vec_len result + length points.now ≡ length sums.now }
+    ensures are { (places bytes : List ℕ) → AreSums places bytes sums.now → AreSums places (at_points (distances points.now) bytes places) result.items }
 {
+    let mut left: ArrayVec<u8, 32> = ArrayVec::try_from(sums).unwrap();
     for point in points {
-        take_out_point(sums, *point);
-        sums.pop();
+        take_out_point(&mut left, *point);
+        left.pop();
     }
+    left
 }
 
 /// Adds the point times each sum to the next, one place lower. The last one stays.
@@ -33,26 +36,64 @@ fn take_out_point(sums: &mut [u8], point: u8)
     }
 }
 
-/// Marks each place whose point is a zero of the locator.
-pub fn mark_zeros(locator: &[u8], marks: &mut [bool])
-    ensures { marks.new ≡ with_zeros locator.now marks.old (points_of (length marks.old)) }
+/// Marks each place whose point is a zero of the locator, whose highest coefficient is 1.
+/// A zero that was found is divided out, so that fewer products are left for the other places.
+pub fn mark_zeros(locator: ArrayVec<u8, 33>, marks: &mut [bool])
+    requires led { slice_index locator.items 0 ≡ 1 }
+    requires short { length marks.now ≤ 255 }
+    ensures { marks.new ≡ with_zeros locator.items marks.old (points_of (length marks.old)) }
 {
+    let mut rest = locator;
     let mut point = 1;
     for place in (0..marks.len()).rev() {
-        marks[place] = marks[place] || value_at(locator, point) == 0;
+        // No zero is left.
+        if rest.len() == 1 {
+            return;
+        }
+        if !marks[place] && value_at(&rest, point) == 0 {
+            marks[place] = true;
+            divide(&mut rest, point);
+        }
         point = mul(point, 2);
     }
 }
 
-/// The value of a polynomial, the lowest power first, by Horner's rule.
-fn value_at(polynomial: &[u8], point: u8) -> u8
-    ensures { result ≡ polynomial_at polynomial.now point }
+/// Divides a polynomial by (x + zero).
+fn divide(polynomial: &mut ArrayVec<u8, 33>, zero: u8)
+    requires led { slice_index polynomial.old.items 0 ≡ 1 }
+    requires vanishes { value polynomial.old.items zero ≡ 0 }
+    ensures led { slice_index polynomial.new.items 0 ≡ 1 }
+    ensures factor { (x : ℕ) → value polynomial.old.items x ≡ product (plus x zero) (value polynomial.new.items x) }
 {
-    let mut value = 0;
-    for i in (0..polynomial.len()).rev() {
-        value = polynomial[i] ^ mul(point, value);
+    set_values(polynomial, zero);
+    polynomial.pop();
+}
+
+/// Sets each coefficient to the value at the point of the polynomial down to it, by Horner's rule.
+/// These are the coefficients of the quotient by (x + point), and at last the remainder. That they were bytes is told too.
+fn set_values(polynomial: &mut [u8], point: u8)
+    ensures len { length polynomial.new ≡ length polynomial.old }
+    ensures bytes { All IsByte polynomial.old }
+    ensures first { slice_index polynomial.new 0 ≡ slice_index polynomial.old 0 }
+    ensures others { (k : ℕ) → k + 1 < length polynomial.old → slice_index polynomial.new (k + 1) ≡ plus (slice_index polynomial.old (k + 1)) (product point (slice_index polynomial.new k)) }
+{
+    for k in 1..polynomial.len() {
+        polynomial[k] ^= mul(point, polynomial[k - 1]);
     }
-    value
+}
+
+/// The value of a polynomial, the highest power first, by Horner's rule.
+fn value_at(polynomial: &[u8], point: u8) -> u8
+    ensures { result ≡ value polynomial.now point }
+{
+    let Some((first, others)) = polynomial.split_first() else {
+        return 0;
+    };
+    let mut sum = *first;
+    for coefficient in others {
+        sum = mul(point, sum) ^ *coefficient;
+    }
+    sum
 }
 
 /// How many unmarked places of a received word differ from a codeword.

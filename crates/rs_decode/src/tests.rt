@@ -2,7 +2,8 @@
 //! algorithm and Forney's formula, which has nothing in common with this one but the code.
 ghost use Rattle.std.specs.Prelude.{◌≡◌, ◌<◌, ◌≤◌, length};
 
-use crate::{Beyond, Fix, NoCodeword, decode, fill};
+use crate::{Beyond, Fix, NoCodeword, decode, fill, shortest};
+use gf_field::mul;
 use rs_code::{Code, Ied, Pi, Po};
 use sha2::{Digest, Sha256};
 
@@ -253,6 +254,68 @@ fn decodes_drawn_words(rt: HostRuntime) {
             0xC7, 0x80, 0x88, 0x1F, 0xDF, 0x68, 0x02, 0xDC, 0xCF, 0xA9, 0x14, 0x43, 0x42, 0xA6,
             0xB1, 0x58, 0xA2, 0x17, 0xC2, 0xD3, 0x4D, 0x3C, 0x0C, 0x0E, 0xFE, 0xAC, 0xA4, 0xFB,
             0x6E, 0xB4, 0xD3, 0x05
+        ]
+    );
+}
+
+#[test]
+fn finds_shortest_registers_as_worked(rt: HostRuntime) {
+    let doubling = shortest(&[0x01, 0x02, 0x04, 0x08]);
+    assert_eq!(rt; doubling.len, 1);
+    assert!(rt; doubling.taps.as_slice() == [0x01, 0x02].as_slice());
+    assert_eq!(rt; shortest(&[0x00, 0x00, 0x01]).len, 3);
+    for zeros in [&[] as &[u8], &[0x00, 0x00]] {
+        let none = shortest(zeros);
+        assert_eq!(rt; none.len, 0);
+        assert!(rt; none.taps.as_slice() == [0x01].as_slice());
+    }
+}
+
+/// Adds the powers of a drawn point, each times a drawn byte, to a list: a register of as many taps as points generates it.
+fn add_powers(drawn: &mut Drawn, list: &mut [u8]) {
+    let point = drawn.byte();
+    let mut byte = drawn.byte();
+    for number in list.iter_mut() {
+        *number ^= byte;
+        byte = mul(byte, point);
+    }
+}
+
+/// A list of bytes, of bits, or of sums of powers.
+fn fill_list(drawn: &mut Drawn, list: &mut [u8]) {
+    let kind = drawn.below(3);
+    if kind == 2 {
+        for _k in 0..drawn.below(18) {
+            add_powers(drawn, list);
+        }
+    } else {
+        for number in list.iter_mut() {
+            *number = drawn.byte() & if kind == 0 { 0xFF } else { 0x01 };
+        }
+    }
+}
+
+/// The digest of the lengths for 2,000 drawn lists, and of the taps where no others are as short.
+#[test]
+fn finds_shortest_registers_of_drawn_lists(rt: HostRuntime) {
+    let mut drawn = Drawn { state: 7 };
+    let mut hasher = Sha256::new();
+    for _k in 0..2000 {
+        let mut list = [0; 32];
+        let size = drawn.below(33);
+        fill_list(&mut drawn, &mut list[..size]);
+        let register = shortest(&list[..size]);
+        hasher.update(&[register.len.to_be_bytes()[1]]);
+        if 2 * register.len as usize <= size {
+            hasher.update(&register.taps);
+        }
+    }
+    assert_eq!(rt;
+        hasher.finalize(),
+        [
+            0xB8, 0x6E, 0x08, 0xDE, 0xDE, 0x99, 0x59, 0x6B, 0x6E, 0x80, 0xB0, 0x70, 0xAD, 0xF9,
+            0x98, 0x13, 0x41, 0x52, 0x7E, 0x05, 0x9C, 0xA4, 0x1E, 0xD5, 0xE2, 0x97, 0xD3, 0x9E,
+            0x72, 0xE3, 0x31, 0x70
         ]
     );
 }

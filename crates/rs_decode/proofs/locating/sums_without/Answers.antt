@@ -1,18 +1,21 @@
-use Rattle.std.proofs.Common.{◌≡◌, ◌-◌, length, length-take, ap, arith}
+use Rattle.std.proofs.Common.{◌≡◌, ◌-◌, length, length-take, sym, ap, subst, arith}
 use Rattle.rs_code.proofs.Generator.{refill-same}
+use Rattle.rs_decode.specs.Sums.{AreSums}
 use Rattle.rs_decode.proofs.Masking.{AreSums-all, AreSums-next}
-use Rattle.rs_decode.proofs.locating.take_out_points.Goals as goal
+use Rattle.rs_decode.proofs.locating.sums_without.Goals as goal
 
 pub loop-point-init : goal.loop-point-init
-loop-point-init c = record {
-  len = omega arith;
-  are = λ places bytes are. AreSums-all places bytes c.args.sums.now.items are;
-}
+loop-point-init c =
+    let copied : c.unwrap-left.result.items ≡ c.args.sums.now = (rw c.unwrap-left.ensures at c.try_from.ensures).0 in
+    record {
+      len = omega (arith, ap length copied);
+      are = λ places bytes are. AreSums-all places bytes c.unwrap-left.result.items (subst (AreSums places bytes) (sym copied) are);
+    }
 
 pub loop-point-preserved : goal.loop-point-preserved
 loop-point-preserved c =
     let i = c.loop-point.point-index in
-    let sums = c.loop-point.sums.items in
+    let sums = c.loop-point.left.items in
     let shifted = c.take_out_point.new.sums in
     let points = c.args.points.now in
     let same : length shifted ≡ length sums = omega (arith, ap length c.deref_mut.ensures.value) in

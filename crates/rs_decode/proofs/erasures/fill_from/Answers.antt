@@ -5,12 +5,12 @@ use Rattle.gf_field.specs.Words.{IsByte, IsCodeword}
 use Rattle.rs_code.specs.Syndromes.{syndromes_of}
 use Rattle.rs_decode.specs.Filling.{AgreeUnmarked, marked}
 use Rattle.rs_decode.proofs.Fillings.{marked_points-distinct, points-few, length-first_syndromes, filled-codeword, AgreeUnmarked-patched, no_filling}
-use Rattle.rs_decode.proofs.erasures.fill.Goals as goal
+use Rattle.rs_decode.proofs.erasures.fill_from.Goals as goal
 
 pub slice_bounds-corrections-end : goal.slice_bounds-corrections-end
 slice_bounds-corrections-end g c =
     let few : c.len.result ≤ g.row.R = omega (arith, points-few c.args.marks.now c.in-Some.points.items c.in-Some.ensures.1, c.len.ensures.value, c.in-Some.ensures.0) in
-    sym (length-first_syndromes g.row.R c.len.result c.args.word.now c.deref_mut.result.now (c.deref_mut.ensures.value ∙ c.syndromes-syndromes.ensures) few)
+    sym (length-first_syndromes g.row.R c.len.result c.args.word.now c.deref_mut.result.now (c.deref_mut.ensures.value ∙ c.requires) few)
 
 pub solve-requires-clause-distinct : goal.solve-requires-clause-distinct
 solve-requires-clause-distinct g c =
@@ -19,7 +19,7 @@ solve-requires-clause-distinct g c =
 pub solve-requires-clause-fits : goal.solve-requires-clause-fits
 solve-requires-clause-fits g c =
     let few : c.len.result ≤ g.row.R = omega (arith, points-few c.args.marks.now c.in-Some.points.items c.in-Some.ensures.1, c.len.ensures.value, c.in-Some.ensures.0) in
-    length-first_syndromes g.row.R c.len.result c.args.word.now c.deref_mut.result.now (c.deref_mut.ensures.value ∙ c.syndromes-syndromes.ensures) few
+    length-first_syndromes g.row.R c.len.result c.args.word.now c.deref_mut.result.now (c.deref_mut.ensures.value ∙ c.requires) few
     ∙ c.len.ensures.value ∙ ap length (sym c.deref.ensures.0)
 
 pub returns-then-not-is_codeword-clause-err : goal.returns-then-not-is_codeword-clause-err
@@ -28,7 +28,7 @@ returns-then-not-is_codeword-clause-err g c =
     let count : c.len.result ≡ marked c.args.marks.now = c.len.ensures.value ∙ points-few c.args.marks.now c.in-Some.points.items c.in-Some.ensures.1 in
     let few : c.len.result ≤ g.row.R = omega (arith, c.in-Some.ensures.0) in
     let patched_bytes = subst (All IsByte) c.patch.ensures.patched c.patch.ensures.bytes in
-    let sums : take c.len.result c.deref_mut.result.now ≡ take c.len.result (syndromes_of g.row.R c.args.word.now) = ap (take c.len.result) (c.deref_mut.ensures.value ∙ c.syndromes-syndromes.ensures) in
+    let sums : take c.len.result c.deref_mut.result.now ≡ take c.len.result (syndromes_of g.row.R c.args.word.now) = ap (take c.len.result) (c.deref_mut.ensures.value ∙ c.requires) in
     no_filling g.row.N g.row.R c.args.word.now c.patch.new.word c.args.marks.now (omega (arith, c.args.code.now.bounds)) c.told-marks
     (subst (AgreeUnmarked c.args.marks.now c.args.word.now) (sym c.patch.ensures.patched) (AgreeUnmarked-patched c.args.word.now c.args.marks.now c.solve.new.sums alike))
     (subst (IsCodeword g.row.N (marked c.args.marks.now)) (sym c.patch.ensures.patched)

@@ -1,0 +1,201 @@
+-- The steps of Berlekamp and Massey: a register stays, or is mended by a multiple of an earlier one, and is the shortest.
+use Rattle.std.proofs.Common.{◌≡◌, ◌≢◌, ℕ, ◌+◌, ◌-◌, ◌*◌, ◌<◌, ◌≤◌, List, length, get_or, set, take, replicate, sym, ap, subst, ◌∙◌, arith, inl, inr, below_more, get_or-take, get_or-set_same, get_or-set_other, length-set, length-take}
+use Rattle.std.proofs.lemmas.Bool.{cases_lt}
+use Rattle.std.proofs.lemmas.List.{length-replicate, get_or-replicate, get_or_past}
+use Rattle.std.proofs.lemmas.List.Elements.{All-replicate, All-set, All-take}
+use Rattle.gf_field.specs.Field.{plus, product}
+use Rattle.gf_field.specs.Words.{IsByte}
+use Rattle.gf_field.proofs.FieldLaws.{plus-self, plus-zero, product-zero}
+use Rattle.rs_code.specs.Polynomials.{sum_of, scaled}
+use Rattle.rs_code.proofs.Distance.{All-sum_of}
+use Rattle.rs_code.proofs.Remainders.{All-scaled}
+use Rattle.rs_code.proofs.Values.{length-sum_of, length-scaled, get_or-sum_of, get_or-scaled}
+use Rattle.rs_decode.specs.Register.{Generates, IsLeast, connection}
+use Rattle.rs_decode.specs.Steps.{Makes, IsShortestTo, FailsAt}
+use Rattle.rs_decode.proofs.Connections.{connection-same, connection-longer, connection-later, connection-sum_of, connection-scaled, connections-agree}
+
+-- no place of a list of zeros holds another number
+zeros_anywhere : (n k : ℕ) → get_or {A = ℕ} (replicate n 0) k 0 ≡ 0
+zeros_anywhere n k =
+    elim (cases_lt k n) [
+      | inl inside ↦ get_or-replicate n k 0 0 inside
+      | inr past ↦ get_or_past (replicate n 0) k 0 (omega (arith, length-replicate {A = ℕ} n 0))
+    ]
+
+-- the taps at the start are 1 or x, followed by zeros
+set_higher : (place c : ℕ) → place < c → get_or {A = ℕ} (set (replicate 33 0) place 1) c 0 ≡ 0
+set_higher place c above = get_or-set_other (replicate 33 0) place c 1 0 (omega arith) ∙ zeros_anywhere 33 c
+
+-- and how many they are
+set_size : (place : ℕ) → length {A = ℕ} (set (replicate 33 0) place 1) ≡ 33
+set_size place = length-set (replicate 33 0) place 1 ∙ length-replicate {A = ℕ} 33 0
+
+-- before the first number, the register of length 0 is the shortest
+pub IsShortestTo-start : (seq : List ℕ) → IsShortestTo 0 0 (set (replicate 33 0) 0 1) seq
+IsShortestTo-start seq = record {
+  size = set_size 0;
+  bytes = All-set IsByte (replicate 33 0) 0 1 (omega arith) (All-replicate IsByte 33 0 (omega arith));
+  within = omega arith;
+  first = get_or-set_same (replicate 33 0) 0 1 0 (omega (arith, length-replicate {A = ℕ} 33 0));
+  higher = set_higher 0;
+  makes = λ k reached below. absurd (omega arith);
+  least = λ other others within first makes. omega arith;
+}
+
+-- x stands for an earlier register; it reaches no number
+pub FailsAt-start : (seq : List ℕ) → FailsAt 0 1 1 (set (replicate 33 0) 1 1) seq
+FailsAt-start seq = record {
+  size = set_size 1;
+  higher = set_higher 1;
+  makes = λ k reached below. absurd (omega arith);
+  here = λ reached. absurd (omega arith);
+}
+
+-- the first tap of x
+pub first-start : get_or {A = ℕ} (set (replicate 33 0) 1 1) 0 0 ≡ 0
+first-start = get_or-set_other (replicate 33 0) 1 0 1 0 (omega arith) ∙ zeros_anywhere 33 0
+
+-- a register that makes the number at n, too, stays
+pub IsShortestTo-stays : (n len : ℕ) (taps seq : List ℕ) → IsShortestTo n len taps seq → connection len taps seq n ≡ 0
+    → IsShortestTo (n + 1) len taps seq
+IsShortestTo-stays n len taps seq is made = record {
+  size = is.size;
+  bytes = is.bytes;
+  within = omega (arith, is.within);
+  first = is.first;
+  higher = is.higher;
+  makes = λ k reached below. below_more (λ j. len ≤ j → connection len taps seq j ≡ 0) n (λ j before above. is.makes j above before) (λ above. made) k below reached;
+  least = λ other others within first makes.
+      elim (cases_lt n other) [
+        | inl longer ↦ omega (arith, is.within)
+        | inr not_longer ↦ is.least other others (omega arith) first (λ k reached below. makes k reached (omega arith))
+      ];
+}
+
+-- where it fails, each register that makes the number is as long, and long enough for both lengths together to pass n
+longer : (n len other : ℕ) (taps others seq : List ℕ) → IsShortestTo n len taps seq → connection len taps seq n ≢ 0 → other ≤ n + 1
+    → get_or others 0 0 ≡ 1 → Makes other others seq (n + 1) → (len ≤ other) × (n + 1 ≤ len + other)
+longer n len other taps others seq is fails within first makes =
+    elim (cases_lt n other) [
+      | inl past ↦ (omega (arith, is.within), omega arith)
+      | inr not_past ↦ (
+        is.least other others (omega arith) first (λ k reached below. makes k reached (omega arith)),
+        elim (cases_lt n (len + other)) [
+          | inl passes ↦ omega arith
+          | inr short ↦ absurd (fails (connections-agree len other n taps others seq (omega arith) first is.makes makes))
+        ],
+      )
+    ]
+
+-- A register that fails at n, with the right multiple of one that fails there too. The new length is the larger of both,
+-- which no register can fall short of.
+pub IsShortestTo-mended : (n len reach longest found failure factor : ℕ) (taps earlier seq : List ℕ) → IsShortestTo n len taps seq
+    → FailsAt n reach failure earlier seq → len + reach ≡ n + 1 → get_or earlier 0 0 ≡ 0 → connection len taps seq n ≡ found → found ≢ 0
+    → product factor failure ≡ found → len ≤ longest → reach ≤ longest → ((k : ℕ) → len ≤ k → reach ≤ k → longest ≤ k)
+    → IsShortestTo (n + 1) longest (sum_of taps (scaled factor earlier)) seq
+IsShortestTo-mended n len reach longest found failure factor taps earlier seq is fails lengths starts discrepancy nonzero quotient above_len above_reach least =
+    let same : length taps ≡ length (scaled factor earlier) = is.size ∙ sym (length-scaled factor earlier ∙ fails.size) in
+    let tap : (c : ℕ) → get_or (sum_of taps (scaled factor earlier)) c 0 ≡ plus (get_or taps c 0) (product factor (get_or earlier c 0)) = λ c.
+    get_or-sum_of taps (scaled factor earlier) c same ∙ ap (plus (get_or taps c 0)) (get_or-scaled factor earlier c) in
+    let parts : (k : ℕ) → connection longest (sum_of taps (scaled factor earlier)) seq k ≡ plus (connection len taps seq k) (product factor (connection reach earlier seq k)) = λ k.
+    connection-sum_of longest taps (scaled factor earlier) seq k same
+    ∙ ap (plus (connection longest taps seq k)) (connection-scaled longest factor earlier seq k)
+    ∙ ap (λ x. plus x (product factor (connection longest earlier seq k))) (connection-longer len longest taps seq k above_len is.higher)
+    ∙ ap (λ x. plus (connection len taps seq k) (product factor x)) (connection-longer reach longest earlier seq k above_reach fails.higher) in
+    let zeros : (a b : ℕ) → a ≡ 0 → b ≡ 0 → plus a (product factor b) ≡ 0 = λ a b a_zero b_zero. rw (a_zero, b_zero, product-zero factor) (plus-zero 0) in
+    record {
+      size = length-sum_of taps (scaled factor earlier) same ∙ is.size;
+      bytes = All-sum_of taps (scaled factor earlier) is.bytes (All-scaled factor earlier);
+      within = least (n + 1) (omega (arith, is.within)) (omega arith);
+      first = tap 0 ∙ rw (is.first, starts, product-zero factor) (plus-zero 1);
+      higher = λ c above. tap c ∙ zeros (get_or taps c 0) (get_or earlier c 0) (is.higher c (omega arith)) (fails.higher c (omega arith));
+      makes = λ k reached below.
+          below_more (λ j. longest ≤ j → connection longest (sum_of taps (scaled factor earlier)) seq j ≡ 0) n
+          (λ j before above. parts j ∙ zeros (connection len taps seq j) (connection reach earlier seq j) (is.makes j (omega arith) before) (fails.makes j (omega arith) before))
+          (λ above. parts n ∙ rw (discrepancy, fails.here (omega arith), quotient) (plus-self found))
+          k below reached;
+      least = λ other others within first makes.
+          let bounds = longer n len other taps others seq is (λ made. nonzero (sym discrepancy ∙ made)) within first makes in
+          least other bounds.0 (omega (arith, bounds.1));
+    }
+
+-- the register at hand, as one that fails
+pub FailsAt-at_hand : (n len found : ℕ) (taps seq : List ℕ) → IsShortestTo n len taps seq → connection len taps seq n ≡ found
+    → FailsAt n len found taps seq
+FailsAt-at_hand n len found taps seq is discrepancy = record {
+  size = is.size;
+  higher = is.higher;
+  makes = is.makes;
+  here = λ reached. discrepancy;
+}
+
+-- with each tap moved up, it fails one place later
+pub FailsAt-times_x : (n len failure : ℕ) (taps moved seq : List ℕ) → FailsAt n len failure taps seq → n < 32 → length moved ≡ 33
+    → get_or moved 0 0 ≡ 0 → ((k : ℕ) → k + 1 < 33 → get_or moved (k + 1) 0 ≡ get_or taps k 0) → FailsAt (n + 1) (len + 1) failure moved seq
+FailsAt-times_x n len failure taps moved seq is few size first others =
+    let later : (k : ℕ) → len ≤ k → k < 32 → connection (len + 1) moved seq (k + 1) ≡ connection len taps seq k = λ k reached below.
+    let next_len : len + 1 ≡ 1 + len = omega arith in
+    let next_place : k + 1 ≡ 1 + k = omega arith in
+    ap (λ l. connection l moved seq (k + 1)) next_len ∙ ap (connection (1 + len) moved seq) next_place
+    ∙ connection-later len 1 moved taps seq k
+    (λ i within. let none : i ≡ 0 = omega arith in ap (λ j. get_or moved j 0) none ∙ first)
+    (λ i within. let next : 1 + i ≡ i + 1 = omega arith in ap (λ j. get_or moved j 0) next ∙ others i (omega arith)) in
+    let before : (k : ℕ) → len + 1 ≤ k → k ≡ (k - 1) + 1 = λ k reached. omega arith in
+    record {
+      size = size;
+      higher = λ c above.
+          elim (cases_lt c 33) [
+            | inl inside ↦ ap (λ j. get_or moved j 0) (before c (omega arith)) ∙ others (c - 1) (omega arith) ∙ is.higher (c - 1) (omega arith)
+            | inr past ↦ get_or_past moved c 0 (omega arith)
+          ];
+      makes = λ k reached below.
+          ap (connection (len + 1) moved seq) (before k reached) ∙ later (k - 1) (omega arith) (omega arith) ∙ is.makes (k - 1) (omega arith) (omega arith);
+      here = λ reached. later n (omega arith) few ∙ is.here (omega arith);
+    }
+
+-- what a place leaves, before the earlier register moves on
+abbrev pub Leaves : ℕ → ℕ → ℕ → List ℕ → List ℕ → List ℕ → Type 0
+Leaves n len failure taps earlier seq = IsShortestTo (n + 1) len taps seq × FailsAt n (n + 1 - len) failure earlier seq × (failure ≢ 0)
+
+-- the register at hand stays
+pub Leaves-stays : (n len failure : ℕ) (taps earlier seq : List ℕ) → IsShortestTo n len taps seq → FailsAt n (n + 1 - len) failure earlier seq
+    → failure ≢ 0 → connection len taps seq n ≡ 0 → Leaves n len failure taps earlier seq
+Leaves-stays n len failure taps earlier seq is fails nonzero made = (IsShortestTo-stays n len taps seq is made, fails, nonzero)
+
+-- it is mended, and stays as long
+pub Leaves-mended : (n len found failure factor : ℕ) (taps earlier seq : List ℕ) → IsShortestTo n len taps seq
+    → FailsAt n (n + 1 - len) failure earlier seq → get_or earlier 0 0 ≡ 0 → failure ≢ 0 → found ≡ connection len taps seq n → found ≢ 0
+    → product factor failure ≡ found → n < 2 * len → Leaves n len failure (sum_of taps (scaled factor earlier)) earlier seq
+Leaves-mended n len found failure factor taps earlier seq is fails starts nonzero discrepancy found_nonzero quotient long = (
+  IsShortestTo-mended n len (n + 1 - len) len found failure factor taps earlier seq is fails (omega (arith, is.within)) starts
+      (sym discrepancy) found_nonzero quotient (omega arith) (omega arith) (λ k above_len above_reach. above_len),
+  fails,
+  nonzero,
+)
+
+-- it is mended, and gets longer; as it was, it is the earlier one from now on
+pub Leaves-longer : (n len found failure factor : ℕ) (taps earlier seq : List ℕ) → IsShortestTo n len taps seq
+    → FailsAt n (n + 1 - len) failure earlier seq → get_or earlier 0 0 ≡ 0 → found ≡ connection len taps seq n → found ≢ 0
+    → product factor failure ≡ found → 2 * len ≤ n → Leaves n (n + 1 - len) found (sum_of taps (scaled factor earlier)) taps seq
+Leaves-longer n len found failure factor taps earlier seq is fails starts discrepancy found_nonzero quotient short =
+    let back : len ≡ n + 1 - (n + 1 - len) = omega (arith, is.within) in (
+      IsShortestTo-mended n len (n + 1 - len) (n + 1 - len) found failure factor taps earlier seq is fails (omega (arith, is.within)) starts
+          (sym discrepancy) found_nonzero quotient (omega arith) (omega arith) (λ k above_len above_reach. above_reach),
+      subst (λ reach. FailsAt n reach found taps seq) back (FailsAt-at_hand n len found taps seq is (sym discrepancy)),
+      found_nonzero,
+    )
+
+-- at the list's end, the taps without the zeros after them generate it
+pub Generates-end : (len : ℕ) (taps seq : List ℕ) → IsShortestTo (length seq) len taps seq → length seq ≤ 32 → Generates len (take (len + 1) taps) seq
+Generates-end len taps seq is few = record {
+  within = is.within;
+  size = length-take (len + 1) taps ∙ omega (arith, is.within, is.size);
+  bytes = All-take IsByte (len + 1) taps is.bytes;
+  first = get_or-take (len + 1) taps 0 0 (omega arith) ∙ is.first;
+  vanishes = λ n reached below.
+      connection-same len (take (len + 1) taps) taps seq n (λ i within. get_or-take (len + 1) taps i 0 (omega arith)) ∙ is.makes n reached below;
+}
+
+-- and no shorter register does
+pub IsLeast-end : (len : ℕ) (taps seq : List ℕ) → IsShortestTo (length seq) len taps seq → IsLeast len seq
+IsLeast-end len taps seq is other others generates = is.least other others generates.within generates.first generates.vanishes

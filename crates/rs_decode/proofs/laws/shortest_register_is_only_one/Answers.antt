@@ -1,0 +1,5 @@
+use Rattle.rs_decode.proofs.OnlyRegister.{only_register}
+use Rattle.rs_decode.proofs.laws.shortest_register_is_only_one.Goals as goal
+
+pub returns : goal.returns
+returns c = only_register
