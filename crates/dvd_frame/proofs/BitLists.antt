@@ -1,9 +1,9 @@
 -- Lists of bits: what they stand for, and how they shift and add.
-use Rattle.std.proofs.Common.{◌≡◌, ℕ, zero, suc, ◌+◌, ◌*◌, ◌/◌, ◌%◌, ◌^◌, ◌<◌, List, [], ◌∷◌, ◌++◌, length, refl, sym, ◌∙◌, ap, arith}
+use Rattle.std.proofs.Common.{◌≡◌, ℕ, zero, suc, ◌+◌, ◌*◌, ◌/◌, ◌%◌, ◌^◌, ◌<◌, List, [], ◌∷◌, ◌++◌, length, refl, sym, ◌∙◌, ap, zero-add, arith}
 use Rattle.std.specs.Prelude.{bit_xor, fold}
 use Rattle.std.specs.Int.{bit_at}
-use Rattle.std.proofs.lemmas.Nat.{xor_lt, field_of, mod-pow-add}
-use Rattle.std.proofs.Math.Nat.{pow-suc}
+use Rattle.std.proofs.lemmas.Nat.{xor_lt, field_of, mod-pow-add, pow-add}
+use Rattle.std.proofs.Math.Nat.{pow-suc, div-div-eq-div-mul}
 use Rattle.std.proofs.Math.Pow.{mod-mod-pow}
 use Rattle.std.proofs.lemmas.Nat.Bits.{bit_at_xor, bit_at-lt, bit_at-suc, bit_at_lowest}
 use Rattle.dvd_frame.specs.Bits.{bits, number_of}
@@ -75,3 +75,15 @@ fold-bits (suc n) number start =
 
 pub number_of-bits : (n number : ℕ) → number_of (bits n number) ≡ number % 2 ^ n
 number_of-bits n number = omega (arith, fold-bits n number 0)
+
+-- bits above place m, and those below it
+pub bits-split : (n m number : ℕ) → bits (n + m) number ≡ bits n (number / 2 ^ m) ++ bits m number
+unfolding bits
+bits-split zero m number = ap (λ (k : ℕ). bits k number) (zero-add m)
+bits-split (suc n) m number =
+    let more : suc n + m ≡ suc (n + m) = omega arith in
+    let order : n + m ≡ m + n = omega arith in
+    let here : bit_at number (n + m) ≡ bit_at (number / 2 ^ m) n =
+    ap (λ (k : ℕ). number / 2 ^ k % 2) order ∙ ap (λ (d : ℕ). number / d % 2) (pow-add 2 m n) ∙ ap (λ (q : ℕ). q % 2) (sym (div-div-eq-div-mul number (2 ^ m) (2 ^ n))) in
+    ap (λ (k : ℕ). bits k number) more
+    ∙ ap (λ (b : ℕ). b ∷ bits (n + m) number) here ∙ ap (λ (rest : List ℕ). bit_at (number / 2 ^ m) n ∷ rest) (bits-split n m number)

@@ -1,73 +1,39 @@
--- Division of bits by the divisor of the EDC, seen as a register of 32 bits that is read into bit by bit.
-use Rattle.std.proofs.Common.{◌≡◌, ℕ, zero, suc, ◌+◌, ◌*◌, ◌/◌, ◌%◌, ◌^◌, ◌<◌, ◌≤◌, List, [], ◌∷◌, ◌++◌, length, cond, eqb, refl, sym, ◌∙◌, ap, arith}
+-- Division of bits by the divisor of the EDC, seen as a register of 32 bits that is read into byte by byte.
+use Rattle.std.proofs.Common.{◌≡◌, ℕ, zero, suc, ◌+◌, ◌*◌, ◌/◌, ◌%◌, ◌^◌, ◌<◌, ◌≤◌, List, [], ◌∷◌, ◌++◌, length, All, Bool, true, false, cond, eqb, refl, sym, ◌∙◌, ap, zero-add, arith}
 use Rattle.std.specs.Prelude.{bit_xor, replicate}
 use Rattle.std.specs.Int.{bit_at}
 use Rattle.std.specs.Int.Bits.{xor_zero_l, xor_zero_r, xor_assoc}
 use Rattle.std.proofs.lemmas.List.{length-append, length-replicate, append_assoc}
+use Rattle.std.proofs.lemmas.List.Elements.{All-append, All-replicate}
+use Rattle.std.proofs.lemmas.Nat.{xor_comm}
 use Rattle.std.proofs.lemmas.Nat.Bits.{bit_at-zero}
 use Rattle.dvd_frame.specs.Bits.{bits, bits_of, number_of}
 use Rattle.dvd_frame.specs.Edc.{plus_front, remainder, divisor, edc_of}
-use Rattle.dvd_frame.specs.Registers.{divided_from}
+use Rattle.dvd_frame.specs.Registers.{divided_from, byte_remainder}
 use Rattle.dvd_frame.specs.Id.{word_bytes}
-use Rattle.dvd_frame.proofs.BitLists.{length-bits, plus_front-bits, bits_more, bits-mod, number_of-bits}
-
--- a zero at the end of what is added changes nothing
-plus_front_zero : (rest added : List ℕ) → length added < length rest → plus_front rest (added ++ 0 ∷ []) ≡ plus_front rest added
-unfolding plus_front
-plus_front_zero [] added short = absurd (omega arith)
-plus_front_zero (x ∷ rest) [] short = ap (λ (b : ℕ). b ∷ rest) (xor_zero_r x)
-plus_front_zero (x ∷ rest) (y ∷ added) short = ap (λ (l : List ℕ). bit_xor x y ∷ l) (plus_front_zero rest added (omega arith))
+use Rattle.dvd_frame.proofs.BitLists.{length-bits, plus_front-bits, bits-mod, bits-split, number_of-bits}
+use Rattle.dvd_frame.proofs.Multiples.{IsBit, length-plus_front, zeros_plus, length-remainder, bits-bits, bits-remainder, bits-number_of}
 
 -- two additions are one of the sum
-plus_front_twice : (rest a b : List ℕ) → length a ≡ length b → plus_front (plus_front rest a) b ≡ plus_front rest (plus_front a b)
+pub plus_front_twice : (rest a b : List ℕ) → length b ≤ length a → plus_front (plus_front rest a) b ≡ plus_front rest (plus_front a b)
 unfolding plus_front
-plus_front_twice rest [] [] same = refl
-plus_front_twice [] (y ∷ a) (z ∷ b) same = refl
-plus_front_twice (x ∷ rest) (y ∷ a) (z ∷ b) same =
+plus_front_twice rest a [] within = refl
+plus_front_twice [] (y ∷ a) (z ∷ b) within = refl
+plus_front_twice (x ∷ rest) (y ∷ a) (z ∷ b) within =
     ap (λ (bit : ℕ). bit ∷ plus_front (plus_front rest a) b) (xor_assoc x y z)
     ∙ ap (λ (l : List ℕ). bit_xor x (bit_xor y z) ∷ l) (plus_front_twice rest a b (omega arith))
-plus_front_twice rest [] (z ∷ b) same = absurd (omega arith)
-plus_front_twice rest (y ∷ a) [] same = absurd (omega arith)
+plus_front_twice rest [] (z ∷ b) within = absurd (omega arith)
 
--- the register's bits but the leading one, shifted up
-shifted_up : (register : ℕ) (rest : List ℕ) → 32 ≤ length rest
-    → plus_front rest (bits 32 (register % 2 ^ 31 * 2)) ≡ plus_front rest (bits 31 register)
-shifted_up register rest long =
-    let shape : register % 2 ^ 31 * 2 ≡ 2 * (register % 2 ^ 31) + 0 = omega arith in
-    let size : length (bits 31 (register % 2 ^ 31)) ≡ 31 = length-bits 31 (register % 2 ^ 31) in
-    ap (λ (x : ℕ). plus_front rest (bits 32 x)) shape
-    ∙ ap (plus_front rest) (bits_more 31 (register % 2 ^ 31) 0 (omega arith))
-    ∙ plus_front_zero rest (bits 31 (register % 2 ^ 31)) (omega arith)
-    ∙ ap (plus_front rest) (bits-mod 31 register)
+-- lists that begin with equally many bits are added part by part
+pub plus_front-append : (xs ys rest more : List ℕ) → length xs ≡ length ys → plus_front (xs ++ rest) (ys ++ more) ≡ plus_front xs ys ++ plus_front rest more
+unfolding plus_front
+plus_front-append [] [] rest more same = refl
+plus_front-append [] (y ∷ ys) rest more same = absurd (omega arith)
+plus_front-append (x ∷ xs) [] rest more same = absurd (omega arith)
+plus_front-append (x ∷ xs) (y ∷ ys) rest more same =
+    ap (λ (l : List ℕ). bit_xor x y ∷ l) (plus_front-append xs ys rest more (omega arith))
 
--- one step of the division, at a register that the next bit meets
-step : (n register bit : ℕ) (rest : List ℕ)
-    → remainder (suc n) (plus_front (bit ∷ rest) (bits 32 register))
-    ≡ remainder n (cond (eqb (bit_xor bit (bit_at register 31)) 1) (plus_front (plus_front rest (bits 31 register)) (bits 32 divisor)) (plus_front rest (bits 31 register)))
-unfolding remainder plus_front bits
-step n register bit rest = refl
-
--- A register shifted by one place, with the divisor taken away where the bit that left and the bit read differ.
-pub step_without : (n register bit : ℕ) (rest : List ℕ) → 32 ≤ length rest → bit_xor bit (bit_at register 31) ≡ 0
-    → remainder n (plus_front rest (bits 32 (register % 2 ^ 31 * 2))) ≡ remainder (suc n) (plus_front (bit ∷ rest) (bits 32 register))
-step_without n register bit rest long same =
-    ap (remainder n) (shifted_up register rest long)
-    ∙ sym (step n register bit rest ∙ ap (λ (b : ℕ). remainder n (cond (eqb b 1) (plus_front (plus_front rest (bits 31 register)) (bits 32 divisor)) (plus_front rest (bits 31 register)))) same)
-
-pub step_with : (n register bit : ℕ) (rest : List ℕ) → 32 ≤ length rest → bit_xor bit (bit_at register 31) ≡ 1
-    → remainder n (plus_front rest (bits 32 (bit_xor (register % 2 ^ 31 * 2) divisor))) ≡ remainder (suc n) (plus_front (bit ∷ rest) (bits 32 register))
-step_with n register bit rest long differ =
-    let next : ℕ = register % 2 ^ 31 * 2 in
-    ap (λ (l : List ℕ). remainder n (plus_front rest l)) (sym (plus_front-bits 32 next divisor))
-    ∙ ap (remainder n) (sym (plus_front_twice rest (bits 32 next) (bits 32 divisor) (length-bits 32 next ∙ sym (length-bits 32 divisor))))
-    ∙ ap (λ (l : List ℕ). remainder n (plus_front l (bits 32 divisor))) (shifted_up register rest long)
-    ∙ sym (step n register bit rest ∙ ap (λ (b : ℕ). remainder n (cond (eqb b 1) (plus_front (plus_front rest (bits 31 register)) (bits 32 divisor)) (plus_front rest (bits 31 register)))) differ)
-
--- the leading bit of a register of 32 bits
-pub leading : (register : ℕ) → register < 2 ^ 32 → bit_at register 31 ≡ register / 2 ^ 31
-leading register fits = omega arith
-
--- zeros in front of what is added, and zeros added
+-- bits added to zeros
 plus_front-zeros : (n number : ℕ) → plus_front (replicate n 0) (bits n number) ≡ bits n number
 unfolding plus_front bits
 plus_front-zeros zero number = refl
@@ -75,7 +41,8 @@ plus_front-zeros (suc n) number =
     ap (λ (b : ℕ). b ∷ plus_front (replicate n 0) (bits n number)) (xor_zero_l (bit_at number n))
     ∙ ap (λ (l : List ℕ). bit_at number n ∷ l) (plus_front-zeros n number)
 
-plus_front_none : (n : ℕ) (rest : List ℕ) → plus_front rest (bits n 0) ≡ rest
+-- zeros added to bits
+pub plus_front_none : (n : ℕ) (rest : List ℕ) → plus_front rest (bits n 0) ≡ rest
 unfolding plus_front bits
 plus_front_none zero rest = refl
 plus_front_none (suc n) [] = refl
@@ -83,6 +50,13 @@ plus_front_none (suc n) (x ∷ rest) =
     ap (λ (b : ℕ). bit_xor x b ∷ plus_front rest (bits n 0)) (bit_at-zero n)
     ∙ ap (λ (b : ℕ). b ∷ plus_front rest (bits n 0)) (xor_zero_r x)
     ∙ ap (λ (l : List ℕ). x ∷ l) (plus_front_none n rest)
+
+-- zeros at the end of what is added change nothing
+plus_front_ending : (rest added : List ℕ) (n : ℕ) → plus_front rest (added ++ bits n 0) ≡ plus_front rest added
+unfolding plus_front
+plus_front_ending rest [] n = plus_front_none n rest
+plus_front_ending [] (y ∷ added) n = refl
+plus_front_ending (x ∷ rest) (y ∷ added) n = ap (λ (l : List ℕ). bit_xor x y ∷ l) (plus_front_ending rest added n)
 
 -- reading nothing more, the register's bits are left
 divided_from_none : (register : ℕ) → divided_from register [] ≡ bits 32 register
@@ -102,36 +76,119 @@ edc_read register bytes fits read =
     let whole : number_of (bits 32 register) ≡ register = omega (arith, number_of-bits 32 register) in
     ap word_bytes (sym whole ∙ ap number_of (sym (divided_from_none register) ∙ read ∙ divided_from_zero bytes))
 
--- One bit of a byte read into the register: where place + 1 bits of the byte stood before the rest, place are left.
-pub bit_read : (byte register next before place : ℕ) → before ≡ place + 1
-    → ((m : ℕ) (rest : List ℕ) → 32 ≤ length rest → remainder m (plus_front rest (bits 32 next)) ≡ remainder (m + 1) (plus_front (bit_at byte place ∷ rest) (bits 32 register)))
-    → (n : ℕ) (rest : List ℕ) → 32 ≤ length rest
-    → remainder (n + place) (plus_front (bits place byte ++ rest) (bits 32 next)) ≡ remainder (n + before) (plus_front (bits before byte ++ rest) (bits 32 register))
-unfolding bits
-bit_read byte register next before place is read n rest long =
-    let more : n + place + 1 ≡ n + suc place = omega arith in
-    let same : suc place ≡ before = omega arith in
-    read (n + place) (bits place byte ++ rest) (omega (arith, length-append (bits place byte) rest))
-    ∙ ap (λ (m : ℕ). remainder m (plus_front (bit_at byte place ∷ bits place byte ++ rest) (bits 32 register))) more
-    ∙ ap (λ (m : ℕ). remainder (n + m) (plus_front (bits m byte ++ rest) (bits 32 register))) same
+-- n steps of the division, of n + 32 bits to whose end a list is added: it is added to what they leave
+added_behind : (n : ℕ) (ys rest : List ℕ) → length ys ≡ n + 32
+    → remainder n (plus_front (replicate n 0 ++ rest) ys) ≡ plus_front rest (remainder n ys)
+unfolding remainder plus_front
+added_behind zero ys rest size = refl
+added_behind (suc n) [] rest size = absurd (omega arith)
+added_behind (suc n) (y ∷ ys) rest size =
+    ap (λ (b : ℕ). remainder (suc n) (b ∷ plus_front (replicate n 0 ++ rest) ys)) (xor_zero_l y) ∙ each (λ zs long. added_behind n zs rest long) (eqb y 1)
+  where
+    front : List ℕ
+    front = replicate n 0 ++ rest
 
-no_bits : (byte : ℕ) (behind : List ℕ) → behind ≡ bits 0 byte ++ behind
-unfolding bits
-no_bits byte behind = refl
+    by : List ℕ
+    by = bits 32 divisor
 
--- eight bits of a byte read into the register
-pub byte_read : (byte register next place : ℕ) → place ≡ 0
-    → ((n : ℕ) (rest : List ℕ) → 32 ≤ length rest
-    → remainder (n + place) (plus_front (bits place byte ++ rest) (bits 32 next)) ≡ remainder (n + 8) (plus_front (bits 8 byte ++ rest) (bits 32 register)))
-    → (bytes : List ℕ) → divided_from next bytes ≡ divided_from register (byte ∷ bytes)
+    each : ((zs : List ℕ) → length zs ≡ n + 32 → remainder n (plus_front front zs) ≡ plus_front rest (remainder n zs)) → (taken : Bool)
+        → remainder n (cond taken (plus_front (plus_front front ys) by) (plus_front front ys)) ≡ plus_front rest (remainder n (cond taken (plus_front ys by) ys))
+    each below true =
+        ap (remainder n) (plus_front_twice front ys by (omega (arith, length-bits 32 divisor)))
+        ∙ below (plus_front ys by) (omega (arith, length-plus_front ys by))
+    each below false = below ys (omega arith)
+
+-- nothing leaves nothing
+remainder_none : (n : ℕ) → remainder n [] ≡ []
+unfolding remainder
+remainder_none zero = refl
+remainder_none (suc n) = refl
+
+-- m steps and then n
+pub remainder_twice : (m n : ℕ) (ys : List ℕ) → remainder (m + n) ys ≡ remainder n (remainder m ys)
+unfolding remainder
+remainder_twice zero n ys = ap (λ (k : ℕ). remainder k ys) (zero-add n)
+remainder_twice (suc m) n [] = remainder_none (suc m + n) ∙ sym (remainder_none n)
+remainder_twice (suc m) n (y ∷ ys) =
+    let more : suc m + n ≡ suc (m + n) = omega arith in
+    ap (λ (k : ℕ). remainder k (y ∷ ys)) more ∙ remainder_twice m n (cond (eqb y 1) (plus_front ys (bits 32 divisor)) ys)
+
+-- bits that are read next, once a register of 32 bits is added: its leading n bits leave, and the others are added behind
+leading_met : (n m number register : ℕ) (rest : List ℕ)
+    → plus_front (bits n number ++ rest) (bits (n + m) register) ≡ bits n (bit_xor number (register / 2 ^ m)) ++ plus_front rest (bits m register)
+leading_met n m number register rest =
+    ap (plus_front (bits n number ++ rest)) (bits-split n m register)
+    ∙ plus_front-append (bits n number) (bits n (register / 2 ^ m)) rest (bits m register) (length-bits n number ∙ sym (length-bits n (register / 2 ^ m)))
+    ∙ ap (λ (l : List ℕ). l ++ plus_front rest (bits m register)) (plus_front-bits n number (register / 2 ^ m))
+
+-- n steps of the division, that read n bits: what these leave is added to the bits behind
+pub front_divided : (n : ℕ) (front rest : List ℕ) → length front ≡ n
+    → remainder n (front ++ rest) ≡ plus_front rest (remainder n (front ++ replicate 32 0))
+unfolding bits
+front_divided n front rest size =
+    let zeros : List ℕ = replicate 32 0 in
+    let long : length (front ++ zeros) ≡ n + 32 = omega (arith, length-append front zeros, length-replicate {A = ℕ} 32 0) in
+    let same : front ++ rest ≡ plus_front (replicate (length front) 0 ++ rest) (front ++ zeros) =
+    sym (plus_front-append (replicate (length front) 0) front rest zeros (length-replicate {A = ℕ} (length front) 0)
+    ∙ ap (λ (l : List ℕ). l ++ plus_front rest zeros) (zeros_plus front) ∙ ap (λ (l : List ℕ). front ++ l) (plus_front_none 32 rest)) in
+    ap (remainder n) (same ∙ ap (λ (k : ℕ). plus_front (replicate k 0 ++ rest) (front ++ zeros)) size) ∙ added_behind n (front ++ zeros) rest long
+
+-- what is left of bits are the bits of its number
+bits-left : (n : ℕ) (ys : List ℕ) → length ys ≡ n + 32 → All IsBit ys → bits 32 (number_of (remainder n ys)) ≡ remainder n ys
+bits-left n ys size each =
+    bits-number_of (remainder n ys) 32 (omega (arith, length-remainder n ys (omega arith))) (bits-remainder n ys each)
+
+-- a byte followed by zeros
+unfoldable pub padded : ℕ → ℕ → List ℕ
+padded k byte = bits 8 byte ++ replicate (8 * k + 32) 0
+
+pub length-padded : (k byte : ℕ) → length (padded k byte) ≡ 8 * (k + 1) + 32
+unfolding padded
+length-padded k byte =
+    omega (arith, length-append (bits 8 byte) (replicate (8 * k + 32) 0), length-bits 8 byte, length-replicate {A = ℕ} (8 * k + 32) 0)
+
+pub bits-padded : (k byte : ℕ) → All IsBit (padded k byte)
+unfolding padded
+bits-padded k byte =
+    All-append IsBit (bits 8 byte) (replicate (8 * k + 32) 0) (bits-bits 8 byte) (All-replicate IsBit (8 * k + 32) 0 (omega arith))
+
+pub bits-byte_remainder : (k byte : ℕ) → bits 32 (byte_remainder k byte) ≡ remainder (8 * (k + 1)) (padded k byte)
+unfolding byte_remainder padded
+bits-byte_remainder k byte = bits-left (8 * (k + 1)) (padded k byte) (length-padded k byte) (bits-padded k byte)
+
+-- eight steps of the division: what a byte followed by 32 zeros leaves is added behind
+byte_divided : (byte : ℕ) (rest : List ℕ) → remainder 8 (bits 8 byte ++ rest) ≡ plus_front rest (bits 32 (byte_remainder 0 byte))
+unfolding padded
+byte_divided byte rest =
+    front_divided 8 (bits 8 byte) rest (length-bits 8 byte) ∙ ap (plus_front rest) (sym (bits-byte_remainder 0 byte))
+
+-- the register's lower 24 bits, shifted up
+shifted_up : (register : ℕ) (rest : List ℕ) → plus_front rest (bits 32 (register * 256 % 2 ^ 32)) ≡ plus_front rest (bits 24 register)
+shifted_up register rest =
+    let shifted : ℕ = register * 256 in
+    let upper : shifted / 2 ^ 8 ≡ register = omega arith in
+    let lower : shifted % 2 ^ 8 ≡ 0 = omega arith in
+    ap (plus_front rest) (bits-mod 32 shifted ∙ bits-split 24 8 shifted)
+    ∙ ap (λ (x : ℕ). plus_front rest (bits 24 x ++ bits 8 shifted)) upper
+    ∙ ap (λ (l : List ℕ). plus_front rest (bits 24 register ++ l)) (sym (bits-mod 8 shifted) ∙ ap (bits 8) lower)
+    ∙ plus_front_ending rest (bits 24 register) 8
+
+-- A byte read into the register: what its sum with the eight bits that leave leaves is added to the others, shifted up.
+pub byte_read : (register byte : ℕ) (bytes : List ℕ)
+    → divided_from (bit_xor (register * 256 % 2 ^ 32) (byte_remainder 0 (bit_xor (register / 2 ^ 24) byte))) bytes ≡ divided_from register (byte ∷ bytes)
 unfolding divided_from bits_of
-byte_read byte register next place none read bytes =
+byte_read register byte bytes =
+    let n : ℕ = 8 * length bytes in
     let behind : List ℕ = bits_of bytes ++ replicate 32 0 in
-    let before : 8 * length bytes ≡ 8 * length bytes + 0 = omega arith in
-    let after : 8 * length bytes + 8 ≡ 8 * suc (length bytes) = omega arith in
-    ap (λ (n : ℕ). remainder n (plus_front behind (bits 32 next))) before
-    ∙ ap (λ (l : List ℕ). remainder (8 * length bytes + 0) (plus_front l (bits 32 next))) (no_bits byte behind)
-    ∙ ap (λ (k : ℕ). remainder (8 * length bytes + k) (plus_front (bits k byte ++ behind) (bits 32 next))) (sym none)
-    ∙ read (8 * length bytes) behind (omega (arith, length-append (bits_of bytes) (replicate 32 0), length-replicate {A = ℕ} 32 0))
-    ∙ ap (λ (l : List ℕ). remainder (8 * length bytes + 8) (plus_front l (bits 32 register))) (sym (append_assoc (bits 8 byte) (bits_of bytes) (replicate 32 0)))
-    ∙ ap (λ (n : ℕ). remainder n (plus_front ((bits 8 byte ++ bits_of bytes) ++ replicate 32 0) (bits 32 register))) after
+    let leaving : ℕ = bit_xor byte (register / 2 ^ 24) in
+    let shifted : ℕ = register * 256 % 2 ^ 32 in
+    let entry : ℕ = byte_remainder 0 leaving in
+    let count : 8 * suc (length bytes) ≡ 8 + n = omega arith in
+    ap (λ (x : ℕ). remainder n (plus_front behind (bits 32 (bit_xor shifted (byte_remainder 0 x))))) (xor_comm (register / 2 ^ 24) byte)
+    ∙ ap (λ (l : List ℕ). remainder n (plus_front behind l)) (sym (plus_front-bits 32 shifted entry))
+    ∙ ap (remainder n) (sym (plus_front_twice behind (bits 32 shifted) (bits 32 entry) (omega (arith, length-bits 32 shifted, length-bits 32 entry))))
+    ∙ ap (λ (l : List ℕ). remainder n (plus_front l (bits 32 entry))) (shifted_up register behind)
+    ∙ ap (remainder n) (sym (byte_divided leaving (plus_front behind (bits 24 register))))
+    ∙ sym (remainder_twice 8 n (bits 8 leaving ++ plus_front behind (bits 24 register)))
+    ∙ ap (remainder (8 + n)) (sym (leading_met 8 24 byte register behind) ∙ ap (λ (l : List ℕ). plus_front l (bits 32 register)) (sym (append_assoc (bits 8 byte) (bits_of bytes) (replicate 32 0))))
+    ∙ ap (λ (k : ℕ). remainder k (plus_front ((bits 8 byte ++ bits_of bytes) ++ replicate 32 0) (bits 32 register))) (sym count)

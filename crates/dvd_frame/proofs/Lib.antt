@@ -6,3 +6,4 @@ pub mod FrameParts
 pub mod IdChecks
 pub mod ReadBack
 pub mod Multiples
+pub mod WordDivision

@@ -13,16 +13,16 @@ use Rattle.dvd_frame.specs.Edc.{plus_front, remainder, divisor, edc_of}
 use Rattle.dvd_frame.specs.Id.{word_bytes}
 use Rattle.dvd_frame.proofs.BitLists.{length-bits, bits_more, bits-mod, fold-bits}
 
-abbrev IsBit : ℕ → Type 0
+abbrev pub IsBit : ℕ → Type 0
 IsBit b = b < 2
 
-length-plus_front : (xs ys : List ℕ) → length (plus_front xs ys) ≡ length xs
+pub length-plus_front : (xs ys : List ℕ) → length (plus_front xs ys) ≡ length xs
 unfolding plus_front
 length-plus_front xs [] = refl
 length-plus_front [] (y ∷ ys) = refl
 length-plus_front (x ∷ xs) (y ∷ ys) = ap suc (length-plus_front xs ys)
 
-bits-plus_front : (xs ys : List ℕ) → All IsBit xs → All IsBit ys → All IsBit (plus_front xs ys)
+pub bits-plus_front : (xs ys : List ℕ) → All IsBit xs → All IsBit ys → All IsBit (plus_front xs ys)
 unfolding plus_front
 bits-plus_front xs [] first second = first
 bits-plus_front [] (y ∷ ys) first second = All-nil IsBit
@@ -31,7 +31,7 @@ bits-plus_front (x ∷ xs) (y ∷ ys) first second =
     (bits-plus_front xs ys (All-tail IsBit x xs first) (All-tail IsBit y ys second))
 
 -- two additions in the other order
-plus_front_swap : (rest a b : List ℕ) → plus_front (plus_front rest a) b ≡ plus_front (plus_front rest b) a
+pub plus_front_swap : (rest a b : List ℕ) → plus_front (plus_front rest a) b ≡ plus_front (plus_front rest b) a
 unfolding plus_front
 plus_front_swap rest [] b = refl
 plus_front_swap rest (y ∷ a) [] = refl
@@ -41,12 +41,12 @@ plus_front_swap (x ∷ rest) (y ∷ a) (z ∷ b) =
     ∙ ap (λ (l : List ℕ). bit_xor (bit_xor x z) y ∷ l) (plus_front_swap rest a b)
 
 -- a list and itself add up to zeros
-plus_front_self : (xs : List ℕ) → plus_front xs xs ≡ replicate (length xs) 0
+pub plus_front_self : (xs : List ℕ) → plus_front xs xs ≡ replicate (length xs) 0
 unfolding plus_front
 plus_front_self [] = refl
 plus_front_self (x ∷ xs) = ap (λ (b : ℕ). b ∷ plus_front xs xs) (xor_self x) ∙ ap (λ (l : List ℕ). 0 ∷ l) (plus_front_self xs)
 
-zeros_plus : (tail : List ℕ) → plus_front (replicate (length tail) 0) tail ≡ tail
+pub zeros_plus : (tail : List ℕ) → plus_front (replicate (length tail) 0) tail ≡ tail
 unfolding plus_front
 zeros_plus [] = refl
 zeros_plus (x ∷ tail) =
@@ -60,7 +60,7 @@ plus_behind (x ∷ xs) tail =
     ap (λ (b : ℕ). b ∷ plus_front (xs ++ replicate (length tail) 0) (replicate (length xs) 0 ++ tail)) (xor_zero_r x)
     ∙ ap (λ (l : List ℕ). x ∷ l) (plus_behind xs tail)
 
-length-remainder : (n : ℕ) (ys : List ℕ) → n ≤ length ys → length (remainder n ys) + n ≡ length ys
+pub length-remainder : (n : ℕ) (ys : List ℕ) → n ≤ length ys → length (remainder n ys) + n ≡ length ys
 unfolding remainder
 length-remainder zero ys within = omega arith
 length-remainder (suc n) [] within = absurd (omega arith)
@@ -72,12 +72,12 @@ length-remainder (suc n) (y ∷ ys) within = each (λ zs long. length-remainder 
       omega (arith, below (plus_front ys (bits 32 divisor)) (omega (arith, size)), size)
   each below false = omega (arith, below ys (omega arith))
 
-bits-bits : (n number : ℕ) → All IsBit (bits n number)
+pub bits-bits : (n number : ℕ) → All IsBit (bits n number)
 unfolding bits
 bits-bits zero number = All-nil IsBit
 bits-bits (suc n) number = All-cons IsBit (bit_at number n) (bits n number) (bit_at-lt number n) (bits-bits n number)
 
-bits-remainder : (n : ℕ) (ys : List ℕ) → All IsBit ys → All IsBit (remainder n ys)
+pub bits-remainder : (n : ℕ) (ys : List ℕ) → All IsBit ys → All IsBit (remainder n ys)
 unfolding remainder
 bits-remainder zero ys each = each
 bits-remainder (suc n) [] each = All-nil IsBit
@@ -119,22 +119,22 @@ bits-fold (b ∷ l) k start each =
     ∙ ap (λ (front : List ℕ). front ++ l) (bits_more k start b (each 0 b (omega arith)))
     ∙ append_assoc (bits k start) (b ∷ []) l
 
-bits-number_of : (l : List ℕ) (n : ℕ) → length l ≡ n → All IsBit l → bits n (number_of l) ≡ l
+pub bits-number_of : (l : List ℕ) (n : ℕ) → length l ≡ n → All IsBit l → bits n (number_of l) ≡ l
 unfolding bits
 bits-number_of l n size each =
     let none : 0 + length l ≡ n = omega arith in ap (λ (k : ℕ). bits k (number_of l)) (sym none) ∙ bits-fold l 0 0 each
 
-bits-bits_of : (bytes : List ℕ) → All IsBit (bits_of bytes)
+pub bits-bits_of : (bytes : List ℕ) → All IsBit (bits_of bytes)
 unfolding bits_of
 bits-bits_of [] = All-nil IsBit
 bits-bits_of (byte ∷ bytes) = All-append IsBit (bits 8 byte) (bits_of bytes) (bits-bits 8 byte) (bits-bits_of bytes)
 
-length-bits_of : (bytes : List ℕ) → length (bits_of bytes) ≡ 8 * length bytes
+pub length-bits_of : (bytes : List ℕ) → length (bits_of bytes) ≡ 8 * length bytes
 unfolding bits_of
 length-bits_of [] = refl
 length-bits_of (byte ∷ bytes) = omega (arith, length-append (bits 8 byte) (bits_of bytes), length-bits 8 byte, length-bits_of bytes)
 
-bits_of-append : (xs ys : List ℕ) → bits_of (xs ++ ys) ≡ bits_of xs ++ bits_of ys
+pub bits_of-append : (xs ys : List ℕ) → bits_of (xs ++ ys) ≡ bits_of xs ++ bits_of ys
 unfolding bits_of
 bits_of-append [] ys = refl
 bits_of-append (x ∷ xs) ys =
@@ -153,7 +153,7 @@ unfolding bits_of
 none_left number = refl
 
 -- the bits of a word's bytes are the word's
-bits_of-word_bytes : (word : ℕ) → bits_of (word_bytes word) ≡ bits 32 word
+pub bits_of-word_bytes : (word : ℕ) → bits_of (word_bytes word) ≡ bits 32 word
 bits_of-word_bytes word =
     let first : ℕ = word / 16777216 % 256 in
     let second : ℕ = word / 65536 % 256 in

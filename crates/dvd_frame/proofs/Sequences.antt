@@ -1,14 +1,12 @@
 -- The sequence of scrambling bits, and the register that shows 15 of them.
-use Rattle.std.proofs.Common.{◌≡◌, ℕ, zero, suc, ◌+◌, ◌*◌, ◌%◌, ◌^◌, ◌<◌, ◌≤◌, List, [], ◌∷◌, ◌++◌, length, get_or, drop, refl, sym, ◌∙◌, ap, arith}
+use Rattle.std.proofs.Common.{◌≡◌, ℕ, zero, suc, ◌+◌, ◌*◌, ◌/◌, ◌%◌, ◌^◌, ◌≤◌, List, [], ◌∷◌, ◌++◌, length, get_or, take, drop, refl, sym, ◌∙◌, ap, arith}
 use Rattle.std.specs.Prelude.{bit_xor}
-use Rattle.std.specs.Int.{bit_at}
-use Rattle.std.proofs.lemmas.List.{length_push, get_or-drop, drop-append-le, drop-drop}
-use Rattle.std.proofs.lemmas.Nat.{xor_lt}
-use Rattle.std.proofs.lemmas.Nat.Bits.{bit_at-lt}
+use Rattle.std.proofs.lemmas.List.{length_push, get_or-drop, drop-append-le, drop-drop, take_at}
 use Rattle.dvd_frame.specs.Bits.{bits, number_of}
+use Rattle.dvd_frame.specs.Edc.{plus_front}
 use Rattle.dvd_frame.specs.Registers.{window}
 use Rattle.dvd_frame.specs.Scrambling.{sequence, scrambling_byte}
-use Rattle.dvd_frame.proofs.BitLists.{length-bits, bits_more, bits-mod, number_of-bits}
+use Rattle.dvd_frame.proofs.BitLists.{length-bits, bits-mod, bits-split, plus_front-bits, number_of-bits}
 
 pub length-sequence : (preset n : ℕ) → length (sequence preset n) ≡ 15 + n
 unfolding sequence
@@ -31,25 +29,60 @@ sequence_step preset n =
     ∙ ap (λ (x : ℕ). drop 1 (drop n u) ++ bit_xor x (get_or u (n + 4) 0) ∷ []) (sym (get_or-drop n u 0 0 ∙ ap (λ (k : ℕ). get_or u k 0) first))
     ∙ ap (λ (x : ℕ). drop 1 (drop n u) ++ bit_xor (get_or (drop n u) 0 0) x ∷ []) (sym (get_or-drop n u 4 0))
 
--- the first and the fifth of 15 bits, and the bits behind the first
-bits_15 : (register : ℕ)
-    → drop 1 (bits 15 register) ++ bit_xor (get_or (bits 15 register) 0 0) (get_or (bits 15 register) 4 0) ∷ []
-    ≡ bits 14 register ++ bit_xor (bit_at register 14) (bit_at register 10) ∷ []
-unfolding bits
-bits_15 register = refl
+-- a window one bit further on
+moved : List ℕ → List ℕ
+moved shown = drop 1 shown ++ bit_xor (get_or shown 0 0) (get_or shown 4 0) ∷ []
 
--- the register shifted: r14 + r10 comes in
-pub shifted_window : (preset n register bit : ℕ) → bits 15 register ≡ drop n (sequence preset n)
-    → bit ≡ bit_xor (bit_at register 14) (bit_at register 10)
-    → bits 15 (2 * (register % 2 ^ 14) + bit) ≡ drop (suc n) (sequence preset (suc n))
-shifted_window preset n register bit shows is =
-    let is_bit : bit < 2 = rw is (xor_lt 1 _ _ (bit_at-lt register 14) (bit_at-lt register 10)) in
-    bits_more 14 (register % 2 ^ 14) bit is_bit
-    ∙ ap (λ (l : List ℕ). l ++ bit ∷ []) (bits-mod 14 register)
-    ∙ ap (λ (b : ℕ). bits 14 register ++ b ∷ []) is
-    ∙ sym (bits_15 register)
-    ∙ ap (λ (l : List ℕ). drop 1 l ++ bit_xor (get_or l 0 0) (get_or l 4 0) ∷ []) shows
-    ∙ sym (sequence_step preset n)
+-- a window eight bits further on
+moved_by_byte : List ℕ → List ℕ
+moved_by_byte shown = moved (moved (moved (moved (moved (moved (moved (moved shown)))))))
+
+sequence_moves : (preset n next : ℕ) → n + 1 ≡ next → drop next (sequence preset next) ≡ moved (drop n (sequence preset n))
+unfolding moved
+sequence_moves preset n next is =
+    let same : next ≡ suc n = omega arith in ap (λ (m : ℕ). drop m (sequence preset m)) same ∙ sequence_step preset n
+
+window_moves : (preset k : ℕ) → window preset (k + 1) ≡ moved_by_byte (window preset k)
+unfolding window moved_by_byte
+window_moves preset k =
+    let n : ℕ = 8 * k in
+    sequence_moves preset (n + 7) (8 * (k + 1)) (omega arith)
+    ∙ ap moved (sequence_moves preset (n + 6) (n + 7) (omega arith)
+    ∙ ap moved (sequence_moves preset (n + 5) (n + 6) (omega arith)
+    ∙ ap moved (sequence_moves preset (n + 4) (n + 5) (omega arith)
+    ∙ ap moved (sequence_moves preset (n + 3) (n + 4) (omega arith)
+    ∙ ap moved (sequence_moves preset (n + 2) (n + 3) (omega arith)
+    ∙ ap moved (sequence_moves preset (n + 1) (n + 2) (omega arith)
+    ∙ ap moved (sequence_moves preset n (n + 1) (omega arith))))))))
+
+-- of 15 bits the last seven, and behind them the sums of the first eight with those four places further on
+bits_moved : (register : ℕ) → moved_by_byte (bits 15 register) ≡ bits 7 register ++ plus_front (take 8 (bits 15 register)) (take 8 (bits 11 register))
+unfolding moved_by_byte moved bits plus_front
+bits_moved register = refl
+
+-- the upper eight of the lowest 8 + m bits
+upper_bits : (m register : ℕ) → take 8 (bits (8 + m) register) ≡ bits 8 (register / 2 ^ m)
+upper_bits m register =
+    ap (λ (l : List ℕ). take 8 l) (bits-split 8 m register) ∙ take_at (bits 8 (register / 2 ^ m)) (bits m register) 8 (length-bits 8 (register / 2 ^ m))
+
+-- a register whose lowest seven bits moved up by eight, with the eight sums behind
+register_moved : (register next : ℕ) → next ≡ register % 2 ^ 7 * 256 + bit_xor (register / 2 ^ 7) (register / 2 ^ 3) % 2 ^ 8
+    → bits 15 next ≡ moved_by_byte (bits 15 register)
+register_moved register next is =
+    let sums : ℕ = bit_xor (register / 2 ^ 7) (register / 2 ^ 3) in
+    let upper : next / 2 ^ 8 ≡ register % 2 ^ 7 = omega (arith, is) in
+    let lower : next % 2 ^ 8 ≡ sums % 2 ^ 8 = omega (arith, is) in
+    bits-split 7 8 next
+    ∙ ap (λ (l : List ℕ). l ++ bits 8 next) (ap (bits 7) upper ∙ bits-mod 7 register)
+    ∙ ap (λ (l : List ℕ). bits 7 register ++ l) (sym (bits-mod 8 next) ∙ ap (bits 8) lower ∙ bits-mod 8 sums ∙ sym (plus_front-bits 8 (register / 2 ^ 7) (register / 2 ^ 3)))
+    ∙ ap (λ (l : List ℕ). bits 7 register ++ plus_front l (bits 8 (register / 2 ^ 3))) (sym (upper_bits 7 register))
+    ∙ ap (λ (l : List ℕ). bits 7 register ++ plus_front (take 8 (bits 15 register)) l) (sym (upper_bits 3 register))
+    ∙ sym (bits_moved register)
+
+-- a register that shows the window at byte k shows the next once it has moved by a byte
+pub shifted_window : (preset k register next : ℕ) → next ≡ register % 2 ^ 7 * 256 + bit_xor (register / 2 ^ 7) (register / 2 ^ 3) % 2 ^ 8
+    → bits 15 register ≡ window preset k → bits 15 next ≡ window preset (k + 1)
+shifted_window preset k register next is shows = register_moved register next is ∙ ap moved_by_byte shows ∙ sym (window_moves preset k)
 
 -- a register that shows the window at byte k has that byte in its lowest eight bits
 pub byte_shown : (preset k register : ℕ) → bits 15 register ≡ window preset k → register % 256 ≡ scrambling_byte preset k

@@ -1,6 +1,6 @@
 -- What the registers of the code hold, of which the standard's definitions don't speak.
-use Rattle.std.specs.Prelude.{ℕ, ◌*◌, List, ◌++◌, length, drop, replicate}
-use Rattle.dvd_frame.specs.Bits.{bits, bits_of}
+use Rattle.std.specs.Prelude.{ℕ, ◌+◌, ◌*◌, List, ◌++◌, length, drop, replicate}
+use Rattle.dvd_frame.specs.Bits.{bits, bits_of, number_of}
 use Rattle.dvd_frame.specs.Edc.{plus_front, remainder}
 use Rattle.dvd_frame.specs.Scrambling.{sequence}
 
@@ -12,3 +12,7 @@ window preset k = drop (8 * k) (sequence preset (8 * k))
 unfoldable pub divided_from : ℕ → List ℕ → List ℕ
 divided_from register bytes =
     remainder (8 * length bytes) (plus_front (bits_of bytes ++ replicate 32 0) (bits 32 register))
+
+-- what division leaves of a byte followed by k bytes of zeros and 32 zeros, as a word
+unfoldable pub byte_remainder : ℕ → ℕ → ℕ
+byte_remainder k byte = number_of (remainder (8 * (k + 1)) (bits 8 byte ++ replicate (8 * k + 32) 0))

@@ -1,18 +1,16 @@
 //! The two codes of a data frame that detect errors: the IED over its ID (ECMA-267, 16.2)
 //! and the EDC over its first 2,060 bytes (16.4).
-ghost use Rattle.std.specs.Prelude.{◌≡◌, ℕ, ◌+◌, ◌<◌, ◌≤◌, List, ◌∷◌, ◌++◌, length};
+ghost use Rattle.std.specs.Prelude.{◌≡◌, ℕ, List, ◌∷◌, ◌++◌};
+ghost use Rattle.std.specs.List.{concat};
 ghost use Rattle.gf_field.specs.Words.{IsCodeword};
-ghost use Rattle.dvd_frame.specs.Bits.{bits};
-ghost use Rattle.dvd_frame.specs.Edc.{plus_front, remainder, edc_of};
+ghost use Rattle.dvd_frame.specs.Edc.{edc_of};
 ghost use Rattle.dvd_frame.specs.Id.{word_bytes, ied_of};
 ghost use Rattle.dvd_frame.specs.Registers.{divided_from};
 
 use crate::id::Id;
+use crate::remainders::{remainder_of, remainder_of_word};
 use byteorder::{BigEndian, ByteOrder};
 use rs_code::Ied;
-
-/// The divisor of the EDC, x^32 + x^31 + x^4 + 1, without its leading term.
-const DIVISOR: u32 = 0x8000_0011;
 
 /// The IED of an ID: the two bytes with which its four bytes are a codeword of 6 bytes with 2 parity bytes.
 pub fn ied(id: Id) -> [u8; 2]
@@ -30,33 +28,59 @@ pub fn ied(id: Id) -> [u8; 2]
 pub fn edc(bytes: &[u8]) -> [u8; 4]
     ensures { result ≡ edc_of bytes.now }
 {
-    let mut register = 0;
-    for byte in bytes {
-        register = with_byte(register, *byte);
-    }
+    edc_of_parts(bytes, &[])
+}
+
+/// The EDC of two lists of bytes, as if the second stood behind the first.
+pub(crate) fn edc_of_parts(front: &[u8], back: &[u8]) -> [u8; 4]
+    ensures { result ≡ edc_of (front.now ++ back.now) }
+{
+    let register = with_bytes(with_bytes(0, front), back);
     let mut edc = [0; 4];
     BigEndian::write_u32(&mut edc, register);
     edc
 }
 
-// The remainder of what was read so far, with eight bits more.
-fn with_byte(register: u32, byte: u8) -> u32
-    ensures { (rest : List ℕ) → divided_from result rest ≡ divided_from register (byte ∷ rest) }
+// The remainder of what was read so far, with these bytes more.
+fn with_bytes(register: u32, bytes: &[u8]) -> u32
+    ensures { (rest : List ℕ) → divided_from result rest ≡ divided_from register (bytes.now ++ rest) }
 {
-    let mut next = register;
-    for place in (0..8u32).rev() {
-        next = with_bit(next, byte >> place & 1);
+    let (words, others) = bytes.as_chunks::<4>();
+    let mut next = with_words(register, words);
+    for byte in others {
+        next = with_byte(next, *byte);
     }
     next
 }
 
-// The remainder with one bit more: a step of the division.
-fn with_bit(register: u32, bit: u8) -> u32
-    requires { bit < 2 }
-    ensures { (n : ℕ) (rest : List ℕ) → 32 ≤ length rest
-        → remainder n (plus_front rest (bits 32 result)) ≡ remainder (n + 1) (plus_front (bit ∷ rest) (bits 32 register)) }
+// The remainder of what was read so far, with these words of four bytes more.
+fn with_words(register: u32, words: &[[u8; 4]]) -> u32
+    ensures { (rest : List ℕ) → divided_from result rest ≡ divided_from register (concat words.now ++ rest) }
 {
-    let leading = (register >> 31) as u8 ^ bit;
-    let rest = (register & 0x7FFF_FFFF) << 1;
-    if leading == 1 { rest ^ DIVISOR } else { rest }
+    let mut next = register;
+    for word in words {
+        next = with_word(next, *word);
+    }
+    next
+}
+
+// Four bytes more at once: the whole register leaves, and what dividing its sum with them leaves is the next.
+fn with_word(register: u32, word: [u8; 4]) -> u32
+    ensures { (rest : List ℕ) → divided_from result rest ≡ divided_from register (word ++ rest) }
+{
+    let [first, second, third, fourth] = register.to_be_bytes();
+    remainder_of_word([
+        word[0] ^ first,
+        word[1] ^ second,
+        word[2] ^ third,
+        word[3] ^ fourth,
+    ])
+}
+
+// One byte more: its sum with the eight bits that leave the register is divided, and what this leaves is added behind.
+fn with_byte(register: u32, byte: u8) -> u32
+    ensures { (rest : List ℕ) → divided_from result rest ≡ divided_from register (byte ∷ rest) }
+{
+    let leaving = (register >> 24) as u8 ^ byte;
+    register << 8 ^ remainder_of(leaving)
 }

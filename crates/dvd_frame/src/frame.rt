@@ -2,7 +2,7 @@
 ghost use Rattle.std.specs.Prelude.{◌≡◌, ◌+◌, ◌≤◌, ◌++◌, length, take};
 ghost use Rattle.dvd_frame.specs.Frame.{data_frame};
 
-use crate::checks::{edc, ied};
+use crate::checks::{edc_of_parts, ied};
 use crate::id::Id;
 use crate::scrambling::{Rule, scramble};
 
@@ -14,8 +14,7 @@ pub fn make_frame(id: Id, cpr: &[u8; 6], rule: Rule, main: &[u8; 2048], out: &mu
     put(out, 0, &id.bytes());
     put(out, 4, &ied(id));
     put(out, 6, cpr);
-    put(out, 12, main);
-    let check = edc(&out[..2060]);
+    let check = edc_of_parts(&out[..12], main);
     let mut scrambled = *main;
     scramble(rule, id, &mut scrambled);
     put(out, 12, &scrambled);
@@ -23,7 +22,7 @@ pub fn make_frame(id: Id, cpr: &[u8; 6], rule: Rule, main: &[u8; 2048], out: &mu
 }
 
 // Writes a part behind what stands before it.
-pub(crate) fn put(out: &mut [u8], at: usize, part: &[u8])
+fn put(out: &mut [u8], at: usize, part: &[u8])
     requires { at + length part.now ≤ length out.old }
     ensures { take (at + length part.now) out.new ≡ take at out.old ++ part.now }
 {

@@ -7,6 +7,7 @@ mod frame; // a whole data frame
 mod id; // the identification of a sector: area, layer and number
 pub mod laws; // what holds of every data frame
 mod reading; // a frame that was read, checked
+mod remainders; // what dividing each byte leaves, for the EDC
 mod scrambling; // which Main Data bytes are combined with which bytes
 
 pub use checks::{edc, ied};

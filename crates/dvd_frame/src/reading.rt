@@ -6,8 +6,7 @@ ghost use Rattle.dvd_frame.specs.Frame.{found_word, frame_cause, main_in};
 ghost use Rattle.dvd_frame.specs.Scrambling.{masked};
 ghost use Rattle.dvd_frame.specs.Id.{has_check};
 
-use crate::checks::edc;
-use crate::frame::put;
+use crate::checks::edc_of_parts;
 use crate::id::Id;
 use crate::scrambling::{Rule, scramble};
 use rs_code::Ied;
@@ -85,14 +84,5 @@ fn unscrambled(frame: &[u8; 2064], id: Id, rule: Rule) -> [u8; 2048]
 fn has_right_edc(frame: &[u8; 2064], main: &[u8; 2048]) -> bool
     ensures { result ≡ bytes_eq (drop 2060 frame.now) (edc_of (take 12 frame.now ++ main.now)) }
 {
-    let mut plain = *frame;
-    frame[2060..] == edc_with(&mut plain, main)[..]
-}
-
-// The EDC of the first twelve bytes of a frame and of these Main Data, which are put behind them.
-fn edc_with(frame: &mut [u8; 2064], main: &[u8; 2048]) -> [u8; 4]
-    ensures { result ≡ edc_of (take 12 frame.old ++ main.now) }
-{
-    put(frame, 12, main);
-    edc(&frame[..2060])
+    frame[2060..] == edc_of_parts(&frame[..12], main)[..]
 }

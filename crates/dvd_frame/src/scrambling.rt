@@ -1,8 +1,8 @@
 //! Scrambling of Main Data (ECMA-267, 17): each byte is combined with a byte of a sequence that the ID selects.
-ghost use Rattle.std.specs.Prelude.{◌≡◌, ℕ, ◌+◌, ◌-◌, ◌*◌, ◌/◌, ◌%◌, ◌^◌, ◌<◌, ◌≤◌, List, bit_xor, slice_index, length, drop};
-ghost use Rattle.dvd_frame.specs.Bits.{bits, number_of};
+ghost use Rattle.std.specs.Prelude.{◌≡◌, ℕ, ◌+◌, ◌^◌, ◌<◌, ◌≤◌, List, bit_xor, slice_index, length};
+ghost use Rattle.dvd_frame.specs.Bits.{bits};
 ghost use Rattle.dvd_frame.specs.Registers.{window};
-ghost use Rattle.dvd_frame.specs.Scrambling.{presets, scrambled_count, sequence, scrambling_byte, masked};
+ghost use Rattle.dvd_frame.specs.Scrambling.{presets, scrambled_count, scrambling_byte, masked};
 
 use crate::id::Id;
 use std::marker::Model;
@@ -82,27 +82,14 @@ impl Keystream {
     }
 }
 
-// Each bit moves towards r14, and r14 + r10 comes in at r0.
-fn shifted(register: u16) -> u16
-    requires { register < 2 ^ 15 }
-    ensures within { result < 2 ^ 15 }
-    ensures step { (preset n : ℕ) → bits 15 register ≡ drop n (sequence preset n)
-        → bits 15 result ≡ drop (n + 1) (sequence preset (n + 1)) }
-{
-    let bit = (register >> 14 ^ register >> 10) & 1;
-    (register & 0x3FFF) * 2 + bit
-}
-
+// Eight shifts at once: r6 to r0 move up by eight places, and the eight sums that follow, from r14 + r10 to r7 + r3, come in behind.
 fn shifted_by_byte(register: u16) -> u16
     requires { register < 2 ^ 15 }
     ensures within { result < 2 ^ 15 }
     ensures step { (preset k : ℕ) → bits 15 register ≡ window preset k → bits 15 result ≡ window preset (k + 1) }
 {
-    let mut next = register;
-    for _ in 0..8u8 {
-        next = shifted(next);
-    }
-    next
+    let sums = (register >> 7 ^ register >> 3) & 0xFF;
+    (register & 0x7F) * 256 + sums
 }
 
 /// Combines Main Data with the scrambling bytes of the ID, as far as the rule says. Twice is once undone.

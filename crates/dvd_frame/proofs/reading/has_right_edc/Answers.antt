@@ -7,4 +7,4 @@ pub returns : goal.returns
 returns c =
     let tail = drop 2060 c.args.frame.now in
     let four : take 4 tail ≡ tail = take_all 4 tail (omega (arith, length-drop 2060 c.args.frame.now)) in
-    c.eq.ensures ∙ ap (λ (l : List ℕ). bytes_eq l c.edc_with.result) four ∙ ap (bytes_eq tail) c.edc_with.ensures
+    c.eq.ensures ∙ ap (λ (l : List ℕ). bytes_eq l c.edc_of_parts.result) four ∙ ap (bytes_eq tail) c.edc_of_parts.ensures

@@ -1,0 +1,200 @@
+-- Division of four bytes at once: what it leaves of each, with zeros in place of the others, is added up.
+use Rattle.std.proofs.Common.{◌≡◌, ℕ, zero, suc, ◌+◌, ◌*◌, ◌<◌, ◌≤◌, List, [], ◌∷◌, ◌++◌, length, get_or, take, drop, All, cond, eqb, refl, sym, ◌∙◌, ap, arith}
+use Rattle.std.specs.Prelude.{bit_xor, replicate}
+use Rattle.std.specs.List.{concat}
+use Rattle.std.specs.Simd.{first_chunks}
+use Rattle.std.specs.Int.Bits.{xor_zero_r, xor_assoc}
+use Rattle.std.proofs.lemmas.List.{length-append, length-replicate, append_assoc, append-nil, drop-drop, take-append-drop}
+use Rattle.std.proofs.lemmas.List.Elements.{All-append, All-replicate, All-tail}
+use Rattle.dvd_frame.specs.Bits.{bits, bits_of}
+use Rattle.dvd_frame.specs.Edc.{plus_front, remainder, divisor}
+use Rattle.dvd_frame.specs.Registers.{divided_from, byte_remainder}
+use Rattle.dvd_frame.specs.Id.{word_bytes}
+use Rattle.dvd_frame.proofs.BitLists.{length-bits, plus_front-bits}
+use Rattle.dvd_frame.proofs.Division.{plus_front_twice, plus_front-append, plus_front_none, remainder_twice, front_divided, padded, length-padded, bits-padded, bits-byte_remainder}
+use Rattle.dvd_frame.proofs.Multiples.{IsBit, length-plus_front, bits-plus_front, plus_front_swap, plus_front_self, zeros_plus, bits-bits, bits-bits_of, length-bits_of, bits_of-append, bits_of-word_bytes}
+
+-- division takes a sum apart
+divided_sum : (n : ℕ) (xs ys : List ℕ) → length xs ≡ n + 32 → length ys ≡ n + 32 → All IsBit xs → All IsBit ys
+    → remainder n (plus_front xs ys) ≡ plus_front (remainder n xs) (remainder n ys)
+unfolding remainder plus_front bits
+divided_sum zero xs ys size_xs size_ys bits_xs bits_ys = refl
+divided_sum (suc n) [] ys size_xs size_ys bits_xs bits_ys = absurd (omega arith)
+divided_sum (suc n) (x ∷ xs) [] size_xs size_ys bits_xs bits_ys = absurd (omega arith)
+divided_sum (suc n) (x ∷ xs) (y ∷ ys) size_xs size_ys bits_xs bits_ys =
+    each (λ us vs long_us long_vs all_us all_vs. divided_sum n us vs long_us long_vs all_us all_vs)
+    x y (bits_xs 0 x (omega arith)) (bits_ys 0 y (omega arith))
+  where
+    by : List ℕ
+    by = bits 32 divisor
+
+    tail_xs : All IsBit xs
+    tail_xs = All-tail IsBit x xs bits_xs
+
+    tail_ys : All IsBit ys
+    tail_ys = All-tail IsBit y ys bits_ys
+
+    less_xs : All IsBit (plus_front xs by)
+    less_xs = bits-plus_front xs by tail_xs (bits-bits 32 divisor)
+
+    less_ys : All IsBit (plus_front ys by)
+    less_ys = bits-plus_front ys by tail_ys (bits-bits 32 divisor)
+
+    within_xs : length by ≤ length xs
+    within_xs = omega (arith, length-bits 32 divisor)
+
+    within_ys : length by ≤ length ys
+    within_ys = omega (arith, length-bits 32 divisor)
+
+    twice : plus_front (plus_front xs by) (plus_front ys by) ≡ plus_front xs ys
+    twice =
+        sym (plus_front_twice (plus_front xs by) ys by within_ys)
+        ∙ ap (λ (l : List ℕ). plus_front l by) (plus_front_swap xs by ys)
+        ∙ plus_front_twice (plus_front xs ys) by by (omega arith)
+        ∙ ap (plus_front (plus_front xs ys)) (plus_front_self by ∙ ap (λ (k : ℕ). replicate k 0) (length-bits 32 divisor))
+        ∙ plus_front_none 32 (plus_front xs ys)
+
+    each : ((us vs : List ℕ) → length us ≡ n + 32 → length vs ≡ n + 32 → All IsBit us → All IsBit vs
+        → remainder n (plus_front us vs) ≡ plus_front (remainder n us) (remainder n vs))
+        → (a b : ℕ) → a < 2 → b < 2
+        → remainder n (cond (eqb (bit_xor a b) 1) (plus_front (plus_front xs ys) by) (plus_front xs ys))
+        ≡ plus_front (remainder n (cond (eqb a 1) (plus_front xs by) xs)) (remainder n (cond (eqb b 1) (plus_front ys by) ys))
+    each below zero zero bit_a bit_b = below xs ys (omega arith) (omega arith) tail_xs tail_ys
+    each below zero (suc zero) bit_a bit_b =
+        ap (remainder n) (plus_front_twice xs ys by within_ys)
+        ∙ below xs (plus_front ys by) (omega arith) (omega (arith, length-plus_front ys by)) tail_xs less_ys
+    each below (suc zero) zero bit_a bit_b =
+        ap (remainder n) (plus_front_swap xs ys by)
+        ∙ below (plus_front xs by) ys (omega (arith, length-plus_front xs by)) (omega arith) less_xs tail_ys
+    each below (suc zero) (suc zero) bit_a bit_b =
+        ap (remainder n) (sym twice)
+        ∙ below (plus_front xs by) (plus_front ys by) (omega (arith, length-plus_front xs by)) (omega (arith, length-plus_front ys by)) less_xs less_ys
+    each below zero (suc (suc b)) bit_a bit_b = absurd (omega arith)
+    each below (suc zero) (suc (suc b)) bit_a bit_b = absurd (omega arith)
+    each below (suc (suc a)) b bit_a bit_b = absurd (omega arith)
+
+-- what division leaves of each byte with the zeros in place of those behind it, added up
+remainders_sum : List ℕ → ℕ
+remainders_sum [] = 0
+remainders_sum (byte ∷ bytes) = bit_xor (byte_remainder (length bytes) byte) (remainders_sum bytes)
+
+-- zeros in front leave nothing
+zeros_divided : (n : ℕ) (ys : List ℕ) → remainder (8 + n) (replicate 8 0 ++ ys) ≡ remainder n ys
+unfolding remainder
+zeros_divided n ys = remainder_twice 8 n (replicate 8 0 ++ ys)
+
+-- one byte more in front
+sum_with : (byte : ℕ) (bytes : List ℕ) → bits 32 (remainders_sum bytes) ≡ remainder (8 * length bytes) (bits_of bytes ++ replicate 32 0)
+    → bits 32 (bit_xor (byte_remainder (length bytes) byte) (remainders_sum bytes)) ≡ remainder (8 * suc (length bytes)) (bits_of (byte ∷ bytes) ++ replicate 32 0)
+unfolding bits_of padded bits
+sum_with byte bytes is =
+    let k : ℕ = length bytes in
+    let count : 8 * (k + 1) ≡ 8 + 8 * k = omega arith in
+    let whole : 8 * (k + 1) ≡ 8 * suc k = omega arith in
+    let eight : List ℕ = replicate 8 0 in
+    let others : List ℕ = bits_of bytes ++ replicate 32 0 in
+    let size : length others ≡ 8 * k + 32 = omega (arith, length-append (bits_of bytes) (replicate 32 0), length-bits_of bytes, length-replicate {A = ℕ} 32 0) in
+    let long : length (eight ++ others) ≡ 8 * (k + 1) + 32 = omega (arith, length-append eight others, length-replicate {A = ℕ} 8 0) in
+    let all_others : All IsBit others = All-append IsBit (bits_of bytes) (replicate 32 0) (bits-bits_of bytes) (All-replicate IsBit 32 0 (omega arith)) in
+    let all_bits : All IsBit (eight ++ others) = All-append IsBit eight others (All-replicate IsBit 8 0 (omega arith)) all_others in
+    let sum : plus_front (padded k byte) (eight ++ others) ≡ (bits 8 byte ++ bits_of bytes) ++ replicate 32 0 =
+    plus_front-append (bits 8 byte) eight (replicate (8 * k + 32) 0) others (length-bits 8 byte)
+    ∙ ap (λ (l : List ℕ). l ++ plus_front (replicate (8 * k + 32) 0) others) (plus_front_none 8 (bits 8 byte))
+    ∙ ap (λ (m : ℕ). bits 8 byte ++ plus_front (replicate m 0) others) (sym size)
+    ∙ ap (λ (l : List ℕ). bits 8 byte ++ l) (zeros_plus others)
+    ∙ sym (append_assoc (bits 8 byte) (bits_of bytes) (replicate 32 0)) in
+    sym (plus_front-bits 32 (byte_remainder k byte) (remainders_sum bytes))
+    ∙ ap (λ (l : List ℕ). plus_front l (bits 32 (remainders_sum bytes))) (bits-byte_remainder k byte)
+    ∙ ap (plus_front (remainder (8 * (k + 1)) (padded k byte))) (is ∙ sym (ap (λ (m : ℕ). remainder m (eight ++ others)) count ∙ zeros_divided (8 * k) others))
+    ∙ sym (divided_sum (8 * (k + 1)) (padded k byte) (eight ++ others) (length-padded k byte) long (bits-padded k byte) all_bits)
+    ∙ ap (remainder (8 * (k + 1))) sum
+    ∙ ap (λ (m : ℕ). remainder m ((bits 8 byte ++ bits_of bytes) ++ replicate 32 0)) whole
+
+-- what division leaves of bytes is the sum of what it leaves of each
+bits-remainders_sum : (bytes : List ℕ) → bits 32 (remainders_sum bytes) ≡ remainder (8 * length bytes) (bits_of bytes ++ replicate 32 0)
+unfolding remainders_sum bits bits_of remainder
+bits-remainders_sum [] = refl
+bits-remainders_sum (byte ∷ bytes) = sum_with byte bytes (bits-remainders_sum bytes)
+
+-- the bits of bytes that are added are added
+bits_of-plus_front : (xs ys : List ℕ) → bits_of (plus_front xs ys) ≡ plus_front (bits_of xs) (bits_of ys)
+unfolding plus_front bits_of bits
+bits_of-plus_front xs [] = refl
+bits_of-plus_front [] (y ∷ ys) = refl
+bits_of-plus_front (x ∷ xs) (y ∷ ys) =
+    ap (λ (l : List ℕ). bits 8 (bit_xor x y) ++ l) (bits_of-plus_front xs ys)
+    ∙ ap (λ (l : List ℕ). l ++ plus_front (bits_of xs) (bits_of ys)) (sym (plus_front-bits 8 x y))
+    ∙ sym (plus_front-append (bits 8 x) (bits 8 y) (bits_of xs) (bits_of ys) (length-bits 8 x ∙ sym (length-bits 8 y)))
+
+-- Four bytes read into the register: what their sum with the register's leaves is the next register.
+pub word_read : (register next : ℕ) (word bytes : List ℕ) → length word ≡ 4
+    → bits 32 next ≡ remainder 32 (bits_of (plus_front word (word_bytes register)) ++ replicate 32 0)
+    → divided_from next bytes ≡ divided_from register (word ++ bytes)
+unfolding divided_from plus_front
+word_read register next word bytes size is =
+    let n : ℕ = 8 * length bytes in
+    let zeros : List ℕ = replicate 32 0 in
+    let behind : List ℕ = bits_of bytes ++ zeros in
+    let four : List ℕ = word_bytes register in
+    let sum : List ℕ = plus_front word four in
+    let sum_size : length (bits_of sum) ≡ 32 = omega (arith, length-plus_front word four, length-bits_of sum) in
+    let count : 32 + n ≡ 8 * length (word ++ bytes) = omega (arith, length-append word bytes) in
+    let met : bits_of sum ++ behind ≡ plus_front (bits_of (word ++ bytes) ++ zeros) (bits 32 register) =
+    ap (λ (l : List ℕ). l ++ behind) (bits_of-plus_front word four)
+    ∙ sym (plus_front-append (bits_of word) (bits_of four) behind [] (omega (arith, length-bits_of word, length-bits_of four)))
+    ∙ ap (plus_front (bits_of word ++ behind)) (append-nil (bits_of four) ∙ bits_of-word_bytes register)
+    ∙ ap (λ (l : List ℕ). plus_front l (bits 32 register)) (sym (ap (λ (l : List ℕ). l ++ zeros) (bits_of-append word bytes) ∙ append_assoc (bits_of word) (bits_of bytes) zeros)) in
+    ap (λ (l : List ℕ). remainder n (plus_front behind l)) is
+    ∙ ap (remainder n) (sym (front_divided 32 (bits_of sum) behind sum_size))
+    ∙ sym (remainder_twice 32 n (bits_of sum ++ behind))
+    ∙ ap (λ (k : ℕ). remainder k (bits_of sum ++ behind)) count
+    ∙ ap (remainder (8 * length (word ++ bytes))) met
+
+-- four bytes, one by one
+four_bytes : (word : List ℕ) → length word ≡ 4 → get_or word 0 0 ∷ get_or word 1 0 ∷ get_or word 2 0 ∷ get_or word 3 0 ∷ [] ≡ word
+four_bytes [] size = absurd (omega arith)
+four_bytes (a ∷ []) size = absurd (omega arith)
+four_bytes (a ∷ b ∷ []) size = absurd (omega arith)
+four_bytes (a ∷ b ∷ c ∷ []) size = absurd (omega arith)
+four_bytes (a ∷ b ∷ c ∷ d ∷ []) size = refl
+four_bytes (a ∷ b ∷ c ∷ d ∷ e ∷ rest) size = absurd (omega arith)
+
+-- four bytes added to the register's
+pub word_met : (register : ℕ) (word four : List ℕ) → length word ≡ 4 → four ≡ word_bytes register
+    → bit_xor (get_or word 0 0) (get_or four 0 0) ∷ bit_xor (get_or word 1 0) (get_or four 1 0) ∷ bit_xor (get_or word 2 0) (get_or four 2 0)
+    ∷ bit_xor (get_or word 3 0) (get_or four 3 0) ∷ []
+    ≡ plus_front word (word_bytes register)
+unfolding plus_front
+word_met register word four size is =
+    ap (λ (f : List ℕ). bit_xor (get_or word 0 0) (get_or f 0 0) ∷ bit_xor (get_or word 1 0) (get_or f 1 0) ∷ bit_xor (get_or word 2 0) (get_or f 2 0)
+    ∷ bit_xor (get_or word 3 0) (get_or f 3 0) ∷ []) is
+    ∙ ap (λ (w : List ℕ). plus_front w (word_bytes register)) (four_bytes word size)
+
+-- what division leaves of four bytes, from what it leaves of each with zeros in place of the others
+pub word_remainder : (word : List ℕ) (first second third fourth : ℕ) → length word ≡ 4
+    → first ≡ byte_remainder 3 (get_or word 0 0) → second ≡ byte_remainder 2 (get_or word 1 0)
+    → third ≡ byte_remainder 1 (get_or word 2 0) → fourth ≡ byte_remainder 0 (get_or word 3 0)
+    → bits 32 (bit_xor (bit_xor first second) (bit_xor third fourth)) ≡ remainder 32 (bits_of word ++ replicate 32 0)
+unfolding remainders_sum
+word_remainder word first second third fourth size first_is second_is third_is fourth_is =
+    let four : List ℕ = get_or word 0 0 ∷ get_or word 1 0 ∷ get_or word 2 0 ∷ get_or word 3 0 ∷ [] in
+    let sum : bit_xor (bit_xor first second) (bit_xor third fourth) ≡ bit_xor first (bit_xor second (bit_xor third (bit_xor fourth 0))) =
+    xor_assoc first second (bit_xor third fourth) ∙ ap (λ (x : ℕ). bit_xor first (bit_xor second (bit_xor third x))) (sym (xor_zero_r fourth)) in
+    ap (bits 32) sum
+    ∙ ap (λ (x : ℕ). bits 32 (bit_xor x (bit_xor second (bit_xor third (bit_xor fourth 0))))) first_is
+    ∙ ap (λ (x : ℕ). bits 32 (bit_xor (byte_remainder 3 (get_or word 0 0)) (bit_xor x (bit_xor third (bit_xor fourth 0))))) second_is
+    ∙ ap (λ (x : ℕ). bits 32 (bit_xor (byte_remainder 3 (get_or word 0 0)) (bit_xor (byte_remainder 2 (get_or word 1 0)) (bit_xor x (bit_xor fourth 0))))) third_is
+    ∙ ap (λ (x : ℕ). bits 32 (bit_xor (byte_remainder 3 (get_or word 0 0)) (bit_xor (byte_remainder 2 (get_or word 1 0)) (bit_xor (byte_remainder 1 (get_or word 2 0)) (bit_xor x 0))))) fourth_is
+    ∙ bits-remainders_sum four
+    ∙ ap (λ (w : List ℕ). remainder 32 (bits_of w ++ replicate 32 0)) (four_bytes word size)
+
+-- as many bytes as whole words have
+pub words_joined : (count : ℕ) (bytes : List ℕ) → concat (first_chunks 4 count bytes) ++ drop (count * 4) bytes ≡ bytes
+words_joined zero bytes = refl
+words_joined (suc count) bytes =
+    let more : suc count * 4 ≡ 4 + count * 4 = omega arith in
+    ap (λ (n : ℕ). (take 4 bytes ++ concat (first_chunks 4 count (drop 4 bytes))) ++ drop n bytes) more
+    ∙ append_assoc (take 4 bytes) (concat (first_chunks 4 count (drop 4 bytes))) (drop (4 + count * 4) bytes)
+    ∙ ap (λ (l : List ℕ). take 4 bytes ++ (concat (first_chunks 4 count (drop 4 bytes)) ++ l)) (sym (drop-drop (count * 4) 4 bytes))
+    ∙ ap (λ (l : List ℕ). take 4 bytes ++ l) (words_joined count (drop 4 bytes))
+    ∙ take-append-drop 4 bytes

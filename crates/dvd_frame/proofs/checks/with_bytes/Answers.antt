@@ -1,0 +1,17 @@
+use Rattle.std.proofs.Common.{List, ℕ, ◌/◌, ◌++◌, length, ap, sym, ◌∙◌}
+use Rattle.std.specs.List.{concat}
+use Rattle.std.specs.Simd.{first_chunks}
+use Rattle.std.proofs.lemmas.List.{append_assoc}
+use Rattle.dvd_frame.specs.Registers.{divided_from}
+use Rattle.dvd_frame.proofs.WordDivision.{words_joined}
+use Rattle.dvd_frame.proofs.checks.with_bytes.Goals as goal
+
+pub loop-byte-init : goal.loop-byte-init
+loop-byte-init c = λ rest.
+    let words : List (List ℕ) = c.as_chunks.result.0.now in
+    let others : List ℕ = c.as_chunks.result.1.now in
+    c.with_words-next.ensures (others ++ rest)
+    ∙ ap (divided_from c.args.register) (sym (append_assoc (concat words) others rest))
+    ∙ ap (λ (l : List (List ℕ)). divided_from c.args.register ((concat l ++ others) ++ rest)) c.as_chunks.ensures.front
+    ∙ ap (λ (l : List ℕ). divided_from c.args.register ((concat (first_chunks 4 (length c.args.bytes.now / 4) c.args.bytes.now) ++ l) ++ rest)) c.as_chunks.ensures.back
+    ∙ ap (λ (l : List ℕ). divided_from c.args.register (l ++ rest)) (words_joined (length c.args.bytes.now / 4) c.args.bytes.now)

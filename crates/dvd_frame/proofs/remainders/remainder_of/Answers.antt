@@ -1,0 +1,12 @@
+use Rattle.std.proofs.Common.{refl, map}
+use Rattle.std.specs.List.{range_with_len}
+use Rattle.dvd_frame.specs.Bits.{bits}
+use Rattle.dvd_frame.specs.Edc.{plus_front, remainder}
+use Rattle.dvd_frame.specs.Registers.{byte_remainder}
+use Rattle.std.proofs.lemmas.Slice.Eq.{bytes_eq-Decides}
+use Rattle.dvd_frame.proofs.remainders.remainder_of.Goals as goal
+
+-- computed over all 256 entries
+pub returns : goal.returns
+unfolding byte_remainder remainder plus_front bits
+returns c = c.entry.ensures 0 ((bytes_eq-Decides _ (map (byte_remainder 0) (range_with_len 0 256))).0 refl)
