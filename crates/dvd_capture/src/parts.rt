@@ -98,7 +98,8 @@ impl Received {
     pub(crate) fn set(&mut self, i: usize, j: usize, byte: u8)
         requires row { i < 208 }
         requires place { j < 182 }
-        ensures { received_rows self.new ≡ slice_set (received_rows self.old) i (slice_set (line (received_rows self.old) i) j byte) }
+        ensures received { received_rows self.new ≡ slice_set (received_rows self.old) i (slice_set (line (received_rows self.old) i) j byte) }
+        ensures width { length (line (received_rows self.new) i) ≡ 182 }
     {
         self.rows[i][j] = byte;
     }

@@ -1,6 +1,6 @@
 //! A captured block: what was received, and what was found of it.
 ghost use Rattle.std.proofs.Props.{props};
-ghost use Rattle.std.specs.Prelude.{◌≡◌, ℕ, ◌<◌, ◌≢◌, ◌↔◌, Bool, false, List, replicate, slice_index, slice_index_or, slice_set, IfOk, IfSome, IfNone, OnSome};
+ghost use Rattle.std.specs.Prelude.{◌≡◌, ℕ, ◌<◌, ◌≢◌, ◌↔◌, Bool, false, List, length, replicate, slice_index, slice_index_or, slice_set, IfOk, IfSome, IfNone, OnSome};
 ghost use Rattle.std.specs.declared.option.Option.TheVariants.{None, Some};
 ghost use Rattle.dvd_block.specs.Product.{line, place};
 ghost use Rattle.dvd_capture.specs.Answers.{AreAnswers, IsFix, marks_line, row_answer};
@@ -104,6 +104,7 @@ impl Work {
         requires place { j < 182 }
         ensures stage { stage_of self.new ≡ Fetched }
         ensures received { rows_of self.new ≡ slice_set (rows_of self.old) i (slice_set (line (rows_of self.old) i) j byte) }
+        ensures width { length (line (rows_of self.new) i) ≡ 182 }
         ensures marks { marks_of_work self.new ≡ slice_set (marks_of_work self.old) i (slice_set (marks_line (marks_of_work self.old) i) j mark) }
         ensures answers { self.new.answers ≡ self.old.answers }
         ensures columns { self.new.columns ≡ self.old.columns }
@@ -170,7 +171,8 @@ impl Work {
     /// The 2,048 bytes of sector `f`.
     pub fn sector(&self, f: usize) -> &[u8]
         requires { f < 16 }
-        ensures { result.now ≡ line (sectors_of self.now) f }
+        ensures value { result.now ≡ line (sectors_of self.now) f }
+        ensures size { length result.now ≡ 2048 }
     {
         self.sectors.sector(f)
     }

@@ -9,18 +9,26 @@ use Rattle.dvd_control.specs.declared.format.PhysicalFormat.{PhysicalFormat}
 use Rattle.dvd_control.specs.declared.format.ControlFault.{ControlFault}
 use Rattle.dvd_control.specs.declared.format.ControlFault.TheVariants.{Category, Size, Layers, Range}
 
--- what a physical format tells, as plain numbers
+-- What a physical format tells, as plain numbers.
 pub record Fields : Type 0 where
+  -- the version of the book that the disk follows; 1 is the first
   pub version : ℕ
+  -- the maximum rate of the channel behind the decoder: 0 is 2.52 Mbit/s, 1 is 5.04, 2 is 10.08
   pub rate : ℕ
+  -- whether there are two layers, and whether their track path is the opposite one, on which layer 1 goes on where layer 0 ends
   pub two_layers : Bool
   pub opposite : Bool
+  -- the kind of the layers, a bit for each: 1 has embossed data, 2 a recordable and 4 a rewritable area
   pub kind : ℕ
+  -- the length of a channel bit: 0 is 0.133 micrometres, 1 is 0.147, as on disks with two layers
   pub density : ℕ
+  -- the distance of two tracks: 0 is 0.74 micrometres
   pub pitch : ℕ
+  -- the first and the last sector of the Data Zone, and the last one of layer 0 on the opposite track path, or 0
   pub first : ℕ
   pub last : ℕ
   pub layer0_last : ℕ
+  -- whether there is a burst cutting area, a bar code inside of the lead-in
   pub bca : Bool
 
 abbrev pub fields_of : PhysicalFormat → Fields

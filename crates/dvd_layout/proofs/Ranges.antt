@@ -16,7 +16,7 @@ use Rattle.dvd_layout.specs.declared.zone.Zone.{Zone}
 use Rattle.dvd_layout.specs.Place.{HasNumbers}
 use Rattle.dvd_layout.proofs.Blocks.{length-entries_of}
 use Rattle.dvd_layout.specs.Lengths.{is_opposite, padded}
-use Rattle.dvd_layout.specs.Plan.{IsInRange, entry_of, entries_of, plan_of, zone_of, second_first, behind, lead_in, inside_out, out_and_in, first_data, second_data, zones_by, zone_table, is_data}
+use Rattle.dvd_layout.specs.Plan.{IsInRange, entry_of, entries_of, lead_in_blocks, plan_of, zone_of, second_first, behind, lead_in, inside_out, out_and_in, first_data, second_data, zones_by, zone_table, is_data}
 
 abbrev Each : List Zone → Type 0
 Each zones = AllByRecursion IsInRange zones
@@ -43,6 +43,9 @@ lead_in-in_range initial layer fits two = (
     ),
   ),
 )
+
+pub zones-of_lead_in : (initial : ℕ) → initial ≤ 12031 → All IsInRange (lead_in initial 0)
+zones-of_lead_in initial fits = All-from_recursion IsInRange (lead_in initial 0) (lead_in-in_range initial 0 fits (omega arith))
 
 first_data-in_range : (layout : Layout) → IsInRange (first_data layout)
 first_data-in_range layout = record { numbers = omega arith; image = omega arith; layers = omega arith }
@@ -124,3 +127,7 @@ zones-numbers (zone ∷ zones) ranges =
 pub plan_of-numbers : (layout : Layout) (zones : Zones) → All HasNumbers (plan_of layout zones)
 unfolding plan_of
 plan_of-numbers layout zones = zones-numbers (zone_table layout zones) (recursion_from_All IsInRange (zone_table layout zones) (zone_table-in_range layout zones))
+
+pub lead_in_blocks-numbers : (initial : ℕ) → initial ≤ 12031 → All HasNumbers (lead_in_blocks initial)
+unfolding lead_in_blocks
+lead_in_blocks-numbers initial fits = zones-numbers (lead_in initial 0) (lead_in-in_range initial 0 fits (omega arith))

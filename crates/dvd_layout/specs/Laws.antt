@@ -1,13 +1,15 @@
 -- The laws of every lawful layout.
-use Rattle.std.specs.Prelude.{◌≡◌, ℕ, ◌+◌, ◌<◌, All, None, Some, slice_get, take}
+use Rattle.std.specs.Prelude.{◌≡◌, ◌≢◌, ℕ, ◌+◌, ◌*◌, ◌<◌, All as EachOf, None, Some, slice_get, take}
+use Rattle.dvd_frame.specs.declared.id.Area.TheVariants.{LeadIn}
 use Rattle.dvd_layout.specs.declared.entry.BlockPlan.{BlockPlan}
-use Rattle.dvd_layout.specs.declared.entry.Content.TheVariants.{Image}
+use Rattle.dvd_layout.specs.declared.entry.Content.TheVariants.{Control, Image}
 use Rattle.dvd_layout.specs.declared.layout.Layout.{Layout}
 use Rattle.dvd_layout.specs.declared.layout.Zones.{Zones}
+use Rattle.dvd_layout.specs.declared.layout.Zones.TheVariants.{All}
 use Rattle.dvd_layout.specs.Content.{IsImage, image_from}
 use Rattle.dvd_layout.specs.Lengths.{first_fault}
 use Rattle.dvd_layout.specs.Place.{HasNumbers, image_before, place_of, total_sectors}
-use Rattle.dvd_layout.specs.Plan.{plan_of}
+use Rattle.dvd_layout.specs.Plan.{lead_in_blocks, plan_of}
 
 -- a layout breaks no rule
 abbrev pub LayoutsBreakNoRule : Type 0
@@ -21,7 +23,18 @@ LayoutIsByLengths =
 
 -- every sector number of a plan has 24 bits, those of the last frames of its blocks too, and every layer is one of two
 abbrev pub PlanNumbersHave24Bits : Type 0
-PlanNumbersHave24Bits = (layout : Layout) (zones : Zones) → All HasNumbers (plan_of layout zones)
+PlanNumbersHave24Bits = (layout : Layout) (zones : Zones) → EachOf HasNumbers (plan_of layout zones)
+
+-- The control data of a disk are 192 blocks from sector 02F200 on, behind the Initial Zone and 32 blocks more, and no block
+-- before them is one of theirs.
+pub record ControlDataStandInTheLeadIn (initial : ℕ) : Type 0 where
+  pub stand : (c : ℕ) → c < 192
+      → slice_get (lead_in_blocks initial) (initial + 32 + c) ≡ Some (record { first = 0x2F200 + 16 * c; area = LeadIn; layer = 0; content = Control })
+  pub none_before : (k : ℕ) (entry : BlockPlan) → k < initial + 32 → slice_get (lead_in_blocks initial) k ≡ Some entry → entry.content ≢ Control
+
+-- The plan of a disk begins with its lead-in.
+abbrev pub PlanBeginsWithTheLeadIn : Type 0
+PlanBeginsWithTheLeadIn = (layout : Layout) → take (layout.initial + 256) (plan_of layout All) ≡ lead_in_blocks layout.initial
 
 -- no two image sectors have one place
 abbrev pub PlacesDiffer : Type 0

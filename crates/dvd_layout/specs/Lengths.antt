@@ -28,6 +28,10 @@ is_opposite Opposite = true
 abbrev pub layer_end : ℕ → ℕ → ℕ
 layer_end sectors tail = 0x30000 + padded sectors + 16 * tail
 
+-- the rule of an Initial Zone alone: no sector of it may have the number 0
+abbrev pub initial_fault : ℕ → Option LayoutFault
+initial_fault initial = if nat_lt 12031 initial then Some (InitialTooLong initial) else None
+
 -- the first rule that a layout of these lengths breaks
 unfoldable pub first_fault : Shape → ℕ → ℕ → ℕ → ℕ → Option LayoutFault
 first_fault shape sectors0 sectors1 initial tail =

@@ -42,6 +42,10 @@ lead_in initial layer =
     ∷ zone_of 0x2F200 192 LeadIn layer Control
     ∷ zone_of 0x2FE00 32 LeadIn layer Zero ∷ []
 
+-- the blocks of the lead-in of layer 0, zone after zone
+unfoldable pub lead_in_blocks : ℕ → List BlockPlan
+lead_in_blocks initial = flat_map entries_of (lead_in initial 0)
+
 -- Where the data of layer 1 begin: at 030000, or on the opposite track path at the complement of layer 0's last data sector.
 abbrev pub second_first : Layout → ℕ
 second_first layout = if is_opposite layout.shape then 0xFD0000 - padded layout.sectors0 else 0x30000

@@ -1,5 +1,6 @@
 //! What holds of every lawful layout. Each function's contract is a law of the definitions; the bodies are empty.
-ghost use Rattle.dvd_layout.specs.Laws.{ImageIsWhole, ImageStandsInOrder, LayoutIsByLengths, LayoutsBreakNoRule, PlacesDiffer, PlanFollowsPlaces, PlanNumbersHave24Bits};
+ghost use Rattle.std.specs.Prelude.{ℕ};
+ghost use Rattle.dvd_layout.specs.Laws.{ControlDataStandInTheLeadIn, ImageIsWhole, ImageStandsInOrder, LayoutIsByLengths, LayoutsBreakNoRule, PlacesDiffer, PlanBeginsWithTheLeadIn, PlanFollowsPlaces, PlanNumbersHave24Bits};
 
 /// A layout breaks no rule.
 pub fn layouts_break_no_rule()
@@ -14,6 +15,16 @@ pub fn layout_is_by_lengths()
 /// Every sector number of a plan has 24 bits, those of the last frames of its blocks too, and every layer is one of two.
 pub fn plan_numbers_have_24_bits()
     ensures { PlanNumbersHave24Bits }
+{}
+
+/// The control data stand in the lead-in from sector 02F200 on.
+pub fn control_data_stand_in_the_lead_in()
+    ensures { (initial : ℕ) → ControlDataStandInTheLeadIn initial }
+{}
+
+/// The plan of a disk begins with its lead-in.
+pub fn plan_begins_with_the_lead_in()
+    ensures { PlanBeginsWithTheLeadIn }
 {}
 
 /// No two image sectors have one place.

@@ -1,7 +1,7 @@
 //! The lengths of a disk, which make a lawful layout.
 
-ghost use Rattle.std.specs.Prelude.{◌≡◌, ◌+◌, ◌*◌, ◌%◌, ◌<◌, ◌≤◌, true, false, Some, None, IfOk, IfErr, IsTrue};
-ghost use Rattle.dvd_layout.specs.Lengths.{blocks_of, first_fault, has_two_layers, is_opposite, layer_end, padded};
+ghost use Rattle.std.specs.Prelude.{◌≡◌, ◌+◌, ◌*◌, ◌%◌, ◌<◌, ◌≤◌, true, false, Some, None, IfOk, IfErr, IsOk, IsTrue};
+ghost use Rattle.dvd_layout.specs.Lengths.{blocks_of, first_fault, has_two_layers, initial_fault, is_opposite, layer_end, padded};
 
 use crate::fault::LayoutFault;
 
@@ -13,6 +13,17 @@ const MAX_TAIL: u32 = 12_288;
 
 // Where a layer that begins at 030000 ends at the latest.
 const LAST_END: u64 = 0x80_0000;
+
+/// Whether an Initial Zone may have so many ECC blocks.
+pub fn check_initial(initial: u32) -> Result<(), LayoutFault>
+    ensures refused { IfErr result (λ fault. initial_fault initial ≡ Some fault) }
+    ensures lawful { IsOk result → initial_fault initial ≡ None }
+{
+    if initial > MAX_INITIAL {
+        return Err(LayoutFault::InitialTooLong { blocks: initial });
+    }
+    Ok(())
+}
 
 /// How many layers a disk has, and which way the track of the second runs.
 #[derive(Clone, Copy, Debug, PartialEq, Eq)]

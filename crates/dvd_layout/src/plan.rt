@@ -2,7 +2,7 @@
 ghost use Rattle.std.specs.Prelude.{◌≡◌, ◌+◌, ◌*◌, ◌^◌, ◌<◌, ◌≤◌, ◌++◌, length, Some, slice_get};
 ghost use Rattle.arrayvec.specs.ArrayVec.{array_vec_len};
 ghost use Rattle.dvd_layout.specs.Lengths.{blocks_of};
-ghost use Rattle.dvd_layout.specs.Plan.{behind, first_data, inside_out, lead_in, out_and_in, plan_of, second_data, second_first, zone_of, zone_table, zones_by};
+ghost use Rattle.dvd_layout.specs.Plan.{behind, first_data, inside_out, lead_in, lead_in_blocks, out_and_in, plan_of, second_data, second_first, zone_of, zone_table, zones_by};
 
 use crate::entry::{BlockPlan, Content};
 use crate::layout::{Layout, Shape, Zones, blocks_of};
@@ -126,6 +126,18 @@ impl Layout {
             DATA_FIRST
         }
     }
+}
+
+/// Block `k` of the lead-in of layer 0, where so many ECC blocks stand in its Initial Zone. Behind that zone come the
+/// reference code, a buffer zone, the control data and another buffer zone, 256 blocks in all.
+pub fn lead_in_block(initial: u32, k: u32) -> BlockPlan
+    requires initial { initial ≤ 12031 }
+    requires block { k < initial + 256 }
+    ensures { slice_get (lead_in_blocks initial) k ≡ Some result }
+{
+    let mut table = ZoneTable::new();
+    push_lead_in(&mut table, initial, 0);
+    block_at(&table, u64::from(k))
 }
 
 // The zones of the lead-in of a layer.

@@ -1,45 +1,62 @@
 -- How a loop over units of given sizes may end.
-use Rattle.std.proofs.Common.{◌≡◌, ◌≢◌, ℕ, List, refl, subst, arith}
+use Rattle.std.proofs.Common.{◌≡◌, ◌≢◌, ℕ, List, refl, sym, subst, ◌∙◌, arith}
 use Rattle.dvd_loop.specs.Streams.{Counts, is_report_fault}
-use Rattle.dvd_loop.specs.Laws.{IsDamageEnd, IsNever, IsPlainEnd}
-use Rattle.dvd_loop.specs.Machine.{IsOutcome, Outcome, Step, plain_units}
+use Rattle.dvd_loop.specs.Laws.{IsDamageEnd, IsNever, IsPlainEnd, IsSearchEnd}
+use Rattle.dvd_loop.specs.Machine.{IsOutcome, Outcome, Units, sized}
+use Rattle.dvd_loop.specs.declared.ends.Behind.TheVariants.{Asks, NoControl as StopsNoControl}
 use Rattle.dvd_loop.specs.declared.ends.LoopEnd.{LoopEnd}
 use Rattle.dvd_loop.specs.declared.ends.LoopEnd.TheVariants.{BadMarks, Damaged, Done, Long, NoControl, ReadFault, ReportFault, Short, WriteFault}
-use Rattle.dvd_loop.specs.declared.ends.Turn.{Turn}
 use Rattle.dvd_loop.specs.declared.ends.Turn.TheVariants.{Bad}
-use Rattle.dvd_loop.proofs.PlainEnds.{damaged_at_most, never_bad_marks, never_damaged, never_no_control, short_below}
+use Rattle.dvd_loop.proofs.PlainEnds.{damaged_at_most, never_bad_marks, never_damaged, never_long, never_no_control, short_below}
 use Rattle.dvd_loop.proofs.Sizes.{sized_never_broken}
 
-module _ (count : ℕ) (size : ℕ → ℕ) (May : ℕ → List ℕ → List Step → Turn → Type 0) (bytes : List ℕ) (outcome : Outcome) (runs : IsOutcome (plain_units count size May) bytes outcome) where
+module _ (units : Units) (size : ℕ → ℕ) (begins : (k : ℕ) (own : List ℕ) → units.begins k own ≡ sized (size k) own) (asks : units.behind ≡ Asks) (bytes : List ℕ) (outcome : Outcome) (runs : IsOutcome units bytes outcome) where
   no_control : outcome.end ≢ NoControl
-  no_control = never_no_control (plain_units count size May) bytes outcome runs (λ is. cc)
+  no_control = never_no_control units bytes outcome runs (λ stands. let no : Asks ≡ StopsNoControl = sym asks ∙ stands in cc)
 
   no_marks : (k at : ℕ) → outcome.end ≢ BadMarks k at
-  no_marks = never_bad_marks (plain_units count size May) bytes outcome runs (λ k at own. sized_never_broken (size k) at own)
+  no_marks = never_bad_marks units bytes outcome runs (λ k at own broken. sized_never_broken (size k) at own (sym (begins k own) ∙ broken))
 
   -- where no unit is bad and the report didn't fail
-  pub plain_end : IsNever (plain_units count size May) Bad → (end : LoopEnd) → outcome.end ≡ end → end ≢ ReportFault → IsPlainEnd count end
+  pub plain_end : IsNever units Bad → (end : LoopEnd) → outcome.end ≡ end → end ≢ ReportFault → IsPlainEnd units.count end
   plain_end never Done is told = tt
   plain_end never ReadFault is told = tt
   plain_end never WriteFault is told = tt
   plain_end never ReportFault is told = absurd (told refl)
-  plain_end never (Short k held) is told = short_below (plain_units count size May) bytes outcome runs k held is
+  plain_end never (Short k held) is told = short_below units bytes outcome runs k held is
   plain_end never Long is told = tt
-  plain_end never (Damaged bad) is told = absurd (never_damaged (plain_units count size May) bytes outcome runs never bad is)
+  plain_end never (Damaged bad) is told = absurd (never_damaged units bytes outcome runs never bad is)
   plain_end never NoControl is told = absurd (no_control is)
   plain_end never (BadMarks k at) is told = absurd (no_marks k at is)
 
   -- whatever the units are
-  pub damage_end : (end : LoopEnd) → outcome.end ≡ end → IsDamageEnd count end
+  pub damage_end : (end : LoopEnd) → outcome.end ≡ end → IsDamageEnd units.count end
   damage_end Done is = tt
   damage_end ReadFault is = tt
   damage_end WriteFault is = tt
   damage_end ReportFault is = tt
-  damage_end (Short k held) is = short_below (plain_units count size May) bytes outcome runs k held is
+  damage_end (Short k held) is = short_below units bytes outcome runs k held is
   damage_end Long is = tt
-  damage_end (Damaged bad) is = damaged_at_most (plain_units count size May) bytes outcome runs bad is
+  damage_end (Damaged bad) is = damaged_at_most units bytes outcome runs bad is
   damage_end NoControl is = absurd (no_control is)
   damage_end (BadMarks k at) is = absurd (no_marks k at is)
+
+-- where none of the units is bad, the last of them ends the run, and nothing is asked for behind them
+pub search_end : (units : Units) (size : ℕ → ℕ) → ((k : ℕ) (own : List ℕ) → units.begins k own ≡ sized (size k) own) → units.behind ≡ StopsNoControl
+    → IsNever units Bad
+    → (bytes : List ℕ) (outcome : Outcome) → IsOutcome units bytes outcome → (end : LoopEnd) → outcome.end ≡ end → end ≢ ReportFault
+    → IsSearchEnd units.count end
+search_end units size begins stands never bytes outcome runs Done is told = tt
+search_end units size begins stands never bytes outcome runs ReadFault is told = tt
+search_end units size begins stands never bytes outcome runs WriteFault is told = tt
+search_end units size begins stands never bytes outcome runs ReportFault is told = absurd (told refl)
+search_end units size begins stands never bytes outcome runs (Short k held) is told = short_below units bytes outcome runs k held is
+search_end units size begins stands never bytes outcome runs Long is told =
+    absurd (never_long units bytes outcome runs (λ asks. let no : StopsNoControl ≡ Asks = sym stands ∙ asks in cc) is)
+search_end units size begins stands never bytes outcome runs (Damaged bad) is told = absurd (never_damaged units bytes outcome runs never bad is)
+search_end units size begins stands never bytes outcome runs NoControl is told = tt
+search_end units size begins stands never bytes outcome runs (BadMarks k at) is told =
+    absurd (never_bad_marks units bytes outcome runs (λ j place own broken. sized_never_broken (size j) place own (sym (begins j own) ∙ broken)) k at is)
 
 -- the report of a stream that is not there can't fail
 pub never_told : (end : LoopEnd) → Counts (is_report_fault end) 0 0 → end ≢ ReportFault

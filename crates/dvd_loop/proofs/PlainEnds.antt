@@ -296,6 +296,24 @@ module _ (units : Units) (bytes : List ℕ) (outcome : Outcome) (runs : IsOutcom
         at_end = λ asks bad are. end_by_not (λ end. end ≢ NoControl) bad (λ no. absurd cc) (λ no. absurd cc);
       }) bytes outcome runs
 
+  -- where nothing is asked for behind the units, nothing is found there
+  pub never_long : units.behind ≢ behind.Asks → outcome.end ≢ Long
+  never_long not =
+      run_ends units (λ k bad. Unit {0}) (λ end. end ≢ Long) (record {
+        none = tt;
+        counts = λ k bad before own steps turn are does. tt;
+        read = λ no. absurd cc;
+        write = λ no. absurd cc;
+        report = λ no. absurd cc;
+        short = λ j own lt cut no. absurd cc;
+        marks = λ j at own lt broken no. absurd cc;
+        last = λ j before own steps does no. absurd cc;
+        stands = λ is no. absurd cc;
+        no_control = λ is no. absurd cc;
+        long = λ asks no. not asks;
+        at_end = λ asks bad are. absurd (not asks);
+      }) bytes outcome runs
+
   -- no more units are bad than there are
   pub damaged_at_most : (bad : ℕ) → outcome.end ≡ Damaged bad → bad ≤ units.count
   damaged_at_most bad =

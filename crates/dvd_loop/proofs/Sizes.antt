@@ -78,7 +78,8 @@ module _ (units : Units) (size : ℕ → ℕ) (begins : (k : ℕ) (bytes : List 
     pub fewer : length bytes < size k
     pub is : outcome ≡ taking bytes (ended (Short k (length bytes)))
 
-  within_short : (k : ℕ) (bytes : List ℕ) (outcome : Outcome) → IsWithin units k bytes outcome → IsFaultless outcome.end → IsShort k bytes outcome
+  -- an end within a unit without a fault is that of an input with too few bytes for it
+  pub within_short : (k : ℕ) (bytes : List ℕ) (outcome : Outcome) → IsWithin units k bytes outcome → IsFaultless outcome.end → IsShort k bytes outcome
   within_short k bytes outcome w none =
       elim (units.begins k w.own) as (λ part. units.begins k w.own ≡ part → EndsWithin part k (length w.own) w.left outcome.end → IsShort k bytes outcome) [
         | Whole n ↦ λ is ends. absurd ends

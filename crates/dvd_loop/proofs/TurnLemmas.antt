@@ -5,7 +5,7 @@ use Rattle.dvd_ports.specs.Seen.{Seen}
 use Rattle.dvd_ports.specs.Causes.{Rose}
 use Rattle.dvd_ports.specs.Whole.{AppendsPrefix}
 use Rattle.dvd_ports.proofs.KnownLemmas.{Appends-none}
-use Rattle.dvd_loop.specs.Machine.{Does, EndsWithin, IsUnit, Step, Units, ended, plain_units, sized, stepping, taking}
+use Rattle.dvd_loop.specs.Machine.{Does, EndsWithin, IsUnit, Step, Units, ended, sized, stepping, taking}
 use Rattle.dvd_loop.specs.Machine.Part.{Cut}
 use Rattle.dvd_loop.specs.Machine.Step.{Write, Tell}
 use Rattle.dvd_loop.specs.Streams.{Comes, HaveCauses, HaveMoved, Streams, streams}
@@ -13,7 +13,6 @@ use Rattle.dvd_loop.specs.Turns.{AreDone, AreSteps, EndsAt, EndsShort, HaveCause
 use Rattle.dvd_loop.specs.declared.ends.LoopEnd.{LoopEnd}
 use Rattle.dvd_loop.specs.declared.ends.LoopEnd.TheVariants.{Done, ReportFault, WriteFault}
 use Rattle.dvd_loop.specs.declared.ends.Turn.{Turn}
-use Rattle.dvd_loop.specs.declared.ends.Turn.TheVariants.{Good}
 use Rattle.dvd_loop.proofs.Sizes.{sized_fewer, sized_whole}
 use Rattle.dvd_loop.proofs.StepLemmas.{onto}
 use Rattle.dvd_loop.proofs.StreamLemmas.{Consumes-none, causes_first, comes_after, left_of, moves_on, none_left, told_before}
@@ -162,41 +161,41 @@ pub causes_after : {A : Type 0} (answer : Result A LoopEnd) (old now new : Strea
 causes_after (Ok value) old now new first next = causes_first old now new Done Done first next
 causes_after (Err end) old now new first next = causes_first old now new end end first next
 
--- one write is all that is done for a good unit
-module _ (May : List Step → Turn → Type 0) (bytes : List ℕ) (may : May (Write bytes ∷ []) Good) (source output new_output report : Seen) where
+-- one write is all that is done for a unit that is then this
+module _ (May : List Step → Turn → Type 0) (bytes : List ℕ) (turn : Turn) (may : May (Write bytes ∷ []) turn) (source output new_output report : Seen) where
   pub write_done : Appends output.bytes new_output.bytes bytes
-      → AreDone May (streams source output report) (streams source new_output report) (Ok Good)
-  write_done writes = record { steps = Write bytes ∷ []; turn = Good; may = may; done = step_written source output new_output report bytes writes; is = λ value is. cc }
+      → AreDone May (streams source output report) (streams source new_output report) (Ok turn)
+  write_done writes = record { steps = Write bytes ∷ []; turn = turn; may = may; done = step_written source output new_output report bytes writes; is = λ value is. cc }
 
   pub write_begun : (answer : Result Turn LoopEnd) → answer ≡ Err WriteFault → AppendsPrefix output.bytes new_output.bytes bytes
       → AreDone May (streams source output report) (streams source new_output report) answer
   write_begun answer is begun = record {
     steps = Write bytes ∷ [];
-    turn = Good;
+    turn = turn;
     may = may;
     done = subst (AreSteps (Write bytes ∷ []) (streams source output report) (streams source new_output report)) (sym is) (step_begun source output new_output report bytes [] begun);
     is = λ value ok. cc;
   }
 
--- Units of given sizes with nothing to open and nothing to close: a turn by what was read and by what was done.
-module _ (count : ℕ) (size : ℕ → ℕ) (May : ℕ → List ℕ → List Step → Turn → Type 0) (k : ℕ) (before : List (List ℕ)) (number : length before ≡ k) (ready : List (List ℕ) → Type 0) (source new_source output report : Seen) where
-  pub plain_short : (answer : Result Turn LoopEnd) (end : LoopEnd) → answer ≡ Err end → EndsShort k (size k) source new_source end
-      → IsTurn (plain_units count size May) before ready (streams source output report) (streams new_source output report) answer
-  plain_short answer end is short =
-      subst (IsTurn (plain_units count size May) before ready (streams source output report) (streams new_source output report)) (sym is)
-      (turn_short (plain_units count size May) before ready (size k) source new_source output report end
-      (λ own fewer. ap (λ j. sized (size j) own) number ∙ sized_fewer (size k) own fewer)
+-- Units of given sizes: a turn by what was read and by what was done.
+module _ (units : Units) (size : ℕ → ℕ) (begins : (k : ℕ) (own : List ℕ) → units.begins k own ≡ sized (size k) own) (k : ℕ) (before : List (List ℕ)) (number : length before ≡ k) (ready : List (List ℕ) → Type 0) (source new_source output report : Seen) where
+  pub sized_short : (answer : Result Turn LoopEnd) (end : LoopEnd) → answer ≡ Err end → EndsShort k (size k) source new_source end
+      → IsTurn units before ready (streams source output report) (streams new_source output report) answer
+  sized_short answer end is short =
+      subst (IsTurn units before ready (streams source output report) (streams new_source output report)) (sym is)
+      (turn_short units before ready (size k) source new_source output report end
+      (λ own fewer. begins (length before) own ∙ ap (λ j. sized (size j) own) number ∙ sized_fewer (size k) own fewer)
       (subst (λ j. EndsShort j (size k) source new_source end) (sym number) short))
 
-  pub plain_done : (own : List ℕ) → length own ≡ size k → Consumes source.bytes new_source.bytes own
+  pub sized_done : (own : List ℕ) → length own ≡ size k → Consumes source.bytes new_source.bytes own
       → (new_output new_report : Seen) (answer : Result Turn LoopEnd)
-      → AreDone (May k own) (streams new_source output report) (streams new_source new_output new_report) answer → ready (before ++ own ∷ [])
-      → IsTurn (plain_units count size May) before ready (streams source output report) (streams new_source new_output new_report) answer
-  plain_done own whole reads new_output new_report answer done next =
-      turn_of (plain_units count size May) before ready (streams source output report) (streams new_source output report) (streams new_source new_output new_report) own done.steps done.turn
+      → AreDone (units.does k before own) (streams new_source output report) (streams new_source new_output new_report) answer → ready (before ++ own ∷ [])
+      → IsTurn units before ready (streams source output report) (streams new_source new_output new_report) answer
+  sized_done own whole reads new_output new_report answer done next =
+      turn_of units before ready (streams source output report) (streams new_source output report) (streams new_source new_output new_report) own done.steps done.turn
       (record {
-        whole = ap (λ j. sized (size j) own) number ∙ (sized_whole (size k) own).1 whole;
-        does = subst (λ j. May j own done.steps done.turn) (sym number) done.may;
+        whole = begins (length before) own ∙ ap (λ j. sized (size j) own) number ∙ (sized_whole (size k) own).1 whole;
+        does = subst (λ j. units.does j before own done.steps done.turn) (sym number) done.may;
       })
       (record { reads = reads; writes = Appends-none output.bytes; tells = Appends-none report.bytes })
       next answer done.done done.is

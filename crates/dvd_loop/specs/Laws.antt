@@ -6,7 +6,7 @@ use Rattle.dvd_loop.specs.Machine.Part.{Whole, Cut, Broken}
 use Rattle.dvd_loop.specs.Turns.{told, written}
 use Rattle.dvd_loop.specs.declared.ends.Behind.TheVariants.{Asks, Done as StopsDone}
 use Rattle.dvd_loop.specs.declared.ends.LoopEnd.{LoopEnd}
-use Rattle.dvd_loop.specs.declared.ends.LoopEnd.TheVariants.{BadMarks, Damaged, Done, Long, ReadFault, ReportFault, Short, WriteFault}
+use Rattle.dvd_loop.specs.declared.ends.LoopEnd.TheVariants.{BadMarks, Damaged, Done, Long, NoControl, ReadFault, ReportFault, Short, WriteFault}
 use Rattle.dvd_loop.specs.declared.ends.Turn.{Turn}
 use Rattle.dvd_loop.specs.declared.ends.Turn.TheVariants.{Last}
 
@@ -83,6 +83,16 @@ abbrev pub IsDamageEnd : ℕ → LoopEnd → Type 0
 IsDamageEnd count ReportFault = Unit {0}
 IsDamageEnd count (Damaged blocks) = blocks ≤ count
 IsDamageEnd count end = IsPlainEnd count end
+
+-- the ends of a loop of so many units that looks for the first one of a kind and tells nothing: the one that is found is the
+-- last, and behind all of them there is none
+abbrev pub IsSearchEnd : ℕ → LoopEnd → Type 0
+IsSearchEnd count Done = Unit {0}
+IsSearchEnd count ReadFault = Unit {0}
+IsSearchEnd count WriteFault = Unit {0}
+IsSearchEnd count (Short unit bytes) = unit < count
+IsSearchEnd count NoControl = Unit {0}
+IsSearchEnd count end = ⊥
 
 -- no unit turns out to be this
 abbrev pub IsNever : Units → Turn → Type 0

@@ -56,6 +56,10 @@ pub record IsTurnDone (units : Units) (before : List (List ℕ)) (ready : List (
 abbrev pub EndsAt : Units → List (List ℕ) → List ℕ → Outcome → Type 0
 EndsAt units before bytes outcome = IsWithin units (length before) bytes outcome ⊎ IsTaken units before (λ own left turn. Nothing) bytes outcome
 
+-- The command is ready for unit k, whatever stands before it.
+abbrev pub IsReadyFor : ℕ → (List (List ℕ) → Type 0) → Type 0
+IsReadyFor k ready = (before : List (List ℕ)) × (length before ≡ k) × ready before
+
 -- A turn answers what its unit is, or how it ends the loop.
 abbrev pub IsTurn : Units → List (List ℕ) → (List (List ℕ) → Type 0) → Streams → Streams → Result Turn LoopEnd → Type 0
 IsTurn units before ready old new (Ok turn) = IsTurnDone units before ready old new turn

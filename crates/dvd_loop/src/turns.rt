@@ -3,7 +3,7 @@ ghost use Rattle.std.specs.Prelude.{◌≡◌, ◌<◌, ℕ, List, length, Ok, I
 ghost use Rattle.dvd_ports.specs.Seen.{Seen};
 ghost use Rattle.dvd_loop.specs.Machine.{Units};
 ghost use Rattle.dvd_loop.specs.Streams.{streams};
-ghost use Rattle.dvd_loop.specs.Turns.{AreSteps, HaveCausesFor, TakesClosing, TakesTurn};
+ghost use Rattle.dvd_loop.specs.Turns.{AreSteps, HaveCausesFor, IsReadyFor, TakesClosing, TakesTurn};
 ghost use Rattle.dvd_loop.specs.declared.ends.LoopEnd.{LoopEnd as HowItEnds};
 
 use crate::{Behind, LoopEnd, Turn};
@@ -49,7 +49,8 @@ pub trait Turns {
         out: &mut K,
         report: &mut E,
     ) -> Result<Turn, LoopEnd>
-        requires { k < (units (key self.old)).count }
+        requires unit { k < (units (key self.old)).count }
+        requires ready { IsReadyFor k (ready self.old) }
         ensures same { key self.new ≡ key self.old }
         ensures turn { TakesTurn (units (key self.old)) k (ready self.old) (ready self.new)
             (streams (S.seen src.old) (K.seen out.old) (E.seen report.old))

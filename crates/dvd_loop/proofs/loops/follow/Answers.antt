@@ -30,6 +30,9 @@ loop-k-init g c = record {
   causes = c.in_default.ensures.causes (g.S.Source.seen c.args.src.now);
 }
 
+pub turn-requires-clause-ready : goal.turn-requires-clause-ready
+turn-requires-clause-ready g c = let i = c.loop-k.invariant in (i.before, i.reached.number, i.ready)
+
 pub returns-in-Ok-clause-follows : goal.returns-in-Ok-clause-follows
 returns-in-Ok-clause-follows g c =
     let old = streams (g.S.Source.seen c.args.src.now) (g.K.Sink.seen c.args.out.now) (g.E.Sink.seen c.args.report.now) in
