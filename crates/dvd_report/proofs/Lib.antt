@@ -1,1 +1,4 @@
+pub mod Answered
 pub mod Hexadecimal
+pub mod RowCounts
+pub mod Sums

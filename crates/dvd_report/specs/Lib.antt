@@ -1,1 +1,4 @@
+pub mod Examples
 pub mod Lines
+pub mod Sound
+pub mod Survey

@@ -20,7 +20,10 @@ cause_text (Ied f) = codes "ied " ++ decimal f
 cause_text (Address f found) = codes "address " ++ decimal f ++ codes " found " ++ hexadecimal 8 found
 cause_text (Edc f) = codes "edc " ++ decimal f
 
--- block k of a plan, with the six digits of its first sector number, its layer and its cause
+-- block k of a plan, with the six digits of its first sector number and its layer
+unfoldable pub block_text : ℕ → BlockPlan → List ℕ
+block_text k plan = codes "block " ++ decimal k ++ codes " sector " ++ hexadecimal 6 plan.first ++ codes " layer " ++ decimal plan.layer
+
+-- such a block and its cause
 unfoldable pub damage_line : ℕ → BlockPlan → Cause → List ℕ
-damage_line k plan cause =
-    codes "block " ++ decimal k ++ codes " sector " ++ hexadecimal 6 plan.first ++ codes " layer " ++ decimal plan.layer ++ codes ": " ++ cause_text cause ++ codes "\n"
+damage_line k plan cause = block_text k plan ++ codes ": " ++ cause_text cause ++ codes "\n"

@@ -5,9 +5,9 @@ ghost use Rattle.arrayvec.specs.ArrayVec.{array_vec_len};
 ghost use Rattle.dvd_layout.specs.Place.{HasNumbers};
 ghost use Rattle.dvd_ports.specs.Causes.{HasCause};
 ghost use Rattle.dvd_ports.specs.Whole.{AppendsPrefix};
-ghost use Rattle.dvd_report.specs.Lines.{cause_text, damage_line};
+ghost use Rattle.dvd_report.specs.Lines.{block_text, cause_text, damage_line};
 
-use crate::text::{Line, put, put_hexadecimal, put_number};
+use crate::text::Line;
 use dvd_layout::BlockPlan;
 use dvd_ports::{Sink, WriteFault, write_whole};
 use dvd_read::Cause;
@@ -31,46 +31,48 @@ pub fn write_cause<E: Sink>(
 
 #[tactic(auto, unfolding(crate::specs::Lines::damage_line))]
 fn line_of(k: u64, plan: &BlockPlan, cause: &Cause) -> Line
-    ensures { result.items ≡ damage_line k plan.now cause.now }
+    ensures { result ≡ damage_line k plan.now cause.now }
 {
     let mut line = Line::new();
-    put(&mut line, b"block ");
-    put_number(&mut line, k);
-    put(&mut line, b" sector ");
-    put_hexadecimal(&mut line, plan.first, 6);
-    put(&mut line, b" layer ");
-    put_number(&mut line, u64::from(plan.layer));
-    put(&mut line, b": ");
+    put_block(&mut line, k, plan);
+    line.put(b": ");
     put_cause(&mut line, cause);
-    put(&mut line, b"\n");
+    line.put(b"\n");
     line
 }
 
-#[tactic(auto, unfolding(crate::specs::Lines::cause_text))]
-fn put_cause(line: &mut Line, cause: &Cause)
-    requires { array_vec_len line.old ≤ 80 }
-    ensures items { line.new.items ≡ line.old.items ++ cause_text cause.now }
-    ensures len { array_vec_len line.new ≤ array_vec_len line.old + 43 }
+/// Puts block `k` of a plan at the end of a line, with its first sector number and its layer.
+#[tactic(auto, unfolding(crate::specs::Lines::block_text))]
+pub(crate) fn put_block(line: &mut Line, k: u64, plan: &BlockPlan)
+    requires room { length line.old + 50 ≤ 256 }
+    ensures bytes { line.new ≡ line.old ++ block_text k plan.now }
+    ensures len { length line.new ≤ length line.old + 50 }
 {
-    match *cause {
-        Cause::Rows { failed } => put_named(line, b"rows ", u64::from(failed)),
-        Cause::Column { j } => put_named(line, b"column ", u64::from(j)),
-        Cause::Row { i } => put_named(line, b"row ", u64::from(i)),
-        Cause::Ied { f } => put_named(line, b"ied ", u64::from(f)),
-        Cause::Address { f, found } => {
-            put_named(line, b"address ", u64::from(f));
-            put(line, b" found ");
-            put_hexadecimal(line, found, 8);
-        }
-        Cause::Edc { f } => put_named(line, b"edc ", u64::from(f)),
-    }
+    line.put(b"block ");
+    line.put_number(k);
+    line.put(b" sector ");
+    line.put_hexadecimal(plan.first, 6);
+    line.put(b" layer ");
+    line.put_byte(plan.layer);
 }
 
-fn put_named(line: &mut Line, name: &[u8], number: u64)
-    requires { array_vec_len line.old + length name.now + 20 ≤ 128 }
-    ensures items { line.new.items ≡ line.old.items ++ name.now ++ decimal number }
-    ensures len { array_vec_len line.new ≤ array_vec_len line.old + length name.now + 20 }
+/// Puts a cause at the end of a line.
+#[tactic(auto, unfolding(crate::specs::Lines::cause_text))]
+pub(crate) fn put_cause(line: &mut Line, cause: &Cause)
+    requires room { length line.old + 43 ≤ 256 }
+    ensures bytes { line.new ≡ line.old ++ cause_text cause.now }
+    ensures len { length line.new ≤ length line.old + 43 }
 {
-    put(line, name);
-    put_number(line, number);
+    match *cause {
+        Cause::Rows { failed } => line.put_named(b"rows ", u64::from(failed)),
+        Cause::Column { j } => line.put_named(b"column ", u64::from(j)),
+        Cause::Row { i } => line.put_named(b"row ", u64::from(i)),
+        Cause::Ied { f } => line.put_named(b"ied ", u64::from(f)),
+        Cause::Address { f, found } => {
+            line.put_named(b"address ", u64::from(f));
+            line.put(b" found ");
+            line.put_hexadecimal(found, 8);
+        }
+        Cause::Edc { f } => line.put_named(b"edc ", u64::from(f)),
+    }
 }

@@ -1,9 +1,17 @@
-//! The lines of a report that name the damaged ECC blocks of a stream.
+//! The lines of a report that name the damaged ECC blocks of a stream, and the survey of a disk's surface: how many rows
+//! of its blocks have a PI error (ECMA-267, clause 18).
 #![tactic(auto)]
 
 mod cause; // the line of a damaged block
-mod text; // lines, and what is put at their end
+mod counts; // what a survey counts, of a block and over all blocks
+mod errors; // the counts of one block
+mod survey; // a survey, and what is added to it
+mod survey_lines; // the lines of a survey
+mod text; // lines of text, and what is put at their end
 #[cfg(test)]
 mod tests;
 
 pub use cause::write_cause;
+pub use counts::{Surveyed, Totals};
+pub use survey::Survey;
+pub use text::Line;

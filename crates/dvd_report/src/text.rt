@@ -1,42 +1,94 @@
-//! Lines of a report, which take no memory from an allocator, and what is put at their end.
-ghost use Rattle.std.specs.Prelude.{◌≡◌, ◌+◌, ◌<◌, ◌≤◌, ◌++◌, length, decimal, true};
+//! Lines of text, which take no memory from an allocator, and what is put at their end.
+ghost use Rattle.std.specs.Prelude.{◌≡◌, ◌+◌, ◌<◌, ◌≤◌, [], ◌++◌, length, decimal, true};
 ghost use Rattle.std.specs.Fmt.{digit_glyph};
-ghost use Rattle.arrayvec.specs.ArrayVec.{array_vec_len};
 ghost use Rattle.dvd_report.specs.Lines.{hexadecimal};
 
 use arrayvec::ArrayVec;
 use itoa::Buffer;
+use std::marker::Model;
 
-/// A line of a report, with room for the longest.
-pub(crate) type Line = ArrayVec<u8, 128>;
-
-/// Puts a text at the end of the line.
-pub(crate) fn put(line: &mut Line, text: &[u8])
-    requires { array_vec_len line.old + length text.now ≤ 128 }
-    ensures items { line.new.items ≡ line.old.items ++ text.now }
-    ensures len { array_vec_len line.new ≡ array_vec_len line.old + length text.now }
-{
-    let _ = line.try_extend_from_slice(text);
+/// A line of text, of at most 256 bytes. A contract sees it as the list of its bytes.
+#[derive(Drop)]
+pub struct Line {
+    bytes: ArrayVec<u8, 256>,
 }
 
-/// Puts a number in decimal at the end of the line.
-pub(crate) fn put_number(line: &mut Line, number: u64)
-    requires { array_vec_len line.old + 20 ≤ 128 }
-    ensures items { line.new.items ≡ line.old.items ++ decimal number }
-    ensures len { array_vec_len line.new ≤ array_vec_len line.old + 20 }
-{
-    put(line, Buffer::new().format(number).as_bytes());
+impl Model for Line {
+    ghost use Rattle.std.specs.Prelude.{ℕ, List};
+    ghost use Rattle.std.specs.Coded.{coded_ℕ, coded_list};
+
+    ghost Value = { List ℕ };
+
+    ghost coded = { coded_list coded_ℕ };
+
+    ghost view = { λ line. line.bytes.items };
 }
 
-/// Puts the last `width` hexadecimal digits of a number, of up to eight, at the end of the line.
-pub(crate) fn put_hexadecimal(line: &mut Line, number: u32, width: u32)
-    requires digits { width ≤ 8 }
-    requires room { array_vec_len line.old + width ≤ 128 }
-    ensures items { line.new.items ≡ line.old.items ++ hexadecimal width number }
-    ensures len { array_vec_len line.new ≡ array_vec_len line.old + width }
-{
-    for place in (0..width).rev() {
-        line.push(hexadecimal_digit(number / 16u32.pow(place) % 16));
+impl Line {
+    /// A line without a byte.
+    pub fn new() -> Line
+        ensures { result ≡ [] }
+    {
+        Line {
+            bytes: ArrayVec::new(),
+        }
+    }
+
+    /// Puts a text at the end of the line.
+    pub fn put(&mut self, text: &[u8])
+        requires room { length self.old + length text.now ≤ 256 }
+        ensures bytes { self.new ≡ self.old ++ text.now }
+        ensures len { length self.new ≡ length self.old + length text.now }
+    {
+        let _ = self.bytes.try_extend_from_slice(text);
+    }
+
+    /// Puts a number in decimal at the end of the line: at most 20 places.
+    pub fn put_number(&mut self, number: u64)
+        requires room { length self.old + 20 ≤ 256 }
+        ensures bytes { self.new ≡ self.old ++ decimal number }
+        ensures len { length self.new ≤ length self.old + 20 }
+    {
+        self.put(Buffer::new().format(number).as_bytes());
+    }
+
+    /// Puts a number of eight bits in decimal at the end of the line: at most 3 places.
+    pub fn put_byte(&mut self, number: u8)
+        requires room { length self.old + 3 ≤ 256 }
+        ensures bytes { self.new ≡ self.old ++ decimal number }
+        ensures len { length self.new ≤ length self.old + 3 }
+    {
+        self.put(Buffer::new().format(number).as_bytes());
+    }
+
+    /// Puts the last `width` hexadecimal digits of a number, of up to eight, in capitals at the end of the line.
+    pub fn put_hexadecimal(&mut self, number: u32, width: u32)
+        requires digits { width ≤ 8 }
+        requires room { length self.old + width ≤ 256 }
+        ensures bytes { self.new ≡ self.old ++ hexadecimal width number }
+        ensures len { length self.new ≡ length self.old + width }
+    {
+        for place in (0..width).rev() {
+            self.put(&[hexadecimal_digit(number / 16u32.pow(place) % 16)]);
+        }
+    }
+
+    /// Puts a text and a number in decimal at the end of the line.
+    pub fn put_named(&mut self, name: &[u8], number: u64)
+        requires room { length self.old + length name.now + 20 ≤ 256 }
+        ensures bytes { self.new ≡ self.old ++ name.now ++ decimal number }
+        ensures len { length self.new ≤ length self.old + length name.now + 20 }
+    {
+        self.put(name);
+        self.put_number(number);
+    }
+
+    /// The bytes of the line.
+    pub fn as_slice(&self) -> &[u8]
+        ensures bytes { result.now ≡ self.now }
+        ensures len { length result.now ≤ 256 }
+    {
+        self.bytes.as_slice()
     }
 }
 

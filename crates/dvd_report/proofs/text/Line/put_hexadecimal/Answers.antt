@@ -2,7 +2,7 @@ use Rattle.std.proofs.Common.{◌≡◌, ◌-◌, ◌/◌, ◌%◌, ◌++◌, tr
 use Rattle.std.specs.Fmt.{digit_glyph}
 use Rattle.dvd_report.specs.Lines.{hexadecimal}
 use Rattle.dvd_report.proofs.Hexadecimal.{digit-next, place-fits, place-some}
-use Rattle.dvd_report.proofs.text.put_hexadecimal.Goals as goal
+use Rattle.dvd_report.proofs.text.Line.put_hexadecimal.Goals as goal
 
 pub pow-requires : goal.pow-requires
 pow-requires c = place-fits (c.loop-place.place - 1) (omega arith)
@@ -12,17 +12,17 @@ nonzero_div-number c = rw c.pow.ensures (place-some (c.loop-place.place - 1))
 
 pub loop-place-preserved : goal.loop-place-preserved
 loop-place-preserved c = (
-  ap (λ items. items ++ hexadecimal (c.loop-place.place - 1) c.args.number) c.push.ensures.items
-      ∙ digit-next c.loop-place.line.items c.loop-place.place c.args.number c.hexadecimal_digit.result c.loop-place-test.true
+  ap (λ bytes. bytes ++ hexadecimal (c.loop-place.place - 1) c.args.number) c.put.ensures.bytes
+      ∙ digit-next c.loop-place.self c.loop-place.place c.args.number c.hexadecimal_digit.result c.loop-place-test.true
       (c.hexadecimal_digit.ensures ∙ ap (λ power. digit_glyph true (c.args.number / power % 16)) c.pow.ensures)
       ∙ c.loop-place.invariant.0,
   omega arith,
 )
 
-pub returns-clause-items : goal.returns-clause-items
+pub returns-clause-bytes : goal.returns-clause-bytes
 unfolding hexadecimal
-returns-clause-items c =
+returns-clause-bytes c =
     let none : c.loop-place.place ≡ 0 = omega arith in
-    sym (append-nil c.loop-place.line.items)
-    ∙ ap (λ place. c.loop-place.line.items ++ hexadecimal place c.args.number) (sym none)
+    sym (append-nil c.loop-place.self)
+    ∙ ap (λ place. c.loop-place.self ++ hexadecimal place c.args.number) (sym none)
     ∙ c.loop-place.invariant.0

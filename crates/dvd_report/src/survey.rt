@@ -1,0 +1,190 @@
+//! The survey of a disk's surface: how many PI errors its blocks have, singly, in eight together, and in all.
+ghost use Rattle.std.specs.Prelude.{◌≡◌, ℕ, ◌+◌, ◌-◌, ◌<◌, ◌≤◌, ◌^◌, List, [], ◌∷◌, ◌++◌, length, sum, IfOk, OnOk, OnErr};
+ghost use Rattle.std.specs.Result.{result_err};
+ghost use Rattle.std.specs.Io.KnownBytes.{Appends};
+ghost use Rattle.dvd_capture.specs.Rule.{HasAnswers};
+ghost use Rattle.dvd_capture.specs.Works.{marks_of_work, rows_of, stage_of};
+ghost use Rattle.dvd_layout.specs.Place.{HasNumbers};
+ghost use Rattle.dvd_ports.specs.Causes.{HasCause};
+ghost use Rattle.dvd_ports.specs.Whole.{AppendsPrefix};
+ghost use Rattle.dvd_report.specs.Sound.{IsBounded};
+ghost use Rattle.dvd_report.specs.Survey.{StandsFor, sum8, survey_line, surveyed_with, totals_line, totals_of};
+
+use crate::counts::{Surveyed, Totals};
+use crate::errors::survey_block;
+use crate::survey_lines::{line_of_block, line_of_totals};
+use crate::text::Line;
+use circular_buffer::HeapCircularBuffer;
+use dvd_capture::Work;
+use dvd_layout::BlockPlan;
+use dvd_ports::{NoMemory, Sink, WriteFault, write_whole};
+use dvd_read::{Cause, Fixed};
+use std::alloc::Global;
+use std::marker::Model;
+
+// So many blocks are summed together.
+const WINDOW: usize = 8;
+
+// The sums above this are counted.
+const MANY: u32 = 280;
+
+/// A survey: totals over all blocks, the PI error rows of the last eight, and the last block.
+#[derive(Drop)]
+pub struct Survey {
+    totals: Totals,
+    window: HeapCircularBuffer<u8>,
+    last: Option<Surveyed>,
+}
+
+impl Model for Survey {
+    ghost use Rattle.dvd_report.specs.Sound.{IsSound};
+    ghost use Rattle.dvd_report.specs.Survey.{SurveyState};
+
+    ghost Value = { SurveyState };
+
+    ghost view = { λ s. record { totals = s.totals; window = s.window.items; last = s.last } };
+
+    ghost invariant = { λ s. IsSound s.totals s.window s.last };
+}
+
+impl Survey {
+    /// The survey of no block. `NoMemory` may come at any time, and nothing is taken then.
+    pub fn new(alloc: Global) -> Result<Survey, NoMemory>
+        ensures { IfOk result (λ survey. StandsFor survey []) }
+    {
+        let window = HeapCircularBuffer::with_capacity(alloc, WINDOW).map_err(|_| NoMemory)?;
+        Ok(Survey {
+            totals: no_totals(),
+            window,
+            last: None,
+        })
+    }
+
+    /// Adds a block that was decoded, and what was answered to it. The rows are counted as they were received. The work
+    /// stays, and no memory is taken.
+    pub fn add(&mut self, work: &Work, answer: &Result<Fixed, Cause>)
+        requires answers { HasAnswers (stage_of work.now) }
+        requires room { self.old.totals.blocks < 2 ^ 32 }
+        ensures counted { self.new.totals.blocks ≡ self.old.totals.blocks + 1 }
+        ensures added { (blocks : List Surveyed) → StandsFor self.old blocks
+            → StandsFor self.new (blocks ++ surveyed_with (rows_of work.now) (marks_of_work work.now) (result_err answer.now) ∷ []) }
+    {
+        let block = survey_block(work, answer);
+        let _ = self.window.push_back(block.pi);
+        self.totals = totals_with(&self.totals, &block, sum_of(&self.window));
+        self.last = Some(block);
+    }
+
+    /// The totals over all blocks so far.
+    pub fn totals(&self) -> Totals
+        ensures { result ≡ self.now.totals }
+    {
+        self.totals
+    }
+
+    /// Writes the line of the last block, which has this place in a plan:
+    /// `block K sector H6 layer L pi P failed F sum8 S: ANSWER` and a line feed. `K` is the block's number from 0, `P` and
+    /// `F` are its rows with a PI error and without a near codeword, and `S` is the sum of `P` over it and the seven
+    /// before it. After a fault a prefix of the line was written.
+    pub fn write_line<K: Sink>(&self, plan: &BlockPlan, out: &mut K) -> Result<(), WriteFault>
+        requires some { 0 < self.now.totals.blocks }
+        requires numbers { HasNumbers plan.now }
+        ensures written { (blocks : List Surveyed) → StandsFor self.now blocks
+            → OnOk result (Appends (K.seen out.old).bytes (K.seen out.new).bytes (survey_line (length blocks - 1) plan.now blocks)) }
+        ensures begun { (blocks : List Surveyed) → StandsFor self.now blocks
+            → OnErr result (AppendsPrefix (K.seen out.old).bytes (K.seen out.new).bytes (survey_line (length blocks - 1) plan.now blocks)) }
+        ensures cause { HasCause (K.seen out.old).faults (K.seen out.new).faults result }
+    {
+        write_whole(out, self.last_line(plan).as_slice())
+    }
+
+    /// Writes the line of totals: `blocks B pi P failed F damaged D peak S at K over O` and a line feed. After a fault a
+    /// prefix of the line was written.
+    pub fn write_totals<K: Sink>(&self, out: &mut K) -> Result<(), WriteFault>
+        ensures written { (blocks : List Surveyed) → StandsFor self.now blocks
+            → OnOk result (Appends (K.seen out.old).bytes (K.seen out.new).bytes (totals_line blocks)) }
+        ensures begun { (blocks : List Surveyed) → StandsFor self.now blocks
+            → OnErr result (AppendsPrefix (K.seen out.old).bytes (K.seen out.new).bytes (totals_line blocks)) }
+        ensures cause { HasCause (K.seen out.old).faults (K.seen out.new).faults result }
+    {
+        write_whole(out, line_of_totals(&self.totals).as_slice())
+    }
+
+    // The line of the last block.
+    fn last_line(&self, plan: &BlockPlan) -> Line
+        requires { 0 < self.now.totals.blocks }
+        ensures { (blocks : List Surveyed) → StandsFor self.now blocks → result ≡ survey_line (length blocks - 1) plan.now blocks }
+    {
+        match self.last {
+            Some(block) => line_of_block(
+                self.totals.blocks - 1,
+                plan,
+                &block,
+                sum_of(&self.window),
+            ),
+            None => unreachable!(),
+        }
+    }
+}
+
+// The totals over no block.
+fn no_totals() -> Totals
+    ensures totals { result ≡ totals_of [] }
+    ensures bounded { IsBounded result }
+    ensures none { result.blocks ≡ 0 }
+{
+    Totals {
+        blocks: 0,
+        pi: 0,
+        failed: 0,
+        damaged: 0,
+        peak: 0,
+        peak_at: 0,
+        over: 0,
+    }
+}
+
+// The totals with one more block, whose sum of eight this is.
+fn totals_with(totals: &Totals, block: &Surveyed, sum: u32) -> Totals
+    requires bounded { IsBounded totals.now }
+    requires room { totals.now.blocks < 2 ^ 32 }
+    ensures totals { (blocks : List Surveyed) → totals.now ≡ totals_of blocks → sum ≡ sum8 (blocks ++ block.now ∷ []) (length blocks)
+        → result ≡ totals_of (blocks ++ block.now ∷ []) }
+    ensures bounded { IsBounded result }
+    ensures blocks { result.blocks ≡ totals.now.blocks + 1 }
+{
+    Totals {
+        blocks: totals.blocks + 1,
+        pi: totals.pi + u64::from(block.pi),
+        failed: totals.failed + u64::from(block.failed),
+        damaged: totals.damaged + u64::from(block.cause.is_some()),
+        peak: totals.peak.max(sum),
+        peak_at: if sum > totals.peak {
+            totals.blocks
+        } else {
+            totals.peak_at
+        },
+        over: totals.over + u64::from(sum > MANY),
+    }
+}
+
+// The sum of the numbers in a window of eight.
+fn sum_of(window: &HeapCircularBuffer<u8>) -> u32
+    requires { length window.now.items ≤ 8 }
+    ensures { result ≡ sum window.now.items }
+{
+    let (older, newer) = window.as_slices();
+    sum_of_part(older) + sum_of_part(newer)
+}
+
+fn sum_of_part(numbers: &[u8]) -> u32
+    requires { length numbers.now ≤ 8 }
+    ensures sum { result ≡ sum numbers.now }
+    ensures most { result ≤ 2040 }
+{
+    let mut sum = 0;
+    for number in numbers {
+        sum += u32::from(*number);
+    }
+    sum
+}
