@@ -1,0 +1,10 @@
+pub mod Bound
+pub mod Changed
+pub mod Burdens
+pub mod Draws
+pub mod OnlyOne
+pub mod Rows
+pub mod SomeHurt
+pub mod Whole
+pub mod Widths
+pub mod Works

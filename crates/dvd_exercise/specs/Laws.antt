@@ -1,0 +1,41 @@
+-- The laws of the damage.
+use Rattle.std.specs.Prelude.{◌≡◌, ◌≢◌, ℕ, ◌<◌, All, Bool, false, List, length, replicate}
+use Rattle.dvd_block.specs.Product.{IsProduct}
+use Rattle.dvd_capture.specs.TwoPass.{IsTwoPass}
+use Rattle.dvd_capture.specs.Within.{IsWithin}
+use Rattle.dvd_exercise.specs.Damage.{IsHurt, error_count, error_place, row_of}
+
+-- a block with no marks is hurt within the bound that two-pass decoding bears
+abbrev pub HurtIsWithin : Type 0
+HurtIsWithin =
+    (x : ℕ) (rows : List (List ℕ)) (marks : List (List Bool)) (hurt_rows : List (List ℕ)) (hurt_marks : List (List Bool))
+    → length rows ≡ 208 → marks ≡ replicate 208 (replicate 182 false) → IsHurt x rows marks hurt_rows hurt_marks
+    → IsWithin rows hurt_rows hurt_marks
+
+-- So where it was a block with right parity, it is the one that has two-pass agreement.
+abbrev pub HurtIsTwoPass : Type 0
+HurtIsTwoPass =
+    (x : ℕ) (block : List (List ℕ)) (marks : List (List Bool)) (hurt_rows : List (List ℕ)) (hurt_marks : List (List Bool))
+    → IsProduct block → marks ≡ replicate 208 (replicate 182 false) → IsHurt x block marks hurt_rows hurt_marks
+    → IsTwoPass hurt_rows hurt_marks block
+
+-- one state hurts a block in one way
+abbrev pub HurtIsOnlyOne : Type 0
+HurtIsOnlyOne =
+    (x : ℕ) (rows : List (List ℕ)) (marks : List (List Bool)) (a b : List (List ℕ)) (a_marks b_marks : List (List Bool))
+    → length rows ≡ 208 → IsHurt x rows marks a a_marks → IsHurt x rows marks b b_marks
+    → (a ≡ b) × (a_marks ≡ b_marks)
+
+-- and hurts every block somehow
+abbrev pub SomethingIsHurt : Type 0
+SomethingIsHurt =
+    (x : ℕ) (rows : List (List ℕ)) (marks : List (List Bool)) → length rows ≡ 208 → length marks ≡ 208 → All (λ row. length row ≡ 182) rows
+    → (hurt_rows : List (List ℕ)) × (hurt_marks : List (List Bool)) × IsHurt x rows marks hurt_rows hurt_marks
+
+-- no row of a block is bad or lost twice
+abbrev pub RowsComeOnce : Type 0
+RowsComeOnce = (start n t : ℕ) → n < 208 → t < n → row_of start t ≢ row_of start n
+
+-- no place of a row has two errors
+abbrev pub PlacesComeOnce : Type 0
+PlacesComeOnce = (y n t : ℕ) → n < error_count y → t < n → error_place y t ≢ error_place y n

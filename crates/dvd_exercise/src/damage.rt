@@ -1,0 +1,208 @@
+//! Damage to a received block: bad rows, lost rows, and single errors in all other rows.
+ghost use Rattle.std.specs.Prelude.{◌≡◌, ℕ, ◌+◌, ◌-◌, ◌*◌, ◌%◌, ◌<◌, ◌≤◌, Bool, true, false, List, [], length, replicate, slice_set, bit_xor};
+ghost use Rattle.dvd_block.specs.Product.{line, place};
+ghost use Rattle.dvd_capture.specs.Answers.{marks_line};
+ghost use Rattle.dvd_capture.specs.Within.{IsWithin};
+ghost use Rattle.dvd_capture.specs.Works.{marks_of_work, rows_of, stage_of};
+ghost use Rattle.dvd_capture.specs.declared.stage.Stage.TheVariants.{Fetched};
+ghost use Rattle.dvd_exercise.specs.Damage.{HasErrors, IsChanged, IsHurt, bad_count, combined, error_count, hurt_state, is_hit, lost_count, row_of, row_state, start_row};
+ghost use Rattle.dvd_exercise.specs.Generator.{state_after, state_of};
+
+use crate::generator::Rand;
+use dvd_capture::Work;
+
+/// Damages the received block. At most 8 rows are bad: each of their bytes is combined by exclusive or with a drawn one, and
+/// its mark stays. At most 16 rows are lost: all their bytes are 0 and marked. Each other row has at most 5 bytes combined
+/// with drawn ones that aren't 0, and its marks stay. Twice the bad rows and the lost rows together are at most 16, so a block
+/// with no marks is damaged no more than two-pass decoding bears.
+///
+/// Drawn are, in this order: how many rows are bad, how many are lost, and which of them comes first, a word each; the bytes
+/// for the bad rows; and for each other row, from row 0 on, how many bytes of it are changed and the place of the first, a
+/// word each, and what they are combined with. The stage stays Fetched, and answers, columns and sectors stay.
+pub fn hurt(rand: &mut Rand, work: &mut Work)
+    requires stage { stage_of work.old ≡ Fetched }
+    ensures hurt { IsHurt (state_of rand.old) (rows_of work.old) (marks_of_work work.old) (rows_of work.new) (marks_of_work work.new) }
+    ensures drawn { state_of rand.new ≡ hurt_state (state_of rand.old) }
+    ensures within { marks_of_work work.old ≡ replicate 208 (replicate 182 false) → IsWithin (rows_of work.old) (rows_of work.new) (marks_of_work work.new) }
+    ensures stage { stage_of work.new ≡ Fetched }
+    ensures answers { work.new.answers ≡ work.old.answers }
+    ensures columns { work.new.columns ≡ work.old.columns }
+    ensures sectors { work.new.sectors ≡ work.old.sectors }
+{
+    let plan = Plan::draw(rand);
+    combine_rows(&plan, rand, work);
+    lose_rows(&plan, work);
+    hurt_others(&plan, rand, work);
+}
+
+// How many rows are bad, how many are lost, and which of them comes first.
+#[derive(Drop)]
+struct Plan {
+    bad: usize,
+    lost: usize,
+    start: usize,
+
+    pub ghost bound: { 2 * bad + lost ≤ 16 },
+    pub ghost within: { start < 208 },
+}
+
+impl Plan {
+    // Draws the three numbers, a word each.
+    #[tactic(auto, unfolding(crate::specs::Generator::state_after))]
+    fn draw(rand: &mut Rand) -> Plan
+        ensures bad { result.bad ≡ bad_count (state_of rand.old) }
+        ensures lost { result.lost ≡ lost_count (state_of rand.old) }
+        ensures start { result.start ≡ start_row (state_of rand.old) }
+        ensures state { state_of rand.new ≡ state_after (state_of rand.old) 3 }
+    {
+        let bad = rand.word() % 9;
+        let lost = rand.word() % (17 - 2 * bad);
+        let start = rand.word() % 208;
+        Plan {
+            bad: bad as usize,
+            lost: lost as usize,
+            start: start as usize,
+        }
+    }
+
+    // The row that is bad or lost in this turn; the bad rows come first.
+    fn row(&self, turn: usize) -> usize
+        requires { turn < 208 }
+        ensures row { result ≡ row_of self.now.start turn }
+        ensures below { result < 208 }
+    {
+        (self.start + 5 * turn) % 208
+    }
+
+    // Whether a row is bad or lost.
+    #[tactic(auto, unfolding(crate::specs::Damage::is_hit))]
+    fn hits(&self, row: usize) -> bool
+        ensures { result ≡ is_hit self.now.start (self.now.bad + self.now.lost) row }
+    {
+        (0..self.bad + self.lost).any(|turn| self.row(turn) == row)
+    }
+}
+
+// Combines one received byte with another by exclusive or. Its mark stays.
+fn combine(work: &mut Work, i: usize, j: usize, byte: u8)
+    requires stage { stage_of work.old ≡ Fetched }
+    requires row { i < 208 }
+    requires place { j < 182 }
+    ensures received { rows_of work.new ≡ slice_set (rows_of work.old) i (slice_set (line (rows_of work.old) i) j (bit_xor (place (rows_of work.old) i j) byte)) }
+    ensures width { length (line (rows_of work.new) i) ≡ 182 }
+    ensures marks { marks_of_work work.new ≡ marks_of_work work.old }
+    ensures stage { stage_of work.new ≡ Fetched }
+    ensures answers { work.new.answers ≡ work.old.answers }
+    ensures columns { work.new.columns ≡ work.old.columns }
+    ensures sectors { work.new.sectors ≡ work.old.sectors }
+{
+    let received = work.received(i, j);
+    let mark = work.marked(i, j);
+    work.damage(i, j, received ^ byte, mark);
+}
+
+// Combines each byte of a row with a drawn one.
+fn combine_row(rand: &mut Rand, work: &mut Work, i: usize)
+    requires stage { stage_of work.old ≡ Fetched }
+    requires row { i < 208 }
+    ensures received { rows_of work.new ≡ slice_set (rows_of work.old) i (combined (state_of rand.old) (line (rows_of work.old) i)) }
+    ensures drawn { state_of rand.new ≡ state_after (state_of rand.old) 182 }
+    ensures marks { marks_of_work work.new ≡ marks_of_work work.old }
+    ensures stage { stage_of work.new ≡ Fetched }
+    ensures answers { work.new.answers ≡ work.old.answers }
+    ensures columns { work.new.columns ≡ work.old.columns }
+    ensures sectors { work.new.sectors ≡ work.old.sectors }
+{
+    for j in 0..182 {
+        let byte = rand.byte();
+        combine(work, i, j, byte);
+    }
+}
+
+// Sets all bytes of a row to 0 and marks them.
+fn lose_row(work: &mut Work, i: usize)
+    requires stage { stage_of work.old ≡ Fetched }
+    requires row { i < 208 }
+    ensures received { rows_of work.new ≡ slice_set (rows_of work.old) i (replicate 182 0) }
+    ensures marks { marks_of_work work.new ≡ slice_set (marks_of_work work.old) i (replicate 182 true) }
+    ensures stage { stage_of work.new ≡ Fetched }
+    ensures answers { work.new.answers ≡ work.old.answers }
+    ensures columns { work.new.columns ≡ work.old.columns }
+    ensures sectors { work.new.sectors ≡ work.old.sectors }
+{
+    for j in 0..182 {
+        work.damage(i, j, 0, true);
+    }
+}
+
+// Combines up to 5 bytes of a row with drawn ones that aren't 0.
+fn hurt_row(rand: &mut Rand, work: &mut Work, i: usize)
+    requires stage { stage_of work.old ≡ Fetched }
+    requires row { i < 208 }
+    ensures received { HasErrors (state_of rand.old) (line (rows_of work.old) i) (line (rows_of work.new) i) }
+    ensures others { rows_of work.new ≡ slice_set (rows_of work.old) i (line (rows_of work.new) i) }
+    ensures drawn { state_of rand.new ≡ state_after (state_of rand.old) (2 + error_count (state_of rand.old)) }
+    ensures marks { marks_of_work work.new ≡ marks_of_work work.old }
+    ensures stage { stage_of work.new ≡ Fetched }
+    ensures answers { work.new.answers ≡ work.old.answers }
+    ensures columns { work.new.columns ≡ work.old.columns }
+    ensures sectors { work.new.sectors ≡ work.old.sectors }
+{
+    let count = (rand.word() % 6) as usize;
+    let first = (rand.word() % 182) as usize;
+    for u in 0..count {
+        let byte = rand.byte() | 1;
+        combine(work, i, (first + 31 * u) % 182, byte);
+    }
+}
+
+// Damages the bad rows in turn.
+fn combine_rows(plan: &Plan, rand: &mut Rand, work: &mut Work)
+    requires stage { stage_of work.old ≡ Fetched }
+    ensures received { IsChanged [] plan.now.bad (row_of plan.now.start) (λ t. combined (state_after (state_of rand.old) (182 * t)) (line (rows_of work.old) (row_of plan.now.start t))) (rows_of work.old) (rows_of work.new) }
+    ensures drawn { state_of rand.new ≡ state_after (state_of rand.old) (182 * plan.now.bad) }
+    ensures marks { marks_of_work work.new ≡ marks_of_work work.old }
+    ensures stage { stage_of work.new ≡ Fetched }
+    ensures answers { work.new.answers ≡ work.old.answers }
+    ensures columns { work.new.columns ≡ work.old.columns }
+    ensures sectors { work.new.sectors ≡ work.old.sectors }
+{
+    for turn in 0..plan.bad {
+        combine_row(rand, work, plan.row(turn));
+    }
+}
+
+// Loses the rows whose turns follow.
+fn lose_rows(plan: &Plan, work: &mut Work)
+    requires stage { stage_of work.old ≡ Fetched }
+    ensures received { IsChanged [] plan.now.lost (λ t. row_of plan.now.start (plan.now.bad + t)) (λ t. replicate 182 0) (rows_of work.old) (rows_of work.new) }
+    ensures marks { IsChanged [] plan.now.lost (λ t. row_of plan.now.start (plan.now.bad + t)) (λ t. replicate 182 true) (marks_of_work work.old) (marks_of_work work.new) }
+    ensures stage { stage_of work.new ≡ Fetched }
+    ensures answers { work.new.answers ≡ work.old.answers }
+    ensures columns { work.new.columns ≡ work.old.columns }
+    ensures sectors { work.new.sectors ≡ work.old.sectors }
+{
+    for t in 0..plan.lost {
+        lose_row(work, plan.row(plan.bad + t));
+    }
+}
+
+// Puts single errors into each row that is neither bad nor lost.
+fn hurt_others(plan: &Plan, rand: &mut Rand, work: &mut Work)
+    requires stage { stage_of work.old ≡ Fetched }
+    ensures hit { (row : ℕ) → row < 208 → is_hit plan.now.start (plan.now.bad + plan.now.lost) row ≡ true → line (rows_of work.new) row ≡ line (rows_of work.old) row }
+    ensures others { (row : ℕ) → row < 208 → is_hit plan.now.start (plan.now.bad + plan.now.lost) row ≡ false
+        → HasErrors (row_state plan.now.start (plan.now.bad + plan.now.lost) (state_of rand.old) row) (line (rows_of work.old) row) (line (rows_of work.new) row) }
+    ensures drawn { state_of rand.new ≡ row_state plan.now.start (plan.now.bad + plan.now.lost) (state_of rand.old) 208 }
+    ensures marks { marks_of_work work.new ≡ marks_of_work work.old }
+    ensures stage { stage_of work.new ≡ Fetched }
+    ensures answers { work.new.answers ≡ work.old.answers }
+    ensures columns { work.new.columns ≡ work.old.columns }
+    ensures sectors { work.new.sectors ≡ work.old.sectors }
+{
+    for row in 0..208 {
+        if !plan.hits(row) {
+            hurt_row(rand, work, row);
+        }
+    }
+}

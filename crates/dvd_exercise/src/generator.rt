@@ -1,0 +1,61 @@
+//! Pseudo-random numbers by shifts and exclusive or, and sectors of them.
+ghost use Rattle.std.specs.Prelude.{◌≡◌, ◌+◌, ◌/◌, ◌^◌, length};
+ghost use Rattle.dvd_block.specs.Buffers.{piece_bytes};
+ghost use Rattle.dvd_exercise.specs.Generator.{bytes_from, state_after, state_of, step};
+
+use dvd_block::Piece;
+
+/// A generator with a state of 64 bits. It draws the same words for the same seed, and isn't fit for secrets.
+#[derive(Clone, Debug, PartialEq, Eq, Drop)]
+pub struct Rand {
+    state: u64,
+}
+
+impl Rand {
+    /// A generator whose state is `seed` + 1.
+    pub fn new(seed: u32) -> Rand
+        ensures { state_of result ≡ seed + 1 }
+    {
+        Rand {
+            state: u64::from(seed) + 1,
+        }
+    }
+
+    /// Draws the next word: it is the new state.
+    #[tactic(auto, unfolding(crate::specs::Generator::step))]
+    pub fn word(&mut self) -> u64
+        ensures word { result ≡ step (state_of self.old) }
+        ensures state { state_of self.new ≡ step (state_of self.old) }
+    {
+        self.state ^= self.state << 13;
+        self.state ^= self.state >> 7;
+        self.state ^= self.state << 17;
+        self.state
+    }
+
+    /// Draws the next word, and answers its top eight bits.
+    pub fn byte(&mut self) -> u8
+        ensures byte { result ≡ step (state_of self.old) / 2 ^ 56 }
+        ensures state { state_of self.new ≡ step (state_of self.old) }
+    {
+        (self.word() >> 56) as u8
+    }
+}
+
+/// Draws the 32,768 bytes of a piece in order.
+pub fn fill_piece(rand: &mut Rand, piece: &mut Piece)
+    ensures bytes { piece_bytes piece.new ≡ bytes_from (state_of rand.old) 32768 }
+    ensures state { state_of rand.new ≡ state_after (state_of rand.old) 32768 }
+{
+    fill(rand, piece.bytes_mut());
+}
+
+// Draws all bytes of a buffer in order.
+fn fill(rand: &mut Rand, bytes: &mut [u8])
+    ensures bytes { bytes.new ≡ bytes_from (state_of rand.old) (length bytes.old) }
+    ensures state { state_of rand.new ≡ state_after (state_of rand.old) (length bytes.old) }
+{
+    for byte in bytes.iter_mut() {
+        *byte = rand.byte();
+    }
+}
