@@ -31,8 +31,8 @@ use Rattle.dvd_top.specs.Commands.Master.{image_bytes}
 use Rattle.dvd_top.specs.Commands.Recover.{IsRecovered, recover_units}
 use Rattle.dvd_top.specs.Laws.{BoundIsKept}
 use Rattle.dvd_top.specs.Lines.{closing_line}
-use Rattle.dvd_top.specs.Settings.{IsLayoutOf}
-use Rattle.dvd_top.specs.declared.settings.Settings.{Settings}
+use Rattle.dvd_words.specs.Settings.{IsLayoutOf}
+use Rattle.dvd_words.specs.declared.settings.Settings.{Settings}
 use Rattle.dvd_top.proofs.PlanBytes.{start-blocks}
 use Rattle.dvd_top.proofs.RecoveredWidths.{length-first, never_last}
 use Rattle.dvd_top.proofs.Repaired.{repaired}

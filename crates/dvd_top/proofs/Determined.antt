@@ -1,21 +1,24 @@
 -- What each command does for an input is determined.
-use Rattle.std.proofs.Common.{◌≡◌, ◌≢◌, inl, inr, ℕ, ◌+◌, ◌*◌, List, ◌∷◌, [], length, take, Bool, Some, None, slice_get, replicate, refl, ap, sym, subst, ◌∙◌}
+use Rattle.std.proofs.Common.{◌≡◌, ◌≢◌, inl, inr, ℕ, ◌+◌, ◌*◌, List, ◌∷◌, ◌++◌, [], length, take, Bool, Some, None, slice_get, replicate, refl, ap, sym, subst, ◌∙◌}
 use Rattle.std.proofs.lemmas.List.FromFn.{length-map-range_with_len}
 use Rattle.dvd_block.proofs.OneBlock.{one_block_at_most}
-use Rattle.dvd_block.specs.Product.{IsBlockOf}
+use Rattle.dvd_block.specs.Product.{IsBlockOf, line}
 use Rattle.dvd_block.specs.Recording.{record_at, recording}
 use Rattle.dvd_capture.specs.Captured.{block_size, captured_marks, captured_rows, marks_in, record_of}
 use Rattle.dvd_capture.specs.declared.form.Form.{Form}
 use Rattle.dvd_layout.specs.Place.{image_sectors}
-use Rattle.dvd_layout.specs.Plan.{plan_of}
+use Rattle.dvd_control.specs.Format.{control_fault, fields_in}
+use Rattle.dvd_layout.specs.Plan.{lead_in_blocks, plan_of}
 use Rattle.dvd_layout.specs.declared.entry.BlockPlan.{BlockPlan}
 use Rattle.dvd_layout.specs.declared.entry.Content.{Content}
 use Rattle.dvd_layout.specs.declared.entry.Content.TheVariants.{Zero, Reference, Control, Image}
 use Rattle.dvd_layout.specs.declared.layout.Layout.{Layout}
 use Rattle.dvd_layout.specs.declared.layout.Zones.{Zones}
 use Rattle.dvd_layout.proofs.SameLengths.{same_lengths-same}
+use Rattle.dvd_top.proofs.ExerciseRuns.{exercised_is_one}
+use Rattle.dvd_top.proofs.PlanEntries.{one_entry}
 use Rattle.dvd_loop.specs.Laws.{AreDetermined, IsFaultless, IsUnbroken}
-use Rattle.dvd_loop.specs.Machine.{IsOutcome, Outcome, Step, plain_units}
+use Rattle.dvd_loop.specs.Machine.{IsOutcome, Outcome, Step, Units, sized}
 use Rattle.dvd_loop.specs.Machine.Step.{Write, Tell}
 use Rattle.dvd_loop.specs.declared.ends.LoopEnd.{LoopEnd}
 use Rattle.dvd_loop.specs.declared.ends.LoopEnd.TheVariants.{BadMarks, Damaged, Done as EndsDone, Long, NoControl, ReadFault, ReportFault, Short, WriteFault}
@@ -25,17 +28,22 @@ use Rattle.dvd_loop.proofs.Determinacy.{agrees}
 use Rattle.dvd_loop.proofs.PlainEnds.{never_bad_marks}
 use Rattle.dvd_loop.proofs.Sizes.{broken_stays, sized_never_broken, whole_stays}
 use Rattle.dvd_read.proofs.BlockRead.{read-determined}
+use Rattle.dvd_read.specs.Reading.{block_cause}
 use Rattle.dvd_report.specs.Lines.{damage_line}
+use Rattle.dvd_report.specs.Survey.{survey_line}
 use Rattle.dvd_top.specs.Commands.{meaning}
-use Rattle.dvd_top.specs.Commands.Frames.{sector_frame}
+use Rattle.dvd_top.specs.Commands.Exercise.{exercise_units}
+use Rattle.dvd_top.specs.Commands.Frames.{frames_units, sector_frame}
+use Rattle.dvd_top.specs.Commands.Info.{IsAnswer, IsAsked, IsNoAnswer, IsSought, format_lines, info_units}
 use Rattle.dvd_top.specs.Commands.Master.{IsMastered, filled, frames_of, master_units}
 use Rattle.dvd_top.specs.Commands.Recover.{IsDone, IsGiven, IsRecovered, IsRefused, recover_units}
-use Rattle.dvd_top.specs.Performing.{IsImageDone, IsPassedOver, sectors_out}
+use Rattle.dvd_top.specs.Commands.Survey.{IsSurveyed, found_in, survey_units, turn_by}
+use Rattle.dvd_top.specs.Performing.{IsControlDone, IsImageDone, IsPassedOver, sectors_out}
 use Rattle.dvd_top.specs.Headline.{IsLoop}
-use Rattle.dvd_top.specs.Settings.{IsLayoutOf}
-use Rattle.dvd_top.specs.declared.settings.Command.{Command}
-use Rattle.dvd_top.specs.declared.settings.Command.TheVariants as command
-use Rattle.dvd_top.specs.declared.settings.Settings.{Settings}
+use Rattle.dvd_words.specs.Settings.{IsLayoutOf}
+use Rattle.dvd_words.specs.declared.settings.Command.{Command}
+use Rattle.dvd_words.specs.declared.settings.Command.TheVariants as command
+use Rattle.dvd_words.specs.declared.settings.Settings.{Settings}
 
 -- one thing alone may be done
 abbrev MayOne : (List Step → Turn → Type 0) → Type 0
@@ -52,30 +60,32 @@ unbroken (Damaged bad) never = tt
 unbroken NoControl never = tt
 unbroken (BadMarks unit at) never = absurd (never unit at refl)
 
--- Where one thing alone may be done for each unit, two runs without a fault are one.
-module _ (count : ℕ) (size : ℕ → ℕ) (does : ℕ → List ℕ → List Step → Turn → Type 0) (one : (k : ℕ) (own : List ℕ) → MayOne (does k own)) where
-  are_determined : AreDetermined (plain_units count size does)
+-- Units of given sizes: where one thing alone may be done for each and behind all, two runs without a fault are one.
+module _ (units : Units) (size : ℕ → ℕ) (begins : (k : ℕ) (own : List ℕ) → units.begins k own ≡ sized (size k) own)
+    (one : (before : List (List ℕ)) (own : List ℕ) → MayOne (units.does (length before) before own))
+    (closing : (before : List (List ℕ)) (steps others : List Step) → units.closes before steps → units.closes before others → steps ≡ others) where
+  are_determined : AreDetermined units
   are_determined = record {
-    whole = whole_stays (plain_units count size does) size (λ k bytes. refl);
-    broken = broken_stays (plain_units count size does) size (λ k bytes. refl);
-    does = λ before own steps others turn other p q. one (length before) own steps others turn other p.does q.does;
-    closes = λ before steps others p q. p ∙ sym q;
+    whole = whole_stays units size begins;
+    broken = broken_stays units size begins;
+    does = λ before own steps others turn other p q. one before own steps others turn other p.does q.does;
+    closes = closing;
   }
 
-  one_run : (bytes : List ℕ) (a b : Outcome) → IsOutcome (plain_units count size does) bytes a → IsOutcome (plain_units count size does) bytes b
-      → IsFaultless a.end → IsFaultless b.end → a ≡ b
+  one_run : (bytes : List ℕ) (a b : Outcome) → IsOutcome units bytes a → IsOutcome units bytes b → IsFaultless a.end → IsFaultless b.end
+      → a ≡ b
   one_run bytes a b p q none other =
-      let same = agrees (plain_units count size does) are_determined bytes a b p q none other in
-      let taken = same.3 (unbroken a.end (never_bad_marks (plain_units count size does) bytes a p (λ k at own. sized_never_broken (size k) at own))) in
+      let same = agrees units are_determined bytes a b p q none other in
+      let taken = same.3 (unbroken a.end (never_bad_marks units bytes a p (λ k at own broken. sized_never_broken (size k) at own (sym (begins k own) ∙ broken)))) in
       λ i. record { taken = taken i; out = same.0 i; lines = same.1 i; end = same.2 i }
+
+-- one list of steps closes these
+one_closing : {closing : List Step} (steps others : List Step) → steps ≡ closing → others ≡ closing → steps ≡ others
+one_closing steps others p q = p ∙ sym q
 
 -- FRAMES. The frame of each sector is one.
 frame_is_one : (first k : ℕ) (own : List ℕ) → MayOne (λ steps turn. (steps ≡ Write (sector_frame (first + k) own) ∷ []) × (turn ≡ Good))
 frame_is_one first k own steps others turn other p q = (p.0 ∙ sym q.0, p.1 ∙ sym q.1)
-
--- the entry of a plan at a place is one
-one_entry : (entries : List BlockPlan) (k : ℕ) (a b : BlockPlan) → slice_get entries k ≡ Some a → slice_get entries k ≡ Some b → a ≡ b
-one_entry entries k a b p q = let is : Some a ≡ Some b = sym p ∙ q in cc
 
 -- MASTER. The sixteen frames of a block have one block at most.
 mastered_is_one : (layout : Layout) (zones : Zones) (cpr : List ℕ) (k : ℕ) (own : List ℕ) → MayOne (IsMastered layout zones cpr k own)
@@ -140,6 +150,59 @@ recovered_is_one layout zones form k own steps others turn other p q =
     done_is_one layout k p.entry rows marks (length-captured_rows form own) (length-captured_marks form own) p.entry.content steps others turn other
     p.does (subst (λ (e : BlockPlan). IsDone e.content layout k e rows marks others other) entry q.does)
 
+-- INFO. A block answers with one format or with none.
+module _ (entry : BlockPlan) (rows : List (List ℕ)) (marks : List (List Bool)) (size : length rows ≡ 208) (marks_size : length marks ≡ 208) where
+  answer_is_one : MayOne (IsAnswer entry rows marks)
+  answer_is_one steps others turn other p q =
+      let sectors : p.sectors ≡ q.sectors =
+      (read-determined rows marks entry p.sectors size marks_size p.read).1 ∙ sym (read-determined rows marks entry q.sectors size marks_size q.read).1 in
+      (p.writes ∙ ap (λ s. Write (format_lines (fields_in (line s 0))) ∷ []) sectors ∙ sym q.writes, p.last ∙ sym q.last)
+
+  not_answered : (steps others : List Step) (turn other : Turn) → IsAnswer entry rows marks steps turn → IsNoAnswer entry rows marks others other → ⊥
+  not_answered steps others turn other p q = elim q.why [
+    | inl (cause, first) ↦ (let no : None ≡ Some cause = sym (read-determined rows marks entry p.sectors size marks_size p.read).0 ∙ first in cc)
+    | inr (sectors, fault, read, broken) ↦
+        let same : p.sectors ≡ sectors =
+        (read-determined rows marks entry p.sectors size marks_size p.read).1 ∙ sym (read-determined rows marks entry sectors size marks_size read).1 in
+        let no : None ≡ Some fault = sym p.lawful ∙ ap (λ s. control_fault (line s 0)) same ∙ broken in
+        cc
+  ]
+
+  control_is_one : MayOne (IsControlDone entry rows marks)
+  control_is_one steps others turn other p q = elim p [
+    | inl answer ↦ elim q [
+      | inl same ↦ answer_is_one steps others turn other answer same
+      | inr none ↦ absurd (not_answered steps others turn other answer none)
+    ]
+    | inr none ↦ elim q [
+      | inl answer ↦ absurd (not_answered others steps other turn answer none)
+      | inr same ↦ (none.nothing ∙ sym same.nothing, none.good ∙ sym same.good)
+    ]
+  ]
+
+  asked_is_one : (content : Content) → MayOne (IsAsked content entry rows marks)
+  asked_is_one Control = control_is_one
+  asked_is_one Zero = λ steps others turn other p q. (p.0 ∙ sym q.0, p.1 ∙ sym q.1)
+  asked_is_one Reference = λ steps others turn other p q. (p.0 ∙ sym q.0, p.1 ∙ sym q.1)
+  asked_is_one (Image sector) = λ steps others turn other p q. (p.0 ∙ sym q.0, p.1 ∙ sym q.1)
+
+sought_is_one : (initial : ℕ) (form : Form) (k : ℕ) (own : List ℕ) → MayOne (IsSought initial form k own)
+sought_is_one initial form k own steps others turn other p q =
+    let rows = captured_rows form own in
+    let marks = captured_marks form own in
+    let entry : q.entry ≡ p.entry = one_entry (lead_in_blocks initial) k q.entry p.entry q.stands p.stands in
+    asked_is_one p.entry rows marks (length-captured_rows form own) (length-captured_marks form own) p.entry.content steps others turn other
+    p.does (subst (λ (e : BlockPlan). IsAsked e.content e rows marks others other) entry q.does)
+
+-- SURVEY. The line of each block is one.
+surveyed_is_one : (layout : Layout) (zones : Zones) (form : Form) (k : ℕ) (before : List (List ℕ)) (own : List ℕ) → MayOne (IsSurveyed layout zones form k before own)
+surveyed_is_one layout zones form k before own steps others turn other p q =
+    let entry : p.entry ≡ q.entry = one_entry (plan_of layout zones) k p.entry q.entry p.stands q.stands in
+    let found = found_in layout zones form (before ++ own ∷ []) in (
+      p.writes ∙ ap (λ e. Write (survey_line k e found) ∷ []) entry ∙ sym q.writes,
+      p.answers ∙ ap (λ e. turn_by (block_cause (captured_rows form own) (captured_marks form own) e)) entry ∙ sym q.answers,
+    )
+
 -- the layout of the settings is one
 one_layout : (settings : Settings) (a b : Layout) → IsLayoutOf settings a → IsLayoutOf settings b → a ≡ b
 one_layout settings a b p q =
@@ -150,15 +213,27 @@ module _ (settings : Settings) (bytes : List ℕ) (a b : Outcome) (none : IsFaul
   IsOf word outcome = (meaning word).OfUnits settings (λ units. IsOutcome units bytes outcome)
 
   by_command : (word : Command) → IsOf word a → IsOf word b → a ≡ b
-  by_command command.Frames p q = one_run settings.sectors (λ k. 2048) _ (frame_is_one settings.first) bytes a b p q none other
+  by_command command.Frames p q =
+      one_run (frames_units settings.first settings.sectors) (λ k. 2048) (λ k own. refl) (λ before own. frame_is_one settings.first (length before) own)
+      (λ before. one_closing) bytes a b p q none other
   by_command command.Master (layout, is, p) (same, so, q) =
-      one_run (length (plan_of layout settings.zones)) _ (IsMastered layout settings.zones settings.cpr)
-      (mastered_is_one layout settings.zones settings.cpr) bytes a b p
+      one_run (master_units layout settings.zones settings.cpr) _ (λ k own. refl)
+      (λ before own. mastered_is_one layout settings.zones settings.cpr (length before) own) (λ before. one_closing) bytes a b p
       (subst (λ l. IsOutcome (master_units l settings.zones settings.cpr) bytes b) (one_layout settings same layout so is) q) none other
   by_command command.Recover (layout, is, p) (same, so, q) =
-      one_run (length (plan_of layout settings.zones)) (λ k. block_size settings.form) (IsRecovered layout settings.zones settings.form)
-      (recovered_is_one layout settings.zones settings.form) bytes a b p
+      one_run (recover_units layout settings.zones settings.form) _ (λ k own. refl)
+      (λ before own. recovered_is_one layout settings.zones settings.form (length before) own) (λ before. one_closing) bytes a b p
       (subst (λ l. IsOutcome (recover_units l settings.zones settings.form) bytes b) (one_layout settings same layout so is) q) none other
+  by_command command.Info p q =
+      one_run (info_units settings.initial settings.form) _ (λ k own. refl)
+      (λ before own. sought_is_one settings.initial settings.form (length before) own) (λ before. one_closing) bytes a b p q none other
+  by_command command.Survey (layout, is, p) (same, so, q) =
+      one_run (survey_units layout settings.zones settings.form) _ (λ k own. refl)
+      (λ before own. surveyed_is_one layout settings.zones settings.form (length before) before own) (λ before. one_closing) bytes a b p
+      (subst (λ l. IsOutcome (survey_units l settings.zones settings.form) bytes b) (one_layout settings same layout so is) q) none other
+  by_command command.Exercise p q =
+      one_run (exercise_units settings.seed settings.blocks) (λ k. 0) (λ k own. refl) (λ before own steps others turn other x y. (x.0 ∙ sym y.0, x.1 ∙ sym y.1))
+      (λ before. exercised_is_one settings.seed settings.blocks) bytes a b p q none other
 
 pub determined : (settings : Settings) (bytes : List ℕ) (a b : Outcome) → IsLoop settings bytes a → IsLoop settings bytes b
     → IsFaultless a.end → IsFaultless b.end → a ≡ b

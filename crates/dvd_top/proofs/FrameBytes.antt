@@ -1,5 +1,6 @@
 -- A data frame is 2,064 bytes.
 use Rattle.std.proofs.Common.{◌≡◌, ℕ, zero, suc, ◌+◌, ◌*◌, ◌/◌, ◌%◌, ◌<◌, ◌≤◌, nat_lt, true, false, cond, List, [], ◌∷◌, ◌++◌, length, get_or, take, drop, replicate, All, refl, sym, subst, ◌∙◌, arith}
+use Rattle.std.specs.Prelude.{◌^◌, bit_xor}
 use Rattle.std.proofs.lemmas.List.{length-append, length-drop, length-replicate, length-take-le}
 use Rattle.std.proofs.lemmas.List.Elements.{All-append, All-cons, All-drop, All-from_get_or, All-nil, All-replicate, All-take}
 use Rattle.std.proofs.lemmas.Nat.{xor_lt}
@@ -49,18 +50,18 @@ bytes-word word =
 bytes-ied : (word : ℕ) → HasBytes 2 (ied_of word)
 bytes-ied word = record { size = length-ied_of word; bytes = bytes-ied_of word }
 
--- fifteen bits of the sequence are a register's
-register_shown : (preset n : ℕ) → (register : ℕ) × (bits 15 register ≡ drop n (sequence preset n))
-unfolding sequence
+-- what the window shows at a byte is a register
+register_shown : (preset k : ℕ) → (register : ℕ) × (bits 15 register ≡ window preset k)
+unfolding window sequence
 register_shown preset zero = (preset, refl)
-register_shown preset (suc n) =
-    let before = register_shown preset n in
-    (_, shifted_window preset n before.0 _ before.1 refl)
+register_shown preset (suc k) =
+    let before = register_shown preset k in
+    let next = before.0 % 2 ^ 7 * 256 + bit_xor (before.0 / 2 ^ 7) (before.0 / 2 ^ 3) % 2 ^ 8 in
+    (next, subst (λ n. bits 15 next ≡ window preset n) (let is : k + 1 ≡ suc k = omega arith in is) (shifted_window preset k before.0 next refl before.1))
 
 scrambling_byte-lt : (preset k : ℕ) → scrambling_byte preset k < 256
-unfolding window
 scrambling_byte-lt preset k =
-    let shown = register_shown preset (8 * k) in
+    let shown = register_shown preset k in
     subst (λ b. b < 256) (byte_shown preset k shown.0 shown.1) (omega arith)
 
 mask-lt : (word : ℕ) (rule : Rule) (k : ℕ) → mask word rule k < 256

@@ -5,8 +5,8 @@ use Rattle.std.proofs.lemmas.Bool.Decides.{nat_tests}
 use Rattle.dvd_layout.specs.Lengths.{first_fault, has_two_layers, is_opposite, layer_end, padded}
 use Rattle.dvd_layout.specs.declared.fault.LayoutFault.{LayoutFault}
 use Rattle.dvd_layout.specs.declared.layout.Layout.{Layout}
-use Rattle.dvd_top.specs.Settings.{IsLayoutOf, broken_rule}
-use Rattle.dvd_top.specs.declared.settings.Settings.{Settings}
+use Rattle.dvd_words.specs.Settings.{IsLayoutOf, broken_rule}
+use Rattle.dvd_words.specs.declared.settings.Settings.{Settings}
 
 -- a rule that is kept, and the rules behind it
 kept : (test : Bool) (fault : LayoutFault) (rest : Option LayoutFault) → cond test (Some fault) rest ≡ None → (test ≡ false) × (rest ≡ None)

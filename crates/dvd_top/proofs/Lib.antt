@@ -1,10 +1,15 @@
 pub mod BlockFrames
 pub mod BoundKept
 pub mod Determined
-pub mod Digits
+pub mod ExerciseBlocks
+pub mod ExerciseRuns
+pub mod ExerciseTrials
+pub mod ExerciseTurns
 pub mod FormatBytes
 pub mod FrameBytes
 pub mod ImageTaken
+pub mod InfoBlocks
+pub mod InfoFound
 pub mod Layouts
 pub mod Lengths
 pub mod MasterBlocks
@@ -21,4 +26,5 @@ pub mod Repairs
 pub mod RunEnds
 pub mod RunLemmas
 pub mod SomethingDone
+pub mod SurveyBlocks
 pub mod Written

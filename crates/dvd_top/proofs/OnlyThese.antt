@@ -16,7 +16,7 @@ goes_on_as Bad A B to after goes = to after goes
 goes_on_as Last A B to after goes = goes
 
 -- the bytes behind those of the units before
-own_is : (all front own left : List ℕ) (a n : ℕ) → all ≡ (front ++ own) ++ left → length front ≡ a → length own ≡ n → own ≡ take n (drop a all)
+pub own_is : (all front own left : List ℕ) (a n : ℕ) → all ≡ (front ++ own) ++ left → length front ≡ a → length own ≡ n → own ≡ take n (drop a all)
 own_is all front own left a n is at size =
     sym (part-behind front own a n at size)
     ∙ sym (part-append (front ++ own) left a n (omega (arith, length-append front own)))

@@ -14,9 +14,9 @@ use Rattle.dvd_top.specs.Commands.{meaning}
 use Rattle.dvd_top.specs.Headline.{EndsThere, HasRun, HaveRisen, IsRun}
 use Rattle.dvd_top.specs.Statuses.{status_of}
 use Rattle.dvd_top.specs.Lines.{closing_line}
-use Rattle.dvd_top.specs.declared.settings.Command.{Command}
-use Rattle.dvd_top.specs.declared.settings.Command.TheVariants.{Frames, Master, Recover}
-use Rattle.dvd_top.specs.declared.settings.Settings.{Settings}
+use Rattle.dvd_words.specs.declared.settings.Command.{Command}
+use Rattle.dvd_words.specs.declared.settings.Command.TheVariants.{Frames, Master, Recover, Info, Survey, Exercise}
+use Rattle.dvd_words.specs.declared.settings.Settings.{Settings}
 use Rattle.dvd_top.specs.declared.status.Status.{Status}
 use Rattle.dvd_top.specs.declared.status.Status.TheVariants as status
 use Rattle.dvd_top.proofs.BoundKept.{kept}
@@ -56,6 +56,9 @@ taken_out : (command : Command) (settings : Settings) (Moved : List ℕ → List
 taken_out Frames settings Moved holds = (holds.0, holds.1, holds.2)
 taken_out Master settings Moved holds = (holds.2.0, (holds.0, holds.1, holds.2.1), holds.2.2)
 taken_out Recover settings Moved holds = (holds.2.0, (holds.0, holds.1, holds.2.1), holds.2.2)
+taken_out Info settings Moved holds = (holds.0, holds.1, holds.2)
+taken_out Survey settings Moved holds = (holds.2.0, (holds.0, holds.1, holds.2.1), holds.2.2)
+taken_out Exercise settings Moved holds = (holds.0, holds.1, holds.2)
 
 -- a closed loop that a failed read ended: over the bytes that it took no fault would have ended it
 ends_over : (closing : LoopEnd → List ℕ) (units : Units) (bytes : List ℕ) (within : LoopEnd) (outcome : Outcome) (Moved : List ℕ → List ℕ → List ℕ → Type 0)

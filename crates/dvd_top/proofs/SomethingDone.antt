@@ -1,5 +1,5 @@
 -- For every input each command does something.
-use Rattle.std.proofs.Common.{◌≡◌, inl, inr, ℕ, zero, suc, ◌+◌, ◌*◌, ◌<◌, Bool, List, [], ◌∷◌, ◌++◌, length, take, drop, replicate, slice_get, All, Option, Some, None, refl, sym, subst, ap, append-nil, take-append-drop, arith}
+use Rattle.std.proofs.Common.{◌≡◌, inl, inr, ℕ, zero, suc, ◌+◌, ◌*◌, ◌<◌, Bool, List, [], ◌∷◌, ◌++◌, length, take, drop, replicate, slice_get, All, Option, Some, None, refl, sym, subst, ap, ◌∙◌, append-nil, take-append-drop, arith}
 use Rattle.std.proofs.lemmas.Bool.{cases_lt}
 use Rattle.std.proofs.lemmas.List.{length-take-le}
 use Rattle.std.proofs.lemmas.List.Elements.{All-drop, All-take}
@@ -10,19 +10,21 @@ use Rattle.dvd_block.specs.Recording.{recording}
 use Rattle.dvd_capture.specs.Captured.{block_size, captured_marks, captured_rows}
 use Rattle.dvd_capture.specs.declared.form.Form.{Form}
 use Rattle.dvd_layout.specs.Place.{image_sectors}
-use Rattle.dvd_layout.specs.Plan.{plan_of}
+use Rattle.dvd_control.specs.Format.{control_fault, fields_in}
+use Rattle.dvd_control.specs.declared.format.ControlFault.{ControlFault}
+use Rattle.dvd_layout.specs.Plan.{lead_in_blocks, plan_of}
+use Rattle.dvd_layout.proofs.LeadIn.{length-lead_in_blocks}
 use Rattle.dvd_layout.specs.declared.entry.BlockPlan.{BlockPlan}
 use Rattle.dvd_layout.specs.declared.entry.Content.{Content}
 use Rattle.dvd_layout.specs.declared.entry.Content.TheVariants.{Zero, Reference, Control, Image}
 use Rattle.dvd_layout.specs.declared.layout.Layout.{Layout}
 use Rattle.dvd_layout.specs.declared.layout.Zones.{Zones}
-use Rattle.dvd_loop.specs.Machine.{EndsWithin, Goes, GoesOn, IsOutcome, Step, Units, bad_of, ended, plain_units, taking}
+use Rattle.dvd_loop.specs.Machine.{EndsBehind, EndsWithin, Goes, GoesOn, IsOutcome, Step, Units, bad_of, ended, sized, taking}
 use Rattle.dvd_loop.specs.Machine.Step.{Write, Tell}
-use Rattle.dvd_loop.specs.declared.ends.Behind.TheVariants.{Asks}
 use Rattle.dvd_loop.specs.declared.ends.LoopEnd.{LoopEnd}
 use Rattle.dvd_loop.specs.declared.ends.LoopEnd.TheVariants.{Short}
 use Rattle.dvd_loop.specs.declared.ends.Turn.{Turn}
-use Rattle.dvd_loop.specs.declared.ends.Turn.TheVariants.{Good, Bad}
+use Rattle.dvd_loop.specs.declared.ends.Turn.TheVariants.{Good, Bad, Last}
 use Rattle.dvd_loop.proofs.Sizes.{sized_fewer, sized_whole}
 use Rattle.dvd_loop.proofs.Totality.{Exists, behind_exists, one_fewer, steps_exist, turns_exist}
 use Rattle.dvd_read.specs.Reading.{block_cause, block_sectors}
@@ -30,16 +32,20 @@ use Rattle.dvd_read.specs.declared.cause.Cause.{Cause}
 use Rattle.dvd_read.proofs.BlockRead.{no_cause-read}
 use Rattle.dvd_report.specs.Lines.{damage_line}
 use Rattle.dvd_top.specs.Commands.{meaning}
-use Rattle.dvd_top.specs.Commands.Frames.{sector_frame}
-use Rattle.dvd_top.specs.Commands.Master.{IsMastered, bytes_of_block, bytes_of_entry, cpr_in, filled, frames_of, main_for}
-use Rattle.dvd_top.specs.Commands.Recover.{IsDone, IsRecovered}
-use Rattle.dvd_top.specs.Performing.{IsImageDone, IsPassedOver, sectors_out}
+use Rattle.dvd_top.specs.Commands.Exercise.{exercise_units}
+use Rattle.dvd_top.specs.Commands.Frames.{frames_units, sector_frame}
+use Rattle.dvd_top.specs.Commands.Info.{IsAsked, IsSought, format_lines, info_units}
+use Rattle.dvd_top.specs.Commands.Master.{IsMastered, bytes_of_block, bytes_of_entry, cpr_in, filled, frames_of, main_for, master_units}
+use Rattle.dvd_top.specs.Commands.Recover.{IsDone, IsRecovered, recover_units}
+use Rattle.dvd_top.specs.Commands.Survey.{IsSurveyed, survey_units}
+use Rattle.dvd_top.specs.Performing.{IsControlDone, IsImageDone, IsPassedOver, sectors_out}
 use Rattle.dvd_top.specs.Laws.{SomethingIsDone}
-use Rattle.dvd_top.specs.declared.settings.Command.{Command}
-use Rattle.dvd_top.specs.declared.settings.Command.TheVariants as command
-use Rattle.dvd_top.specs.declared.settings.Settings.{Settings}
+use Rattle.dvd_words.specs.declared.settings.Command.{Command}
+use Rattle.dvd_words.specs.declared.settings.Command.TheVariants as command
+use Rattle.dvd_words.specs.declared.settings.Settings.{Settings}
 use Rattle.dvd_top.proofs.BlockFrames.{line-frames_of}
 use Rattle.dvd_top.proofs.Determined.{length-captured_marks, length-captured_rows}
+use Rattle.dvd_top.proofs.ExerciseRuns.{exercised_some}
 use Rattle.dvd_top.proofs.FormatBytes.{bytes-cpr, bytes-filled, bytes-main_for}
 use Rattle.dvd_top.proofs.FrameBytes.{HasBytes, IsByte, bytes-frame}
 use Rattle.dvd_top.proofs.Layouts.{layout_for}
@@ -51,11 +57,11 @@ MaySome May = (steps : List Step) × (turn : Turn) × May steps turn
 abbrev MayEach : ℕ → (ℕ → ℕ) → (ℕ → List ℕ → List Step → Turn → Type 0) → Type 0
 MayEach count size does = (k : ℕ) (own : List ℕ) → k < count → HasBytes (size k) own → MaySome (does k own)
 
--- Where something may be done for each unit of bytes, every input of bytes has an outcome without a fault.
-module _ (count : ℕ) (size : ℕ → ℕ) (does : ℕ → List ℕ → List Step → Turn → Type 0) (may : MayEach count size does) where
-  abbrev units : Units
-  units = plain_units count size does
-
+-- Units of given sizes: where something may be done for each unit of bytes and behind all, every input of bytes has an
+-- outcome without a fault.
+module _ (units : Units) (size : ℕ → ℕ) (begins : (k : ℕ) (own : List ℕ) → units.begins k own ≡ sized (size k) own)
+    (may : (before : List (List ℕ)) (own : List ℕ) → length before < units.count → HasBytes (size (length before)) own → MaySome (units.does (length before) before own))
+    (closing : (before : List (List ℕ)) → length before ≡ units.count → (steps : List Step) × units.closes before steps) where
   -- the input ends within the unit behind those
   short_exists : (n : ℕ) (before : List (List ℕ)) (bad : ℕ) (bytes : List ℕ) → length bytes < size (length before)
       → Exists (Goes units (suc n) before bad bytes)
@@ -67,7 +73,7 @@ module _ (count : ℕ) (size : ℕ → ℕ) (does : ℕ → List ℕ → List St
           own = bytes;
           left = [];
           front = sym (append-nil bytes);
-          ends = subst (λ part. EndsWithin part (length before) (length bytes) [] short) (sym (sized_fewer (size (length before)) bytes fewer)) (inl (refl, refl));
+          ends = subst (λ part. EndsWithin part (length before) (length bytes) [] short) (sym (begins (length before) bytes ∙ sized_fewer (size (length before)) bytes fewer)) (inl (refl, refl));
           takes = refl;
         }),
         tt,
@@ -75,7 +81,7 @@ module _ (count : ℕ) (size : ℕ → ℕ) (does : ℕ → List ℕ → List St
 
   -- or the unit is taken, and the units to come have an outcome
   taken_exists : (n : ℕ) (before : List (List ℕ)) (bad : ℕ) (own left : List ℕ) → length own ≡ size (length before)
-      → MaySome (does (length before) own)
+      → MaySome (units.does (length before) before own)
       → ((turn : Turn) → Exists (Goes units n (before ++ own ∷ []) (bad + bad_of turn) left)) → Exists (Goes units (suc n) before bad (own ++ left))
   unfolding Goes
   taken_exists n before bad own left long (steps, turn, may) later =
@@ -88,7 +94,7 @@ module _ (count : ℕ) (size : ℕ → ℕ) (does : ℕ → List ℕ → List St
           steps = steps;
           turn = turn;
           front = refl;
-          unit = record { whole = (sized_whole (size (length before)) own).1 long; does = may };
+          unit = record { whole = begins (length before) own ∙ (sized_whole (size (length before)) own).1 long; does = may };
           after = exists.0;
           does = exists.1;
           takes = refl;
@@ -96,27 +102,34 @@ module _ (count : ℕ) (size : ℕ → ℕ) (does : ℕ → List ℕ → List St
         exists.2,
       )
 
-  none_exist : (before : List (List ℕ)) (bad : ℕ) (bytes : List ℕ) → Exists (Goes units 0 before bad bytes)
+  closing_exists : (before : List (List ℕ)) (bad : ℕ) (bytes : List ℕ) → length before ≡ units.count → Exists (Goes units 0 before bad bytes)
   unfolding Goes
-  none_exist before bad bytes = let exists = behind_exists Asks bad bytes in (exists.0, ([], refl, exists.1), exists.2)
+  closing_exists before bad bytes all =
+      let closes = closing before all in
+      let exists = steps_exist closes.0 (EndsBehind units.behind bad bytes) (behind_exists units.behind bad bytes) in
+      (exists.0, (closes.0, closes.1, exists.1), exists.2)
 
-  goes_exist : (n : ℕ) (before : List (List ℕ)) (bad : ℕ) (bytes : List ℕ) → length before + n ≡ count → All IsByte bytes
+  goes_exist : (n : ℕ) (before : List (List ℕ)) (bad : ℕ) (bytes : List ℕ) → length before + n ≡ units.count → All IsByte bytes
       → Exists (Goes units n before bad bytes)
-  goes_exist zero before bad bytes all are = none_exist before bad bytes
+  goes_exist zero before bad bytes all are = closing_exists before bad bytes (omega arith)
   goes_exist (suc n) before bad bytes all are = elim (cases_lt (length bytes) (size (length before))) [
     | inl fewer ↦ short_exists n before bad bytes fewer
     | inr le ↦
         let here = size (length before) in
         let own = take here bytes in
         let long = length-take-le here bytes le in
-        let unit = may (length before) own (omega arith) (record { size = long; bytes = All-take IsByte here bytes are }) in
+        let unit = may before own (omega arith) (record { size = long; bytes = All-take IsByte here bytes are }) in
         subst (λ l. Exists (Goes units (suc n) before bad l)) (take-append-drop here bytes)
         (taken_exists n before bad own (drop here bytes) long unit
-        (λ turn. goes_exist n (before ++ own ∷ []) (bad + bad_of turn) (drop here bytes) (one_fewer before own n count all) (All-drop IsByte here bytes are)))
+        (λ turn. goes_exist n (before ++ own ∷ []) (bad + bad_of turn) (drop here bytes) (one_fewer before own n units.count all) (All-drop IsByte here bytes are)))
   ]
 
   runs_exist : (bytes : List ℕ) → All IsByte bytes → Exists (IsOutcome units bytes)
-  runs_exist bytes are = goes_exist count [] 0 bytes (omega arith) are
+  runs_exist bytes are = steps_exist units.opens (Goes units units.count [] 0 bytes) (goes_exist units.count [] 0 bytes (omega arith) are)
+
+-- nothing closes these
+no_closing : (steps : List Step) × (steps ≡ [])
+no_closing = ([], refl)
 
 -- a place of a plan has an entry
 some_entry : (entries : List BlockPlan) (k : ℕ) → k < length entries → (entry : BlockPlan) × (slice_get entries k ≡ Some entry)
@@ -173,20 +186,71 @@ recovered_some layout zones form k own within are =
     let done = done_some layout k some.0 (captured_rows form own) (captured_marks form own) (length-captured_rows form own) (length-captured_marks form own) some.0.content in
     (done.0, done.1, record { entry = some.0; stands = some.1; does = done.2 })
 
+-- INFO. A block of control data answers or it doesn't.
+module _ (entry : BlockPlan) (rows : List (List ℕ)) (marks : List (List Bool)) (size : length rows ≡ 208) (marks_size : length marks ≡ 208) where
+  format_some : block_cause rows marks entry ≡ None → (fault : Option ControlFault) → control_fault (line (block_sectors rows marks entry) 0) ≡ fault
+      → MaySome (IsControlDone entry rows marks)
+  format_some none None lawful = (
+    Write (format_lines (fields_in (line (block_sectors rows marks entry) 0))) ∷ [],
+    Last,
+    inl (record { sectors = block_sectors rows marks entry; read = no_cause-read rows marks entry size marks_size none; lawful = lawful; writes = refl; last = refl }),
+  )
+  format_some none (Some fault) broken = (
+    [],
+    Good,
+    inr (record { why = inr (block_sectors rows marks entry, fault, no_cause-read rows marks entry size marks_size none, broken); nothing = refl; good = refl }),
+  )
+
+  control_some : (cause : Option Cause) → block_cause rows marks entry ≡ cause → MaySome (IsControlDone entry rows marks)
+  control_some None none = format_some none (control_fault (line (block_sectors rows marks entry) 0)) refl
+  control_some (Some cause) first = ([], Good, inr (record { why = inl (cause, first); nothing = refl; good = refl }))
+
+  asked_some : (content : Content) → MaySome (IsAsked content entry rows marks)
+  asked_some Control = control_some (block_cause rows marks entry) refl
+  asked_some Zero = ([], Good, (refl, refl))
+  asked_some Reference = ([], Good, (refl, refl))
+  asked_some (Image sector) = ([], Good, (refl, refl))
+
+sought_some : (initial : ℕ) (form : Form) → MayEach (initial + 224) (λ k. block_size form) (IsSought initial form)
+sought_some initial form k own within are =
+    let some = some_entry (lead_in_blocks initial) k (let size = length-lead_in_blocks initial in omega arith) in
+    let asked = asked_some some.0 (captured_rows form own) (captured_marks form own) (length-captured_rows form own) (length-captured_marks form own) some.0.content in
+    (asked.0, asked.1, record { entry = some.0; stands = some.1; does = asked.2 })
+
+-- SURVEY. Every block has a line.
+surveyed_some : (layout : Layout) (zones : Zones) (form : Form) (before : List (List ℕ)) (own : List ℕ) → length before < length (plan_of layout zones)
+    → HasBytes (block_size form) own → MaySome (IsSurveyed layout zones form (length before) before own)
+surveyed_some layout zones form before own within are =
+    let some = some_entry (plan_of layout zones) (length before) within in
+    (_, _, record { entry = some.0; stands = some.1; writes = refl; answers = refl })
+
 module _ (settings : Settings) (bytes : List ℕ) (six : HasBytes 6 settings.cpr) (are : All IsByte bytes) where
   by_command : (word : Command) → (meaning word).breaks settings ≡ None
       → Exists (λ outcome. (meaning word).OfUnits settings (λ units. IsOutcome units bytes outcome))
-  by_command command.Frames none = runs_exist settings.sectors (λ k. 2048) _ (λ k own lt is. (Write (sector_frame (settings.first + k) own) ∷ [], Good, (refl, refl))) bytes are
+  by_command command.Frames none =
+      runs_exist (frames_units settings.first settings.sectors) (λ k. 2048) (λ k own. refl)
+      (λ before own lt is. (Write (sector_frame (settings.first + length before) own) ∷ [], Good, (refl, refl))) (λ before all. no_closing) bytes are
   by_command command.Master none =
       let layout = layout_for settings none in
-      let exists = runs_exist (length (plan_of layout.0 settings.zones)) (bytes_of_block layout.0 settings.zones) (IsMastered layout.0 settings.zones settings.cpr)
-      (mastered_some layout.0 settings.zones settings.cpr six) bytes are in
+      let exists = runs_exist (master_units layout.0 settings.zones settings.cpr) (bytes_of_block layout.0 settings.zones) (λ k own. refl)
+      (λ before own. mastered_some layout.0 settings.zones settings.cpr six (length before) own) (λ before all. no_closing) bytes are in
       (exists.0, (layout.0, layout.1, exists.1), exists.2)
   by_command command.Recover none =
       let layout = layout_for settings none in
-      let exists = runs_exist (length (plan_of layout.0 settings.zones)) (λ k. block_size settings.form) (IsRecovered layout.0 settings.zones settings.form)
-      (recovered_some layout.0 settings.zones settings.form) bytes are in
+      let exists = runs_exist (recover_units layout.0 settings.zones settings.form) (λ k. block_size settings.form) (λ k own. refl)
+      (λ before own. recovered_some layout.0 settings.zones settings.form (length before) own) (λ before all. no_closing) bytes are in
       (exists.0, (layout.0, layout.1, exists.1), exists.2)
+  by_command command.Info none =
+      runs_exist (info_units settings.initial settings.form) (λ k. block_size settings.form) (λ k own. refl)
+      (λ before own. sought_some settings.initial settings.form (length before) own) (λ before all. no_closing) bytes are
+  by_command command.Survey none =
+      let layout = layout_for settings none in
+      let exists = runs_exist (survey_units layout.0 settings.zones settings.form) (λ k. block_size settings.form) (λ k own. refl)
+      (λ before own. surveyed_some layout.0 settings.zones settings.form before own) (λ before all. (_, refl)) bytes are in
+      (exists.0, (layout.0, layout.1, exists.1), exists.2)
+  by_command command.Exercise none =
+      runs_exist (exercise_units settings.seed settings.blocks) (λ k. 0) (λ k own. refl) (λ before own lt is. ([], Good, (refl, refl)))
+      (λ before all. exercised_some settings.seed settings.blocks) bytes are
 
 pub something : SomethingIsDone
 something settings bytes size cpr_bytes are none = by_command settings bytes (record { size = size; bytes = cpr_bytes }) are settings.command none

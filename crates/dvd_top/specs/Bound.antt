@@ -16,8 +16,8 @@ use Rattle.dvd_loop.specs.declared.ends.Turn.{Turn}
 use Rattle.dvd_loop.specs.declared.ends.Turn.TheVariants.{Good}
 use Rattle.dvd_top.specs.Commands.Master.{filled, frames_of, image_bytes}
 use Rattle.dvd_top.specs.Commands.Recover.{IsRecovered}
-use Rattle.dvd_top.specs.Settings.{IsLayoutOf}
-use Rattle.dvd_top.specs.declared.settings.Settings.{Settings}
+use Rattle.dvd_words.specs.Settings.{IsLayoutOf}
+use Rattle.dvd_words.specs.declared.settings.Settings.{Settings}
 
 -- the bytes of captured block k
 abbrev pub block_bytes : Form → List ℕ → ℕ → List ℕ

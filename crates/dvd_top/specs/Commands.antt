@@ -1,15 +1,24 @@
 -- The commands of the program, each by its meaning.
 use Rattle.dvd_top.specs.Meaning.{Meaning}
+use Rattle.dvd_top.specs.Commands.Exercise.{exercise_meaning}
 use Rattle.dvd_top.specs.Commands.Frames.{frames_meaning}
+use Rattle.dvd_top.specs.Commands.Info.{info_meaning}
 use Rattle.dvd_top.specs.Commands.Master.{master_meaning}
 use Rattle.dvd_top.specs.Commands.Recover.{recover_meaning}
-use Rattle.dvd_top.specs.declared.settings.Command.{Command}
-use Rattle.dvd_top.specs.declared.settings.Command.TheVariants as command
+use Rattle.dvd_top.specs.Commands.Survey.{survey_meaning}
+use Rattle.dvd_words.specs.declared.settings.Command.{Command}
+use Rattle.dvd_words.specs.declared.settings.Command.TheVariants as command
+pub mod Exercise
 pub mod Frames
+pub mod Info
 pub mod Master
 pub mod Recover
+pub mod Survey
 
 abbrev pub meaning : Command → Meaning
 meaning command.Frames = frames_meaning
 meaning command.Master = master_meaning
 meaning command.Recover = recover_meaning
+meaning command.Info = info_meaning
+meaning command.Survey = survey_meaning
+meaning command.Exercise = exercise_meaning

@@ -1,8 +1,7 @@
 -- The headline: what a run of the program does, for its words, for the bytes of its input and for faults of its streams.
 -- `run` promises the record at the end. How a run goes from unit to unit is said in full by Machine of dvd_loop.
-use Rattle.std.specs.Prelude.{◌≡◌, ◌≢◌, ◌⊎◌, IsTrue, List, ℕ, [], ◌∷◌, ◌++◌, Option, Some, None, codes, if◌then◌else◌}
+use Rattle.std.specs.Prelude.{◌≡◌, ◌≢◌, ◌⊎◌, List, ℕ, ◌++◌, Option, Some, None, codes}
 use Rattle.std.specs.Io.KnownBytes.{Appends}
-use Rattle.std.specs.Str.{bytes_eq}
 use Rattle.dvd_layout.specs.declared.fault.LayoutFault.{LayoutFault}
 use Rattle.dvd_loop.specs.Laws.{IsFaultless}
 use Rattle.dvd_loop.specs.Machine.{IsClosed, IsOutcome, Outcome}
@@ -16,19 +15,14 @@ use Rattle.dvd_top.specs.Bound.{KeepsBound}
 use Rattle.dvd_top.specs.Commands.{meaning}
 use Rattle.dvd_top.specs.Lines.{closing_line, setting_line}
 use Rattle.dvd_top.specs.Statuses.{status_of}
-use Rattle.dvd_top.specs.declared.settings.Command.TheVariants.{Frames, Master, Recover}
-use Rattle.dvd_top.specs.declared.settings.Settings.{Settings}
+use Rattle.dvd_words.specs.Reading.{reading}
+use Rattle.dvd_words.specs.declared.settings.Command.TheVariants.{Recover}
+use Rattle.dvd_words.specs.declared.settings.Settings.{Settings}
 use Rattle.dvd_top.specs.declared.status.Status.{Status}
 use Rattle.dvd_top.specs.declared.status.Status.TheVariants as status
 
--- WORDS. The first names the command, and those behind it ask for its settings. Words that aren't read so ask for nothing.
-unfoldable pub reading : List (List ℕ) → Option Settings
-reading [] = None
-reading (word ∷ words) =
-    if bytes_eq word (meaning Frames).word then (meaning Frames).reading words
-    else (if bytes_eq word (meaning Master).word then (meaning Master).reading words
-    else (if bytes_eq word (meaning Recover).word then (meaning Recover).reading words else None))
-
+-- WORDS. `Reads` of dvd_words says what words ask for: the first names the command, and those behind it are its options, each
+-- by its form, with the defaults of the others. Words that aren't read so ask for nothing, and `reading` is None.
 -- LAYOUT. The first rule of layouts that the settings break, if any.
 abbrev pub breaks : Settings → Option LayoutFault
 breaks settings = (meaning settings.command).breaks settings
@@ -38,10 +32,17 @@ breaks settings = (meaning settings.command).breaks settings
 -- master: block k is the bytes of its image sectors, and the recording of the one ECC block of its data frames is written.
 -- recover: block k is a captured block. Where the disk has image sectors, those in the one block that two passes determine are
 -- written if its frames are right; else a line names the block and the first cause, and then zeros are written in their place.
+-- survey: block k is a captured block, whatever the disk has there. A line tells its PI error rows, its failed rows and its cause,
+-- and behind the last block one line tells the totals.
+-- info: block k is a captured block of the lead-in. The first control block that is right and whose first sector is a physical
+-- format is the last that is read: eleven lines tell that format. Behind all 192 of them the end is NoControl.
+-- exercise: block k has no bytes, and nothing is asked for behind the last. The blocks are drawn from the seed, damaged within the
+-- bound and read back, and one line then tells how many of their places differed and how many of their rows failed.
 -- OUTCOME. The units are taken in their order, each whole and with all that is done for it. Behind the last one byte more is
--- asked for: the end is Long if it comes, else Done, or Damaged if blocks were refused. It is Short where the input ends before,
--- and ReadFault where a read fails; nothing is done of a unit that isn't whole. Where a write or a line fails it is WriteFault or
--- ReportFault: a front of that piece was done, not all, and nothing behind it. After all ends but ReportFault comes the closing line.
+-- asked for, but by info and exercise: the end is Long if it comes, else Done, or Damaged if blocks have a cause. It is Short
+-- where the input ends before, and ReadFault where a read fails; nothing is done of a unit that isn't whole. Where a write or a
+-- line fails it is WriteFault or ReportFault: a front of that piece was done, not all, and nothing behind it. After all ends but
+-- ReportFault comes the closing line.
 abbrev pub IsLoop : Settings → List ℕ → Outcome → Type 0
 IsLoop settings bytes outcome = (meaning settings.command).OfUnits settings (λ units. IsOutcome units bytes outcome)
 
@@ -64,6 +65,10 @@ abbrev pub HasNotBegun : Status → List ℕ → Seen → Seen → Status → Ty
 HasNotBegun wanted line old new result =
     ((result ≡ wanted) × Appends old.bytes new.bytes line × (new.faults ≡ old.faults)) ⊎ ((result ≡ status.ReportFault) × AppendsPrefix old.bytes new.bytes line × Rose old.faults new.faults)
 
+-- MEMORY. There is none for the words or for the buffers of the command. Nothing was read then, and later none is taken.
+abbrev pub HasNoMemory : Seen → Seen → Status → Type 0
+HasNoMemory old new result = HasNotBegun status.NoMemory (codes "no memory\n") old new result
+
 -- FAULTS. A fault is the status only where that stream's count rose; after any other status no count has moved.
 abbrev pub HaveRisen : Status → Streams → Streams → Type 0
 HaveRisen status.ReadFault old new = Rose old.source.faults new.source.faults
@@ -81,12 +86,12 @@ pub record EndsThere (settings : Settings) (old new : Streams) : Type 0 where
 -- THE HEADLINE, of words, of the streams before and after, and of the status. Untouched: that source and output are as they were.
 pub record Headline (Untouched : Type 0) (words : List (List ℕ)) (old new : Streams) (result : Status) : Type 0 where
   -- words that ask for nothing are Usage, and a layout that breaks a rule is Setting: all that is done is to tell its line
-  pub usage : reading words ≡ None → Untouched × HasNotBegun status.Usage (codes "usage\n") old.report new.report result
+  pub usage : reading words ≡ None → Untouched × (HasNotBegun status.Usage (codes "usage\n") old.report new.report result ⊎ HasNoMemory old.report new.report result)
   pub setting : (settings : Settings) (fault : LayoutFault) → reading words ≡ Some settings → breaks settings ≡ Some fault
-      → Untouched × HasNotBegun status.Setting (setting_line fault) old.report new.report result
-  -- else the command runs; or there is no memory for its buffers, and all that is done is to tell that
+      → Untouched × (HasNotBegun status.Setting (setting_line fault) old.report new.report result ⊎ HasNoMemory old.report new.report result)
+  -- else the command runs
   pub runs : (settings : Settings) → reading words ≡ Some settings → breaks settings ≡ None
-      → HasRun settings old new result ⊎ (IsTrue (meaning settings.command).has_buffers × Untouched × HasNotBegun status.NoMemory (codes "no memory\n") old.report new.report result)
+      → HasRun settings old new result ⊎ (Untouched × HasNoMemory old.report new.report result)
   pub faults : HaveRisen result old new
   -- These follow. Where no stream failed, the run ended as its loop, by no fault. What a failed read leaves. And if no fault
   -- ended `recover`, each captured block whose damage is within the bound (twice its bad rows plus its lost rows is at most 16),

@@ -1,29 +1,34 @@
 -- What holds of every run of a command.
-use Rattle.std.specs.Prelude.{◌≡◌, ℕ, ◌*◌, ◌<◌, List, [], ◌∷◌, length, All, Some, None, slice_get}
+use Rattle.std.specs.Prelude.{◌≡◌, ℕ, ◌*◌, ◌<◌, List, [], ◌∷◌, length, replicate, All, Some, None, slice_get, ◌⊎◌, ◌+◌, ◌≤◌, take}
 use Rattle.dvd_block.specs.Product.{IsBlockOf}
 use Rattle.dvd_capture.specs.Captured.{block_size, captured_rows, captured_marks}
 use Rattle.dvd_capture.specs.Within.{IsWithin}
 use Rattle.dvd_capture.specs.declared.form.Form.{Form}
 use Rattle.dvd_capture.specs.declared.form.Form.TheVariants.{Plain}
+use Rattle.dvd_control.specs.Format.{Fields}
 use Rattle.dvd_layout.specs.Content.{IsImage, image_from}
 use Rattle.dvd_layout.specs.Place.{total_sectors}
 use Rattle.dvd_layout.specs.Plan.{plan_of}
 use Rattle.dvd_layout.specs.declared.entry.BlockPlan.{BlockPlan}
 use Rattle.dvd_layout.specs.declared.layout.Layout.{Layout}
+use Rattle.dvd_layout.specs.declared.layout.Shape.TheVariants.{Single}
 use Rattle.dvd_layout.specs.declared.layout.Zones.{Zones}
+use Rattle.dvd_layout.specs.declared.layout.Zones.TheVariants.{DataOnly}
 use Rattle.dvd_loop.specs.Laws.{IsFaultless, first}
 use Rattle.dvd_loop.specs.Machine.{IsOutcome, Outcome, Step}
 use Rattle.dvd_loop.specs.Machine.Step.{Write}
 use Rattle.dvd_loop.specs.declared.ends.LoopEnd.{LoopEnd}
-use Rattle.dvd_loop.specs.declared.ends.LoopEnd.TheVariants.{Done}
+use Rattle.dvd_loop.specs.declared.ends.LoopEnd.TheVariants.{Done, NoControl, Short}
 use Rattle.dvd_loop.specs.declared.ends.Turn.{Turn}
-use Rattle.dvd_loop.specs.declared.ends.Turn.TheVariants.{Good}
-use Rattle.dvd_top.specs.Bound.{KeepsBound}
+use Rattle.dvd_loop.specs.declared.ends.Turn.TheVariants.{Good, Last}
+use Rattle.dvd_top.specs.Bound.{KeepsBound, block_bytes}
+use Rattle.dvd_top.specs.Commands.Exercise.{drawn_frames}
+use Rattle.dvd_top.specs.Commands.Info.{IsSought, format_lines, info_units}
 use Rattle.dvd_top.specs.Commands.Master.{filled, frames_of, image_bytes, master_units}
 use Rattle.dvd_top.specs.Commands.Recover.{IsRecovered, recover_units}
 use Rattle.dvd_top.specs.Headline.{IsLoop, IsRun, breaks}
-use Rattle.dvd_top.specs.declared.settings.Command.TheVariants.{Recover}
-use Rattle.dvd_top.specs.declared.settings.Settings.{Settings}
+use Rattle.dvd_words.specs.declared.settings.Command.TheVariants.{Recover}
+use Rattle.dvd_words.specs.declared.settings.Settings.{Settings}
 
 -- What is done for an input is determined: the same settings and bytes come to one outcome, where no fault ends it.
 abbrev pub WhatIsDoneIsDetermined : Type 0
@@ -62,6 +67,12 @@ DamageWithinTheBoundIsRepaired =
     → length own ≡ block_size form → IsWithin block (captured_rows form own) (captured_marks form own)
     → IsRecovered layout zones form k own steps turn → (steps ≡ Write image ∷ []) × (turn ≡ Good)
 
+-- The data frames of the blocks that `exercise` draws are those that `master` makes of the same sectors on a disk with one layer.
+abbrev pub DrawnFramesAreMastered : Type 0
+DrawnFramesAreMastered =
+    (layout : Layout) (k : ℕ) (entry : BlockPlan) (image : List ℕ) → layout.shape ≡ Single → slice_get (plan_of layout DataOnly) k ≡ Some entry
+    → frames_of layout entry (replicate 6 0) image ≡ drawn_frames k image
+
 -- Of a run of recovery that no fault ended: the bound is kept.
 abbrev pub BoundIsKept : Type 0
 BoundIsKept =
@@ -76,3 +87,38 @@ MasteredStreamIsRecovered =
     → IsOutcome (master_units layout zones cpr) image mastered → IsFaultless mastered.end
     → IsOutcome (recover_units layout zones Plain) mastered.out recovered → IsFaultless recovered.end
     → (mastered.end ≡ Done) × (recovered ≡ record { taken = mastered.out; out = image; lines = []; end = Done })
+
+-- Block k of the lead-in is the first that answers: the lines of its format are written, and nothing behind it is taken.
+pub record FindsTheFirst (initial : ℕ) (form : Form) (bytes : List ℕ) (a : Outcome) : Type 0 where
+  pub k : ℕ
+  pub format : Fields
+  pub sought : k < initial + 224
+  pub whole : block_size form * (k + 1) ≤ length bytes
+  pub answers : IsSought initial form k (block_bytes form bytes k) (Write (format_lines format) ∷ []) Last
+  pub none_before : (j : ℕ) → j < k → IsSought initial form j (block_bytes form bytes j) [] Good
+  pub is : a ≡ record { taken = take (block_size form * (k + 1)) bytes; out = format_lines format; lines = []; end = Done }
+
+-- the input has all blocks that are sought, and these are taken
+pub record PassesAll (initial : ℕ) (form : Form) (bytes : List ℕ) (a : Outcome) : Type 0 where
+  pub whole : block_size form * (initial + 224) ≤ length bytes
+  pub is : a ≡ record { taken = take (block_size form * (initial + 224)) bytes; out = []; lines = []; end = NoControl }
+
+-- the input ends within block k, so many bytes of which it has
+pub record RunsOut (initial : ℕ) (form : Form) (bytes : List ℕ) (a : Outcome) : Type 0 where
+  pub k : ℕ
+  pub held : ℕ
+  pub sought : k < initial + 224
+  pub fewer : held < block_size form
+  pub size : length bytes ≡ block_size form * k + held
+  pub is : a ≡ record { taken = bytes; out = []; lines = []; end = Short k held }
+
+-- No block of the lead-in that is whole in the input answers: nothing is written.
+pub record FindsNone (initial : ℕ) (form : Form) (bytes : List ℕ) (a : Outcome) : Type 0 where
+  pub none : (j : ℕ) → j < initial + 224 → block_size form * (j + 1) ≤ length bytes → IsSought initial form j (block_bytes form bytes j) [] Good
+  pub ends : PassesAll initial form bytes a ⊎ RunsOut initial form bytes a
+
+-- What `info` writes and takes of an input, where no fault ends it, is told by the first block of control data that answers.
+abbrev pub InfoFindsTheFirstAnswer : Type 0
+InfoFindsTheFirstAnswer =
+    (initial : ℕ) (form : Form) (bytes : List ℕ) (a : Outcome) → IsOutcome (info_units initial form) bytes a → IsFaultless a.end
+    → FindsTheFirst initial form bytes a ⊎ FindsNone initial form bytes a

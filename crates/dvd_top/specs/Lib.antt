@@ -1,10 +1,9 @@
 pub mod Bound
 pub mod Commands
+pub mod Exercising
 pub mod Headline
 pub mod Laws
 pub mod Lines
 pub mod Meaning
 pub mod Performing
-pub mod Settings
 pub mod Statuses
-pub mod Words

@@ -5,7 +5,7 @@ use Rattle.dvd_layout.specs.declared.fault.LayoutFault.TheVariants.{EmptyLayer, 
 use Rattle.dvd_loop.specs.declared.ends.LoopEnd.{LoopEnd}
 use Rattle.dvd_loop.specs.declared.ends.LoopEnd.TheVariants.{Done, ReadFault, WriteFault, ReportFault, Short, Long, Damaged, NoControl, BadMarks}
 use Rattle.dvd_top.specs.Commands.{meaning}
-use Rattle.dvd_top.specs.declared.settings.Command.{Command}
+use Rattle.dvd_words.specs.declared.settings.Command.{Command}
 
 -- the text of a refused layout
 abbrev pub fault_text : LayoutFault → List ℕ

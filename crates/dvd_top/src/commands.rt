@@ -1,12 +1,22 @@
 //! The commands: how each begins, and what it does for each unit of its input.
 
+mod captured; // captured blocks
+mod exercise; // blocks that are drawn, damaged and read back
 mod frames; // a scrambled data frame for each sector
+mod info; // the physical format that the lead-in of a disk tells
 mod master; // the recording frames of each ECC block of a disk
 mod recover; // image sectors from a stream of captured blocks
+mod survey; // a line for each captured block, and a line of totals
 
+pub use exercise::exercise_loop;
+pub(crate) use exercise::run_exercise;
 pub use frames::frames_loop;
 pub(crate) use frames::run_frames;
+pub use info::info_loop;
+pub(crate) use info::run_info;
 pub use master::master_loop;
 pub(crate) use master::run_master;
 pub use recover::recover_loop;
 pub(crate) use recover::run_recover;
+pub(crate) use survey::run_survey;
+pub use survey::survey_loop;

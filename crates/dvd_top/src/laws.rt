@@ -1,5 +1,5 @@
 //! What holds of every run of a command: each function's contract is one law, and its body is empty.
-ghost use Rattle.dvd_top.specs.Laws.{WhatIsDoneIsDetermined, SomethingIsDone, ImageIsTakenInOrder, ImageIsTakenWhole, DamageWithinTheBoundIsRepaired, BoundIsKept, MasteredStreamIsRecovered};
+ghost use Rattle.dvd_top.specs.Laws.{WhatIsDoneIsDetermined, SomethingIsDone, ImageIsTakenInOrder, ImageIsTakenWhole, DamageWithinTheBoundIsRepaired, BoundIsKept, DrawnFramesAreMastered, MasteredStreamIsRecovered, InfoFindsTheFirstAnswer};
 
 /// What is done for an input is determined.
 pub fn what_is_done_is_determined()
@@ -31,7 +31,17 @@ pub fn bound_is_kept()
     ensures { BoundIsKept }
 {}
 
+/// The blocks of the self-test are those of a disk with one layer.
+pub fn drawn_frames_are_mastered()
+    ensures { DrawnFramesAreMastered }
+{}
+
 /// From a mastered stream recovery gives the image back, no line names a block, and the end is Done.
 pub fn mastered_stream_is_recovered()
     ensures { MasteredStreamIsRecovered }
+{}
+
+/// What `info` writes and takes of an input is told by the first control block that answers.
+pub fn info_finds_the_first_answer()
+    ensures { InfoFindsTheFirstAnswer }
 {}

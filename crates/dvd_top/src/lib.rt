@@ -2,15 +2,14 @@
 #![tactic(auto)]
 
 mod commands; // the commands, a module each
+mod format; // the lines of a physical format
 pub mod laws; // what holds of every run
 mod lines; // the closing lines of the report
-mod settings; // what the words of a command line ask for
 mod status; // how a run ends
 mod top; // the top call
-mod words; // reads the words
 
-pub use commands::{frames_loop, master_loop, recover_loop};
+pub use commands::{exercise_loop, frames_loop, info_loop, master_loop, recover_loop, survey_loop};
 pub use dvd_loop::LoopEnd;
-pub use settings::{Command, Settings};
+pub use dvd_words::{Command, Settings};
 pub use status::Status;
 pub use top::run;

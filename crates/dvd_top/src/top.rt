@@ -2,15 +2,15 @@
 ghost use Rattle.std.specs.Prelude.{◌≡◌, map, string_bytes, IsErr};
 ghost use Rattle.dvd_loop.specs.Streams.{streams};
 ghost use Rattle.dvd_top.specs.Headline.{Headline, HasNotBegun};
-ghost use Rattle.dvd_top.specs.Performing.{IsLawful, IsPerformed};
+ghost use Rattle.dvd_top.specs.Performing.{IsPerformed};
+ghost use Rattle.dvd_words.specs.Reading.{IsLawful};
 
-use crate::commands::{run_frames, run_master, run_recover};
+use crate::commands::{run_exercise, run_frames, run_info, run_master, run_recover, run_survey};
 use crate::lines::{close_line, refused_line};
-use crate::settings::{Command, Settings};
 use crate::status::{Refusal, Status};
-use crate::words::read_words;
 use dvd_loop::{LoopEnd, close};
 use dvd_ports::{Sink, Source, WriteFault, write_whole};
+use dvd_words::{Command, Settings, WordsFault, read};
 use std::alloc::Global;
 use std::thread::Threads;
 
@@ -29,11 +29,16 @@ pub fn run<S: Source, K: Sink, E: Sink, R: Threads + Sync>(
         (streams (S.seen src.old) (K.seen out.old) (E.seen report.old))
         (streams (S.seen src.new) (K.seen out.new) (E.seen report.new)) result }
 {
-    match read_words(words) {
-        None => refuse(Status::Usage, b"usage\n", report),
-        Some(settings) => match perform(alloc, &settings, src, out, report) {
-            Ok(end) => close(end, &close_line(settings.command, end), report).into(),
-            Err(Refusal::Setting(fault)) => refuse(Status::Setting, &refused_line(fault), report),
+    match read(alloc, words) {
+        Err(WordsFault::Usage) => refuse(Status::Usage, b"usage\n", report),
+        Err(WordsFault::NoMemory) => refuse(Status::NoMemory, b"no memory\n", report),
+        Ok(settings) => match perform(alloc, &settings, src, out, report) {
+            Ok(end) => close(end, close_line(settings.command, end).as_slice(), report).into(),
+            Err(Refusal::Setting(fault)) => refuse(
+                Status::Setting,
+                refused_line(fault).as_slice(),
+                report,
+            ),
             Err(Refusal::NoMemory) => refuse(Status::NoMemory, b"no memory\n", report),
         },
     }
@@ -57,6 +62,9 @@ fn perform<S: Source, K: Sink, E: Sink>(
         Command::Frames => Ok(run_frames(settings, src, out, report)),
         Command::Master => run_master(alloc, settings, src, out, report),
         Command::Recover => run_recover(alloc, settings, src, out, report),
+        Command::Info => run_info(alloc, settings, src, out, report),
+        Command::Survey => run_survey(alloc, settings, src, out, report),
+        Command::Exercise => run_exercise(alloc, settings, src, out, report),
     }
 }
 

@@ -1,7 +1,6 @@
 -- The command `master`: the recording frames of each ECC block of a disk.
-use Rattle.std.specs.Prelude.{◌≡◌, ℕ, ◌+◌, ◌-◌, ◌*◌, true, Option, Some, None, option_and_then, List, [], ◌∷◌, ◌++◌, codes, map, length, take, drop, replicate, slice_get, if◌then◌else◌}
+use Rattle.std.specs.Prelude.{◌≡◌, ℕ, ◌+◌, ◌-◌, ◌*◌, Option, Some, None, List, [], ◌∷◌, ◌++◌, codes, map, length, take, drop, replicate, slice_get}
 use Rattle.std.specs.List.{range_with_len}
-use Rattle.std.specs.Str.{bytes_eq}
 use Rattle.dvd_frame.specs.Id.{id_word}
 use Rattle.dvd_frame.specs.Frame.{data_frame}
 use Rattle.dvd_frame.specs.declared.id.Area.{Area}
@@ -22,15 +21,7 @@ use Rattle.dvd_loop.specs.Machine.Step.{Write}
 use Rattle.dvd_loop.specs.declared.ends.Turn.{Turn}
 use Rattle.dvd_loop.specs.declared.ends.Turn.TheVariants.{Good}
 use Rattle.dvd_top.specs.Meaning.{Meaning}
-use Rattle.dvd_top.specs.Settings.{IsLayoutOf, broken_rule, plain_settings}
-use Rattle.dvd_top.specs.Words.{decimal_of}
-use Rattle.dvd_top.specs.declared.settings.Command.TheVariants.{Master}
-use Rattle.dvd_top.specs.declared.settings.Settings.{Settings}
-
--- the value of `--sectors`
-abbrev pub master_reading : List (List ℕ) → Option Settings
-master_reading (a ∷ x ∷ []) = if bytes_eq a (codes "--sectors") then option_and_then (λ n. Some (plain_settings Master 0 n)) (decimal_of x) else None
-master_reading words = None
+use Rattle.dvd_words.specs.Settings.{IsLayoutOf, broken_rule}
 
 -- how many bytes of the image a block takes
 abbrev pub image_bytes : Layout → BlockPlan → ℕ
@@ -86,10 +77,7 @@ master_units layout zones cpr = plain_units (length (plan_of layout zones)) (byt
 
 abbrev pub master_meaning : Meaning
 master_meaning = record {
-  word = codes "master";
   unit_name = codes "block";
-  reading = master_reading;
   breaks = broken_rule;
-  has_buffers = true;
   OfUnits = λ settings P. (layout : Layout) × IsLayoutOf settings layout × P (master_units layout settings.zones settings.cpr);
 }

@@ -1,7 +1,6 @@
 -- The command `recover`: the image sectors that are read from a stream of captured blocks, or zeros and a line where a block is refused.
-use Rattle.std.specs.Prelude.{◌≡◌, ◌⊎◌, ℕ, ◌*◌, ◌&&◌, true, Bool, Option, Some, None, option_and_then, List, [], ◌∷◌, codes, length, replicate, take, slice_get, if◌then◌else◌}
+use Rattle.std.specs.Prelude.{◌≡◌, ◌⊎◌, ℕ, ◌*◌, Bool, Some, List, [], ◌∷◌, codes, length, replicate, take, slice_get}
 use Rattle.std.specs.List.{flat_map}
-use Rattle.std.specs.Str.{bytes_eq}
 use Rattle.dvd_capture.specs.Captured.{block_size, captured_rows, captured_marks}
 use Rattle.dvd_capture.specs.declared.form.Form.{Form}
 use Rattle.dvd_layout.specs.Place.{image_sectors}
@@ -19,22 +18,7 @@ use Rattle.dvd_read.specs.Reading.{IsReadAs, block_cause}
 use Rattle.dvd_read.specs.declared.cause.Cause.{Cause}
 use Rattle.dvd_report.specs.Lines.{damage_line}
 use Rattle.dvd_top.specs.Meaning.{Meaning}
-use Rattle.dvd_top.specs.Settings.{IsLayoutOf, broken_rule, plain_settings}
-use Rattle.dvd_top.specs.Words.{decimal_of, form_of}
-use Rattle.dvd_top.specs.declared.settings.Command.TheVariants.{Recover}
-use Rattle.dvd_top.specs.declared.settings.Settings.{Settings}
-
--- the values of `--sectors` and `--form`
-abbrev pub recover_values : List ℕ → List ℕ → Option Settings
-recover_values sectors form = option_and_then (λ n. option_and_then (λ f. Some (record (plain_settings Recover 0 n) { form = f })) (form_of form)) (decimal_of sectors)
-
--- both options, in either order, or the first alone
-abbrev pub recover_reading : List (List ℕ) → Option Settings
-recover_reading (a ∷ x ∷ []) = if bytes_eq a (codes "--sectors") then recover_values x (codes "plain") else None
-recover_reading (a ∷ x ∷ b ∷ y ∷ []) =
-    if bytes_eq a (codes "--sectors") && bytes_eq b (codes "--form") then recover_values x y
-    else (if bytes_eq a (codes "--form") && bytes_eq b (codes "--sectors") then recover_values y x else None)
-recover_reading words = None
+use Rattle.dvd_words.specs.Settings.{IsLayoutOf, broken_rule}
 
 -- The image sectors of the block that two passes determine are written, and its frames are right; padding sectors aren't.
 pub record IsGiven (layout : Layout) (entry : BlockPlan) (rows : List (List ℕ)) (marks : List (List Bool)) (steps : List Step) (turn : Turn) : Type 0 where
@@ -68,10 +52,7 @@ recover_units layout zones form = plain_units (length (plan_of layout zones)) (�
 
 abbrev pub recover_meaning : Meaning
 recover_meaning = record {
-  word = codes "recover";
   unit_name = codes "block";
-  reading = recover_reading;
   breaks = broken_rule;
-  has_buffers = true;
   OfUnits = λ settings P. (layout : Layout) × IsLayoutOf settings layout × P (recover_units layout settings.zones settings.form);
 }

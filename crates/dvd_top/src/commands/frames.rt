@@ -6,10 +6,10 @@ ghost use Rattle.dvd_loop.specs.Streams.{streams, Comes, HaveCauses, no_stream};
 ghost use Rattle.dvd_top.specs.Commands.Frames.{frames_units, sector_frame};
 ghost use Rattle.dvd_top.specs.Performing.{HasSectors};
 
-use crate::settings::Settings;
 use dvd_frame::{Area, Id, Rule, make_frame};
 use dvd_loop::{Behind, LoopEnd, Turn, Turns, follow, read_unit};
 use dvd_ports::{NullSink, Sink, Source, write_whole};
+use dvd_words::Settings;
 
 /// Its sectors.
 #[derive(Drop)]

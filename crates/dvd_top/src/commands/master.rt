@@ -14,9 +14,8 @@ ghost use Rattle.dvd_loop.specs.Streams.{streams, Comes, HaveCauses, no_stream};
 ghost use Rattle.dvd_loop.specs.Turns.{EndsShort, HaveCausesFor};
 ghost use Rattle.dvd_top.specs.Commands.Master.{cpr_in, frame_of, frames_of, image_bytes, main_for, master_units};
 ghost use Rattle.dvd_top.specs.Performing.{IsPerformed};
-ghost use Rattle.dvd_top.specs.Settings.{IsLayoutOf};
+ghost use Rattle.dvd_words.specs.Settings.{IsLayoutOf};
 
-use crate::settings::{Command, Settings};
 use crate::status::Refusal;
 use dvd_block::{Block, Piece};
 use dvd_control::main_of;
@@ -24,6 +23,7 @@ use dvd_frame::{Area, make_frame};
 use dvd_layout::{BlockPlan, Content, Layout, Zones, id_of, rule_of};
 use dvd_loop::{Behind, LoopEnd, Turn, Turns, follow, read_unit};
 use dvd_ports::{NullSink, Sink, Source};
+use dvd_words::{Command, Settings};
 use std::alloc::Global;
 
 /// Its blocks, in the order of the plan, and the buffers of one block.
@@ -184,7 +184,13 @@ fn read_image<S: Source>(src: &mut S, k: u32, piece: &mut Piece, size: usize) ->
 }
 
 // Puts the sixteen frames of a block into it, and adds the parity.
-fn fill_block(layout: &Layout, entry: &BlockPlan, cpr: &[u8; 6], sectors: &[u8], block: &mut Block)
+pub(crate) fn fill_block(
+    layout: &Layout,
+    entry: &BlockPlan,
+    cpr: &[u8; 6],
+    sectors: &[u8],
+    block: &mut Block,
+)
     requires size { length sectors.now ≡ 32768 }
     requires entry { IsEntry layout.now entry.now }
     requires numbers { HasNumbers entry.now }

@@ -1,10 +1,9 @@
 //! The command `recover`: image sectors from a stream of captured blocks.
-ghost use Rattle.std.specs.Prelude.{◌≡◌, ◌≤◌, ℕ, List, length, IfErr, IsErr, OnErr, OnOk};
+ghost use Rattle.std.specs.Prelude.{◌≡◌, ◌≤◌, ℕ, List, length, IsErr, OnErr, OnOk};
 ghost use Rattle.std.specs.Io.KnownBytes.{Appends};
 ghost use Rattle.dvd_ports.specs.Causes.{HasCause};
 ghost use Rattle.dvd_ports.specs.Seen.{Seen};
 ghost use Rattle.dvd_ports.specs.Whole.{AppendsPrefix};
-ghost use Rattle.dvd_capture.specs.Captured.{block_size, Captures};
 ghost use Rattle.dvd_capture.specs.Rule.{HasBlock};
 ghost use Rattle.dvd_capture.specs.Works.{rows_of, marks_of_work, sectors_of, stage_of};
 ghost use Rattle.dvd_capture.specs.declared.form.Form.{Form as CaptureForm};
@@ -15,19 +14,20 @@ ghost use Rattle.dvd_layout.specs.declared.layout.Zones.{Zones as WhichZones};
 ghost use Rattle.dvd_loop.specs.Laws.{IsDamageEnd};
 ghost use Rattle.dvd_loop.specs.Machine.{IsOutcome};
 ghost use Rattle.dvd_loop.specs.Streams.{streams, Comes, HaveCauses};
-ghost use Rattle.dvd_loop.specs.Turns.{AreDone, EndsShort, HaveCausesFor};
+ghost use Rattle.dvd_loop.specs.Turns.{AreDone, HaveCausesFor};
 ghost use Rattle.dvd_top.specs.Commands.Recover.{IsDone, recover_units};
 ghost use Rattle.dvd_top.specs.Performing.{IsPerformed, IsImageDone, sectors_out};
-ghost use Rattle.dvd_top.specs.Settings.{IsLayoutOf};
+ghost use Rattle.dvd_words.specs.Settings.{IsLayoutOf};
 
-use crate::settings::{Command, Settings};
+use crate::commands::captured::fetch_block;
 use crate::status::Refusal;
-use dvd_capture::{FetchAnswer, Form, Work, fetch};
+use dvd_capture::{Form, Work};
 use dvd_layout::{BlockPlan, Content, Layout, Zones};
 use dvd_loop::{Behind, LoopEnd, Turn, Turns, follow};
 use dvd_ports::{Sink, Source, WriteFault, write_whole};
 use dvd_read::read_block;
 use dvd_report::write_cause;
+use dvd_words::{Command, Settings};
 use std::alloc::Global;
 
 /// Its blocks, in the order of the plan, and the memory of one block.
@@ -123,22 +123,6 @@ pub(crate) fn run_recover<S: Source, K: Sink, E: Sink>(
     let layout = settings.layout()?;
     let mut work = Work::new(alloc)?;
     Ok(recover_loop(settings, &layout, &mut work, src, out, report))
-}
-
-// Reads captured block `k`, or answers how the loop ends within it.
-fn fetch_block<S: Source>(src: &mut S, k: u32, form: Form, work: &mut Work) -> Result<(), LoopEnd>
-    ensures full { OnOk result (Captures form (S.seen src.old).bytes (S.seen src.new).bytes (rows_of work.new) (marks_of_work work.new)) }
-    ensures stage { OnOk result (HasBlock (stage_of work.new)) }
-    ensures short { IfErr result (EndsShort k (block_size form) (S.seen src.old) (S.seen src.new)) }
-    ensures causes { (output report : Seen) → HaveCausesFor result
-        (streams (S.seen src.old) output report) (streams (S.seen src.new) output report) }
-{
-    match fetch(src, form, work) {
-        FetchAnswer::Full => Ok(()),
-        FetchAnswer::End => Err(LoopEnd::Short { unit: k, bytes: 0 }),
-        FetchAnswer::Short { bytes } => Err(LoopEnd::Short { unit: k, bytes }),
-        FetchAnswer::ReadFault => Err(LoopEnd::ReadFault),
-    }
 }
 
 // Decodes a block of image sectors and writes them; or tells its cause and writes zeros. Any other block is passed over.

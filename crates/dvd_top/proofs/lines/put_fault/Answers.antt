@@ -3,4 +3,4 @@ use Rattle.dvd_top.proofs.lines.put_fault.Goals as goal
 
 pub returns-in-EmptyLayer-clause-items : goal.returns-in-EmptyLayer-clause-items
 returns-in-EmptyLayer-clause-items c =
-    rw c.in-EmptyLayer.is (c.put_byte.ensures.items ∙ ap (λ l. l ++ decimal c.in-EmptyLayer.layer) c.put.ensures.items ∙ append_assoc c.args.line.now.items (codes "empty layer ") (decimal c.in-EmptyLayer.layer))
+    rw c.in-EmptyLayer.is (c.put_byte.ensures.bytes ∙ ap (λ l. l ++ decimal c.in-EmptyLayer.layer) c.put.ensures.bytes ∙ append_assoc c.args.line.now (codes "empty layer ") (decimal c.in-EmptyLayer.layer))

@@ -1,8 +1,9 @@
 use Rattle.std.proofs.Common.{◌≡◌, inl, None, Some, map, string_bytes, ap, sym, subst, ◌∙◌}
 use Rattle.dvd_loop.specs.Streams.{streams}
-use Rattle.dvd_top.specs.Headline.{HasRun, HaveRisen, breaks, reading}
+use Rattle.dvd_words.specs.Reading.{reading}
+use Rattle.dvd_words.specs.declared.settings.Settings.{Settings}
+use Rattle.dvd_top.specs.Headline.{HasRun, HaveRisen, breaks}
 use Rattle.dvd_top.specs.Lines.{closing_line}
-use Rattle.dvd_top.specs.declared.settings.Settings.{Settings}
 use Rattle.dvd_top.proofs.RunEnds.{bound_kept, complete_run, ends_there_run, risen}
 use Rattle.dvd_top.proofs.RunLemmas.{has_run, same_settings}
 use Rattle.dvd_top.proofs.top.run.Given as given
@@ -16,24 +17,24 @@ begun g c settings reads =
     let old = streams (g.S.Source.seen c.args.src.now) (g.K.Sink.seen c.args.out.now) (g.E.Sink.seen c.args.report.now) in
     let source = g.S.Source.seen c.perform.new.src in
     let output = g.K.Sink.seen c.perform.new.out in
-    let read = c.in-Some.settings in
-    let line : closing_line read.command c.in-Ok.end ≡ c.deref.result.now = cc (c.deref.ensures.0, c.close_line.ensures) in
+    let read = c.in-Ok.settings in
+    let line : closing_line read.command c.in-Ok-perform.end ≡ c.as_slice.result.now = sym (c.as_slice.ensures.bytes ∙ c.close_line.ensures) in
     subst (λ s. HasRun s old (streams source output (g.E.Sink.seen c.close.new.report)) c.into.result)
-    (same_settings _ _ _ (sym c.read_words.ensures.value ∙ c.in-Some.is) reads)
-    (has_run read old source output (g.E.Sink.seen c.perform.new.report) (g.E.Sink.seen c.close.new.report) c.in-Ok.end c.close.result c.in-Ok.ensures.performed
+    (same_settings _ _ _ c.in-Ok.ensures.read reads)
+    (has_run read old source output (g.E.Sink.seen c.perform.new.report) (g.E.Sink.seen c.close.new.report) c.in-Ok-perform.end c.close.result c.in-Ok-perform.ensures.performed
     (c.close.ensures.closes (closing_line read.command) source output line)
     (λ is. ap (λ r. g.E.Sink.seen r) (c.close.ensures.none is)) c.close.ensures.cause c.close.ensures.same c.into.result c.into.ensures)
 
-pub returns-in-Ok : goal.returns-in-Ok
-returns-in-Ok g c =
+pub returns-in-Ok-perform : goal.returns-in-Ok-perform
+returns-in-Ok-perform g c =
     let old = streams (g.S.Source.seen c.args.src.now) (g.K.Sink.seen c.args.out.now) (g.E.Sink.seen c.args.report.now) in
     let new = streams (g.S.Source.seen c.perform.new.src) (g.K.Sink.seen c.perform.new.out) (g.E.Sink.seen c.close.new.report) in
-    let read : reading (map string_bytes c.args.words.now) ≡ Some c.in-Some.settings = sym c.read_words.ensures.value ∙ c.in-Some.is in
-    let run = begun g c c.in-Some.settings read in
+    let read : reading (map string_bytes c.args.words.now) ≡ Some c.in-Ok.settings = c.in-Ok.ensures.read in
+    let run = begun g c c.in-Ok.settings read in
     let counts : HaveRisen c.into.result old new = subst (λ s. HaveRisen s old new) (sym run.is_status) (risen run.within run.end old new run.same_end run.causes) in record {
-      usage = λ none. absurd (cc (none, read));
+      usage = λ none. absurd (let no : None ≡ Some c.in-Ok.settings = sym none ∙ read in cc);
       setting = λ settings fault reads broken.
-          absurd (let no : breaks settings ≡ None = subst (λ s. breaks s ≡ None) (same_settings _ _ _ read reads) c.in-Ok.ensures.performed.lawful in cc (no, broken));
+          absurd (let no : breaks settings ≡ None = subst (λ s. breaks s ≡ None) (same_settings _ _ _ read reads) c.in-Ok-perform.ensures.performed.lawful in let two : None ≡ Some fault = sym no ∙ broken in cc);
       runs = λ settings reads lawful. inl (begun g c settings reads);
       faults = counts;
       complete = λ settings reads lawful memory source output report.

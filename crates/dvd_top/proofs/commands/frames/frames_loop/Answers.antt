@@ -1,8 +1,10 @@
+use Rattle.std.proofs.Common.{refl}
 use Rattle.dvd_loop.proofs.LoopEnds.{never_told, plain_end}
+use Rattle.dvd_top.specs.Commands.Frames.{frames_units}
 use Rattle.dvd_top.proofs.commands.frames.frames_loop.Goals as goal
 
 pub returns-clause-ends : goal.returns-clause-ends
 returns-clause-ends g c =
     let f = c.run_frames.ensures.follows in
-    plain_end _ _ _ f.bytes f.outcome f.holds (λ k before own steps does. let no = does.1 in cc) c.run_frames.result f.ends
+    plain_end (frames_units c.args.settings.now.first c.args.settings.now.sectors) (λ k. 2048) (λ k own. refl) refl f.bytes f.outcome f.holds (λ k before own steps does. let no = does.1 in cc) c.run_frames.result f.ends
     (never_told c.run_frames.result c.run_frames.ensures.causes.report)

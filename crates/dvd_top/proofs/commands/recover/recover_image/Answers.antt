@@ -15,7 +15,7 @@ returns-in_err-write_sectors-in-Ok-clause-done g c = λ source.
     let output = g.K.Sink.seen c.args.out.now in
     let new_output = g.K.Sink.seen c.write_sectors.new.out in
     let sectors = sectors_of c.read_block.new.work in
-    write_begun _ _ (given c.args.layout.now c.args.k c.args.entry.now (rows_of c.args.work.now) (marks_of_work c.args.work.now) sectors c.in-Ok.ensures.read)
+    write_begun _ _ _ (given c.args.layout.now c.args.k c.args.entry.now (rows_of c.args.work.now) (marks_of_work c.args.work.now) sectors c.in-Ok.ensures.read)
     source output new_output (g.E.Sink.seen c.args.report.now) c.from_residual.result (err_is c.from_residual.result WriteFault c.from_residual.ensures.1)
     (subst (λ n. AppendsPrefix output.bytes new_output.bytes (sectors_out n sectors)) c.image_sectors-count.ensures.value c.in_err-write_sectors-in-Ok.ensures.begun)
 
@@ -24,7 +24,7 @@ returns-in_ok-write_sectors-in-Ok-clause-done g c = λ source.
     let output = g.K.Sink.seen c.args.out.now in
     let new_output = g.K.Sink.seen c.write_sectors.new.out in
     let sectors = sectors_of c.read_block.new.work in
-    write_done _ _ (given c.args.layout.now c.args.k c.args.entry.now (rows_of c.args.work.now) (marks_of_work c.args.work.now) sectors c.in-Ok.ensures.read)
+    write_done _ _ _ (given c.args.layout.now c.args.k c.args.entry.now (rows_of c.args.work.now) (marks_of_work c.args.work.now) sectors c.in-Ok.ensures.read)
     source output new_output (g.E.Sink.seen c.args.report.now)
     (subst (λ n. Appends output.bytes new_output.bytes (sectors_out n sectors)) c.image_sectors-count.ensures.value c.in_ok-write_sectors-in-Ok.ensures.written)
 

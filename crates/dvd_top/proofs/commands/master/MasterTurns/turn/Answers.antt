@@ -9,7 +9,7 @@ use Rattle.dvd_loop.specs.Streams.{streams}
 use Rattle.dvd_loop.specs.Turns.{EndsShort}
 use Rattle.dvd_loop.specs.declared.ends.LoopEnd.TheVariants.{WriteFault}
 use Rattle.dvd_loop.specs.declared.ends.Turn.TheVariants.{Good}
-use Rattle.dvd_loop.proofs.TurnLemmas.{causes_written, err_is, plain_done, plain_short, write_begun, write_done}
+use Rattle.dvd_loop.proofs.TurnLemmas.{causes_written, err_is, sized_done, sized_short, write_begun, write_done}
 use Rattle.dvd_top.specs.Commands.Master.{IsMastered, frames_of}
 use Rattle.dvd_top.proofs.MasterBlocks.{mastered, size_is}
 use Rattle.dvd_top.proofs.PlanEntries.{has_numbers}
@@ -22,7 +22,7 @@ returns-in_err-read_image-clause-turn g c = λ before number ready.
     let source = g.S.Source.seen c.args.src.now in
     let new_source = g.S.Source.seen c.read_image.new.src in
     let end = c.in_err-read_image.field-0.0 in
-    plain_short _ _ _ c.args.k before number _ source new_source (g.K.Sink.seen c.args.out.now) (g.E.Sink.seen c.args._report.now)
+    sized_short _ _ (λ k own. refl) c.args.k before number _ source new_source (g.K.Sink.seen c.args.out.now) (g.E.Sink.seen c.args._report.now)
     c.from_residual.result end (err_is c.from_residual.result end c.from_residual.ensures.1)
     (subst (λ n. EndsShort c.args.k n source new_source end) (c.image_size-size.ensures.value ∙ sym (size_is m.layout m.zones c.args.k c.plan-entry.result stands)) c.in_err-read_image.ensures.short)
 
@@ -49,10 +49,10 @@ returns-in_err-write_recording-clause-turn g c = λ before number ready.
     let read = g.S.Source.seen c.read_image.new.src in
     let report = g.E.Sink.seen c.args._report.now in
     let most : size ≤ length piece = omega (arith, c.in_ok-read_image.ensures.length, c.image_size-size.ensures.most) in
-    plain_done _ _ _ c.args.k before number _ (g.S.Source.seen c.args.src.now) read output report (take size piece)
+    sized_done _ _ (λ k own. refl) c.args.k before number _ (g.S.Source.seen c.args.src.now) read output report (take size piece)
     (length-take-le size piece most ∙ c.image_size-size.ensures.value ∙ sym (size_is m.layout m.zones c.args.k entry stands))
     c.in_ok-read_image.ensures.whole new_output report answer
-    (write_begun _ (recording block) is read output new_output report answer (err_is answer WriteFault c.from_residual-in_err-write_recording.ensures.1) c.in_err-write_recording.ensures.begun) tt
+    (write_begun _ (recording block) _ is read output new_output report answer (err_is answer WriteFault c.from_residual-in_err-write_recording.ensures.1) c.in_err-write_recording.ensures.begun) tt
 
 pub returns-in_err-write_recording-clause-causes : goal.returns-in_err-write_recording-clause-causes
 returns-in_err-write_recording-clause-causes g c =
@@ -78,10 +78,10 @@ returns-clause-turn g c = λ before number ready.
     let read = g.S.Source.seen c.read_image.new.src in
     let report = g.E.Sink.seen c.args._report.now in
     let most : size ≤ length piece = omega (arith, c.in_ok-read_image.ensures.length, c.image_size-size.ensures.most) in
-    plain_done _ _ _ c.args.k before number _ (g.S.Source.seen c.args.src.now) read output report (take size piece)
+    sized_done _ _ (λ k own. refl) c.args.k before number _ (g.S.Source.seen c.args.src.now) read output report (take size piece)
     (length-take-le size piece most ∙ c.image_size-size.ensures.value ∙ sym (size_is m.layout m.zones c.args.k entry stands))
     c.in_ok-read_image.ensures.whole new_output report (Ok Good)
-    (write_done _ (recording block) is read output new_output report c.in_ok-write_recording.ensures.written) tt
+    (write_done _ (recording block) _ is read output new_output report c.in_ok-write_recording.ensures.written) tt
 
 pub returns-clause-causes : goal.returns-clause-causes
 returns-clause-causes g c = record {

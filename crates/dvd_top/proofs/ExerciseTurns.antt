@@ -1,0 +1,114 @@
+-- A turn of `exercise`, and how its loop ends.
+use Rattle.std.proofs.Common.{◌≡◌, ◌≢◌, ◌∙◌, ◌⊎◌, inl, inr, ℕ, ◌+◌, ◌^◌, ◌<◌, ◌≤◌, List, replicate, slice_get, Some, refl, sym, ap, subst, arith}
+use Rattle.dvd_block.specs.Product.{IsBlockOf}
+use Rattle.dvd_capture.specs.Parts.{marks_rows, received_rows}
+use Rattle.dvd_capture.specs.Works.{marks_of_work, rows_of, sectors_of, stage_of}
+use Rattle.dvd_capture.specs.declared.stage.Stage.TheVariants.{Fixed}
+use Rattle.dvd_capture.specs.declared.work.Work.{Work}
+use Rattle.dvd_exercise.specs.Damage.{IsHurt, hurt_state}
+use Rattle.dvd_exercise.specs.Generator.{bytes_from, state_after}
+use Rattle.dvd_layout.specs.Plan.{plan_of}
+use Rattle.dvd_layout.specs.declared.entry.BlockPlan.{BlockPlan}
+use Rattle.dvd_layout.specs.declared.layout.Layout.{Layout}
+use Rattle.dvd_layout.specs.declared.layout.Shape.TheVariants.{Single}
+use Rattle.dvd_layout.specs.declared.layout.Zones.TheVariants.{DataOnly}
+use Rattle.dvd_loop.specs.Machine.{IsOutcome, Outcome}
+use Rattle.dvd_loop.specs.Machine.Part.{Cut, Whole}
+use Rattle.dvd_loop.specs.Streams.{Comes, Counts as FaultCounts, is_read_fault, no_stream, streams}
+use Rattle.dvd_loop.specs.declared.ends.Behind.TheVariants as behind
+use Rattle.dvd_loop.specs.declared.ends.LoopEnd.{LoopEnd}
+use Rattle.dvd_loop.specs.declared.ends.LoopEnd.TheVariants.{BadMarks, Damaged, Done, Long, NoControl, ReadFault, ReportFault, Short, WriteFault}
+use Rattle.dvd_loop.proofs.PlainEnds.{never_bad_marks, never_damaged, never_long, never_no_control, never_short}
+use Rattle.dvd_loop.proofs.Sizes.{sized_enough, sized_never_broken}
+use Rattle.dvd_ports.specs.Seen.{Seen}
+use Rattle.dvd_read.specs.Reading.{IsReadAs}
+use Rattle.dvd_top.specs.Commands.Exercise.{IsHurtBlock, IsLeft, drawn_sectors, exercise_units, no_marks, state_at}
+use Rattle.dvd_top.specs.Commands.Master.{frames_of}
+use Rattle.dvd_top.specs.Exercising.{CountsOne, IsBehind}
+use Rattle.dvd_top.specs.declared.commands.exercise.Counts.{Counts}
+use Rattle.dvd_top.proofs.ExerciseBlocks.{IsFound, data_entry, drawn_entry, drawn_mastered, is_found}
+use Rattle.dvd_top.proofs.ExerciseTrials.{one_more}
+
+-- Entry k of a disk with one layer, of which a block was made and hurt.
+module _ (blocks k x : ℕ) (layout : Layout) (single : layout.shape ≡ Single) (within : k < blocks) (few : blocks ≤ 4096)
+    (entry : BlockPlan) (stands : slice_get (plan_of layout DataOnly) k ≡ Some entry) (piece : List ℕ) (block : List (List ℕ)) (work : Work)
+    (drawn : piece ≡ bytes_from x 32768) (made : IsBlockOf (frames_of layout entry (replicate 6 0) piece) block)
+    (hurt : IsHurt (state_after x 32768) block no_marks (rows_of work) (marks_of_work work)) where
+  pub entry_is : entry ≡ drawn_entry k
+  entry_is = data_entry layout single k entry stands
+
+  hurt_block : IsHurtBlock k x block (rows_of work) (marks_of_work work)
+  hurt_block = record {
+    made = subst (λ frames. IsBlockOf frames block) (drawn_mastered layout k entry (bytes_from x 32768) single stands)
+        (subst (λ l. IsBlockOf (frames_of layout entry (replicate 6 0) l) block) drawn made);
+    hurt = hurt;
+  }
+
+  pub found_block : IsFound k (bytes_from x 32768) block (rows_of work) (marks_of_work work)
+  found_block = is_found k x block (rows_of work) (marks_of_work work) (omega (arith, within, few)) hurt_block
+
+  -- It is read, and counted.
+  module _ (seed : ℕ) (image : List ℕ) (image_is : image ≡ piece) (old new : Counts) (old_work new_work : Work) (new_state : ℕ)
+      (before : IsBehind seed k x old old_work) (state_is : new_state ≡ hurt_state (state_after x 32768))
+      (read : IsReadAs (rows_of work) (marks_of_work work) entry (sectors_of new_work))
+      (counted : sectors_of new_work ≡ drawn_sectors image → CountsOne (rows_of work) (marks_of_work work) old new)
+      (fixed_most : new.fixed ≤ old.fixed + 2 ^ 32) (failed_most : new.failed ≤ old.failed + 2 ^ 16)
+      (stage : stage_of new_work ≡ Fixed) (received : new_work.received ≡ work.received) (marks : new_work.marks ≡ work.marks) where
+    sectors_are : sectors_of new_work ≡ drawn_sectors (bytes_from x 32768)
+    sectors_are = found_block.sectors (sectors_of new_work) (subst (λ e. IsReadAs (rows_of work) (marks_of_work work) e (sectors_of new_work)) entry_is read)
+
+    block_left : IsLeft seed k new_work
+    block_left = record {
+      stage = stage;
+      block = block;
+      hurt = subst (λ m. IsHurtBlock k (state_at seed k) block (rows_of new_work) m) (ap (λ m. marks_rows m) (sym marks))
+          (subst (λ r. IsHurtBlock k (state_at seed k) block r (marks_of_work work)) (ap (λ r. received_rows r) (sym received))
+          (subst (λ y. IsHurtBlock k y block (rows_of work) (marks_of_work work)) before.state_is hurt_block));
+      sectors = sectors_are ∙ ap (λ y. drawn_sectors (bytes_from y 32768)) before.state_is;
+    }
+
+    pub turn_behind : IsBehind seed (k + 1) new_state new new_work
+    turn_behind =
+        one_more seed k x new_state old new old_work new_work before
+        (record { block = block; rows = rows_of work; marks = marks_of_work work })
+        (subst (λ y. IsHurtBlock k y block (rows_of work) (marks_of_work work)) before.state_is hurt_block)
+        state_is found_block.found
+        (counted (sectors_are ∙ ap drawn_sectors (sym (image_is ∙ drawn))))
+        fixed_most failed_most block_left
+
+-- no source is read
+pub no_source : (P : List ℕ → Outcome → Type 0) (source new_source output new_output report new_report : Seen) (end : LoopEnd)
+    → Comes P (streams source output report) (streams new_source new_output new_report) end
+    → Comes P (streams no_stream output report) (streams no_stream new_output new_report) end
+no_source P source new_source output new_output report new_report end comes = record {
+  bytes = comes.bytes;
+  told = tt;
+  outcome = comes.outcome;
+  holds = comes.holds;
+  ends = comes.ends;
+  moved = record { reads = tt; writes = comes.moved.writes; tells = comes.moved.tells };
+}
+
+-- so no read fails
+pub never_read : (end : LoopEnd) → FaultCounts (is_read_fault end) 0 0 → end ≢ ReadFault
+never_read end counts is =
+    let rose : FaultCounts (is_read_fault ReadFault) 0 0 = subst (λ e. FaultCounts (is_read_fault e) 0 0) is counts in
+    omega arith
+
+-- the loop is done, or its line can't be written
+pub write_end : (seed blocks : ℕ) (bytes : List ℕ) (outcome : Outcome) → IsOutcome (exercise_units seed blocks) bytes outcome
+    → (end : LoopEnd) → outcome.end ≡ end → end ≢ ReadFault → end ≢ ReportFault → (end ≡ Done) ⊎ (end ≡ WriteFault)
+write_end seed blocks bytes outcome runs Done is read told = inl refl
+write_end seed blocks bytes outcome runs WriteFault is read told = inr refl
+write_end seed blocks bytes outcome runs ReadFault is read told = absurd (read refl)
+write_end seed blocks bytes outcome runs ReportFault is read told = absurd (told refl)
+write_end seed blocks bytes outcome runs (Short k held) is read told =
+    absurd (never_short (exercise_units seed blocks) bytes outcome runs (λ j own cut. let no : Whole 0 ≡ Cut = sym (sized_enough 0 own (omega arith)) ∙ cut in cc) k held is)
+write_end seed blocks bytes outcome runs Long is read told =
+    absurd (never_long (exercise_units seed blocks) bytes outcome runs (λ asks. let no : behind.Done ≡ behind.Asks = asks in cc) is)
+write_end seed blocks bytes outcome runs (Damaged bad) is read told =
+    absurd (never_damaged (exercise_units seed blocks) bytes outcome runs (λ k before own steps does. let no = does.1 in cc) bad is)
+write_end seed blocks bytes outcome runs NoControl is read told =
+    absurd (never_no_control (exercise_units seed blocks) bytes outcome runs (λ none. let no : behind.Done ≡ behind.NoControl = none in cc) is)
+write_end seed blocks bytes outcome runs (BadMarks k at) is read told =
+    absurd (never_bad_marks (exercise_units seed blocks) bytes outcome runs (λ j place own broken. sized_never_broken 0 place own broken) k at is)

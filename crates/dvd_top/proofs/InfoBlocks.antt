@@ -1,0 +1,88 @@
+-- One block that `info` asks.
+use Rattle.std.proofs.Common.{◌≡◌, ◌⊎◌, inl, inr, ℕ, Bool, List, [], ◌∷◌, slice_get, None, Some, Result, Ok, Err, IfErr, OnOk, refl, sym, subst}
+use Rattle.std.specs.Result.{result_ok}
+use Rattle.dvd_capture.specs.Captured.{captured_marks, captured_rows}
+use Rattle.dvd_capture.specs.declared.form.Form.{Form}
+use Rattle.dvd_control.specs.Format.{Fields}
+use Rattle.dvd_layout.specs.Plan.{lead_in_blocks}
+use Rattle.dvd_layout.specs.declared.entry.BlockPlan.{BlockPlan}
+use Rattle.dvd_layout.specs.declared.entry.Content.{Content}
+use Rattle.dvd_layout.specs.declared.entry.Content.TheVariants.{Control, Image, Reference, Zero}
+use Rattle.dvd_loop.specs.Laws.{IsNever}
+use Rattle.dvd_loop.specs.Machine.{Step}
+use Rattle.dvd_loop.specs.Machine.Step.{Write}
+use Rattle.dvd_loop.specs.Streams.{Streams}
+use Rattle.dvd_loop.specs.Turns.{AreDone}
+use Rattle.dvd_loop.specs.declared.ends.LoopEnd.{LoopEnd}
+use Rattle.dvd_loop.specs.declared.ends.Turn.{Turn}
+use Rattle.dvd_loop.specs.declared.ends.Turn.TheVariants.{Bad, Good, Last}
+use Rattle.dvd_loop.proofs.StreamLemmas.{stays}
+use Rattle.dvd_top.specs.Commands.Info.{IsAsked, IsSought, format_lines, info_units}
+use Rattle.dvd_top.specs.Performing.{AnswersNothing, IsControlDone, Tells}
+use Rattle.dvd_top.proofs.RecoverBlocks.{passed_over}
+
+-- what holds of a result that is none once its error is dropped, and of one that is some
+pub not_ok : {A B : Type 0} (r : Result A B) (P : B → Type 0) → result_ok r ≡ None → IfErr r P → (e : B) × P e
+not_ok (Ok value) P none holds = absurd (let no : Some value ≡ None = none in cc)
+not_ok (Err e) P none holds = (e, holds)
+
+pub on_ok : {A B : Type 0} (r : Result A B) (P : Type 0) (value : A) → result_ok r ≡ Some value → OnOk r P → P
+on_ok (Ok own) P value some holds = holds
+on_ok (Err e) P value some holds = absurd (let no : None ≡ Some value = some in cc)
+
+-- a format that is told is an answer
+pub answers : (entry : BlockPlan) (rows : List (List ℕ)) (marks : List (List Bool)) (format : Fields) → Tells entry rows marks format
+    → IsControlDone entry rows marks (Write (format_lines format) ∷ []) Last
+answers entry rows marks format tells =
+    subst (λ f. IsControlDone entry rows marks (Write (format_lines f) ∷ []) Last) (sym tells.fields)
+    (inl (record { sectors = tells.sectors; read = tells.read; lawful = tells.lawful; writes = refl; last = refl }))
+
+-- where none is told nothing is done
+pub silent : (entry : BlockPlan) (rows : List (List ℕ)) (marks : List (List Bool)) (old : Streams) → AnswersNothing entry rows marks
+    → AreDone (IsControlDone entry rows marks) old old (Ok Good)
+silent entry rows marks old none = record { steps = []; turn = Good; may = inr none; done = stays old; is = λ value is. cc }
+
+-- nothing is done for a block that holds no control data
+pub passed : (content : Content) → (content ≡ Zero) ⊎ ((content ≡ Reference) ⊎ ((sector : ℕ) × (content ≡ Image sector)))
+    → (entry : BlockPlan) (rows : List (List ℕ)) (marks : List (List Bool)) (old : Streams)
+    → AreDone (IsAsked content entry rows marks) old old (Ok Good)
+passed content is entry rows marks old = elim is [
+  | inl zero_is ↦ subst (λ c. AreDone (IsAsked c entry rows marks) old old (Ok Good)) (sym zero_is) (passed_over old)
+  | inr others ↦ elim others [
+    | inl reference_is ↦ subst (λ c. AreDone (IsAsked c entry rows marks) old old (Ok Good)) (sym reference_is) (passed_over old)
+    | inr (sector, image_is) ↦ subst (λ c. AreDone (IsAsked c entry rows marks) old old (Ok Good)) (sym image_is) (passed_over old)
+  ]
+]
+
+-- what is done for the rows and marks of captured bytes is done for the block of the lead-in
+pub sought : (initial : ℕ) (form : Form) (k : ℕ) (entry : BlockPlan) → slice_get (lead_in_blocks initial) k ≡ Some entry
+    → (own : List ℕ) (rows : List (List ℕ)) (marks : List (List Bool)) → rows ≡ captured_rows form own → marks ≡ captured_marks form own
+    → (old new : Streams) (answer : Result Turn LoopEnd) → AreDone (IsAsked entry.content entry rows marks) old new answer
+    → AreDone (IsSought initial form k own) old new answer
+sought initial form k entry stands own rows marks rows_are marks_are old new answer done = record {
+  steps = done.steps;
+  turn = done.turn;
+  may = record {
+    entry = entry;
+    stands = stands;
+    does = subst (λ m. IsAsked entry.content entry (captured_rows form own) m done.steps done.turn) marks_are
+        (subst (λ r. IsAsked entry.content entry r marks done.steps done.turn) rows_are done.may);
+  };
+  done = done.done;
+  is = done.is;
+}
+
+asked_never_bad : (content : Content) (entry : BlockPlan) (rows : List (List ℕ)) (marks : List (List Bool)) (steps : List Step)
+    → IsAsked content entry rows marks steps Bad → ⊥
+asked_never_bad Control entry rows marks steps does = elim does [
+  | inl answer ↦ (let no = answer.last in cc)
+  | inr none ↦ (let no = none.good in cc)
+]
+asked_never_bad Zero entry rows marks steps does = let no = does.1 in cc
+asked_never_bad Reference entry rows marks steps does = let no = does.1 in cc
+asked_never_bad (Image sector) entry rows marks steps does = let no = does.1 in cc
+
+-- no block is counted as damaged
+pub never_bad : (initial : ℕ) (form : Form) → IsNever (info_units initial form) Bad
+never_bad initial form k before own steps does =
+    asked_never_bad does.entry.content does.entry (captured_rows form own) (captured_marks form own) steps does.does

@@ -1,0 +1,12 @@
+use Rattle.std.proofs.Common.{inl, ap, sym, arith}
+use Rattle.dvd_loop.specs.declared.ends.LoopEnd.TheVariants.{Short}
+use Rattle.dvd_top.proofs.commands.captured.fetch_block.Goals as goal
+
+pub returns-in-Short-clause-short : goal.returns-in-Short-clause-short
+returns-in-Short-clause-short g c =
+    let ends = (c.fetch.ensures.short c.in-Short.bytes c.in-Short.is).1 in record {
+      own = ends.bytes;
+      reads = ends.taken;
+      fewer = omega (arith, ends.fewer, ends.size);
+      ends = inl (ap (λ n. Short c.args.k n) (sym ends.size), ends.at_end);
+    }

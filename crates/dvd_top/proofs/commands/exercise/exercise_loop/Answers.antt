@@ -1,0 +1,13 @@
+use Rattle.dvd_loop.proofs.LoopEnds.{never_told}
+use Rattle.dvd_top.proofs.ExerciseTurns.{never_read, no_source, write_end}
+use Rattle.dvd_top.proofs.commands.exercise.exercise_loop.Goals as goal
+
+pub returns-clause-follows : goal.returns-clause-follows
+returns-clause-follows g c = no_source _ _ _ _ _ _ _ _ c.follow_trials.ensures.follows
+
+pub returns-clause-ends : goal.returns-clause-ends
+returns-clause-ends g c =
+    let f = c.follow_trials.ensures.follows in
+    write_end c.args.settings.now.seed c.args.settings.now.blocks f.bytes f.outcome f.holds c.follow_trials.result f.ends
+    (never_read c.follow_trials.result c.follow_trials.ensures.causes.source)
+    (never_told c.follow_trials.result c.follow_trials.ensures.causes.report)

@@ -1,0 +1,5 @@
+use Rattle.dvd_top.proofs.InfoFound.{found}
+use Rattle.dvd_top.proofs.laws.info_finds_the_first_answer.Goals as goal
+
+pub returns : goal.returns
+returns c = found

@@ -1,0 +1,193 @@
+//! The command `survey`: a line for each captured block, and a line of totals.
+ghost use Rattle.std.specs.Prelude.{◌≡◌, ◌++◌, ◌<◌, ◌^◌, ℕ, List, [], ◌∷◌, length, IsErr};
+ghost use Rattle.std.specs.Result.{result_err};
+ghost use Rattle.dvd_capture.specs.Rule.{HasBlock};
+ghost use Rattle.dvd_capture.specs.Works.{rows_of, marks_of_work, stage_of};
+ghost use Rattle.dvd_capture.specs.declared.form.Form.{Form as CaptureForm};
+ghost use Rattle.dvd_layout.specs.Place.{HasNumbers};
+ghost use Rattle.dvd_layout.specs.Plan.{plan_of};
+ghost use Rattle.dvd_layout.specs.declared.layout.Layout.{Layout as DiskLayout};
+ghost use Rattle.dvd_layout.specs.declared.layout.Zones.{Zones as WhichZones};
+ghost use Rattle.dvd_loop.specs.Laws.{IsDamageEnd};
+ghost use Rattle.dvd_loop.specs.Machine.{IsOutcome};
+ghost use Rattle.dvd_loop.specs.Streams.{streams, Comes, HaveCauses, no_stream};
+ghost use Rattle.dvd_loop.specs.Turns.{AreDone, HaveCausesFor};
+ghost use Rattle.dvd_ports.specs.Seen.{Seen};
+ghost use Rattle.dvd_report.specs.Survey.{StandsFor, surveyed};
+ghost use Rattle.dvd_report.specs.declared.counts.Surveyed.{Surveyed};
+ghost use Rattle.dvd_top.specs.Commands.Survey.{found_in, survey_units, turn_by};
+ghost use Rattle.dvd_top.specs.Performing.{IsPerformed, IsLineDone};
+ghost use Rattle.dvd_words.specs.Settings.{IsLayoutOf};
+
+use crate::commands::captured::fetch_block;
+use crate::status::Refusal;
+use dvd_capture::{Form, Work};
+use dvd_layout::{BlockPlan, Layout, Zones};
+use dvd_loop::{Behind, LoopEnd, Turn, Turns, follow};
+use dvd_ports::{NullSink, Sink, Source};
+use dvd_read::{Cause, Fixed, read_block};
+use dvd_report::Survey;
+use dvd_words::{Command, Settings};
+use std::alloc::Global;
+
+/// Its blocks, in the order of the plan, what was found so far, and the memory of one block.
+#[derive(Drop)]
+struct Surveying<'a> {
+    layout: Layout,
+    zones: Zones,
+    form: Form,
+    survey: &'a mut Survey,
+    work: &'a mut Work,
+}
+
+impl<'a> Turns for Surveying<'a> {
+    ghost Key = { DiskLayout × WhichZones × CaptureForm };
+
+    ghost key = { λ s. (s.layout, s.zones, s.form) };
+
+    ghost units = { λ key. survey_units key.0 key.1 key.2 };
+
+    ghost ready = { λ s before. StandsFor s.survey.now (found_in s.layout s.zones s.form before) };
+
+    ghost left = { λ _ _. Unit {0} };
+
+    fn count(&self) -> u32 {
+        self.layout.blocks(self.zones) as u32
+    }
+
+    fn behind(&self) -> Behind {
+        Behind::Asks
+    }
+
+    fn open<K: Sink, E: Sink>(&self, _out: &mut K, _report: &mut E) -> Result<(), LoopEnd> {
+        Ok(())
+    }
+
+    fn turn<S: Source, K: Sink, E: Sink>(
+        &mut self,
+        k: u32,
+        src: &mut S,
+        out: &mut K,
+        _report: &mut E,
+    ) -> Result<Turn, LoopEnd> {
+        let entry = self.layout.plan(self.zones, u64::from(k));
+        fetch_block(src, k, self.form, self.work)?;
+        survey_block(&entry, self.survey, self.work, out)
+    }
+
+    fn close<K: Sink, E: Sink>(&self, out: &mut K, _report: &mut E) -> Result<(), LoopEnd> {
+        self.survey.write_totals(out)?;
+        Ok(())
+    }
+}
+
+/// Surveys every block of the plan of the layout and the zones that the settings choose. The survey has no block before.
+pub fn survey_loop<S: Source, K: Sink>(
+    settings: &Settings,
+    layout: &Layout,
+    survey: &mut Survey,
+    work: &mut Work,
+    src: &mut S,
+    out: &mut K,
+) -> LoopEnd
+    requires layout { IsLayoutOf settings.now layout.now }
+    requires empty { StandsFor survey.old [] }
+    ensures follows { Comes (IsOutcome (survey_units layout.now settings.now.zones settings.now.form))
+        (streams (S.seen src.old) (K.seen out.old) no_stream) (streams (S.seen src.new) (K.seen out.new) no_stream) result }
+    ensures causes { HaveCauses result result
+        (streams (S.seen src.old) (K.seen out.old) no_stream) (streams (S.seen src.new) (K.seen out.new) no_stream) }
+    ensures ends { IsDamageEnd (length (plan_of layout.now settings.now.zones)) result }
+{
+    survey_stream(
+        settings,
+        layout,
+        survey,
+        work,
+        src,
+        out,
+        &mut NullSink::new(),
+    )
+}
+
+// The same beside any report, which stays as it is.
+fn survey_stream<S: Source, K: Sink, E: Sink>(
+    settings: &Settings,
+    layout: &Layout,
+    survey: &mut Survey,
+    work: &mut Work,
+    src: &mut S,
+    out: &mut K,
+    report: &mut E,
+) -> LoopEnd
+    requires layout { IsLayoutOf settings.now layout.now }
+    requires empty { StandsFor survey.old [] }
+    ensures follows { Comes (IsOutcome (survey_units layout.now settings.now.zones settings.now.form))
+        (streams (S.seen src.old) (K.seen out.old) (E.seen report.old))
+        (streams (S.seen src.new) (K.seen out.new) (E.seen report.new)) result }
+    ensures causes { HaveCauses result result
+        (streams (S.seen src.old) (K.seen out.old) (E.seen report.old))
+        (streams (S.seen src.new) (K.seen out.new) (E.seen report.new)) }
+{
+    let mut surveying = Surveying {
+        layout: *layout,
+        zones: settings.zones,
+        form: settings.form,
+        survey,
+        work,
+    };
+    follow(&mut surveying, src, out, report)
+}
+
+/// The command with its buffers, or why it doesn't begin.
+pub(crate) fn run_survey<S: Source, K: Sink, E: Sink>(
+    alloc: Global,
+    settings: &Settings,
+    src: &mut S,
+    out: &mut K,
+    report: &mut E,
+) -> Result<LoopEnd, Refusal>
+    requires { settings.now.command ≡ Command.Survey }
+    ensures performed { IsPerformed settings.now
+        (streams (S.seen src.old) (K.seen out.old) (E.seen report.old))
+        (streams (S.seen src.new) (K.seen out.new) (E.seen report.new)) result }
+    ensures untouched { IsErr result → (src.new ≡ src.old) × (out.new ≡ out.old) × (report.new ≡ report.old) }
+{
+    let layout = settings.layout()?;
+    let mut survey = Survey::new(alloc)?;
+    let mut work = Work::new(alloc)?;
+    Ok(survey_stream(settings, &layout, &mut survey, &mut work, src, out, report))
+}
+
+// Reads a block, adds it to the survey, and writes its line.
+fn survey_block<K: Sink>(
+    entry: &BlockPlan,
+    survey: &mut Survey,
+    work: &mut Work,
+    out: &mut K,
+) -> Result<Turn, LoopEnd>
+    requires numbers { HasNumbers entry.now }
+    requires stage { HasBlock (stage_of work.old) }
+    requires room { survey.old.totals.blocks < 2 ^ 32 }
+    ensures survey { (blocks : List Surveyed) → StandsFor survey.old blocks
+        → StandsFor survey.new (blocks ++ surveyed (rows_of work.old) (marks_of_work work.old) entry.now ∷ []) }
+    ensures done { (source report : Seen) (blocks : List Surveyed) → StandsFor survey.old blocks
+        → AreDone (IsLineDone entry.now blocks (rows_of work.old) (marks_of_work work.old))
+        (streams source (K.seen out.old) report) (streams source (K.seen out.new) report) result }
+    ensures causes { (source report : Seen) → HaveCausesFor result
+        (streams source (K.seen out.old) report) (streams source (K.seen out.new) report) }
+{
+    let answer = read_block(work, entry);
+    survey.add(work, &answer);
+    survey.write_line(entry, out)?;
+    Ok(turn_of(&answer))
+}
+
+// A block with a cause is bad.
+fn turn_of(answer: &Result<Fixed, Cause>) -> Turn
+    ensures { result ≡ turn_by (result_err answer.now) }
+{
+    match answer {
+        Ok(_) => Turn::Good,
+        Err(_) => Turn::Bad,
+    }
+}

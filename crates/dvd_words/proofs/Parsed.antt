@@ -1,0 +1,40 @@
+-- What clap makes of the words of a command.
+use Rattle.std.proofs.Common.{◌≡◌, true, false, List, [], ◌∷◌, Some, None, refl, arith}
+use Rattle.clap.specs.Words.{IsAmong, Kinds, Row, Text, fault_of, is_simple, is_simple_and_free, matches_of}
+use Rattle.clap.specs.Walk.{is_empty}
+use Rattle.clap.specs.declared.error.kind.ErrorKind.{ErrorKind}
+use Rattle.dvd_words.specs.Apps.{app_for}
+use Rattle.dvd_words.specs.Reading.{rows_for}
+use Rattle.dvd_words.specs.declared.settings.Command.{Command}
+use Rattle.dvd_words.specs.declared.settings.Command.TheVariants.{Frames, Master, Recover, Info, Survey, Exercise}
+
+-- clap tells of each command exactly what it makes of words
+pub free : (command : Command) → is_simple_and_free (app_for command) ≡ true
+free Frames = refl
+free Master = refl
+free Recover = refl
+free Info = refl
+free Survey = refl
+free Exercise = refl
+
+pub simple : (command : Command) → is_simple (app_for command) ≡ true
+simple Frames = refl
+simple Master = refl
+simple Recover = refl
+simple Info = refl
+simple Survey = refl
+simple Exercise = refl
+
+-- words with no fault have these rows
+pub rows_taken : (command : Command) (words : List Text) (rows : List Row) → fault_of (app_for command) words ≡ [] → rows ≡ matches_of (app_for command) words
+    → rows_for command words ≡ Some rows
+rows_taken command words rows none are = rw (none, are) refl
+
+-- kinds among which there is one
+some_kind : (kind : ErrorKind) (kinds : Kinds) → IsAmong kind kinds → is_empty kinds ≡ false
+some_kind kind [] among = absurd among
+some_kind kind (k ∷ ks) among = grind arith
+
+-- words with a fault have none
+pub rows_refused : (command : Command) (words : List Text) (kind : ErrorKind) → IsAmong kind (fault_of (app_for command) words) → rows_for command words ≡ None
+rows_refused command words kind among = rw (some_kind kind (fault_of (app_for command) words) among) refl

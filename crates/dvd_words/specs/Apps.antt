@@ -1,0 +1,31 @@
+-- The clap command of each command of the program.
+use Rattle.std.specs.Prelude.{ℕ, Bool, true, false, List, [], ◌∷◌, ◌++◌, map, codes, Some}
+use Rattle.clap.specs.Words.{App, Rule, Text, new_rule}
+use Rattle.clap.specs.Simple.{new_shape}
+use Rattle.clap.specs.declared.builder.action.ArgAction.TheVariants.{Set}
+use Rattle.dvd_words.specs.declared.settings.Command.{Command}
+use Rattle.dvd_words.specs.declared.settings.Command.TheVariants.{Frames, Master, Recover, Info, Survey, Exercise}
+
+-- `--name` with one value, at most once
+abbrev pub option_rule : Bool → Text → Rule
+option_rule required name = record (new_rule name) { long = Some name; action = Some Set; required = required }
+
+-- a command with these options and nothing else, no flag for help either
+abbrev pub app_with : Text → List Rule → App
+app_with name rules = record { top = record (new_shape name) { rules = rules; disable_help_flag = true }; subs = [] }
+
+-- first the options that it must have, then those that it may have
+abbrev pub app_named : Text → List Text → List Text → App
+app_named name required optional = app_with name (map (option_rule true) required ++ map (option_rule false) optional)
+
+-- the lengths of a disk, which of its zones a stream has, and how many threads work
+abbrev pub layout_options : List Text
+layout_options = codes "sectors1" ∷ codes "shape" ∷ codes "zones" ∷ codes "initial" ∷ codes "tail" ∷ codes "workers" ∷ []
+
+abbrev pub app_for : Command → App
+app_for Frames = app_named (codes "frames") (codes "first" ∷ codes "sectors" ∷ []) []
+app_for Master = app_named (codes "master") (codes "sectors" ∷ []) (layout_options ++ codes "cpr" ∷ [])
+app_for Recover = app_named (codes "recover") (codes "sectors" ∷ []) (layout_options ++ codes "form" ∷ [])
+app_for Survey = app_named (codes "survey") (codes "sectors" ∷ []) (layout_options ++ codes "form" ∷ [])
+app_for Exercise = app_named (codes "exercise") (codes "seed" ∷ codes "blocks" ∷ []) (codes "workers" ∷ [])
+app_for Info = app_named (codes "info") [] (codes "initial" ∷ codes "form" ∷ [])

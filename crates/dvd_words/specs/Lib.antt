@@ -1,0 +1,4 @@
+pub mod Apps
+pub mod Reading
+pub mod Settings
+pub mod Words

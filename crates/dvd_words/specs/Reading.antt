@@ -1,0 +1,94 @@
+-- What the words of a command line ask for.
+use Rattle.std.specs.Prelude.{◌≡◌, ◌≤◌, ℕ, ◌+◌, ◌^◌, ◌&&◌, nat_le, Bool, true, if◌then◌else◌, List, [], ◌∷◌, codes, replicate, Option, Some, None, option_and_then}
+use Rattle.std.specs.Str.{bytes_eq}
+use Rattle.clap.specs.Words.{Row, Text, fault_of, first_of, matches_of}
+use Rattle.clap.specs.Walk.{is_empty}
+use Rattle.dvd_capture.specs.declared.form.Form.TheVariants.{Plain}
+use Rattle.dvd_layout.specs.declared.layout.Shape.TheVariants.{Single}
+use Rattle.dvd_layout.specs.declared.layout.Zones.TheVariants.{DataOnly}
+use Rattle.dvd_words.specs.Apps.{app_for}
+use Rattle.dvd_words.specs.Words.{blocks_of, bytes_of, form_of, number_of, sector_number_of, shape_of, workers_of, zones_of}
+use Rattle.dvd_words.specs.declared.settings.Command.{Command}
+use Rattle.dvd_words.specs.declared.settings.Command.TheVariants.{Frames, Master, Recover, Info, Survey, Exercise}
+use Rattle.dvd_words.specs.declared.settings.Settings.{Settings}
+
+infixl 10 ◌>>=◌
+abbrev pub ◌>>=◌ : {A B : Type 0} → Option A → (A → Option B) → Option B
+o >>= f = option_and_then f o
+
+abbrev pub command_of : Text → Option Command
+command_of word =
+    if bytes_eq word (codes "frames") then Some Frames
+    else (if bytes_eq word (codes "master") then Some Master
+    else (if bytes_eq word (codes "recover") then Some Recover
+    else (if bytes_eq word (codes "info") then Some Info
+    else (if bytes_eq word (codes "survey") then Some Survey else (if bytes_eq word (codes "exercise") then Some Exercise else None)))))
+
+-- the options and their values, where clap finds no fault in the words
+abbrev pub rows_for : Command → List Text → Option (List Row)
+rows_for command words = if is_empty (fault_of (app_for command) words) then Some (matches_of (app_for command) words) else None
+
+-- what the value of an option says, or the default where it isn't given
+abbrev pub value_or : {X : Type 0} → X → (Text → Option X) → Option Text → Option X
+value_or default value_of None = Some default
+value_or default value_of (Some text) = value_of text
+
+-- `frames` has at least one sector, and none beyond FFFFFF; `exercise` has at least one block
+abbrev pub is_within : Command → ℕ → ℕ → ℕ → Bool
+is_within Frames first sectors blocks = nat_le 1 sectors && nat_le (first + sectors) (2 ^ 24)
+is_within Master first sectors blocks = true
+is_within Recover first sectors blocks = true
+is_within Info first sectors blocks = true
+is_within Survey first sectors blocks = true
+is_within Exercise first sectors blocks = nat_le 1 blocks
+
+-- each option by its form, and the sectors and blocks in range
+unfoldable pub settings_of : Command → List Row → Option Settings
+settings_of command rows = do
+  first ← value_or 0 sector_number_of (first_of (codes "first") rows)
+  sectors ← value_or 0 number_of (first_of (codes "sectors") rows)
+  sectors1 ← value_or 0 number_of (first_of (codes "sectors1") rows)
+  shape ← value_or Single shape_of (first_of (codes "shape") rows)
+  zones ← value_or DataOnly zones_of (first_of (codes "zones") rows)
+  initial ← value_or 0 number_of (first_of (codes "initial") rows)
+  tail ← value_or 16 number_of (first_of (codes "tail") rows)
+  cpr ← value_or (replicate 6 0) (bytes_of 6) (first_of (codes "cpr") rows)
+  form ← value_or Plain form_of (first_of (codes "form") rows)
+  workers ← value_or 1 workers_of (first_of (codes "workers") rows)
+  seed ← value_or 0 number_of (first_of (codes "seed") rows)
+  blocks ← value_or 0 blocks_of (first_of (codes "blocks") rows)
+  if is_within command first sectors blocks then Some (record {
+    command = command;
+    first = first;
+    sectors = sectors;
+    sectors1 = sectors1;
+    shape = shape;
+    zones = zones;
+    initial = initial;
+    tail = tail;
+    cpr = cpr;
+    form = form;
+    workers = workers;
+    seed = seed;
+    blocks = blocks;
+  }) else None
+
+-- the first word names the command, and clap reads those behind it
+unfoldable pub reading : List Text → Option Settings
+reading [] = None
+reading (word ∷ words) = do
+  command ← command_of word
+  rows ← rows_for command (word ∷ words)
+  settings_of command rows
+
+abbrev pub Reads : List Text → Settings → Type 0
+Reads words settings = reading words ≡ Some settings
+
+-- what holds of all settings that words ask for
+pub record IsLawful (settings : Settings) : Type 0 where
+  pub some_worker : 1 ≤ settings.workers
+  pub few_workers : settings.workers ≤ 16
+  pub some_block : settings.command ≡ Exercise → 1 ≤ settings.blocks
+  pub few_blocks : settings.blocks ≤ 4096
+  pub some_sector : settings.command ≡ Frames → 1 ≤ settings.sectors
+  pub last_sector : settings.command ≡ Frames → settings.first + settings.sectors ≤ 2 ^ 24

@@ -1,0 +1,50 @@
+-- The values of options: what a text says, if it has the form.
+use Rattle.std.specs.Prelude.{ℕ, ◌^◌, ◌&&◌, nat_le, nat_lt, Bool, if◌then◌else◌, List, ◌∷◌, length, codes, Option, Some, None, option_map, option_and_then}
+use Rattle.std.specs.Char.{is_digit}
+use Rattle.std.specs.Int.{from_be_bytes, w32}
+use Rattle.std.specs.List.{list_all}
+use Rattle.std.specs.Result.{result_ok}
+use Rattle.std.specs.Str.{bytes_eq}
+use Rattle.std.specs.Str.Parse.{digits_value}
+use Rattle.hex.specs.Hex.{decode_sized}
+use Rattle.dvd_capture.specs.declared.form.Form.{Form}
+use Rattle.dvd_capture.specs.declared.form.Form.TheVariants.{Plain, Marked}
+use Rattle.dvd_layout.specs.declared.layout.Shape.{Shape}
+use Rattle.dvd_layout.specs.declared.layout.Shape.TheVariants.{Single, Parallel, Opposite}
+use Rattle.dvd_layout.specs.declared.layout.Zones.{Zones}
+use Rattle.dvd_layout.specs.declared.layout.Zones.TheVariants.{DataOnly, All}
+
+-- one to ten decimal digits, and no sign
+abbrev pub is_numeral : List ℕ → Bool
+is_numeral text = nat_le 1 (length text) && (nat_le (length text) 10 && list_all (λ c. is_digit c 10) text)
+
+-- a number below 2 ^ 32
+abbrev pub number_of : List ℕ → Option ℕ
+number_of text = if is_numeral text && nat_lt (digits_value 10 text) (2 ^ 32) then Some (digits_value 10 text) else None
+
+-- a number from 1 to 16
+abbrev pub workers_of : List ℕ → Option ℕ
+workers_of text = option_and_then (λ n. if nat_le 1 n && nat_le n 16 then Some n else None) (number_of text)
+
+-- a number from 1 to 4,096
+abbrev pub blocks_of : List ℕ → Option ℕ
+blocks_of text = option_and_then (λ n. if nat_le 1 n && nat_le n 4096 then Some n else None) (number_of text)
+
+-- so many bytes, of two hexadecimal digits each, of either case
+abbrev pub bytes_of : ℕ → List ℕ → Option (List ℕ)
+bytes_of n text = result_ok (decode_sized text n)
+
+-- a sector number: six hexadecimal digits
+abbrev pub sector_number_of : List ℕ → Option ℕ
+sector_number_of text = option_map (λ bytes. from_be_bytes w32 (0 ∷ bytes)) (bytes_of 3 text)
+
+abbrev pub shape_of : List ℕ → Option Shape
+shape_of text =
+    if bytes_eq text (codes "single") then Some Single
+    else (if bytes_eq text (codes "parallel") then Some Parallel else (if bytes_eq text (codes "opposite") then Some Opposite else None))
+
+abbrev pub zones_of : List ℕ → Option Zones
+zones_of text = if bytes_eq text (codes "data") then Some DataOnly else (if bytes_eq text (codes "all") then Some All else None)
+
+abbrev pub form_of : List ℕ → Option Form
+form_of text = if bytes_eq text (codes "plain") then Some Plain else (if bytes_eq text (codes "marked") then Some Marked else None)

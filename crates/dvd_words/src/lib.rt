@@ -1,0 +1,20 @@
+//! The words of the command line: each command by its own `clap` command, and each option by its form.
+//!
+//! - `fault`: why words give no settings.
+//! - `parser`: the `clap` command of each command.
+//! - `settings`: what the words ask for.
+//! - `values`: the values of options.
+//! - `words`: reads the words.
+#![tactic(auto)]
+
+mod fault;
+mod parser;
+mod settings;
+#[cfg(test)]
+mod tests;
+mod values;
+mod words;
+
+pub use fault::WordsFault;
+pub use settings::{Command, Settings};
+pub use words::read;

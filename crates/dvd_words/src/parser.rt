@@ -1,0 +1,88 @@
+//! The clap command of each command of the program.
+
+ghost use Rattle.std.specs.Prelude.{◌≡◌, [], ◌∷◌, codes, None, Some, IfOk, map, string_bytes};
+ghost use Rattle.clap.specs.Words.{app_of, found_of, rows_of, with_rule};
+ghost use Rattle.dvd_words.specs.Apps.{app_for, app_named, layout_options, option_rule};
+ghost use Rattle.dvd_words.specs.Reading.{rows_for};
+
+use crate::fault::WordsFault;
+use crate::settings::Command;
+use clap::error::ErrorKind;
+use clap::{Arg, ArgAction, ArgMatches};
+use std::alloc::{AllocError, Global};
+
+/// The options in the words of a command, with their values.
+pub fn parse<'a>(
+    alloc: Global,
+    command: Command,
+    words: &'a [String],
+) -> Result<ArgMatches<'a>, WordsFault>
+    ensures taken { IfOk result (λ matches. rows_for command (map string_bytes words.now) ≡ Some (rows_of (found_of matches))) }
+    ensures refused { result ≡ Err WordsFault.Usage → rows_for command (map string_bytes words.now) ≡ None }
+{
+    let parser = parser_for(alloc, command)?;
+    match parser.try_get_matches_from(words) {
+        Ok(matches) => Ok(matches),
+        Err(error) if error.kind() == ErrorKind::OutOfMemory => Err(WordsFault::NoMemory),
+        Err(_) => Err(WordsFault::Usage),
+    }
+}
+
+fn parser_for<'a>(alloc: Global, command: Command) -> Result<clap::Command<'a>, AllocError>
+    ensures { IfOk result (λ parser. app_of parser ≡ app_for command) }
+{
+    match command {
+        Command::Frames => {
+            let parser = with_option(alloc, bare_parser(alloc, "frames"), "first", true)?;
+            with_option(alloc, parser, "sectors", true)
+        }
+        Command::Master => with_option(alloc, layout_parser(alloc, "master")?, "cpr", false),
+        Command::Recover => with_option(alloc, layout_parser(alloc, "recover")?, "form", false),
+        Command::Survey => with_option(alloc, layout_parser(alloc, "survey")?, "form", false),
+        Command::Exercise => {
+            let parser = with_option(alloc, bare_parser(alloc, "exercise"), "seed", true)?;
+            let parser = with_option(alloc, parser, "blocks", true)?;
+            with_option(alloc, parser, "workers", false)
+        }
+        Command::Info => {
+            let parser = with_option(alloc, bare_parser(alloc, "info"), "initial", false)?;
+            with_option(alloc, parser, "form", false)
+        }
+    }
+}
+
+// A command with the options that tell of a layout, and of how many threads work.
+fn layout_parser<'a>(alloc: Global, name: &'a str) -> Result<clap::Command<'a>, AllocError>
+    ensures { IfOk result (λ parser. app_of parser ≡ app_named name.now (codes "sectors" ∷ []) layout_options) }
+{
+    let parser = with_option(alloc, bare_parser(alloc, name), "sectors", true)?;
+    let parser = with_option(alloc, parser, "sectors1", false)?;
+    let parser = with_option(alloc, parser, "shape", false)?;
+    let parser = with_option(alloc, parser, "zones", false)?;
+    let parser = with_option(alloc, parser, "initial", false)?;
+    let parser = with_option(alloc, parser, "tail", false)?;
+    with_option(alloc, parser, "workers", false)
+}
+
+// A command with no options, no flag for help either.
+fn bare_parser<'a>(alloc: Global, name: &'a str) -> clap::Command<'a>
+    ensures { app_of result ≡ app_named name.now [] [] }
+{
+    clap::Command::new(alloc, name).disable_help_flag(true)
+}
+
+// The command with one more option, which takes one value.
+fn with_option<'a>(
+    alloc: Global,
+    parser: clap::Command<'a>,
+    name: &'a str,
+    is_required: bool,
+) -> Result<clap::Command<'a>, AllocError>
+    ensures { IfOk result (λ r. app_of r ≡ with_rule (app_of parser.entry) (option_rule is_required name.now)) }
+{
+    let option = Arg::new(alloc, name)
+        .long(name)
+        .required(is_required)
+        .action(ArgAction::Set);
+    parser.arg(option)
+}

@@ -1,0 +1,72 @@
+//! What the words of a command line ask for.
+
+use dvd_capture::Form;
+use dvd_layout::{Layout, LayoutFault, Shape, Zones};
+
+/// The commands of the program.
+#[derive(Clone, Copy, Debug, PartialEq, Eq)]
+pub enum Command {
+    /// A scrambled data frame for each sector.
+    Frames,
+    /// The recording frames of each ECC block of a disk.
+    Master,
+    /// The image sectors that are read from a stream of captured blocks.
+    Recover,
+    /// The physical format that the lead-in of a disk tells.
+    Info,
+    /// How many rows of each captured block have errors.
+    Survey,
+    /// Blocks that are drawn from a number, damaged up to the bound, and read back.
+    Exercise,
+}
+
+/// A command with its options. A field without an option in its command has its default, or 0.
+#[derive(Clone, Copy, Debug, PartialEq, Eq)]
+pub struct Settings {
+    /// What is to be done.
+    pub command: Command,
+    /// The number of the first sector.
+    pub first: u32,
+    /// How many sectors there are, on layer 0 where there are two.
+    pub sectors: u32,
+    /// How many sectors layer 1 has.
+    pub sectors1: u32,
+    /// How many layers the disk has, and the track path where there are two.
+    pub shape: Shape,
+    /// Which zones of the disk a stream has.
+    pub zones: Zones,
+    /// How many blocks the Initial Zone has.
+    pub initial: u32,
+    /// How many blocks the zones behind the data have.
+    pub tail: u32,
+    /// The six bytes CPR_MAI of the data frames in the Data Zone.
+    pub cpr: [u8; 6],
+    /// How the bytes of a captured block stand in a stream.
+    pub form: Form,
+    /// How many threads work, from 1 to 16.
+    pub workers: u8,
+    /// The number that blocks are drawn from.
+    pub seed: u32,
+    /// How many blocks are drawn, at most 4,096.
+    pub blocks: u32,
+}
+
+impl Settings {
+    ghost use Rattle.std.specs.Prelude.{◌≡◌, None, Some, IsOk, IfErr, IfOk};
+    ghost use Rattle.dvd_words.specs.Settings.{IsLayoutOf, broken_rule};
+
+    /// The layout of these lengths, or the first rule that they break.
+    pub fn layout(&self) -> Result<Layout, LayoutFault>
+        ensures lengths { IfOk result (IsLayoutOf self.now) }
+        ensures lawful { IsOk result → broken_rule self.now ≡ None }
+        ensures refused { IfErr result (λ fault. broken_rule self.now ≡ Some fault) }
+    {
+        Layout::new(
+            self.shape,
+            self.sectors,
+            self.sectors1,
+            self.initial,
+            self.tail,
+        )
+    }
+}

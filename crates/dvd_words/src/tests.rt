@@ -1,0 +1,177 @@
+//! Worked words, each with what it asks for.
+use crate::{Command, Settings, WordsFault, read};
+use dvd_capture::Form;
+use dvd_layout::{Shape, Zones};
+use std::alloc::{AllocError, Global};
+use std::test::Fail;
+
+fn words(alloc: Global, text: &str) -> Result<Vec<String>, AllocError> {
+    let mut words = Vec::new(alloc);
+    for word in text.split_whitespace() {
+        words.push(String::from_str(alloc, word)?)?;
+    }
+    Ok(words)
+}
+
+static USAGE: [&str; 44] = [
+    "",
+    "Frames",
+    "frame --first 030000 --sectors 1",
+    "help",
+    "--help",
+    "--version",
+    "recover",
+    "frames --sectors 1",
+    "frames --first 030000",
+    "frames --first 30000 --sectors 1",
+    "frames --first 0030000 --sectors 1",
+    "frames --first 03000g --sectors 1",
+    "frames --first FFFFFF --sectors 2",
+    "frames --first 030000 --sectors 0",
+    "frames --first 030000 --sectors 1 --workers 1",
+    "master --sectors",
+    "master --sectors 16 17",
+    "master --sectors 16 -- 17",
+    "master 16",
+    "master --sector 16",
+    "master -s 16",
+    "master --sectors 16 --sectors 16",
+    "master --sectors 16 --help",
+    "master --sectors 16 --version",
+    "master --sectors 16 -h",
+    "master --sectors 16 --first 030000",
+    "master --sectors 16 --form plain",
+    "master --sectors 16 --cpr 00",
+    "master --sectors 16 --cpr 0102030405ag",
+    "master --sectors 16 --shape Single",
+    "master --sectors 16 --zones lead-in",
+    "recover --sectors +16",
+    "recover --sectors -16",
+    "recover --sectors 0x10",
+    "recover --sectors 4294967296",
+    "recover --sectors 00000000016",
+    "recover --sectors 16 --workers 0",
+    "recover --sectors 16 --workers 17",
+    "recover --sectors 16 --cpr 010203040506",
+    "recover --sectors 16 --form listed",
+    "info --sectors 16",
+    "exercise --seed 1",
+    "exercise --seed 1 --blocks 0",
+    "exercise --seed 1 --blocks 4097",
+];
+
+#[test]
+fn words_of_no_command_are_usage(rt: HostRuntime) -> Result<(), Fail> {
+    let alloc = rt.alloc();
+    for text in &USAGE {
+        let words = words(alloc, text)?;
+        assert_eq!(rt; read(alloc, words.as_slice()), Err(WordsFault::Usage));
+    }
+    Ok(())
+}
+
+// What `recover --sectors 16` asks for.
+static RECOVER: Settings = Settings {
+    command: Command::Recover,
+    first: 0,
+    sectors: 16,
+    sectors1: 0,
+    shape: Shape::Single,
+    zones: Zones::DataOnly,
+    initial: 0,
+    tail: 16,
+    cpr: [0; 6],
+    form: Form::Plain,
+    workers: 1,
+    seed: 0,
+    blocks: 0,
+};
+
+static FRAMES: Settings = Settings {
+    command: Command::Frames,
+    first: 0xFFFFFF,
+    sectors: 1,
+    ..RECOVER
+};
+
+static MASTER: Settings = Settings {
+    command: Command::Master,
+    sectors1: 17,
+    shape: Shape::Opposite,
+    zones: Zones::All,
+    initial: 18,
+    tail: 4_294_967_295,
+    cpr: [0x01, 0x23, 0x45, 0x67, 0x89, 0xAB],
+    workers: 16,
+    ..RECOVER
+};
+
+static INFO: Settings = Settings {
+    command: Command::Info,
+    sectors: 0,
+    ..RECOVER
+};
+
+static READ: [(&str, Settings); 14] = [
+    ("recover --sectors 16", RECOVER),
+    ("recover --sectors=16", RECOVER),
+    ("recover --sectors 0016", RECOVER),
+    ("recover --sectors 0000000016", RECOVER),
+    ("recover --sectors 16 --", RECOVER),
+    (
+        "recover --form marked --workers 2 --shape parallel --sectors 16",
+        Settings {
+            form: Form::Marked,
+            workers: 2,
+            shape: Shape::Parallel,
+            ..RECOVER
+        },
+    ),
+    ("frames --first FFFFFF --sectors 1", FRAMES),
+    ("frames --sectors=1 --first ffFfff", FRAMES),
+    (
+        "master --sectors 16 --sectors1 17 --shape opposite --zones all --initial 18 --tail 4294967295 --cpr 0123456789aB --workers 16",
+        MASTER,
+    ),
+    (
+        "master --workers 16 --cpr 0123456789Ab --tail 4294967295 --initial 18 --zones all --shape opposite --sectors1 17 --sectors 16",
+        MASTER,
+    ),
+    ("info", INFO),
+    (
+        "survey --sectors 16 --form marked",
+        Settings {
+            command: Command::Survey,
+            form: Form::Marked,
+            ..RECOVER
+        },
+    ),
+    (
+        "exercise --blocks 4096 --seed 4294967295",
+        Settings {
+            command: Command::Exercise,
+            sectors: 0,
+            seed: 4_294_967_295,
+            blocks: 4096,
+            ..RECOVER
+        },
+    ),
+    (
+        "info --initial 4294967295 --form marked",
+        Settings {
+            initial: 4_294_967_295,
+            form: Form::Marked,
+            ..INFO
+        },
+    ),
+];
+
+#[test]
+fn words_of_a_command_are_read(rt: HostRuntime) -> Result<(), Fail> {
+    let alloc = rt.alloc();
+    for (text, settings) in &READ {
+        let words = words(alloc, text)?;
+        assert_eq!(rt; read(alloc, words.as_slice()), Ok(*settings));
+    }
+    Ok(())
+}

@@ -1,0 +1,121 @@
+//! The values of options.
+
+ghost use Rattle.std.specs.Prelude.{◌≡◌, ◌≤◌, ℕ, option_map, replicate, IfSome};
+ghost use Rattle.std.specs.Char.{is_digit};
+ghost use Rattle.std.specs.List.{list_all};
+ghost use Rattle.dvd_words.specs.Reading.{value_or};
+ghost use Rattle.dvd_words.specs.Words.{blocks_of, bytes_of, form_of, number_of, sector_number_of, shape_of, workers_of, zones_of};
+
+use dvd_capture::Form;
+use dvd_layout::{Shape, Zones};
+use hex::FromHex;
+
+/// A number of one to ten decimal digits.
+pub fn read_number(text: Option<&str>, default: u32) -> Option<u32>
+    ensures { result ≡ value_or default number_of (option_map (λ s. s.now) text.entry) }
+{
+    match text {
+        Some(text) => number(text),
+        None => Some(default),
+    }
+}
+
+fn number(text: &str) -> Option<u32>
+    ensures { result ≡ number_of text.now }
+{
+    if text.is_empty() || text.len() > 10 || !has_digits_alone(text.as_bytes()) {
+        return None;
+    }
+    u32::from_str_radix(text, 10).ok()
+}
+
+fn has_digits_alone(text: &[u8]) -> bool
+    ensures { result ≡ list_all (λ c. is_digit c 10) text.now }
+{
+    text.iter().all(|byte| byte.is_ascii_digit())
+}
+
+/// How many threads work: from 1 to 16.
+pub fn read_workers(text: Option<&str>) -> Option<u8>
+    ensures value { result ≡ value_or 1 workers_of (option_map (λ s. s.now) text.entry) }
+    ensures bounds { IfSome result (λ n. (1 ≤ n) × (n ≤ 16)) }
+{
+    match text {
+        Some(text) => match number(text)? {
+            workers @ 1..=16 => Some(workers as u8),
+            _ => None,
+        },
+        None => Some(1),
+    }
+}
+
+/// How many blocks are drawn: from 1 to 4,096.
+pub fn read_blocks(text: Option<&str>) -> Option<u32>
+    ensures value { result ≡ value_or 0 blocks_of (option_map (λ s. s.now) text.entry) }
+    ensures bound { IfSome result (λ n. n ≤ 4096) }
+{
+    match text {
+        Some(text) => match number(text)? {
+            blocks @ 1..=4096 => Some(blocks),
+            _ => None,
+        },
+        None => Some(0),
+    }
+}
+
+/// A sector number of six hexadecimal digits.
+pub fn read_sector_number(text: Option<&str>) -> Option<u32>
+    ensures { result ≡ value_or 0 sector_number_of (option_map (λ s. s.now) text.entry) }
+{
+    match text {
+        Some(text) => {
+            let [high, middle, low] = <[u8; 3] as FromHex>::from_hex(text).ok()?;
+            Some(u32::from_be_bytes([0, high, middle, low]))
+        }
+        None => Some(0),
+    }
+}
+
+/// CPR_MAI, as twelve hexadecimal digits.
+pub fn read_cpr(text: Option<&str>) -> Option<[u8; 6]>
+    ensures { result ≡ value_or (replicate 6 0) (bytes_of 6) (option_map (λ s. s.now) text.entry) }
+{
+    match text {
+        Some(text) => <[u8; 6] as FromHex>::from_hex(text).ok(),
+        None => Some([0; 6]),
+    }
+}
+
+/// How many layers there are, and the track path of two.
+pub fn read_shape(text: Option<&str>) -> Option<Shape>
+    ensures { result ≡ value_or Shape.Single shape_of (option_map (λ s. s.now) text.entry) }
+{
+    match text {
+        None | Some("single") => Some(Shape::Single),
+        Some("parallel") => Some(Shape::Parallel),
+        Some("opposite") => Some(Shape::Opposite),
+        _ => None,
+    }
+}
+
+/// Which zones of a disk a stream has.
+pub fn read_zones(text: Option<&str>) -> Option<Zones>
+    ensures { result ≡ value_or Zones.DataOnly zones_of (option_map (λ s. s.now) text.entry) }
+{
+    match text {
+        None | Some("data") => Some(Zones::DataOnly),
+        Some("all") => Some(Zones::All),
+        _ => None,
+    }
+}
+
+/// How captured blocks are stored.
+pub fn read_form(text: Option<&str>) -> Option<Form>
+    ensures { result ≡ value_or Form.Plain form_of (option_map (λ s. s.now) text.entry) }
+{
+    match text {
+        None | Some("plain") => Some(Form::Plain),
+        Some("marked") => Some(Form::Marked),
+        _ => None,
+    }
+}

@@ -1,0 +1,95 @@
+//! Reads the words of the command line.
+
+ghost use Rattle.std.specs.Prelude.{◌≡◌, None, IfOk, IfSome, map, option_map, string_bytes};
+ghost use Rattle.clap.specs.Words.{first_of, found_of, rows_of};
+ghost use Rattle.dvd_words.specs.Reading.{IsLawful, Reads, command_of, is_within, reading, settings_of};
+
+use crate::fault::WordsFault;
+use crate::parser::parse;
+use crate::settings::{Command, Settings};
+use crate::values::{
+    read_blocks, read_cpr, read_form, read_number, read_sector_number, read_shape, read_workers,
+    read_zones,
+};
+use clap::ArgMatches;
+use std::alloc::Global;
+
+/// The settings that the words ask for.
+#[tactic(auto, unfolding(crate::specs::Reading::reading))]
+pub fn read(alloc: Global, words: &[String]) -> Result<Settings, WordsFault>
+    ensures read { IfOk result (Reads (map string_bytes words.now)) }
+    ensures usage { result ≡ Err WordsFault.Usage → reading (map string_bytes words.now) ≡ None }
+    ensures lawful { IfOk result IsLawful }
+{
+    let Some(word) = words.first() else {
+        return Err(WordsFault::Usage);
+    };
+    let Some(command) = command_named(word.as_str()) else {
+        return Err(WordsFault::Usage);
+    };
+    let matches = parse(alloc, command, words)?;
+    settings(command, &matches).ok_or(WordsFault::Usage)
+}
+
+fn command_named(word: &str) -> Option<Command>
+    ensures { result ≡ command_of word.now }
+{
+    match word {
+        "frames" => Some(Command::Frames),
+        "master" => Some(Command::Master),
+        "recover" => Some(Command::Recover),
+        "info" => Some(Command::Info),
+        "survey" => Some(Command::Survey),
+        "exercise" => Some(Command::Exercise),
+        _ => None,
+    }
+}
+
+// Each option by its form.
+#[tactic(auto, unfolding(crate::specs::Reading::settings_of))]
+fn settings(command: Command, matches: &ArgMatches<'_>) -> Option<Settings>
+    ensures value { result ≡ settings_of command (rows_of (found_of matches.now)) }
+    ensures lawful { IfSome result IsLawful }
+{
+    let settings = Settings {
+        command,
+        first: read_sector_number(given(matches, "first"))?,
+        sectors: read_number(given(matches, "sectors"), 0)?,
+        sectors1: read_number(given(matches, "sectors1"), 0)?,
+        shape: read_shape(given(matches, "shape"))?,
+        zones: read_zones(given(matches, "zones"))?,
+        initial: read_number(given(matches, "initial"), 0)?,
+        tail: read_number(given(matches, "tail"), 16)?,
+        cpr: read_cpr(given(matches, "cpr"))?,
+        form: read_form(given(matches, "form"))?,
+        workers: read_workers(given(matches, "workers"))?,
+        seed: read_number(given(matches, "seed"), 0)?,
+        blocks: read_blocks(given(matches, "blocks"))?,
+    };
+    if has_units(command, &settings) {
+        Some(settings)
+    } else {
+        None
+    }
+}
+
+// `frames` has at least one sector, and none beyond FFFFFF; `exercise` has at least one block.
+fn has_units(command: Command, settings: &Settings) -> bool
+    ensures { result ≡ is_within command settings.now.first settings.now.sectors settings.now.blocks }
+{
+    match command {
+        Command::Frames => {
+            settings.sectors >= 1
+                && u64::from(settings.first) + u64::from(settings.sectors) <= 0x100_0000
+        }
+        Command::Master | Command::Recover | Command::Info | Command::Survey => true,
+        Command::Exercise => settings.blocks >= 1,
+    }
+}
+
+// The value of an option, if it is given.
+fn given<'a>(matches: &ArgMatches<'a>, name: &str) -> Option<&'a str>
+    ensures { option_map (λ s. s.now) result ≡ first_of name.now (rows_of (found_of matches.now)) }
+{
+    matches.get_str(name)
+}
