@@ -2,7 +2,7 @@
 //! by another program from the standard.
 use crate::fixture::{BLOCK, NEVER, image, sink, zeros};
 use dvd_block::{Block, Piece};
-use dvd_capture::Work;
+use dvd_capture::{Form, Work};
 use dvd_layout::{Shape, Zones};
 use dvd_ports::{MemSink, SliceSource};
 use dvd_top::{Command, LoopEnd, Settings, master_loop, recover_loop};
@@ -63,12 +63,21 @@ static HEADS: [(usize, u128); 9] = [
 // The settings of all zones, with CPR_MAI 01 02 03 04 05 AB.
 fn settings(command: Command, disk: Disk) -> Settings {
     let (shape, sectors, sectors1, _) = disk;
-    let mut settings = Settings::plain(command, 0, sectors);
-    settings.shape = shape;
-    settings.sectors1 = sectors1;
-    settings.zones = Zones::All;
-    settings.cpr = [1, 2, 3, 4, 5, 0xAB];
-    settings
+    Settings {
+        command,
+        first: 0,
+        sectors,
+        sectors1,
+        shape,
+        zones: Zones::All,
+        initial: 0,
+        tail: 16,
+        cpr: [1, 2, 3, 4, 5, 0xAB],
+        form: Form::Plain,
+        workers: 1,
+        seed: 0,
+        blocks: 0,
+    }
 }
 
 // The image of a disk.

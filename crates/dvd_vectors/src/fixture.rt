@@ -28,8 +28,8 @@ pub type End = (Status, usize, &'static str);
 /// The ports of a run, and its end.
 pub type Case = (Ports, End);
 
-// The status of a run, what it wrote, and its report.
-fn ran<R: AllocGlobal + Threads + Sync>(
+/// The status of a run, what it wrote, and its report.
+pub fn ran<R: AllocGlobal + Threads + Sync>(
     rt: &R,
     text: &str,
     bytes: &[u8],
@@ -92,14 +92,43 @@ pub fn image(alloc: Global, sectors: usize) -> Result<Vec<u8>, AllocError> {
     Ok(bytes)
 }
 
-/// The recording of an image.
+/// The recording of so many blocks that the words make of an image.
+pub fn recorded<R: AllocGlobal + Threads + Sync>(
+    rt: &R,
+    text: &str,
+    image: &[u8],
+    blocks: usize,
+) -> Result<Vec<u8>, Fail> {
+    let length = blocks.saturating_mul(BLOCK);
+    let ports = (SOUND, (BLOCK, NEVER, length), SOUND);
+    run_to(rt, text, image, ports, (Status::Done, length, "done\n"))
+}
+
+/// The recording of an image, in the Data Zone alone.
 pub fn mastered<R: AllocGlobal + Threads + Sync>(
     rt: &R,
     text: &str,
     image: &[u8],
 ) -> Result<Vec<u8>, Fail> {
-    let length = image.len().div_ceil(32_768).saturating_mul(BLOCK);
-    run_to(rt, text, image, ALL_SOUND, (Status::Done, length, "done\n"))
+    recorded(rt, text, image, image.len().div_ceil(32_768))
+}
+
+/// The bytes of a run: the sectors of an image; the words that record it (none: the image itself) and the blocks that they
+/// record; where the bytes begin, which go on at the front behind the end; how many there are; and the byte that stands in
+/// the place of each that is missing.
+pub type Input = (usize, &'static str, usize, usize, usize, u8);
+
+/// The bytes of an input.
+pub fn bytes_of<R: AllocGlobal + Threads + Sync>(rt: &R, input: &Input) -> Result<Vec<u8>, Fail> {
+    let (sectors, text, blocks, from, length, filling) = *input;
+    let mut bytes = image(rt.alloc(), sectors)?;
+    if !text.is_empty() {
+        bytes = recorded(rt, text, &bytes, blocks)?;
+    }
+    let from = from.min(bytes.len());
+    bytes.rotate_left(from);
+    bytes.resize(length, filling)?;
+    Ok(bytes)
 }
 
 /// Runs the words once for each case; an error where it isn't the front of `whole` that is written.
@@ -123,8 +152,6 @@ pub fn leave_fronts<R: AllocGlobal + Threads + Sync>(
 pub type Disk = (usize, &'static str, &'static str);
 
 pub static SIXTEEN: Disk = (16, "master --sectors 16", "recover --sectors 16");
-
-pub static SEVENTEEN: Disk = (17, "master --sectors 17", "recover --sectors 17");
 
 pub static THIRTY_TWO: Disk = (32, "master --sectors 32", "recover --sectors 32");
 

@@ -4,13 +4,15 @@ use dvd_top::Status;
 use std::test::Fail;
 
 // Words and the report.
-static RUNS: [(&str, &str); 4] = [
+static RUNS: [(&str, &str); 6] = [
     ("master --sectors 8191744", "short: block 0, 5 bytes\n"),
     ("recover --sectors 8191744", "short: block 0, 5 bytes\n"),
     (
         "recover --form marked --sectors 8191744",
         "short: block 0, 5 bytes\n",
     ),
+    ("survey --sectors 8191744", "short: block 0, 5 bytes\n"),
+    ("info --initial 12031", "short: block 0, 5 bytes\n"),
     (
         "frames --first 000000 --sectors 16777216",
         "short: sector 0, 5 bytes\n",

@@ -6,17 +6,29 @@ mod damage; // blocks within the bound and beyond it
 #[cfg(test)]
 mod disks; // disks of every shape, mastered and read back
 #[cfg(test)]
-mod faults; // what is left after each fault
+mod exercise; // blocks drawn, damaged and read back
+#[cfg(test)]
+mod faults; // exactly what is left after a fault
 #[cfg(test)]
 mod fixture; // what the tests share
 #[cfg(test)]
 mod frames; // frames of a few sectors
 #[cfg(test)]
+mod hostile; // every command, in pieces and with each call failing
+#[cfg(test)]
+mod info; // the physical format of a disk
+#[cfg(test)]
 mod largest; // the largest disk of each command
 #[cfg(test)]
 mod master; // recordings
 #[cfg(test)]
-mod recover; // streams read back, and those that aren't whole
+mod options; // what the options of `master` change
+#[cfg(test)]
+mod recover; // streams that aren't those that are asked for
+#[cfg(test)]
+mod scratched; // a disk with a burst and scattered errors
+#[cfg(test)]
+mod survey; // surveys of streams
 #[cfg(test)]
 mod usage; // words that ask for nothing
 #[cfg(test)]

@@ -1,71 +1,148 @@
-//! Streams that are read back, and what is said of those that aren't whole.
+//! Streams that are cut off, followed by more, full of marks or of another place, and what is read back of them.
 use crate::fixture::{
-    ALL_SOUND, BLOCK, Case, Disk, NEVER, SEVENTEEN, SOUND, image, leave_fronts, leave_sectors,
-    mastered, zeros,
+    ALL_SOUND, BLOCK, End, Input, SOUND, bytes_of, image, mastered, run_to, sink,
 };
-use dvd_top::Status;
+use crate::words;
+use dvd_ports::{NullSink, SliceSource};
+use dvd_top::{Status, run};
 use std::test::Fail;
 use std::thread::Threads;
 
-static PLAIN: Disk = (
-    17,
-    "master --sectors 17",
-    "recover --form plain --sectors 17",
-);
+// Words, the stream, the end, and how many sectors of the image come back: the other bytes are zeros.
+type Stream = (&'static str, Input, End, usize);
 
-static READ_BACK: [Case; 3] = [
+static STREAMS: [Stream; 12] = [
     (
-        ((1, NEVER, 0), SOUND, SOUND),
-        (Status::Done, 34_816, "done\n"),
+        "recover --sectors 32",
+        (32, "master --sectors 32", 2, 0, 0, 0x55),
+        (Status::Short, 0, "short: block 0, 0 bytes\n"),
+        0,
     ),
     (
-        ((7, NEVER, 0), SOUND, SOUND),
-        (Status::Done, 34_816, "done\n"),
+        "recover --sectors 32",
+        (32, "master --sectors 32", 2, 0, 1, 0x55),
+        (Status::Short, 0, "short: block 0, 1 bytes\n"),
+        0,
     ),
-    (ALL_SOUND, (Status::Done, 34_816, "done\n")),
+    (
+        "recover --sectors 32",
+        (32, "master --sectors 32", 2, 0, 37_855, 0x55),
+        (Status::Short, 0, "short: block 0, 37855 bytes\n"),
+        0,
+    ),
+    (
+        "recover --sectors 32",
+        (32, "master --sectors 32", 2, 0, 37_856, 0x55),
+        (Status::Short, 32_768, "short: block 1, 0 bytes\n"),
+        16,
+    ),
+    (
+        "recover --sectors 32",
+        (32, "master --sectors 32", 2, 0, 37_857, 0x55),
+        (Status::Short, 32_768, "short: block 1, 1 bytes\n"),
+        16,
+    ),
+    (
+        "recover --sectors 32",
+        (32, "master --sectors 32", 2, 0, 75_711, 0x55),
+        (Status::Short, 32_768, "short: block 1, 37855 bytes\n"),
+        16,
+    ),
+    (
+        "recover --sectors 32",
+        (32, "master --sectors 32", 2, 0, 75_713, 0x55),
+        (Status::Long, 65_536, "long\n"),
+        32,
+    ),
+    (
+        "recover --sectors 17",
+        (17, "master --sectors 17", 2, 0, 75_711, 0x55),
+        (Status::Short, 32_768, "short: block 1, 37855 bytes\n"),
+        16,
+    ),
+    (
+        "recover --form plain --sectors 17",
+        (17, "master --sectors 17", 2, 0, 75_713, 0x55),
+        (Status::Long, 34_816, "long\n"),
+        17,
+    ),
+    // Every byte is marked.
+    (
+        "recover --sectors 16 --form marked",
+        (0, "", 0, 0, 42_640, 0xFF),
+        (
+            Status::Damaged,
+            32_768,
+            "block 0 sector 030000 layer 0: rows 208\ndamaged: 1 blocks\n",
+        ),
+        0,
+    ),
+    // A control block in the place of the first data block.
+    (
+        "recover --sectors 16",
+        (
+            16,
+            "master --sectors 16 --zones all",
+            273,
+            224 * BLOCK,
+            BLOCK,
+            0,
+        ),
+        (
+            Status::Damaged,
+            32_768,
+            "block 0 sector 030000 layer 0: address 0 found 0402FE00\ndamaged: 1 blocks\n",
+        ),
+        0,
+    ),
+    // The first of two layers, read as a disk of one: the bit of the number of layers plays no part.
+    (
+        "recover --sectors 16",
+        (
+            32,
+            "master --sectors 16 --sectors1 16 --shape opposite",
+            2,
+            0,
+            BLOCK,
+            0,
+        ),
+        (Status::Done, 32_768, "done\n"),
+        16,
+    ),
 ];
 
-#[test]
-fn a_mastered_stream_is_read_back(rt: HostRuntime) -> Result<(), Fail> {
-    leave_sectors(&rt, &PLAIN, 2 * BLOCK, &READ_BACK)
+// Whether the sectors come back, and zeros.
+fn comes_back<R: AllocGlobal + Threads + Sync>(rt: &R, stream: &Stream) -> Result<bool, Fail> {
+    let (text, input, end, sectors) = stream;
+    let mut wanted = image(rt.alloc(), *sectors)?;
+    wanted.resize(end.1, 0)?;
+    let written = run_to(rt, text, &bytes_of(rt, input)?, ALL_SOUND, *end)?;
+    Ok(written == wanted)
 }
 
-static LONGER: [Case; 1] = [(ALL_SOUND, (Status::Long, 34_816, "long\n"))];
-
-static SHORTER: [Case; 1] = [(
-    ALL_SOUND,
-    (Status::Short, 32_768, "short: block 1, 37855 bytes\n"),
-)];
-
 #[test]
-fn a_stream_of_another_length_is_told(rt: HostRuntime) -> Result<(), Fail> {
-    leave_sectors(&rt, &SEVENTEEN, 2 * BLOCK + 1, &LONGER)?;
-    leave_sectors(&rt, &SEVENTEEN, 2 * BLOCK - 1, &SHORTER)
-}
-
-static EXCHANGED: [Case; 1] = [(
-    ALL_SOUND,
-    (
-        Status::Damaged,
-        65_536,
-        "block 0 sector 030000 layer 0: address 0 found 00030010\nblock 1 sector 030010 layer 0: address 0 found 00030000\ndamaged: 2 blocks\n",
-    ),
-)];
-
-// Two recorded blocks, the second before the first.
-fn exchanged<R: AllocGlobal + Threads + Sync>(rt: &R) -> Result<Vec<u8>, Fail> {
-    let image = image(rt.alloc(), 32)?;
-    let stream = mastered(rt, "master --sectors 32", &image)?;
-    let mut blocks = Vec::new(rt.alloc());
-    for block in stream.chunks_exact(BLOCK).rev() {
-        blocks.extend_from_slice(block)?;
+fn what_stands_in_a_stream_comes_back(rt: HostRuntime) -> Result<(), Fail> {
+    for stream in &STREAMS {
+        assert!(rt; comes_back(&rt, stream)?, "{}", stream.2.2);
     }
-    Ok(blocks)
+    Ok(())
 }
 
 #[test]
-fn exchanged_blocks_are_refused(rt: HostRuntime) -> Result<(), Fail> {
-    let stream = exchanged(&rt)?;
-    let whole = zeros(rt.alloc(), 65_536)?;
-    leave_fronts(&rt, "recover --sectors 32", &stream, &whole, &EXCHANGED)
+fn an_output_may_keep_nothing(rt: HostRuntime) -> Result<(), Fail> {
+    let alloc = rt.alloc();
+    let stream = mastered(&rt, "master --sectors 17", &image(alloc, 17)?)?;
+    let words = words(alloc, "recover --sectors 17")?;
+    let mut report = sink(alloc, SOUND)?;
+    let mut src = SliceSource::new(&stream);
+    let status = run(
+        &rt,
+        alloc,
+        &words,
+        &mut src,
+        &mut NullSink::new(),
+        &mut report,
+    );
+    assert!(rt; status == Status::Done && report.held() == b"done\n".as_slice());
+    Ok(())
 }

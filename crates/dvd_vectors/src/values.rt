@@ -6,11 +6,20 @@ use dvd_frame::{Area, FrameCause, Id, Rule};
 use dvd_layout::{BlockPlan, Content, Layout, LayoutFault, Shape, Zone, Zones};
 use dvd_loop::{Behind, Turn};
 use dvd_read::{Cause, Fixed};
+use dvd_report::{Surveyed, Totals};
 use dvd_top::{Command, LoopEnd, Settings, Status};
-use rs_decode::Fix;
+use dvd_words::WordsFault;
+use rs_decode::{Fix, shortest};
 use std::test::Fail;
 
-static COMMANDS: [Command; 3] = [Command::Frames, Command::Master, Command::Recover];
+static COMMANDS: [Command; 6] = [
+    Command::Frames,
+    Command::Master,
+    Command::Recover,
+    Command::Info,
+    Command::Survey,
+    Command::Exercise,
+];
 
 static STATUSES: [Status; 12] = [
     Status::Done,
@@ -55,10 +64,13 @@ const PLAIN: Settings = Settings {
     tail: 16,
     cpr: [0; 6],
     form: Form::Plain,
+    workers: 1,
+    seed: 0,
+    blocks: 0,
 };
 
 // Each with another field of its own.
-static SETTINGS: [Settings; 11] = [
+static SETTINGS: [Settings; 14] = [
     PLAIN,
     Settings {
         command: Command::Master,
@@ -94,6 +106,12 @@ static SETTINGS: [Settings; 11] = [
         form: Form::Marked,
         ..PLAIN
     },
+    Settings {
+        workers: 2,
+        ..PLAIN
+    },
+    Settings { seed: 1, ..PLAIN },
+    Settings { blocks: 1, ..PLAIN },
 ];
 
 static RULES: [Rule; 3] = [Rule::Whole, Rule::Off, Rule::First160];
@@ -284,6 +302,58 @@ static CAUSES: [Cause; 13] = [
     Cause::Edc { f: 2 },
 ];
 
+const FOUND: Surveyed = Surveyed {
+    pi: 1,
+    failed: 2,
+    cause: None,
+};
+
+static FOUNDS: [Surveyed; 4] = [
+    FOUND,
+    Surveyed { pi: 2, ..FOUND },
+    Surveyed { failed: 1, ..FOUND },
+    Surveyed {
+        cause: Some(Cause::Ied { f: 1 }),
+        ..FOUND
+    },
+];
+
+const COUNTED: Totals = Totals {
+    blocks: 1,
+    pi: 2,
+    failed: 3,
+    damaged: 4,
+    peak: 5,
+    peak_at: 6,
+    over: 7,
+};
+
+// Each with another field of its own.
+static COUNTS: [Totals; 8] = [
+    COUNTED,
+    Totals {
+        blocks: 2,
+        ..COUNTED
+    },
+    Totals { pi: 1, ..COUNTED },
+    Totals {
+        failed: 4,
+        ..COUNTED
+    },
+    Totals {
+        damaged: 3,
+        ..COUNTED
+    },
+    Totals { peak: 6, ..COUNTED },
+    Totals {
+        peak_at: 5,
+        ..COUNTED
+    },
+    Totals { over: 8, ..COUNTED },
+];
+
+static WORDS_FAULTS: [WordsFault; 2] = [WordsFault::Usage, WordsFault::NoMemory];
+
 static TURNS: [Turn; 3] = [Turn::Good, Turn::Bad, Turn::Last];
 
 static BEHINDS: [Behind; 3] = [Behind::Asks, Behind::Done, Behind::NoControl];
@@ -330,7 +400,25 @@ fn format_with(at: usize, byte: u8) -> Result<PhysicalFormat, ControlFault> {
 fn each_value_of_the_program_is_like_itself_alone(rt: HostRuntime) -> Result<(), Fail> {
     assert!(rt; are_unlike(&COMMANDS) && are_unlike(&SETTINGS));
     assert!(rt; are_unlike(&STATUSES) && are_unlike(&ENDS));
-    assert!(rt; are_unlike(&TURNS) && are_unlike(&BEHINDS));
+    assert!(rt; are_unlike(&TURNS) && are_unlike(&BEHINDS) && are_unlike(&WORDS_FAULTS));
+    Ok(())
+}
+
+#[test]
+fn each_count_is_like_itself_alone(rt: HostRuntime) -> Result<(), Fail> {
+    assert!(rt; are_unlike(&FOUNDS) && are_unlike(&COUNTS));
+    Ok(())
+}
+
+// Whether the shortest registers of two lists are one.
+fn are_one(one: &[u8], other: &[u8]) -> bool {
+    one.len() <= 32 && other.len() <= 32 && shortest(one) == shortest(other)
+}
+
+#[test]
+fn each_register_is_like_itself_alone(rt: HostRuntime) -> Result<(), Fail> {
+    assert!(rt; are_one(&[1, 2, 4, 8], &[2, 4, 8, 16]));
+    assert!(rt; !are_one(&[1, 2, 4, 8], &[1, 4, 16, 64]) && !are_one(&[1, 2, 4, 8], &[0, 0]));
     Ok(())
 }
 
