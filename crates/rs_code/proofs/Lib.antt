@@ -8,3 +8,4 @@ pub mod Remainders
 pub mod Ring
 pub mod Syndromes
 pub mod Values
+pub mod Words

@@ -1,12 +1,14 @@
 -- The tables of the two codes of an ECC block, as the checker computes them from the definitions.
-use Rattle.std.proofs.Common.{◌≡◌, ℕ, ◌-◌, ◌<◌, List, [], ◌∷◌, ◌++◌, length, get_or, map, replicate, refl, sym, ap, ◌∙◌, arith, zero-add}
-use Rattle.std.specs.List.{range_with_len}
+use Rattle.std.proofs.Common.{◌≡◌, ℕ, ◌-◌, ◌^◌, ◌<◌, zero, suc, List, [], ◌∷◌, ◌++◌, length, get_or, map, replicate, refl, sym, ap, ◌∙◌, arith, zero-add}
+use Rattle.std.specs.Prelude.{nat_lt, true}
+use Rattle.std.specs.List.{list_all, range_with_len}
+use Rattle.std.proofs.lemmas.Bool.{and_parts, ltb-true}
 use Rattle.std.proofs.lemmas.List.{get_or-map}
 use Rattle.std.proofs.lemmas.List.FromFn.{get_or-map-range_with_len}
-use Rattle.gf_field.specs.Field.{plus, product, partial_product, shifted, shift, power}
+use Rattle.gf_field.specs.Field.{product, partial_product, shifted, shift, power}
 use Rattle.rs_code.specs.Polynomials.{sum_of, scaled, times_root}
-use Rattle.rs_code.specs.Registers.{bytes_of, HasMultiples, AreLater, after_byte}
-use Rattle.rs_code.specs.declared.tables.TheConstants.{PI_MULTIPLES, PI_LATER, PO_MULTIPLES, PO_LATER}
+use Rattle.rs_code.specs.Registers.{bytes_of, HasMultiples, AreLater, AreTables, after_byte}
+use Rattle.rs_code.specs.declared.tables.TheConstants.{PI_TABLES, PO_TABLES}
 use Rattle.rs_code.proofs.Generator.{generator_of}
 
 -- the row of a factor
@@ -20,42 +22,84 @@ by_rows generator table long rows factor below =
     sym (get_or-map (bytes_of 16) table factor 0 [] (omega arith)) ∙ ap (λ t. get_or t factor []) rows ∙ get_or-map-range_with_len (multiple_at generator) 0 256 factor factor [] below (zero-add factor)
 
 -- and so are its entries one byte later
-by_entries : (table later : List ℕ) → length table ≡ 256 → later ≡ map (λ entry. after_byte table entry 0) table → AreLater table later
-by_entries table later long is factor below =
-    ap (λ t. get_or t factor 0) is ∙ get_or-map (λ entry. after_byte table entry 0) table factor 0 0 (omega arith)
+by_entries : (table entries later : List ℕ) → length entries ≡ 256 → later ≡ map (λ entry. after_byte table entry 0) entries → AreLater table entries later
+by_entries table entries later long is factor below =
+    ap (λ t. get_or t factor 0) is ∙ get_or-map (λ entry. after_byte table entry 0) entries factor 0 0 (omega arith)
+
+-- a table of a list of tables
+place : List (List ℕ) → ℕ → List ℕ
+place tables k = get_or tables k []
+
+-- entries that are all smaller are so at each factor, and behind them is 0
+all_words : (table : List ℕ) → list_all (λ entry. nat_lt entry (2 ^ 128)) table ≡ true → (factor : ℕ) → get_or table factor 0 < 2 ^ 128
+all_words [] all factor = omega arith
+all_words (entry ∷ table) all zero = ltb-true entry (2 ^ 128) (and_parts (nat_lt entry (2 ^ 128)) (list_all (λ e. nat_lt e (2 ^ 128)) table) all).0
+all_words (entry ∷ table) all (suc factor) = all_words table (and_parts (nat_lt entry (2 ^ 128)) (list_all (λ e. nat_lt e (2 ^ 128)) table) all).1 factor
 
 PI-generator : generator_of 10 ≡ 0xD8 ∷ 0xC2 ∷ 0x9F ∷ 0x6F ∷ 0xC7 ∷ 0x5E ∷ 0x5F ∷ 0x71 ∷ 0x9D ∷ 0xC1 ∷ []
 unfolding generator_of times_root sum_of scaled power product partial_product shifted shift
 PI-generator = refl
 
-PI-rows : map (bytes_of 16) PI_MULTIPLES ≡ map (multiple_at (0xD8 ∷ 0xC2 ∷ 0x9F ∷ 0x6F ∷ 0xC7 ∷ 0x5E ∷ 0x5F ∷ 0x71 ∷ 0x9D ∷ 0xC1 ∷ [])) (range_with_len 0 256)
-unfolding bytes_of multiple_at scaled product partial_product shifted shift
+PI-rows : map (bytes_of 16) (place PI_TABLES 0) ≡ map (multiple_at (0xD8 ∷ 0xC2 ∷ 0x9F ∷ 0x6F ∷ 0xC7 ∷ 0x5E ∷ 0x5F ∷ 0x71 ∷ 0x9D ∷ 0xC1 ∷ [])) (range_with_len 0 256)
+unfolding place bytes_of multiple_at scaled product partial_product shifted shift
 PI-rows = refl
 
-pub PI-multiples : HasMultiples (generator_of 10) PI_MULTIPLES 256
-PI-multiples = rw PI-generator (by_rows (0xD8 ∷ 0xC2 ∷ 0x9F ∷ 0x6F ∷ 0xC7 ∷ 0x5E ∷ 0x5F ∷ 0x71 ∷ 0x9D ∷ 0xC1 ∷ []) PI_MULTIPLES refl PI-rows)
+PI-one : place PI_TABLES 1 ≡ map (λ entry. after_byte (place PI_TABLES 0) entry 0) (place PI_TABLES 0)
+unfolding place after_byte
+PI-one = refl
 
-PI-entries : PI_LATER ≡ map (λ entry. after_byte PI_MULTIPLES entry 0) PI_MULTIPLES
-unfolding after_byte
-PI-entries = refl
+PI-two : place PI_TABLES 2 ≡ map (λ entry. after_byte (place PI_TABLES 0) entry 0) (place PI_TABLES 1)
+unfolding place after_byte
+PI-two = refl
 
-pub PI-later : AreLater PI_MULTIPLES PI_LATER
-PI-later = by_entries PI_MULTIPLES PI_LATER refl PI-entries
+PI-three : place PI_TABLES 3 ≡ map (λ entry. after_byte (place PI_TABLES 0) entry 0) (place PI_TABLES 2)
+unfolding place after_byte
+PI-three = refl
+
+PI-words : list_all (λ entry. nat_lt entry (2 ^ 128)) (place PI_TABLES 0) ≡ true
+unfolding place
+PI-words = refl
+
+pub PI-tables : AreTables (generator_of 10) PI_TABLES
+unfolding place
+PI-tables = record {
+  words = all_words (place PI_TABLES 0) PI-words;
+  multiples = rw PI-generator (by_rows (0xD8 ∷ 0xC2 ∷ 0x9F ∷ 0x6F ∷ 0xC7 ∷ 0x5E ∷ 0x5F ∷ 0x71 ∷ 0x9D ∷ 0xC1 ∷ []) (place PI_TABLES 0) refl PI-rows);
+  one = by_entries (place PI_TABLES 0) (place PI_TABLES 0) (place PI_TABLES 1) refl PI-one;
+  two = by_entries (place PI_TABLES 0) (place PI_TABLES 1) (place PI_TABLES 2) refl PI-two;
+  three = by_entries (place PI_TABLES 0) (place PI_TABLES 2) (place PI_TABLES 3) refl PI-three;
+}
 
 PO-generator : generator_of 16 ≡ 0x3B ∷ 0x0D ∷ 0x68 ∷ 0xBD ∷ 0x44 ∷ 0xD1 ∷ 0x1E ∷ 0x08 ∷ 0xA3 ∷ 0x41 ∷ 0x29 ∷ 0xE5 ∷ 0x62 ∷ 0x32 ∷ 0x24 ∷ 0x3B ∷ []
 unfolding generator_of times_root sum_of scaled power product partial_product shifted shift
 PO-generator = refl
 
-PO-rows : map (bytes_of 16) PO_MULTIPLES ≡ map (multiple_at (0x3B ∷ 0x0D ∷ 0x68 ∷ 0xBD ∷ 0x44 ∷ 0xD1 ∷ 0x1E ∷ 0x08 ∷ 0xA3 ∷ 0x41 ∷ 0x29 ∷ 0xE5 ∷ 0x62 ∷ 0x32 ∷ 0x24 ∷ 0x3B ∷ [])) (range_with_len 0 256)
-unfolding bytes_of multiple_at scaled product partial_product shifted shift
+PO-rows : map (bytes_of 16) (place PO_TABLES 0) ≡ map (multiple_at (0x3B ∷ 0x0D ∷ 0x68 ∷ 0xBD ∷ 0x44 ∷ 0xD1 ∷ 0x1E ∷ 0x08 ∷ 0xA3 ∷ 0x41 ∷ 0x29 ∷ 0xE5 ∷ 0x62 ∷ 0x32 ∷ 0x24 ∷ 0x3B ∷ [])) (range_with_len 0 256)
+unfolding place bytes_of multiple_at scaled product partial_product shifted shift
 PO-rows = refl
 
-pub PO-multiples : HasMultiples (generator_of 16) PO_MULTIPLES 256
-PO-multiples = rw PO-generator (by_rows (0x3B ∷ 0x0D ∷ 0x68 ∷ 0xBD ∷ 0x44 ∷ 0xD1 ∷ 0x1E ∷ 0x08 ∷ 0xA3 ∷ 0x41 ∷ 0x29 ∷ 0xE5 ∷ 0x62 ∷ 0x32 ∷ 0x24 ∷ 0x3B ∷ []) PO_MULTIPLES refl PO-rows)
+PO-one : place PO_TABLES 1 ≡ map (λ entry. after_byte (place PO_TABLES 0) entry 0) (place PO_TABLES 0)
+unfolding place after_byte
+PO-one = refl
 
-PO-entries : PO_LATER ≡ map (λ entry. after_byte PO_MULTIPLES entry 0) PO_MULTIPLES
-unfolding after_byte
-PO-entries = refl
+PO-two : place PO_TABLES 2 ≡ map (λ entry. after_byte (place PO_TABLES 0) entry 0) (place PO_TABLES 1)
+unfolding place after_byte
+PO-two = refl
 
-pub PO-later : AreLater PO_MULTIPLES PO_LATER
-PO-later = by_entries PO_MULTIPLES PO_LATER refl PO-entries
+PO-three : place PO_TABLES 3 ≡ map (λ entry. after_byte (place PO_TABLES 0) entry 0) (place PO_TABLES 2)
+unfolding place after_byte
+PO-three = refl
+
+PO-words : list_all (λ entry. nat_lt entry (2 ^ 128)) (place PO_TABLES 0) ≡ true
+unfolding place
+PO-words = refl
+
+pub PO-tables : AreTables (generator_of 16) PO_TABLES
+unfolding place
+PO-tables = record {
+  words = all_words (place PO_TABLES 0) PO-words;
+  multiples = rw PO-generator (by_rows (0x3B ∷ 0x0D ∷ 0x68 ∷ 0xBD ∷ 0x44 ∷ 0xD1 ∷ 0x1E ∷ 0x08 ∷ 0xA3 ∷ 0x41 ∷ 0x29 ∷ 0xE5 ∷ 0x62 ∷ 0x32 ∷ 0x24 ∷ 0x3B ∷ []) (place PO_TABLES 0) refl PO-rows);
+  one = by_entries (place PO_TABLES 0) (place PO_TABLES 0) (place PO_TABLES 1) refl PO-one;
+  two = by_entries (place PO_TABLES 0) (place PO_TABLES 1) (place PO_TABLES 2) refl PO-two;
+  three = by_entries (place PO_TABLES 0) (place PO_TABLES 2) (place PO_TABLES 3) refl PO-three;
+}

@@ -1,14 +1,14 @@
 -- A register of at most sixteen bytes in a number of 128 bits: its bytes after a shift and after a sum,
 -- the table of the generator's multiples, and the step of the division.
-use Rattle.std.proofs.Common.{◌≡◌, ℕ, zero, suc, ◌+◌, ◌-◌, ◌*◌, ◌/◌, ◌%◌, ◌^◌, ◌<◌, ◌≤◌, List, [], ◌∷◌, ◌++◌, length, get_or, take, All, replicate, reverse, refl, sym, ap, subst, ◌∙◌, arith, inl, inr, length-append, append_assoc, bit_and}
+use Rattle.std.proofs.Common.{◌≡◌, ℕ, zero, suc, ◌+◌, ◌-◌, ◌*◌, ◌/◌, ◌%◌, ◌^◌, ◌<◌, ◌≤◌, List, [], ◌∷◌, ◌++◌, length, get_or, take, replicate, reverse, refl, sym, ap, subst, ◌∙◌, arith, length-append, append_assoc}
 use Rattle.std.specs.Int.{byte_at, to_be_bytes, w128}
 use Rattle.std.proofs.Math.Nat.{div-div-eq-div-mul, pow-succ'}
-use Rattle.std.proofs.lemmas.Nat.{xor_shr, xor_mod, xor_lt, xor_block, shr_below, mod-pow-add, and_mask}
+use Rattle.std.proofs.lemmas.Nat.{xor_shr, xor_mod, xor_lt, xor_block, shr_below, mod-pow-add}
 use Rattle.std.proofs.lemmas.List.{append_cancel_left, take_at, length-replicate, replicate_more, replicate-append-replicate, reverse-append, length-reverse, take_more}
 use Rattle.gf_field.specs.Field.{plus, product}
-use Rattle.gf_field.proofs.FieldLaws.{plus-byte, plus-product, product-byte, product-zero, zero-product, plus-comm, plus-zero, zero-plus, plus-self}
+use Rattle.gf_field.proofs.FieldLaws.{plus-byte, plus-product, product-byte, zero-product, plus-comm, plus-zero, zero-plus, plus-self}
 use Rattle.rs_code.specs.Polynomials.{sum_of, scaled, IsRemainder}
-use Rattle.rs_code.specs.Registers.{bytes_of, Holds, HoldsRemainder, HasMultiples, after_byte, AreLater}
+use Rattle.rs_code.specs.Registers.{bytes_of, Holds, HoldsRemainder, HasMultiples, after_byte}
 use Rattle.rs_code.proofs.Ring.{ring}
 use Rattle.rs_code.proofs.Values.{length-sum_of, length-scaled, scaled-cons}
 use Rattle.rs_code.proofs.Remainders.{next_register, IsRemainder-start, IsRemainder-next}
@@ -294,50 +294,25 @@ left-plus a b =
     let whole : plus a b * 2 ^ 8 ≡ plus (a * 2 ^ 8) (b * 2 ^ 8) = cc (block, left, right, none, plus-self 0) in
     ap (λ m. m % 2 ^ 128) whole ∙ xor_mod (a * 2 ^ 8) (b * 2 ^ 8) 128
 
-regrouped : (a b c d : ℕ) → plus (plus a (plus b d)) c ≡ plus (plus a b) (plus c d)
-regrouped a b c d = simp ring
+crossed : (a b c d : ℕ) → plus (plus a b) (plus c d) ≡ plus (plus a c) (plus b d)
+crossed a b c d = simp ring
+
+pub after_byte-word : (table : List ℕ) (n byte : ℕ) → ((i : ℕ) → get_or table i 0 < 2 ^ 128) → after_byte table n byte < 2 ^ 128
+unfolding after_byte
+after_byte-word table n byte words = xor_lt 128 (n * 2 ^ 8 % 2 ^ 128) (get_or table (plus (n / 2 ^ 120) byte) 0) (omega arith) (words (plus (n / 2 ^ 120) byte))
 
 last_out : (m q b : ℕ) → plus (plus m q) b ≡ plus (plus m b) q
 last_out m q b = simp ring
 
-after_pair_parts : (generator table later : List ℕ) (n a b : ℕ) → n < 2 ^ 128 → a < 256 → b < 256 → ((i : ℕ) → get_or table i 0 < 2 ^ 128) → HasMultiples generator table 256 → AreLater table later → plus (plus (n * 2 ^ 16 % 2 ^ 128) (get_or later (plus (n / 2 ^ 120) a) 0)) (get_or table (plus (n / 2 ^ 112 % 256) b) 0) ≡ after_byte table (after_byte table n a) b
+-- a step of a sum is the sum of a step with the byte and of one with zero
+pub after_byte-sum : (generator table : List ℕ) (a b byte : ℕ) → a < 2 ^ 128 → b < 2 ^ 128 → byte < 256 → ((i : ℕ) → get_or table i 0 < 2 ^ 128) → HasMultiples generator table 256 → after_byte table (plus a b) byte ≡ plus (after_byte table a byte) (after_byte table b 0)
 unfolding after_byte
-after_pair_parts generator table later n a b is_word byte_a byte_b words has are =
-    let far = plus (n / 2 ^ 120) a in
-    let far_byte : far < 256 = plus-byte (n / 2 ^ 120) a (omega arith) byte_a in
-    let entry = get_or table far 0 in
-    let entry_word : entry < 2 ^ 128 = words far in
-    let top = entry / 2 ^ 120 in
-    let top_byte : top < 256 = omega arith in
-    let middle = n / 2 ^ 112 % 256 in
-    let near_byte : plus middle b < 256 = plus-byte middle b (omega arith) byte_b in
-    let twice : n * 2 ^ 8 % 2 ^ 128 * 2 ^ 8 % 2 ^ 128 ≡ n * 2 ^ 16 % 2 ^ 128 = omega arith in
-    let next : n * 2 ^ 8 % 2 ^ 128 / 2 ^ 120 ≡ middle = omega arith in
-    let shifted_on : plus (n * 2 ^ 8 % 2 ^ 128) entry * 2 ^ 8 % 2 ^ 128 ≡ plus (n * 2 ^ 16 % 2 ^ 128) (entry * 2 ^ 8 % 2 ^ 128) = left-plus (n * 2 ^ 8 % 2 ^ 128) entry ∙ ap (λ m. plus m (entry * 2 ^ 8 % 2 ^ 128)) twice in
-    let factor : plus (plus (n * 2 ^ 8 % 2 ^ 128) entry / 2 ^ 120) b ≡ plus (plus middle b) top =
-    ap (λ m. plus m b) (xor_shr (n * 2 ^ 8 % 2 ^ 128) entry 120 ∙ ap (λ m. plus m top) next) ∙ last_out middle top b in
-    let split : get_or table (plus (plus (n * 2 ^ 8 % 2 ^ 128) entry / 2 ^ 120) b) 0 ≡ plus (get_or table (plus middle b) 0) (get_or table top 0) =
-    ap (λ m. get_or table m 0) factor ∙ entry-plus generator table (plus middle b) top near_byte top_byte words has in
-    let left_over : get_or later far 0 ≡ plus (entry * 2 ^ 8 % 2 ^ 128) (get_or table top 0) = are far far_byte ∙ ap (λ m. plus (entry * 2 ^ 8 % 2 ^ 128) (get_or table m 0)) (plus-zero top) in
-    ap (λ m. plus (plus (n * 2 ^ 16 % 2 ^ 128) m) (get_or table (plus middle b) 0)) left_over
-    ∙ regrouped (n * 2 ^ 16 % 2 ^ 128) (entry * 2 ^ 8 % 2 ^ 128) (get_or table (plus middle b) 0) (get_or table top 0)
-    ∙ sym (ap (λ m. plus m (get_or table (plus (plus (n * 2 ^ 8 % 2 ^ 128) entry / 2 ^ 120) b) 0)) shifted_on ∙ ap (plus (plus (n * 2 ^ 16 % 2 ^ 128) (entry * 2 ^ 8 % 2 ^ 128))) split)
-
-pub after_pair : (generator table later : List ℕ) (n a b : ℕ) → n < 2 ^ 128 → a < 256 → b < 256 → ((i : ℕ) → get_or table i 0 < 2 ^ 128) → HasMultiples generator table 256 → AreLater table later → plus (plus (n * 2 ^ 16 % 2 ^ 128) (get_or later (plus (n / 2 ^ 120) a) 0)) (get_or table (plus (bit_and (n / 2 ^ 112) 255) b) 0) ≡ after_byte table (after_byte table n a) b
-after_pair generator table later n a b is_word byte_a byte_b words has are =
-    rw (and_mask (n / 2 ^ 112) 8) (after_pair_parts generator table later n a b is_word byte_a byte_b words has are)
-
-after_byte-word : (table : List ℕ) (n byte : ℕ) → ((i : ℕ) → get_or table i 0 < 2 ^ 128) → after_byte table n byte < 2 ^ 128
-unfolding after_byte
-after_byte-word table n byte words = xor_lt 128 (n * 2 ^ 8 % 2 ^ 128) (get_or table (plus (n / 2 ^ 120) byte) 0) (omega arith) (words (plus (n / 2 ^ 120) byte))
-
--- as a loop over the pairs of a message has it
-pub HoldsRemainder-pair : (generator message table : List ℕ) (i n : ℕ) → 2 * i + 1 < length message → get_or message (2 * i) 0 < 256 → get_or message (2 * i + 1) 0 < 256 → n < 2 ^ 128 → ((i : ℕ) → get_or table i 0 < 2 ^ 128) → 0 < length generator → HasMultiples generator table 256 → HoldsRemainder generator (take (2 * i) message) n → HoldsRemainder generator (take (2 * (i + 1)) message) (after_byte table (after_byte table n (get_or message (2 * i) 0)) (get_or message (2 * i + 1) 0))
-HoldsRemainder-pair generator message table i n inside byte_a byte_b is_word words some_degree has before =
-    let a = get_or message (2 * i) 0 in
-    let b = get_or message (2 * i + 1) 0 in
-    let first = HoldsRemainder-more generator message table (2 * i) (after_byte table n a) a (omega arith) refl (HoldsRemainder-next generator (take (2 * i) message) table n a is_word byte_a some_degree has before) in
-    let second = HoldsRemainder-more generator message table (2 * i + 1) (after_byte table (after_byte table n a) b) b inside refl
-    (HoldsRemainder-next generator (take (2 * i + 1) message) table (after_byte table n a) b (after_byte-word table n a words) byte_b some_degree has first) in
-    let next : 2 * (i + 1) ≡ 2 * i + 1 + 1 = omega arith in
-    rw next second
+after_byte-sum generator table a b byte word_a word_b is_byte words has =
+    let top_a = plus (a / 2 ^ 120) byte in
+    let top_b = b / 2 ^ 120 in
+    let byte_a : top_a < 256 = plus-byte (a / 2 ^ 120) byte (omega arith) is_byte in
+    let byte_b : top_b < 256 = omega arith in
+    let factor : plus (plus a b / 2 ^ 120) byte ≡ plus top_a top_b = ap (λ m. plus m byte) (xor_shr a b 120) ∙ last_out (a / 2 ^ 120) top_b byte in
+    let entries : get_or table (plus (plus a b / 2 ^ 120) byte) 0 ≡ plus (get_or table top_a 0) (get_or table (plus top_b 0) 0) =
+    ap (λ m. get_or table m 0) factor ∙ entry-plus generator table top_a top_b byte_a byte_b words has ∙ ap (λ m. plus (get_or table top_a 0) (get_or table m 0)) (sym (plus-zero top_b)) in
+    rw (left-plus a b, entries) (crossed (a * 2 ^ 8 % 2 ^ 128) (b * 2 ^ 8 % 2 ^ 128) (get_or table top_a 0) (get_or table (plus top_b 0) 0))

@@ -1,5 +1,5 @@
 -- A register of at most sixteen bytes in a number of 128 bits: they are its upper bytes, and zeros follow them.
-use Rattle.std.specs.Prelude.{◌≡◌, ℕ, ◌-◌, ◌*◌, ◌/◌, ◌%◌, ◌^◌, ◌<◌, List, ◌++◌, length, take, replicate, get_or}
+use Rattle.std.specs.Prelude.{◌≡◌, ℕ, ◌-◌, ◌*◌, ◌/◌, ◌%◌, ◌^◌, ◌<◌, List, [], ◌∷◌, ◌++◌, length, take, replicate, get_or}
 use Rattle.std.specs.Int.{bytes_high_first}
 use Rattle.gf_field.specs.Field.{plus}
 use Rattle.rs_code.specs.Polynomials.{scaled, IsRemainder}
@@ -20,9 +20,22 @@ HasMultiples generator table n = (factor : ℕ) → factor < n → Holds (get_or
 unfoldable pub after_byte : List ℕ → ℕ → ℕ → ℕ
 after_byte table register byte = plus (register * 2 ^ 8 % 2 ^ 128) (get_or table (plus (register / 2 ^ 120) byte) 0)
 
--- what is left of each multiple after one byte more
-abbrev pub AreLater : List ℕ → List ℕ → Type 0
-AreLater table later = (factor : ℕ) → factor < 256 → get_or later factor 0 ≡ after_byte table (get_or table factor 0) 0
+-- the register after these bytes, one after the other
+unfoldable pub after_bytes : List ℕ → ℕ → List ℕ → ℕ
+after_bytes table register [] = register
+after_bytes table register (byte ∷ bytes) = after_bytes table (after_byte table register byte) bytes
+
+-- what is left of each entry after one byte more
+abbrev pub AreLater : List ℕ → List ℕ → List ℕ → Type 0
+AreLater table entries later = (factor : ℕ) → factor < 256 → get_or later factor 0 ≡ after_byte table (get_or entries factor 0) 0
+
+-- the generator's multiples, and what is left of them one, two and three bytes later
+pub record AreTables (generator : List ℕ) (tables : List (List ℕ)) : Type 0 where
+  pub words : (factor : ℕ) → get_or (get_or tables 0 []) factor 0 < 2 ^ 128
+  pub multiples : HasMultiples generator (get_or tables 0 []) 256
+  pub one : AreLater (get_or tables 0 []) (get_or tables 0 []) (get_or tables 1 [])
+  pub two : AreLater (get_or tables 0 []) (get_or tables 1 []) (get_or tables 2 [])
+  pub three : AreLater (get_or tables 0 []) (get_or tables 2 []) (get_or tables 3 [])
 
 -- the register holds the remainder of what was read
 pub record HoldsRemainder (generator read : List ℕ) (register : ℕ) : Type 0 where

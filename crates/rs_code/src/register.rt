@@ -1,51 +1,126 @@
 //! Division by a generator of at most sixteen coefficients: the remainder stands in one word of 128 bits, its first byte highest.
-//! A byte is read by one look-up, of the generator times the byte that leaves the register; two bytes by two look-ups at once.
-ghost use Rattle.std.specs.Prelude.{◌≡◌, ◌↔◌, ℕ, ◌*◌, ◌^◌, ◌<◌, ◌≤◌, List, length, All, IsTrue};
+//! A byte is read by one look-up, of the generator times the byte that leaves the register; four bytes by four look-ups at once.
+ghost use Rattle.std.specs.Prelude.{◌≡◌, ℕ, ◌<◌, ◌≤◌, List, [], ◌∷◌, ◌++◌, length, slice_index_or, take, All};
+ghost use Rattle.std.specs.List.{concat};
 ghost use Rattle.gf_field.specs.Words.{IsByte};
 ghost use Rattle.rs_code.specs.Polynomials.{IsRemainder};
-ghost use Rattle.rs_code.specs.Registers.{HasMultiples, AreLater, after_byte};
+ghost use Rattle.rs_code.specs.Registers.{AreTables, after_bytes, bytes_of};
 
-/// Sets `parity` to the remainder of `message` by the generator whose multiples the tables have.
+/// Sets `parity` to the remainder of `message` by the generator whose tables these are.
 /// That the message is bytes is told too, since a word of constant length doesn't tell it.
-pub fn divide(table: &[u128; 256], later: &[u128; 256], message: &[u8], parity: &mut [u8])
+#[inline]
+pub fn divide(tables: &[[u128; 256]; 4], message: &[u8], parity: &mut [u8])
     requires some_parity { 0 < length parity.old }
     requires fits { length parity.old ≤ 16 }
-    ensures remainder { (generator : List ℕ) → length generator ≡ length parity.old → HasMultiples generator table.now 256
-        → AreLater table.now later.now → IsRemainder generator message.now parity.new }
+    ensures remainder { (generator : List ℕ) → length generator ≡ length parity.old → AreTables generator tables.now → IsRemainder generator message.now parity.new }
     ensures message_bytes { All IsByte message.now }
 {
-    let pairs = message.len() / 2;
-    let mut register = 0;
-    for i in 0..pairs {
-        register = read_pair(table, later, register, message[2 * i], message[2 * i + 1]);
-    }
-    if message.len() % 2 == 1 {
-        register = read_byte(table, register, message[2 * pairs]);
-    }
+    let (words, others) = message.as_chunks::<4>();
+    put_register(
+        with_bytes(tables, with_words(tables, 0, words), others),
+        parity,
+    );
+}
+
+/// The same of two messages of one length, side by side: the look-ups of neither wait for those of the other.
+#[inline]
+pub fn divide_both(
+    tables: &[[u128; 256]; 4],
+    first: &[u8],
+    second: &[u8],
+    first_parity: &mut [u8],
+    second_parity: &mut [u8],
+)
+    requires same { length second.now ≡ length first.now }
+    requires some_parity { 0 < length first_parity.old }
+    requires fits { length first_parity.old ≤ 16 }
+    requires same_parity { length second_parity.old ≡ length first_parity.old }
+    ensures first { (generator : List ℕ) → length generator ≡ length first_parity.old → AreTables generator tables.now → IsRemainder generator first.now first_parity.new }
+    ensures second { (generator : List ℕ) → length generator ≡ length first_parity.old → AreTables generator tables.now → IsRemainder generator second.now second_parity.new }
+    ensures first_bytes { All IsByte first.now }
+    ensures second_bytes { All IsByte second.now }
+{
+    let (first_words, first_others) = first.as_chunks::<4>();
+    let (second_words, second_others) = second.as_chunks::<4>();
+    let (one, other) = with_words_of_both(tables, first_words, second_words);
+    put_register(with_bytes(tables, one, first_others), first_parity);
+    put_register(with_bytes(tables, other, second_others), second_parity);
+}
+
+/// Writes the first bytes of a register.
+#[inline]
+fn put_register(register: u128, parity: &mut [u8])
+    requires { length parity.old ≤ 16 }
+    ensures { parity.new ≡ take (length parity.old) (bytes_of 16 register) }
+{
     let size = parity.len();
     parity.copy_from_slice(&register.to_be_bytes()[..size]);
 }
 
-/// Two steps of the division in one. Neither look-up waits for the other.
-fn read_pair(
-    table: &[u128; 256],
-    later: &[u128; 256],
-    register: u128,
-    first: u8,
-    second: u8,
-) -> u128
-    ensures { (generator : List ℕ) → HasMultiples generator table.now 256 → AreLater table.now later.now
-        → result ≡ after_byte table.now (after_byte table.now register first) second }
+/// The registers after these words of two messages.
+#[inline]
+fn with_words_of_both(
+    tables: &[[u128; 256]; 4],
+    first: &[[u8; 4]],
+    second: &[[u8; 4]],
+) -> (u128, u128)
+    requires { length second.now ≡ length first.now }
+    ensures one { (generator : List ℕ) → AreTables generator tables.now → (rest : List ℕ)
+        → after_bytes (slice_index_or tables.now 0 []) result.0 rest ≡ after_bytes (slice_index_or tables.now 0 []) 0 (concat first.now ++ rest) }
+    ensures other { (generator : List ℕ) → AreTables generator tables.now → (rest : List ℕ)
+        → after_bytes (slice_index_or tables.now 0 []) result.1 rest ≡ after_bytes (slice_index_or tables.now 0 []) 0 (concat second.now ++ rest) }
 {
-    let far = (register >> 120) as u8 ^ first;
-    let near = (register >> 112 & 0xFF) as u8 ^ second;
-    (register << 16) ^ later[far as usize] ^ table[near as usize]
+    let mut one = 0;
+    let mut other = 0;
+    for i in 0..first.len() {
+        one = with_word(tables, one, first[i]);
+        other = with_word(tables, other, second[i]);
+    }
+    (one, other)
+}
+
+/// The register after these words of four bytes.
+#[inline]
+fn with_words(tables: &[[u128; 256]; 4], register: u128, words: &[[u8; 4]]) -> u128
+    ensures { (generator : List ℕ) → AreTables generator tables.now → (rest : List ℕ)
+        → after_bytes (slice_index_or tables.now 0 []) result rest ≡ after_bytes (slice_index_or tables.now 0 []) register (concat words.now ++ rest) }
+{
+    let mut next = register;
+    for word in words {
+        next = with_word(tables, next, *word);
+    }
+    next
+}
+
+/// The register after these bytes.
+#[inline]
+fn with_bytes(tables: &[[u128; 256]; 4], register: u128, bytes: &[u8]) -> u128
+    ensures { (rest : List ℕ) → after_bytes (slice_index_or tables.now 0 []) result rest ≡ after_bytes (slice_index_or tables.now 0 []) register (bytes.now ++ rest) }
+{
+    let mut next = register;
+    for byte in bytes {
+        next = with_byte(&tables[0], next, *byte);
+    }
+    next
+}
+
+/// Four steps of the division in one. No look-up waits for another.
+#[inline]
+fn with_word(tables: &[[u128; 256]; 4], register: u128, word: [u8; 4]) -> u128
+    ensures { (generator : List ℕ) → AreTables generator tables.now → (rest : List ℕ)
+        → after_bytes (slice_index_or tables.now 0 []) result rest ≡ after_bytes (slice_index_or tables.now 0 []) register (word ++ rest) }
+{
+    let [first, second, third, fourth] = ((register >> 96) as u32).to_be_bytes();
+    let front = tables[3][(first ^ word[0]) as usize] ^ tables[2][(second ^ word[1]) as usize];
+    let back = tables[1][(third ^ word[2]) as usize] ^ tables[0][(fourth ^ word[3]) as usize];
+    (register << 32) ^ front ^ back
 }
 
 /// One step of the division: takes in one more byte.
-#[tactic(auto, unfolding(crate::specs::Registers::after_byte))]
-fn read_byte(table: &[u128; 256], register: u128, byte: u8) -> u128
-    ensures { result ≡ after_byte table.now register byte }
+#[inline]
+#[tactic(auto, unfolding(crate::specs::Registers::after_byte, crate::specs::Registers::after_bytes))]
+fn with_byte(table: &[u128; 256], register: u128, byte: u8) -> u128
+    ensures { (rest : List ℕ) → after_bytes table.now result rest ≡ after_bytes table.now register (byte ∷ rest) }
 {
     let factor = (register >> 120) as u8 ^ byte;
     (register << 8) ^ table[factor as usize]
