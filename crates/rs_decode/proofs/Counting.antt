@@ -1,7 +1,8 @@
 -- The errors counted place by place, and what a near codeword costs.
-use Rattle.std.proofs.Common.{◌≡◌, ◌≢◌, ℕ, zero, suc, ◌+◌, ◌*◌, ◌<◌, ◌≤◌, Bool, true, false, ◌==◌, List, [], ◌∷◌, length, get_or, drop, if◌then◌else◌, refl, sym, ap, ◌∙◌, arith}
+use Rattle.std.proofs.Common.{◌≡◌, ℕ, zero, suc, ◌+◌, ◌*◌, ◌<◌, ◌≤◌, Bool, true, false, not, ◌&&◌, ◌==◌, inl, inr, List, [], ◌∷◌, length, get_or, drop, if◌then◌else◌, refl, sym, ap, ◌∙◌, arith}
 use Rattle.std.proofs.lemmas.List.{drop_all, drop_more}
-use Rattle.std.proofs.lemmas.Bool.{false≢true}
+use Rattle.std.proofs.lemmas.Bool.{cases_eq}
+use mir.Val.{bool_byte}
 use Rattle.std.proofs.lemmas.Bool.Decides.{nat_tests}
 use Rattle.gf_field.specs.Words.{IsCodeword, IsNear}
 use Rattle.rs_decode.specs.Errors.{error_count}
@@ -26,29 +27,32 @@ error_count-no_marks (got ∷ received) (byte ∷ word) = refl
 pub error_count-end : (received word : List ℕ) (marks : List Bool) (n : ℕ) → length marks ≤ n → error_count (drop n received) (drop n word) (drop n marks) ≡ 0
 error_count-end received word marks n past = rw (drop_all n marks past) (error_count-no_marks (drop n received) (drop n word))
 
--- a place that counts
-pub error_counted : (mark : Bool) (byte got : ℕ) → mark ≡ false → byte ≢ got → error_at mark byte got ≡ 1
+-- the same as a number from a test
+pub error_at-number : (mark : Bool) (byte got : ℕ) → bool_byte (not mark && not (byte == got)) ≡ error_at mark byte got
 unfolding error_at
-error_counted true byte got clear differ = absurd (false≢true (sym clear))
-error_counted false byte got clear differ = grind (arith, nat_tests)
+error_at-number true byte got = refl
+error_at-number false byte got = elim (cases_eq byte got) [
+  | inl same ↦ grind (arith, nat_tests)
+  | inr differ ↦ grind (arith, nat_tests)
+]
 
--- and others
-pub error_same : (mark : Bool) (byte got : ℕ) → byte ≡ got → error_at mark byte got ≡ 0
+pub error_at-one : (mark : Bool) (byte got : ℕ) → error_at mark byte got ≤ 1
 unfolding error_at
-error_same true byte got same = refl
-error_same false byte got same = grind (arith, nat_tests)
+error_at-one true byte got = omega arith
+error_at-one false byte got = grind (arith, nat_tests)
 
-pub error_marked : (mark : Bool) (byte got : ℕ) → mark ≡ true → error_at mark byte got ≡ 0
+-- a byte that stayed
+error_same : (mark : Bool) (byte : ℕ) → error_at mark byte byte ≡ 0
 unfolding error_at
-error_marked true byte got mark_is = refl
-error_marked false byte got mark_is = absurd (false≢true mark_is)
+error_same true byte = refl
+error_same false byte = grind (arith, nat_tests)
 
 -- a word against itself
 pub error_count-self : (word : List ℕ) (marks : List Bool) → error_count word word marks ≡ 0
 unfolding error_count error_at
 error_count-self [] marks = refl
 error_count-self (byte ∷ word) [] = refl
-error_count-self (byte ∷ word) (mark ∷ marks) = ap (λ n. n + error_count word word marks) (error_same mark byte byte refl) ∙ omega (arith, error_count-self word marks)
+error_count-self (byte ∷ word) (mark ∷ marks) = ap (λ n. n + error_count word word marks) (error_same mark byte) ∙ omega (arith, error_count-self word marks)
 
 -- a codeword is near that costs little enough
 pub IsNear-from_counts : (n r : ℕ) (received word : List ℕ) (marks : List Bool) → IsCodeword n r word → length received ≡ n → length marks ≡ n → 2 * error_count received word marks + marked marks ≤ r → IsNear n r received marks word

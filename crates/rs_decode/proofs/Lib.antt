@@ -1,6 +1,7 @@
 pub mod Combinations
 pub mod Connections
 pub mod Counting
+pub mod FewZeros
 pub mod Fillings
 pub mod Locators
 pub mod Marks
@@ -13,5 +14,7 @@ pub mod Quotients
 pub mod Registers
 pub mod Roots
 pub mod Solving
+pub mod Terms
+pub mod ThirdDegree
 pub mod Totals
 pub mod Zeros

@@ -1,12 +1,13 @@
 -- The marked places of a word, as loops over the marks pass them.
-use Rattle.std.proofs.Common.{◌≡◌, ℕ, zero, suc, ◌+◌, ◌-◌, ◌<◌, ◌≤◌, Bool, true, false, List, [], ◌∷◌, ◌++◌, length, take, drop, get_or, set, All, subst, refl, ap, ◌∙◌, arith, add-one, drop-cons, append_assoc}
-use Rattle.std.proofs.Math.Seq.{take-suc, take-suc-set}
-use Rattle.std.proofs.lemmas.List.{take_all, drop_all, drop-set-lt, append-nil}
-use Rattle.std.proofs.lemmas.List.Elements.{All-head, All-tail, All-set}
+use Rattle.std.proofs.Common.{◌≡◌, ◌≢◌, ℕ, zero, suc, ◌+◌, ◌-◌, ◌<◌, ◌≤◌, Bool, true, false, ◌||◌, nat_lt, List, [], ◌∷◌, ◌++◌, length, take, get_or, set, All, refl, sym, ap, ◌∙◌, arith, add-one}
+use Rattle.std.proofs.lemmas.Bool.Decides.{nat_tests}
+use Rattle.std.proofs.lemmas.List.{nil_from_length}
+use Rattle.std.proofs.lemmas.List.Elements.{All-set}
 use Rattle.gf_field.specs.Field.{alpha, plus, power}
 use Rattle.gf_field.specs.Words.{IsByte}
-use Rattle.gf_field.proofs.FieldLaws.{plus-byte}
+use Rattle.gf_field.proofs.FieldLaws.{alpha-nonzero, plus-byte, power-alpha-differ, power-nonzero}
 use Rattle.rs_code.specs.PowerSums.{points_of}
+use Rattle.rs_code.proofs.PowerSums.{length-points_of}
 use Rattle.rs_decode.specs.Filling.{marked}
 use Rattle.rs_decode.specs.Places.{picked, patched}
 
@@ -78,12 +79,27 @@ marked-take-le (mark ∷ marks) (suc i) =
     let rest : marked (take i marks) ≤ marked marks = marked-take-le marks i in
     omega arith
 
+-- whether any place so far is marked
+any-next : (mark : Bool) (before after : ℕ) → (mark ≡ true → after ≡ suc before) → (mark ≡ false → after ≡ before) → (nat_lt 0 before || mark) ≡ nat_lt 0 after
+any-next true before after one_more same = let more = one_more refl in grind (arith, nat_tests)
+any-next false before after one_more same = let kept = same refl in grind (arith, nat_tests)
+
+pub any_marked-next : (marks : List Bool) (i : ℕ) → i < length marks → (nat_lt 0 (marked (take i marks)) || get_or marks i false) ≡ nat_lt 0 (marked (take (i + 1) marks))
+any_marked-next marks i below = any-next (get_or marks i false) (marked (take i marks)) (marked (take (i + 1) marks)) (marked-next_marked marks i below) (marked-next_clear marks i below)
+
 pub length-picked : (marks : List Bool) (xs : List ℕ) → length xs ≡ length marks → length (picked marks xs) ≡ marked marks
 unfolding picked marked
 length-picked [] xs size = refl
 length-picked (mark ∷ marks) [] size = absurd (omega arith)
 length-picked (true ∷ marks) (x ∷ xs) size = ap suc (length-picked marks xs (omega arith)) ∙ omega arith
 length-picked (false ∷ marks) (x ∷ xs) size = length-picked marks xs (omega arith) ∙ omega arith
+
+pub unmarked : (count : ℕ) → nat_lt 0 count ≡ false → count ≡ 0
+unmarked count none = grind (arith, nat_tests)
+
+-- where no place is marked there are none
+pub picked-unmarked : (marks : List Bool) (xs : List ℕ) → length xs ≡ length marks → marked marks ≡ 0 → picked marks xs ≡ []
+picked-unmarked marks xs size none = nil_from_length (picked marks xs) (length-picked marks xs size ∙ none)
 
 -- the power of alpha at a place
 pub get_or-points_of : (n i : ℕ) → i < n → get_or (points_of n) i 0 ≡ power alpha (n - 1 - i)
@@ -96,45 +112,84 @@ get_or-points_of (suc n) (suc i) below =
 
 -- ---- words with bytes added at marked places
 
-pub patched-all : (word : List ℕ) (marks : List Bool) (bytes : List ℕ) (i : ℕ) → length word ≡ length marks → length marks ≤ i → take i word ++ patched (drop i word) (drop i marks) bytes ≡ word
-unfolding patched
-patched-all word marks bytes i size past =
-    let past_word : length word ≤ i = omega arith in
-    let none : drop i word ≡ [] = drop_all i word past_word in
-    let whole : take i word ≡ word = take_all i word past_word in
-    ap (λ w. take i word ++ patched w (drop i marks) bytes) none ∙ append-nil (take i word) ∙ whole
+-- the place of the mark that i marks stand before
+place_of_mark : List Bool → ℕ → ℕ
+place_of_mark [] i = 0
+place_of_mark (true ∷ marks) zero = 0
+place_of_mark (true ∷ marks) (suc i) = suc (place_of_mark marks i)
+place_of_mark (false ∷ marks) i = suc (place_of_mark marks i)
 
--- at an unmarked place
-pub patched-next_clear : (word : List ℕ) (marks : List Bool) (bytes : List ℕ) (i : ℕ) → i < length word → i < length marks → get_or marks i false ≡ false → take (i + 1) word ++ patched (drop (i + 1) word) (drop (i + 1) marks) bytes ≡ take i word ++ patched (drop i word) (drop i marks) bytes
-unfolding patched
-patched-next_clear word marks bytes i below below_marks clear =
-    let here = drop-cons word i 0 below in
-    let mark : drop i marks ≡ false ∷ drop (suc i) marks = drop-cons marks i false below_marks ∙ ap (λ b. b ∷ drop (suc i) marks) clear in
-    rw (add-one, take-suc word i 0 below, here, mark) (append_assoc (take i word) (get_or word i 0 ∷ []) (patched (drop (suc i) word) (drop (suc i) marks) bytes))
+place_of_mark-inside : (marks : List Bool) (i : ℕ) → i < marked marks → place_of_mark marks i < length marks
+unfolding place_of_mark marked
+place_of_mark-inside [] i below = absurd (omega arith)
+place_of_mark-inside (true ∷ marks) zero below = omega arith
+place_of_mark-inside (true ∷ marks) (suc i) below = let rest = place_of_mark-inside marks i (omega arith) in omega arith
+place_of_mark-inside (false ∷ marks) i below = let rest = place_of_mark-inside marks i (omega arith) in omega arith
 
--- at a marked place when no byte is left
-pub patched-next_none : (word : List ℕ) (marks : List Bool) (i : ℕ) → i < length word → i < length marks → get_or marks i false ≡ true → take (i + 1) word ++ patched (drop (i + 1) word) (drop (i + 1) marks) [] ≡ take i word ++ patched (drop i word) (drop i marks) []
-unfolding patched
-patched-next_none word marks i below below_marks set =
-    let here = drop-cons word i 0 below in
-    let mark : drop i marks ≡ true ∷ drop (suc i) marks = drop-cons marks i false below_marks ∙ ap (λ b. b ∷ drop (suc i) marks) set in
-    rw (add-one, take-suc word i 0 below, here, mark) (append_assoc (take i word) (get_or word i 0 ∷ []) (patched (drop (suc i) word) (drop (suc i) marks) []))
+picked-at : (marks : List Bool) (xs : List ℕ) (i : ℕ) → length xs ≡ length marks → i < marked marks → get_or (picked marks xs) i 0 ≡ get_or xs (place_of_mark marks i) 0
+unfolding picked place_of_mark marked
+picked-at [] xs i size below = absurd (omega arith)
+picked-at (mark ∷ marks) [] i size below = absurd (omega arith)
+picked-at (true ∷ marks) (x ∷ xs) zero size below = refl
+picked-at (true ∷ marks) (x ∷ xs) (suc i) size below = picked-at marks xs i (omega arith) (omega arith)
+picked-at (false ∷ marks) (x ∷ xs) i size below = picked-at marks xs i (omega arith) (omega arith)
 
--- at a marked place
-pub patched-next_marked : (word : List ℕ) (marks : List Bool) (first : ℕ) (rest : List ℕ) (i : ℕ) → i < length word → i < length marks → get_or marks i false ≡ true → take (i + 1) (set word i (plus (get_or word i 0) first)) ++ patched (drop (i + 1) (set word i (plus (get_or word i 0) first))) (drop (i + 1) marks) rest ≡ take i word ++ patched (drop i word) (drop i marks) (first ∷ rest)
-unfolding patched
-patched-next_marked word marks first rest i below below_marks set =
-    let byte = plus (get_or word i 0) first in
-    let here = drop-cons word i 0 below in
-    let mark : drop i marks ≡ true ∷ drop (suc i) marks = drop-cons marks i false below_marks ∙ ap (λ b. b ∷ drop (suc i) marks) set in
-    let later : i < suc i = omega arith in
-    rw (add-one, take-suc-set word i byte below, drop-set-lt (suc i) word i byte later, here, mark) (append_assoc (take i word) (byte ∷ []) (patched (drop (suc i) word) (drop (suc i) marks) rest))
+-- the power of alpha at its place, as a loop over the points has it
+point-at : (marks : List Bool) (points : List ℕ) (i : ℕ) → points ≡ picked marks (points_of (length marks)) → i < length points
+    → (place_of_mark marks i < length marks) × (get_or points i 0 ≡ power alpha (length marks - 1 - place_of_mark marks i))
+point-at marks points i are inside =
+    let size = length-points_of (length marks) in
+    let below : i < marked marks = omega (arith, ap length are, length-picked marks (points_of (length marks)) size) in
+    let within = place_of_mark-inside marks i below in
+    (within, ap (λ xs. get_or xs i 0) are ∙ picked-at marks (points_of (length marks)) i size below ∙ get_or-points_of (length marks) (place_of_mark marks i) within)
 
--- the bytes that are left are split into the first and the rest
-pub left-split : (left : List ℕ) (first : ℕ) (rest : List ℕ) → left ≡ first ∷ rest → All IsByte left → (first < 256) × All IsByte rest
-left-split left first rest split all =
-    let both : All IsByte (first ∷ rest) = subst (All IsByte) split all in
-    (All-head IsByte first rest both, All-tail IsByte first rest both)
+-- with no bytes
+pub patched-none : (word : List ℕ) (marks : List Bool) → patched word marks [] ≡ word
+unfolding patched
+patched-none [] marks = refl
+patched-none (byte ∷ word) [] = refl
+patched-none (byte ∷ word) (false ∷ marks) = ap (λ w. byte ∷ w) (patched-none word marks)
+patched-none (byte ∷ word) (true ∷ marks) = ap (λ w. byte ∷ w) (patched-none word marks)
+
+-- a word with a byte added at a place
+abbrev added : List ℕ → ℕ → ℕ → List ℕ
+added word place byte = set word place (plus (get_or word place 0) byte)
+
+-- with one byte more
+patched-suc : (word : List ℕ) (marks : List Bool) (bytes : List ℕ) (i : ℕ) → length word ≡ length marks → i < length bytes → i < marked marks
+    → patched word marks (take (suc i) bytes) ≡ added (patched word marks (take i bytes)) (place_of_mark marks i) (get_or bytes i 0)
+unfolding patched place_of_mark marked
+patched-suc word [] bytes i size inside below = absurd (omega arith)
+patched-suc [] (mark ∷ marks) bytes i size inside below = absurd (omega arith)
+patched-suc (byte ∷ word) (false ∷ marks) bytes i size inside below = ap (λ w. byte ∷ w) (patched-suc word marks bytes i (omega arith) inside (omega arith))
+patched-suc (byte ∷ word) (true ∷ marks) [] i size inside below = absurd (omega arith)
+patched-suc (byte ∷ word) (true ∷ marks) (first ∷ rest) zero size inside below = refl
+patched-suc (byte ∷ word) (true ∷ marks) (first ∷ rest) (suc i) size inside below = ap (λ w. plus byte first ∷ w) (patched-suc word marks rest i (omega arith) (omega arith) (omega arith))
+
+-- the same by the point's logarithm
+pub patched-next : (word now : List ℕ) (marks : List Bool) (points bytes : List ℕ) (i e : ℕ) → length marks ≤ 255 → length marks ≡ length word
+    → points ≡ picked marks (points_of (length marks)) → length bytes ≡ length points → i < length points → e < 255 → power alpha e ≡ get_or points i 0
+    → now ≡ patched word marks (take i bytes) → set now (length word - 1 - e) (plus (get_or now (length word - 1 - e) 0) (get_or bytes i 0)) ≡ patched word marks (take (i + 1) bytes)
+patched-next word now marks points bytes i e short size are fits inside below reaches now_is =
+    let at = point-at marks points i are inside in
+    let same : e ≡ length marks - 1 - place_of_mark marks i = power-alpha-differ e (length marks - 1 - place_of_mark marks i) below (omega (arith, at.0)) (reaches ∙ at.1) in
+    let place : length word - 1 - e ≡ place_of_mark marks i = omega (arith, at.0) in
+    let few : i < marked marks = omega (arith, ap length are, length-picked marks (points_of (length marks)) (length-points_of (length marks))) in
+    ap (λ p. added now p (get_or bytes i 0)) place
+    ∙ ap (λ w. added w (place_of_mark marks i) (get_or bytes i 0)) now_is
+    ∙ sym (patched-suc word marks bytes i (sym size) (omega arith) few) ∙ ap (λ n. patched word marks (take n bytes)) (sym (add-one i))
+
+-- each point of a marked place has a logarithm, of a place in the word
+pub point-nonzero : (marks : List Bool) (points : List ℕ) (i : ℕ) → points ≡ picked marks (points_of (length marks)) → i < length points → get_or points i 0 ≢ 0
+point-nonzero marks points i are inside is_zero =
+    let at = point-at marks points i are inside in
+    power-nonzero alpha (length marks - 1 - place_of_mark marks i) (omega arith) alpha-nonzero (sym at.1 ∙ is_zero)
+
+pub point-within : (marks : List Bool) (points : List ℕ) (i e : ℕ) → length marks ≤ 255 → points ≡ picked marks (points_of (length marks)) → i < length points
+    → e < 255 → power alpha e ≡ get_or points i 0 → e < length marks
+point-within marks points i e short are inside below reaches =
+    let at = point-at marks points i are inside in
+    omega (arith, at.0, power-alpha-differ e (length marks - 1 - place_of_mark marks i) below (omega (arith, at.0)) (reaches ∙ at.1))
 
 pub byte-added : (word : List ℕ) (i byte : ℕ) → i < length word → byte < 256 → All IsByte word → All IsByte (set word i (plus (get_or word i 0) byte))
 byte-added word i byte inside is_byte all =

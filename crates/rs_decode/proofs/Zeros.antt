@@ -1,7 +1,7 @@
 -- The search for a polynomial's zeros: the marks place by place.
-use Rattle.std.proofs.Common.{◌≡◌, ◌≢◌, ℕ, ◌-◌, ◌<◌, ◌≤◌, Bool, true, false, ◌||◌, ◌==◌, List, length, get_or, refl, sym, ap, ◌∙◌, arith}
+use Rattle.std.proofs.Common.{◌≡◌, ◌≢◌, ℕ, ◌-◌, ◌<◌, ◌≤◌, Bool, true, false, ◌||◌, ◌==◌, List, length, get_or, refl, sym, ap, ◌∙◌, arith, inl, inr}
 use Rattle.std.proofs.lemmas.List.{ext_get_or}
-use Rattle.std.proofs.lemmas.Bool.{false≢true}
+use Rattle.std.proofs.lemmas.Bool.{cases_eq, false≢true}
 use Rattle.std.proofs.lemmas.Bool.Decides.{nat_tests}
 use Rattle.gf_field.specs.Field.{alpha, power}
 use Rattle.gf_field.specs.Words.{value}
@@ -25,6 +25,12 @@ with_zeros-from_places locator marks after size places =
     ∙ ap (λ x. get_or marks k false || (value locator x == 0)) (sym point)
     ∙ sym (get_or-with_zeros locator marks (points_of (length marks)) k long (omega arith)))
 
+-- the same of one place
+pub with_zeros-place : (locator : List ℕ) (marks : List Bool) (k : ℕ) → k < length marks → get_or (with_zeros locator marks (points_of (length marks))) k false ≡ (get_or marks k false || (value locator (power alpha (length marks - 1 - k)) == 0))
+with_zeros-place locator marks k below =
+    get_or-with_zeros locator marks (points_of (length marks)) k (sym (length-points_of (length marks))) below
+    ∙ ap (λ x. get_or marks k false || (value locator x == 0)) (get_or-points_of (length marks) k below)
+
 -- a place that is marked stays so
 pub or_marked : (mark test : Bool) → mark ≡ true → mark ≡ (mark || test)
 or_marked true test mark_is = refl
@@ -34,6 +40,11 @@ or_marked false test mark_is = absurd (false≢true mark_is)
 pub or_found : (mark test : Bool) → mark ≡ false → test ≡ true → true ≡ (mark || test)
 or_found true test clear found = absurd (false≢true (sym clear))
 or_found false test clear found = sym found
+
+-- at a zero a place is marked in any case
+pub or_zero : (mark test : Bool) → test ≡ true → true ≡ (mark || test)
+or_zero true test found = refl
+or_zero false test found = sym found
 
 -- and where it is none, nothing changes
 pub or_false : (mark test : Bool) → test ≡ false → mark ≡ (mark || test)
@@ -51,3 +62,16 @@ pub points-differ : (n j k : ℕ) → n ≤ 255 → k < j → j < n → power al
 points-differ n j k short before inside same =
     let e : n - 1 - k ≡ n - 1 - j = power-alpha-differ (n - 1 - k) (n - 1 - j) (omega arith) (omega arith) same in
     absurd (omega arith)
+
+or_again : (m : Bool) (p v : ℕ) → ((v == 0) ≡ false → p ≢ 0) → ((m || (v == 0)) || (p == 0)) ≡ (m || (v == 0))
+or_again true p v apart = refl
+or_again false p v apart = elim (cases_eq v 0) [
+  | inl v_zero ↦ ap (λ test. test || (p == 0)) (is_zero v v_zero) ∙ sym (is_zero v v_zero)
+  | inr v_not ↦
+      let none = is_not_zero v v_not in
+      ap (λ test. test || (p == 0)) none ∙ is_not_zero p (apart none) ∙ sym none
+]
+
+-- where a polynomial's zeros are marked, those of one that divides it are too
+pub or_divided : (m : Bool) (p v : ℕ) → (p ≡ 0 → v ≡ 0) → ((m || (v == 0)) || (p == 0)) ≡ (m || (v == 0))
+or_divided m p v divides = or_again m p v (λ v_not p_zero. absurd (false≢true (sym v_not ∙ is_zero v (divides p_zero))))

@@ -47,7 +47,7 @@ pub fn fill_from<const N: usize, const R: usize>(
     let corrections = &mut sums[..points.len()];
     solve(&points, corrections);
     let mut filled = *word;
-    patch(&mut filled, marks, corrections);
+    patch(&mut filled, &points, corrections);
     if !code.is_codeword(&filled) {
         return Err(NoCodeword);
     }

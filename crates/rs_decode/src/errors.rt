@@ -8,6 +8,7 @@ use crate::erasures::fill_from;
 use crate::locating::{count_errors, mark_zeros, sums_without, tell_bytes};
 use crate::places::marked_points;
 use crate::register::shortest;
+use crate::sums::plain_sum;
 use rs_code::Code;
 use thiserror::Error;
 
@@ -43,7 +44,8 @@ pub fn decode<const N: usize, const R: usize>(
     let Some(points) = marked_points(marks, R) else {
         return Err(Beyond);
     };
-    if points.is_empty() && code.is_codeword(word) {
+    // The bytes of a codeword have the sum 0. So a word with errors is divided once only, but for a few.
+    if points.is_empty() && plain_sum(word) == 0 && code.is_codeword(word) {
         return Ok(Fix {
             errors: 0,
             erased: 0,

@@ -2,6 +2,7 @@
 //!
 //! - [`erasures`]: `fill` finds the codeword that agrees with a word at all places that aren't marked.
 //! - [`errors`]: `decode` finds the codeword that is near a word with marks.
+//! - `few_zeros`: zeros of polynomials of degree 1 to 3.
 //! - `locating`: the places where errors may be, from power sums and a locator.
 //! - `places`: the marked places of a word.
 //! - [`register`]: `shortest` finds the shortest linear feedback register that generates a list.
@@ -13,6 +14,7 @@
 mod combining;
 pub mod erasures;
 pub mod errors;
+mod few_zeros;
 pub mod laws;
 mod locating;
 mod places;

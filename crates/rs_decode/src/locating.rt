@@ -1,15 +1,16 @@
 //! The places where errors may be: those whose points are zeros of a locator.
 ghost use Rattle.std.specs.Prelude.{◌≡◌, ℕ, ◌+◌, ◌<◌, ◌≤◌, List, Bool, length, All, slice_index};
 ghost use Rattle.arrayvec.specs.ArrayVec.{array_vec_len};
-ghost use Rattle.gf_field.specs.Field.{plus, product};
+ghost use Rattle.gf_field.specs.Field.{alpha, plus, power, product};
 ghost use Rattle.gf_field.specs.Words.{IsByte, value};
 ghost use Rattle.rs_code.specs.PowerSums.{points_of};
 ghost use Rattle.rs_decode.specs.Errors.{error_count};
 ghost use Rattle.rs_decode.specs.Locator.{at_points, distances, with_zeros};
 ghost use Rattle.rs_decode.specs.Sums.{AreSums};
 
+use crate::few_zeros::mark_few;
 use arrayvec::ArrayVec;
-use gf_field::mul;
+use gf_field::{alpha_pow, log, mul};
 
 /// The power sums with points taken out, one after the other, which leaves as many sums less.
 /// The sums that are left are those of the bytes multiplied by their points' distances to those that were taken out.
@@ -37,24 +38,22 @@ fn take_out_point(sums: &mut [u8], point: u8)
 }
 
 /// Marks each place whose point is a zero of the locator, whose highest coefficient is 1.
-/// A zero that was found is divided out, so that fewer products are left for the other places.
+/// A zero that was found is divided out, and the last three follow by a formula, so that few places are looked at.
 pub fn mark_zeros(locator: ArrayVec<u8, 33>, marks: &mut [bool])
     requires led { slice_index locator.items 0 ≡ 1 }
     requires short { length marks.now ≤ 255 }
     ensures { marks.new ≡ with_zeros locator.items marks.old (points_of (length marks.old)) }
 {
     let mut rest = locator;
-    let mut point = 1;
     for place in (0..marks.len()).rev() {
-        // No zero is left.
-        if rest.len() == 1 {
+        if mark_few(&rest, marks) {
             return;
         }
-        if !marks[place] && value_at(&rest, point) == 0 {
+        let exponent = (marks.len() - 1 - place) as u32;
+        if !marks[place] && value_at(&rest, exponent) == 0 {
             marks[place] = true;
-            divide(&mut rest, point);
+            divide(&mut rest, alpha_pow(exponent));
         }
-        point = mul(point, 2);
     }
 }
 
@@ -82,16 +81,20 @@ fn set_values(polynomial: &mut [u8], point: u8)
     }
 }
 
-/// The value of a polynomial, the highest power first, by Horner's rule.
-fn value_at(polynomial: &[u8], point: u8) -> u8
-    ensures { result ≡ value polynomial.now point }
+// The value of a polynomial at a power of alpha, term by term: a term's logarithm is its coefficient's and a multiple of
+// the exponent, so that no term waits for another.
+fn value_at(polynomial: &[u8], exponent: u32) -> u8
+    requires few { length polynomial.now ≤ 33 }
+    requires below { exponent < 255 }
+    ensures { result ≡ value polynomial.now (power alpha exponent) }
 {
-    let Some((first, others)) = polynomial.split_first() else {
-        return 0;
-    };
-    let mut sum = *first;
-    for coefficient in others {
-        sum = mul(point, sum) ^ *coefficient;
+    let mut sum = 0;
+    let mut shift = 0;
+    for k in (0..polynomial.len()).rev() {
+        if polynomial[k] != 0 {
+            sum ^= alpha_pow(log(polynomial[k]) + shift);
+        }
+        shift += exponent;
     }
     sum
 }
@@ -105,9 +108,8 @@ pub fn count_errors(received: &[u8], word: &[u8], marks: &[bool]) -> u16
 {
     let mut count = 0;
     for (place, mark) in marks.iter().enumerate() {
-        if !*mark && word[place] != received[place] {
-            count += 1;
-        }
+        // Without a branch, so that many places are taken at once.
+        count += u16::from(!*mark & (word[place] != received[place]));
     }
     count
 }

@@ -1,38 +1,40 @@
-use Rattle.std.proofs.Common.{◌≡◌, ◌+◌, ℕ, List, ◌∷◌, length, get_or, refl, sym, ap, ◌∙◌, arith, add-one}
-use Rattle.std.proofs.lemmas.List.{nil_from_length, take_all}
-use Rattle.gf_field.specs.Field.{plus, product}
+use Rattle.std.proofs.Common.{◌≡◌, ◌<◌, ◌+◌, ◌-◌, ◌∙◌, suc, length, drop, sym, ap, arith}
+use Rattle.std.proofs.lemmas.List.{drop_all}
+use Rattle.gf_field.specs.Field.{alpha, plus, power}
 use Rattle.gf_field.specs.Words.{value}
-use Rattle.gf_field.proofs.FieldLaws.{product-zero, zero-plus}
-use Rattle.rs_code.proofs.Values.{value-nil, value-more}
+use Rattle.gf_field.proofs.FieldLaws.{power-zero}
+use Rattle.rs_code.proofs.Values.{value-nil}
+use Rattle.rs_decode.proofs.Terms.{value-next, value-same, shift-next}
 use Rattle.rs_decode.proofs.locating.value_at.Goals as goal
+use Rattle.rs_decode.proofs.locating.value_at.Goals.{then-polynomial-k-ne0, else-polynomial-k-ne0}
 
--- after the first coefficient the others stand
-next-place : (all others : List ℕ) (first i : ℕ) → all ≡ first ∷ others → get_or all (i + 1) 0 ≡ get_or others i 0
-next-place all others first i split = ap (λ xs. get_or xs (i + 1) 0) split ∙ rw (add-one i) refl
+pub loop-k-init : goal.loop-k-init
+loop-k-init c =
+    let polynomial = c.args.polynomial.now in
+    let x = power alpha c.args.exponent in
+    let none : length polynomial - length polynomial ≡ 0 = omega arith in
+    record {
+      sum = sym (ap (λ p. value p x) (drop_all (length polynomial) polynomial (omega arith)) ∙ value-nil x);
+      shifted = power-zero alpha ∙ sym (ap (power x) none ∙ power-zero x);
+      small = omega arith;
+    }
 
-pub returns-in_default : goal.returns-in_default
-returns-in_default c = sym (ap (λ xs. value xs c.args.point) (nil_from_length c.args.polynomial.now c.in_default.ensures.cases) ∙ value-nil c.args.point)
-
-pub loop-coefficient-init : goal.loop-coefficient-init
-loop-coefficient-init c =
-    let all = c.args.polynomial.now in
-    let x = c.args.point in
-    let split = c.in-Some.ensures.cases.0 in
-    let here : get_or all 0 0 ≡ c.in-Some.first.now = ap (λ xs. get_or xs 0 0) split in
-    sym (value-more all 0 x (omega (arith, ap length split)) (omega (arith, here))
-    ∙ ap (λ v. plus (product x v) (get_or all 0 0)) (value-nil x) ∙ ap (λ p. plus p (get_or all 0 0)) (product-zero x)
-    ∙ zero-plus (get_or all 0 0) ∙ here)
-
-pub loop-coefficient-preserved : goal.loop-coefficient-preserved
-loop-coefficient-preserved c =
-    let all = c.args.polynomial.now in
-    let i = c.loop-coefficient.coefficient-index in
-    let split = c.in-Some.ensures.cases.0 in
-    let next = next-place all c.in-Some.others.now c.in-Some.first.now i split in
-    let more = value-more all (i + 1) c.args.point (omega (arith, ap length split)) (omega (arith, next)) in
-    cc
-
-pub returns : goal.returns
-returns c =
-    let all = c.args.polynomial.now in
-    c.loop-coefficient.invariant ∙ ap (λ xs. value xs c.args.point) (take_all (c.loop-coefficient.coefficient-index + 1) all (omega (arith, ap length c.in-Some.ensures.cases.0)))
+pub loop-k-preserved : goal.loop-k-preserved
+loop-k-preserved c =
+    let polynomial = c.args.polynomial.now in
+    let e = c.args.exponent in
+    let k = c.loop-k.k - 1 in
+    let before = c.loop-k.invariant in
+    let up : suc k ≡ c.loop-k.k = omega arith in
+    let inside : k < length polynomial = omega arith in
+    let so_far : c.loop-k.sum ≡ value (drop (suc k) polynomial) (power alpha e) = before.sum ∙ ap (λ n. value (drop n polynomial) (power alpha e)) (sym up) in
+    let shifted : power alpha c.loop-k.shift ≡ power (power alpha e) (length polynomial - suc k) = before.shifted ∙ ap (λ n. power (power alpha e) (length polynomial - n)) (sym up) in
+    let one_up : length polynomial - suc k + 1 ≡ length polynomial - k = omega arith in
+    record {
+      sum = elim c.if-polynomial-k-ne0.branch [
+        | then-polynomial-k-ne0 w ↦ w.sum-is ∙ ap (plus c.loop-k.sum) w.alpha_pow-sum.ensures ∙ value-next polynomial k e w.log.result c.loop-k.shift c.loop-k.sum inside w.log.ensures.reaches shifted so_far
+        | else-polynomial-k-ne0 w ↦ w.sum-is ∙ value-same polynomial k (power alpha e) c.loop-k.sum inside (omega (arith, w.if-polynomial-k-ne0.false)) so_far
+      ];
+      shifted = shift-next e c.loop-k.shift (length polynomial - suc k) shifted ∙ ap (power (power alpha e)) one_up;
+      small = omega (arith, before.small, c.requires.below);
+    }

@@ -1,9 +1,17 @@
 use Rattle.std.proofs.Common.{◌≡◌, ◌+◌, ◌<◌, length, arith, ap, sym, ◌∙◌}
 use Rattle.rs_code.specs.PowerSums.{points_of}
 use Rattle.rs_code.proofs.PowerSums.{length-points_of}
-use Rattle.rs_decode.proofs.Marks.{picked-none, picked-next_marked, picked-next_clear, marked-none, marked-next_marked, marked-next_clear, marked-take-le, get_or-points_of}
+use Rattle.rs_decode.specs.Filling.{marked}
+use Rattle.rs_decode.proofs.Marks.{picked-none, picked-next_marked, picked-next_clear, picked-unmarked, unmarked, marked-none, marked-next_marked, marked-next_clear, marked-take-le, get_or-points_of}
 use Rattle.rs_decode.proofs.places.marked_points.Goals as goal
 use Rattle.rs_decode.proofs.places.marked_points.Goals.{then-mark+else-len-most, else-mark}
+
+-- no place is marked
+pub returns-then-not-any_marked : goal.returns-then-not-any_marked
+returns-then-not-any_marked c =
+    let marks = c.args.marks.now in
+    let none : marked marks ≡ 0 = unmarked (marked marks) (sym c.any_marked.ensures ∙ c.if-not-any_marked.true) in
+    (omega (arith, none), c.new.ensures ∙ sym (picked-unmarked marks (points_of (length marks)) (length-points_of (length marks)) none))
 
 pub loop-place-init : goal.loop-place-init
 loop-place-init c =

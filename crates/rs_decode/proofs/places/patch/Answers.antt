@@ -1,49 +1,58 @@
-use Rattle.std.proofs.Common.{◌≡◌, ◌<◌, length, arith, ap, sym, subst, refl, All, ◌∙◌}
-use Rattle.std.proofs.lemmas.List.{nil_from_length}
+use Rattle.std.proofs.Common.{◌≡◌, ◌-◌, ◌<◌, length, length-set, get_or, set, arith, ap, sym, subst, refl, All, ◌∙◌}
+use Rattle.std.proofs.lemmas.List.{take_all}
 use Rattle.std.proofs.lemmas.List.Elements.{All-from_get_or}
+use Rattle.gf_field.specs.Field.{plus}
 use Rattle.gf_field.specs.Words.{IsByte}
-use Rattle.rs_decode.proofs.Marks.{patched-all, patched-next_clear, patched-next_none, patched-next_marked, left-split, byte-added}
+use Rattle.rs_decode.specs.Places.{patched}
+use Rattle.rs_decode.proofs.Marks.{byte-added, patched-next, patched-none, point-nonzero, point-within}
 use Rattle.rs_decode.proofs.places.patch.Goals as goal
-use Rattle.rs_decode.proofs.places.patch.Goals.{then-mark+in-Some, then-mark+in_default, else-mark}
+use Rattle.rs_decode.proofs.places.patch.Goals.{then-point-ne0+then-exponent-word, then-point-ne0+else-exponent-word, else-point-ne0}
 
-pub loop-place-init : goal.loop-place-init
-loop-place-init c = record {
-  size = c.requires;
+pub loop-k-init : goal.loop-k-init
+loop-k-init c = record {
+  size = refl;
   bytes = All-from_get_or IsByte c.args.word.now 0 (λ k inside. omega (arith, c.type_inv.word k));
-  left_bytes = All-from_get_or IsByte c.args.bytes.now 0 (λ k inside. omega (arith, c.type_inv.bytes k));
-  rest = refl;
+  patched = λ marks size are. sym (patched-none c.args.word.now marks);
 }
 
-pub loop-place-preserved : goal.loop-place-preserved
-loop-place-preserved c =
-    let within : c.loop-place.place < length c.args.marks.now = omega arith in
-    let within_word : c.loop-place.place < length c.loop-place.word = omega arith in
-    elim c.if-mark.branch [
-      | then-mark+in-Some w ↦
-          (let split = left-split c.loop-place.left.now w.in-Some.first.now w.in-Some.rest.now w.in-Some.ensures.cases.0 c.loop-place.invariant.left_bytes in
-          let left : c.if-mark.left.now ≡ w.in-Some.rest.now = ap (λ r. r.now) w.left-is in
+pub loop-k-preserved : goal.loop-k-preserved
+loop-k-preserved c =
+    let k = c.loop-k.k in
+    let word = c.loop-k.word in
+    let points = c.args.points.now in
+    let bytes = c.args.bytes.now in
+    let before = c.loop-k.invariant in
+    let inside : k < length points = c.loop-k-test.true in
+    elim c.if-point-ne0.branch [
+      | then-point-ne0+then-exponent-word w ↦
+          let place = length word - 1 - w.log-exponent.result in
+          let same : length c.args.word.now - 1 - w.log-exponent.result ≡ place = omega (arith, before.size) in
           record {
-            size = omega arith;
-            bytes = subst (All IsByte) (sym w.word-is) (byte-added c.loop-place.word c.loop-place.place w.in-Some.first.now within_word split.0 c.loop-place.invariant.bytes);
-            left_bytes = subst (All IsByte) (sym left) split.1;
-            rest = cc (patched-next_marked c.loop-place.word c.args.marks.now w.in-Some.first.now w.in-Some.rest.now c.loop-place.place within_word within w.if-mark.true, w.word-is, left, w.in-Some.ensures.cases.0, c.loop-place.invariant.rest);
-          })
-      | then-mark+in_default w ↦ record {
-        size = omega arith;
-        bytes = subst (All IsByte) (sym w.word-is) c.loop-place.invariant.bytes;
-        left_bytes = subst (All IsByte) (sym (ap (λ r. r.now) w.left-is)) c.loop-place.invariant.left_bytes;
-        rest = cc (patched-next_none c.loop-place.word c.args.marks.now c.loop-place.place within_word within w.if-mark.true, w.word-is, ap (λ r. r.now) w.left-is, nil_from_length c.loop-place.left.now w.in_default.ensures.cases, c.loop-place.invariant.rest);
+            size = ap length w.word-is ∙ length-set word place (plus (get_or word place 0) (get_or bytes k 0)) ∙ before.size;
+            bytes = subst (All IsByte) (sym w.word-is) (byte-added word place (get_or bytes k 0) (omega (arith, w.if-exponent-word.true)) (omega (arith, c.type_inv.bytes k)) before.bytes);
+            patched = λ marks size are.
+                w.word-is
+                ∙ ap (λ p. set word p (plus (get_or word p 0) (get_or bytes k 0))) (sym same)
+                ∙ patched-next c.args.word.now word marks points bytes k w.log-exponent.result (omega (arith, c.requires.short)) size are c.requires.fits inside
+                w.log-exponent.ensures.below w.log-exponent.ensures.reaches (before.patched marks size are);
+          }
+      | then-point-ne0+else-exponent-word w ↦ record {
+        size = ap length w.word-is ∙ before.size;
+        bytes = subst (All IsByte) (sym w.word-is) before.bytes;
+        patched = λ marks size are.
+            absurd (omega (arith, point-within marks points k w.log-exponent.result (omega (arith, c.requires.short)) are inside w.log-exponent.ensures.below w.log-exponent.ensures.reaches, before.size, w.if-exponent-word.false));
       }
-      | else-mark w ↦ record {
-        size = omega arith;
-        bytes = subst (All IsByte) (sym w.word-is) c.loop-place.invariant.bytes;
-        left_bytes = subst (All IsByte) (sym (ap (λ r. r.now) w.left-is)) c.loop-place.invariant.left_bytes;
-        rest = cc (patched-next_clear c.loop-place.word c.args.marks.now c.loop-place.left.now c.loop-place.place within_word within w.if-mark.false, w.word-is, ap (λ r. r.now) w.left-is, c.loop-place.invariant.rest);
+      | else-point-ne0 w ↦ record {
+        size = ap length w.word-is ∙ before.size;
+        bytes = subst (All IsByte) (sym w.word-is) before.bytes;
+        patched = λ marks size are. absurd (point-nonzero marks points k are inside (omega (arith, w.if-point-ne0.false)));
       }
     ]
 
 pub returns-clause-patched : goal.returns-clause-patched
-returns-clause-patched c = sym (patched-all c.loop-place.word c.args.marks.now c.loop-place.left.now c.loop-place.place (omega arith) (omega arith)) ∙ c.loop-place.invariant.rest
+returns-clause-patched c = λ marks size are.
+    c.loop-k.invariant.patched marks size are
+    ∙ ap (patched c.args.word.now marks) (take_all c.loop-k.k c.args.bytes.now (omega arith))
 
 pub returns-clause-bytes : goal.returns-clause-bytes
-returns-clause-bytes c = c.loop-place.invariant.bytes
+returns-clause-bytes c = c.loop-k.invariant.bytes

@@ -1,13 +1,13 @@
-use Rattle.std.proofs.Common.{◌≡◌, All, length, take, drop, ◌++◌}
+use Rattle.std.proofs.Common.{◌≡◌, All, Bool, List, length, take}
 use Rattle.gf_field.specs.Words.{IsByte}
-use Rattle.rs_decode.specs.Places.{patched}
+use Rattle.rs_code.specs.PowerSums.{points_of}
+use Rattle.rs_decode.specs.Places.{picked, patched}
 use Rattle.rs_decode.proofs.places.patch.Given as goal
 
--- what is left of the bytes, added to the rest of the word, gives the whole
-abbrev pub invariant-loop-place : goal.invariant-loop-place
-invariant-loop-place l = record {
-  size : length l.word ≡ length l.marks;
+-- the first bytes are added, where the points are those of marked places
+abbrev pub invariant-loop-k : goal.invariant-loop-k
+invariant-loop-k l = record {
+  size : length l.word ≡ length l.initial.word;
   bytes : All IsByte l.word;
-  left_bytes : All IsByte l.left;
-  rest : take l.place l.word ++ patched (drop l.place l.word) (drop l.place l.marks) l.left ≡ patched l.initial.word l.marks l.bytes;
+  patched : (marks : List Bool) → length marks ≡ length l.initial.word → l.points ≡ picked marks (points_of (length marks)) → l.word ≡ patched l.initial.word marks (take l.k l.bytes);
 }
