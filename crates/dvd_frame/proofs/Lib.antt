@@ -1,6 +1,8 @@
 pub mod BitLists
 pub mod Division
 pub mod Sequences
+pub mod Recurrence
+pub mod KeyWords
 pub mod Masking
 pub mod FrameParts
 pub mod IdChecks

@@ -1,10 +1,8 @@
 -- Division of four bytes at once: what it leaves of each, with zeros in place of the others, is added up.
-use Rattle.std.proofs.Common.{◌≡◌, ℕ, zero, suc, ◌+◌, ◌*◌, ◌<◌, ◌≤◌, List, [], ◌∷◌, ◌++◌, length, get_or, take, drop, All, cond, eqb, refl, sym, ◌∙◌, ap, arith}
+use Rattle.std.proofs.Common.{◌≡◌, ℕ, zero, suc, ◌+◌, ◌*◌, ◌<◌, ◌≤◌, List, [], ◌∷◌, ◌++◌, length, get_or, All, cond, eqb, refl, sym, ◌∙◌, ap, arith}
 use Rattle.std.specs.Prelude.{bit_xor, replicate}
-use Rattle.std.specs.List.{concat}
-use Rattle.std.specs.Simd.{first_chunks}
 use Rattle.std.specs.Int.Bits.{xor_zero_r, xor_assoc}
-use Rattle.std.proofs.lemmas.List.{length-append, length-replicate, append_assoc, append-nil, drop-drop, take-append-drop}
+use Rattle.std.proofs.lemmas.List.{length-append, length-replicate, append_assoc, append-nil}
 use Rattle.std.proofs.lemmas.List.Elements.{All-append, All-replicate, All-tail}
 use Rattle.dvd_frame.specs.Bits.{bits, bits_of}
 use Rattle.dvd_frame.specs.Edc.{plus_front, remainder, divisor}
@@ -187,14 +185,3 @@ word_remainder word first second third fourth size first_is second_is third_is f
     ∙ ap (λ (x : ℕ). bits 32 (bit_xor (byte_remainder 3 (get_or word 0 0)) (bit_xor (byte_remainder 2 (get_or word 1 0)) (bit_xor (byte_remainder 1 (get_or word 2 0)) (bit_xor x 0))))) fourth_is
     ∙ bits-remainders_sum four
     ∙ ap (λ (w : List ℕ). remainder 32 (bits_of w ++ replicate 32 0)) (four_bytes word size)
-
--- as many bytes as whole words have
-pub words_joined : (count : ℕ) (bytes : List ℕ) → concat (first_chunks 4 count bytes) ++ drop (count * 4) bytes ≡ bytes
-words_joined zero bytes = refl
-words_joined (suc count) bytes =
-    let more : suc count * 4 ≡ 4 + count * 4 = omega arith in
-    ap (λ (n : ℕ). (take 4 bytes ++ concat (first_chunks 4 count (drop 4 bytes))) ++ drop n bytes) more
-    ∙ append_assoc (take 4 bytes) (concat (first_chunks 4 count (drop 4 bytes))) (drop (4 + count * 4) bytes)
-    ∙ ap (λ (l : List ℕ). take 4 bytes ++ (concat (first_chunks 4 count (drop 4 bytes)) ++ l)) (sym (drop-drop (count * 4) 4 bytes))
-    ∙ ap (λ (l : List ℕ). take 4 bytes ++ l) (words_joined count (drop 4 bytes))
-    ∙ take-append-drop 4 bytes

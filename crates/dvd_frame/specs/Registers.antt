@@ -1,12 +1,17 @@
 -- What the registers of the code hold, of which the standard's definitions don't speak.
-use Rattle.std.specs.Prelude.{ℕ, ◌+◌, ◌*◌, List, ◌++◌, length, drop, replicate}
+use Rattle.std.specs.Prelude.{ℕ, ◌+◌, ◌*◌, List, ◌++◌, length, drop, map, replicate}
+use Rattle.std.specs.List.{range_with_len}
 use Rattle.dvd_frame.specs.Bits.{bits, bits_of, number_of}
 use Rattle.dvd_frame.specs.Edc.{plus_front, remainder}
-use Rattle.dvd_frame.specs.Scrambling.{sequence}
+use Rattle.dvd_frame.specs.Scrambling.{sequence, scrambling_byte}
 
 -- u(8k) to u(8k+14), the 15 bits that the register of a preset shows at byte k
 unfoldable pub window : ℕ → ℕ → List ℕ
 window preset k = drop (8 * k) (sequence preset (8 * k))
+
+-- n scrambling bytes of a preset, from byte k on
+unfoldable pub keys_from : ℕ → ℕ → ℕ → List ℕ
+keys_from preset k n = map (scrambling_byte preset) (range_with_len k n)
 
 -- What division leaves once these bytes are read too: the register's bits stand for what is left of all before them.
 unfoldable pub divided_from : ℕ → List ℕ → List ℕ

@@ -51,6 +51,7 @@ pub fn read_frame(
     if !has_right_edc(frame, &main) {
         return Err(FrameCause::Edc);
     }
+    // Moved a second time, since `out` stays as it is until the EDC was tried.
     *out = main;
     Ok(())
 }

@@ -1,10 +1,12 @@
 //! Scrambling of Main Data (ECMA-267, 17): each byte is combined with a byte of a sequence that the ID selects.
-ghost use Rattle.std.specs.Prelude.{◌≡◌, ℕ, ◌+◌, ◌^◌, ◌<◌, ◌≤◌, List, bit_xor, slice_index, length};
+ghost use Rattle.std.specs.Prelude.{◌≡◌, ℕ, ◌+◌, ◌%◌, ◌^◌, ◌<◌, ◌≤◌, List, bit_xor, slice_index, length, take};
+ghost use Rattle.std.specs.Int.{to_be_bytes, w64};
 ghost use Rattle.dvd_frame.specs.Bits.{bits};
-ghost use Rattle.dvd_frame.specs.Registers.{window};
+ghost use Rattle.dvd_frame.specs.Registers.{keys_from, window};
 ghost use Rattle.dvd_frame.specs.Scrambling.{presets, scrambled_count, scrambling_byte, masked};
 
 use crate::id::Id;
+use crate::parts::put;
 use std::marker::Model;
 
 /// The initial values of the register by bits b7 to b4 of the ID.
@@ -29,6 +31,7 @@ impl Rule {
     fn count(self) -> usize
         ensures value { result ≡ scrambled_count self }
         ensures within { result ≤ 2048 }
+        ensures words { result % 8 ≡ 0 }
     {
         match self {
             Rule::Whole => 2048,
@@ -97,17 +100,64 @@ pub fn scramble(rule: Rule, id: Id, main: &mut [u8; 2048])
     ensures masked { main.new ≡ masked id rule main.old }
     ensures undone { masked id rule main.new ≡ main.old }
 {
-    let index = (id.word() >> 4 & 15) as u8;
-    let mut stream = Keystream::new(preset(index));
-    combine(&mut stream, &mut main[..rule.count()]);
+    scramble_slice(rule, id, main);
 }
 
-// Combines each byte with the next of the stream.
-fn combine(stream: &mut Keystream, bytes: &mut [u8])
-    ensures { (preset k : ℕ) → stream.old ≡ window preset 0 → k < length bytes.old
-        → slice_index bytes.new k ≡ bit_xor (slice_index bytes.old k) (scrambling_byte preset k) }
+// The same where Main Data stand within a frame.
+pub(crate) fn scramble_slice(rule: Rule, id: Id, main: &mut [u8])
+    requires { length main.old ≡ 2048 }
+    ensures { main.new ≡ masked id rule main.old }
 {
-    for byte in bytes {
-        *byte ^= stream.next();
+    let index = (id.word() >> 4 & 15) as u8;
+    let count = rule.count();
+    combine(&mut main[..count], &keys(preset(index), count));
+}
+
+// Combines each byte with the key at its place.
+fn combine(bytes: &mut [u8], keys: &[u8])
+    requires { length bytes.old ≤ length keys.now }
+    ensures { (k : ℕ) → k < length bytes.old → slice_index bytes.new k ≡ bit_xor (slice_index bytes.old k) (slice_index keys.now k) }
+{
+    for (k, byte) in bytes.iter_mut().enumerate() {
+        *byte ^= keys[k];
     }
+}
+
+// The first scrambling bytes of a preset, so many of them, made eight at a time.
+fn keys(preset: u16, count: usize) -> [u8; 2048]
+    requires preset { preset < 2 ^ 15 }
+    requires within { count ≤ 2048 }
+    requires words { count % 8 ≡ 0 }
+    ensures { take count result ≡ keys_from preset 0 count }
+{
+    let mut stream = Keystream::new(preset);
+    let mut word = next_word(&mut stream);
+    let mut next = next_word(&mut stream);
+    let mut keys = [0; 2048];
+    for place in 0..count / 8 {
+        put(&mut keys, 8 * place, &word.to_be_bytes());
+        (word, next) = (next, word_behind(word, next));
+    }
+    keys
+}
+
+// The next eight bytes of the stream.
+fn next_word(stream: &mut Keystream) -> u64
+    ensures word { (preset k : ℕ) → stream.old ≡ window preset k → to_be_bytes w64 result ≡ keys_from preset k 8 }
+    ensures after { (preset k : ℕ) → stream.old ≡ window preset k → stream.new ≡ window preset (k + 8) }
+{
+    let mut bytes = [0; 8];
+    for byte in &mut bytes {
+        *byte = stream.next();
+    }
+    u64::from_be_bytes(bytes)
+}
+
+// The eight bytes behind these two words: each is the sum of those fifteen and eleven places before it.
+fn word_behind(word: u64, next: u64) -> u64
+    ensures { (preset k : ℕ) → to_be_bytes w64 word ≡ keys_from preset k 8 → to_be_bytes w64 next ≡ keys_from preset (k + 8) 8
+        → to_be_bytes w64 result ≡ keys_from preset (k + 16) 8 }
+{
+    let both = (u128::from(word) << 64) + u128::from(next);
+    (both << 8 >> 64) as u64 ^ (both << 40 >> 64) as u64
 }

@@ -82,6 +82,16 @@ fn zeros_scrambled_by_four_ids(rt: HostRuntime) {
     }
 }
 
+#[test]
+fn scrambled_zeros_are_the_keystream(rt: HostRuntime) {
+    let mut main = [0; 2048];
+    scramble(Rule::Whole, Id::from_word(0x03_0010), &mut main);
+    let mut stream = Keystream::new(0x5500);
+    for byte in main {
+        assert_eq!(rt; byte, stream.next());
+    }
+}
+
 // A sector of zeros at 030000.
 #[test]
 fn the_first_data_frame(rt: HostRuntime) {
