@@ -4,6 +4,7 @@ pub mod Laws
 pub mod Lends
 pub mod MarkBits
 pub mod Parts
+pub mod Putting
 pub mod Rule
 pub mod TwoPass
 pub mod Within

@@ -1,10 +1,11 @@
 //! Captured blocks are read from a source.
-ghost use Rattle.std.specs.Prelude.{◌≡◌, ◌≢◌, ℕ, ◌+◌, ◌*◌, ◌<◌, ◌≤◌, ◌==◌, if◌then◌else◌, length, take, slice_set};
+ghost use Rattle.std.specs.Prelude.{◌≡◌, ◌≢◌, ℕ, ◌+◌, ◌*◌, ◌<◌, ◌≤◌, ◌==◌, if◌then◌else◌, List, ◌++◌, length, take, slice_set};
 ghost use Rattle.dvd_block.specs.Recording.{row_at};
 ghost use Rattle.dvd_ports.specs.Causes.{Rose};
 ghost use Rattle.dvd_ports.specs.Whole.{ConsumesFewer};
 ghost use Rattle.dvd_capture.specs.Captured.{Captures, EndsAfter, block_size, marks_in, record_size};
 ghost use Rattle.dvd_capture.specs.Parts.{marks_rows, received_rows};
+ghost use Rattle.dvd_capture.specs.Putting.{ArePut};
 ghost use Rattle.dvd_capture.specs.Works.{marks_of_work, rows_of, stage_of};
 ghost use Rattle.dvd_capture.specs.declared.stage.Stage.TheVariants.{Empty, Fetched};
 ghost use Rattle.dvd_capture.specs.declared.capture.FetchAnswer.TheVariants.{Full, End, Short, ReadFault};
@@ -15,6 +16,9 @@ use crate::stage::Stage;
 use crate::work::Work;
 use dvd_block::row_of_record;
 use dvd_ports::{Failed, Source, read_whole};
+
+// The bytes of a recording frame in the form that has most.
+const MOST_FRAME: usize = 13 * 205;
 
 /// What a source gave for one block.
 #[derive(Clone, Copy, Debug, PartialEq, Eq)]
@@ -52,7 +56,7 @@ pub fn fetch<S: Source>(src: &mut S, form: Form, work: &mut Work) -> FetchAnswer
     answer
 }
 
-// Reads the 208 recorded rows of a block.
+// Reads the sixteen recording frames of a block, each of thirteen recorded rows.
 fn fetch_rows<S: Source>(
     src: &mut S,
     form: Form,
@@ -67,13 +71,13 @@ fn fetch_rows<S: Source>(
     ensures steady { result ≢ ReadFault → (S.seen src.new).faults ≡ (S.seen src.old).faults }
     ensures later { (S.seen src.old).faults ≤ (S.seen src.new).faults }
 {
-    let size = form.record_size();
-    for m in 0..208 {
-        let mut buffer = [0; 205];
+    let size = form.frame_size();
+    let mut buffer = [0; MOST_FRAME];
+    for f in 0..16 {
         let bytes = &mut buffer[..size];
         match read_whole(src, bytes) {
-            Ok(count) if count < size => return cut_off(size * m + count),
-            Ok(_) => put_record(received, marks, m, form, bytes),
+            Ok(count) if count < size => return cut_off(size * f + count),
+            Ok(_) => put_frame(received, marks, f, form, bytes),
             Err(Failed) => return FetchAnswer::ReadFault,
         }
     }
@@ -91,6 +95,20 @@ fn cut_off(bytes: usize) -> FetchAnswer
         FetchAnswer::Short {
             bytes: bytes as u32,
         }
+    }
+}
+
+// Sets the rows that stand in recording frame `f`, and their marks.
+fn put_frame(received: &mut Received, marks: &mut Marks, f: usize, form: Form, bytes: &[u8])
+    requires frame { f < 16 }
+    requires size { length bytes.now ≡ record_size form * 13 }
+    ensures { (before : List ℕ) → ArePut form before (received_rows received.old) (marks_rows marks.old) (13 * f)
+        → ArePut form (before ++ bytes.now) (received_rows received.new) (marks_rows marks.new) (13 * f + 13) }
+{
+    let size = form.record_size();
+    for k in 0..13 {
+        let record = &bytes[size * k..size * k + size];
+        put_record(received, marks, 13 * f + k, form, record);
     }
 }
 

@@ -1,5 +1,5 @@
 //! The buffers of a captured block. Whoever decodes several rows or columns at once lends them one by one.
-ghost use Rattle.std.specs.Prelude.{◌≡◌, ℕ, ◌<◌, ◌≢◌, ◌==◌, Bool, false, List, [], length, vec_len, IfOk, replicate, slice_index_or, slice_set, map};
+ghost use Rattle.std.specs.Prelude.{◌≡◌, ℕ, ◌<◌, ◌≢◌, ◌==◌, Bool, false, List, [], length, vec_len, IfOk, IsTrue, replicate, slice_index_or, slice_set, map};
 ghost use Rattle.std.specs.declared.option.Option.TheVariants.{None, Some};
 ghost use Rattle.std.specs.Int.{bit_at};
 ghost use Rattle.dvd_block.specs.Product.{line};
@@ -125,6 +125,14 @@ impl Marks {
         for (j, mark) in out.iter_mut().enumerate() {
             *mark = is_marked(&self.rows[i], j);
         }
+    }
+
+    /// Whether no mark bit of row `i` is set, the spare ones included: no place of it is marked then.
+    pub fn is_clear(&self, i: usize) -> bool
+        requires { i < 208 }
+        ensures { IsTrue result → marks_line (marks_rows self.now) i ≡ replicate 182 false }
+    {
+        self.rows[i] == [0; 23]
     }
 
     /// The mark in row `i` at place `j`.
