@@ -18,7 +18,7 @@ module _ (rows : List (List ℕ)) (marks : List (List Bool)) (entry : BlockPlan)
   none_by_both passes frames = ap (λ cause. option_or cause (frames_cause (block_in rows marks) entry)) passes ∙ frames
 
   -- and conversely
-  both_of_none : block_cause rows marks entry ≡ None → (two_pass_cause (answers_of rows marks) ≡ None) × (frames_cause (block_in rows marks) entry ≡ None)
+  pub both_of_none : block_cause rows marks entry ≡ None → (two_pass_cause (answers_of rows marks) ≡ None) × (frames_cause (block_in rows marks) entry ≡ None)
   unfolding block_cause
   both_of_none = parts (two_pass_cause (answers_of rows marks)) where
     parts : (passes : Option Cause) → option_or passes (frames_cause (block_in rows marks) entry) ≡ None

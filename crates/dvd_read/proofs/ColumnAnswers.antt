@@ -1,16 +1,15 @@
 -- The columns of the rows' answers, and the rows of the columns' words.
-use Rattle.std.proofs.Common.{◌≡◌, ◌∙◌, ℕ, ◌+◌, ◌<◌, Bool, true, false, cond, not, List, [], length, map, get_or, set, position, slice_index, All, inl, inr, refl, sym, ap, arith, Some, None}
+use Rattle.std.proofs.Common.{◌≡◌, ◌∙◌, ℕ, ◌+◌, ◌<◌, Bool, true, false, not, List, [], length, map, get_or, set, position, slice_index, All, inl, inr, refl, sym, ap, arith, Some, None}
 use Rattle.std.specs.Prelude.{◌↔◌, IsTrue}
 use Rattle.std.specs.declared.option.Option.{Option}
 use Rattle.std.proofs.lemmas.Bool.{cases_eq}
 use Rattle.std.proofs.lemmas.List.{get_or-map, get_or-set_same, get_or-set_other, length-map}
 use Rattle.std.proofs.lemmas.Grind.{same_number_lists}
-use Rattle.gf_field.specs.Words.{IsByte, IsCodeword, IsNear}
-use Rattle.rs_decode.specs.Errors.{HasNoneNear}
-use Rattle.rs_decode.specs.Nearest.{near_of, vanishes_at_all}
-use Rattle.rs_decode.proofs.Nearest.{near_of-some, none-near_of, codeword-vanishes, vanishing-codeword}
+use Rattle.gf_field.specs.Words.{IsByte, IsCodeword}
+use Rattle.rs_decode.specs.Nearest.{vanishes_at_all}
+use Rattle.rs_decode.proofs.Nearest.{codeword-vanishes, vanishing-codeword}
 use Rattle.dvd_block.specs.Product.{line}
-use Rattle.dvd_capture.specs.TwoPass.{answer_column, byte_at, column_answer, failed_of, from_columns}
+use Rattle.dvd_capture.specs.TwoPass.{answer_column, byte_at, column_answer, from_columns}
 use Rattle.dvd_capture.specs.declared.parts.AnswerRow.{AnswerRow}
 use Rattle.dvd_capture.specs.declared.parts.ColumnAnswer.{ColumnAnswer}
 use Rattle.dvd_capture.proofs.Columns.{from_columns-line}
@@ -58,23 +57,6 @@ row_read columns i row below size row_size read =
     ∙ ap (λ word. slice_index word i) (sym (get_or-map bytes columns k blank_column [] inside))
     ∙ sym (get_or-map (λ word. slice_index word i) (words_of columns) k [] 0 inside_words))
     ∙ sym (from_columns-line (words_of columns) i below)
-
--- the second pass answers a column by the codeword near it
-pub column_found : (answers : List (Option (List ℕ))) (failed : List Bool) (word old : List ℕ) (j : ℕ) (column : ColumnAnswer)
-    → old ≡ answer_column answers j → failed ≡ failed_of answers → IsNear 208 16 old failed word
-    → column.bytes ≡ word → column.answered ≡ true → column_word column ≡ column_answer answers j
-column_found answers failed word old j column old_is failed_is near bytes answered =
-    ap (λ flag. cond flag (Some column.bytes) None) answered ∙ ap Some bytes
-    ∙ sym (near_of-some 208 16 old word failed (omega arith) near)
-    ∙ ap (λ w. near_of 208 16 w failed) old_is ∙ ap (near_of 208 16 (answer_column answers j)) failed_is
-
-pub column_missing : (answers : List (Option (List ℕ))) (failed : List Bool) (old : List ℕ) (j : ℕ) (column : ColumnAnswer)
-    → old ≡ answer_column answers j → failed ≡ failed_of answers → length old ≡ 208 → length failed ≡ 208 → HasNoneNear 208 16 old failed
-    → column.answered ≡ false → column_word column ≡ column_answer answers j
-column_missing answers failed old j column old_is failed_is size failed_size none answered =
-    ap (λ flag. cond flag (Some column.bytes) None) answered
-    ∙ sym (none-near_of 208 16 old failed size failed_size none)
-    ∙ ap (λ w. near_of 208 16 w failed) old_is ∙ ap (near_of 208 16 (answer_column answers j)) failed_is
 
 -- the columns before column j are answered
 abbrev pub AreColumnsBefore : List (Option (List ℕ)) → List ColumnAnswer → ℕ → Type 0

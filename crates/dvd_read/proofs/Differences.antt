@@ -1,7 +1,8 @@
 -- Places where two blocks differ, counted one after the other.
-use Rattle.std.proofs.Common.{◌≡◌, ◌∙◌, ℕ, ◌+◌, ◌<◌, ◌≤◌, Bool, true, false, cond, not, nat_eq, List, [], ◌∷◌, ◌++◌, length, take, get_or, refl, sym, arith, add-one}
+use Rattle.std.proofs.Common.{◌≡◌, ◌∙◌, ℕ, zero, suc, ◌+◌, ◌<◌, ◌≤◌, ◌==◌, if◌then◌else◌, Bool, true, false, cond, not, nat_eq, List, [], ◌∷◌, ◌++◌, length, take, get_or, refl, sym, arith, add-one}
 use mir.Val.{bool_byte}
 use Rattle.std.proofs.Math.Seq.{take-suc}
+use Rattle.std.proofs.lemmas.Bool.Decides.{nat_tests}
 use Rattle.std.proofs.lemmas.List.{length-take-le}
 use Rattle.dvd_block.specs.Product.{line}
 use Rattle.dvd_read.specs.Found.{block_differences, differences}
@@ -58,3 +59,29 @@ differences-none = refl
 pub block_differences-none : block_differences [] [] ≡ 0
 unfolding block_differences
 block_differences-none = refl
+
+same-head : (x y rest : ℕ) → (if x == y then 0 else 1) + rest ≡ 0 → x ≡ y
+same-head x y rest none = grind (arith, nat_tests)
+
+-- words that differ nowhere are the same
+words-same : (xs ys : List ℕ) → length xs ≡ length ys → differences xs ys ≡ 0 → xs ≡ ys
+unfolding differences
+words-same [] [] size none = refl
+words-same [] (y ∷ ys) size none = absurd (omega arith)
+words-same (x ∷ xs) [] size none = absurd (omega arith)
+words-same (x ∷ xs) (y ∷ ys) size none =
+    let head : x ≡ y = same-head x y (differences xs ys) none in
+    let rest : xs ≡ ys = words-same xs ys (omega arith) (omega (arith, none)) in
+    cc
+
+lines-same : (xs ys : List (List ℕ)) (i : ℕ) → block_differences xs ys ≡ 0 → i < length xs → i < length ys → differences (line xs i) (line ys i) ≡ 0
+unfolding block_differences
+lines-same [] ys i none within other = absurd (omega arith)
+lines-same (x ∷ xs) [] i none within other = absurd (omega arith)
+lines-same (x ∷ xs) (y ∷ ys) zero none within other = omega (arith, none)
+lines-same (x ∷ xs) (y ∷ ys) (suc i) none within other = lines-same xs ys i (omega (arith, none)) (omega arith) (omega arith)
+
+-- and so rows of blocks that differ nowhere
+pub rows-same : (xs ys : List (List ℕ)) (i : ℕ) → block_differences xs ys ≡ 0 → i < length xs → i < length ys → length (line xs i) ≡ length (line ys i)
+    → line xs i ≡ line ys i
+rows-same xs ys i none within other size = words-same (line xs i) (line ys i) size (lines-same xs ys i none within other)

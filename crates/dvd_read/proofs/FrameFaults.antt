@@ -40,6 +40,28 @@ pub fronts-all : (block : List (List ℕ)) (f : ℕ) (frame : List ℕ) → leng
 unfolding frame_of
 fronts-all block f frame size front = sym (take_all 2064 frame (omega arith)) ∙ front
 
+-- the width of one row more
+pub width-next : (block : List (List ℕ)) (f q : ℕ) (row : List ℕ) → row ≡ line block (12 * f + q) → length row ≡ 182
+    → ((k : ℕ) → k < q → length (line block (12 * f + k)) ≡ 182) → (k : ℕ) → k < q + 1 → length (line block (12 * f + k)) ≡ 182
+width-next block f q row is width before k below = elim (cases_eq k q) [
+  | inl same ↦ ap (λ n. length (line block (12 * f + n))) same ∙ ap length (sym is) ∙ width
+  | inr other ↦ before k (omega arith)
+]
+
+fronts-same : (a b : List (List ℕ)) (f n : ℕ) → n ≤ 12 → ((q : ℕ) → q < 12 → line a (12 * f + q) ≡ line b (12 * f + q)) → fronts a f n ≡ fronts b f n
+fronts-same a b f zero within same = refl
+fronts-same a b f (suc n) within same =
+    let more : suc n ≡ n + 1 = omega arith in
+    ap (fronts a f) more ∙ fronts-more a f n
+    ∙ ap (λ (l : List ℕ). l ++ take 172 (line a (12 * f + n))) (fronts-same a b f n (omega arith) same)
+    ∙ ap (λ (row : List ℕ). fronts b f n ++ take 172 row) (same n (omega arith))
+    ∙ sym (ap (fronts b f) more ∙ fronts-more b f n)
+
+-- frames of the same rows are the same
+pub frames-same : (a b : List (List ℕ)) (f : ℕ) → ((q : ℕ) → q < 12 → line a (12 * f + q) ≡ line b (12 * f + q)) → frame_of a f ≡ frame_of b f
+unfolding frame_of
+frames-same a b f same = fronts-same a b f 12 (omega arith) same
+
 -- the cause of frame f by that of its bytes
 fault_by : (block : List (List ℕ)) (entry : BlockPlan) (f : ℕ) (frame : List ℕ) (cause : Option FrameCause) → frame ≡ frame_of block f
     → frame_cause frame (wanted_word entry f) (rule_for entry.content f) ≡ cause → fault_at block entry f ≡ option_map (cause_in f) cause

@@ -3,7 +3,11 @@ pub mod Positions
 pub mod ColumnAnswers
 pub mod Outcomes
 pub mod FoundColumns
+pub mod Codewords
+pub mod Standing
 pub mod Differences
 pub mod FrameFaults
 pub mod BlockRead
 pub mod Mastered
+pub mod SavedFrames
+pub mod SavedLaws

@@ -117,7 +117,7 @@ length-data_frame word cpr main rule cpr_size size =
       length-ied_of word,
     )
 
-frame_fine : (entry : BlockPlan) (dim : Bool) (cpr : List ℕ) (main : ℕ → List ℕ) (frames block : List (List ℕ)) (f : ℕ) → HasNumbers entry
+pub frame_fine : (entry : BlockPlan) (dim : Bool) (cpr : List ℕ) (main : ℕ → List ℕ) (frames block : List (List ℕ)) (f : ℕ) → HasNumbers entry
     → IsMadeOf entry dim cpr main frames → IsBlockOf frames block → f < 16
     → (fault_at block entry f ≡ None) × (main_in (frame_of block f) (rule_for entry.content f) ≡ main f)
 frame_fine entry dim cpr main frames block f numbers made is below =

@@ -5,11 +5,11 @@ use Rattle.std.specs.declared.option.Option.{Option}
 use Rattle.std.proofs.lemmas.Bool.{cases_eq}
 use Rattle.std.proofs.lemmas.List.{get_or-map, get_or-set_same, get_or-set_other, ext_get_or, length-map}
 use Rattle.gf_field.specs.Words.{IsNear}
-use Rattle.rs_decode.specs.Errors.{HasNoneNear, error_count}
+use Rattle.rs_decode.specs.Errors.{error_count}
 use Rattle.rs_decode.specs.Filling.{marked}
 use Rattle.rs_decode.specs.Nearest.{near_of}
 use Rattle.rs_decode.specs.declared.errors.Fix.{Fix}
-use Rattle.rs_decode.proofs.Nearest.{near_of-some, none-near_of}
+use Rattle.rs_decode.proofs.Nearest.{near_of-some}
 use Rattle.rs_decode.proofs.Marks.{marked-next_marked, marked-next_clear}
 use Rattle.dvd_block.specs.Product.{line}
 use Rattle.dvd_capture.proofs.Columns.{length-answers_of}
@@ -32,12 +32,6 @@ row_fixed row word marks fix answer near errors erased bytes_are fix_is =
     let told : AnswerBy row marks word (Some fix) = (near_of-some 182 10 row word marks (omega arith) near, errors, erased) in
     subst (AnswerBy row marks answer.bytes) (sym fix_is) (subst (λ bytes. AnswerBy row marks bytes (Some fix)) (sym bytes_are) told)
 
-pub row_failed : (row : List ℕ) (marks : List Bool) (answer : AnswerRow) → length row ≡ 182 → length marks ≡ 182 → HasNoneNear 182 10 row marks
-    → answer.fix ≡ None → IsAnswer row marks answer
-row_failed row marks answer row_size marks_size none fix_is =
-    let told : AnswerBy row marks answer.bytes None = none-near_of 182 10 row marks row_size marks_size none in
-    subst (AnswerBy row marks answer.bytes) (sym fix_is) told
-
 -- the word of an answer is what the first pass answers
 word_by : (row bytes : List ℕ) (marks : List Bool) (fix : Option Fix) → AnswerBy row marks bytes fix → answer_by fix bytes ≡ near_of 182 10 row marks
 word_by row bytes marks None is = sym is
@@ -46,7 +40,7 @@ word_by row bytes marks (Some fix) is = sym is.0
 pub answer_word-is : (row : List ℕ) (marks : List Bool) (answer : AnswerRow) → IsAnswer row marks answer → answer_word answer ≡ near_of 182 10 row marks
 answer_word-is row marks answer is = word_by row answer.bytes marks answer.fix is
 
-get_or-answers_of : (received : List (List ℕ)) (marks : List (List Bool)) (i : ℕ) (d : Option (List ℕ)) → i < length received → i < length marks
+pub get_or-answers_of : (received : List (List ℕ)) (marks : List (List Bool)) (i : ℕ) (d : Option (List ℕ)) → i < length received → i < length marks
     → get_or (answers_of received marks) i d ≡ near_of 182 10 (get_or received i []) (get_or marks i [])
 unfolding answers_of
 get_or-answers_of [] marks i d within marks_within = absurd (omega arith)
@@ -74,7 +68,7 @@ answers-next received marks answers i answer within before here k d below = elim
 abbrev pub AreFlagsBefore : List AnswerRow → List Bool → ℕ → Type 0
 AreFlagsBefore answers failed i = (k : ℕ) (d : AnswerRow) → k < i → get_or failed k false ≡ is_none (answer_word (get_or answers k d))
 
-flag-by : (bytes : List ℕ) (fix : Option Fix) → is_none fix ≡ is_none (answer_by fix bytes)
+pub flag-by : (bytes : List ℕ) (fix : Option Fix) → is_none fix ≡ is_none (answer_by fix bytes)
 flag-by bytes None = refl
 flag-by bytes (Some fix) = refl
 
@@ -120,11 +114,11 @@ next-by marks i false within is = omega (arith, marked-next_clear marks i within
 pub marked-next : (marks : List Bool) (i : ℕ) → i < length marks → marked (take i marks) + cond (get_or marks i false) 1 0 ≡ marked (take (i + 1) marks)
 marked-next marks i within = next-by marks i (get_or marks i false) within refl
 
-as_number : (flag : Bool) → bool_byte flag ≡ cond flag 1 0
+pub as_number : (flag : Bool) → bool_byte flag ≡ cond flag 1 0
 as_number true = refl
 as_number false = refl
 
-flag_small : (flag : Bool) → cond flag 1 0 ≤ 1
+pub flag_small : (flag : Bool) → cond flag 1 0 ≤ 1
 flag_small true = omega arith
 flag_small false = omega arith
 

@@ -1,12 +1,17 @@
 -- The laws of reading a block.
-use Rattle.std.specs.Prelude.{◌≡◌, ℕ, Bool, List, map, length, None}
+use Rattle.std.specs.Prelude.{◌≡◌, ℕ, ◌+◌, ◌*◌, ◌<◌, ◌≤◌, Bool, List, map, length, None, Some}
 use Rattle.std.specs.List.{range_with_len}
-use Rattle.dvd_block.specs.Product.{IsBlockOf}
+use Rattle.gf_field.specs.Words.{cost}
+use Rattle.dvd_block.specs.Product.{IsBlockOf, line}
+use Rattle.dvd_capture.specs.Answers.{marks_line}
 use Rattle.dvd_capture.specs.TwoPass.{IsTwoPass, answers_of}
 use Rattle.dvd_capture.specs.Within.{IsWithin}
 use Rattle.dvd_layout.specs.declared.entry.BlockPlan.{BlockPlan}
 use Rattle.dvd_layout.specs.Place.{HasNumbers}
 use Rattle.dvd_read.specs.Causes.{two_pass_cause}
+use Rattle.dvd_read.specs.Frames.{main_data}
+use Rattle.dvd_read.specs.Salvage.{block_out, saved_in}
+use Rattle.dvd_read.specs.declared.cause.Cause.{Cause}
 use Rattle.dvd_read.specs.Made.{IsMadeOf, IsReceived}
 use Rattle.dvd_read.specs.Reading.{block_cause, block_in, block_sectors, IsReadAs}
 
@@ -41,3 +46,24 @@ WithinIsReadBack =
     (entry : BlockPlan) (dim : Bool) (cpr : List ℕ) (main : ℕ → List ℕ) (frames block received : List (List ℕ)) (marks : List (List Bool)) → HasNumbers entry
     → IsMadeOf entry dim cpr main frames → IsBlockOf frames block → IsReceived received marks → IsWithin block received marks
     → (block_cause received marks entry ≡ None) × (block_sectors received marks entry ≡ map main (range_with_len 0 16))
+
+-- Of a block without a cause all sixteen frames are saved, and the sectors are those of the block found.
+abbrev pub NoCauseIsWhollySaved : Type 0
+NoCauseIsWhollySaved =
+    (rows : List (List ℕ)) (marks : List (List Bool)) (entry : BlockPlan) → IsReceived rows marks → block_cause rows marks entry ≡ None
+    → (saved_in rows marks entry ≡ 16) × (block_out rows marks entry ≡ main_data (block_in rows marks) entry)
+
+-- Where two passes refuse a block, a frame whose twelve rows are good against the block that was recorded is saved.
+abbrev pub GoodRowsAreSaved : Type 0
+GoodRowsAreSaved =
+    (entry : BlockPlan) (dim : Bool) (cpr : List ℕ) (main : ℕ → List ℕ) (frames block received : List (List ℕ)) (marks : List (List Bool)) (cause : Cause) (f : ℕ)
+    → HasNumbers entry → IsMadeOf entry dim cpr main frames → IsBlockOf frames block → IsReceived received marks
+    → two_pass_cause (answers_of received marks) ≡ Some cause → f < 16
+    → ((q : ℕ) → q < 12 → cost (line block (12 * f + q)) (line received (12 * f + q)) (marks_line marks (12 * f + q)) ≤ 10)
+    → line (block_out received marks entry) f ≡ main f
+
+-- What is saved are sixteen sectors of 2,048 bytes, of sixteen frames at most.
+abbrev pub SavedIsSixteenSectors : Type 0
+SavedIsSixteenSectors =
+    (rows : List (List ℕ)) (marks : List (List Bool)) (entry : BlockPlan) → length rows ≡ 208 → length marks ≡ 208
+    → (length (block_out rows marks entry) ≡ 16) × ((f : ℕ) → f < 16 → length (line (block_out rows marks entry) f) ≡ 2048) × (saved_in rows marks entry ≤ 16)

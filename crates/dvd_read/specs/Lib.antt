@@ -4,3 +4,5 @@ pub mod Frames
 pub mod Laws
 pub mod Made
 pub mod Reading
+pub mod Salvage
+pub mod Standing

@@ -1,16 +1,16 @@
 //! The checks of a block's sixteen data frames, and their Main Data.
-ghost use Rattle.std.specs.Prelude.{◌≡◌, ◌+◌, ◌<◌, ◌≤◌, ◌++◌, None, Some, length, take, replicate, slice_index_or, IfErr, OnErr, OnOk};
+ghost use Rattle.std.specs.Prelude.{◌≡◌, ℕ, ◌+◌, ◌*◌, ◌<◌, ◌≤◌, ◌++◌, None, Some, length, take, replicate, slice_index_or, IsTrue, IfErr, OnErr, OnOk};
 ghost use Rattle.dvd_block.specs.Product.{line};
-ghost use Rattle.dvd_capture.specs.Parts.{sector_bytes};
+ghost use Rattle.dvd_capture.specs.Parts.{received_rows, sector_bytes};
 ghost use Rattle.dvd_capture.specs.TwoPass.{from_columns};
-ghost use Rattle.dvd_capture.specs.Works.{block_of, sectors_of, stage_of};
+ghost use Rattle.dvd_capture.specs.Works.{block_of, rows_of, sectors_of, stage_of};
 ghost use Rattle.dvd_layout.specs.Place.{HasNumbers};
-ghost use Rattle.dvd_read.specs.Found.{words_of};
+ghost use Rattle.dvd_read.specs.Found.{block_differences, words_of};
 ghost use Rattle.dvd_read.specs.Frames.{cause_in, frame_of, frames_cause, main_data};
 
 use crate::cause::Cause;
 use crate::columns::read_row;
-use dvd_capture::parts::{ColumnAnswer, Sectors};
+use dvd_capture::parts::{ColumnAnswer, Received, Sectors};
 use dvd_capture::{Stage, Work};
 use dvd_frame::{FrameCause, read_frame};
 use dvd_layout::{BlockPlan, id_of, rule_of};
@@ -33,7 +33,39 @@ pub fn sectors(work: &mut Work, plan: &BlockPlan) -> Result<(), Cause>
     ensures answers { work.new.answers ≡ work.old.answers }
     ensures columns { work.new.columns ≡ work.old.columns }
 {
-    match read_frames(work.columns.all(), plan, &mut work.sectors) {
+    sectors_of_block(work, plan, false)
+}
+
+/// The same. Where two passes fixed no byte, the block is what was received, and its frames are taken from there: row by
+/// row, and not from all columns.
+pub(crate) fn sectors_of_block(
+    work: &mut Work,
+    plan: &BlockPlan,
+    as_received: bool,
+) -> Result<(), Cause>
+    requires stage { stage_of work.old ≡ Stage.Fixed }
+    requires numbers { HasNumbers plan.now }
+    requires as_received { IsTrue as_received → block_differences (rows_of work.old) (block_of work.old) ≡ 0 }
+
+    ensures refused { IfErr result (λ cause. frames_cause (block_of work.old) plan.now ≡ Some cause) }
+    ensures right { OnOk result (frames_cause (block_of work.old) plan.now ≡ None) }
+    ensures main { OnOk result (sectors_of work.new ≡ main_data (block_of work.old) plan.now) }
+    ensures zeros { OnErr result (sectors_of work.new ≡ replicate 16 (replicate 2048 0)) }
+
+    ensures stage { stage_of work.new ≡ Stage.Fixed }
+    ensures received { work.new.received ≡ work.old.received }
+    ensures marks { work.new.marks ≡ work.old.marks }
+    ensures answers { work.new.answers ≡ work.old.answers }
+    ensures columns { work.new.columns ≡ work.old.columns }
+{
+    let columns = work.columns.all();
+    match read_frames(
+        &work.received,
+        columns,
+        as_received,
+        plan,
+        &mut work.sectors,
+    ) {
         Ok(()) => Ok(()),
         Err(cause) => {
             work.blank();
@@ -44,11 +76,14 @@ pub fn sectors(work: &mut Work, plan: &BlockPlan) -> Result<(), Cause>
 
 // Reads the frames of the block of these columns into the sectors, up to the first that has a cause.
 fn read_frames(
+    received: &Received,
     columns: &[ColumnAnswer],
+    as_received: bool,
     plan: &BlockPlan,
     sectors: &mut Sectors,
 ) -> Result<(), Cause>
     requires columns { length columns.now ≡ 182 }
+    requires as_received { IsTrue as_received → block_differences (received_rows received.now) (from_columns (words_of columns.now)) ≡ 0 }
     requires numbers { HasNumbers plan.now }
     ensures refused { IfErr result (λ cause. frames_cause (from_columns (words_of columns.now)) plan.now ≡ Some cause) }
     ensures right { OnOk result (frames_cause (from_columns (words_of columns.now)) plan.now ≡ None) }
@@ -57,7 +92,7 @@ fn read_frames(
     let mut frame = [0; 2064];
     let mut main = [0; 2048];
     for f in 0..16usize {
-        copy_frame(columns, f, &mut frame);
+        get_frame(received, columns, as_received, f, &mut frame);
         let rule = rule_of(plan.content, f);
         if let Err(cause) = read_frame(&frame, id_of(plan, false, f), rule, &mut main) {
             return Err(cause_of(f as u8, cause));
@@ -77,8 +112,39 @@ fn cause_of(f: u8, cause: FrameCause) -> Cause
     }
 }
 
-// Writes frame `f` of the block of these columns.
-fn copy_frame(columns: &[ColumnAnswer], f: usize, frame: &mut [u8; 2064])
+// Writes frame `f` of the block of these columns, which may be what was received.
+fn get_frame(
+    received: &Received,
+    columns: &[ColumnAnswer],
+    as_received: bool,
+    f: usize,
+    frame: &mut [u8; 2064],
+)
+    requires columns { length columns.now ≡ 182 }
+    requires as_received { IsTrue as_received → block_differences (received_rows received.now) (from_columns (words_of columns.now)) ≡ 0 }
+    requires frame { f < 16 }
+    ensures { frame.new ≡ frame_of (from_columns (words_of columns.now)) f }
+{
+    if as_received {
+        copy_received(received, f, frame);
+    } else {
+        copy_frame(columns, f, frame);
+    }
+}
+
+// Writes frame `f` of the received rows. That they have 182 bytes is told too, since a row of a buffer doesn't tell it.
+fn copy_received(received: &Received, f: usize, frame: &mut [u8; 2064])
+    requires { f < 16 }
+    ensures frame { frame.new ≡ frame_of (received_rows received.now) f }
+    ensures widths { (q : ℕ) → q < 12 → length (line (received_rows received.now) (12 * f + q)) ≡ 182 }
+{
+    for q in 0..12usize {
+        put_front(frame, 172 * q, received.row(12 * f + q));
+    }
+}
+
+/// Writes frame `f` of the block of these columns.
+pub(crate) fn copy_frame(columns: &[ColumnAnswer], f: usize, frame: &mut [u8; 2064])
     requires columns { length columns.now ≡ 182 }
     requires frame { f < 16 }
     ensures { frame.new ≡ frame_of (from_columns (words_of columns.now)) f }
@@ -90,10 +156,11 @@ fn copy_frame(columns: &[ColumnAnswer], f: usize, frame: &mut [u8; 2064])
     }
 }
 
-// Writes the first 172 bytes of a row behind what stands before them.
-fn put_front(frame: &mut [u8; 2064], at: usize, row: &[u8; 182])
+/// Writes the first 172 bytes of a row behind what stands before them.
+pub(crate) fn put_front(frame: &mut [u8; 2064], at: usize, row: &[u8; 182])
     requires { at + 172 ≤ 2064 }
-    ensures { take (at + 172) frame.new ≡ take at frame.old ++ take 172 row.now }
+    ensures front { take (at + 172) frame.new ≡ take at frame.old ++ take 172 row.now }
+    ensures width { length row.now ≡ 182 }
 {
     frame[at..at + 172].copy_from_slice(&row[..172]);
 }

@@ -8,12 +8,14 @@ mod frames; // the checks of the sixteen data frames
 pub mod laws; // what holds of every captured block that is read
 mod passes; // both passes, and the test of the rows
 mod reading; // a captured block read as an entry of a plan
+mod rescue; // the frames that can be saved, of a refused block too
 mod rows; // the first pass: rows
 
 pub use cause::{Cause, Fixed};
 pub use frames::sectors;
 pub use passes::two_pass;
 pub use reading::read_block;
+pub use rescue::salvage;
 
 #[cfg(test)]
 mod tests;

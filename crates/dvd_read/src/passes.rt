@@ -1,13 +1,14 @@
 //! Both passes over a captured block, and the test of the rows.
-ghost use Rattle.std.specs.Prelude.{◌≡◌, ◌<◌, ◌≤◌, None, Some, length, map, IfErr, IfOk, OnErr, OnOk};
+ghost use Rattle.std.specs.Prelude.{◌≡◌, ◌<◌, ◌≤◌, Bool, List, None, Some, length, map, IsTrue, IfErr, IfOk, OnErr, OnOk};
 ghost use Rattle.rs_decode.specs.Filling.{marked};
-ghost use Rattle.dvd_capture.specs.Answers.{AreAnswers};
-ghost use Rattle.dvd_capture.specs.Rule.{HasBlock, HasNoTwoPass};
+ghost use Rattle.dvd_capture.specs.Answers.{AreAnswers, IsAnswer};
+ghost use Rattle.dvd_capture.specs.Rule.{HasAnswers, HasBlock, HasNoTwoPass};
 ghost use Rattle.dvd_capture.specs.TwoPass.{AgreesWith, answers_of, failed_of, from_columns, IsTwoPass};
 ghost use Rattle.dvd_capture.specs.Works.{answers_of_work, block_of, marks_of_work, rows_of, stage_of};
 ghost use Rattle.dvd_capture.specs.Parts.{marks_rows, received_rows};
 ghost use Rattle.dvd_read.specs.Causes.{two_pass_cause};
 ghost use Rattle.dvd_read.specs.Found.{answer_word, block_differences, block_found, differences, words_of};
+ghost use Rattle.dvd_read.specs.Standing.{AreCodewords, bytes_of};
 
 use crate::cause::{Cause, Fixed};
 use crate::columns::{answer_columns, first_missing, first_wrong, read_row};
@@ -45,9 +46,14 @@ pub fn two_pass(work: &mut Work) -> Result<Fixed, Cause>
         work.columns.all_mut(),
     );
     match found {
-        Ok(failed_rows) => {
+        Ok(
+            BlockFound {
+                failed_rows,
+                stands,
+            },
+        ) => {
             work.set_stage(Stage::Fixed);
-            let bytes = count_differences(&work.received, work.columns.all());
+            let bytes = count_fixed(work, stands);
             Ok(Fixed { bytes, failed_rows })
         }
         Err(cause) => {
@@ -57,13 +63,19 @@ pub fn two_pass(work: &mut Work) -> Result<Fixed, Cause>
     }
 }
 
-// Both passes over the buffers of a captured block. Answers the number of failed rows.
+// What is told of a block that both passes found: how many rows failed, and whether it stands as its rows were answered.
+struct BlockFound {
+    failed_rows: u16,
+    stands: bool,
+}
+
+// Both passes over the buffers of a captured block.
 fn find_block(
     received: &Received,
     marks: &Marks,
     answers: &mut [AnswerRow],
     columns: &mut [ColumnAnswer],
-) -> Result<u16, Cause>
+) -> Result<BlockFound, Cause>
     requires rows { length answers.old ≡ 208 }
     requires columns { length columns.old ≡ 182 }
     ensures answers { AreAnswers (received_rows received.now) (marks_rows marks.now) answers.new }
@@ -72,28 +84,35 @@ fn find_block(
     ensures found { OnOk result (two_pass_cause (answers_of (received_rows received.now) (marks_rows marks.now)) ≡ None) }
     ensures block { OnOk result (from_columns (words_of columns.new) ≡ block_found (answers_of (received_rows received.now) (marks_rows marks.now))) }
     ensures agrees { OnOk result (IsTwoPass (received_rows received.now) (marks_rows marks.now) (from_columns (words_of columns.new))) }
-    ensures failed { IfOk result (λ failed. failed ≡ marked (failed_of (answers_of (received_rows received.now) (marks_rows marks.now)))) }
+    ensures failed { IfOk result (λ found. found.failed_rows ≡ marked (failed_of (answers_of (received_rows received.now) (marks_rows marks.now)))) }
+    ensures stands { IfOk result (λ found. IsTrue found.stands → from_columns (words_of columns.new) ≡ bytes_of answers.new) }
 {
     answer_rows(received, marks, answers);
     let mut failed = [false; 208];
     mark_failed(answers, &mut failed);
-    find_columns(answers, &failed, columns)?;
-    Ok(count_failed(&failed))
+    let stands = find_columns(answers, &failed, columns)?;
+    Ok(BlockFound {
+        failed_rows: count_failed(&failed),
+        stands,
+    })
 }
 
-// Answers the columns and tests the rows of the block that they are.
+// Answers the columns and tests the rows of the block that they are. Answers whether it stands as its rows were answered;
+// they are codewords then, and need no test.
 fn find_columns(
     answers: &[AnswerRow],
     failed: &[bool; 208],
     columns: &mut [ColumnAnswer],
-) -> Result<(), Cause>
+) -> Result<bool, Cause>
     requires rows { length answers.now ≡ 208 }
+    requires codewords { AreCodewords answers.now }
     requires marks { failed.now ≡ failed_of (map answer_word answers.now) }
     requires columns { length columns.old ≡ 182 }
     ensures refused { IfErr result (λ cause. two_pass_cause (map answer_word answers.now) ≡ Some cause) }
     ensures found { OnOk result (two_pass_cause (map answer_word answers.now) ≡ None) }
     ensures block { OnOk result (from_columns (words_of columns.new) ≡ block_found (map answer_word answers.now)) }
     ensures agrees { OnOk result (AgreesWith (map answer_word answers.now) (from_columns (words_of columns.new))) }
+    ensures stands { IfOk result (λ stands. IsTrue stands → from_columns (words_of columns.new) ≡ bytes_of answers.now) }
 {
     let failed_rows = count_failed(failed);
     if failed_rows > MOST_FAILED {
@@ -101,14 +120,54 @@ fn find_columns(
             failed: failed_rows,
         });
     }
-    answer_columns(answers, failed, columns);
+    let stands = answer_columns(answers, failed, columns);
     if let Some(j) = first_missing(columns) {
         return Err(Cause::Column { j });
+    }
+    if stands {
+        return Ok(true);
     }
     if let Some(i) = first_wrong(columns) {
         return Err(Cause::Row { i });
     }
-    Ok(())
+    Ok(false)
+}
+
+// In how many places the block differs from what was received.
+fn count_fixed(work: &Work, stands: bool) -> u32
+    requires stage { HasAnswers (stage_of work.now) }
+    requires stands { IsTrue stands → block_of work.now ≡ bytes_of (answers_of_work work.now) }
+    ensures { result ≡ block_differences (rows_of work.now) (block_of work.now) }
+{
+    if stands {
+        count_corrections(work)
+    } else {
+        count_differences(&work.received, work.columns.all())
+    }
+}
+
+// In how many places the rows' answers differ from what was received.
+fn count_corrections(work: &Work) -> u32
+    requires { HasAnswers (stage_of work.now) }
+    ensures { result ≡ block_differences (rows_of work.now) (bytes_of (answers_of_work work.now)) }
+{
+    let answers = work.answers.rows();
+    let mut count = 0;
+    for i in 0..208usize {
+        count += row_corrections(work.received.row(i), &answers[i]);
+    }
+    count
+}
+
+// And the answer to one row: in none where nothing was corrected and nothing marked.
+fn row_corrections(row: &[u8; 182], answer: &AnswerRow) -> u32
+    ensures count { (marks : List Bool) → length marks ≡ 182 → IsAnswer row.now marks answer.now → result ≡ differences row.now answer.now.bytes }
+    ensures most { result ≤ 182 }
+{
+    match answer.fix {
+        Some(fix) if fix.errors == 0 && fix.erased == 0 => 0,
+        _ => row_differences(row, &answer.bytes),
+    }
 }
 
 // In how many places the block of the columns differs from what was received.

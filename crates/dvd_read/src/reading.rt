@@ -10,7 +10,7 @@ ghost use Rattle.dvd_read.specs.Found.{block_differences};
 ghost use Rattle.dvd_read.specs.Reading.{block_cause, block_in, IsReadAs};
 
 use crate::cause::{Cause, Fixed};
-use crate::frames::sectors;
+use crate::frames::sectors_of_block;
 use crate::passes::two_pass;
 use dvd_capture::{Stage, Work};
 use dvd_layout::BlockPlan;
@@ -38,7 +38,7 @@ pub fn read_block(work: &mut Work, plan: &BlockPlan) -> Result<Fixed, Cause>
 {
     match two_pass(work) {
         Ok(fixed) => {
-            sectors(work, plan)?;
+            sectors_of_block(work, plan, fixed.bytes == 0)?;
             Ok(fixed)
         }
         Err(cause) => {

@@ -1,5 +1,5 @@
 //! Worked values from outside the program.
-use crate::{Cause, Fixed, read_block, sectors, two_pass};
+use crate::{Cause, Fixed, read_block, salvage, sectors, two_pass};
 use dvd_block::Block;
 use dvd_capture::{Stage, Work};
 use dvd_frame::{Area, Id, Rule, make_frame};
@@ -82,6 +82,24 @@ fn check(work: &mut Work) -> Option<Result<(), Cause>> {
     } else {
         None
     }
+}
+
+// What is saved of the first data block, where its rows were answered.
+fn save(work: &mut Work) -> Option<u8> {
+    if work.stage() == Stage::Refused || work.stage() == Stage::Fixed {
+        Some(salvage(work, &FIRST))
+    } else {
+        None
+    }
+}
+
+// Whether sector `f` is that of the first data block, or zeros where it is lost; of all sixteen.
+fn all_but(work: &Work, lost: [usize; 2]) -> bool {
+    (0..16u8).all(|f| {
+        let at = usize::from(f);
+        let is_lost = at == lost[0] || at == lost[1];
+        is_sector_of(work, at, if is_lost { 0 } else { f })
+    })
 }
 
 #[test]
@@ -208,6 +226,63 @@ fn sectors_are_read_back_or_are_zeros(rt: HostRuntime) -> Result<(), Fail> {
         lose_row(&mut work, 12 * t);
     }
     assert_eq!(rt; read(&mut work), Some(Err(Cause::Rows { failed: 17 })));
+    for f in 0..16usize {
+        assert!(rt; is_sector_of(&work, f, 0));
+    }
+    Ok(())
+}
+
+#[test]
+fn frames_without_a_fault_are_saved(rt: HostRuntime) -> Result<(), Fail> {
+    // Of a block that two passes fixed, all but the two frames that are faulty.
+    let mut work = data_block(rt.alloc(), Some(2), Some(3))?;
+    assert_eq!(rt; read(&mut work), Some(Err(Cause::Edc { f: 2 })));
+    assert_eq!(rt; save(&mut work), Some(14));
+    assert!(rt; all_but(&work, [2, 3]));
+
+    // Of a block without a fault, all.
+    let mut work = data_block(rt.alloc(), None, None)?;
+    assert!(rt; read(&mut work).is_some());
+    assert_eq!(rt; save(&mut work), Some(16));
+    assert!(rt; all_but(&work, [0, 0]));
+
+    // Of a block of another place, none.
+    let mut work = zero_block(rt.alloc())?;
+    assert!(rt; read(&mut work).is_some());
+    assert_eq!(rt; save(&mut work), Some(0));
+    Ok(())
+}
+
+#[test]
+fn frames_of_answered_rows_are_saved(rt: HostRuntime) -> Result<(), Fail> {
+    // Rows 0 to 16 are those of frame 0 and the first five of frame 1.
+    let mut work = data_block(rt.alloc(), None, None)?;
+    for i in 0..17usize {
+        lose_row(&mut work, i);
+    }
+    assert_eq!(rt; read(&mut work), Some(Err(Cause::Rows { failed: 17 })));
+    assert_eq!(rt; save(&mut work), Some(14));
+    assert!(rt; all_but(&work, [0, 1]));
+
+    // Seventeen rows of frames 4 and 10: rows 49 to 59 and 120 to 125.
+    let mut work = data_block(rt.alloc(), None, None)?;
+    for t in 0..11usize {
+        lose_row(&mut work, 49 + t);
+    }
+    for t in 0..6usize {
+        lose_row(&mut work, 120 + t);
+    }
+    assert_eq!(rt; read(&mut work), Some(Err(Cause::Rows { failed: 17 })));
+    assert_eq!(rt; save(&mut work), Some(14));
+    assert!(rt; all_but(&work, [4, 10]));
+
+    // One row of each frame and one of parity: nothing is saved.
+    let mut work = data_block(rt.alloc(), None, None)?;
+    for t in 0..17usize {
+        lose_row(&mut work, 12 * t);
+    }
+    assert_eq!(rt; decode(&mut work), Some(Err(Cause::Rows { failed: 17 })));
+    assert_eq!(rt; save(&mut work), Some(0));
     for f in 0..16usize {
         assert!(rt; is_sector_of(&work, f, 0));
     }

@@ -11,7 +11,7 @@ pub loop-q-preserved : goal.loop-q-preserved
 loop-q-preserved c = record {
   size = c.put_front.array_long;
   front = fronts-next (from_columns (words_of c.args.columns.now)) c.args.f c.loop-q.q c.loop-q.frame c.put_front.new.frame c.read_row.new.row
-      c.put_front.ensures c.loop-q.invariant.front c.read_row.ensures;
+      c.put_front.ensures.front c.loop-q.invariant.front c.read_row.ensures;
 }
 
 pub returns : goal.returns

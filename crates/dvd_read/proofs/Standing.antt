@@ -1,0 +1,261 @@
+-- Rows and columns that are their own answers, and blocks that stand as their rows were answered.
+use Rattle.std.proofs.Common.{◌≡◌, ◌∙◌, ℕ, zero, suc, ◌+◌, ◌*◌, ◌<◌, ◌≤◌, ◌==◌, Bool, true, false, if◌then◌else◌, MatchOption, List, [], ◌∷◌, length, map, get_or, set, replicate, slice_index, inl, inr, refl, sym, ap, subst, arith, Some, None, is_none}
+use Rattle.std.specs.declared.option.Option.{Option}
+use Rattle.std.proofs.lemmas.Bool.Decides.{nat_tests}
+use Rattle.std.proofs.lemmas.List.{get_or-map, get_or-set_same, get_or-set_other, ext_get_or, get_or-replicate, length-map, length-replicate, length-set, get_or_default}
+use Rattle.std.proofs.lemmas.Bool.{cases_eq}
+use Rattle.std.proofs.lemmas.Grind.{same_number_lists}
+use Rattle.gf_field.specs.Words.{IsCodeword, IsNear, cost}
+use Rattle.rs_decode.specs.Errors.{error_count}
+use Rattle.rs_decode.specs.Filling.{marked}
+use Rattle.rs_decode.specs.Nearest.{near_of, vanishes_at_all}
+use Rattle.rs_decode.specs.declared.errors.Fix.{Fix}
+use Rattle.rs_decode.proofs.Counting.{error_count-self}
+use Rattle.rs_decode.proofs.Nearest.{codeword-vanishes, near_of-some}
+use Rattle.dvd_block.specs.Product.{column, line}
+use Rattle.dvd_capture.specs.Answers.{IsAnswer, IsFix, marks_line}
+use Rattle.dvd_capture.specs.Rule.{HasAnswers}
+use Rattle.dvd_capture.specs.Works.{answers_of_work, marks_of_work, rows_of, stage_of}
+use Rattle.dvd_capture.specs.declared.work.Work.{Work}
+use Rattle.dvd_capture.proofs.MarkLists.{length-marks_of, line-marks}
+use Rattle.dvd_capture.specs.TwoPass.{answer_column, byte_at, column_answer, failed_of, from_columns}
+use Rattle.dvd_capture.specs.declared.parts.AnswerRow.{AnswerRow}
+use Rattle.dvd_capture.specs.declared.parts.ColumnAnswer.{ColumnAnswer}
+use Rattle.dvd_capture.proofs.Columns.{from_columns-line, length-from_columns}
+use Rattle.dvd_read.specs.Found.{answer_by, answer_word, differences, words_of}
+use Rattle.dvd_read.specs.Standing.{AreCodewords, AreOwnColumns, AreWhole, bytes_of}
+use Rattle.dvd_read.proofs.ColumnAnswers.{blank_column}
+use Rattle.dvd_read.proofs.RowAnswers.{blank_answer, row_fixed}
+
+-- ---- a codeword without marks
+
+marked-clear : (n : ℕ) → marked (replicate n false) ≡ 0
+unfolding marked
+marked-clear zero = refl
+marked-clear (suc n) = let rest = marked-clear n in omega (arith, rest)
+
+same-byte : (byte rest : ℕ) → rest ≡ 0 → (if byte == byte then 0 else 2) + rest ≡ 0
+same-byte byte rest none = grind (arith, nat_tests)
+
+cost-itself : (word : List ℕ) (n : ℕ) → cost word word (replicate n false) ≡ 0
+unfolding cost
+cost-itself [] n = refl
+cost-itself (byte ∷ word) zero = refl
+cost-itself (byte ∷ word) (suc n) = same-byte byte (cost word word (replicate n false)) (cost-itself word n)
+
+-- it is near itself
+pub near-itself : (n r : ℕ) (word : List ℕ) → IsCodeword n r word → IsNear n r word (replicate n false) word
+near-itself n r word codeword = record {
+  codeword = codeword;
+  received_size = codeword.size;
+  marks_size = length-replicate n false;
+  within = let none = cost-itself word n in omega arith;
+}
+
+pub own-near_of : (n r : ℕ) (word : List ℕ) → n ≤ 255 → IsCodeword n r word → near_of n r word (replicate n false) ≡ Some word
+own-near_of n r word short codeword = near_of-some n r word word (replicate n false) short (near-itself n r word codeword)
+
+-- it is its own answer
+pub own-row : (row : List ℕ) (answer : AnswerRow) → IsCodeword 182 10 row → answer.bytes ≡ row → answer.fix ≡ Some (record { errors = 0; erased = 0 })
+    → IsAnswer row (replicate 182 false) answer
+own-row row answer codeword bytes_are fix_is =
+    row_fixed row row (replicate 182 false) (record { errors = 0; erased = 0 }) answer (near-itself 182 10 row codeword)
+    (sym (error_count-self row (replicate 182 false))) (sym (marked-clear 182)) bytes_are fix_is
+
+-- ---- a row where nothing was corrected and nothing marked
+
+fix-told : (row word : List ℕ) (marks : List Bool) (found : Option Fix) (fix : Fix) → found ≡ Some fix
+    → MatchOption found (near_of 182 10 row marks ≡ None) (IsFix row marks word) → IsFix row marks word fix
+fix-told row word marks found fix is told =
+    subst (λ (f : Option Fix). MatchOption f (near_of 182 10 row marks ≡ None) (IsFix row marks word)) is told
+
+own-step : (x y rest more : ℕ) → (if y == x then 0 else 1) + rest ≡ 0 → (rest ≡ 0 → more ≡ 0) → 0 ≡ (if x == y then 0 else 1) + more
+own-step x y rest more none later =
+    let no_rest : rest ≡ 0 = omega (arith, none) in
+    let no_more : more ≡ 0 = later no_rest in
+    grind (arith, nat_tests)
+
+none-differ : (row word : List ℕ) (marks : List Bool) → length row ≤ length marks → marked marks ≡ 0 → error_count row word marks ≡ 0
+    → 0 ≡ differences row word
+unfolding differences error_count marked
+none-differ [] word marks within clear none = refl
+none-differ (x ∷ row) [] marks within clear none = refl
+none-differ (x ∷ row) (y ∷ word) [] within clear none = absurd (omega arith)
+none-differ (x ∷ row) (y ∷ word) (true ∷ marks) within clear none = absurd (omega (arith, clear))
+none-differ (x ∷ row) (y ∷ word) (false ∷ marks) within clear none =
+    own-step x y (error_count row word marks) (differences row word) none
+    (λ rest. sym (none-differ row word marks (omega arith) (omega (arith, clear)) rest))
+
+pub uncorrected : (row : List ℕ) (marks : List Bool) (answer : AnswerRow) (fix : Fix) → length row ≡ length marks → answer.fix ≡ Some fix
+    → fix.errors ≡ 0 → fix.erased ≡ 0 → IsAnswer row marks answer → 0 ≡ differences row answer.bytes
+uncorrected row marks answer fix size is errors erased told =
+    let fixed : IsFix row marks answer.bytes fix = fix-told row answer.bytes marks answer.fix fix is told in
+    none-differ row answer.bytes marks (omega (arith, size)) (sym fixed.2 ∙ erased) (sym fixed.1 ∙ errors)
+
+-- ---- rows of which none failed
+
+none-marked : (marks : List Bool) (k : ℕ) → marked marks ≡ 0 → get_or marks k false ≡ false
+unfolding marked
+none-marked [] k none = refl
+none-marked (true ∷ marks) k none = absurd (omega (arith, none))
+none-marked (false ∷ marks) zero none = refl
+none-marked (false ∷ marks) (suc k) none = none-marked marks k (omega (arith, none))
+
+answered-by : (fix : Option Fix) (bytes : List ℕ) → is_none (answer_by fix bytes) ≡ false → answer_by fix bytes ≡ Some bytes
+answered-by None bytes answered = cc
+answered-by (Some fix) bytes answered = refl
+
+-- each is answered by its bytes
+pub whole-answered : (answers : List AnswerRow) (i : ℕ) → i < length answers → marked (failed_of (map answer_word answers)) ≡ 0
+    → answer_word (get_or answers i blank_answer) ≡ Some (get_or answers i blank_answer).bytes
+whole-answered answers i within none =
+    let answer : AnswerRow = get_or answers i blank_answer in
+    let inside : i < length (map answer_word answers) = rw length-map within in
+    answered-by answer.fix answer.bytes
+    (ap is_none (sym (get_or-map answer_word answers i blank_answer None within))
+    ∙ sym (get_or-map is_none (map answer_word answers) i None false inside) ∙ none-marked (failed_of (map answer_word answers)) i none)
+
+abbrev bytes : AnswerRow → List ℕ
+bytes answer = answer.bytes
+
+get_or-bytes_of : (answers : List AnswerRow) (i : ℕ) → i < length answers → line (bytes_of answers) i ≡ (get_or answers i blank_answer).bytes
+get_or-bytes_of answers i within = get_or-map bytes answers i blank_answer [] within
+
+pub length-bytes_of : (answers : List AnswerRow) → length (bytes_of answers) ≡ length answers
+length-bytes_of answers = length-map answers bytes
+
+-- a column of the answers is one of their bytes
+pub whole-column : (answers : List AnswerRow) (j : ℕ) → marked (failed_of (map answer_word answers)) ≡ 0
+    → answer_column (map answer_word answers) j ≡ column (bytes_of answers) j
+unfolding answer_column column
+whole-column answers j none =
+    let words : List (Option (List ℕ)) = map answer_word answers in
+    same_number_lists (map (byte_at j) words) (map (λ row. slice_index row j) (bytes_of answers))
+    (length-map words (byte_at j) ∙ length-map answers answer_word ∙ sym (length-map (bytes_of answers) (λ row. slice_index row j) ∙ length-bytes_of answers))
+    (λ k within.
+    let inside_words : k < length words = subst (λ n. k < n) (length-map words (byte_at j)) within in
+    let inside : k < length answers = subst (λ n. k < n) (length-map answers answer_word) inside_words in
+    let inside_bytes : k < length (bytes_of answers) = subst (λ n. k < n) (sym (length-bytes_of answers)) inside in
+    get_or-map (byte_at j) words k None 0 inside_words
+    ∙ ap (byte_at j) (get_or-map answer_word answers k blank_answer None inside ∙ whole-answered answers k inside none)
+    ∙ sym (ap (λ (row : List ℕ). slice_index row j) (get_or-bytes_of answers k inside))
+    ∙ sym (get_or-map (λ (row : List ℕ). slice_index row j) (bytes_of answers) k [] 0 inside_bytes))
+
+all-clear : (marks : List Bool) (n : ℕ) → length marks ≡ n → marked marks ≡ 0 → replicate n false ≡ marks
+all-clear marks n size none =
+    ext_get_or false (replicate n false) marks (length-replicate n false ∙ sym size)
+    (λ k within. get_or-replicate n k false false (omega (arith, within, length-replicate n false)) ∙ sym (none-marked marks k none))
+
+-- and its answer is that of a column without marks
+pub whole-answer : (answers : List AnswerRow) (j : ℕ) (word : List ℕ) → length answers ≡ 208 → marked (failed_of (map answer_word answers)) ≡ 0
+    → word ≡ column (bytes_of answers) j → near_of 208 16 word (replicate 208 false) ≡ column_answer (map answer_word answers) j
+whole-answer answers j word size none is =
+    let failed : List Bool = failed_of (map answer_word answers) in
+    let clear : replicate 208 false ≡ failed = all-clear failed 208 (length-map (map answer_word answers) is_none ∙ length-map answers answer_word ∙ size) none in
+    ap (near_of 208 16 word) clear ∙ ap (λ w. near_of 208 16 w failed) (is ∙ sym (whole-column answers j none))
+
+-- and is copied byte by byte
+abbrev pub IsCopiedBefore : List AnswerRow → ℕ → List ℕ → ℕ → Type 0
+IsCopiedBefore answers j word i = (k : ℕ) (d : AnswerRow) → k < i → get_or word k 0 ≡ slice_index (get_or answers k d).bytes j
+
+pub column-copied : (answers : List AnswerRow) (j : ℕ) (word : List ℕ) → length answers ≡ 208 → length word ≡ 208 → IsCopiedBefore answers j word 208
+    → word ≡ column (bytes_of answers) j
+unfolding column
+column-copied answers j word size word_size copied =
+    same_number_lists word (map (λ row. slice_index row j) (bytes_of answers))
+    (word_size ∙ sym (length-map (bytes_of answers) (λ row. slice_index row j) ∙ length-bytes_of answers ∙ size))
+    (λ k within.
+    let below : k < 208 = omega arith in
+    let inside : k < length answers = omega arith in
+    let inside_bytes : k < length (bytes_of answers) = subst (λ n. k < n) (sym (length-bytes_of answers)) inside in
+    copied k blank_answer below
+    ∙ sym (ap (λ (row : List ℕ). slice_index row j) (get_or-bytes_of answers k inside))
+    ∙ sym (get_or-map (λ (row : List ℕ). slice_index row j) (bytes_of answers) k [] 0 inside_bytes))
+
+-- ---- blocks that stand
+
+-- where no row failed, all rows are codewords
+pub whole-codewords : (answers : List AnswerRow) (i : ℕ) → length answers ≡ 208 → i < 208 → AreCodewords answers → marked (failed_of (map answer_word answers)) ≡ 0
+    → IsCodeword 182 10 (line (bytes_of answers) i)
+whole-codewords answers i size below codewords none =
+    let inside : i < length answers = omega arith in
+    subst (IsCodeword 182 10) (sym (get_or-bytes_of answers i inside))
+    (codewords i blank_answer (get_or answers i blank_answer).bytes below (whole-answered answers i inside none))
+
+pub stands : (answers : List AnswerRow) (columns : List ColumnAnswer) → length answers ≡ 208 → length columns ≡ 182 → AreCodewords answers
+    → marked (failed_of (map answer_word answers)) ≡ 0 → AreOwnColumns answers columns → from_columns (words_of columns) ≡ bytes_of answers
+unfolding column
+stands answers columns size columns_size codewords none own =
+    let word : ColumnAnswer → List ℕ = λ column. column.bytes in
+    let words : List (List ℕ) = words_of columns in
+    let rows : List (List ℕ) = bytes_of answers in
+    ext_get_or [] (from_columns words) rows (length-from_columns words ∙ sym (length-bytes_of answers ∙ size))
+    (λ i within.
+    let below : i < 208 = subst (λ n. i < n) (length-from_columns words) within in
+    let inside : i < length rows = subst (λ n. i < n) (sym (length-bytes_of answers ∙ size)) below in
+    let width : length (line rows i) ≡ 182 = (whole-codewords answers i size below codewords none).size in
+    from_columns-line words i below
+    ∙ same_number_lists (map (λ w. slice_index w i) words) (line rows i)
+    (length-map words (λ w. slice_index w i) ∙ length-map columns word ∙ columns_size ∙ sym width)
+    (λ j within_row.
+    let inside_words : j < length words = subst (λ n. j < n) (length-map words (λ w. slice_index w i)) within_row in
+    let inside_columns : j < length columns = subst (λ n. j < n) (length-map columns word) inside_words in
+    let j_below : j < 182 = omega arith in
+    get_or-map (λ w. slice_index w i) words j [] 0 inside_words
+    ∙ ap (λ (w : List ℕ). slice_index w i) (get_or-map word columns j blank_column [] inside_columns ∙ own j blank_column j_below)
+    ∙ get_or-map (λ row. slice_index row j) rows i [] 0 inside))
+
+-- no row of such a block is wrong
+pub rows-stand : (answers : List AnswerRow) (columns : List ColumnAnswer) → length answers ≡ 208 → length columns ≡ 182 → AreCodewords answers
+    → marked (failed_of (map answer_word answers)) ≡ 0 → AreOwnColumns answers columns → (k : ℕ) → k < 208
+    → vanishes_at_all 10 (line (from_columns (words_of columns)) k) ≡ true
+rows-stand answers columns size columns_size codewords none own k below =
+    ap (λ (block : List (List ℕ)). vanishes_at_all 10 (line block k)) (stands answers columns size columns_size codewords none own)
+    ∙ codeword-vanishes 182 10 (line (bytes_of answers) k) (whole-codewords answers k size below codewords none)
+
+-- the columns before column j have the bytes of the rows' answers
+abbrev pub AreOwnBefore : List AnswerRow → List ColumnAnswer → ℕ → Type 0
+AreOwnBefore answers columns j = (k : ℕ) (d : ColumnAnswer) → k < j → (get_or columns k d).bytes ≡ column (bytes_of answers) k
+
+pub own-next : (answers : List AnswerRow) (columns : List ColumnAnswer) (j : ℕ) (own : ColumnAnswer) → j < length columns
+    → AreOwnBefore answers columns j → own.bytes ≡ column (bytes_of answers) j → AreOwnBefore answers (set columns j own) (j + 1)
+own-next answers columns j own within before here k d below = elim (cases_eq k j) [
+  | inl same ↦
+      ap (λ n. (get_or (set columns j own) n d).bytes) same ∙ ap (λ (c : ColumnAnswer). c.bytes) (get_or-set_same columns j own d within) ∙ here
+      ∙ ap (column (bytes_of answers)) (sym same)
+  | inr other ↦ ap (λ (c : ColumnAnswer). c.bytes) (get_or-set_other columns j k own d other) ∙ before k d (omega arith)
+]
+
+-- two columns more are noted
+pub whole-next : (columns : List ColumnAnswer) (whole : List Bool) (k : ℕ) (first second : Bool) (default : ColumnAnswer) → 2 * k + 1 < length columns → 2 * k + 1 < length whole
+    → (first ≡ true → IsCodeword 208 16 (get_or columns (2 * k) default).bytes) → (second ≡ true → IsCodeword 208 16 (get_or columns (2 * k + 1) default).bytes)
+    → AreWhole columns whole (2 * k) → AreWhole columns (set (set whole (2 * k) first) (2 * k + 1) second) (2 * (k + 1))
+whole-next columns whole k first second default inside room one other before j d below noted = elim (cases_eq j (2 * k + 1)) [
+  | inl last ↦
+      let is : second ≡ true = sym (get_or-set_same (set whole (2 * k) first) (2 * k + 1) second false (omega (arith, length-set whole (2 * k) first))) ∙ ap (λ n. get_or (set (set whole (2 * k) first) (2 * k + 1) second) n false) (sym last) ∙ noted in
+      subst (λ (c : ColumnAnswer). IsCodeword 208 16 c.bytes) (get_or_default columns (2 * k + 1) default d inside ∙ ap (λ n. get_or columns n d) (sym last)) (other is)
+  | inr not_last ↦
+      let left : get_or (set whole (2 * k) first) j false ≡ true = sym (get_or-set_other (set whole (2 * k) first) (2 * k + 1) j second false not_last) ∙ noted in
+      elim (cases_eq j (2 * k)) [
+        | inl here ↦
+            let is : first ≡ true = sym (get_or-set_same whole (2 * k) first false (omega arith)) ∙ ap (λ n. get_or (set whole (2 * k) first) n false) (sym here) ∙ left in
+            subst (λ (c : ColumnAnswer). IsCodeword 208 16 c.bytes) (get_or_default columns (2 * k) default d (omega arith) ∙ ap (λ n. get_or columns n d) (sym here)) (one is)
+        | inr not_here ↦ before j d (omega arith) (sym (get_or-set_other whole (2 * k) j first false not_here) ∙ left)
+      ]
+]
+
+-- what is counted of row i of a captured block
+pub row-counted : (work : Work) (i : ℕ) (row : List ℕ) (default : AnswerRow) (count : ℕ) → i < 208 → HasAnswers (stage_of work) → row ≡ line (rows_of work) i
+    → ((marks : List Bool) → length marks ≡ 182 → IsAnswer row marks (get_or (answers_of_work work) i default)
+    → count ≡ differences row (get_or (answers_of_work work) i default).bytes)
+    → count ≡ differences (line (rows_of work) i) (line (bytes_of (answers_of_work work)) i)
+row-counted work i row default count below stage is counted =
+    let answers : List AnswerRow = answers_of_work work in
+    let marks : List Bool = marks_line (marks_of_work work) i in
+    let inside : i < length answers = omega (arith, work.answers.size, work.answers.rows.ok.0) in
+    let inside_marks : i < length work.marks.rows.items = omega (arith, work.marks.size, work.marks.rows.ok.0) in
+    let width : length marks ≡ 182 = ap length (line-marks work.marks.rows.items i inside_marks) ∙ length-marks_of (line work.marks.rows.items i) in
+    let told : IsAnswer row marks (get_or answers i default) = subst (λ (r : List ℕ). IsAnswer r marks (get_or answers i default)) (sym is) (work.answered stage i default below) in
+    counted marks width told
+    ∙ ap (λ (r : List ℕ). differences r (get_or answers i default).bytes) is
+    ∙ ap (differences (line (rows_of work) i)) (sym (get_or-map bytes answers i default [] inside))

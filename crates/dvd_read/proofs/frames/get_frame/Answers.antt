@@ -1,0 +1,26 @@
+use Rattle.std.proofs.Common.{◌≡◌, ◌∙◌, ◌+◌, ◌*◌, List, ℕ, slice_index, length, sym, ap, arith}
+use Rattle.std.proofs.lemmas.List.{length-map}
+use Rattle.dvd_block.specs.Product.{line}
+use Rattle.dvd_capture.specs.Parts.{received_rows}
+use Rattle.dvd_capture.specs.TwoPass.{from_columns}
+use Rattle.dvd_capture.specs.declared.parts.ColumnAnswer.{ColumnAnswer}
+use Rattle.dvd_capture.proofs.Columns.{from_columns-line, length-from_columns}
+use Rattle.dvd_read.specs.Found.{words_of}
+use Rattle.dvd_read.proofs.Differences.{rows-same}
+use Rattle.dvd_read.proofs.FrameFaults.{frames-same}
+use Rattle.dvd_read.proofs.frames.get_frame.Goals as goal
+
+pub returns-then-as_received : goal.returns-then-as_received
+returns-then-as_received c =
+    let rows : List (List ℕ) = received_rows c.args.received.now in
+    let words : List (List ℕ) = words_of c.args.columns.now in
+    let height : length rows ≡ 208 = omega (arith, c.args.received.now.size, c.args.received.now.rows.ok.0) in
+    c.copy_received.ensures.frame
+    ∙ frames-same rows (from_columns words) c.args.f
+    (λ q below.
+    let i : ℕ = 12 * c.args.f + q in
+    let width : length (line (from_columns words) i) ≡ 182 =
+    ap length (from_columns-line words i (omega (arith, c.requires.frame))) ∙ length-map words (λ word. slice_index word i)
+    ∙ length-map c.args.columns.now (λ (column : ColumnAnswer). column.bytes) ∙ c.requires.columns in
+    rows-same rows (from_columns words) i (c.requires.as_received c.if-as_received.true) (omega (arith, height, c.requires.frame))
+    (omega (arith, length-from_columns words, c.requires.frame)) (c.copy_received.ensures.widths q below ∙ sym width))

@@ -1,0 +1,11 @@
+use Rattle.std.proofs.Common.{◌≡◌, ◌≤◌, ◌*◌, take}
+use Rattle.dvd_capture.specs.Works.{answers_of_work, rows_of}
+use Rattle.dvd_read.specs.Found.{block_differences}
+use Rattle.dvd_read.specs.Standing.{bytes_of}
+use Rattle.dvd_read.proofs.passes.count_corrections.Given as goal
+
+abbrev pub invariant-loop-i : goal.invariant-loop-i
+invariant-loop-i l = record {
+  counted : l.count ≡ block_differences (take l.i (rows_of l.work)) (take l.i (bytes_of (answers_of_work l.work)));
+  few : l.count ≤ 182 * l.i;
+}

@@ -1,0 +1,60 @@
+use Rattle.std.proofs.Common.{◌≡◌, ◌∙◌, List, length, map, sym, ap, arith, is_none}
+use Rattle.std.proofs.lemmas.List.{length-map}
+use Rattle.dvd_capture.specs.MarkBits.{marks_of}
+use Rattle.dvd_capture.specs.TwoPass.{answers_of, from_columns}
+use Rattle.dvd_capture.specs.Works.{answers_of_work, block_of, marks_of_work, rows_of, stage_of}
+use Rattle.dvd_capture.specs.Rule.{HasAnswers}
+use Rattle.dvd_capture.specs.declared.parts.AnswerRow.{AnswerRow}
+use Rattle.dvd_capture.specs.declared.parts.ColumnAnswer.{ColumnAnswer}
+use Rattle.dvd_capture.specs.declared.work.Work.{Work}
+use Rattle.dvd_read.specs.Causes.{two_pass_cause}
+use Rattle.dvd_read.specs.Found.{answer_word, block_found, words_of}
+use Rattle.dvd_read.specs.Salvage.{block_out, frames_saved, saved_in, sectors_saved}
+use Rattle.dvd_read.proofs.RowAnswers.{block_answers}
+use Rattle.dvd_read.proofs.SavedLaws.{fixed-found, fixed-told}
+use Rattle.dvd_read.proofs.rescue.salvage.Goals as goal
+
+rows_size : (work : Work) → length (rows_of work) ≡ 208
+rows_size work = omega (arith, work.received.size, work.received.rows.ok.0)
+
+marks_size : (work : Work) → length (marks_of_work work) ≡ 208
+marks_size work = length-map work.marks.rows.items marks_of ∙ omega (arith, work.marks.size, work.marks.rows.ok.0)
+
+answers_size : (work : Work) → length (answers_of_work work) ≡ 208
+answers_size work = omega (arith, work.answers.size, work.answers.rows.ok.0)
+
+-- the rows' answers are those of the first pass
+words : (work : Work) (rows : List AnswerRow) → rows ≡ answers_of_work work → HasAnswers (stage_of work)
+    → map answer_word rows ≡ answers_of (rows_of work) (marks_of_work work)
+words work rows are answered =
+    ap (map answer_word) are ∙ block_answers work.received work.marks (answers_of_work work) (answers_size work) (work.answered answered)
+
+pub save_frames-requires-clause-fixed : goal.save_frames-requires-clause-fixed
+save_frames-requires-clause-fixed c =
+    let work = c.args.work.now in
+    fixed-told (rows_of work) (marks_of_work work) (rows_size work) (marks_size work) (stage_of work) c.is_fixed.result c.is_fixed.ensures (block_of work)
+    c.requires.stage work.refused work.fixed
+    ∙ ap (λ answers. is_none (two_pass_cause answers)) (sym (words work c.rows.result.now c.rows.ensures.rows c.requires.stage))
+
+pub save_frames-requires-clause-block : goal.save_frames-requires-clause-block
+save_frames-requires-clause-block c =
+    let work = c.args.work.now in
+    λ found.
+    ap (λ (columns : List ColumnAnswer). from_columns (words_of columns)) c.all.ensures.columns
+    ∙ fixed-found (rows_of work) (marks_of_work work) (rows_size work) (marks_size work) (stage_of work) c.is_fixed.result c.is_fixed.ensures (block_of work)
+    work.fixed found
+    ∙ ap block_found (sym (words work c.rows.result.now c.rows.ensures.rows c.requires.stage))
+
+pub returns-clause-out : goal.returns-clause-out
+unfolding block_out
+returns-clause-out c =
+    let work = c.args.work.now in
+    c.save_frames.ensures.out
+    ∙ ap (λ answers. sectors_saved answers c.args.plan.now) (words work c.rows.result.now c.rows.ensures.rows c.requires.stage)
+
+pub returns-clause-saved : goal.returns-clause-saved
+unfolding saved_in
+returns-clause-saved c =
+    let work = c.args.work.now in
+    c.save_frames.ensures.saved
+    ∙ ap (λ answers. frames_saved answers c.args.plan.now) (words work c.rows.result.now c.rows.ensures.rows c.requires.stage)

@@ -1,0 +1,164 @@
+//! What is saved of a block whose rows are answered: each data frame that can be known to be right.
+ghost use Rattle.std.specs.Prelude.{◌≡◌, ◌<◌, ◌↔◌, IsTrue, true, length, map, not, replicate, Some, None, is_none, is_some, unwrap_or};
+ghost use Rattle.dvd_capture.specs.Rule.{HasAnswers};
+ghost use Rattle.dvd_capture.specs.Parts.{sector_bytes};
+ghost use Rattle.dvd_capture.specs.TwoPass.{from_columns};
+ghost use Rattle.dvd_capture.specs.Works.{marks_of_work, rows_of, sectors_of, stage_of};
+ghost use Rattle.dvd_layout.specs.Place.{HasNumbers};
+ghost use Rattle.dvd_read.specs.Causes.{two_pass_cause};
+ghost use Rattle.dvd_read.specs.Found.{answer_word, block_found, words_of};
+ghost use Rattle.dvd_read.specs.Frames.{frame_of};
+ghost use Rattle.dvd_read.specs.Salvage.{answered_block, block_out, candidate, frames_saved, lacks_row, rescued, saved_in, sectors_saved};
+
+use crate::frames::{copy_frame, put_front};
+use dvd_capture::parts::{AnswerRow, ColumnAnswer, Sectors};
+use dvd_capture::{Stage, Work};
+use dvd_frame::read_frame;
+use dvd_layout::{BlockPlan, id_of, rule_of};
+
+/// Saves the data frames that can be known to be right, as those of an entry of a plan: of the block that two passes fixed,
+/// or, where they refused it, of the rows' answers. Each sector is then the unscrambled Main Data of its frame, or zeros
+/// where the frame is lost. Answers how many frames are saved. The stage and all else stay.
+pub fn salvage(work: &mut Work, plan: &BlockPlan) -> u8
+    requires stage { HasAnswers (stage_of work.old) }
+    requires numbers { HasNumbers plan.now }
+
+    ensures out { sectors_of work.new ≡ block_out (rows_of work.old) (marks_of_work work.old) plan.now }
+    ensures saved { result ≡ saved_in (rows_of work.old) (marks_of_work work.old) plan.now }
+
+    ensures stage { stage_of work.new ≡ stage_of work.old }
+    ensures received { work.new.received ≡ work.old.received }
+    ensures marks { work.new.marks ≡ work.old.marks }
+    ensures answers { work.new.answers ≡ work.old.answers }
+    ensures columns { work.new.columns ≡ work.old.columns }
+{
+    save_frames(
+        is_fixed(work),
+        work.columns.all(),
+        work.answers.rows(),
+        plan,
+        &mut work.sectors,
+    )
+}
+
+// Whether the columns hold the block that two passes fixed.
+fn is_fixed(work: &Work) -> bool
+    ensures { IsTrue result ↔ stage_of work.now ≡ Stage.Fixed }
+{
+    work.stage() == Stage::Fixed
+}
+
+// Saves the frames of the columns' block where that was fixed, or else of the rows' answers.
+fn save_frames(
+    fixed: bool,
+    columns: &[ColumnAnswer],
+    answers: &[AnswerRow],
+    plan: &BlockPlan,
+    sectors: &mut Sectors,
+) -> u8
+    requires columns { length columns.now ≡ 182 }
+    requires rows { length answers.now ≡ 208 }
+    requires numbers { HasNumbers plan.now }
+    requires fixed { fixed ≡ is_none (two_pass_cause (map answer_word answers.now)) }
+    requires block { fixed ≡ true → from_columns (words_of columns.now) ≡ block_found (map answer_word answers.now) }
+    ensures out { sector_bytes sectors.new ≡ sectors_saved (map answer_word answers.now) plan.now }
+    ensures saved { result ≡ frames_saved (map answer_word answers.now) plan.now }
+{
+    let mut saved = 0;
+    let mut main = [0; 2048];
+    for f in 0..16usize {
+        saved += u8::from(save_frame(fixed, columns, answers, plan, f, &mut main));
+        sectors.set(f, &main);
+    }
+    saved
+}
+
+// Writes the Main Data of frame `f` if it is rescued, or else zeros. Answers whether it is.
+fn save_frame(
+    fixed: bool,
+    columns: &[ColumnAnswer],
+    answers: &[AnswerRow],
+    plan: &BlockPlan,
+    f: usize,
+    main: &mut [u8; 2048],
+) -> bool
+    requires columns { length columns.now ≡ 182 }
+    requires rows { length answers.now ≡ 208 }
+    requires numbers { HasNumbers plan.now }
+    requires frame { f < 16 }
+    requires fixed { fixed ≡ is_none (two_pass_cause (map answer_word answers.now)) }
+    requires block { fixed ≡ true → from_columns (words_of columns.now) ≡ block_found (map answer_word answers.now) }
+    ensures main { main.new ≡ unwrap_or (rescued (map answer_word answers.now) plan.now f) (replicate 2048 0) }
+    ensures saved { result ≡ is_some (rescued (map answer_word answers.now) plan.now f) }
+{
+    let saved = read_candidate(fixed, columns, answers, plan, f, main);
+    if !saved {
+        *main = [0; 2048];
+    }
+    saved
+}
+
+// Writes the Main Data of the candidate of frame `f`, if it has one without a cause. Answers whether it has.
+fn read_candidate(
+    fixed: bool,
+    columns: &[ColumnAnswer],
+    answers: &[AnswerRow],
+    plan: &BlockPlan,
+    f: usize,
+    main: &mut [u8; 2048],
+) -> bool
+    requires columns { length columns.now ≡ 182 }
+    requires rows { length answers.now ≡ 208 }
+    requires numbers { HasNumbers plan.now }
+    requires frame { f < 16 }
+    requires fixed { fixed ≡ is_none (two_pass_cause (map answer_word answers.now)) }
+    requires block { fixed ≡ true → from_columns (words_of columns.now) ≡ block_found (map answer_word answers.now) }
+    ensures main { result ≡ true → rescued (map answer_word answers.now) plan.now f ≡ Some main.new }
+    ensures saved { result ≡ is_some (rescued (map answer_word answers.now) plan.now f) }
+{
+    let mut frame = [0; 2064];
+    let rule = rule_of(plan.content, f);
+    copy_candidate(fixed, columns, answers, f, &mut frame)
+        && read_frame(&frame, id_of(plan, false, f), rule, main).is_ok()
+}
+
+// Writes the candidate of frame `f`, if it has one. Answers whether it has.
+fn copy_candidate(
+    fixed: bool,
+    columns: &[ColumnAnswer],
+    answers: &[AnswerRow],
+    f: usize,
+    frame: &mut [u8; 2064],
+) -> bool
+    requires columns { length columns.now ≡ 182 }
+    requires rows { length answers.now ≡ 208 }
+    requires frame { f < 16 }
+    requires fixed { fixed ≡ is_none (two_pass_cause (map answer_word answers.now)) }
+    requires block { fixed ≡ true → from_columns (words_of columns.now) ≡ block_found (map answer_word answers.now) }
+    ensures candidate { result ≡ true → candidate (map answer_word answers.now) f ≡ Some frame.new }
+    ensures has { result ≡ is_some (candidate (map answer_word answers.now) f) }
+{
+    if fixed {
+        copy_frame(columns, f, frame);
+        true
+    } else {
+        copy_answered(answers, f, frame)
+    }
+}
+
+// Writes frame `f` of the rows' answers, if all twelve rows have one. Answers whether they have.
+fn copy_answered(answers: &[AnswerRow], f: usize, frame: &mut [u8; 2064]) -> bool
+    requires rows { length answers.now ≡ 208 }
+    requires frame { f < 16 }
+    ensures frame { result ≡ true → frame.new ≡ frame_of (answered_block (map answer_word answers.now)) f }
+    ensures has { result ≡ not (lacks_row (map answer_word answers.now) f) }
+{
+    for q in 0..12usize {
+        let row = &answers[12 * f + q];
+        if row.fix.is_none() {
+            return false;
+        }
+        put_front(frame, 172 * q, &row.bytes);
+    }
+    true
+}
