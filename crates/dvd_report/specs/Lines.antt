@@ -24,6 +24,6 @@ cause_text (Edc f) = codes "edc " ++ decimal f
 unfoldable pub block_text : ℕ → BlockPlan → List ℕ
 block_text k plan = codes "block " ++ decimal k ++ codes " sector " ++ hexadecimal 6 plan.first ++ codes " layer " ++ decimal plan.layer
 
--- such a block and its cause
-unfoldable pub damage_line : ℕ → BlockPlan → Cause → List ℕ
-damage_line k plan cause = block_text k plan ++ codes ": " ++ cause_text cause ++ codes "\n"
+-- such a block, its cause, and how many of its sixteen frames were saved
+unfoldable pub damage_line : ℕ → BlockPlan → Cause → ℕ → List ℕ
+damage_line k plan cause saved = block_text k plan ++ codes ": " ++ cause_text cause ++ codes " saved " ++ decimal saved ++ codes "\n"

@@ -1,4 +1,5 @@
-//! The line of a damaged ECC block: where it stands in the plan and on the disk, and the first rule that it breaks.
+//! The line of a damaged ECC block: where it stands in the plan and on the disk, the first rule that it breaks, and how many
+//! of its sixteen frames were saved.
 ghost use Rattle.std.specs.Prelude.{◌≡◌, ◌+◌, ◌≤◌, ◌++◌, length, decimal, OnOk, OnErr};
 ghost use Rattle.std.specs.Io.KnownBytes.{Appends};
 ghost use Rattle.arrayvec.specs.ArrayVec.{array_vec_len};
@@ -12,31 +13,34 @@ use dvd_layout::BlockPlan;
 use dvd_ports::{Sink, WriteFault, write_whole};
 use dvd_read::Cause;
 
-/// Writes the line of block `k` of a plan, which has this cause:
-/// `block K sector H6 layer L: CAUSE` and a line feed, where `H6` is the block's first sector number.
+/// Writes the line of block `k` of a plan, which has this cause and of whose sixteen frames so many were saved:
+/// `block K sector H6 layer L: CAUSE saved S` and a line feed, where `H6` is the block's first sector number.
 /// After a fault a prefix of the line was written.
 pub fn write_cause<E: Sink>(
     k: u64,
     plan: &BlockPlan,
     cause: &Cause,
+    saved: u8,
     report: &mut E,
 ) -> Result<(), WriteFault>
-    requires { HasNumbers plan.now }
-    ensures written { OnOk result (Appends (E.seen report.old).bytes (E.seen report.new).bytes (damage_line k plan.now cause.now)) }
-    ensures begun { OnErr result (AppendsPrefix (E.seen report.old).bytes (E.seen report.new).bytes (damage_line k plan.now cause.now)) }
+    requires numbers { HasNumbers plan.now }
+    requires frames { saved ≤ 16 }
+    ensures written { OnOk result (Appends (E.seen report.old).bytes (E.seen report.new).bytes (damage_line k plan.now cause.now saved)) }
+    ensures begun { OnErr result (AppendsPrefix (E.seen report.old).bytes (E.seen report.new).bytes (damage_line k plan.now cause.now saved)) }
     ensures cause { HasCause (E.seen report.old).faults (E.seen report.new).faults result }
 {
-    write_whole(report, line_of(k, plan, cause).as_slice())
+    write_whole(report, line_of(k, plan, cause, saved).as_slice())
 }
 
 #[tactic(auto, unfolding(crate::specs::Lines::damage_line))]
-fn line_of(k: u64, plan: &BlockPlan, cause: &Cause) -> Line
-    ensures { result ≡ damage_line k plan.now cause.now }
+fn line_of(k: u64, plan: &BlockPlan, cause: &Cause, saved: u8) -> Line
+    ensures { result ≡ damage_line k plan.now cause.now saved }
 {
     let mut line = Line::new();
     put_block(&mut line, k, plan);
     line.put(b": ");
     put_cause(&mut line, cause);
+    line.put_named(b" saved ", u64::from(saved));
     line.put(b"\n");
     line
 }

@@ -38,7 +38,7 @@ use Rattle.dvd_top.proofs.RecoveredWidths.{length-first, never_last}
 use Rattle.dvd_top.proofs.Repaired.{repaired}
 
 -- the image has the bytes that stand in a block
-length-part : (layout : Layout) (content : Content) (image : List ℕ) → length image ≡ 2048 * total_sectors layout
+pub length-part : (layout : Layout) (content : Content) (image : List ℕ) → length image ≡ 2048 * total_sectors layout
     → length (take (2048 * image_sectors layout content) (drop (2048 * image_from content) image)) ≡ 2048 * image_sectors layout content
 length-part layout (Image sector) image size =
     length-take-le (2048 * min 16 (total_sectors layout - sector)) (drop (2048 * sector) image) (omega (arith, size, length-drop (2048 * sector) image))
@@ -47,7 +47,7 @@ length-part layout Reference image size = refl
 length-part layout Control image size = refl
 
 -- a block that is whole in the stream has its bytes
-length-own : (size k : ℕ) (bytes : List ℕ) → size * (k + 1) ≤ length bytes → length (take size (drop (size * k) bytes)) ≡ size
+pub length-own : (size k : ℕ) (bytes : List ℕ) → size * (k + 1) ≤ length bytes → length (take size (drop (size * k) bytes)) ≡ size
 length-own size k bytes there =
     length-take-le size (drop (size * k) bytes) (omega (arith, subst (λ n. size * n ≤ length bytes) (add-one k) there, mul-suc size k, length-drop (size * k) bytes))
 
@@ -80,19 +80,40 @@ alone layout zones form bytes cpr image k entry b steps turn does =
     repaired layout zones form cpr k entry (image_part layout entry image) (block_bytes form bytes k) b.block steps turn b.stands b.is_image b.cpr_size
     (length-part layout entry.content image b.image_size) b.is_block (length-own (block_size form) k bytes b.whole) b.within does
 
--- in a run whose loop ended without a fault its sectors stand at their place
+-- In a run whose loop ended without a fault a data block that is whole has its turn, and what it writes stands behind the bytes
+-- before its first image sector.
+pub record HasTurn (layout : Layout) (zones : Zones) (form : Form) (bytes : List ℕ) (a : Outcome) (k : ℕ) (entry : BlockPlan) : Type 0 where
+  pub steps : List Step
+  pub turn : Turn
+  pub does : IsRecovered layout zones form k (block_bytes form bytes k) steps turn
+  pub before : List ℕ
+  pub size : length before ≡ 2048 * image_from entry.content
+  pub out : IsFrontOf (before ++ written steps) a.out
+
+pub has_turn : (layout : Layout) (zones : Zones) (form : Form) (bytes : List ℕ) (a : Outcome) → IsOutcome (recover_units layout zones form) bytes a
+    → IsFaultless a.end → (k : ℕ) (entry : BlockPlan) → slice_get (plan_of layout zones) k ≡ Some entry → IsImage entry.content
+    → block_size form * (k + 1) ≤ length bytes → HasTurn layout zones form bytes a k entry
+has_turn layout zones form bytes a runs none k entry stands is_image whole =
+    let in_plan = slice_get_within (plan_of layout zones) k entry stands in
+    let (steps, turn, t) = takes_unit (recover_units layout zones form) (block_size form) (λ j l. refl) (never_last layout zones form) refl bytes a runs none k in_plan whole in record {
+      steps = steps;
+      turn = turn;
+      does = subst (λ j. IsRecovered layout zones form j (block_bytes form bytes k) steps turn) t.number t.unit.does;
+      before = t.alone.out;
+      size = length-before layout zones form k entry bytes t.alone stands is_image t.runs t.ends;
+      out = t.out;
+    }
+
+-- its sectors stand at their place
 at_place : (layout : Layout) (zones : Zones) (form : Form) (bytes : List ℕ) (a : Outcome) → IsOutcome (recover_units layout zones form) bytes a
     → IsFaultless a.end
     → (cpr image : List ℕ) (k : ℕ) (entry : BlockPlan) → IsBorne layout zones form bytes cpr image k entry
     → take (image_bytes layout entry) (drop (2048 * image_from entry.content) a.out) ≡ image_part layout entry image
 at_place layout zones form bytes a runs none cpr image k entry b =
-    let in_plan = slice_get_within (plan_of layout zones) k entry b.stands in
-    let (steps, turn, t) = takes_unit (recover_units layout zones form) (block_size form) (λ j l. refl) (never_last layout zones form) refl bytes a runs none k in_plan b.whole in
-    let does : IsRecovered layout zones form k (block_bytes form bytes k) steps turn = subst (λ j. IsRecovered layout zones form j (block_bytes form bytes k) steps turn) t.number t.unit.does in
-    let back = alone layout zones form bytes cpr image k entry b steps turn does in
-    let before = length-before layout zones form k entry bytes t.alone b.stands b.is_image t.runs t.ends in
-    part_there (2048 * image_from entry.content) (image_bytes layout entry) t.alone.out (image_part layout entry image) a.out before
-    (length-part layout entry.content image b.image_size) (subst (λ s. IsFrontOf (t.alone.out ++ written s) a.out) back.0 t.out)
+    let t = has_turn layout zones form bytes a runs none k entry b.stands b.is_image b.whole in
+    let back = alone layout zones form bytes cpr image k entry b t.steps t.turn t.does in
+    part_there (2048 * image_from entry.content) (image_bytes layout entry) t.before (image_part layout entry image) a.out t.size
+    (length-part layout entry.content image b.image_size) (subst (λ s. IsFrontOf (t.before ++ written s) a.out) back.0 t.out)
 
 -- a closing line that was told writes nothing, and ends as its loop
 told_line : (line : List ℕ) (end : LoopEnd) (a : Outcome) → Does (Tell line ∷ []) (λ after. after ≡ ended end) a → IsFaultless a.end
@@ -107,13 +128,21 @@ closed : (closing : LoopEnd → List ℕ) (end : LoopEnd) (a : Outcome) → Clos
 closed closing ReportFault a is none = absurd (subst (λ (o : Outcome). IsFaultless o.end) is none)
 closed closing end a does none = told_line (closing end) end a does none
 
+-- a run that no fault ended wrote what its loop wrote, which no fault ended
+pub closed_loop : (settings : Settings) (layout : Layout) (within : LoopEnd) (bytes : List ℕ) (outcome : Outcome)
+    (c : IsClosed (closing_line settings.command) (recover_units layout settings.zones settings.form) bytes within outcome) → IsFaultless outcome.end
+    → (outcome.out ≡ c.loop.out) × IsFaultless c.loop.end
+closed_loop settings layout within bytes outcome c none =
+    let line = closed (closing_line settings.command) within c.line c.closes (subst (λ (o : Outcome). IsFaultless o.end) c.all none) in (
+      ap (λ (o : Outcome). o.out) c.all ∙ ap (λ l. c.loop.out ++ l) line.0 ∙ append-nil c.loop.out,
+      subst IsFaultless (ap (λ (o : Outcome). o.end) c.all ∙ line.1 ∙ sym c.ends) none,
+    )
+
 closed_keeps : (settings : Settings) (within : LoopEnd) (bytes : List ℕ) (outcome : Outcome) (layout : Layout) → IsLayoutOf settings layout
     → IsClosed (closing_line settings.command) (recover_units layout settings.zones settings.form) bytes within outcome → IsFaultless outcome.end
     → KeepsBound settings bytes outcome
 closed_keeps settings within bytes outcome layout is_layout c none =
-    let line = closed (closing_line settings.command) within c.line c.closes (subst (λ (o : Outcome). IsFaultless o.end) c.all none) in
-    let loop_none : IsFaultless c.loop.end = subst IsFaultless (ap (λ (o : Outcome). o.end) c.all ∙ line.1 ∙ sym c.ends) none in
-    let out : outcome.out ≡ c.loop.out = ap (λ (o : Outcome). o.out) c.all ∙ ap (λ l. c.loop.out ++ l) line.0 ∙ append-nil c.loop.out in
+    let (out, loop_none) = closed_loop settings layout within bytes outcome c none in
     record {
       layout = layout;
       is_layout = is_layout;

@@ -1,10 +1,10 @@
 -- What each command does for an input is determined.
-use Rattle.std.proofs.Common.{◌≡◌, ◌≢◌, inl, inr, ℕ, ◌+◌, ◌*◌, List, ◌∷◌, ◌++◌, [], length, take, Bool, Some, None, slice_get, replicate, refl, ap, sym, subst, ◌∙◌}
+use Rattle.std.proofs.Common.{◌≡◌, ◌≢◌, inl, inr, ℕ, ◌+◌, List, ◌∷◌, ◌++◌, [], length, take, Bool, Some, None, refl, ap, sym, subst, ◌∙◌}
 use Rattle.std.proofs.lemmas.List.FromFn.{length-map-range_with_len}
 use Rattle.dvd_block.proofs.OneBlock.{one_block_at_most}
 use Rattle.dvd_block.specs.Product.{IsBlockOf, line}
 use Rattle.dvd_block.specs.Recording.{record_at, recording}
-use Rattle.dvd_capture.specs.Captured.{block_size, captured_marks, captured_rows, marks_in, record_of}
+use Rattle.dvd_capture.specs.Captured.{captured_marks, captured_rows, marks_in, record_of}
 use Rattle.dvd_capture.specs.declared.form.Form.{Form}
 use Rattle.dvd_layout.specs.Place.{image_sectors}
 use Rattle.dvd_control.specs.Format.{control_fault, fields_in}
@@ -29,6 +29,7 @@ use Rattle.dvd_loop.proofs.PlainEnds.{never_bad_marks}
 use Rattle.dvd_loop.proofs.Sizes.{broken_stays, sized_never_broken, whole_stays}
 use Rattle.dvd_read.proofs.BlockRead.{read-determined}
 use Rattle.dvd_read.specs.Reading.{block_cause}
+use Rattle.dvd_read.specs.Salvage.{block_out, saved_in}
 use Rattle.dvd_report.specs.Lines.{damage_line}
 use Rattle.dvd_report.specs.Survey.{survey_line}
 use Rattle.dvd_top.specs.Commands.{meaning}
@@ -115,7 +116,7 @@ module _ (layout : Layout) (k : ℕ) (entry : BlockPlan) (rows : List (List ℕ)
   refused_is_one : MayOne (IsRefused layout k entry rows marks)
   refused_is_one steps others turn other p q =
       let cause : p.cause ≡ q.cause = (let is : Some p.cause ≡ Some q.cause = sym p.first ∙ q.first in cc) in
-      (p.tells ∙ ap (λ c. Tell (damage_line k entry c) ∷ Write (replicate (2048 * image_sectors layout entry.content) 0) ∷ []) cause ∙ sym q.tells, p.bad ∙ sym q.bad)
+      (p.tells ∙ ap (λ c. Tell (damage_line k entry c (saved_in rows marks entry)) ∷ Write (sectors_out (image_sectors layout entry.content) (block_out rows marks entry)) ∷ []) cause ∙ sym q.tells, p.bad ∙ sym q.bad)
 
   not_both : (steps others : List Step) (turn other : Turn) → IsGiven layout entry rows marks steps turn
       → IsRefused layout k entry rows marks others other → ⊥

@@ -7,6 +7,7 @@ pub mod ExerciseTrials
 pub mod ExerciseTurns
 pub mod FormatBytes
 pub mod FrameBytes
+pub mod GoodFrames
 pub mod ImageTaken
 pub mod InfoBlocks
 pub mod InfoFound
@@ -23,6 +24,7 @@ pub mod Recovered
 pub mod RecoveredWidths
 pub mod Repaired
 pub mod Repairs
+pub mod Rescues
 pub mod RunEnds
 pub mod RunLemmas
 pub mod SomethingDone

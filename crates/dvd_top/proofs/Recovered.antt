@@ -1,9 +1,8 @@
 -- How the sectors of a block are written.
-use Rattle.std.proofs.Common.{◌≡◌, ◌≢◌, ℕ, zero, suc, ◌+◌, ◌-◌, ◌*◌, ◌<◌, ◌≤◌, List, [], ◌∷◌, ◌++◌, take, drop, Option, replicate, refl, sym, ap, ◌∙◌, append_assoc, append-nil, arith}
+use Rattle.std.proofs.Common.{◌≡◌, ◌≢◌, ℕ, zero, suc, ◌+◌, ◌-◌, ◌<◌, List, [], ◌∷◌, ◌++◌, take, drop, Option, refl, sym, ap, ◌∙◌, append_assoc, append-nil, arith}
 use Rattle.std.specs.List.{flat_map}
 use Rattle.std.proofs.Math.Seq.{take-add}
 use Rattle.std.proofs.lemmas.Grind.{flat_map-append}
-use Rattle.std.proofs.lemmas.List.{replicate-append-replicate, take-replicate}
 use Rattle.std.specs.Io.KnownBytes.{Appends}
 use Rattle.dvd_ports.specs.Whole.{AppendsPrefix}
 use Rattle.dvd_ports.proofs.KnownLemmas.{Appends-then}
@@ -11,7 +10,7 @@ use Rattle.dvd_block.specs.Product.{line}
 use Rattle.dvd_top.specs.Performing.{sectors_out}
 
 -- fewer sectors are the front of more
-sectors_front : (sectors : List (List ℕ)) (f more : ℕ)
+pub sectors_front : (sectors : List (List ℕ)) (f more : ℕ)
     → sectors_out f sectors ++ flat_map (λ sector. sector) (take more (drop f sectors)) ≡ sectors_out (f + more) sectors
 sectors_front sectors f more =
     sym (flat_map-append (λ (sector : List ℕ). sector) (take f sectors) (take more (drop f sectors))) ∙ ap (flat_map (λ (sector : List ℕ). sector)) (sym (take-add f more sectors))
@@ -49,14 +48,3 @@ sectors_begun a b c sectors f count lt p q =
           ∙ ap (λ n. sectors_out n sectors) all;
       more = begins_more q.rest rest q.more;
     }
-
--- sectors of zeros, one after the other
-zero_sectors : (n : ℕ) → flat_map (λ (sector : List ℕ). sector) (replicate n (replicate 2048 0)) ≡ replicate (2048 * n) 0
-zero_sectors zero = refl
-zero_sectors (suc n) =
-    let more : 2048 * suc n ≡ 2048 + 2048 * n = omega arith in
-    ap (λ l. replicate 2048 0 ++ l) (zero_sectors n) ∙ replicate-append-replicate 2048 (2048 * n) 0 ∙ ap (λ m. replicate m 0) (sym more)
-
--- the sectors of a refused block
-pub zeros_out : (count : ℕ) → count ≤ 16 → sectors_out count (replicate 16 (replicate 2048 0)) ≡ replicate (2048 * count) 0
-zeros_out count few = ap (flat_map (λ (sector : List ℕ). sector)) (take-replicate count 16 (replicate 2048 0) few) ∙ zero_sectors count

@@ -1,7 +1,7 @@
 -- How many bytes recovery writes for a block: those of its image sectors, whether it is read or refused.
-use Rattle.std.proofs.Common.{◌≡◌, ◌≢◌, ◌∙◌, inl, inr, ℕ, ◌+◌, ◌*◌, ◌<◌, ◌≤◌, Bool, List, [], ◌∷◌, length, take, drop, replicate, refl, ap, sym, subst, append-nil, arith}
+use Rattle.std.proofs.Common.{◌≡◌, ◌≢◌, ◌∙◌, inl, inr, ℕ, zero, suc, ◌+◌, ◌*◌, ◌<◌, ◌≤◌, Bool, List, [], ◌∷◌, length, length-append, take, drop, refl, ap, sym, subst, append-nil, add-one, arith}
 use Rattle.std.specs.List.{flat_map, range_with_len}
-use Rattle.std.proofs.lemmas.List.{length-drop, length-replicate, length-take-le}
+use Rattle.std.proofs.lemmas.List.{length-drop, length-take-le}
 use Rattle.std.proofs.lemmas.List.Folds.{flat_map-map}
 use Rattle.std.proofs.lemmas.List.FromFn.{take-map-range_with_len}
 use Rattle.dvd_frame.specs.Frame.{found_word, main_in}
@@ -23,11 +23,15 @@ use Rattle.dvd_loop.specs.declared.ends.LoopEnd.TheVariants.{Done}
 use Rattle.dvd_loop.specs.declared.ends.Turn.{Turn}
 use Rattle.dvd_loop.specs.declared.ends.Turn.TheVariants.{Good, Bad, Last}
 use Rattle.dvd_read.specs.Frames.{frame_of, main_data}
+use Rattle.dvd_read.specs.Salvage.{block_out}
+use Rattle.dvd_read.proofs.SavedLaws.{sixteen-sectors}
 use Rattle.dvd_top.specs.Commands.Master.{bytes_of_block, image_bytes}
 use Rattle.dvd_top.specs.Commands.Recover.{IsDone, IsRecovered, recover_units}
 use Rattle.dvd_top.specs.Performing.{IsImageDone, IsPassedOver, sectors_out}
+use Rattle.dvd_top.proofs.Determined.{length-captured_marks, length-captured_rows}
 use Rattle.dvd_top.proofs.MasterBlocks.{size_is}
 use Rattle.dvd_top.proofs.Pieces.{length-pieces, start-same}
+use Rattle.dvd_top.proofs.Recovered.{sectors_more}
 use Rattle.dvd_top.proofs.Repairs.{few-sectors}
 use Rattle.dvd_top.proofs.Written.{length-written}
 
@@ -63,11 +67,21 @@ length-sectors_out block entry count is few =
     ∙ length-pieces (main_at block entry) (λ f. 2048) count (λ f below. length-main block entry f is (omega arith))
     ∙ start-same 2048 count
 
+-- sectors of 2,048 bytes, of which so many are written
+pub length-out : (sectors : List (List ℕ)) (count : ℕ) → ((f : ℕ) → f < count → length (line sectors f) ≡ 2048)
+    → length (sectors_out count sectors) ≡ 2048 * count
+length-out sectors zero widths = refl
+length-out sectors (suc count) widths =
+    ap (λ n. length (sectors_out n sectors)) (sym (add-one count))
+    ∙ ap length (sym (sectors_more sectors count))
+    ∙ length-append (sectors_out count sectors) (line sectors count)
+    ∙ omega (arith, length-out sectors count (λ f below. widths f (omega arith)), widths count (omega arith))
+
 -- so many bytes are written, and the block isn't the last
 abbrev pub IsWide : ℕ → List Step → Turn → Type 0
 IsWide count steps turn = (length (written steps) ≡ count) × (turn ≢ Last)
 
-module _ (layout : Layout) (k : ℕ) (entry : BlockPlan) (rows : List (List ℕ)) (marks : List (List Bool)) (steps : List Step) (turn : Turn) where
+module _ (layout : Layout) (k : ℕ) (entry : BlockPlan) (rows : List (List ℕ)) (marks : List (List Bool)) (size : length rows ≡ 208) (marks_size : length marks ≡ 208) (steps : List Step) (turn : Turn) where
   write-wide : (bytes : List ℕ) → steps ≡ Write bytes ∷ [] → length (written steps) ≡ length bytes
   write-wide bytes is = ap (λ s. length (written s)) is ∙ ap length (append-nil bytes)
 
@@ -79,8 +93,12 @@ module _ (layout : Layout) (k : ℕ) (entry : BlockPlan) (rows : List (List ℕ)
         λ last. let no : Good ≡ Last = sym given.good ∙ last in cc,
       )
   image-wide (inr refused) =
-      let zeros : List ℕ = replicate (2048 * image_sectors layout entry.content) 0 in (
-        ap (λ s. length (written s)) refused.tells ∙ ap length (append-nil zeros) ∙ length-replicate (2048 * image_sectors layout entry.content) 0,
+      let count = image_sectors layout entry.content in
+      let saved = sectors_out count (block_out rows marks entry) in
+      let widths = (sixteen-sectors rows marks size marks_size entry).1 in
+      let few = few-sectors layout entry.content in (
+        ap (λ s. length (written s)) refused.tells ∙ ap length (append-nil saved)
+            ∙ length-out (block_out rows marks entry) count (λ f below. widths f (omega arith)),
         λ last. let no : Bad ≡ Last = sym refused.bad ∙ last in cc,
       )
 
@@ -95,11 +113,11 @@ module _ (layout : Layout) (k : ℕ) (entry : BlockPlan) (rows : List (List ℕ)
   done-wide Control is done = passed-wide (ap (λ c. 2048 * image_sectors layout c) is) done
 
 module _ (layout : Layout) (zones : Zones) (form : Form) where
-  recovered-wide : (k : ℕ) (own : List ℕ) (steps : List Step) (turn : Turn) → IsRecovered layout zones form k own steps turn
+  pub recovered-wide : (k : ℕ) (own : List ℕ) (steps : List Step) (turn : Turn) → IsRecovered layout zones form k own steps turn
       → IsWide (bytes_of_block layout zones k) steps turn
   recovered-wide k own steps turn r =
       subst (λ n. IsWide n steps turn) (sym (size_is layout zones k r.entry r.stands))
-      (done-wide layout k r.entry (captured_rows form own) (captured_marks form own) steps turn r.entry.content refl r.does)
+      (done-wide layout k r.entry (captured_rows form own) (captured_marks form own) (length-captured_rows form own) (length-captured_marks form own) steps turn r.entry.content refl r.does)
 
   -- no block is the last
   pub never_last : (k : ℕ) (before : List (List ℕ)) (own : List ℕ) (steps : List Step) → IsRecovered layout zones form k own steps Last → ⊥

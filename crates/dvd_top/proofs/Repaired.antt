@@ -47,7 +47,7 @@ length-row_marks : (form : Form) (record_bytes : List ℕ) → length (marks_in 
 length-row_marks Plain record_bytes = length-replicate {A = Bool} 182 false
 length-row_marks Marked record_bytes = length-marks_of (drop 182 record_bytes)
 
-captured-received : (form : Form) (own : List ℕ) → length own ≡ block_size form → IsReceived (captured_rows form own) (captured_marks form own)
+pub captured-received : (form : Form) (own : List ℕ) → length own ≡ block_size form → IsReceived (captured_rows form own) (captured_marks form own)
 unfolding captured_rows captured_marks row_in row_marks_in
 captured-received form own size = record {
   height = rows_height;

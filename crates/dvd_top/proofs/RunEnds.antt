@@ -1,4 +1,4 @@
--- What follows for a run: what a failed read leaves, and that the bound is kept.
+-- What follows for a run: what a failed read leaves, and that the bound and the good frames are kept.
 use Rattle.std.proofs.Common.{◌≡◌, ◌≢◌, inl, inr, ℕ, List, [], ◌∷◌, ◌++◌, refl, ap, sym, subst, ◌∙◌, append-nil}
 use Rattle.dvd_ports.specs.Causes.{Rose}
 use Rattle.dvd_loop.specs.Laws.{IsFaultless}
@@ -9,7 +9,7 @@ use Rattle.dvd_loop.specs.declared.ends.LoopEnd.{LoopEnd}
 use Rattle.dvd_loop.specs.declared.ends.LoopEnd.TheVariants.{BadMarks, Damaged, Done, Long, NoControl, ReadFault, ReportFault, Short, WriteFault}
 use Rattle.dvd_loop.proofs.Faults.{ends_there}
 use Rattle.dvd_loop.proofs.StepLemmas.{and_then}
-use Rattle.dvd_top.specs.Bound.{KeepsBound}
+use Rattle.dvd_top.specs.Bound.{KeepsBound, KeepsGoodFrames}
 use Rattle.dvd_top.specs.Commands.{meaning}
 use Rattle.dvd_top.specs.Headline.{EndsThere, HasRun, HaveRisen, IsRun}
 use Rattle.dvd_top.specs.Statuses.{status_of}
@@ -20,6 +20,7 @@ use Rattle.dvd_words.specs.declared.settings.Settings.{Settings}
 use Rattle.dvd_top.specs.declared.status.Status.{Status}
 use Rattle.dvd_top.specs.declared.status.Status.TheVariants as status
 use Rattle.dvd_top.proofs.BoundKept.{kept}
+use Rattle.dvd_top.proofs.GoodFrames.{kept_good}
 use Rattle.dvd_top.proofs.RunLemmas.{of_units}
 
 -- the line of an end that isn't the report's was told whole, or the report failed within it
@@ -135,10 +136,14 @@ faultless_by (Damaged bad) sound = tt
 faultless_by NoControl sound = tt
 faultless_by (BadMarks k at) sound = tt
 
-pub bound_kept : (settings : Settings) (old new : Streams) (result : Status) → HasRun settings old new result
+-- what holds of every run of recovery that no fault ended holds of this one
+run_keeps : (Keeps : Settings → List ℕ → Outcome → Type 0)
+    → ((settings : Settings) (within : LoopEnd) (bytes : List ℕ) (outcome : Outcome) → settings.command ≡ Recover → IsRun settings within bytes outcome → IsFaultless outcome.end
+    → Keeps settings bytes outcome)
+    → (settings : Settings) (old new : Streams) (result : Status) → HasRun settings old new result
     → (some : LoopEnd) → result ≡ status_of some → IsFaultless some → settings.command ≡ Recover
-    → (end : LoopEnd) × (result ≡ status_of end) × Comes (λ bytes outcome. IsRun settings end bytes outcome × KeepsBound settings bytes outcome) old new end
-bound_kept settings old new result run some whole none is =
+    → (end : LoopEnd) × (result ≡ status_of end) × Comes (λ bytes outcome. IsRun settings end bytes outcome × Keeps settings bytes outcome) old new end
+run_keeps Keeps law settings old new result run some whole none is =
     let sound : IsFaultless run.end = faultless_by run.end (subst IsSound run.is_status (subst IsSound (sym whole) (sound_status some none))) in
     let same : run.end ≡ run.within = run.same_end (λ is. subst IsFaultless is sound) in (
       run.end,
@@ -149,12 +154,22 @@ bound_kept settings old new result run some whole none is =
         outcome = run.comes.outcome;
         holds = (
           subst (λ w. IsRun settings w run.comes.bytes run.comes.outcome) (sym same) run.comes.holds,
-          kept settings run.within run.comes.bytes run.comes.outcome is run.comes.holds (subst IsFaultless (sym run.comes.ends) sound),
+          law settings run.within run.comes.bytes run.comes.outcome is run.comes.holds (subst IsFaultless (sym run.comes.ends) sound),
         );
         ends = run.comes.ends;
         moved = run.comes.moved;
       },
     )
+
+pub bound_kept : (settings : Settings) (old new : Streams) (result : Status) → HasRun settings old new result
+    → (some : LoopEnd) → result ≡ status_of some → IsFaultless some → settings.command ≡ Recover
+    → (end : LoopEnd) × (result ≡ status_of end) × Comes (λ bytes outcome. IsRun settings end bytes outcome × KeepsBound settings bytes outcome) old new end
+bound_kept = run_keeps KeepsBound kept
+
+pub good_frames_kept : (settings : Settings) (old new : Streams) (result : Status) → HasRun settings old new result
+    → (some : LoopEnd) → result ≡ status_of some → IsFaultless some → settings.command ≡ Recover
+    → (end : LoopEnd) × (result ≡ status_of end) × Comes (λ bytes outcome. IsRun settings end bytes outcome × KeepsGoodFrames settings bytes outcome) old new end
+good_frames_kept = run_keeps KeepsGoodFrames kept_good
 
 -- the counts by the status of a run that begins
 pub risen : (within end : LoopEnd) (old new : Streams) → (end ≢ ReportFault → end ≡ within) → HaveCauses within end old new

@@ -1,5 +1,5 @@
 -- For every input each command does something.
-use Rattle.std.proofs.Common.{◌≡◌, inl, inr, ℕ, zero, suc, ◌+◌, ◌*◌, ◌<◌, Bool, List, [], ◌∷◌, ◌++◌, length, take, drop, replicate, slice_get, All, Option, Some, None, refl, sym, subst, ap, ◌∙◌, append-nil, take-append-drop, arith}
+use Rattle.std.proofs.Common.{◌≡◌, inl, inr, ℕ, zero, suc, ◌+◌, ◌<◌, Bool, List, [], ◌∷◌, ◌++◌, length, take, drop, slice_get, All, Option, Some, None, refl, sym, subst, ap, ◌∙◌, append-nil, take-append-drop, arith}
 use Rattle.std.proofs.lemmas.Bool.{cases_lt}
 use Rattle.std.proofs.lemmas.List.{length-take-le}
 use Rattle.std.proofs.lemmas.List.Elements.{All-drop, All-take}
@@ -28,6 +28,7 @@ use Rattle.dvd_loop.specs.declared.ends.Turn.TheVariants.{Good, Bad, Last}
 use Rattle.dvd_loop.proofs.Sizes.{sized_fewer, sized_whole}
 use Rattle.dvd_loop.proofs.Totality.{Exists, behind_exists, one_fewer, steps_exist, turns_exist}
 use Rattle.dvd_read.specs.Reading.{block_cause, block_sectors}
+use Rattle.dvd_read.specs.Salvage.{block_out, saved_in}
 use Rattle.dvd_read.specs.declared.cause.Cause.{Cause}
 use Rattle.dvd_read.proofs.BlockRead.{no_cause-read}
 use Rattle.dvd_report.specs.Lines.{damage_line}
@@ -165,7 +166,7 @@ module _ (layout : Layout) (k : ℕ) (entry : BlockPlan) (rows : List (List ℕ)
     inl (record { sectors = block_sectors rows marks entry; read = no_cause-read rows marks entry size marks_size none; writes = refl; good = refl }),
   )
   image_some (Some cause) first = (
-    Tell (damage_line k entry cause) ∷ Write (replicate (2048 * image_sectors layout entry.content) 0) ∷ [],
+    Tell (damage_line k entry cause (saved_in rows marks entry)) ∷ Write (sectors_out (image_sectors layout entry.content) (block_out rows marks entry)) ∷ [],
     Bad,
     inr (record { cause = cause; first = first; tells = refl; bad = refl }),
   )

@@ -1,11 +1,13 @@
 -- The bound of recovery: what a run gives back where the damage of a block is within the bound.
-use Rattle.std.specs.Prelude.{◌≡◌, ℕ, ◌+◌, ◌*◌, ◌≤◌, List, [], ◌∷◌, length, take, drop, Some, slice_get}
-use Rattle.dvd_block.specs.Product.{IsBlockOf}
+use Rattle.std.specs.Prelude.{◌≡◌, ℕ, ◌+◌, ◌*◌, ◌<◌, ◌≤◌, Bool, List, [], ◌∷◌, length, take, drop, Some, slice_get}
+use Rattle.dvd_block.specs.Product.{IsBlockOf, line}
+use Rattle.dvd_capture.specs.Answers.{marks_line}
 use Rattle.dvd_capture.specs.Captured.{block_size, captured_marks, captured_rows}
-use Rattle.dvd_capture.specs.Within.{IsWithin}
+use Rattle.dvd_capture.specs.TwoPass.{answers_of}
+use Rattle.dvd_capture.specs.Within.{IsWithin, row_weight}
 use Rattle.dvd_capture.specs.declared.form.Form.{Form}
 use Rattle.dvd_layout.specs.Content.{IsImage, image_from}
-use Rattle.dvd_layout.specs.Place.{total_sectors}
+use Rattle.dvd_layout.specs.Place.{image_sectors, total_sectors}
 use Rattle.dvd_layout.specs.Plan.{plan_of}
 use Rattle.dvd_layout.specs.declared.entry.BlockPlan.{BlockPlan}
 use Rattle.dvd_layout.specs.declared.layout.Layout.{Layout}
@@ -14,10 +16,17 @@ use Rattle.dvd_loop.specs.Machine.{Outcome, Step}
 use Rattle.dvd_loop.specs.Machine.Step.{Write}
 use Rattle.dvd_loop.specs.declared.ends.Turn.{Turn}
 use Rattle.dvd_loop.specs.declared.ends.Turn.TheVariants.{Good}
+use Rattle.dvd_read.specs.Causes.{two_pass_cause}
+use Rattle.dvd_read.specs.declared.cause.Cause.{Cause}
 use Rattle.dvd_top.specs.Commands.Master.{filled, frames_of, image_bytes}
 use Rattle.dvd_top.specs.Commands.Recover.{IsRecovered}
 use Rattle.dvd_words.specs.Settings.{IsLayoutOf}
 use Rattle.dvd_words.specs.declared.settings.Settings.{Settings}
+
+-- the twelve rows of frame f are good against the block that was recorded: none weighs anything
+abbrev pub HasGoodRows : List (List ℕ) → List (List ℕ) → List (List Bool) → ℕ → Type 0
+HasGoodRows block received marks f =
+    (q : ℕ) → q < 12 → row_weight (line block (12 * f + q)) (line received (12 * f + q)) (marks_line marks (12 * f + q)) ≡ 0
 
 -- the bytes of captured block k
 abbrev pub block_bytes : Form → List ℕ → ℕ → List ℕ
@@ -38,6 +47,28 @@ pub record IsBorne (layout : Layout) (zones : Zones) (form : Form) (bytes cpr im
   pub block : List (List ℕ)
   pub is_block : IsBlockOf (frames_of layout entry cpr (filled (image_part layout entry image))) block
   pub within : IsWithin block (captured_rows form (block_bytes form bytes k)) (captured_marks form (block_bytes form bytes k))
+
+-- Captured block k is whole in the stream, it was mastered for its place of this image and this CPR_MAI, and two passes refuse it.
+pub record IsBeyond (layout : Layout) (zones : Zones) (form : Form) (bytes cpr image : List ℕ) (k : ℕ) (entry : BlockPlan) : Type 0 where
+  pub whole : block_size form * (k + 1) ≤ length bytes
+  pub stands : slice_get (plan_of layout zones) k ≡ Some entry
+  pub is_image : IsImage entry.content
+  pub cpr_size : length cpr ≡ 6
+  pub image_size : length image ≡ 2048 * total_sectors layout
+  pub block : List (List ℕ)
+  pub is_block : IsBlockOf (frames_of layout entry cpr (filled (image_part layout entry image))) block
+  pub cause : Cause
+  pub refused : two_pass_cause (answers_of (captured_rows form (block_bytes form bytes k)) (captured_marks form (block_bytes form bytes k))) ≡ Some cause
+
+-- Of every image and every CPR_MAI: of a block that two passes refuse each image sector whose twelve rows are good stands at its
+-- place in the output, as it stands in the image.
+pub record KeepsGoodFrames (settings : Settings) (bytes : List ℕ) (outcome : Outcome) : Type 0 where
+  pub layout : Layout
+  pub is_layout : IsLayoutOf settings layout
+  pub at_place : (cpr image : List ℕ) (k f : ℕ) (entry : BlockPlan) (b : IsBeyond layout settings.zones settings.form bytes cpr image k entry)
+      → f < image_sectors layout entry.content
+      → HasGoodRows b.block (captured_rows settings.form (block_bytes settings.form bytes k)) (captured_marks settings.form (block_bytes settings.form bytes k)) f
+      → take 2048 (drop (2048 * (image_from entry.content + f)) outcome.out) ≡ take 2048 (drop (2048 * (image_from entry.content + f)) image)
 
 -- Of every image and every CPR_MAI: a block that is borne gives back exactly the image sectors there, at their place in the
 -- output; and nothing else may be done for it, so that no line names it.

@@ -11,7 +11,7 @@ use Rattle.dvd_loop.specs.declared.ends.LoopEnd.TheVariants as ends
 use Rattle.dvd_ports.specs.Causes.{Rose}
 use Rattle.dvd_ports.specs.Seen.{Seen}
 use Rattle.dvd_ports.specs.Whole.{AppendsPrefix}
-use Rattle.dvd_top.specs.Bound.{KeepsBound}
+use Rattle.dvd_top.specs.Bound.{KeepsBound, KeepsGoodFrames}
 use Rattle.dvd_top.specs.Commands.{meaning}
 use Rattle.dvd_top.specs.Lines.{closing_line, setting_line}
 use Rattle.dvd_top.specs.Statuses.{status_of}
@@ -31,7 +31,8 @@ breaks settings = (meaning settings.command).breaks settings
 -- frames: sector k is 2,048 bytes, and its scrambled data frame is written.
 -- master: block k is the bytes of its image sectors, and the recording of the one ECC block of its data frames is written.
 -- recover: block k is a captured block. Where the disk has image sectors, those in the one block that two passes determine are
--- written if its frames are right; else a line names the block and the first cause, and then zeros are written in their place.
+-- written if its frames are right; else a line names the block, the first cause and how many frames are saved, and then those that
+-- are right by themselves are written, and zeros in the place of the others.
 -- survey: block k is a captured block, whatever the disk has there. A line tells its PI error rows, its failed rows and its cause,
 -- and behind the last block one line tells the totals.
 -- info: block k is a captured block of the lead-in. The first control block that is right and whose first sector is a physical
@@ -95,10 +96,13 @@ pub record Headline (Untouched : Type 0) (words : List (List ℕ)) (old new : St
   pub faults : HaveRisen result old new
   -- These follow. Where no stream failed, the run ended as its loop, by no fault. What a failed read leaves. And if no fault
   -- ended `recover`, each captured block whose damage is within the bound (twice its bad rows plus its lost rows is at most 16),
-  -- against any block that was mastered for its place, has given exactly the mastered sectors, whatever became of the others.
+  -- against any block that was mastered for its place, has given exactly the mastered sectors, whatever became of the others;
+  -- and of each that two passes refuse, every image sector whose twelve rows are good has come out as it was mastered.
   pub complete : (settings : Settings) → reading words ≡ Some settings → breaks settings ≡ None → result ≢ status.NoMemory
       → (Rose old.source.faults new.source.faults → ⊥) → (Rose old.output.faults new.output.faults → ⊥) → (Rose old.report.faults new.report.faults → ⊥)
       → (end : LoopEnd) × (result ≡ status_of end) × IsFaultless end × Comes (IsRun settings end) old new end
   pub read_fault : result ≡ status.ReadFault → (settings : Settings) → reading words ≡ Some settings → EndsThere settings old new
   pub bound : (some : LoopEnd) → result ≡ status_of some → IsFaultless some → (settings : Settings) → reading words ≡ Some settings → settings.command ≡ Recover
       → (end : LoopEnd) × (result ≡ status_of end) × Comes (λ bytes outcome. IsRun settings end bytes outcome × KeepsBound settings bytes outcome) old new end
+  pub good_frames : (some : LoopEnd) → result ≡ status_of some → IsFaultless some → (settings : Settings) → reading words ≡ Some settings → settings.command ≡ Recover
+      → (end : LoopEnd) × (result ≡ status_of end) × Comes (λ bytes outcome. IsRun settings end bytes outcome × KeepsGoodFrames settings bytes outcome) old new end

@@ -1,13 +1,14 @@
 -- What holds of every run of a command.
-use Rattle.std.specs.Prelude.{◌≡◌, ℕ, ◌*◌, ◌<◌, List, [], ◌∷◌, length, replicate, All, Some, None, slice_get, ◌⊎◌, ◌+◌, ◌≤◌, take}
+use Rattle.std.specs.Prelude.{◌≡◌, ℕ, ◌*◌, ◌<◌, List, [], ◌∷◌, length, replicate, All, Some, None, slice_get, ◌⊎◌, ◌+◌, ◌≤◌, take, drop}
 use Rattle.dvd_block.specs.Product.{IsBlockOf}
 use Rattle.dvd_capture.specs.Captured.{block_size, captured_rows, captured_marks}
+use Rattle.dvd_capture.specs.TwoPass.{answers_of}
 use Rattle.dvd_capture.specs.Within.{IsWithin}
 use Rattle.dvd_capture.specs.declared.form.Form.{Form}
 use Rattle.dvd_capture.specs.declared.form.Form.TheVariants.{Plain}
 use Rattle.dvd_control.specs.Format.{Fields}
 use Rattle.dvd_layout.specs.Content.{IsImage, image_from}
-use Rattle.dvd_layout.specs.Place.{total_sectors}
+use Rattle.dvd_layout.specs.Place.{image_sectors, total_sectors}
 use Rattle.dvd_layout.specs.Plan.{plan_of}
 use Rattle.dvd_layout.specs.declared.entry.BlockPlan.{BlockPlan}
 use Rattle.dvd_layout.specs.declared.layout.Layout.{Layout}
@@ -17,11 +18,14 @@ use Rattle.dvd_layout.specs.declared.layout.Zones.TheVariants.{DataOnly}
 use Rattle.dvd_loop.specs.Laws.{IsFaultless, first}
 use Rattle.dvd_loop.specs.Machine.{IsOutcome, Outcome, Step}
 use Rattle.dvd_loop.specs.Machine.Step.{Write}
+use Rattle.dvd_loop.specs.Turns.{written}
 use Rattle.dvd_loop.specs.declared.ends.LoopEnd.{LoopEnd}
 use Rattle.dvd_loop.specs.declared.ends.LoopEnd.TheVariants.{Done, NoControl, Short}
 use Rattle.dvd_loop.specs.declared.ends.Turn.{Turn}
 use Rattle.dvd_loop.specs.declared.ends.Turn.TheVariants.{Good, Last}
-use Rattle.dvd_top.specs.Bound.{KeepsBound, block_bytes}
+use Rattle.dvd_read.specs.Causes.{two_pass_cause}
+use Rattle.dvd_read.specs.declared.cause.Cause.{Cause}
+use Rattle.dvd_top.specs.Bound.{HasGoodRows, KeepsBound, KeepsGoodFrames, block_bytes}
 use Rattle.dvd_top.specs.Commands.Exercise.{drawn_frames}
 use Rattle.dvd_top.specs.Commands.Info.{IsSought, format_lines, info_units}
 use Rattle.dvd_top.specs.Commands.Master.{filled, frames_of, image_bytes, master_units}
@@ -67,6 +71,17 @@ DamageWithinTheBoundIsRepaired =
     → length own ≡ block_size form → IsWithin block (captured_rows form own) (captured_marks form own)
     → IsRecovered layout zones form k own steps turn → (steps ≡ Write image ∷ []) × (turn ≡ Good)
 
+-- A data block that two passes refuse, and an image sector there whose twelve rows are good against the block that was mastered
+-- at that place, of any image and any CPR_MAI: what is written has the mastered sector at its place.
+abbrev pub GoodFramesOfARefusedBlockAreGiven : Type 0
+GoodFramesOfARefusedBlockAreGiven =
+    (layout : Layout) (zones : Zones) (form : Form) (cpr : List ℕ) (k f : ℕ) (entry : BlockPlan) (image own : List ℕ) (block : List (List ℕ)) (cause : Cause) (steps : List Step) (turn : Turn)
+    → slice_get (plan_of layout zones) k ≡ Some entry → IsImage entry.content → length cpr ≡ 6 → length image ≡ image_bytes layout entry
+    → IsBlockOf (frames_of layout entry cpr (filled image)) block → length own ≡ block_size form
+    → two_pass_cause (answers_of (captured_rows form own) (captured_marks form own)) ≡ Some cause
+    → f < image_sectors layout entry.content → HasGoodRows block (captured_rows form own) (captured_marks form own) f
+    → IsRecovered layout zones form k own steps turn → take 2048 (drop (2048 * f) (written steps)) ≡ take 2048 (drop (2048 * f) image)
+
 -- The data frames of the blocks that `exercise` draws are those that `master` makes of the same sectors on a disk with one layer.
 abbrev pub DrawnFramesAreMastered : Type 0
 DrawnFramesAreMastered =
@@ -78,6 +93,12 @@ abbrev pub BoundIsKept : Type 0
 BoundIsKept =
     (settings : Settings) (within : LoopEnd) (bytes : List ℕ) (outcome : Outcome) → settings.command ≡ Recover → IsRun settings within bytes outcome → IsFaultless outcome.end
     → KeepsBound settings bytes outcome
+
+-- And of such a run: the good frames of the blocks that two passes refuse are kept.
+abbrev pub GoodFramesAreKept : Type 0
+GoodFramesAreKept =
+    (settings : Settings) (within : LoopEnd) (bytes : List ℕ) (outcome : Outcome) → settings.command ≡ Recover → IsRun settings within bytes outcome → IsFaultless outcome.end
+    → KeepsGoodFrames settings bytes outcome
 
 -- What recovery does for the stream that mastering wrote of a whole image: the image is written, no line names a block, and
 -- the end is Done.

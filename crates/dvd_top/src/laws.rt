@@ -1,5 +1,5 @@
 //! What holds of every run of a command: each function's contract is one law, and its body is empty.
-ghost use Rattle.dvd_top.specs.Laws.{WhatIsDoneIsDetermined, SomethingIsDone, ImageIsTakenInOrder, ImageIsTakenWhole, DamageWithinTheBoundIsRepaired, BoundIsKept, DrawnFramesAreMastered, MasteredStreamIsRecovered, InfoFindsTheFirstAnswer};
+ghost use Rattle.dvd_top.specs.Laws.{WhatIsDoneIsDetermined, SomethingIsDone, ImageIsTakenInOrder, ImageIsTakenWhole, DamageWithinTheBoundIsRepaired, GoodFramesOfARefusedBlockAreGiven, BoundIsKept, GoodFramesAreKept, DrawnFramesAreMastered, MasteredStreamIsRecovered, InfoFindsTheFirstAnswer};
 
 /// What is done for an input is determined.
 pub fn what_is_done_is_determined()
@@ -26,9 +26,19 @@ pub fn damage_within_the_bound_is_repaired()
     ensures { DamageWithinTheBoundIsRepaired }
 {}
 
+/// Of a data block that two passes refuse, each image sector whose twelve rows are good is given.
+pub fn good_frames_of_a_refused_block_are_given()
+    ensures { GoodFramesOfARefusedBlockAreGiven }
+{}
+
 /// A run of recovery keeps the bound for each of its blocks.
 pub fn bound_is_kept()
     ensures { BoundIsKept }
+{}
+
+/// A run of recovery keeps the good frames of each of its blocks that two passes refuse.
+pub fn good_frames_are_kept()
+    ensures { GoodFramesAreKept }
 {}
 
 /// The blocks of the self-test are those of a disk with one layer.

@@ -142,14 +142,14 @@ fn a_fault_leaves_the_sectors_before_it(rt: HostRuntime) -> Result<(), Fail> {
     leave_sectors(&rt, &THIRTY_TWO, 2 * BLOCK, &TWO_BLOCKS)
 }
 
-// The line of a refused block goes out before its zeros.
+// The line of a refused block goes out before its sectors, which are zeros.
 static REFUSED: [Case; 6] = [
     (
         ALL_SOUND,
         (
             Status::Damaged,
             32_768,
-            "block 0 sector 030000 layer 0: address 0 found 00000000\ndamaged: 1 blocks\n",
+            "block 0 sector 030000 layer 0: address 0 found 00000000 saved 0\ndamaged: 1 blocks\n",
         ),
     ),
     (
@@ -157,7 +157,7 @@ static REFUSED: [Case; 6] = [
         (
             Status::WriteFault,
             0,
-            "block 0 sector 030000 layer 0: address 0 found 00000000\nwrite fault\n",
+            "block 0 sector 030000 layer 0: address 0 found 00000000 saved 0\nwrite fault\n",
         ),
     ),
     (
@@ -165,7 +165,7 @@ static REFUSED: [Case; 6] = [
         (
             Status::WriteFault,
             10_240,
-            "block 0 sector 030000 layer 0: address 0 found 00000000\nwrite fault\n",
+            "block 0 sector 030000 layer 0: address 0 found 00000000 saved 0\nwrite fault\n",
         ),
     ),
     ((SOUND, SOUND, (64, 0, 80)), (Status::ReportFault, 0, "")),
@@ -178,7 +178,7 @@ static REFUSED: [Case; 6] = [
         (
             Status::ReportFault,
             32_768,
-            "block 0 sector 030000 layer 0: address 0 found 00000000\n",
+            "block 0 sector 030000 layer 0: address 0 found 00000000 saved 0\n",
         ),
     ),
 ];
@@ -192,7 +192,7 @@ static SECOND_REFUSED: [Case; 2] = [
         (
             Status::WriteFault,
             32_768,
-            "block 1 sector 030010 layer 0: address 0 found 00000000\nwrite fault\n",
+            "block 1 sector 030010 layer 0: address 0 found 00000000 saved 0\nwrite fault\n",
         ),
     ),
     (
@@ -202,7 +202,7 @@ static SECOND_REFUSED: [Case; 2] = [
 ];
 
 #[test]
-fn a_refused_block_is_named_before_its_zeros(rt: HostRuntime) -> Result<(), Fail> {
+fn a_refused_block_is_named_before_its_sectors(rt: HostRuntime) -> Result<(), Fail> {
     let stream = zeros(rt.alloc(), BLOCK)?;
     leave_fronts(&rt, "recover --sectors 16", &stream, &stream, &REFUSED)?;
     leave_sectors(&rt, &HALF, 2 * BLOCK, &SECOND_REFUSED)

@@ -55,7 +55,7 @@ static COMMANDS: [Command; 7] = [
     Command {
         words: "recover --sectors 17",
         input: (17, "master --sectors 17", 2, 0, 2 * BLOCK, 0),
-        source: (5000, 1, 417),
+        source: (5000, 1, 33),
         output: (5000, 1, 17),
         report: (7, 1, 1),
         end: (Status::Done, 34_816, "done\n"),
@@ -70,13 +70,13 @@ static COMMANDS: [Command; 7] = [
     Command {
         words: "recover --sectors 32",
         input: (32, "master --sectors 32", 2, BLOCK, 2 * BLOCK, 0),
-        source: (5000, 1, 417),
+        source: (5000, 1, 33),
         output: (5000, 1, 32),
-        report: (7, 1, 19),
+        report: (7, 1, 23),
         end: (
             Status::Damaged,
             65_536,
-            "block 0 sector 030000 layer 0: address 0 found 00030010\nblock 1 sector 030010 layer 0: address 0 found 00030000\ndamaged: 2 blocks\n",
+            "block 0 sector 030000 layer 0: address 0 found 00030010 saved 0\nblock 1 sector 030010 layer 0: address 0 found 00030000 saved 0\ndamaged: 2 blocks\n",
         ),
         closing: "damaged: 2 blocks\n",
         digest: [
@@ -85,11 +85,11 @@ static COMMANDS: [Command; 7] = [
             0x9C, 0xA9, 0xCC, 0x31,
         ],
     },
-    // The first control block stands behind 32 others, and nothing behind it is read: 33 times 208 rows.
+    // The first control block stands behind 32 others, and nothing behind it is read: 33 times 16 recording frames.
     Command {
         words: "info",
         input: (16, "master --sectors 16 --zones all", 273, 0, 34 * BLOCK, 0),
-        source: (5000, 143, 48),
+        source: (5000, 11, 48),
         output: (50, 1, 3),
         report: (2, 1, 3),
         end: (Status::Done, 110, "done\n"),
@@ -103,7 +103,7 @@ static COMMANDS: [Command; 7] = [
     Command {
         words: "survey --sectors 16",
         input: (16, "master --sectors 16", 1, 0, BLOCK, 0),
-        source: (5000, 1, 209),
+        source: (5000, 1, 17),
         output: (50, 1, 4),
         report: (2, 1, 3),
         end: (Status::Done, 110, "done\n"),

@@ -73,7 +73,7 @@ static STREAMS: [Stream; 12] = [
         (
             Status::Damaged,
             32_768,
-            "block 0 sector 030000 layer 0: rows 208\ndamaged: 1 blocks\n",
+            "block 0 sector 030000 layer 0: rows 208 saved 0\ndamaged: 1 blocks\n",
         ),
         0,
     ),
@@ -91,7 +91,7 @@ static STREAMS: [Stream; 12] = [
         (
             Status::Damaged,
             32_768,
-            "block 0 sector 030000 layer 0: address 0 found 0402FE00\ndamaged: 1 blocks\n",
+            "block 0 sector 030000 layer 0: address 0 found 0402FE00 saved 0\ndamaged: 1 blocks\n",
         ),
         0,
     ),

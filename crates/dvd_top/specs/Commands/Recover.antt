@@ -1,5 +1,6 @@
--- The command `recover`: the image sectors that are read from a stream of captured blocks, or zeros and a line where a block is refused.
-use Rattle.std.specs.Prelude.{◌≡◌, ◌⊎◌, ℕ, ◌*◌, Bool, Some, List, [], ◌∷◌, codes, length, replicate, take, slice_get}
+-- The command `recover`: the image sectors that are read from a stream of captured blocks. Where a block is refused a line names
+-- it, and the frames of it that are right by themselves are saved.
+use Rattle.std.specs.Prelude.{◌≡◌, ◌⊎◌, ℕ, Bool, Some, List, [], ◌∷◌, codes, length, take, slice_get}
 use Rattle.std.specs.List.{flat_map}
 use Rattle.dvd_capture.specs.Captured.{block_size, captured_rows, captured_marks}
 use Rattle.dvd_capture.specs.declared.form.Form.{Form}
@@ -15,6 +16,7 @@ use Rattle.dvd_loop.specs.Machine.Step.{Write, Tell}
 use Rattle.dvd_loop.specs.declared.ends.Turn.{Turn}
 use Rattle.dvd_loop.specs.declared.ends.Turn.TheVariants.{Good, Bad}
 use Rattle.dvd_read.specs.Reading.{IsReadAs, block_cause}
+use Rattle.dvd_read.specs.Salvage.{block_out, saved_in}
 use Rattle.dvd_read.specs.declared.cause.Cause.{Cause}
 use Rattle.dvd_report.specs.Lines.{damage_line}
 use Rattle.dvd_top.specs.Meaning.{Meaning}
@@ -27,11 +29,12 @@ pub record IsGiven (layout : Layout) (entry : BlockPlan) (rows : List (List ℕ)
   pub writes : steps ≡ Write (flat_map (λ sector. sector) (take (image_sectors layout entry.content) sectors)) ∷ []
   pub good : turn ≡ Good
 
--- Or the block is refused for its first cause: its line is told, and then zeros are written in the place of its image sectors.
+-- Or the block is refused for its first cause: its line is told with the number of frames that are rescued, and then its image
+-- sectors are written, zeros in the place of those that are lost.
 pub record IsRefused (layout : Layout) (k : ℕ) (entry : BlockPlan) (rows : List (List ℕ)) (marks : List (List Bool)) (steps : List Step) (turn : Turn) : Type 0 where
   pub cause : Cause
   pub first : block_cause rows marks entry ≡ Some cause
-  pub tells : steps ≡ Tell (damage_line k entry cause) ∷ Write (replicate (2048 * image_sectors layout entry.content) 0) ∷ []
+  pub tells : steps ≡ Tell (damage_line k entry cause (saved_in rows marks entry)) ∷ Write (flat_map (λ sector. sector) (take (image_sectors layout entry.content) (block_out rows marks entry))) ∷ []
   pub bad : turn ≡ Bad
 
 -- a block that holds no image is passed over

@@ -25,7 +25,7 @@ use dvd_capture::{Form, Work};
 use dvd_layout::{BlockPlan, Content, Layout, Zones};
 use dvd_loop::{Behind, LoopEnd, Turn, Turns, follow};
 use dvd_ports::{Sink, Source, WriteFault, write_whole};
-use dvd_read::read_block;
+use dvd_read::{read_block, salvage};
 use dvd_report::write_cause;
 use dvd_words::{Command, Settings};
 use std::alloc::Global;
@@ -125,7 +125,8 @@ pub(crate) fn run_recover<S: Source, K: Sink, E: Sink>(
     Ok(recover_loop(settings, &layout, &mut work, src, out, report))
 }
 
-// Decodes a block of image sectors and writes them; or tells its cause and writes zeros. Any other block is passed over.
+// Decodes a block of image sectors and writes them; or tells its cause and writes those that are saved, and zeros for the
+// others. Any other block is passed over.
 fn recover_block<K: Sink, E: Sink>(
     layout: &Layout,
     k: u32,
@@ -169,7 +170,8 @@ fn recover_image<K: Sink, E: Sink>(
             Ok(Turn::Good)
         }
         Err(cause) => {
-            if let Err(WriteFault) = write_cause(u64::from(k), entry, &cause, report) {
+            let saved = salvage(work, entry);
+            if let Err(WriteFault) = write_cause(u64::from(k), entry, &cause, saved, report) {
                 return Err(LoopEnd::ReportFault);
             }
             write_sectors(work, count, out)?;

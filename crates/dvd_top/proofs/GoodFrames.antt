@@ -1,0 +1,80 @@
+-- A run of recovery keeps the good frames of the blocks that two passes refuse.
+use Rattle.std.proofs.Common.{◌≡◌, ◌∙◌, ℕ, ◌+◌, ◌*◌, ◌<◌, ◌≤◌, List, ◌++◌, length, length-append, take, drop, ap, sym, subst, arith}
+use Rattle.std.proofs.Math.Seq.{drop-append_seam}
+use Rattle.std.proofs.lemmas.List.{drop-drop, take-append-drop}
+use Rattle.dvd_capture.specs.Captured.{block_size, captured_marks, captured_rows}
+use Rattle.dvd_capture.specs.declared.form.Form.{Form}
+use Rattle.dvd_capture.proofs.Fetching.{part-append}
+use Rattle.dvd_layout.specs.Content.{image_from}
+use Rattle.dvd_layout.specs.Place.{image_sectors}
+use Rattle.dvd_layout.specs.declared.entry.BlockPlan.{BlockPlan}
+use Rattle.dvd_layout.specs.declared.layout.Layout.{Layout}
+use Rattle.dvd_layout.specs.declared.layout.Zones.{Zones}
+use Rattle.dvd_loop.specs.Laws.{IsFaultless}
+use Rattle.dvd_loop.specs.Machine.{IsClosed, IsOutcome, Outcome}
+use Rattle.dvd_loop.specs.Turns.{written}
+use Rattle.dvd_loop.specs.declared.ends.LoopEnd.{LoopEnd}
+use Rattle.dvd_top.specs.Bound.{HasGoodRows, IsBeyond, KeepsGoodFrames, block_bytes, image_part}
+use Rattle.dvd_top.specs.Commands.{meaning}
+use Rattle.dvd_top.specs.Commands.Master.{image_bytes}
+use Rattle.dvd_top.specs.Commands.Recover.{recover_units}
+use Rattle.dvd_top.specs.Laws.{GoodFramesAreKept}
+use Rattle.dvd_top.specs.Lines.{closing_line}
+use Rattle.dvd_words.specs.Settings.{IsLayoutOf}
+use Rattle.dvd_words.specs.declared.settings.Settings.{Settings}
+use Rattle.dvd_top.proofs.MasterBlocks.{size_is}
+use Rattle.dvd_top.proofs.BoundKept.{closed_loop, has_turn, length-own, length-part}
+use Rattle.dvd_top.proofs.RecoveredWidths.{recovered-wide}
+use Rattle.dvd_top.proofs.Rescues.{given_good}
+
+-- a part of the front of a list
+part-front : (xs : List ℕ) (m a n : ℕ) → a + n ≤ length (take m xs) → take n (drop a (take m xs)) ≡ take n (drop a xs)
+part-front xs m a n inside = sym (part-append (take m xs) (drop m xs) a n inside) ∙ ap (λ l. take n (drop a l)) (take-append-drop m xs)
+
+-- a part of a list that stands behind a bytes
+part-further : (xs ys left out : List ℕ) (a b n : ℕ) → length xs ≡ a → b + n ≤ length ys → out ≡ (xs ++ ys) ++ left
+    → take n (drop (a + b) out) ≡ take n (drop b ys)
+part-further xs ys left out a b n size inside is =
+    ap (λ l. take n (drop (a + b) l)) is
+    ∙ part-append (xs ++ ys) left (a + b) n (omega (arith, length-append xs ys))
+    ∙ ap (take n) (sym (drop-drop b a (xs ++ ys)) ∙ ap (drop b) (ap (λ k. drop k (xs ++ ys)) (sym size) ∙ drop-append_seam xs ys))
+
+-- in a run whose loop ended without a fault the sector of a good frame stands at its place
+at_place : (layout : Layout) (zones : Zones) (form : Form) (bytes : List ℕ) (a : Outcome) → IsOutcome (recover_units layout zones form) bytes a
+    → IsFaultless a.end
+    → (cpr image : List ℕ) (k f : ℕ) (entry : BlockPlan) (b : IsBeyond layout zones form bytes cpr image k entry) → f < image_sectors layout entry.content
+    → HasGoodRows b.block (captured_rows form (block_bytes form bytes k)) (captured_marks form (block_bytes form bytes k)) f
+    → take 2048 (drop (2048 * (image_from entry.content + f)) a.out) ≡ take 2048 (drop (2048 * (image_from entry.content + f)) image)
+at_place layout zones form bytes a runs none cpr image k f entry b below good =
+    let from = image_from entry.content in
+    let own = block_bytes form bytes k in
+    let part = image_part layout entry image in
+    let size = length-part layout entry.content image b.image_size in
+    let t = has_turn layout zones form bytes a runs none k entry b.stands b.is_image b.whole in
+    let wide : length (written t.steps) ≡ image_bytes layout entry = (recovered-wide layout zones form k own t.steps t.turn t.does).0 ∙ size_is layout zones k entry b.stands in
+    let at : 2048 * (from + f) ≡ 2048 * from + 2048 * f = omega arith in
+    ap (λ n. take 2048 (drop n a.out)) at
+    ∙ part-further t.before (written t.steps) t.out.0 a.out (2048 * from) (2048 * f) 2048 t.size (omega (arith, wide)) t.out.1
+    ∙ given_good layout zones form cpr k f entry part own b.block b.cause t.steps t.turn b.stands b.is_image b.cpr_size size b.is_block
+    (length-own (block_size form) k bytes b.whole) b.refused below good t.does
+    ∙ part-front (drop (2048 * from) image) (image_bytes layout entry) (2048 * f) 2048 (omega (arith, size))
+    ∙ ap (take 2048) (drop-drop (2048 * f) (2048 * from) image)
+    ∙ ap (λ n. take 2048 (drop n image)) (sym at)
+
+closed_keeps : (settings : Settings) (within : LoopEnd) (bytes : List ℕ) (outcome : Outcome) (layout : Layout) → IsLayoutOf settings layout
+    → IsClosed (closing_line settings.command) (recover_units layout settings.zones settings.form) bytes within outcome → IsFaultless outcome.end
+    → KeepsGoodFrames settings bytes outcome
+closed_keeps settings within bytes outcome layout is_layout c none =
+    let (out, loop_none) = closed_loop settings layout within bytes outcome c none in
+    record {
+      layout = layout;
+      is_layout = is_layout;
+      at_place = λ cpr image k f entry b below good.
+          ap (λ l. take 2048 (drop (2048 * (image_from entry.content + f)) l)) out
+          ∙ at_place layout settings.zones settings.form bytes c.loop c.runs loop_none cpr image k f entry b below good;
+    }
+
+pub kept_good : GoodFramesAreKept
+kept_good settings within bytes outcome is run none =
+    let (layout, is_layout, c) = subst (λ command. (meaning command).OfUnits settings (λ units. IsClosed (closing_line settings.command) units bytes within outcome)) is run in
+    closed_keeps settings within bytes outcome layout is_layout c none

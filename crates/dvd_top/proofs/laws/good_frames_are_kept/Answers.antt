@@ -1,0 +1,5 @@
+use Rattle.dvd_top.proofs.GoodFrames.{kept_good}
+use Rattle.dvd_top.proofs.laws.good_frames_are_kept.Goals as goal
+
+pub returns : goal.returns
+returns c = kept_good
