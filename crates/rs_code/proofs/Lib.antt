@@ -7,5 +7,6 @@ pub mod Registers
 pub mod Remainders
 pub mod Ring
 pub mod Syndromes
+pub mod Terms
 pub mod Values
 pub mod Words

@@ -1,21 +1,21 @@
 //! The values of a word at points.
-ghost use Rattle.std.specs.Prelude.{◌≡◌, ◌↔◌, ◌≤◌, length, replicate, IsTrue};
+ghost use Rattle.std.specs.Prelude.{◌≡◌, ◌↔◌, ◌<◌, ◌≤◌, length, replicate, IsTrue};
+ghost use Rattle.gf_field.specs.Field.{alpha, power};
 ghost use Rattle.gf_field.specs.Words.{value};
 ghost use Rattle.rs_code.specs.Syndromes.{syndromes_of};
 
 use arrayvec::ArrayVec;
-use gf_field::mul;
+use gf_field::{alpha_pow, log};
 
 /// The values of a word at alpha^0 to alpha^(`parity` - 1), in this order.
 pub fn syndromes(word: &[u8], parity: usize) -> ArrayVec<u8, 32>
-    requires { parity ≤ 32 }
+    requires few { length word.now ≤ 32 }
+    requires parity { parity ≤ 32 }
     ensures { result.items ≡ syndromes_of parity word.now }
 {
     let mut syndromes = ArrayVec::new();
-    let mut point = 1;
-    for _k in 0..parity {
-        syndromes.push(value_at(word, point));
-        point = mul(point, 2);
+    for k in 0..parity {
+        syndromes.push(value_at(word, k as u32));
     }
     syndromes
 }
@@ -32,13 +32,20 @@ pub fn is_zero(word: &[u8]) -> bool
     true
 }
 
-/// The value of a word at a point, by Horner's rule.
-fn value_at(word: &[u8], point: u8) -> u8
-    ensures { result ≡ value word.now point }
+/// The value of a word at alpha to a power, term by term: a term's logarithm is its byte's and a multiple of the exponent,
+/// so that no term waits for another.
+pub fn value_at(word: &[u8], exponent: u32) -> u8
+    requires few { length word.now ≤ 33 }
+    requires below { exponent < 255 }
+    ensures { result ≡ value word.now (power alpha exponent) }
 {
     let mut sum = 0;
-    for byte in word {
-        sum = mul(point, sum) ^ *byte;
+    let mut shift = 0;
+    for k in (0..word.len()).rev() {
+        if word[k] != 0 {
+            sum ^= alpha_pow(log(word[k]) + shift);
+        }
+        shift += exponent;
     }
     sum
 }

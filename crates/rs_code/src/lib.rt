@@ -5,7 +5,7 @@
 //! - `division`: the generator polynomial, and the division by it.
 //! - `register`: the division where the remainder fits one word of 128 bits.
 //! - `tables`: the multiples of two generators, for that division.
-//! - `evaluation`: the values of a word at points.
+//! - `evaluation`: the values of a word at powers of alpha.
 //! - [`laws`]: what holds of every code, as contracts alone.
 #![tactic(auto)]
 
@@ -19,3 +19,4 @@ mod tables;
 mod tests;
 
 pub use code::{Code, Ied, Pi, Po};
+pub use evaluation::value_at;

@@ -14,7 +14,6 @@ pub mod Quotients
 pub mod Registers
 pub mod Roots
 pub mod Solving
-pub mod Terms
 pub mod ThirdDegree
 pub mod Totals
 pub mod Zeros

@@ -1,7 +1,7 @@
 //! The places where errors may be: those whose points are zeros of a locator.
 ghost use Rattle.std.specs.Prelude.{◌≡◌, ℕ, ◌+◌, ◌<◌, ◌≤◌, List, Bool, length, All, slice_index};
 ghost use Rattle.arrayvec.specs.ArrayVec.{array_vec_len};
-ghost use Rattle.gf_field.specs.Field.{alpha, plus, power, product};
+ghost use Rattle.gf_field.specs.Field.{plus, product};
 ghost use Rattle.gf_field.specs.Words.{IsByte, value};
 ghost use Rattle.rs_code.specs.PowerSums.{points_of};
 ghost use Rattle.rs_decode.specs.Errors.{error_count};
@@ -10,7 +10,8 @@ ghost use Rattle.rs_decode.specs.Sums.{AreSums};
 
 use crate::few_zeros::mark_few;
 use arrayvec::ArrayVec;
-use gf_field::{alpha_pow, log, mul};
+use gf_field::{alpha_pow, mul};
+use rs_code::value_at;
 
 /// The power sums with points taken out, one after the other, which leaves as many sums less.
 /// The sums that are left are those of the bytes multiplied by their points' distances to those that were taken out.
@@ -20,6 +21,10 @@ pub fn sums_without(points: &[u8], sums: &[u8]) -> ArrayVec<u8, 32>
     ensures len { array_vec_len result + length points.now ≡ length sums.now }
     ensures are { (places bytes : List ℕ) → AreSums places bytes sums.now → AreSums places (at_points (distances points.now) bytes places) result.items }
 {
+    // No sum is left.
+    if points.len() == sums.len() {
+        return ArrayVec::new();
+    }
     let mut left: ArrayVec<u8, 32> = ArrayVec::try_from(sums).unwrap();
     for point in points {
         take_out_point(&mut left, *point);
@@ -79,24 +84,6 @@ fn set_values(polynomial: &mut [u8], point: u8)
     for k in 1..polynomial.len() {
         polynomial[k] ^= mul(point, polynomial[k - 1]);
     }
-}
-
-// The value of a polynomial at a power of alpha, term by term: a term's logarithm is its coefficient's and a multiple of
-// the exponent, so that no term waits for another.
-fn value_at(polynomial: &[u8], exponent: u32) -> u8
-    requires few { length polynomial.now ≤ 33 }
-    requires below { exponent < 255 }
-    ensures { result ≡ value polynomial.now (power alpha exponent) }
-{
-    let mut sum = 0;
-    let mut shift = 0;
-    for k in (0..polynomial.len()).rev() {
-        if polynomial[k] != 0 {
-            sum ^= alpha_pow(log(polynomial[k]) + shift);
-        }
-        shift += exponent;
-    }
-    sum
 }
 
 /// How many unmarked places of a received word differ from a codeword.

@@ -1,5 +1,6 @@
 //! The marked places of a word.
-ghost use Rattle.std.specs.Prelude.{◌≡◌, ℕ, List, Bool, ◌<◌, ◌≤◌, length, All, MatchOption, nat_lt};
+ghost use Rattle.std.specs.Prelude.{◌≡◌, ℕ, List, Bool, ◌-◌, ◌<◌, ◌≤◌, length, All, MatchOption, nat_lt};
+ghost use Rattle.gf_field.specs.Field.{alpha, power};
 ghost use Rattle.gf_field.specs.Words.{IsByte};
 ghost use Rattle.rs_decode.specs.Filling.{marked};
 ghost use Rattle.rs_decode.specs.Places.{picked, patched};
@@ -24,10 +25,21 @@ pub fn marked_points(marks: &[bool], most: usize) -> Option<ArrayVec<u8, 32>>
             if points.len() == most {
                 return None;
             }
-            points.push(alpha_pow((marks.len() - 1 - place) as u32));
+            points.push(point_of(marks.len(), place));
         }
     }
     Some(points)
+}
+
+// The power of alpha that a place of a word of this size stands at. A call, so that no division is made for the places
+// that aren't marked.
+#[inline(never)]
+fn point_of(size: usize, place: usize) -> u8
+    requires short { size ≤ 255 }
+    requires inside { place < size }
+    ensures { result ≡ power alpha (size - 1 - place) }
+{
+    alpha_pow((size - 1 - place) as u32)
 }
 
 // Whether any place is marked. All marks are read, so that many are taken at once.

@@ -1,12 +1,10 @@
 use Rattle.std.proofs.Common.{◌≡◌}
 use Rattle.arrayvec.specs.ArrayVec.{array_vec_len}
-use Rattle.gf_field.specs.Field.{alpha, power}
 use Rattle.rs_code.specs.Syndromes.{syndromes_of}
 use Rattle.rs_code.proofs.evaluation.syndromes.Given as goal
 
 abbrev pub invariant-loop-k : goal.invariant-loop-k
 invariant-loop-k l = record {
-  point_is : l.point ≡ power alpha l._k;
-  filled : array_vec_len l.syndromes ≡ l._k;
-  so_far : l.syndromes.items ≡ syndromes_of l._k l.word;
+  filled : array_vec_len l.syndromes ≡ l.k;
+  so_far : l.syndromes.items ≡ syndromes_of l.k l.word;
 }

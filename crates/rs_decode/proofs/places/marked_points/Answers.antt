@@ -40,7 +40,7 @@ loop-place-preserved c =
           let is = ap (λ p. p.items) w.points-is in
           let long = ap length is in
           record {
-            points = cc (next, point, is, w.push.ensures.items, w.alpha_pow.ensures, c.loop-place.invariant.points);
+            points = cc (next, point, is, w.push.ensures.items, w.point_of.ensures, c.loop-place.invariant.points);
             count = omega (arith, marked-next_marked marks place inside w.if-mark.true, long, w.push.ensures.len, c.loop-place.invariant.count);
             within = omega (arith, long, w.push.ensures.len, w.len.ensures.value, w.if-len-most.false, c.loop-place.invariant.within);
           })
