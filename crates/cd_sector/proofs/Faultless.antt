@@ -1,0 +1,50 @@
+-- A sector that was made has nothing wrong.
+use Rattle.std.proofs.Common.{◌≡◌, ℕ, ◌+◌, List, ◌∷◌, ◌++◌, length, get_or, take, drop, refl, sym, ◌∙◌, ap, arith}
+use Rattle.std.specs.Prelude.{replicate}
+use Rattle.std.proofs.lemmas.List.{append_assoc, take-append-drop, take_at, drop_at}
+use Rattle.cd_sector.specs.Edc.{edc_of}
+use Rattle.cd_sector.specs.Causes.{IsFaultless}
+use Rattle.cd_sector.specs.Sector.{sync, header, covered, data_part, IsSector}
+
+pub length-edc_of : (bytes : List ℕ) → length (edc_of bytes) ≡ 4
+unfolding edc_of
+length-edc_of bytes = refl
+
+pub length-covered : (address : ℕ) (user : List ℕ) → length (covered address user) ≡ 16 + length user
+unfolding covered
+length-covered address user = omega arith
+
+-- what stands behind the sync of a list that begins with the bytes that the EDC covers
+behind_sync : (address : ℕ) (user rest : List ℕ) → length user ≡ 2048
+    → sync ++ take 2052 (drop 12 (covered address user ++ rest)) ≡ covered address user
+unfolding covered
+behind_sync address user rest size =
+    ap (λ (l : List ℕ). sync ++ l) (take_at (header address ++ 0x01 ∷ user) rest 2052 (omega arith))
+
+-- the fields of a list that begins with them
+mode_of : (address : ℕ) (user rest : List ℕ) → get_or (covered address user ++ rest) 15 0 ≡ 1
+unfolding covered
+mode_of address user rest = refl
+
+header_of : (address : ℕ) (user rest : List ℕ) → take 3 (drop 12 (covered address user ++ rest)) ≡ header address
+unfolding covered
+header_of address user rest = refl
+
+pub faultless : (address : ℕ) (user sector : List ℕ) → length user ≡ 2048 → IsSector address user sector → IsFaultless sector address
+unfolding data_part
+faultless address user sector size made =
+    let front : List ℕ = covered address user in
+    let edc : List ℕ = edc_of front in
+    let rest : List ℕ = edc ++ (replicate 8 0 ++ drop 2076 sector) in
+    let whole : sector ≡ front ++ rest =
+    sym (take-append-drop 2076 sector) ∙ ap (λ (l : List ℕ). l ++ drop 2076 sector) made.begins
+    ∙ append_assoc (front ++ edc) (replicate 8 0) (drop 2076 sector) ∙ append_assoc front edc (replicate 8 0 ++ drop 2076 sector) in
+    let behind : drop 2064 (front ++ rest) ≡ rest = drop_at front rest 2064 (omega (arith, length-covered address user)) in
+    record {
+      words = made.words;
+      mode = ap (λ (l : List ℕ). get_or l 15 0) whole ∙ mode_of address user rest;
+      header_is = ap (λ (l : List ℕ). take 3 (drop 12 l)) whole ∙ header_of address user rest;
+      edc = ap (λ (l : List ℕ). take 4 (drop 2064 l)) whole ∙ ap (λ (l : List ℕ). take 4 l) behind
+          ∙ take_at edc (replicate 8 0 ++ drop 2076 sector) 4 (length-edc_of front)
+          ∙ sym (ap (λ (l : List ℕ). edc_of (sync ++ take 2052 (drop 12 l))) whole ∙ ap edc_of (behind_sync address user rest size));
+    }

@@ -1,0 +1,15 @@
+pub mod Bits
+pub mod Steps
+pub mod Division
+pub mod Places
+pub mod Encoding
+pub mod Assembly
+pub mod NearWords
+pub mod Changes
+pub mod Spread
+pub mod Passes
+pub mod Costs
+pub mod GivenBack
+pub mod Faultless
+pub mod OneSector
+pub mod SomeSector

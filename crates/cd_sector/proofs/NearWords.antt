@@ -1,0 +1,159 @@
+-- Words of a sector that become the codewords near them.
+use Rattle.std.proofs.Common.{◌≡◌, ◌≢◌, ◌⊎◌, inl, inr, ℕ, zero, suc, ◌+◌, ◌-◌, ◌%◌, ◌<◌, ◌≤◌, List, ◌++◌, drop, length, get_or, set, Bool, false, ◌&&◌, refl, sym, ◌∙◌, ap, ap₂, subst, zero-add, add-one, arith, Option, Some, None, Result, Ok, Err}
+use Rattle.std.specs.Prelude.{nat_lt, replicate}
+use Rattle.std.specs.Option.{is_none}
+use Rattle.std.specs.Result.{IfErr, IsErrAnd}
+use Rattle.std.proofs.lemmas.Bool.{cases_lt}
+use Rattle.std.proofs.lemmas.Bool.Decides.{nat_tests}
+use Rattle.std.specs.List.{range_with_len}
+use Rattle.std.proofs.lemmas.List.{get_or-set_other, ext_get_or, length-map}
+use Rattle.std.proofs.lemmas.List.FromFn.{get_or-map-range_with_len, length-range_with_len}
+use Rattle.gf_field.specs.Words.{IsNear}
+use Rattle.rs_decode.specs.Errors.{HasNoneNear}
+use Rattle.rs_decode.specs.Nearest.{near_of}
+use Rattle.rs_decode.proofs.Nearest.{near_of-some, none-near_of}
+use Rattle.cd_sector.specs.Repair.{with_bytes, with_word, near_word, is_lost, with_p_words, marks_of, with_q_words, repaired}
+use Rattle.cd_sector.specs.Sector.{sync}
+use Rattle.cd_sector.specs.declared.checking.CdCause.{CdCause}
+use Rattle.cd_sector.specs.Words.{place, word_size, word_in}
+use Rattle.cd_sector.proofs.Places.{whole_word, length-word_in, get_or-word_in}
+use Rattle.cd_sector.proofs.Spread.{apart-p}
+
+-- one byte more
+pub with_bytes-next : (sector : List ℕ) (word : ℕ) (bytes : List ℕ) (m : ℕ)
+    → set (with_bytes sector word bytes m) (place word m) (get_or bytes m 0) ≡ with_bytes sector word bytes (m + 1)
+unfolding with_bytes
+with_bytes-next sector word bytes m = ap (with_bytes sector word bytes) (sym (add-one m))
+
+pub with_bytes-none : (sector : List ℕ) (word : ℕ) (bytes : List ℕ) → sector ≡ with_bytes sector word bytes 0
+unfolding with_bytes
+with_bytes-none sector word bytes = refl
+
+-- a place where no byte of the word stands
+with_bytes-other : (sector : List ℕ) (word : ℕ) (bytes : List ℕ) (count at : ℕ) → ((m : ℕ) → m < count → at ≢ place word m)
+    → get_or (with_bytes sector word bytes count) at 0 ≡ get_or sector at 0
+unfolding with_bytes
+with_bytes-other sector word bytes zero at apart = refl
+with_bytes-other sector word bytes (suc m) at apart =
+    get_or-set_other (with_bytes sector word bytes m) (place word m) at (get_or bytes m 0) 0 (apart m (omega arith))
+    ∙ with_bytes-other sector word bytes m at (λ k below. apart k (omega arith))
+
+pub with_word-other : (sector : List ℕ) (word : ℕ) (found : Option (List ℕ)) (at : ℕ) → ((m : ℕ) → m < word_size word → at ≢ place word m)
+    → get_or (with_word sector word found) at 0 ≡ get_or sector at 0
+unfolding with_word
+with_word-other sector word None at apart = refl
+with_word-other sector word (Some bytes) at apart = with_bytes-other sector word bytes (word_size word) at apart
+
+-- a word all of whose bytes are as they were
+pub same_word : (old new : List ℕ) (word : ℕ) → ((m : ℕ) → m < word_size word → get_or new (place word m) 0 ≡ get_or old (place word m) 0)
+    → word_in new word ≡ word_in old word
+same_word old new word kept =
+    sym (whole_word new word (word_in old word) (length-word_in old word)
+    (λ m below. let within : m < word_size word = omega (arith, length-word_in old word) in get_or-word_in old word m within ∙ sym (kept m within)))
+
+-- P words that weren't repaired yet are as they were
+pub later_p : (sector : List ℕ) (n word : ℕ) → n ≤ word → word < 86 → word_in (with_p_words sector n) word ≡ word_in sector word
+unfolding with_p_words
+later_p sector zero word from below = refl
+later_p sector (suc n) word from below =
+    let before : List ℕ = with_p_words sector n in
+    same_word before (with_word before n (near_word before n (replicate 26 false))) word
+    (λ m _. with_word-other before n (near_word before n (replicate 26 false)) (place word m) (λ k _. apart-p word n m k below (omega arith) (omega arith)))
+    ∙ later_p sector n word (omega arith) below
+
+-- so one of them is lost where it was
+pub lost_then : (sector : List ℕ) (word : ℕ) → word < 86 → is_none (near_word (with_p_words sector word) word (replicate 26 false)) ≡ is_lost sector word
+unfolding near_word is_lost
+lost_then sector word below =
+    ap (λ (l : List ℕ). is_none (near_of (word_size word) 2 l (replicate 26 false))) (later_p sector word word (omega arith) below)
+
+-- one P word more, and one Q word more
+pub p_words-next : (sector : List ℕ) (n : ℕ)
+    → with_word (with_p_words sector n) n (near_word (with_p_words sector n) n (replicate 26 false)) ≡ with_p_words sector (n + 1)
+unfolding with_p_words
+p_words-next sector n = ap (with_p_words sector) (sym (add-one n))
+
+pub p_words-none : (sector : List ℕ) → sector ≡ with_p_words sector 0
+unfolding with_p_words
+p_words-none sector = refl
+
+pub q_words-next : (read sector : List ℕ) (word : ℕ) → 86 ≤ word
+    → with_word (with_q_words read sector (word - 86)) word (near_word (with_q_words read sector (word - 86)) word (marks_of read word)) ≡ with_q_words read sector (word + 1 - 86)
+unfolding with_q_words
+q_words-next read sector word above =
+    let n : ℕ = word - 86 in
+    let here : 86 + n ≡ word = omega arith in
+    let more : word + 1 - 86 ≡ suc n = omega arith in
+    let before : List ℕ = with_q_words read sector n in
+    ap (λ (w : ℕ). with_word before w (near_word before w (marks_of read w))) (sym here) ∙ ap (with_q_words read sector) (sym more)
+
+pub q_words-none : (read sector : List ℕ) → sector ≡ with_q_words read sector 0
+unfolding with_q_words
+q_words-none read sector = refl
+
+short : (word : ℕ) → word_size word ≤ 255
+unfolding word_size
+short word = grind (arith, nat_tests)
+
+-- what the decoder finds is the codeword near the word that was read
+pub near_found : (n word : ℕ) (sector bytes found : List ℕ) (marks : List Bool) → n ≡ word_size word → bytes ≡ word_in sector word
+    → IsNear n 2 bytes marks found → near_word sector word marks ≡ Some found
+unfolding near_word
+near_found n word sector bytes found marks size is near =
+    ap₂ (λ (k : ℕ) (l : List ℕ). near_of k 2 l marks) (sym size) (sym is)
+    ∙ near_of-some n 2 bytes found marks (omega (arith, short word)) near
+
+pub near_none : (n word : ℕ) (sector bytes : List ℕ) (marks : List Bool) → n ≡ word_size word → bytes ≡ word_in sector word
+    → length marks ≡ n → HasNoneNear n 2 bytes marks → near_word sector word marks ≡ None
+unfolding near_word
+near_none n word sector bytes marks size is marks_size nothing =
+    ap₂ (λ (k : ℕ) (l : List ℕ). near_of k 2 l marks) (sym size) (sym is)
+    ∙ none-near_of n 2 bytes marks (ap length is ∙ length-word_in sector word ∙ sym size) marks_size nothing
+
+-- the marks of a Q word
+pub marked : (m : ℕ) (lost : Bool) → m < 43 → (nat_lt m 43 && lost) ≡ lost
+marked m lost below = grind (arith, nat_tests)
+
+pub unmarked : (m : ℕ) (lost : Bool) → 43 ≤ m → (nat_lt m 43 && lost) ≡ false
+unmarked m lost above = grind (arith, nat_tests)
+
+-- marks that are told by the table of the P words that are lost
+pub marks_told : (read : List ℕ) (word : ℕ) (lost marks : List Bool) → length marks ≡ 45 → ((p : ℕ) → p < 86 → get_or lost p false ≡ is_lost read p)
+    → ((m : ℕ) → m < 43 → get_or marks m false ≡ get_or lost ((place word m - 12) % 86) false) → ((m : ℕ) → 43 ≤ m → get_or marks m false ≡ false)
+    → marks ≡ marks_of read word
+unfolding marks_of
+marks_told read word lost marks size lost_are told rest =
+    ext_get_or false marks (marks_of read word) (size ∙ sym length_is)
+    (λ m below. let within : m < 45 = omega arith in
+    either m (cases_lt m 43) ∙ sym (get_or-map-range_with_len mark 0 45 m m false within (zero-add m)))
+  where
+    mark : ℕ → Bool
+    mark m = nat_lt m 43 && is_lost read ((place word m - 12) % 86)
+
+    length_is : length (marks_of read word) ≡ 45
+    length_is = omega (arith, length-map (range_with_len 0 45) mark, length-range_with_len 0 45)
+
+    either : (m : ℕ) → (m < 43) ⊎ (43 ≤ m) → get_or marks m false ≡ mark m
+    either m (inl below) =
+        told m below ∙ lost_are ((place word m - 12) % 86) (omega arith) ∙ sym (marked m (is_lost read ((place word m - 12) % 86)) below)
+    either m (inr own) = rest m own ∙ sym (unmarked m (is_lost read ((place word m - 12) % 86)) own)
+
+-- no place of a list without marks has one, nor any behind it
+pub no_mark : (n m : ℕ) → get_or (replicate n false) m false ≡ false
+no_mark zero m = refl
+no_mark (suc n) zero = refl
+no_mark (suc n) (suc m) = no_mark n m
+
+-- the repaired sector, put together
+pub repaired_is : (read front p_repaired whole : List ℕ) (lost : List Bool) → front ≡ sync → p_repaired ≡ with_p_words read 86
+    → ((p : ℕ) → p < 86 → get_or lost p false ≡ is_lost read p)
+    → ((was : List ℕ) → ((p : ℕ) → p < 86 → get_or lost p false ≡ is_lost was p) → whole ≡ with_q_words was p_repaired 52)
+    → front ++ drop 12 whole ≡ repaired read
+unfolding repaired
+repaired_is read front p_repaired whole lost front_is p_is lost_are q_is =
+    ap₂ (λ (f w : List ℕ). f ++ drop 12 w) front_is (q_is read lost_are ∙ ap (λ (l : List ℕ). with_q_words read l 52) p_is)
+
+-- an error of this cause
+pub refused : {A : Type 0} (answer : Result A CdCause) (P : CdCause → Type 0) (cause : CdCause) → IsErrAnd answer (λ e. e ≡ cause) → P cause → IfErr answer P
+refused (Ok value) P cause is holds = absurd is
+refused (Err e) P cause is holds = subst P (sym is) holds

@@ -1,0 +1,222 @@
+-- An address and user data have a sector: each word is encoded in turn, the P words first.
+use Rattle.std.proofs.Common.{◌≡◌, ◌≢◌, ◌⊎◌, inl, inr, ℕ, zero, suc, ◌+◌, ◌-◌, ◌*◌, ◌/◌, ◌%◌, ◌<◌, ◌≤◌, List, [], ◌∷◌, ◌++◌, length, get_or, set, take, All, refl, sym, ◌∙◌, subst, arith}
+use Rattle.std.specs.Prelude.{replicate}
+use Rattle.std.specs.Int.{to_le_bytes, w32}
+use Rattle.std.proofs.lemmas.Bool.{cases_lt}
+use Rattle.std.proofs.lemmas.List.{length-set, get_or-set_other, get_or-take, length-take-le, length-append, length-replicate, take_at}
+use Rattle.std.proofs.lemmas.List.Elements.{All-append, All-cons, All-nil, All-from_get_or, All-replicate, All-set, All-take}
+use Rattle.gf_field.specs.Words.{IsByte, IsEncoded}
+use Rattle.rs_code.proofs.Codewords.{encodable}
+use Rattle.cd_sector.specs.Bits.{bits_of, number_of}
+use Rattle.cd_sector.specs.Edc.{remainder, edc_of}
+use Rattle.cd_sector.specs.Sector.{sync, digits, header, covered, data_part, IsSector}
+use Rattle.cd_sector.specs.Words.{place, word_size, word_in, IsRight}
+use Rattle.cd_sector.proofs.Places.{word_size-p, word_size-q, place-p, place-own, length-word_in, get_or-word_in, kept_right}
+use Rattle.cd_sector.proofs.Encoding.{encoded_right}
+use Rattle.cd_sector.proofs.Spread.{apart-p, apart-qq, place-inside}
+use Rattle.cd_sector.proofs.Faultless.{length-edc_of, length-covered}
+use Rattle.cd_sector.proofs.Assembly.{same_front, all_words}
+
+-- a sector with these words encoded, and nothing changed below a place
+pub record IsEncodedTo (from count limit : ℕ) (old sector : List ℕ) : Type 0 where
+  pub size : length sector ≡ 2352
+  pub bytes : All IsByte sector
+  pub kept : (at : ℕ) → at < limit → get_or sector at 0 ≡ get_or old at 0
+  pub right : (word : ℕ) → from ≤ word → word < from + count → IsRight sector word
+
+-- one word encoded where it stands
+pub record IsOneMore (word : ℕ) (old sector : List ℕ) : Type 0 where
+  pub size : length sector ≡ 2352
+  pub bytes : All IsByte sector
+  pub kept : (at : ℕ) → at ≢ place word (word_size word - 2) → at ≢ place word (word_size word - 1) → get_or sector at 0 ≡ get_or old at 0
+  pub right : IsRight sector word
+
+bytes-word_in : (sector : List ℕ) (word : ℕ) → word < 138 → length sector ≡ 2352 → All IsByte sector → All IsByte (word_in sector word)
+bytes-word_in sector word below size bytes = All-from_get_or IsByte (word_in sector word) 0
+    (λ m inside. let within : m < word_size word = omega (arith, length-word_in sector word) in
+    subst IsByte (sym (get_or-word_in sector word m within)) (bytes (place word m) 0 (omega (arith, size, (place-inside word m below within).1))))
+
+one_more : (word : ℕ) (old : List ℕ) → word < 138 → 2 < word_size word → length old ≡ 2352 → All IsByte old → (sector : List ℕ) × IsOneMore word old sector
+one_more word old below some size bytes = (
+  new,
+  record {
+    size = length-set (set old p x) q y ∙ length-set old p x ∙ size;
+    bytes = All-set IsByte (set old p x) q y (coded.1.codeword.bytes (n - 1) 0 (omega (arith, coded.1.codeword.size)))
+        (All-set IsByte old p x (coded.1.codeword.bytes (n - 2) 0 (omega (arith, coded.1.codeword.size))) bytes);
+    kept = λ at not_p not_q. get_or-set_other (set old p x) q at y 0 not_q ∙ get_or-set_other old p at x 0 not_p;
+    right = encoded_right n word p q old message [] coded.0 refl some below message_size read
+        (subst (λ (l : List ℕ). IsEncoded n 2 l coded.0) (sym (take_at message [] (n - 2) message_size)) coded.1) refl refl
+        (omega (arith, size, (place-inside word (n - 2) below (omega arith)).1)) (omega (arith, size, (place-inside word (n - 1) below (omega arith)).1));
+  },
+)
+  where
+    n : ℕ
+    n = word_size word
+
+    p : ℕ
+    p = place word (n - 2)
+
+    q : ℕ
+    q = place word (n - 1)
+
+    message : List ℕ
+    message = take (n - 2) (word_in old word)
+
+    message_size : length message ≡ n - 2
+    message_size = length-take-le (n - 2) (word_in old word) (omega (arith, length-word_in old word))
+
+    read : (m : ℕ) → m < length message → get_or message m 0 ≡ get_or old (place word m) 0
+    read m inside =
+        get_or-take (n - 2) (word_in old word) m 0 (omega (arith, message_size)) ∙ get_or-word_in old word m (omega (arith, message_size))
+
+    coded : (whole : List ℕ) × IsEncoded n 2 message whole
+    coded = encodable n 2 message (omega arith) some message_size (All-take IsByte (n - 2) (word_in old word) (bytes-word_in old word below size bytes))
+
+    x : ℕ
+    x = get_or coded.0 (n - 2) 0
+
+    y : ℕ
+    y = get_or coded.0 (n - 1) 0
+
+    new : List ℕ
+    new = set (set old p x) q y
+
+-- P words, and Q words
+p_encoded : (old : List ℕ) (count : ℕ) → count ≤ 86 → length old ≡ 2352 → All IsByte old → (sector : List ℕ) × IsEncodedTo 0 count 2076 old sector
+p_encoded old zero within size bytes = (old, record { size = size; bytes = bytes; kept = λ at _. refl; right = λ word _ below. absurd (omega arith) })
+p_encoded old (suc n) within size bytes = next (p_encoded old n (omega arith) size bytes)
+  where
+    next : (sector : List ℕ) × IsEncodedTo 0 n 2076 old sector → (sector : List ℕ) × IsEncodedTo 0 (suc n) 2076 old sector
+    next (was, is) = after (one_more n was (omega arith) (omega (arith, word_size-p n (omega arith))) is.size is.bytes)
+      where
+        last : (m : ℕ) → 24 ≤ m → 2076 ≤ place n m
+        last m from = omega (arith, place-p n m (omega arith))
+
+        after : (sector : List ℕ) × IsOneMore n was sector → (sector : List ℕ) × IsEncodedTo 0 (suc n) 2076 old sector
+        after (now, one) = (
+          now,
+          record {
+            size = one.size;
+            bytes = one.bytes;
+            kept = λ at before. one.kept at
+                (λ same. omega (arith, same, last (word_size n - 2) (omega (arith, word_size-p n (omega arith)))))
+                (λ same. omega (arith, same, last (word_size n - 1) (omega (arith, word_size-p n (omega arith)))))
+                ∙ is.kept at before;
+            right = λ word above below. each word below (cases_lt word n);
+          },
+        )
+          where
+            each : (word : ℕ) → word < 0 + suc n → (word < n) ⊎ (n ≤ word) → IsRight now word
+            each word below (inl earlier) =
+                kept_right was now word
+                (λ m _. one.kept (place word m)
+                (apart-p word n m (word_size n - 2) (omega arith) (omega arith) (omega arith)) (apart-p word n m (word_size n - 1) (omega arith) (omega arith) (omega arith)))
+                (is.right word (omega arith) (omega arith))
+            each word below (inr here) = let same : n ≡ word = omega arith in subst (IsRight now) same one.right
+
+q_encoded : (old : List ℕ) (count : ℕ) → count ≤ 52 → length old ≡ 2352 → All IsByte old → (sector : List ℕ) × IsEncodedTo 86 count 2248 old sector
+q_encoded old zero within size bytes = (old, record { size = size; bytes = bytes; kept = λ at _. refl; right = λ word above below. absurd (omega arith) })
+q_encoded old (suc k) within size bytes = next (q_encoded old k (omega arith) size bytes)
+  where
+    n : ℕ
+    n = 86 + k
+
+    next : (sector : List ℕ) × IsEncodedTo 86 k 2248 old sector → (sector : List ℕ) × IsEncodedTo 86 (suc k) 2248 old sector
+    next (was, is) = after (one_more n was (omega arith) (omega (arith, word_size-q n (omega arith))) is.size is.bytes)
+      where
+        last : (m : ℕ) → 43 ≤ m → 2248 ≤ place n m
+        last m from = omega (arith, place-own n m (omega arith) from)
+
+        after : (sector : List ℕ) × IsOneMore n was sector → (sector : List ℕ) × IsEncodedTo 86 (suc k) 2248 old sector
+        after (now, one) = (
+          now,
+          record {
+            size = one.size;
+            bytes = one.bytes;
+            kept = λ at before. one.kept at
+                (λ same. omega (arith, same, last (word_size n - 2) (omega (arith, word_size-q n (omega arith)))))
+                (λ same. omega (arith, same, last (word_size n - 1) (omega (arith, word_size-q n (omega arith)))))
+                ∙ is.kept at before;
+            right = λ word above below. each word above below (cases_lt word n);
+          },
+        )
+          where
+            each : (word : ℕ) → 86 ≤ word → word < 86 + suc k → (word < n) ⊎ (n ≤ word) → IsRight now word
+            each word above below (inl earlier) =
+                kept_right was now word
+                (λ m _. one.kept (place word m)
+                (apart-qq word n m (word_size n - 2) above (omega arith) (omega arith) (omega arith) (omega arith))
+                (apart-qq word n m (word_size n - 1) above (omega arith) (omega arith) (omega arith) (omega arith)))
+                (is.right word above (omega arith))
+            each word above below (inr here) = let same : n ≡ word = omega arith in subst (IsRight now) same one.right
+
+-- the bytes of the data part are bytes
+four_bytes : (a b c d : ℕ) → a < 256 → b < 256 → c < 256 → d < 256 → All IsByte (a ∷ b ∷ c ∷ d ∷ [])
+four_bytes a b c d a_byte b_byte c_byte d_byte =
+    All-cons IsByte a (b ∷ c ∷ d ∷ []) a_byte (All-cons IsByte b (c ∷ d ∷ []) b_byte (All-cons IsByte c (d ∷ []) c_byte (All-cons IsByte d [] d_byte (All-nil IsByte))))
+
+bytes-word : (word : ℕ) → All IsByte (to_le_bytes w32 word)
+bytes-word word = four_bytes (word % 256) (word / 256 % 256) (word / 65536 % 256) (word / 16777216 % 256) (omega arith) (omega arith) (omega arith) (omega arith)
+
+bytes-edc_of : (bytes : List ℕ) → All IsByte (edc_of bytes)
+unfolding edc_of
+bytes-edc_of bytes = bytes-word (number_of (remainder (8 * length bytes) (bits_of bytes ++ replicate 32 0)))
+
+bytes-sync : All IsByte sync
+bytes-sync =
+    All-append IsByte (0 ∷ []) (replicate 10 0xFF ++ 0 ∷ []) (All-replicate IsByte 1 0 (omega arith))
+    (All-append IsByte (replicate 10 0xFF) (0 ∷ []) (All-replicate IsByte 10 0xFF (omega arith)) (All-replicate IsByte 1 0 (omega arith)))
+
+bytes-covered : (address : ℕ) (user : List ℕ) → address < 450000 → All IsByte user → All IsByte (covered address user)
+unfolding covered
+bytes-covered address user below bytes =
+    All-append IsByte sync (header address ++ 0x01 ∷ user) bytes-sync
+    (All-append IsByte (header address ++ 0x01 ∷ []) user
+    (four_bytes (digits (address / 4500)) (digits (address / 75 % 60)) (digits (address % 75)) 0x01 (omega arith) (omega arith) (omega arith) (omega arith)) bytes)
+
+pub some_sector : (address : ℕ) (user : List ℕ) → address < 450000 → length user ≡ 2048 → All IsByte user → (sector : List ℕ) × IsSector address user sector
+unfolding data_part
+some_sector address user below size bytes = (
+  q_done.0,
+  record {
+    size = q_done.1.size;
+    begins = same_front 2076 q_done.0 start (omega (arith, q_done.1.size)) (omega (arith, start_size))
+        (λ at before. q_done.1.kept at (omega arith) ∙ p_done.1.kept at before)
+        ∙ take_at front (replicate 276 0) 2076 front_size;
+    words = all_words (IsRight q_done.0)
+        (λ word p. kept_right p_done.0 q_done.0 word
+        (λ m inside. q_done.1.kept (place word m) (omega (arith, place-p word m p, word_size-p word p))) (p_done.1.right word (omega arith) (omega arith)))
+        (λ word above within. q_done.1.right word above (omega arith));
+  },
+)
+  where
+    front : List ℕ
+    front = data_part address user
+
+    start : List ℕ
+    start = front ++ replicate 276 0
+
+    front_size : length front ≡ 2076
+    front_size = omega (
+      arith,
+      length-append (covered address user ++ edc_of (covered address user)) (replicate 8 0),
+      length-append (covered address user) (edc_of (covered address user)),
+      length-edc_of (covered address user),
+      length-covered address user,
+    )
+
+    start_size : length start ≡ 2352
+    start_size = omega (arith, length-append front (replicate 276 0), front_size, length-replicate {A = ℕ} 276 0)
+
+    start_bytes : All IsByte start
+    start_bytes = All-append IsByte front (replicate 276 0)
+        (All-append IsByte (covered address user ++ edc_of (covered address user)) (replicate 8 0)
+        (All-append IsByte (covered address user) (edc_of (covered address user)) (bytes-covered address user below bytes) (bytes-edc_of (covered address user)))
+        (All-replicate IsByte 8 0 (omega arith)))
+        (All-replicate IsByte 276 0 (omega arith))
+
+    p_done : (sector : List ℕ) × IsEncodedTo 0 86 2076 start sector
+    p_done = p_encoded start 86 (omega arith) start_size start_bytes
+
+    q_done : (sector : List ℕ) × IsEncodedTo 86 52 2248 p_done.0 sector
+    q_done = q_encoded p_done.0 52 (omega arith) p_done.1.size p_done.1.bytes

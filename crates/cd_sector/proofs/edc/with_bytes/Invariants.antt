@@ -1,0 +1,6 @@
+use Rattle.std.proofs.Common.{◌≡◌, drop}
+use Rattle.cd_sector.specs.Register.{after_bytes}
+use Rattle.cd_sector.proofs.edc.with_bytes.Given as goal
+
+abbrev pub invariant-loop-byte : goal.invariant-loop-byte
+invariant-loop-byte l = after_bytes (drop l.byte-index l.bytes) l.next ≡ after_bytes l.bytes l.register

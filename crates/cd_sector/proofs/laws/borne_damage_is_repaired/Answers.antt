@@ -1,0 +1,5 @@
+use Rattle.cd_sector.proofs.GivenBack.{given_back}
+use Rattle.cd_sector.proofs.laws.borne_damage_is_repaired.Goals as goal
+
+pub returns : goal.returns
+returns c = given_back

@@ -1,0 +1,5 @@
+use Rattle.cd_sector.proofs.Faultless.{faultless}
+use Rattle.cd_sector.proofs.laws.sectors_are_faultless.Goals as goal
+
+pub returns : goal.returns
+returns c = faultless

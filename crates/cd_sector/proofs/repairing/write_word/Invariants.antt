@@ -1,0 +1,9 @@
+use Rattle.std.proofs.Common.{◌≡◌, length}
+use Rattle.cd_sector.specs.Repair.{with_bytes}
+use Rattle.cd_sector.proofs.repairing.write_word.Given as goal
+
+abbrev pub invariant-loop-m : goal.invariant-loop-m
+invariant-loop-m l = record {
+  size : length l.sector ≡ 2352;
+  word : l.sector ≡ with_bytes l.fn.sector l.word l.bytes l.m;
+}

@@ -1,0 +1,9 @@
+use Rattle.std.proofs.Common.{ap, List, ℕ, ◌∙◌, get_or, zero-add, arith}
+use Rattle.std.proofs.lemmas.List.FromFn.{get_or-map-range_with_len}
+use Rattle.cd_sector.specs.Register.{after_steps}
+use Rattle.cd_sector.proofs.table.entry.Goals as goal
+
+pub returns : goal.returns
+returns c = λ is.
+    ap (λ (l : List ℕ). get_or l c.args.byte 0) is
+    ∙ get_or-map-range_with_len (after_steps 8) 0 256 c.args.byte c.args.byte 0 (omega arith) (zero-add c.args.byte)

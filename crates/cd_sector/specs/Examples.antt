@@ -1,0 +1,27 @@
+-- Worked values from outside the program.
+use Rattle.std.specs.Prelude.{◌≡◌, [], ◌∷◌, refl}
+use Rattle.cd_sector.specs.Bits.{bits, bits_of, number_of}
+use Rattle.cd_sector.specs.Edc.{plus_front, remainder, edc_of}
+use Rattle.cd_sector.specs.Sector.{header}
+use Rattle.cd_sector.specs.Words.{place}
+
+edc-80 : edc_of (0x80 ∷ []) ≡ 0x01 ∷ 0x80 ∷ 0x01 ∷ 0xD8 ∷ []
+unfolding edc_of remainder plus_front bits_of bits number_of
+edc-80 = refl
+
+-- the first sector behind the pause of two seconds, and the last of all
+header-150 : header 150 ≡ 0x00 ∷ 0x02 ∷ 0x00 ∷ []
+header-150 = refl
+
+header-last : header 449999 ≡ 0x99 ∷ 0x59 ∷ 0x74 ∷ []
+header-last = refl
+
+-- the first and the last byte of the first and of the last P word
+places-p : place 0 0 ∷ place 0 25 ∷ place 85 0 ∷ place 85 25 ∷ [] ≡ 12 ∷ 2162 ∷ 97 ∷ 2247 ∷ []
+unfolding place
+places-p = refl
+
+-- the first, the second and the last byte of the first Q word, and the last byte of the last one
+places-q : place 86 0 ∷ place 86 1 ∷ place 86 44 ∷ place 137 44 ∷ [] ≡ 12 ∷ 100 ∷ 2300 ∷ 2351 ∷ []
+unfolding place
+places-q = refl

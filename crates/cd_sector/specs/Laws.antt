@@ -1,0 +1,60 @@
+-- What holds of every sector, and what repair gives back.
+use Rattle.std.specs.Prelude.{◌≡◌, ◌≢◌, ◌⊎◌, ℕ, ◌%◌, ◌<◌, ◌≤◌, List, length, slice_index, All}
+use Rattle.gf_field.specs.Words.{IsByte}
+use Rattle.rs_code.specs.Distance.{distance}
+use Rattle.cd_sector.specs.Causes.{IsFaultless, IsCause}
+use Rattle.cd_sector.specs.declared.checking.CdCause.{CdCause}
+use Rattle.cd_sector.specs.Repair.{repaired}
+use Rattle.cd_sector.specs.Sector.{IsSector}
+use Rattle.cd_sector.specs.Words.{place, word_in}
+
+-- a word of one half of a sector, that of the low bytes, 0, or that of the high ones, 1
+abbrev pub IsOfHalf : ℕ → ℕ → Type 0
+IsOfHalf half word = word % 2 ≡ half
+
+-- at most one byte of a word is wrong
+abbrev pub HasAtMostOneWrong : List ℕ → List ℕ → ℕ → Type 0
+HasAtMostOneWrong sector read word = distance (word_in sector word) (word_in read word) ≤ 1
+
+-- a byte of a word is right
+abbrev pub HasRightByte : List ℕ → List ℕ → ℕ → ℕ → Type 0
+HasRightByte sector read word m = slice_index read (place word m) ≡ slice_index sector (place word m)
+
+-- In one half each P word has at most one wrong byte, and each Q word at most one among its last two.
+pub record IsScattered (half : ℕ) (sector read : List ℕ) : Type 0 where
+  pub p_words : (word : ℕ) → word < 86 → IsOfHalf half word → HasAtMostOneWrong sector read word
+  pub q_words : (word : ℕ) → 86 ≤ word → word < 138 → IsOfHalf half word → HasRightByte sector read word 43 ⊎ HasRightByte sector read word 44
+
+-- In one half one P word may be all wrong, each other has at most one wrong byte, and the last two bytes of each Q word are right.
+pub record IsBurst (half bad : ℕ) (sector read : List ℕ) : Type 0 where
+  pub p_words : (word : ℕ) → word < 86 → IsOfHalf half word → word ≢ bad → HasAtMostOneWrong sector read word
+  pub first_own : (word : ℕ) → 86 ≤ word → word < 138 → IsOfHalf half word → HasRightByte sector read word 43
+  pub second_own : (word : ℕ) → 86 ≤ word → word < 138 → IsOfHalf half word → HasRightByte sector read word 44
+
+-- one of the two
+abbrev pub IsBorne : ℕ → List ℕ → List ℕ → Type 0
+IsBorne half sector read = IsScattered half sector read ⊎ ((bad : ℕ) × IsBurst half bad sector read)
+
+-- A sector whose halves are both damaged in one of these ways is repaired to what it was. Its sync doesn't count.
+abbrev pub BorneDamageIsRepaired : Type 0
+BorneDamageIsRepaired =
+    (address : ℕ) (user sector read : List ℕ) → IsSector address user sector → length read ≡ 2352
+    → IsBorne 0 sector read → IsBorne 1 sector read → repaired read ≡ sector
+
+-- a sector that was made has nothing wrong
+abbrev pub SectorsAreFaultless : Type 0
+SectorsAreFaultless =
+    (address : ℕ) (user sector : List ℕ) → length user ≡ 2048 → IsSector address user sector → IsFaultless sector address
+
+-- an address and user data have one sector at most
+abbrev pub SectorIsOnlyOne : Type 0
+SectorIsOnlyOne = (address : ℕ) (user a b : List ℕ) → IsSector address user a → IsSector address user b → a ≡ b
+
+-- what has nothing wrong has no cause
+abbrev pub FaultlessHasNoCause : Type 0
+FaultlessHasNoCause = (sector : List ℕ) (address : ℕ) (cause : CdCause) → IsFaultless sector address → IsCause sector address cause → ⊥
+
+-- and one, if the user data are 2,048 bytes
+abbrev pub SomeSector : Type 0
+SomeSector =
+    (address : ℕ) (user : List ℕ) → address < 450000 → length user ≡ 2048 → All IsByte user → (sector : List ℕ) × IsSector address user sector

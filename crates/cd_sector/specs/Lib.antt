@@ -1,0 +1,9 @@
+pub mod Bits
+pub mod Causes
+pub mod Edc
+pub mod Examples
+pub mod Laws
+pub mod Register
+pub mod Repair
+pub mod Sector
+pub mod Words

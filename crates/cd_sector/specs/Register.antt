@@ -1,0 +1,16 @@
+-- The register of the EDC (ours): 32 bits in one word, that of the highest power lowest.
+use Rattle.std.specs.Prelude.{ℕ, zero, suc, ◌/◌, ◌%◌, ◌==◌, bit_xor, if◌then◌else◌, List, [], ◌∷◌}
+
+-- the register after one step of the division, once the next bit is added to it
+unfoldable pub stepped : ℕ → ℕ
+stepped register = bit_xor (register / 2) (if register % 2 == 1 then 0xD8018001 else 0)
+
+-- and after n steps
+unfoldable pub after_steps : ℕ → ℕ → ℕ
+after_steps zero register = register
+after_steps (suc n) register = after_steps n (stepped register)
+
+-- the register once these bytes are read too
+unfoldable pub after_bytes : List ℕ → ℕ → ℕ
+after_bytes [] register = register
+after_bytes (byte ∷ bytes) register = after_bytes bytes (after_steps 8 (bit_xor register byte))

@@ -1,0 +1,29 @@
+//! What holds of every sector. Each function's contract is a law of the definitions; the bodies are empty.
+ghost use Rattle.cd_sector.specs.Laws.{BorneDamageIsRepaired, FaultlessHasNoCause, SectorIsOnlyOne, SectorsAreFaultless, SomeSector};
+
+/// An address and user data have one sector at most.
+pub fn sector_is_only_one()
+    ensures { SectorIsOnlyOne }
+{}
+
+/// And they have one, where the user data are 2,048 bytes.
+pub fn some_sector()
+    ensures { SomeSector }
+{}
+
+/// A sector of an address and user data has nothing wrong at this address.
+pub fn sectors_are_faultless()
+    ensures { SectorsAreFaultless }
+{}
+
+/// A sector that has nothing wrong has no cause.
+pub fn faultless_has_no_cause()
+    ensures { FaultlessHasNoCause }
+{}
+
+/// A sector is repaired to what it was, if in each half, that of the low and that of the high bytes, either each P word
+/// has at most one wrong byte and each Q word at most one among its last two; or one P word is wrong in any way, each
+/// other has at most one wrong byte, and the last two bytes of each Q word are right.
+pub fn borne_damage_is_repaired()
+    ensures { BorneDamageIsRepaired }
+{}

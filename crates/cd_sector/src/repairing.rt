@@ -1,0 +1,117 @@
+//! A sector that was read, repaired.
+ghost use Rattle.std.specs.Prelude.{◌≡◌, ℕ, List, ◌+◌, ◌-◌, ◌<◌, ◌≤◌, length, drop, replicate, false, slice_index, slice_index_or, IfErr, IfOk, OnErr, OnOk};
+ghost use Rattle.std.specs.Option.{is_none};
+ghost use Rattle.rs_code.specs.Distance.{distance};
+ghost use Rattle.cd_sector.specs.Causes.{IsCause, IsFaultless};
+ghost use Rattle.cd_sector.specs.Repair.{with_bytes, with_word, near_word, is_lost, with_p_words, marks_of, with_q_words, repaired};
+ghost use Rattle.cd_sector.specs.Words.{word_size};
+
+use crate::checking::{CdCause, check};
+use crate::sector::SYNC;
+use crate::words::{P_WORDS, PWord, QWord, WORDS, place, read_word};
+use rs_code::Code;
+use rs_decode::decode;
+
+/// Repairs a sector that was read: each P word becomes the codeword near it, if there is one, and then each Q word, whose
+/// bytes in P words without one count as lost; the sync is set. Where nothing is wrong then, it answers how many bytes
+/// behind the sync changed. Else it answers what is still wrong, and the sector is unchanged.
+pub fn repair(sector: &mut [u8; 2352], address: u32) -> Result<u16, CdCause>
+    requires { address < 450000 }
+    ensures repaired { OnOk result (sector.new ≡ repaired sector.old) }
+    ensures faultless { OnOk result (IsFaultless (repaired sector.old) address) }
+    ensures changes { IfOk result (λ changes. changes ≡ distance (drop 12 sector.old) (drop 12 sector.new)) }
+    ensures cause { IfErr result (λ cause. IsCause (repaired sector.old) address cause) }
+    ensures same { OnErr result (sector.new ≡ sector.old) }
+{
+    let mut fixed = *sector;
+    let lost = repair_p_words(&mut fixed);
+    repair_q_words(&lost, &mut fixed);
+    fixed[..12].copy_from_slice(&SYNC);
+    check(&fixed, address)?;
+    let changes = count_changes(sector, &fixed);
+    *sector = fixed;
+    Ok(changes)
+}
+
+// Repairs the P words, and tells which are lost.
+fn repair_p_words(sector: &mut [u8; 2352]) -> [bool; 86]
+    ensures words { sector.new ≡ with_p_words sector.old 86 }
+    ensures size { length sector.new ≡ 2352 }
+    ensures lost_size { length result ≡ 86 }
+    ensures lost { (word : ℕ) → word < 86 → slice_index_or result word false ≡ is_lost sector.old word }
+{
+    let code = PWord::new();
+    let mut lost = [false; P_WORDS];
+    for word in 0..P_WORDS {
+        lost[word] = repair_word(&code, word, &[false; 26], sector);
+    }
+    lost
+}
+
+fn repair_q_words(lost: &[bool; 86], sector: &mut [u8; 2352])
+    ensures words { (read : List ℕ) → ((word : ℕ) → word < 86 → slice_index_or lost.now word false ≡ is_lost read word) → sector.new ≡ with_q_words read sector.old 52 }
+    ensures size { length sector.new ≡ 2352 }
+{
+    let code = QWord::new();
+    for word in P_WORDS..WORDS {
+        repair_word(&code, word, &marks(lost, word), sector);
+    }
+}
+
+// The places of a Q word in P words that are lost.
+fn marks(lost: &[bool; 86], word: usize) -> [bool; 45]
+    requires q_word { 86 ≤ word }
+    requires word { word < 138 }
+    ensures { (read : List ℕ) → ((p : ℕ) → p < 86 → slice_index_or lost.now p false ≡ is_lost read p) → result ≡ marks_of read word }
+{
+    let mut marks = [false; 45];
+    for m in 0..43 {
+        marks[m] = lost[(place(word, m) - 12) % P_WORDS];
+    }
+    marks
+}
+
+// Sets a word to the codeword near it, and tells whether there is none.
+fn repair_word<const N: usize>(
+    code: &Code<N, 2>,
+    word: usize,
+    marks: &[bool; N],
+    sector: &mut [u8; 2352],
+) -> bool
+    requires word { word < 138 }
+    requires size { N ≡ word_size word }
+    ensures word { sector.new ≡ with_word sector.old word (near_word sector.old word marks.now) }
+    ensures size { length sector.new ≡ 2352 }
+    ensures lost { result ≡ is_none (near_word sector.old word marks.now) }
+{
+    let mut bytes = [0; N];
+    read_word(sector, word, &mut bytes);
+    let Ok(_fix) = decode(code, &mut bytes, marks) else {
+        return true;
+    };
+    write_word(&bytes, word, sector);
+    false
+}
+
+fn write_word(bytes: &[u8], word: usize, sector: &mut [u8; 2352])
+    requires word { word < 138 }
+    requires bytes { length bytes.now ≡ word_size word }
+    ensures word { sector.new ≡ with_bytes sector.old word bytes.now (word_size word) }
+    ensures size { length sector.new ≡ 2352 }
+{
+    for (m, byte) in bytes.iter().enumerate() {
+        sector[place(word, m)] = *byte;
+    }
+}
+
+fn count_changes(old: &[u8; 2352], new: &[u8; 2352]) -> u16
+    ensures { result ≡ distance (drop 12 old.now) (drop 12 new.now) }
+{
+    let mut count = 0;
+    for at in 12..2352 {
+        if old[at] != new[at] {
+            count += 1;
+        }
+    }
+    count
+}

@@ -1,0 +1,88 @@
+//! A whole sector (ECMA-130, 14).
+ghost use Rattle.std.specs.Prelude.{◌≡◌, ℕ, ◌+◌, ◌<◌, ◌≤◌, ◌++◌, length, take, slice_index};
+ghost use Rattle.cd_sector.specs.Sector.{digits as digits_of, header as header_of, data_part, IsSector};
+ghost use Rattle.cd_sector.specs.Words.{IsRight};
+
+use crate::edc::cd_edc;
+use crate::words::{P_WORDS, PWord, QWord, WORDS, encode_word};
+
+/// The first twelve bytes of every sector.
+pub(crate) const SYNC: [u8; 12] = [
+    0x00, 0xFF, 0xFF, 0xFF, 0xFF, 0xFF, 0xFF, 0xFF, 0xFF, 0xFF, 0xFF, 0x00,
+];
+
+/// Writes the sector of an address: sync, header, mode, user data and EDC, and the P and Q parity over them.
+/// Minute, second and frame of the address are `address / 4500`, `address / 75 % 60` and `address % 75`.
+pub fn make(address: u32, user: &[u8; 2048], out: &mut [u8; 2352])
+    requires { address < 450000 }
+    ensures { IsSector address user.now out.new }
+{
+    set_data(address, user, out);
+    set_p_words(out);
+    // The Q words cover the P parity.
+    set_q_words(out);
+}
+
+/// Minute, second and frame of an address, as a sector has them.
+pub(crate) fn header(address: u32) -> [u8; 3]
+    requires { address < 450000 }
+    ensures { result ≡ header_of address }
+{
+    [
+        digits(address / 4500),
+        digits(address / 75 % 60),
+        digits(address % 75),
+    ]
+}
+
+fn digits(number: u32) -> u8
+    requires { number < 100 }
+    ensures { result ≡ digits_of number }
+{
+    (16 * (number / 10) + number % 10) as u8
+}
+
+// Writes all that stands before the parity.
+fn set_data(address: u32, user: &[u8; 2048], out: &mut [u8; 2352])
+    requires { address < 450000 }
+    ensures front { take 2076 out.new ≡ data_part address user.now }
+    ensures size { length out.new ≡ 2352 }
+{
+    put(out, 0, &SYNC);
+    put(out, 12, &header(address));
+    put(out, 15, &[1]);
+    put(out, 16, user);
+    let check = cd_edc(&out[..2064]);
+    put(out, 2064, &check);
+    put(out, 2068, &[0; 8]);
+}
+
+// Writes a part behind what stands before it.
+fn put(out: &mut [u8], at: usize, part: &[u8])
+    requires { at + length part.now ≤ length out.old }
+    ensures { take (at + length part.now) out.new ≡ take at out.old ++ part.now }
+{
+    out[at..at + part.len()].copy_from_slice(part);
+}
+
+fn set_p_words(sector: &mut [u8; 2352])
+    ensures right { (word : ℕ) → word < 86 → IsRight sector.new word }
+    ensures kept { (at : ℕ) → at < 2076 → slice_index sector.new at ≡ slice_index sector.old at }
+    ensures size { length sector.new ≡ 2352 }
+{
+    let code = PWord::new();
+    for word in 0..P_WORDS {
+        encode_word(&code, word, sector);
+    }
+}
+
+fn set_q_words(sector: &mut [u8; 2352])
+    ensures right { (word : ℕ) → 86 ≤ word → word < 138 → IsRight sector.new word }
+    ensures kept { (at : ℕ) → at < 2248 → slice_index sector.new at ≡ slice_index sector.old at }
+    ensures size { length sector.new ≡ 2352 }
+{
+    let code = QWord::new();
+    for word in P_WORDS..WORDS {
+        encode_word(&code, word, sector);
+    }
+}
