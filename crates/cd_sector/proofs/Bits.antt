@@ -7,11 +7,13 @@ use Rattle.std.proofs.Math.Nat.{pow-suc}
 use Rattle.cd_sector.specs.Bits.{bits, number_of}
 use Rattle.cd_sector.specs.Edc.{plus_front}
 
+-- the lowest n bits of a number are n bits
 pub length-bits : (n number : ℕ) → length (bits n number) ≡ n
 unfolding bits
 length-bits zero number = refl
 length-bits (suc n) number = ap suc (length-bits n (number / 2))
 
+-- what is added to the front of a list leaves its length
 pub length-plus_front : (xs ys : List ℕ) → length (plus_front xs ys) ≡ length xs
 unfolding plus_front
 length-plus_front xs [] = refl
@@ -26,6 +28,7 @@ xor_half a b = xor_shr a b 1
 pub xor_lowest : (a b : ℕ) → bit_xor a b % 2 ≡ bit_xor (a % 2) (b % 2)
 xor_lowest a b = xor_mod a b 1
 
+-- the bits of two numbers add up to those of their sum
 pub plus_front-bits : (n a b : ℕ) → plus_front (bits n a) (bits n b) ≡ bits n (bit_xor a b)
 unfolding bits plus_front
 plus_front-bits zero a b = refl

@@ -18,9 +18,10 @@ pub distance-end : (xs ys : List ℕ) (i : ℕ) → length xs ≤ i → distance
 unfolding distance
 distance-end xs ys i all = ap (λ (l : List ℕ). distance l (drop i ys)) (drop_all i xs all)
 
--- what a place counts
+-- a place where the words differ counts one
 pub differ-counts : (x y : ℕ) → x ≢ y → ◌≡◌ {A = ℕ} (cond (eqb x y) 0 1) 1
 differ-counts x y differ = grind (arith, nat_tests)
 
+-- and one where they agree counts nothing
 pub same-counts : (x y : ℕ) → x ≡ y → ◌≡◌ {A = ℕ} (cond (eqb x y) 0 1) 0
 same-counts x y same = grind (arith, nat_tests)

@@ -5,6 +5,7 @@ use Rattle.std.proofs.lemmas.Bool.Decides.{nat_tests}
 use Rattle.gf_field.specs.Words.{cost}
 use Rattle.rs_code.specs.Distance.{distance}
 
+-- a place without a mark costs twice what it counts in the distance
 twice : (same : Bool) → ◌≡◌ {A = ℕ} (cond same 0 2) (2 * cond same 0 1)
 twice true = refl
 twice false = refl
@@ -19,11 +20,12 @@ cost_unmarked (suc n) (x ∷ word) [] word_size size = absurd (omega arith)
 cost_unmarked (suc n) (x ∷ word) (y ∷ received) word_size size =
     omega (arith, twice (eqb x y), cost_unmarked n word received (omega arith) (omega arith))
 
--- what one place costs
+-- a place without a mark costs nothing where the words agree
 share_none : (mark : Bool) (x y : ℕ) → mark ≡ false → x ≡ y → ◌≡◌ {A = ℕ} (cond mark 1 (cond (eqb x y) 0 2)) 0
 share_none true x y unmarked same = grind (arith, nat_tests)
 share_none false x y unmarked same = grind (arith, nat_tests)
 
+-- one place costs at most two
 share_few : (mark same : Bool) → cond mark 1 (cond same 0 2) ≤ 2
 share_few true same = omega arith
 share_few false true = omega arith

@@ -11,7 +11,7 @@ use Rattle.std.proofs.Math.Nat.{pow-suc}
 use Rattle.gf_field.specs.Words.{IsByte}
 use Rattle.cd_sector.specs.Bits.{bits, bits_of, number_of}
 use Rattle.cd_sector.specs.Edc.{divisor, plus_front, remainder, edc_of}
-use Rattle.cd_sector.specs.Register.{stepped, after_steps, after_bytes}
+use Rattle.cd_sector.specs.Inner.Register.{stepped, after_steps, after_bytes}
 use Rattle.cd_sector.proofs.Bits.{xor_half, xor_lowest, plus_front-bits, plus_front_twice, plus_front_halved, plus_front_none, plus_front-zeros, number_of-bits}
 use Rattle.cd_sector.proofs.Steps.{taken, stepped_is, added-lt, after_steps-lt, after_bytes-lt, met-lt}
 

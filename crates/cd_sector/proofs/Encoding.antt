@@ -12,6 +12,7 @@ pub right_word : (n word : ℕ) (sector bytes : List ℕ) → n ≡ word_size wo
 unfolding IsRight
 right_word n word sector bytes size is right = subst (λ (k : ℕ). IsCodeword k 2 (word_in sector word)) size (subst (IsCodeword n 2) is right)
 
+-- a word that is right in a sector is a codeword by itself
 pub word_right : (n word : ℕ) (sector bytes : List ℕ) → n ≡ word_size word → bytes ≡ word_in sector word → IsRight sector word → IsCodeword n 2 bytes
 unfolding IsRight
 word_right n word sector bytes size is right =

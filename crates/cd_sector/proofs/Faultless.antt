@@ -6,10 +6,12 @@ use Rattle.cd_sector.specs.Edc.{edc_of}
 use Rattle.cd_sector.specs.Causes.{IsFaultless}
 use Rattle.cd_sector.specs.Sector.{sync, header, covered, data_part, IsSector}
 
+-- an EDC has four bytes
 pub length-edc_of : (bytes : List ℕ) → length (edc_of bytes) ≡ 4
 unfolding edc_of
 length-edc_of bytes = refl
 
+-- the EDC covers sixteen bytes and the user data
 pub length-covered : (address : ℕ) (user : List ℕ) → length (covered address user) ≡ 16 + length user
 unfolding covered
 length-covered address user = omega arith
@@ -21,15 +23,17 @@ unfolding covered
 behind_sync address user rest size =
     ap (λ (l : List ℕ). sync ++ l) (take_at (header address ++ 0x01 ∷ user) rest 2052 (omega arith))
 
--- the fields of a list that begins with them
+-- a list that begins with the bytes that the EDC covers has mode 1
 mode_of : (address : ℕ) (user rest : List ℕ) → get_or (covered address user ++ rest) 15 0 ≡ 1
 unfolding covered
 mode_of address user rest = refl
 
+-- and the header of its address
 header_of : (address : ℕ) (user rest : List ℕ) → take 3 (drop 12 (covered address user ++ rest)) ≡ header address
 unfolding covered
 header_of address user rest = refl
 
+-- a sector that was made for an address has no fault at this address
 pub faultless : (address : ℕ) (user sector : List ℕ) → length user ≡ 2048 → IsSector address user sector → IsFaultless sector address
 unfolding data_part
 faultless address user sector size made =

@@ -54,16 +54,19 @@ by_p sector read at size behind before found =
     ∙ by_word (with_p_words read 86) sector word ((at - 12) / 86) inside same
     ∙ ap (λ (k : ℕ). get_or sector k 0) (p_place at behind)
 
+-- a Q word has 45 marks
 length-marks_of : (read : List ℕ) (word : ℕ) → length (marks_of read word) ≡ 45
 unfolding marks_of
 length-marks_of read word =
     omega (arith, length-map (range_with_len 0 45) (λ (m : ℕ). nat_lt m 43 && is_lost read ((place word m - 12) % 86)), length-range_with_len 0 45)
 
+-- a byte of a Q word is marked where it is in a P word that is lost
 get_or-marks_of : (read : List ℕ) (word m : ℕ) → m < 45 → get_or (marks_of read word) m false ≡ (nat_lt m 43 && is_lost read ((place word m - 12) % 86))
 unfolding marks_of
 get_or-marks_of read word m within =
     get_or-map-range_with_len (λ (k : ℕ). nat_lt k 43 && is_lost read ((place word k - 12) % 86)) 0 45 m m false within (zero-add m)
 
+-- a P word that was found isn't lost
 not_lost : (sector read : List ℕ) (word : ℕ) → IsFound sector read word → is_lost read word ≡ false
 unfolding is_lost
 not_lost sector read word found = ap is_none found.found

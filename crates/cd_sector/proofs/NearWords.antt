@@ -25,6 +25,7 @@ pub with_bytes-next : (sector : List ℕ) (word : ℕ) (bytes : List ℕ) (m : �
 unfolding with_bytes
 with_bytes-next sector word bytes m = ap (with_bytes sector word bytes) (sym (add-one m))
 
+-- no byte set leaves the sector as it was
 pub with_bytes-none : (sector : List ℕ) (word : ℕ) (bytes : List ℕ) → sector ≡ with_bytes sector word bytes 0
 unfolding with_bytes
 with_bytes-none sector word bytes = refl
@@ -38,6 +39,7 @@ with_bytes-other sector word bytes (suc m) at apart =
     get_or-set_other (with_bytes sector word bytes m) (place word m) at (get_or bytes m 0) 0 (apart m (omega arith))
     ∙ with_bytes-other sector word bytes m at (λ k below. apart k (omega arith))
 
+-- a word that was set leaves all places as they were where none of its bytes stand
 pub with_word-other : (sector : List ℕ) (word : ℕ) (found : Option (List ℕ)) (at : ℕ) → ((m : ℕ) → m < word_size word → at ≢ place word m)
     → get_or (with_word sector word found) at 0 ≡ get_or sector at 0
 unfolding with_word
@@ -67,16 +69,18 @@ unfolding near_word is_lost
 lost_then sector word below =
     ap (λ (l : List ℕ). is_none (near_of (word_size word) 2 l (replicate 26 false))) (later_p sector word word (omega arith) below)
 
--- one P word more, and one Q word more
+-- one P word more
 pub p_words-next : (sector : List ℕ) (n : ℕ)
     → with_word (with_p_words sector n) n (near_word (with_p_words sector n) n (replicate 26 false)) ≡ with_p_words sector (n + 1)
 unfolding with_p_words
 p_words-next sector n = ap (with_p_words sector) (sym (add-one n))
 
+-- no P word repaired yet
 pub p_words-none : (sector : List ℕ) → sector ≡ with_p_words sector 0
 unfolding with_p_words
 p_words-none sector = refl
 
+-- one Q word more
 pub q_words-next : (read sector : List ℕ) (word : ℕ) → 86 ≤ word
     → with_word (with_q_words read sector (word - 86)) word (near_word (with_q_words read sector (word - 86)) word (marks_of read word)) ≡ with_q_words read sector (word + 1 - 86)
 unfolding with_q_words
@@ -87,10 +91,12 @@ q_words-next read sector word above =
     let before : List ℕ = with_q_words read sector n in
     ap (λ (w : ℕ). with_word before w (near_word before w (marks_of read w))) (sym here) ∙ ap (with_q_words read sector) (sym more)
 
+-- no Q word repaired yet
 pub q_words-none : (read sector : List ℕ) → sector ≡ with_q_words read sector 0
 unfolding with_q_words
 q_words-none read sector = refl
 
+-- a word has at most 255 bytes
 short : (word : ℕ) → word_size word ≤ 255
 unfolding word_size
 short word = grind (arith, nat_tests)
@@ -103,6 +109,7 @@ near_found n word sector bytes found marks size is near =
     ap₂ (λ (k : ℕ) (l : List ℕ). near_of k 2 l marks) (sym size) (sym is)
     ∙ near_of-some n 2 bytes found marks (omega (arith, short word)) near
 
+-- where the decoder shows that no codeword is near, there is none to be found
 pub near_none : (n word : ℕ) (sector bytes : List ℕ) (marks : List Bool) → n ≡ word_size word → bytes ≡ word_in sector word
     → length marks ≡ n → HasNoneNear n 2 bytes marks → near_word sector word marks ≡ None
 unfolding near_word
@@ -110,10 +117,11 @@ near_none n word sector bytes marks size is marks_size nothing =
     ap₂ (λ (k : ℕ) (l : List ℕ). near_of k 2 l marks) (sym size) (sym is)
     ∙ none-near_of n 2 bytes marks (ap length is ∙ length-word_in sector word ∙ sym size) marks_size nothing
 
--- the marks of a Q word
+-- on the diagonal a byte of a Q word is marked where its P word is lost
 pub marked : (m : ℕ) (lost : Bool) → m < 43 → (nat_lt m 43 && lost) ≡ lost
 marked m lost below = grind (arith, nat_tests)
 
+-- the last two bytes of a Q word have no mark
 pub unmarked : (m : ℕ) (lost : Bool) → 43 ≤ m → (nat_lt m 43 && lost) ≡ false
 unmarked m lost above = grind (arith, nat_tests)
 

@@ -40,12 +40,13 @@ same_data : (address : ℕ) (user a b : List ℕ) → IsSector address user a �
 same_data address user a b is_a is_b at before =
     sym (get_or-take 2076 a at 0 before) ∙ ap (λ (l : List ℕ). get_or l at 0) (is_a.begins ∙ sym is_b.begins) ∙ get_or-take 2076 b at 0 before
 
--- P words, and with them all that stands before the Q parity
+-- two sectors of one address and user data have the same P words
 same_p : (address : ℕ) (user a b : List ℕ) → IsSector address user a → IsSector address user b → (word : ℕ) → word < 86 → word_in a word ≡ word_in b word
 same_p address user a b is_a is_b word below =
     same_encoded 26 word a b (sym (word_size-p word below)) (omega arith) (omega arith) (is_a.words word (omega arith)) (is_b.words word (omega arith))
     (λ m within. same_data address user a b is_a is_b (place word m) (omega (arith, place-p word m below)))
 
+-- and with them the same bytes up to the Q parity
 same_covered : (address : ℕ) (user a b : List ℕ) → IsSector address user a → IsSector address user b → (at : ℕ) → 12 ≤ at → at < 2248
     → get_or a at 0 ≡ get_or b at 0
 same_covered address user a b is_a is_b at behind before =
@@ -55,7 +56,7 @@ same_covered address user a b is_a is_b at behind before =
     subst (λ (k : ℕ). get_or a k 0 ≡ get_or b k 0) (p_place at behind)
     (by_word a b word ((at - 12) / 86) inside (same_p address user a b is_a is_b word below))
 
--- Q words
+-- and the same Q words
 same_q : (address : ℕ) (user a b : List ℕ) → IsSector address user a → IsSector address user b → (word : ℕ) → 86 ≤ word → word < 138 → word_in a word ≡ word_in b word
 same_q address user a b is_a is_b word above below =
     let size : word_size word ≡ 45 = word_size-q word above in
@@ -63,6 +64,7 @@ same_q address user a b is_a is_b word above below =
     (λ m within. same_covered address user a b is_a is_b (place word m)
     ((place-inside word m below (omega (arith, size))).0) (covered-q word m above (omega arith)))
 
+-- an address and user data have one sector at most
 pub one_sector : (address : ℕ) (user a b : List ℕ) → IsSector address user a → IsSector address user b → a ≡ b
 one_sector address user a b is_a is_b = same_number_lists a b (is_a.size ∙ sym is_b.size) (λ at inside. either at (omega (arith, is_a.size)) (cases_lt at 12))
   where
@@ -70,6 +72,7 @@ one_sector address user a b is_a is_b = same_number_lists a b (is_a.size ∙ sym
     either at inside (inl front) = same_data address user a b is_a is_b at (omega arith)
     either at inside (inr behind) = all_bytes a b (same_q address user a b is_a is_b) at behind inside
 
+-- a sector without fault has no cause
 pub no_cause : (sector : List ℕ) (address : ℕ) (cause : CdCause) → IsFaultless sector address → IsCause sector address cause → ⊥
 no_cause sector address (Parity word) right cause = cause.1 (right.words word cause.0)
 no_cause sector address (Mode byte) right cause = cause.2 (sym cause.1 ∙ right.mode)

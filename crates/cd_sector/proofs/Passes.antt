@@ -10,12 +10,14 @@ use Rattle.cd_sector.proofs.Places.{whole_word, place-p, word_size-p}
 use Rattle.cd_sector.proofs.NearWords.{with_word-other, same_word, later_p}
 use Rattle.cd_sector.proofs.Spread.{apart-p, apart-qq, distinct, place-inside}
 
+-- bytes that are set leave the sector's length
 length-with_bytes : (sector : List ℕ) (word : ℕ) (bytes : List ℕ) (count : ℕ) → length (with_bytes sector word bytes count) ≡ length sector
 unfolding with_bytes
 length-with_bytes sector word bytes zero = refl
 length-with_bytes sector word bytes (suc m) =
     length-set (with_bytes sector word bytes m) (place word m) (get_or bytes m 0) ∙ length-with_bytes sector word bytes m
 
+-- a word that is set leaves the sector's length
 length-with_word : (sector : List ℕ) (word : ℕ) (found : Option (List ℕ)) → length (with_word sector word found) ≡ length sector
 unfolding with_word
 length-with_word sector word None = refl
@@ -54,7 +56,7 @@ written_word sector word bytes size below bytes_size =
     sym (whole_word (with_bytes sector word bytes (word_size word)) word bytes bytes_size
     (λ m within. sym (with_bytes-own sector word bytes (word_size word) m size below (omega arith) (omega arith))))
 
--- P words
+-- the P words repaired leave the sector's length
 pub length-with_p_words : (read : List ℕ) (n : ℕ) → length (with_p_words read n) ≡ length read
 unfolding with_p_words
 length-with_p_words read zero = refl
@@ -100,7 +102,7 @@ p_found read bytes (suc n) word size within inside bytes_size found =
         ∙ ap (λ (o : Option (List ℕ)). word_in (with_word before word o) word) here
         ∙ written_word before word bytes (length-with_p_words read n ∙ size) (omega arith) bytes_size
 
--- Q words
+-- the Q words repaired leave the sector's length
 pub length-with_q_words : (read sector : List ℕ) (n : ℕ) → length (with_q_words read sector n) ≡ length sector
 unfolding with_q_words
 length-with_q_words read sector zero = refl

@@ -8,14 +8,17 @@ use Rattle.std.proofs.lemmas.Grind.{same_number_lists}
 use Rattle.gf_field.specs.Words.{IsCodeword}
 use Rattle.cd_sector.specs.Words.{place, word_size, word_in, IsRight}
 
+-- a P word has 26 bytes
 pub word_size-p : (word : ℕ) → word < 86 → word_size word ≡ 26
 unfolding word_size
 word_size-p word below = grind (arith, nat_tests)
 
+-- a Q word has 45 bytes
 pub word_size-q : (word : ℕ) → 86 ≤ word → word_size word ≡ 45
 unfolding word_size
 word_size-q word above = grind (arith, nat_tests)
 
+-- the bytes of a P word, every 86th from its own number on
 pub place-p : (word m : ℕ) → word < 86 → place word m ≡ 12 + 86 * m + word
 unfolding place
 place-p word m below = grind (arith, nat_tests)
@@ -30,10 +33,12 @@ pub place-own : (word m : ℕ) → 86 ≤ word → 43 ≤ m → place word m ≡
 unfolding place
 place-own word m above own = grind (arith, nat_tests)
 
+-- a word of a sector has its own size
 pub length-word_in : (sector : List ℕ) (word : ℕ) → length (word_in sector word) ≡ word_size word
 unfolding word_in
 length-word_in sector word = omega (arith, length-map (range_with_len 0 (word_size word)) (λ (m : ℕ). get_or sector (place word m) 0), length-range_with_len 0 (word_size word))
 
+-- byte m of a word is the sector's byte at the word's m-th place
 pub get_or-word_in : (sector : List ℕ) (word m : ℕ) → m < word_size word → get_or (word_in sector word) m 0 ≡ get_or sector (place word m) 0
 unfolding word_in
 get_or-word_in sector word m below =

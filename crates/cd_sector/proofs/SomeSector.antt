@@ -31,11 +31,13 @@ pub record IsOneMore (word : ℕ) (old sector : List ℕ) : Type 0 where
   pub kept : (at : ℕ) → at ≢ place word (word_size word - 2) → at ≢ place word (word_size word - 1) → get_or sector at 0 ≡ get_or old at 0
   pub right : IsRight sector word
 
+-- a word of a sector of bytes is one of bytes
 bytes-word_in : (sector : List ℕ) (word : ℕ) → word < 138 → length sector ≡ 2352 → All IsByte sector → All IsByte (word_in sector word)
 bytes-word_in sector word below size bytes = All-from_get_or IsByte (word_in sector word) 0
     (λ m inside. let within : m < word_size word = omega (arith, length-word_in sector word) in
     subst IsByte (sym (get_or-word_in sector word m within)) (bytes (place word m) 0 (omega (arith, size, (place-inside word m below within).1))))
 
+-- each word of at least three bytes can be encoded where it stands
 one_more : (word : ℕ) (old : List ℕ) → word < 138 → 2 < word_size word → length old ≡ 2352 → All IsByte old → (sector : List ℕ) × IsOneMore word old sector
 one_more word old below some size bytes = (
   new,
@@ -81,7 +83,7 @@ one_more word old below some size bytes = (
     new : List ℕ
     new = set (set old p x) q y
 
--- P words, and Q words
+-- the first P words can be encoded, and nothing changes before their parity
 p_encoded : (old : List ℕ) (count : ℕ) → count ≤ 86 → length old ≡ 2352 → All IsByte old → (sector : List ℕ) × IsEncodedTo 0 count 2076 old sector
 p_encoded old zero within size bytes = (old, record { size = size; bytes = bytes; kept = λ at _. refl; right = λ word _ below. absurd (omega arith) })
 p_encoded old (suc n) within size bytes = next (p_encoded old n (omega arith) size bytes)
@@ -114,6 +116,7 @@ p_encoded old (suc n) within size bytes = next (p_encoded old n (omega arith) si
                 (is.right word (omega arith) (omega arith))
             each word below (inr here) = let same : n ≡ word = omega arith in subst (IsRight now) same one.right
 
+-- the first Q words can be encoded, and nothing changes before their parity
 q_encoded : (old : List ℕ) (count : ℕ) → count ≤ 52 → length old ≡ 2352 → All IsByte old → (sector : List ℕ) × IsEncodedTo 86 count 2248 old sector
 q_encoded old zero within size bytes = (old, record { size = size; bytes = bytes; kept = λ at _. refl; right = λ word above below. absurd (omega arith) })
 q_encoded old (suc k) within size bytes = next (q_encoded old k (omega arith) size bytes)
@@ -150,23 +153,27 @@ q_encoded old (suc k) within size bytes = next (q_encoded old k (omega arith) si
                 (is.right word above (omega arith))
             each word above below (inr here) = let same : n ≡ word = omega arith in subst (IsRight now) same one.right
 
--- the bytes of the data part are bytes
+-- a list of four bytes is one of bytes
 four_bytes : (a b c d : ℕ) → a < 256 → b < 256 → c < 256 → d < 256 → All IsByte (a ∷ b ∷ c ∷ d ∷ [])
 four_bytes a b c d a_byte b_byte c_byte d_byte =
     All-cons IsByte a (b ∷ c ∷ d ∷ []) a_byte (All-cons IsByte b (c ∷ d ∷ []) b_byte (All-cons IsByte c (d ∷ []) c_byte (All-cons IsByte d [] d_byte (All-nil IsByte))))
 
+-- the bytes of a word of 32 bits are bytes
 bytes-word : (word : ℕ) → All IsByte (to_le_bytes w32 word)
 bytes-word word = four_bytes (word % 256) (word / 256 % 256) (word / 65536 % 256) (word / 16777216 % 256) (omega arith) (omega arith) (omega arith) (omega arith)
 
+-- an EDC is of bytes
 bytes-edc_of : (bytes : List ℕ) → All IsByte (edc_of bytes)
 unfolding edc_of
 bytes-edc_of bytes = bytes-word (number_of (remainder (8 * length bytes) (bits_of bytes ++ replicate 32 0)))
 
+-- the sync is of bytes
 bytes-sync : All IsByte sync
 bytes-sync =
     All-append IsByte (0 ∷ []) (replicate 10 0xFF ++ 0 ∷ []) (All-replicate IsByte 1 0 (omega arith))
     (All-append IsByte (replicate 10 0xFF) (0 ∷ []) (All-replicate IsByte 10 0xFF (omega arith)) (All-replicate IsByte 1 0 (omega arith)))
 
+-- what the EDC covers is of bytes
 bytes-covered : (address : ℕ) (user : List ℕ) → address < 450000 → All IsByte user → All IsByte (covered address user)
 unfolding covered
 bytes-covered address user below bytes =
@@ -174,6 +181,7 @@ bytes-covered address user below bytes =
     (All-append IsByte (header address ++ 0x01 ∷ []) user
     (four_bytes (digits (address / 4500)) (digits (address / 75 % 60)) (digits (address % 75)) 0x01 (omega arith) (omega arith) (omega arith) (omega arith)) bytes)
 
+-- each address and user data have a sector
 pub some_sector : (address : ℕ) (user : List ℕ) → address < 450000 → length user ≡ 2048 → All IsByte user → (sector : List ℕ) × IsSector address user sector
 unfolding data_part
 some_sector address user below size bytes = (

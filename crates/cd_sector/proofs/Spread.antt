@@ -87,6 +87,7 @@ p_place at behind = omega (arith, place-p ((at - 12) % 86) ((at - 12) / 86) (ome
 unfoldable pub q_word : ℕ → ℕ
 q_word at = 86 + 2 * (((at - 12) / 86 + 52 - (at - 12) / 2 % 43) % 26) + at % 2
 
+-- a byte before the Q parity stands at this place of this Q word
 pub q_place : (at : ℕ) → 12 ≤ at → at < 2248 → place (q_word at) ((at - 12) / 2 % 43) ≡ at
 unfolding q_word
 q_place at behind before =
@@ -100,6 +101,7 @@ q_place at behind before =
     let whole : (88 * m + 86 * n) % 2236 ≡ (at - 12) - at % 2 = omega arith in
     omega (arith, there, half, low, whole)
 
+-- a byte's Q word is one of the 52
 pub q_word-within : (at : ℕ) → (86 ≤ q_word at) × (q_word at < 138)
 unfolding q_word
 q_word-within at = (omega arith, omega arith)

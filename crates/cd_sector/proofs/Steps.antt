@@ -8,13 +8,14 @@ use Rattle.std.proofs.lemmas.Nat.{xor_lt, xor_shr, xor_mod, xor_block}
 use Rattle.std.proofs.lemmas.Nat.Bits.{same_from_bits, bit_at_xor}
 use Rattle.std.proofs.lemmas.List.Elements.{All-tail}
 use Rattle.gf_field.specs.Words.{IsByte}
-use Rattle.cd_sector.specs.Register.{stepped, after_steps, after_bytes}
+use Rattle.cd_sector.specs.Inner.Register.{stepped, after_steps, after_bytes}
 use Rattle.cd_sector.proofs.Bits.{xor_half, xor_lowest}
 
 -- what a step adds for the bit that leaves
 unfoldable pub taken : ℕ → ℕ
 taken bit = cond (eqb bit 1) 0xD8018001 0
 
+-- what a step adds for a sum of two bits is the sum of both
 taken_sum : (a b : ℕ) → a < 2 → b < 2 → taken (bit_xor a b) ≡ bit_xor (taken a) (taken b)
 unfolding taken
 taken_sum zero zero bit_a bit_b = refl
@@ -25,6 +26,7 @@ taken_sum (suc (suc a)) b bit_a bit_b = absurd (omega arith)
 taken_sum zero (suc (suc b)) bit_a bit_b = absurd (omega arith)
 taken_sum (suc zero) (suc (suc b)) bit_a bit_b = absurd (omega arith)
 
+-- a step halves the register and adds something for the bit that leaves
 pub stepped_is : (register : ℕ) → stepped register ≡ bit_xor (register / 2) (taken (register % 2))
 unfolding stepped taken
 stepped_is register = refl
@@ -33,6 +35,7 @@ stepped_is register = refl
 pub xor_swap : (a b c d : ℕ) → bit_xor (bit_xor a b) (bit_xor c d) ≡ bit_xor (bit_xor a c) (bit_xor b d)
 xor_swap a b c d = same_from_bits _ _ (λ i. simp bit_at_xor (omega arith))
 
+-- a step takes a sum to the sum of the steps
 pub stepped_sum : (a b : ℕ) → stepped (bit_xor a b) ≡ bit_xor (stepped a) (stepped b)
 stepped_sum a b =
     stepped_is (bit_xor a b)
@@ -40,11 +43,13 @@ stepped_sum a b =
     ∙ xor_swap (a / 2) (b / 2) (taken (a % 2)) (taken (b % 2))
     ∙ ap₂ bit_xor (sym (stepped_is a)) (sym (stepped_is b))
 
+-- so do n steps
 after_steps_sum : (n a b : ℕ) → after_steps n (bit_xor a b) ≡ bit_xor (after_steps n a) (after_steps n b)
 unfolding after_steps
 after_steps_sum zero a b = refl
 after_steps_sum (suc n) a b = ap (after_steps n) (stepped_sum a b) ∙ after_steps_sum n (stepped a) (stepped b)
 
+-- a step where a zero leaves is a shift alone
 stepped_even : (a : ℕ) → stepped (2 * a) ≡ a
 unfolding taken
 stepped_even a =
@@ -104,9 +109,11 @@ added-lt register bit fits = xor_lt 32 (register / 2) (taken bit) (omega arith) 
     taken-lt true = omega arith
     taken-lt false = omega arith
 
+-- a step leaves 32 bits
 stepped-lt : (register : ℕ) → register < 2 ^ 32 → stepped register < 2 ^ 32
 stepped-lt register fits = subst (λ (n : ℕ). n < 2 ^ 32) (sym (stepped_is register)) (added-lt register (register % 2) fits)
 
+-- so do n steps
 pub after_steps-lt : (n register : ℕ) → register < 2 ^ 32 → after_steps n register < 2 ^ 32
 unfolding after_steps
 after_steps-lt zero register fits = fits
@@ -116,6 +123,7 @@ after_steps-lt (suc n) register fits = after_steps-lt n (stepped register) (step
 pub met-lt : (register byte : ℕ) → register < 2 ^ 32 → byte < 256 → bit_xor register byte < 2 ^ 32
 met-lt register byte fits is_byte = xor_lt 32 register byte fits (omega arith)
 
+-- and so do the bytes of a list
 pub after_bytes-lt : (bytes : List ℕ) (register : ℕ) → register < 2 ^ 32 → All IsByte bytes → after_bytes bytes register < 2 ^ 32
 unfolding after_bytes
 after_bytes-lt [] register fits each = fits

@@ -2,8 +2,8 @@ pub mod Bits
 pub mod Causes
 pub mod Edc
 pub mod Examples
+pub mod Inner
 pub mod Laws
-pub mod Register
 pub mod Repair
 pub mod Sector
 pub mod Words

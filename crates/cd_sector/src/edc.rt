@@ -1,7 +1,7 @@
 //! The code of a sector that detects errors, the EDC (ECMA-130, 14.3).
 ghost use Rattle.std.specs.Prelude.{◌≡◌, ◌++◌, bit_xor};
 ghost use Rattle.cd_sector.specs.Edc.{edc_of};
-ghost use Rattle.cd_sector.specs.Register.{after_bytes, after_steps};
+ghost use Rattle.cd_sector.specs.Inner.Register.{after_bytes, after_steps};
 
 use crate::table::remainder_of;
 

@@ -1,7 +1,7 @@
 //! Division for the EDC (ECMA-130, 14.3), a byte at once.
 ghost use Rattle.std.specs.Prelude.{◌≡◌, map};
 ghost use Rattle.std.specs.List.{range_with_len};
-ghost use Rattle.cd_sector.specs.Register.{after_steps};
+ghost use Rattle.cd_sector.specs.Inner.Register.{after_steps};
 
 /// What eight steps of the division leave of each byte in a register of zeros.
 static REMAINDERS: [u32; 256] = [

@@ -1,14 +1,16 @@
--- Columns of a block.
+-- Columns of a block: their length and bytes, and words that agree with one place by place or are encoded in it.
 use Rattle.std.proofs.Common.{◌≡◌, ℕ, ◌<◌, ◌≤◌, List, [], ◌++◌, length, get_or, take, drop, sym, ◌∙◌, ap, subst, arith}
 use Rattle.std.proofs.lemmas.List.{get_or-map, get_or-take, length-map, length-take, take_all, take_at, take-append-drop}
 use Rattle.std.proofs.lemmas.Grind.{same_number_lists}
 use Rattle.gf_field.specs.Words.{IsCodeword, IsEncoded}
 use Rattle.dvd_block.specs.Product.{place, column}
 
+-- a column has a byte of each row
 pub length-column : (block : List (List ℕ)) (j : ℕ) → length (column block j) ≡ length block
 unfolding column
 length-column block j = length-map block (λ (row : List ℕ). get_or row j 0)
 
+-- byte i of a column stands in row i
 pub get_or-column : (block : List (List ℕ)) (j i : ℕ) → i < length block → get_or (column block j) i 0 ≡ place block i j
 unfolding column
 get_or-column block j i below = get_or-map (λ (row : List ℕ). get_or row j 0) block i [] 0 below

@@ -9,7 +9,7 @@ use Rattle.gf_field.specs.Field.{alpha, plus, product, power}
 use Rattle.gf_field.specs.Words.{IsByte, IsCodeword, value}
 use Rattle.gf_field.proofs.FieldLaws.{product-byte, product-comm, product-zero}
 use Rattle.rs_code.specs.Distance.{weight}
-use Rattle.rs_code.specs.Polynomials.{sum_of, scaled}
+use Rattle.rs_code.specs.Inner.Polynomials.{sum_of, scaled}
 use Rattle.rs_code.proofs.Distance.{IsCodeword-light, IsCodeword-sum_of}
 use Rattle.rs_code.proofs.Values.{value-nil, value-cons, value-scaled, value-zeros, length-scaled}
 use Rattle.dvd_block.specs.Product.{line, column}
@@ -22,6 +22,7 @@ IsCodeword-zeros n r = record {
   vanishes = λ k below. value-zeros n (power alpha k);
 }
 
+-- a multiple of a word is one of bytes
 scaled_bytes : (factor : ℕ) (word : List ℕ) → All IsByte (scaled factor word)
 unfolding scaled
 scaled_bytes factor [] = All-nil IsByte
@@ -40,18 +41,22 @@ IsWide : ℕ → List (List ℕ) → Type 0
 IsWide width [] = Unit {0}
 IsWide width (row ∷ block) = (length row ≡ width) × IsWide width block
 
+-- the values of all rows at one point
 values : ℕ → List (List ℕ) → List ℕ
 values x block = map (λ row. value row x) block
 
+-- the rows without their first bytes
 tails : List (List ℕ) → List (List ℕ)
 tails block = map (λ row. drop 1 row) block
 
+-- rows without their first bytes are one byte less wide
 IsWide-tails : (width : ℕ) (block : List (List ℕ)) → IsWide (suc width) block → IsWide width (tails block)
 unfolding IsWide tails
 IsWide-tails width [] wide = tt
 IsWide-tails width ([] ∷ block) wide = absurd (omega (arith, wide.0))
 IsWide-tails width ((byte ∷ row) ∷ block) wide = (omega (arith, wide.0), IsWide-tails width block wide.1)
 
+-- a column of what is left is the next one of the rows
 column-tails : (block : List (List ℕ)) (j : ℕ) → column (tails block) j ≡ column block (suc j)
 unfolding column tails
 column-tails [] j = refl
@@ -70,6 +75,7 @@ values-split width x ((byte ∷ row) ∷ block) wide =
     ∙ ap (λ (p : ℕ). plus p (value row x)) (ap (λ (n : ℕ). product byte (power x n)) size ∙ product-comm byte (power x width)))
     ∙ ap (λ (l : List ℕ). plus (product (power x width) byte) (value row x) ∷ l) (values-split width x block wide.1)
 
+-- rows without bytes have the value 0
 values-none : (x : ℕ) (block : List (List ℕ)) → IsWide 0 block → values x block ≡ replicate (length block) 0
 unfolding IsWide values
 values-none x [] wide = refl
@@ -89,9 +95,11 @@ IsCodeword-values (suc width) n r x block height wide columns =
     (IsCodeword-values width n r x (tails block) (length-map block (λ (row : List ℕ). drop 1 row) ∙ height) (IsWide-tails width block wide)
     (λ j below. subst (IsCodeword n r) (sym (column-tails block j)) (columns (suc j) (omega arith)))))
 
+-- a first byte that is 0 adds nothing to the weight
 zero_weighs : (byte w : ℕ) → byte ≡ 0 → (if byte == 0 then 0 else 1) + w ≡ w
 zero_weighs byte w none = grind (arith, nat_tests)
 
+-- a first byte adds at most 1 to the weight
 weighs_one : (byte w l : ℕ) → w ≤ l → (if byte == 0 then 0 else 1) + w ≤ suc l
 weighs_one byte w l below = grind (arith, nat_tests)
 
@@ -109,11 +117,13 @@ weight_behind (suc n) (byte ∷ word) zeros =
     let none : (if byte == 0 then 0 else 1) + weight word ≡ weight word = zero_weighs byte (weight word) first in
     omega arith
 
+-- rows each of which has that width are of one width
 IsWide-all : (width : ℕ) (block : List (List ℕ)) → ((i : ℕ) → i < length block → length (line block i) ≡ width) → IsWide width block
 unfolding IsWide
 IsWide-all width [] each = tt
 IsWide-all width (row ∷ block) each = (each 0 (omega arith), IsWide-all width block (λ i below. each (suc i) (omega arith)))
 
+-- value i is the one of row i
 get_or-values : (x : ℕ) (block : List (List ℕ)) (i : ℕ) → i < length block → get_or (values x block) i 0 ≡ value (line block i) x
 unfolding values
 get_or-values x block i below = get_or-map (λ (row : List ℕ). value row x) block i [] 0 below

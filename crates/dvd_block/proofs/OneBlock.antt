@@ -56,6 +56,7 @@ same_column frames a b is_a is_b j within =
     encoded_once 208 16 (take 192 (column a j)) (column a j) (column b j) (omega arith) (omega arith)
     (record { codeword = is_a.product.columns j within; begins = refl }) (record { codeword = is_b.product.columns j within; begins = message })
 
+-- sixteen frames have one block at most
 pub one_block_at_most : (frames a b : List (List ℕ)) → IsBlockOf frames a → IsBlockOf frames b → a ≡ b
 one_block_at_most frames a b is_a is_b =
     ext_get_or [] a b (is_a.product.height ∙ sym is_b.product.height) (λ i below. same_row i (omega (arith, is_a.product.height)))
@@ -77,6 +78,7 @@ pub record Found (P : ℕ → List ℕ → Type 0) (n : ℕ) : Type 0 where
   pub size : length list ≡ n
   pub each : (i : ℕ) → i < n → P i (line list i)
 
+-- one element more is found
 found_more : (P : ℕ → List ℕ → Type 0) (n : ℕ) (before : Found P n) (last : List ℕ) → P n last → Found P (suc n)
 found_more P n before last holds = record {
   list = before.list ++ last ∷ [];
@@ -90,6 +92,7 @@ found_more P n before last holds = record {
   ];
 }
 
+-- where each element is there, the list of the first n is
 found : (P : ℕ → List ℕ → Type 0) (n : ℕ) → ((i : ℕ) → i < n → (xs : List ℕ) × P i xs) → Found P n
 found P zero some = record { list = []; size = refl; each = λ i below. absurd (omega arith) }
 found P (suc n) some =
@@ -101,6 +104,7 @@ pub record IsAcross (words : List (List ℕ)) (i : ℕ) (row : List ℕ) : Type 
   pub width : length row ≡ 182
   pub each : (j : ℕ) → j < 182 → get_or row j 0 ≡ get_or (line words j) i 0
 
+-- there is a row with byte i of each word
 across : (words : List (List ℕ)) (i : ℕ) → (row : List ℕ) × IsAcross words i row
 across words i = (
   map (λ (j : ℕ). get_or (line words j) i 0) (range_with_len 0 182),

@@ -7,14 +7,17 @@ use Rattle.std.proofs.lemmas.List.{append-nil}
 use Rattle.dvd_block.specs.Product.{line}
 use Rattle.dvd_block.specs.Recording.{row_at, recorded, recording}
 
+-- no rows are no bytes
 pub recorded-none : (m : ℕ) (block : List (List ℕ)) → recorded m 0 block ≡ []
 unfolding recorded
 recorded-none m block = refl
 
+-- the first of the rows, and those behind it
 recorded-first : (m n : ℕ) (block : List (List ℕ)) → recorded m (suc n) block ≡ line block (row_at m) ++ recorded (m + 1) n block
 unfolding recorded
 recorded-first m n block = refl
 
+-- n rows, and k rows behind them
 pub recorded-add : (m n k : ℕ) (block : List (List ℕ)) → recorded m (n + k) block ≡ recorded m n block ++ recorded (m + n) k block
 recorded-add m zero k block =
     let here : m + 0 ≡ m = omega arith in

@@ -50,9 +50,11 @@ pub record FrontsSet (frame : List ℕ) (was now : List (List ℕ)) : Type 0 whe
   pub size : length now ≡ 12
   pub each : (q : ℕ) → q < 12 → line now q ≡ take 172 (drop (172 * q) frame) ++ drop 172 (line was q)
 
+-- each front of a row is 172 bytes of the frame
 length-front : (frame : List ℕ) (q : ℕ) → length frame ≡ 2064 → q < 12 → length (take 172 (drop (172 * q) frame)) ≡ 172
 length-front frame q size below = length-take-le 172 (drop (172 * q) frame) (omega (arith, length-drop (172 * q) frame))
 
+-- the front of row q has the bytes of the frame from 172 q on
 pub front_set : (frame : List ℕ) (was now : List (List ℕ)) (q p : ℕ) → length frame ≡ 2064 → FrontsSet frame was now → q < 12 → p < 172
     → place now q p ≡ get_or frame (172 * q + p) 0
 front_set frame was now q p size fronts below within =
@@ -63,6 +65,7 @@ front_set frame was now q p size fronts below within =
     ∙ get_or-take 172 (drop (172 * q) frame) p 0 within
     ∙ get_or-drop (172 * q) frame p 0
 
+-- behind their fronts the rows are as they were
 pub behind_front : (frame : List ℕ) (was now : List (List ℕ)) (q j : ℕ) → length frame ≡ 2064 → FrontsSet frame was now → q < 12 → 172 ≤ j
     → place now q j ≡ place was q j
 behind_front frame was now q j size fronts below behind =

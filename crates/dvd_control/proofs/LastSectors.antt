@@ -20,6 +20,7 @@ use Rattle.dvd_control.specs.Laws.{data_blocks, ends_on, last_block}
 abbrev zone_test : ℕ → Zone → Bool
 zone_test layer zone = is_data zone.area && (zone.layer == layer)
 
+-- a block of a Data Zone of this layer
 abbrev block_test : ℕ → BlockPlan → Bool
 block_test layer entry = is_data entry.area && (entry.layer == layer)
 
@@ -29,6 +30,7 @@ blocks-pass : (layer : ℕ) (zone : Zone) (blocks : List ℕ) → zone_test laye
 blocks-pass layer zone [] passes = refl
 blocks-pass layer zone (b ∷ blocks) passes = rw passes (ap (λ rest. entry_of zone b ∷ rest) (blocks-pass layer zone blocks passes))
 
+-- a zone that doesn't pass has no block that does
 blocks-fail : (layer : ℕ) (zone : Zone) (blocks : List ℕ) → zone_test layer zone ≡ false
     → filter (block_test layer) (map (entry_of zone) blocks) ≡ []
 blocks-fail layer zone [] fails = refl
@@ -100,6 +102,7 @@ shape-told layout Opposite layer is lead_in =
     let begins : second_first layout ≡ 0xFD0000 - padded layout.sectors0 = ap (λ s. if is_opposite s then 0xFD0000 - padded layout.sectors0 else 0x30000) is in
     one-zone 1 (zones_by layout Opposite) (second_data layout) _ refl (omega arith) (omega arith)
 
+-- the lead-in of a layer tells the last sector of the last block of the Data Zone that it speaks of
 pub last-told : (layout : Layout) (layer : ℕ) → HasLeadIn layout.shape layer
     → option_map (λ entry. entry.first + 15) (last_block (data_blocks layout (ends_on layout.shape layer))) ≡ Some (fields_for layout layer).last
 unfolding plan_of fields_for

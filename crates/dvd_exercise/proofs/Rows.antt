@@ -16,11 +16,12 @@ row_of-new start n t below before same = omega arith
 pub place-new : (first n t : ℕ) → n < 6 → t < n → (first + 31 * t) % 182 ≢ (first + 31 * n) % 182
 place-new first n t below before same = omega arith
 
--- a combined row has 182 bytes, each its own combination
+-- a combined row has 182 bytes
 pub length-combined : (y : ℕ) (row : List ℕ) → length (combined y row) ≡ 182
 unfolding combined
 length-combined y row = length-map-range_with_len (λ j. bit_xor (slice_index row j) (byte_at y j)) 0 182
 
+-- and each is its own combination
 pub get_or-combined : (y : ℕ) (row : List ℕ) (j : ℕ) → j < 182 → get_or (combined y row) j 0 ≡ bit_xor (slice_index row j) (byte_at y j)
 unfolding combined
 get_or-combined y row j below = get_or-map-range_with_len (λ j. bit_xor (slice_index row j) (byte_at y j)) 0 182 j j 0 below (zero-add j)

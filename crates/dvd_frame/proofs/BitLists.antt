@@ -9,6 +9,7 @@ use Rattle.std.proofs.lemmas.Nat.Bits.{bit_at_xor, bit_at-lt, bit_at-suc, bit_at
 use Rattle.dvd_frame.specs.Bits.{bits, number_of}
 use Rattle.dvd_frame.specs.Edc.{plus_front}
 
+-- the lowest n bits of a number are n bits
 pub length-bits : (n number : ℕ) → length (bits n number) ≡ n
 unfolding bits
 length-bits zero number = refl
@@ -20,6 +21,7 @@ xor_bits a b bit_a bit_b =
     let below : bit_xor a b < 2 = xor_lt 1 a b bit_a bit_b in
     omega (arith, bit_at_xor a b 0)
 
+-- the bits of two numbers add up to those of their sum
 pub plus_front-bits : (n a b : ℕ) → plus_front (bits n a) (bits n b) ≡ bits n (bit_xor a b)
 unfolding bits plus_front
 plus_front-bits zero a b = refl
@@ -45,6 +47,7 @@ bit_at-mod number j i =
     ∙ (let shape : j + 1 ≡ suc j = omega arith in
     ap (λ (k : ℕ). number / 2 ^ i % 2 ^ k % 2) (sym shape) ∙ mod-mod-pow (number / 2 ^ i) j 1)
 
+-- the lowest n bits don't know those above place k + n
 bits-mod_above : (k n number : ℕ) → bits n (number % 2 ^ (k + n)) ≡ bits n number
 unfolding bits
 bits-mod_above k zero number = refl
@@ -60,9 +63,11 @@ bits-mod n number =
     let shape : 0 + n ≡ n = omega arith in
     ap (λ (m : ℕ). bits n (number % 2 ^ m)) (sym shape) ∙ bits-mod_above 0 n number
 
+-- a start with one bit more behind it, times a power of two, part by part
 spread : (start bit power : ℕ) → (2 * start + bit) * power ≡ start * (2 * power) + bit * power
 spread start bit power = omega arith
 
+-- bits read behind a start: the start moves up by n places, and the number's rest stands behind it
 pub fold-bits : (n number start : ℕ) → fold (λ (a x : ℕ). 2 * a + x) start (bits n number) ≡ start * 2 ^ n + number % 2 ^ n
 unfolding bits
 fold-bits zero number start = omega arith
@@ -73,6 +78,7 @@ fold-bits (suc n) number start =
     let split : number % 2 ^ suc n ≡ bit_at number n * 2 ^ n + number % 2 ^ n = ap (λ (m : ℕ). number % 2 ^ m) (sym shape) ∙ mod-pow-add number 1 n in
     omega (arith, split, ap (λ (p : ℕ). start * p) power, spread start (bit_at number n) (2 ^ n)))
 
+-- the lowest n bits of a number stand for its rest modulo 2^n
 pub number_of-bits : (n number : ℕ) → number_of (bits n number) ≡ number % 2 ^ n
 number_of-bits n number = omega (arith, fold-bits n number 0)
 

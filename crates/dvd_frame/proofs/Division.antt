@@ -9,7 +9,7 @@ use Rattle.std.proofs.lemmas.Nat.{xor_comm}
 use Rattle.std.proofs.lemmas.Nat.Bits.{bit_at-zero}
 use Rattle.dvd_frame.specs.Bits.{bits, bits_of, number_of}
 use Rattle.dvd_frame.specs.Edc.{plus_front, remainder, divisor, edc_of}
-use Rattle.dvd_frame.specs.Registers.{divided_from, byte_remainder}
+use Rattle.dvd_frame.specs.Inner.Registers.{divided_from, byte_remainder}
 use Rattle.dvd_frame.specs.Id.{word_bytes}
 use Rattle.dvd_frame.proofs.BitLists.{length-bits, plus_front-bits, bits-mod, bits-split, number_of-bits}
 use Rattle.dvd_frame.proofs.Multiples.{IsBit, length-plus_front, zeros_plus, length-remainder, bits-bits, bits-remainder, bits-number_of}
@@ -142,16 +142,19 @@ bits-left n ys size each =
 unfoldable pub padded : ℕ → ℕ → List ℕ
 padded k byte = bits 8 byte ++ replicate (8 * k + 32) 0
 
+-- a byte, k bytes of zeros and 32 zeros are 8 (k + 1) + 32 bits
 pub length-padded : (k byte : ℕ) → length (padded k byte) ≡ 8 * (k + 1) + 32
 unfolding padded
 length-padded k byte =
     omega (arith, length-append (bits 8 byte) (replicate (8 * k + 32) 0), length-bits 8 byte, length-replicate {A = ℕ} (8 * k + 32) 0)
 
+-- a byte followed by zeros is a list of bits
 pub bits-padded : (k byte : ℕ) → All IsBit (padded k byte)
 unfolding padded
 bits-padded k byte =
     All-append IsBit (bits 8 byte) (replicate (8 * k + 32) 0) (bits-bits 8 byte) (All-replicate IsBit (8 * k + 32) 0 (omega arith))
 
+-- the bits of what a byte leaves are what the division of its padded bits leaves
 pub bits-byte_remainder : (k byte : ℕ) → bits 32 (byte_remainder k byte) ≡ remainder (8 * (k + 1)) (padded k byte)
 unfolding byte_remainder padded
 bits-byte_remainder k byte = bits-left (8 * (k + 1)) (padded k byte) (length-padded k byte) (bits-padded k byte)

@@ -15,6 +15,7 @@ use Rattle.gf_field.proofs.FieldLaws.{power-zero, power-one}
 use Rattle.rs_code.proofs.Codewords.{encodable, encoded_once}
 use Rattle.dvd_frame.specs.Id.{word_bytes, has_check, all_pairs, ied_of}
 
+-- where the first element passes it is the only one, and else the search goes on among the others
 first_found : {X : Type 0} (test : X → Bool) (x only : X) (xs : List X) (passes : Bool) → test x ≡ passes → (passes || list_any test xs) ≡ true
     → (test x ≡ true → x ≡ only) → (list_any test xs ≡ true → find test xs ≡ Some only) → cond passes (Some x) (find test xs) ≡ Some only
 first_found test x only xs true is some once rest = ap Some (once is)
@@ -33,16 +34,19 @@ All-flat_map P f [] each = All-nil P
 All-flat_map P f (x ∷ xs) each =
     All-append P (f x) (flat_map f xs) (each 0 x (omega arith)) (All-flat_map P f xs (All-tail (λ y. All P (f y)) x xs each))
 
+-- some element of all parts passes where some part has one that does
 list_any-flat_map : {X Y : Type 0} (test : Y → Bool) (f : X → List Y) (xs : List X) → list_any test (flat_map f xs) ≡ list_any (λ x. list_any test (f x)) xs
 list_any-flat_map test f [] = refl
 list_any-flat_map test f (x ∷ xs) =
     list_any-append test (f x) (flat_map f xs) ∙ ap (λ (rest : Bool). list_any test (f x) || rest) (list_any-flat_map test f xs)
 
+-- what holds of each number below n holds of each in their list
 All-range : (P : ℕ → Type 0) (n : ℕ) → ((k : ℕ) → k < n → P k) → All P (range_with_len 0 n)
 All-range P n each = λ k d within.
     let below : k < n = subst (λ m. k < m) (length-range_with_len 0 n) within in
     subst P (sym (get_or-range_with_len 0 n k d below ∙ zero-add k)) (each k below)
 
+-- a number below n that passes is one in their list
 list_any-range : (test : ℕ → Bool) (n k : ℕ) → k < n → test k ≡ true → list_any test (range_with_len 0 n) ≡ true
 list_any-range test n k below passes =
     list_any_at test (range_with_len 0 n) k 0 (rw length-range_with_len below)
@@ -52,6 +56,7 @@ list_any-range test n k below passes =
 pairs_below : ℕ → List (List ℕ)
 pairs_below n = flat_map (λ first. map (λ second. first ∷ second ∷ []) (range_with_len 0 n)) (range_with_len 0 n)
 
+-- what holds of each two numbers below n holds of each pair of them
 All-pairs_below : (P : List ℕ → Type 0) (n : ℕ) → ((first second : ℕ) → first < n → second < n → P (first ∷ second ∷ [])) → All P (pairs_below n)
 unfolding pairs_below
 All-pairs_below P n each =
@@ -60,6 +65,7 @@ All-pairs_below P n each =
     (λ first below. All-map P (λ second. first ∷ second ∷ []) (range_with_len 0 n)
     (All-range (λ second. P (first ∷ second ∷ [])) n (λ second. each first second below))))
 
+-- two numbers below n that pass are one of the pairs
 list_any-pairs_below : (test : List ℕ → Bool) (n first second : ℕ) → first < n → second < n → test (first ∷ second ∷ []) ≡ true
     → list_any test (pairs_below n) ≡ true
 unfolding pairs_below
@@ -69,6 +75,7 @@ list_any-pairs_below test n first second first_below second_below passes =
     (list_any_at test (map (λ b. first ∷ b ∷ []) (range_with_len 0 n)) second [] (rw length-map-range_with_len second_below)
     (ap test (get_or-map-range_with_len (λ b. first ∷ b ∷ []) 0 n second second [] second_below (zero-add second)) ∙ passes))
 
+-- the pairs that are searched are those of all bytes
 all_pairs_below : all_pairs ≡ pairs_below 256
 unfolding all_pairs pairs_below
 all_pairs_below = refl
@@ -89,12 +96,14 @@ codeword_checked six size bytes passes =
       vanishes = vanishing six (eqb-true (value six 1) 0 parts.0) (eqb-true (value six alpha) 0 parts.1);
     }
 
+-- a codeword of six bytes passes the test
 check_codeword : (six : List ℕ) → IsCodeword 6 2 six → has_check six ≡ true
 check_codeword six codeword =
     let at_one : value six 1 ≡ 0 = ap (value six) (sym (power-zero alpha)) ∙ codeword.vanishes 0 (omega arith) in
     let at_alpha : value six alpha ≡ 0 = ap (value six) (sym (power-one alpha (omega arith))) ∙ codeword.vanishes 1 (omega arith) in
     and_from (value six 1 == 0) (value six alpha == 0) (eq-eqb (value six 1) 0 at_one) (eq-eqb (value six alpha) 0 at_alpha)
 
+-- the four bytes of a word are bytes
 All-word_bytes : (word : ℕ) → All IsByte (word_bytes word)
 All-word_bytes word =
     let two : List ℕ = word / 256 % 256 ∷ word % 256 ∷ [] in
@@ -156,6 +165,7 @@ ied_encoded word six made =
     (ied_found word (get_or six 4 0) (get_or six 5 0) (codeword.bytes 4 0 (omega (arith, codeword.size))) (codeword.bytes 5 0 (omega (arith, codeword.size)))
     (subst (IsCodeword 6 2) parts codeword))
 
+-- the pair that is found has two bytes
 pub length-ied_of : (word : ℕ) → length (ied_of word) ≡ 2
 length-ied_of word =
     let made = encoded word in

@@ -7,10 +7,11 @@ use Rattle.std.proofs.lemmas.Nat.{be_bytes_8}
 use Rattle.std.proofs.lemmas.List.{get_or-drop, get_or-take, length-drop, length-take-le}
 use Rattle.std.proofs.lemmas.Grind.{same_number_lists}
 use Rattle.dvd_frame.specs.Edc.{plus_front}
-use Rattle.dvd_frame.specs.Registers.{keys_from}
+use Rattle.dvd_frame.specs.Inner.Registers.{keys_from}
 use Rattle.dvd_frame.specs.Scrambling.{scrambling_byte}
 use Rattle.dvd_frame.proofs.Recurrence.{terms, length-terms, get_or-terms, terms_sum, byte_fits, bytes_recur}
 
+-- n keys are n bytes
 length-keys : (preset k n : ℕ) → length (keys_from preset k n) ≡ n
 unfolding keys_from terms
 length-keys preset k n = length-terms (scrambling_byte preset) k n
@@ -51,6 +52,7 @@ keys_part preset k a within =
     get_or-take 8 (drop a all) i 0 (omega arith) ∙ get_or-drop a all i 0 ∙ get_or-terms f k 16 (a + i) (omega arith)
     ∙ ap f place ∙ sym (get_or-terms f (k + a) 8 i (omega arith)))
 
+-- a byte inside a sum of words is the sum of their bytes there
 byte_sum : (j a b p q : ℕ) → a / 2 ^ j % 2 ^ 8 ≡ p → b / 2 ^ j % 2 ^ 8 ≡ q → bit_xor a b / 2 ^ j % 2 ^ 8 ≡ bit_xor p q
 byte_sum j a b p q is_p is_q =
     ap (λ (x : ℕ). x % 2 ^ 8) (xor_shr a b j) ∙ xor_mod (a / 2 ^ j) (b / 2 ^ j) 8 ∙ ap₂ bit_xor is_p is_q

@@ -10,6 +10,7 @@ use Rattle.std.proofs.lemmas.Bool.Decides.{nat_tests}
 use Rattle.dvd_frame.specs.Scrambling.{mask, masked, scrambled_count, scrambling_byte, preset_of}
 use Rattle.dvd_frame.specs.declared.scrambling.Rule.{Rule}
 
+-- masked Main Data are as long as before
 pub length-masked : (word : ℕ) (rule : Rule) (main : List ℕ) → length (masked word rule main) ≡ length main
 unfolding masked
 length-masked word rule main = length-map-range_with_len (λ (k : ℕ). bit_xor (get_or main k 0) (mask word rule k)) 0 (length main)
@@ -21,10 +22,12 @@ unfolding masked
 get_or-masked word rule main i below =
     get_or-map-range_with_len (λ (k : ℕ). bit_xor (get_or main k 0) (mask word rule k)) 0 (length main) i i 0 below (zero-add i)
 
+-- a byte that is scrambled is combined with its scrambling byte
 mask_within : (word : ℕ) (rule : Rule) (k : ℕ) → k < scrambled_count rule → mask word rule k ≡ scrambling_byte (preset_of word) k
 unfolding mask
 mask_within word rule k within = grind (arith, nat_tests)
 
+-- a byte past those that are scrambled is combined with 0
 mask_past : (word : ℕ) (rule : Rule) (k : ℕ) → scrambled_count rule ≤ k → mask word rule k ≡ 0
 unfolding mask
 mask_past word rule k past = grind (arith, nat_tests)

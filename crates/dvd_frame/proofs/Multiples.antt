@@ -13,15 +13,18 @@ use Rattle.dvd_frame.specs.Edc.{plus_front, remainder, divisor, edc_of}
 use Rattle.dvd_frame.specs.Id.{word_bytes}
 use Rattle.dvd_frame.proofs.BitLists.{length-bits, bits_more, bits-mod, fold-bits}
 
+-- a bit is 0 or 1
 abbrev pub IsBit : ℕ → Type 0
 IsBit b = b < 2
 
+-- what is added to the front of a list leaves its length
 pub length-plus_front : (xs ys : List ℕ) → length (plus_front xs ys) ≡ length xs
 unfolding plus_front
 length-plus_front xs [] = refl
 length-plus_front [] (y ∷ ys) = refl
 length-plus_front (x ∷ xs) (y ∷ ys) = ap suc (length-plus_front xs ys)
 
+-- bits added to bits are bits
 pub bits-plus_front : (xs ys : List ℕ) → All IsBit xs → All IsBit ys → All IsBit (plus_front xs ys)
 unfolding plus_front
 bits-plus_front xs [] first second = first
@@ -46,6 +49,7 @@ unfolding plus_front
 plus_front_self [] = refl
 plus_front_self (x ∷ xs) = ap (λ (b : ℕ). b ∷ plus_front xs xs) (xor_self x) ∙ ap (λ (l : List ℕ). 0 ∷ l) (plus_front_self xs)
 
+-- a list added to zeros of its length is that list
 pub zeros_plus : (tail : List ℕ) → plus_front (replicate (length tail) 0) tail ≡ tail
 unfolding plus_front
 zeros_plus [] = refl
@@ -60,6 +64,7 @@ plus_behind (x ∷ xs) tail =
     ap (λ (b : ℕ). b ∷ plus_front (xs ++ replicate (length tail) 0) (replicate (length xs) 0 ++ tail)) (xor_zero_r x)
     ∙ ap (λ (l : List ℕ). x ∷ l) (plus_behind xs tail)
 
+-- each step of the division takes one bit away
 pub length-remainder : (n : ℕ) (ys : List ℕ) → n ≤ length ys → length (remainder n ys) + n ≡ length ys
 unfolding remainder
 length-remainder zero ys within = omega arith
@@ -72,11 +77,13 @@ length-remainder (suc n) (y ∷ ys) within = each (λ zs long. length-remainder 
       omega (arith, below (plus_front ys (bits 32 divisor)) (omega (arith, size)), size)
   each below false = omega (arith, below ys (omega arith))
 
+-- the bits of a number are bits
 pub bits-bits : (n number : ℕ) → All IsBit (bits n number)
 unfolding bits
 bits-bits zero number = All-nil IsBit
 bits-bits (suc n) number = All-cons IsBit (bit_at number n) (bits n number) (bit_at-lt number n) (bits-bits n number)
 
+-- the division of bits leaves bits
 pub bits-remainder : (n : ℕ) (ys : List ℕ) → All IsBit ys → All IsBit (remainder n ys)
 unfolding remainder
 bits-remainder zero ys each = each
@@ -119,21 +126,25 @@ bits-fold (b ∷ l) k start each =
     ∙ ap (λ (front : List ℕ). front ++ l) (bits_more k start b (each 0 b (omega arith)))
     ∙ append_assoc (bits k start) (b ∷ []) l
 
+-- bits are those of the number that they stand for, as many as there are
 pub bits-number_of : (l : List ℕ) (n : ℕ) → length l ≡ n → All IsBit l → bits n (number_of l) ≡ l
 unfolding bits
 bits-number_of l n size each =
     let none : 0 + length l ≡ n = omega arith in ap (λ (k : ℕ). bits k (number_of l)) (sym none) ∙ bits-fold l 0 0 each
 
+-- the bits of bytes are bits
 pub bits-bits_of : (bytes : List ℕ) → All IsBit (bits_of bytes)
 unfolding bits_of
 bits-bits_of [] = All-nil IsBit
 bits-bits_of (byte ∷ bytes) = All-append IsBit (bits 8 byte) (bits_of bytes) (bits-bits 8 byte) (bits-bits_of bytes)
 
+-- each byte has eight bits
 pub length-bits_of : (bytes : List ℕ) → length (bits_of bytes) ≡ 8 * length bytes
 unfolding bits_of
 length-bits_of [] = refl
 length-bits_of (byte ∷ bytes) = omega (arith, length-append (bits 8 byte) (bits_of bytes), length-bits 8 byte, length-bits_of bytes)
 
+-- the bits of joined lists of bytes are their bits, joined
 pub bits_of-append : (xs ys : List ℕ) → bits_of (xs ++ ys) ≡ bits_of xs ++ bits_of ys
 unfolding bits_of
 bits_of-append [] ys = refl
@@ -148,6 +159,7 @@ fold-bits_of byte bytes start =
     fold-append (λ (a x : ℕ). 2 * a + x) start (bits 8 byte) (bits_of bytes)
     ∙ ap (λ (from : ℕ). fold (λ (a x : ℕ). 2 * a + x) from (bits_of bytes)) (fold-bits 8 byte start)
 
+-- where no bytes follow, the number stays
 none_left : (number : ℕ) → fold (λ (a x : ℕ). 2 * a + x) number (bits_of []) ≡ number
 unfolding bits_of
 none_left number = refl

@@ -23,6 +23,7 @@ record IsLaidOut (word : ℕ) (cpr scrambled check frame : List ℕ) : Type 0 wh
   main : take 2048 (drop 12 frame) ≡ scrambled
   tail : drop 2060 frame ≡ check
 
+-- a head, 2,048 bytes and a check, one behind the other, stand at their places
 laid_out : (word : ℕ) (cpr scrambled check : List ℕ) → length cpr ≡ 6 → length scrambled ≡ 2048
     → IsLaidOut word cpr scrambled check (frame_head word cpr ++ scrambled ++ check)
 laid_out word cpr scrambled check cpr_size size =
@@ -61,6 +62,7 @@ no_cause word rule cpr main frame fits laid =
     (bytes_eq-Decides (drop 2060 frame) (edc_of (take 12 frame ++ main_in frame rule))).1 (laid.tail ∙ sym wanted) in
     (read, rw (right_ied, same, right_edc) refl)
 
+-- of a frame that was made the Main Data are read back, and no cause is found
 pub read_back : (word : ℕ) (rule : Rule) (cpr main : List ℕ) → word < 2 ^ 32 → length cpr ≡ 6 → length main ≡ 2048
     → (main_in (data_frame word cpr rule main) rule ≡ main) × (frame_cause (data_frame word cpr rule main) word rule ≡ None)
 read_back word rule cpr main fits cpr_size size =

@@ -70,6 +70,7 @@ recurs_doubled f a b recurs i =
     ∙ ap (bit_xor (bit_xor (f i) (f (i + b)))) (ap f between ∙ recurs (i + b))
     ∙ xor_middle (f i) (f (i + b)) (f (i + b + b)) ∙ ap (λ (k : ℕ). bit_xor (f i) (f k)) near
 
+-- so the standard's rule, doubled three times, holds of bits 120 and 32 places apart
 bits_recur_by_bytes : (preset : ℕ) → Recurs (bit_of preset) 120 32
 bits_recur_by_bytes preset =
     recurs_doubled (bit_of preset) 60 16 (recurs_doubled (bit_of preset) 30 8 (recurs_doubled (bit_of preset) 15 4 (bits_recur preset)))
@@ -78,10 +79,12 @@ bits_recur_by_bytes preset =
 unfoldable pub terms : (ℕ → ℕ) → ℕ → ℕ → List ℕ
 terms f j n = map f (range_with_len j n)
 
+-- n terms are n numbers
 pub length-terms : (f : ℕ → ℕ) (j n : ℕ) → length (terms f j n) ≡ n
 unfolding terms
 length-terms f j n = length-map-range_with_len f j n
 
+-- term i from place j on is the one at place j + i
 pub get_or-terms : (f : ℕ → ℕ) (j n i : ℕ) → i < n → get_or (terms f j n) i 0 ≡ f (j + i)
 unfolding terms
 get_or-terms f j n i below = get_or-map-range_with_len f j n i (j + i) 0 below refl
@@ -104,6 +107,7 @@ sequence_end preset m j n is =
     same_number_lists (drop j (sequence preset m)) (terms (bit_of preset) j n) (size ∙ sym (length-terms (bit_of preset) j n))
     (λ i below. get_or-drop j (sequence preset m) i 0 ∙ bit_anywhere preset m (j + i) (omega arith) ∙ sym (get_or-terms (bit_of preset) j n i (omega arith)))
 
+-- the sequence is one of bits
 bits-sequence : (preset n : ℕ) → All IsBit (sequence preset n)
 unfolding sequence
 bits-sequence preset zero = bits-bits 15 preset
@@ -124,10 +128,12 @@ byte_bits preset k =
     bits-number_of shown 8 size (All-drop IsBit (8 * k + 7) (sequence preset (8 * k)) (bits-sequence preset (8 * k)))
     ∙ sequence_end preset (8 * k) (8 * k + 7) 8 (omega arith)
 
+-- these eight bits stand for the scrambling byte
 byte_value : (preset k : ℕ) → number_of (terms (bit_of preset) (8 * k + 7) 8) ≡ scrambling_byte preset k
 unfolding scrambling_byte
 byte_value preset k = ap number_of (sym (sequence_end preset (8 * k) (8 * k + 7) 8 (omega arith)))
 
+-- a scrambling byte is a byte
 pub byte_fits : (preset k : ℕ) → scrambling_byte preset k < 256
 byte_fits preset k =
     omega (arith, sym (byte_value preset k) ∙ ap number_of (sym (byte_bits preset k)) ∙ number_of-bits 8 (scrambling_byte preset k))

@@ -4,10 +4,11 @@ use Rattle.std.specs.Prelude.{bit_xor}
 use Rattle.std.proofs.lemmas.List.{length_push, get_or-drop, drop-append-le, drop-drop, take_at}
 use Rattle.dvd_frame.specs.Bits.{bits, number_of}
 use Rattle.dvd_frame.specs.Edc.{plus_front}
-use Rattle.dvd_frame.specs.Registers.{window}
+use Rattle.dvd_frame.specs.Scrambling.{window}
 use Rattle.dvd_frame.specs.Scrambling.{sequence, scrambling_byte}
 use Rattle.dvd_frame.proofs.BitLists.{length-bits, bits-mod, bits-split, plus_front-bits, number_of-bits}
 
+-- the first 15 + n bits are as many
 pub length-sequence : (preset n : ℕ) → length (sequence preset n) ≡ 15 + n
 unfolding sequence
 length-sequence preset zero = length-bits 15 preset
@@ -37,11 +38,13 @@ moved shown = drop 1 shown ++ bit_xor (get_or shown 0 0) (get_or shown 4 0) ∷ 
 moved_by_byte : List ℕ → List ℕ
 moved_by_byte shown = moved (moved (moved (moved (moved (moved (moved (moved shown)))))))
 
+-- one term more moves the end of the sequence on by one bit
 sequence_moves : (preset n next : ℕ) → n + 1 ≡ next → drop next (sequence preset next) ≡ moved (drop n (sequence preset n))
 unfolding moved
 sequence_moves preset n next is =
     let same : next ≡ suc n = omega arith in ap (λ (m : ℕ). drop m (sequence preset m)) same ∙ sequence_step preset n
 
+-- the window at the next byte is the one at this byte, moved by eight bits
 window_moves : (preset k : ℕ) → window preset (k + 1) ≡ moved_by_byte (window preset k)
 unfolding window moved_by_byte
 window_moves preset k =

@@ -6,7 +6,7 @@ use Rattle.std.proofs.lemmas.List.{length-append, length-replicate, append_assoc
 use Rattle.std.proofs.lemmas.List.Elements.{All-append, All-replicate, All-tail}
 use Rattle.dvd_frame.specs.Bits.{bits, bits_of}
 use Rattle.dvd_frame.specs.Edc.{plus_front, remainder, divisor}
-use Rattle.dvd_frame.specs.Registers.{divided_from, byte_remainder}
+use Rattle.dvd_frame.specs.Inner.Registers.{divided_from, byte_remainder}
 use Rattle.dvd_frame.specs.Id.{word_bytes}
 use Rattle.dvd_frame.proofs.BitLists.{length-bits, plus_front-bits}
 use Rattle.dvd_frame.proofs.Division.{plus_front_twice, plus_front-append, plus_front_none, remainder_twice, front_divided, padded, length-padded, bits-padded, bits-byte_remainder}

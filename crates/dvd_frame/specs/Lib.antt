@@ -3,5 +3,5 @@ pub mod Edc
 pub mod Examples
 pub mod Frame
 pub mod Id
-pub mod Registers
+pub mod Inner
 pub mod Scrambling

@@ -36,3 +36,7 @@ mask word rule k = if nat_lt k (scrambled_count rule) then scrambling_byte (pres
 -- Main Data as they stand in a scrambled frame: byte k combined with mask k. Masked twice they are as they were.
 unfoldable pub masked : ℕ → Rule → List ℕ → List ℕ
 masked word rule main = map (λ k. bit_xor (slice_index main k) (mask word rule k)) (range_with_len 0 (length main))
+
+-- u(8k) to u(8k+14), the 15 bits that the register of a preset shows at byte k
+unfoldable pub window : ℕ → ℕ → List ℕ
+window preset k = drop (8 * k) (sequence preset (8 * k))

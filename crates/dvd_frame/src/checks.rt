@@ -5,7 +5,7 @@ ghost use Rattle.std.specs.List.{concat};
 ghost use Rattle.gf_field.specs.Words.{IsCodeword};
 ghost use Rattle.dvd_frame.specs.Edc.{edc_of};
 ghost use Rattle.dvd_frame.specs.Id.{word_bytes, ied_of};
-ghost use Rattle.dvd_frame.specs.Registers.{divided_from};
+ghost use Rattle.dvd_frame.specs.Inner.Registers.{divided_from};
 
 use crate::id::Id;
 use crate::remainders::{remainder_of, remainder_of_word};

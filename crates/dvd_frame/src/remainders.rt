@@ -3,7 +3,7 @@ ghost use Rattle.std.specs.Prelude.{◌≡◌, ℕ, ◌++◌, map, replicate};
 ghost use Rattle.std.specs.List.{range_with_len};
 ghost use Rattle.dvd_frame.specs.Bits.{bits, bits_of};
 ghost use Rattle.dvd_frame.specs.Edc.{remainder};
-ghost use Rattle.dvd_frame.specs.Registers.{byte_remainder};
+ghost use Rattle.dvd_frame.specs.Inner.Registers.{byte_remainder};
 
 /// What division by x^32 + x^31 + x^4 + 1 leaves of each byte: followed by 32 zeros, and by one, two and three bytes of zeros before these.
 static REMAINDERS: [[u32; 256]; 4] = [

@@ -2,7 +2,8 @@
 ghost use Rattle.std.specs.Prelude.{◌≡◌, ℕ, ◌+◌, ◌%◌, ◌^◌, ◌<◌, ◌≤◌, List, bit_xor, slice_index, length, take};
 ghost use Rattle.std.specs.Int.{to_be_bytes, w64};
 ghost use Rattle.dvd_frame.specs.Bits.{bits};
-ghost use Rattle.dvd_frame.specs.Registers.{keys_from, window};
+ghost use Rattle.dvd_frame.specs.Inner.Registers.{keys_from};
+ghost use Rattle.dvd_frame.specs.Scrambling.{window};
 ghost use Rattle.dvd_frame.specs.Scrambling.{presets, scrambled_count, scrambling_byte, masked};
 
 use crate::id::Id;

@@ -21,12 +21,13 @@ use Rattle.dvd_layout.specs.Place.{place_of, total_sectors}
 use Rattle.dvd_layout.specs.Plan.{entry_of, entries_of, is_data, plan_of, second_first, zone_table, zones_by}
 use Rattle.dvd_layout.proofs.Blocks.{length-entries_of}
 
--- the place of a sector by its layer
+-- a sector below those of layer 0 stands on that layer
 on_layer_0 : (layout : Layout) (sector number : ℕ) → sector < layout.sectors0 → number ≡ 0x30000 + sector → place_of layout sector ≡ (0, number)
 on_layer_0 layout sector number within is =
     let test : nat_lt sector layout.sectors0 ≡ true = grind (arith, nat_tests) in
     rw (is, test) refl
 
+-- any other stands on layer 1, as far behind its first as it is behind those of layer 0
 on_layer_1 : (layout : Layout) (sector number : ℕ) → layout.sectors0 ≤ sector → number ≡ second_first layout + (sector - layout.sectors0)
     → place_of layout sector ≡ (1, number)
 on_layer_1 layout sector number behind is =
@@ -40,9 +41,11 @@ IsAt layout Zero first count layer = Unit {0}
 IsAt layout Reference first count layer = Unit {0}
 IsAt layout Control first count layer = Unit {0}
 
+-- the image sectors of a zone stand at its sector numbers
 abbrev IsZoneAt : Layout → Zone → Type 0
 IsZoneAt layout zone = IsAt layout zone.content zone.first (16 * zone.blocks) zone.layer
 
+-- the image sectors of a block stand at its sixteen sector numbers
 abbrev IsBlockAt : Layout → BlockPlan → Type 0
 IsBlockAt layout entry = IsAt layout entry.content entry.first 16 entry.layer
 
@@ -67,6 +70,7 @@ zones_by-at layout Opposite is =
     let first = first-at layout (inr (layout.whole_blocks (ap has_two_layers is))) in
     (tt, (tt, (tt, (tt, (tt, (first, (tt, (tt, (second-at layout, (tt, tt))))))))))
 
+-- every zone of a stream
 zone_table-at : (layout : Layout) (zones : Zones) → All (IsZoneAt layout) (zone_table layout zones)
 zone_table-at layout AllZones = All-from_recursion (IsZoneAt layout) (zones_by layout layout.shape) (zones_by-at layout layout.shape refl)
 zone_table-at layout DataOnly =
@@ -85,22 +89,26 @@ content_at-at layout Zero first blocks layer b within at = tt
 content_at-at layout Reference first blocks layer b within at = tt
 content_at-at layout Control first blocks layer b within at = tt
 
+-- every block of a zone
 entries_of-at : (layout : Layout) (zone : Zone) → IsZoneAt layout zone → All (IsBlockAt layout) (entries_of zone)
 entries_of-at layout zone at b entry within =
     let inside : b < zone.blocks = subst (λ n. b < n) (length-entries_of zone) within in
     rw (get_or-map-range_with_len (entry_of zone) 0 zone.blocks b b entry inside (omega arith))
     (content_at-at layout zone.content zone.first zone.blocks zone.layer b inside at)
 
+-- every block of all zones
 zones-at : (layout : Layout) (zones : List Zone) → AllByRecursion (IsZoneAt layout) zones → All (IsBlockAt layout) (flat_map entries_of zones)
 zones-at layout [] at = All-nil (IsBlockAt layout)
 zones-at layout (zone ∷ zones) at =
     All-append (IsBlockAt layout) (entries_of zone) (flat_map entries_of zones) (entries_of-at layout zone at.0) (zones-at layout zones at.1)
 
+-- every block of a plan
 plan_of-at : (layout : Layout) (zones : Zones) → All (IsBlockAt layout) (plan_of layout zones)
 unfolding plan_of
 plan_of-at layout zones =
     zones-at layout (zone_table layout zones) (recursion_from_All (IsZoneAt layout) (zone_table layout zones) (zone_table-at layout zones))
 
+-- image sector f of a block of a plan stands at the block's sector number f
 pub plan_of-places : (layout : Layout) (zones : Zones) (k from f : ℕ) (entry : BlockPlan) → slice_get (plan_of layout zones) k ≡ Some entry
     → entry.content ≡ Image from → f < 16 → from + f < total_sectors layout → place_of layout (from + f) ≡ (entry.layer, entry.first + f)
 plan_of-places layout zones k from f entry stands image =

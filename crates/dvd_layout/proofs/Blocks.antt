@@ -8,8 +8,10 @@ use Rattle.std.proofs.lemmas.List.Folds.{length-flat_map-take}
 use Rattle.std.proofs.lemmas.List.FromFn.{length-map-range_with_len, get_or-map-range_with_len}
 use Rattle.std.proofs.lemmas.Option.{slice_get_read}
 use Rattle.dvd_layout.specs.declared.zone.Zone.{Zone}
-use Rattle.dvd_layout.specs.Plan.{entry_of, entries_of, IsInRange}
+use Rattle.dvd_layout.specs.Plan.{entry_of, entries_of}
+use Rattle.dvd_layout.specs.Inner.Ranges.{IsInRange}
 
+-- a zone has as many entries as blocks
 pub length-entries_of : (zone : Zone) → length (entries_of zone) ≡ zone.blocks
 length-entries_of zone = length-map-range_with_len (entry_of zone) 0 zone.blocks
 
@@ -17,6 +19,7 @@ length-entries_of zone = length-map-range_with_len (entry_of zone) 0 zone.blocks
 abbrev pub blocks_before : List Zone → ℕ → ℕ
 blocks_before zones i = length (flat_map entries_of (take i zones))
 
+-- before the next zone stand the blocks of zone i too
 pub blocks_before-suc : (zones : List Zone) (i : ℕ) (zone : Zone) → i < length zones
     → blocks_before zones (i + 1) ≡ blocks_before zones i + (get_or zones i zone).blocks
 blocks_before-suc zones i zone within =
@@ -25,6 +28,7 @@ blocks_before-suc zones i zone within =
     rw (flat_map-cons, length-append, length-entries_of) (omega arith) in
     omega arith)
 
+-- the blocks up to zone i are no more than all
 pub blocks_before-le : (zones : List Zone) (i : ℕ) (zone : Zone) → i < length zones
     → blocks_before zones i + (get_or zones i zone).blocks ≤ length (flat_map entries_of zones)
 blocks_before-le zones i zone within =
@@ -55,5 +59,6 @@ pub zone-counted : (zones : List Zone) (i count : ℕ) (zone : Zone) → i < len
     → count ≡ blocks_before zones i → count + (get_or zones i zone).blocks ≡ blocks_before zones (i + 1)
 zone-counted zones i count zone within counted = rw (blocks_before-suc zones i zone within) (omega arith)
 
+-- a zone in range adds at most 2^24 blocks to a count
 pub zone-few : (zone : Zone) (i count : ℕ) → IsInRange zone → count ≤ 2 ^ 24 * i → count + zone.blocks ≤ 2 ^ 24 * (i + 1)
 zone-few zone i count range few = let short = range.numbers in omega arith

@@ -30,13 +30,14 @@ held layout Zero n = 0
 held layout Reference n = 0
 held layout Control n = 0
 
--- no block holds none, and one block more holds its own more
+-- no block holds no image sector
 held-none : (layout : Layout) (content : Content) → held layout content 0 ≡ 0
 held-none layout (Image sector) = omega arith
 held-none layout Zero = refl
 held-none layout Reference = refl
 held-none layout Control = refl
 
+-- one block more holds its own image sectors more
 held-more : (layout : Layout) (content : Content) (n : ℕ) → held layout content (n + 1) ≡ held layout content n + image_sectors layout (content_at content n)
 held-more layout (Image sector) n = omega arith
 held-more layout Zero n = refl
@@ -140,14 +141,15 @@ in_order-stands layout (zone ∷ zones) from k entry order stands image =
           let before = before-behind layout zone (flat_map entries_of zones) k behind in
           omega arith
 
--- the Data Zones of the two layers
+-- the Data Zone of layer 0 begins with the first image sector
 first-goes_on : (layout : Layout) → GoesOn layout 0 (Image 0) (blocks_of layout.sectors0)
 first-goes_on layout = (refl, λ b within. omega arith)
 
+-- that of layer 1 begins behind the last sector of layer 0
 second-goes_on : (layout : Layout) (from : ℕ) → layout.sectors0 ≡ from → GoesOn layout from (Image layout.sectors0) (blocks_of layout.sectors1)
 second-goes_on layout from is = (is, λ b within. omega arith)
 
--- the zones of a disk, and its Data Zones alone, hold the image in order
+-- the zones of a disk hold the image in order
 zones_by-in_order : (layout : Layout) (shape : Shape) → layout.shape ≡ shape → InOrder layout 0 (zones_by layout shape)
 zones_by-in_order layout Single is =
     let one_layer = layout.one_layer (ap has_two_layers is) in
@@ -159,6 +161,7 @@ zones_by-in_order layout Opposite is =
     let whole_blocks = layout.whole_blocks (ap has_two_layers is) in
     (tt, (tt, (tt, (tt, (tt, (first-goes_on layout, (tt, (tt, (second-goes_on layout _ (omega arith), (tt, omega arith))))))))))
 
+-- so do its Data Zones alone
 data_zones-in_order : (layout : Layout) (shape : Shape) → layout.shape ≡ shape → InOrder layout 0 (filter (λ zone. is_data zone.area) (zones_by layout shape))
 data_zones-in_order layout Single is =
     let one_layer = layout.one_layer (ap has_two_layers is) in
@@ -170,14 +173,17 @@ data_zones-in_order layout Opposite is =
     let whole_blocks = layout.whole_blocks (ap has_two_layers is) in
     (first-goes_on layout, (second-goes_on layout _ (omega arith), omega arith))
 
+-- and so the zones of a stream
 zone_table-in_order : (layout : Layout) (zones : Zones) → InOrder layout 0 (zone_table layout zones)
 zone_table-in_order layout AllZones = zones_by-in_order layout layout.shape refl
 zone_table-in_order layout DataOnly = data_zones-in_order layout layout.shape refl
 
+-- the blocks of a plan hold the whole image
 pub plan_of-whole : (layout : Layout) (zones : Zones) → image_before layout (plan_of layout zones) ≡ total_sectors layout
 unfolding plan_of
 plan_of-whole layout zones = let whole = in_order-whole layout (zone_table layout zones) 0 (zone_table-in_order layout zones) in omega arith
 
+-- the blocks before a block of image in a plan hold the image sectors before its first
 pub plan_of-in_order : (layout : Layout) (zones : Zones) (k : ℕ) (entry : BlockPlan) → slice_get (plan_of layout zones) k ≡ Some entry → IsImage entry.content
     → image_before layout (take k (plan_of layout zones)) ≡ image_from entry.content
 unfolding plan_of

@@ -13,7 +13,6 @@ use Rattle.dvd_layout.specs.declared.entry.Content.TheVariants.{Zero, Reference,
 use Rattle.dvd_layout.specs.declared.layout.Layout.{Layout}
 use Rattle.dvd_layout.specs.declared.layout.Shape.{Shape}
 use Rattle.dvd_layout.specs.declared.layout.Shape.TheVariants.{Single, Parallel, Opposite}
-use Rattle.dvd_layout.specs.declared.layout.Zones.TheVariants.{All}
 use Rattle.dvd_layout.specs.declared.zone.Zone.{Zone}
 use Rattle.dvd_layout.proofs.Blocks.{block-at, blocks_before, length-entries_of}
 
@@ -114,6 +113,7 @@ begins layout Single = (_, refl)
 begins layout Parallel = (_, refl)
 begins layout Opposite = (_, refl)
 
+-- the plan of all zones begins with the blocks of the lead-in of layer 0
 pub plan_begins : PlanBeginsWithTheLeadIn
 unfolding plan_of lead_in_blocks
 plan_begins layout =

@@ -19,6 +19,7 @@ lengths-no_fault Parallel sectors0 sectors1 initial tail some second whole one l
 lengths-no_fault Opposite sectors0 sectors1 initial tail some second whole one longer initial_fits tail_fits end0 end1 =
     let some1 = second refl in let blocks = whole refl in let no_longer = longer refl in grind (arith, nat_tests)
 
+-- no layout breaks a rule
 pub no_fault : (layout : Layout) → first_fault layout.shape layout.sectors0 layout.sectors1 layout.initial layout.tail ≡ None
 no_fault layout =
     lengths-no_fault layout.shape layout.sectors0 layout.sectors1 layout.initial layout.tail layout.first_layer layout.second_layer

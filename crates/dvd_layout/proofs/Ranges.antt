@@ -16,11 +16,14 @@ use Rattle.dvd_layout.specs.declared.zone.Zone.{Zone}
 use Rattle.dvd_layout.specs.Place.{HasNumbers}
 use Rattle.dvd_layout.proofs.Blocks.{length-entries_of}
 use Rattle.dvd_layout.specs.Lengths.{is_opposite, padded}
-use Rattle.dvd_layout.specs.Plan.{IsInRange, entry_of, entries_of, lead_in_blocks, plan_of, zone_of, second_first, behind, lead_in, inside_out, out_and_in, first_data, second_data, zones_by, zone_table, is_data}
+use Rattle.dvd_layout.specs.Plan.{entry_of, entries_of, lead_in_blocks, plan_of, zone_of, second_first, behind, lead_in, inside_out, out_and_in, first_data, second_data, zones_by, zone_table, is_data}
+use Rattle.dvd_layout.specs.Inner.Ranges.{IsInRange}
 
+-- all these zones are in range
 abbrev Each : List Zone → Type 0
 Each zones = AllByRecursion IsInRange zones
 
+-- joined lists of zones in range are in range
 each-append : (some others : List Zone) → Each some → Each others → Each (some ++ others)
 each-append [] others each rest = rest
 each-append (zone ∷ some) others each rest = (each.0, each-append some others each.1 rest)
@@ -29,6 +32,7 @@ each-append (zone ∷ some) others each rest = (each.0, each-append some others 
 zeros-in_range : (zone : Zone) → image_from zone.content ≡ 0 → zone.first + 16 * zone.blocks ≤ 2 ^ 24 → zone.layer < 2 → IsInRange zone
 zeros-in_range zone no_image numbers two = record { numbers = numbers; image = omega arith; layers = two }
 
+-- the zones of a lead-in are in range
 lead_in-in_range : (initial layer : ℕ) → initial ≤ 12031 → layer < 2 → Each (lead_in initial layer)
 lead_in-in_range initial layer fits two = (
   zeros-in_range (zone_of (0x2F000 - 16 * initial) initial LeadIn layer Zero) refl (omega arith) two,
@@ -44,9 +48,11 @@ lead_in-in_range initial layer fits two = (
   ),
 )
 
+-- the zones of the lead-in of layer 0 are in range, each as an element of their list
 pub zones-of_lead_in : (initial : ℕ) → initial ≤ 12031 → All IsInRange (lead_in initial 0)
 zones-of_lead_in initial fits = All-from_recursion IsInRange (lead_in initial 0) (lead_in-in_range initial 0 fits (omega arith))
 
+-- the Data Zone of layer 0 is in range
 first_data-in_range : (layout : Layout) → IsInRange (first_data layout)
 first_data-in_range layout = record { numbers = omega arith; image = omega arith; layers = omega arith }
 
@@ -58,15 +64,18 @@ second_first-low layout = by_path (is_opposite layout.shape) refl where
   by_path true is = let no_longer = layout.no_longer is in omega arith
   by_path false is = omega arith
 
+-- the Data Zone of layer 1 is in range
 second_data-in_range : (layout : Layout) → IsInRange (second_data layout)
 second_data-in_range layout =
     let low = second_first-low layout in
     record { numbers = omega arith; image = omega arith; layers = omega arith }
 
+-- the zone of zeros behind a Data Zone is in range where its end is
 behind-in_range : (image : Zone) (blocks : ℕ) (area : Area) → image.first + 16 * image.blocks + 16 * blocks ≤ 2 ^ 24 → image.layer < 2
     → IsInRange (behind image blocks area)
 behind-in_range image blocks area numbers two = zeros-in_range (behind image blocks area) refl numbers two
 
+-- a layer that is read from the inside is in range where its Data Zone is
 inside_out-in_range : (layout : Layout) (image : Zone) → IsInRange image → image.first + 16 * image.blocks + 16 * layout.tail ≤ 2 ^ 24
     → Each (inside_out layout image)
 inside_out-in_range layout image range numbers =
@@ -74,14 +83,17 @@ inside_out-in_range layout image range numbers =
     (lead_in-in_range layout.initial image.layer layout.initial_fits range.layers)
     (range, (behind-in_range image layout.tail LeadOut numbers range.layers, tt))
 
+-- so is layer 0
 first_layer-in_range : (layout : Layout) → Each (inside_out layout (first_data layout))
 first_layer-in_range layout = inside_out-in_range layout (first_data layout) (first_data-in_range layout) (omega arith)
 
+-- and layer 1 on the parallel track path
 second_layer-in_range : (layout : Layout) → Each (inside_out layout (second_data layout))
 second_layer-in_range layout =
     let low = second_first-low layout in
     inside_out-in_range layout (second_data layout) (second_data-in_range layout) (omega arith)
 
+-- the zones of the opposite track path are in range
 out_and_in-in_range : (layout : Layout) → Each (out_and_in layout)
 out_and_in-in_range layout =
     let low = second_first-low layout in
@@ -102,11 +114,13 @@ out_and_in-in_range layout =
       ),
     )
 
+-- all zones of a disk are in range
 zones_by-in_range : (layout : Layout) (shape : Shape) → Each (zones_by layout shape)
 zones_by-in_range layout Single = first_layer-in_range layout
 zones_by-in_range layout Parallel = each-append (inside_out layout (first_data layout)) (inside_out layout (second_data layout)) (first_layer-in_range layout) (second_layer-in_range layout)
 zones_by-in_range layout Opposite = out_and_in-in_range layout
 
+-- and so those of a stream
 pub zone_table-in_range : (layout : Layout) (zones : Zones) → All IsInRange (zone_table layout zones)
 zone_table-in_range layout AllZones = All-from_recursion IsInRange (zones_by layout layout.shape) (zones_by-in_range layout layout.shape)
 zone_table-in_range layout DataOnly =
@@ -119,15 +133,18 @@ entries_of-numbers zone range b entry within =
     rw (get_or-map-range_with_len (entry_of zone) 0 zone.blocks b b entry inside (omega arith))
     (let numbers = range.numbers in record { numbers = omega arith; layers = range.layers })
 
+-- so does each block of all zones in range
 zones-numbers : (zones : List Zone) → AllByRecursion IsInRange zones → All HasNumbers (flat_map entries_of zones)
 zones-numbers [] ranges = All-nil HasNumbers
 zones-numbers (zone ∷ zones) ranges =
     All-append HasNumbers (entries_of zone) (flat_map entries_of zones) (entries_of-numbers zone ranges.0) (zones-numbers zones ranges.1)
 
+-- each block of a plan has numbers of 24 bits
 pub plan_of-numbers : (layout : Layout) (zones : Zones) → All HasNumbers (plan_of layout zones)
 unfolding plan_of
 plan_of-numbers layout zones = zones-numbers (zone_table layout zones) (recursion_from_All IsInRange (zone_table layout zones) (zone_table-in_range layout zones))
 
+-- each block of the lead-in has numbers of 24 bits
 pub lead_in_blocks-numbers : (initial : ℕ) → initial ≤ 12031 → All HasNumbers (lead_in_blocks initial)
 unfolding lead_in_blocks
 lead_in_blocks-numbers initial fits = zones-numbers (lead_in initial 0) (lead_in-in_range initial 0 fits (omega arith))

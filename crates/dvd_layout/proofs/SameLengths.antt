@@ -5,6 +5,7 @@ use Rattle.std.proofs.Props.{props}
 use Rattle.dvd_layout.specs.declared.layout.Layout.{Layout}
 use Rattle.dvd_layout.specs.Lengths.{has_two_layers, is_opposite, layer_end, padded}
 
+-- two layouts of one shape and the same lengths are one
 pub same_lengths-same : (a b : Layout) → a.shape ≡ b.shape → a.sectors0 ≡ b.sectors0 → a.sectors1 ≡ b.sectors1 → a.initial ≡ b.initial
     → a.tail ≡ b.tail → a ≡ b
 same_lengths-same a b shape sectors0 sectors1 initial tail = λ i. record {

@@ -1,4 +1,5 @@
 pub mod Content
+pub mod Inner
 pub mod Laws
 pub mod Lengths
 pub mod Place

@@ -1,6 +1,6 @@
 -- The zone table of a disk and the plan of its ECC blocks (ECMA-267, section 5, Format of the Information Zone).
 -- A table is a list of zones, a plan the blocks of its zones one after the other. The code computes one entry without a list.
-use Rattle.std.specs.Prelude.{◌≡◌, ℕ, ◌+◌, ◌-◌, ◌*◌, ◌^◌, ◌<◌, ◌≤◌, List, [], ◌∷◌, ◌++◌, map, Bool, true, false, filter, if◌then◌else◌, Some, slice_get}
+use Rattle.std.specs.Prelude.{◌≡◌, ℕ, ◌+◌, ◌-◌, ◌*◌, List, [], ◌∷◌, ◌++◌, map, Bool, true, false, filter, if◌then◌else◌, Some, slice_get}
 use Rattle.std.specs.List.{flat_map, range_with_len}
 use Rattle.dvd_frame.specs.declared.id.Area.{Area}
 use Rattle.dvd_frame.specs.declared.id.Area.TheVariants.{DataZone, LeadIn, LeadOut, Middle}
@@ -13,7 +13,7 @@ use Rattle.dvd_layout.specs.declared.layout.Shape.TheVariants.{Single, Parallel,
 use Rattle.dvd_layout.specs.declared.layout.Zones.{Zones}
 use Rattle.dvd_layout.specs.declared.layout.Zones.TheVariants.{DataOnly, All}
 use Rattle.dvd_layout.specs.declared.zone.Zone.{Zone}
-use Rattle.dvd_layout.specs.Content.{content_at, image_from}
+use Rattle.dvd_layout.specs.Content.{content_at}
 use Rattle.dvd_layout.specs.Lengths.{blocks_of, is_opposite, padded}
 
 -- block b of a zone
@@ -26,12 +26,6 @@ entries_of zone = map (entry_of zone) (range_with_len 0 zone.blocks)
 
 abbrev pub zone_of : ℕ → ℕ → Area → ℕ → Content → Zone
 zone_of first blocks area layer content = record { first = first; blocks = blocks; area = area; layer = layer; content = content }
-
--- the numbers of a zone and of its image sectors have 24 bits
-pub record IsInRange (zone : Zone) : Type 0 where
-  pub numbers : zone.first + 16 * zone.blocks ≤ 2 ^ 24
-  pub image : image_from zone.content + 16 * zone.blocks ≤ 2 ^ 24
-  pub layers : zone.layer < 2
 
 -- the zones of the lead-in of a layer, with an Initial Zone of so many blocks
 abbrev pub lead_in : ℕ → ℕ → List Zone

@@ -1,7 +1,8 @@
 //! A zone: ECC blocks of one kind, one after the other.
 ghost use Rattle.std.specs.Prelude.{◌≡◌, ◌<◌, length, Some, slice_get, All};
 ghost use Rattle.std.specs.List.{flat_map};
-ghost use Rattle.dvd_layout.specs.Plan.{entry_of, entries_of, IsInRange, zone_of};
+ghost use Rattle.dvd_layout.specs.Plan.{entry_of, entries_of, zone_of};
+ghost use Rattle.dvd_layout.specs.Inner.Ranges.{IsInRange};
 
 use crate::entry::{BlockPlan, Content};
 use dvd_frame::Area;

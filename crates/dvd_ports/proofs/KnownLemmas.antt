@@ -3,24 +3,29 @@ use Rattle.std.proofs.Common.{◌≡◌, ◌≢◌, ℕ, ◌+◌, ◌-◌, ◌<�
 use Rattle.std.proofs.Math.Seq.{take-add, take-append-add}
 use Rattle.std.proofs.lemmas.List.{take_at, take_all, take-append-le, length-take, length-take-le}
 use Rattle.std.specs.Io.KnownBytes.{Appends, Consumes, Keeps, WriteAppends}
-use Rattle.dvd_ports.specs.Whole.{AppendsFront, AppendsPrefix}
+use Rattle.dvd_ports.specs.Whole.{AppendsPrefix}
+use Rattle.dvd_ports.specs.Inner.Fronts.{AppendsFront}
 
+-- where nothing happens, no bytes are appended
 pub Appends-none : (a : Option (List ℕ)) → Appends a a []
 Appends-none None = tt
 Appends-none (Some x) = sym (append-nil x)
 
+-- what one call appends, and then another, is appended by both together
 pub Appends-then : (a b c : Option (List ℕ)) (bs cs : List ℕ) → Appends a b bs → Appends b c cs → Appends a c (bs ++ cs)
 Appends-then None b c bs cs p q = tt
 Appends-then (Some x) None c bs cs p q = absurd p
 Appends-then (Some x) (Some y) None bs cs p q = absurd q
 Appends-then (Some x) (Some y) (Some z) bs cs p q = q ∙ ap (λ l. l ++ cs) p ∙ append_assoc x bs cs
 
+-- a call that leaves what is known changes nothing of what was appended before
 pub Appends-kept : (a b c : Option (List ℕ)) (bs : List ℕ) → Appends a b bs → Keeps b c → Appends a c bs
 Appends-kept None b c bs p q = tt
 Appends-kept (Some x) None c bs p q = absurd p
 Appends-kept (Some x) (Some y) None bs p q = absurd q
 Appends-kept (Some x) (Some y) (Some z) bs p q = q ∙ p
 
+-- what one call consumes, and then another, is consumed by both together
 pub Consumes-then : (a b c : Option (List ℕ)) (bs cs : List ℕ) → Consumes a b bs → Consumes b c cs → Consumes a c (bs ++ cs)
 Consumes-then None b c bs cs p q = tt
 Consumes-then (Some x) None c bs cs p q = absurd p
@@ -51,7 +56,10 @@ pub front_kept : (old mid new : Option (List ℕ)) (piece : List ℕ) → Append
 front_kept old mid new piece front kept = record { taken = front.taken; rest = front.rest; grows = Appends-kept old mid new front.taken front.grows kept; whole = front.whole }
 
 -- a write takes the first of the bytes of the piece from the i-th on
-pub writes_more : (old mid new : Option (List ℕ)) (piece : List ℕ) (i n : ℕ) → Appends old mid (take i piece) → Appends mid new (take n (take (length piece - i) (drop i piece))) → Appends old new (take (i + n) piece)
+pub writes_more : (old mid new : Option (List ℕ)) (piece : List ℕ) (i n : ℕ)
+    → Appends old mid (take i piece)
+    → Appends mid new (take n (take (length piece - i) (drop i piece)))
+    → Appends old new (take (i + n) piece)
 writes_more old mid new piece i n before now =
     let whole : take (length piece - i) (drop i piece) ≡ drop i piece = take_all (length piece - i) (drop i piece) (omega (arith, length-drop i piece)) in
     let joined : take i piece ++ take n (take (length piece - i) (drop i piece)) ≡ take (i + n) piece =
@@ -73,7 +81,12 @@ reads_inside buf got rest i n inside some =
     omega (arith, length-append (take i buf) (got ++ rest), length-append got rest, length-take-le i buf inside)
 
 -- a read that gives the first bytes of what is left consumes them, and gives none only at the end
-pub gives_front : (left new_left old new : List ℕ) (n step : ℕ) → 1 ≤ step → length new ≡ length old → n ≡ min step (min (length old) (length left)) → new ≡ take n left ++ drop n old → new_left ≡ drop n left
+pub gives_front : (left new_left old new : List ℕ) (n step : ℕ)
+    → 1 ≤ step
+    → length new ≡ length old
+    → n ≡ min step (min (length old) (length left))
+    → new ≡ take n left ++ drop n old
+    → new_left ≡ drop n left
     → (left ≡ take n new ++ new_left) × (n ≡ 0 → 0 < length new → new_left ≡ [])
 gives_front left new_left old new n step one same is fills leaves =
     let size : length (take n left) ≡ n = length-take n left ∙ omega arith in

@@ -10,13 +10,6 @@ pub record AppendsPrefix (old new : Option (List ℕ)) (piece : List ℕ) : Type
   pub whole : taken ++ rest ≡ piece
   pub more : rest ≢ []
 
--- known bytes grew by a front of the piece, or by all of it
-pub record AppendsFront (old new : Option (List ℕ)) (piece : List ℕ) : Type 0 where
-  pub taken : List ℕ
-  pub rest : List ℕ
-  pub grows : Appends old new taken
-  pub whole : taken ++ rest ≡ piece
-
 -- known bytes lost fewer than so many at their front
 pub record ConsumesFewer (old new : Option (List ℕ)) (size : ℕ) : Type 0 where
   pub taken : List ℕ

@@ -5,13 +5,16 @@ use Rattle.gf_field.specs.declared.powers.TheConstants.{POWERS, LOGARITHMS}
 use Rattle.gf_field.proofs.Tables.{POWERS-shifted, LOGARITHMS-shifted}
 use Rattle.gf_field.proofs.FieldLaws.{product-zero, zero-product, product-one, power-byte, power-add, power-alpha-shifted, power-alpha-255, power-alpha-mod}
 
+-- the table of powers has alpha^k at place k
 pub POWERS_at : (k : ℕ) → k < 510 → get_or POWERS k 0 ≡ power alpha k
 POWERS_at k below = POWERS-shifted k below ∙ sym (power-alpha-shifted k)
 
+-- the table of logarithms has an exponent below 255 for each byte but 0
 pub LOGARITHMS-below : (a : ℕ) → a < 256 → a ≢ 0 → get_or LOGARITHMS a 0 < 255
 LOGARITHMS-below zero byte_a nonzero = absurd (nonzero refl)
 LOGARITHMS-below (suc a) byte_a nonzero = (LOGARITHMS-shifted a (omega arith)).0
 
+-- alpha to the power of a byte's logarithm is that byte
 pub LOGARITHMS-reach : (a : ℕ) → a < 256 → a ≢ 0 → power alpha (get_or LOGARITHMS a 0) ≡ a
 LOGARITHMS-reach zero byte_a nonzero = absurd (nonzero refl)
 LOGARITHMS-reach (suc a) byte_a nonzero = power-alpha-shifted (get_or LOGARITHMS (suc a) 0) ∙ (LOGARITHMS-shifted a (omega arith)).1

@@ -6,7 +6,8 @@ use Rattle.std.proofs.lemmas.Bool.Decides.{nat_tests}
 use Rattle.gf_field.specs.Field.{alpha, plus, product, power}
 use Rattle.gf_field.specs.Words.{IsByte, IsCodeword, IsEncoded, value}
 use Rattle.gf_field.proofs.FieldLaws.{plus-zero_same}
-use Rattle.rs_code.specs.Polynomials.{sum_of, HasRoots, IsRemainder}
+use Rattle.rs_code.specs.Polynomials.{HasRoots}
+use Rattle.rs_code.specs.Inner.Polynomials.{sum_of, IsRemainder}
 use Rattle.rs_code.specs.Distance.{weight, distance}
 use Rattle.rs_code.proofs.Remainders.{remainder_of, IsRemainder-start}
 use Rattle.rs_code.proofs.Generator.{generator_of, length-generator_of, HasRoots-generator_of}
@@ -14,7 +15,12 @@ use Rattle.rs_code.proofs.Distance.{IsCodeword-light, IsCodeword-close}
 use Rattle.rs_code.proofs.Values.{value-append, value-sum_of, value-zeros}
 
 -- a message and its remainder are a codeword
-pub IsCodeword-from_remainder : (r : ℕ) (generator message register : List ℕ) → length generator ≡ r → HasRoots r generator → All IsByte message → IsRemainder generator message register → IsCodeword (length message + r) r (message ++ register)
+pub IsCodeword-from_remainder : (r : ℕ) (generator message register : List ℕ)
+    → length generator ≡ r
+    → HasRoots r generator
+    → All IsByte message
+    → IsRemainder generator message register
+    → IsCodeword (length message + r) r (message ++ register)
 IsCodeword-from_remainder r generator message register degree roots bytes is =
     let long : length register ≡ length generator = is.size in
     record {
@@ -24,12 +30,21 @@ IsCodeword-from_remainder r generator message register degree roots bytes is =
     }
 
 -- where the generator is the product of its factors, and r is known
-pub IsCodeword-by_tables : (r degree : ℕ) (message register : List ℕ) → r ≡ degree → All IsByte message → IsRemainder (generator_of degree) message register → IsCodeword (length message + r) r (message ++ register)
+pub IsCodeword-by_tables : (r degree : ℕ) (message register : List ℕ)
+    → r ≡ degree
+    → All IsByte message
+    → IsRemainder (generator_of degree) message register
+    → IsCodeword (length message + r) r (message ++ register)
 IsCodeword-by_tables r degree message register same bytes is =
     subst (λ m. IsCodeword (length message + m) m (message ++ register)) (sym same)
     (IsCodeword-from_remainder degree (generator_of degree) message register (length-generator_of degree) (HasRoots-generator_of degree) bytes is)
 
-pub IsEncoded-from_codeword : (n r : ℕ) (message register : List ℕ) → length message ≡ n - r → r ≤ n → IsCodeword (length message + r) r (message ++ register) → IsEncoded n r message (message ++ register)
+-- a codeword that begins with the message is the encoded message
+pub IsEncoded-from_codeword : (n r : ℕ) (message register : List ℕ)
+    → length message ≡ n - r
+    → r ≤ n
+    → IsCodeword (length message + r) r (message ++ register)
+    → IsEncoded n r message (message ++ register)
 IsEncoded-from_codeword n r message register size fits codeword =
     let whole : length message + r ≡ n = omega arith in
     record {
@@ -37,6 +52,7 @@ IsEncoded-from_codeword n r message register size fits codeword =
       begins = take_at message register (n - r) size;
     }
 
+-- one place adds at most 1 to a count of places
 at_most_one : (x y d n : ℕ) → d ≤ n → (if x == y then 0 else 1) + d ≤ suc n
 at_most_one x y d n below = grind (arith, nat_tests)
 
@@ -48,13 +64,21 @@ value-remainder message register parity x same vanishes =
     ∙ ap (λ v. plus v (value parity x)) (sym was ∙ ap (λ m. product (value message x) (power x m)) same)
     ∙ sym (value-append message parity x)
 
+-- at most all bytes of a word aren't 0
 weight-within : (word : List ℕ) → weight word ≤ length word
 unfolding weight
 weight-within [] = omega arith
 weight-within (byte ∷ word) = at_most_one byte 0 (weight word) (length word) (weight-within word)
 
 -- a word is a codeword where its remainder is zero, since r bytes can't hide from r values
-pub IsCodeword-remainder : (n r : ℕ) (word remainder : List ℕ) → r ≤ 255 → length word ≡ n → length remainder ≡ r → All IsByte word → All IsByte remainder → ((k : ℕ) → k < r → value remainder (power alpha k) ≡ value word (power alpha k)) → (remainder ≡ replicate (length remainder) 0 → IsCodeword n r word) × (IsCodeword n r word → remainder ≡ replicate (length remainder) 0)
+pub IsCodeword-remainder : (n r : ℕ) (word remainder : List ℕ)
+    → r ≤ 255
+    → length word ≡ n
+    → length remainder ≡ r
+    → All IsByte word
+    → All IsByte remainder
+    → ((k : ℕ) → k < r → value remainder (power alpha k) ≡ value word (power alpha k))
+    → (remainder ≡ replicate (length remainder) 0 → IsCodeword n r word) × (IsCodeword n r word → remainder ≡ replicate (length remainder) 0)
 IsCodeword-remainder n r word remainder short size long bytes remainder_bytes values = (
   (λ is_zero. record {
     size = size;
@@ -70,6 +94,7 @@ IsCodeword-remainder n r word remainder short size long bytes remainder_bytes va
       IsCodeword-light r r remainder short hidden (omega (arith, weight-within remainder)) ∙ ap (λ m. replicate m 0) (sym long)),
 )
 
+-- each message of bytes has an encoded word
 pub encodable : (n r : ℕ) (message : List ℕ) → 1 ≤ r → r < n → length message ≡ n - r → All IsByte message → (word : List ℕ) × IsEncoded n r message word
 encodable n r message some_parity below size all =
     let generator = generator_of r in
@@ -77,9 +102,11 @@ encodable n r message some_parity below size all =
     let found = remainder_of generator [] message (replicate (length generator) 0) (omega arith) all (IsRemainder-start generator) in
     (message ++ found.0, IsEncoded-from_codeword n r message found.0 size (omega arith) (IsCodeword-from_remainder r generator message found.0 degree (HasRoots-generator_of r) all found.1))
 
+-- a place where both words are equal adds nothing to their distance
 same_first : (x d n : ℕ) → d ≤ n → (if x == x then 0 else 1) + d ≤ n
 same_first x d n below = grind (arith, nat_tests)
 
+-- words with the same front differ at most in the places behind it
 distance-front : (front a b : List ℕ) → length a ≡ length b → distance (front ++ a) (front ++ b) ≤ length a
 unfolding distance
 distance-front [] [] b same = omega arith
@@ -87,6 +114,7 @@ distance-front [] (x ∷ a) [] same = absurd (omega arith)
 distance-front [] (x ∷ a) (y ∷ b) same = at_most_one x y (distance a b) (length a) (distance-front [] a b (omega arith))
 distance-front (x ∷ front) a b same = same_first x (distance (front ++ a) (front ++ b)) (length a) (distance-front front a b same)
 
+-- a message has one encoded word at most
 pub encoded_once : (n r : ℕ) (message a b : List ℕ) → n ≤ 255 → r ≤ n → IsEncoded n r message a → IsEncoded n r message b → a ≡ b
 encoded_once n r message a b short fits code_a code_b =
     let size_a : length a ≡ n = code_a.codeword.size in

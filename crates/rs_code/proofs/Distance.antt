@@ -6,10 +6,10 @@ use Rattle.std.proofs.lemmas.Bool.Decides.{nat_tests}
 use Rattle.gf_field.specs.Field.{alpha, plus, power}
 use Rattle.gf_field.specs.Words.{IsByte, IsCodeword}
 use Rattle.gf_field.proofs.FieldLaws.{plus-byte, plus-zero, plus-self, plus-zero_same}
-use Rattle.rs_code.specs.Polynomials.{sum_of}
+use Rattle.rs_code.specs.Inner.Polynomials.{sum_of}
 use Rattle.rs_code.specs.Distance.{weight, distance}
 use Rattle.rs_code.proofs.Values.{value-sum_of, length-sum_of}
-use Rattle.rs_code.specs.PowerSums.{points_of}
+use Rattle.rs_code.specs.Inner.PowerSums.{points_of}
 use Rattle.rs_code.proofs.PowerSums.{length-points_of, All-points_of, AreDistinct-points_of, value-power_sum, none_hidden}
 
 -- a codeword with at most r bytes that aren't 0 is zero
@@ -20,6 +20,7 @@ IsCodeword-light n r word short codeword light =
     none_hidden r (points_of (length word)) word long codeword.bytes (All-points_of (length word)) (AreDistinct-points_of (length word) (omega arith)) light (λ k below. sym (value-power_sum word k) ∙ codeword.vanishes k below)
     ∙ ap (λ m. replicate m 0) size
 
+-- a sum of words of bytes is one of bytes
 pub All-sum_of : (a b : List ℕ) → All IsByte a → All IsByte b → All IsByte (sum_of a b)
 unfolding sum_of
 All-sum_of [] b all_a all_b = All-nil IsByte
@@ -38,6 +39,7 @@ IsCodeword-sum_of n r a b code_a code_b =
       vanishes = λ k below. value-sum_of a b (power alpha k) same ∙ rw (code_a.vanishes k below, code_b.vanishes k below) (plus-zero 0);
     }
 
+-- a first byte adds no more to the weight of the sum than to the distance of the two words
 first_weighs : (x y w d : ℕ) → w ≤ d → (if plus x y == 0 then 0 else 1) + w ≤ (if x == y then 0 else 1) + d
 first_weighs x y w d below =
     elim (cases_eq x y) [
@@ -63,6 +65,7 @@ sum_of-zeros (x ∷ a) (y ∷ b) same zeros =
     let rest = sum_of-zeros a b (omega arith) cc in
     cc
 
+-- two codewords that differ in at most r places are equal
 pub IsCodeword-close : (n r : ℕ) (a b : List ℕ) → n ≤ 255 → IsCodeword n r a → IsCodeword n r b → distance a b ≤ r → a ≡ b
 IsCodeword-close n r a b short code_a code_b close =
     let same : length a ≡ length b = code_a.size ∙ sym code_b.size in

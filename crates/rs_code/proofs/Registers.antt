@@ -7,19 +7,21 @@ use Rattle.std.proofs.lemmas.Nat.{xor_shr, xor_mod, xor_lt, xor_block, shr_below
 use Rattle.std.proofs.lemmas.List.{append_cancel_left, take_at, length-replicate, replicate_more, replicate-append-replicate, reverse-append, length-reverse, take_more}
 use Rattle.gf_field.specs.Field.{plus, product}
 use Rattle.gf_field.proofs.FieldLaws.{plus-byte, plus-product, product-byte, zero-product, plus-comm, plus-zero, zero-plus, plus-self}
-use Rattle.rs_code.specs.Polynomials.{sum_of, scaled, IsRemainder}
-use Rattle.rs_code.specs.Registers.{bytes_of, Holds, HoldsRemainder, HasMultiples, after_byte}
+use Rattle.rs_code.specs.Inner.Polynomials.{sum_of, scaled, IsRemainder}
+use Rattle.rs_code.specs.Inner.Registers.{bytes_of, Holds, HoldsRemainder, HasMultiples, after_byte}
 use Rattle.rs_code.proofs.Ring.{ring}
 use Rattle.rs_code.proofs.Values.{length-sum_of, length-scaled, scaled-cons}
 use Rattle.rs_code.proofs.Remainders.{next_register, IsRemainder-start, IsRemainder-next}
 
 -- ---- bytes of a number
 
+-- the lowest k bytes are k bytes
 pub length-bytes_of : (k n : ℕ) → length (bytes_of k n) ≡ k
 unfolding bytes_of
 length-bytes_of zero n = refl
 length-bytes_of (suc k) n = ap suc (length-bytes_of k n)
 
+-- a higher byte of a number is the byte below it of what stands above the lowest one
 byte_at-higher : (k n : ℕ) → byte_at (suc k) n ≡ byte_at k (n / 256)
 byte_at-higher zero n = omega arith
 byte_at-higher (suc k) n =
@@ -31,10 +33,12 @@ unfolding bytes_of
 bytes_of-last zero n = refl
 bytes_of-last (suc k) n = rw (byte_at-higher k n, bytes_of-last k n) refl
 
+-- the highest byte, and those below it
 pub bytes_of-first : (k n : ℕ) → bytes_of (suc k) n ≡ byte_at k n ∷ bytes_of k n
 unfolding bytes_of
 bytes_of-first k n = refl
 
+-- joined words are summed part by part
 sum_of-append : (a b c d : List ℕ) → length a ≡ length b → sum_of (a ++ c) (b ++ d) ≡ sum_of a b ++ sum_of c d
 unfolding sum_of
 sum_of-append [] [] c d same = refl
@@ -42,14 +46,17 @@ sum_of-append [] (y ∷ b) c d same = absurd (omega arith)
 sum_of-append (x ∷ a) [] c d same = absurd (omega arith)
 sum_of-append (x ∷ a) (y ∷ b) c d same = ap (λ xs. plus x y ∷ xs) (sum_of-append a b c d (omega arith))
 
+-- the sum of two words of one byte is the byte of their sum
 sum_of-one : (x y : ℕ) → sum_of (x ∷ []) (y ∷ []) ≡ plus x y ∷ []
 unfolding sum_of
 sum_of-one x y = refl
 
+-- an empty word has no sum with another
 sum_of-nil : (ys : List ℕ) → sum_of [] ys ≡ []
 unfolding sum_of
 sum_of-nil ys = refl
 
+-- no byte of a number is the empty list
 bytes_of-none : (n : ℕ) → bytes_of 0 n ≡ []
 unfolding bytes_of
 bytes_of-none n = refl
@@ -89,11 +96,13 @@ unfolding scaled
 scaled-zero [] = refl
 scaled-zero (byte ∷ word) = rw (zero-product byte, scaled-zero word) refl
 
+-- a sum of zeros is zeros
 sum_of-zeros_both : (n : ℕ) → sum_of (replicate n 0) (replicate n 0) ≡ replicate n 0
 unfolding sum_of
 sum_of-zeros_both zero = refl
 sum_of-zeros_both (suc n) = rw (plus-self 0, sum_of-zeros_both n) refl
 
+-- the sum of two registers holds the sum of their words
 pub Holds-plus : (x y : ℕ) (a b : List ℕ) → length a ≡ length b → Holds x a → Holds y b → Holds (plus x y) (sum_of a b)
 Holds-plus x y a b same in_x in_y =
     let long : length (sum_of a b) ≡ length a = length-sum_of a b same in
@@ -101,9 +110,11 @@ Holds-plus x y a b same in_x in_y =
     ∙ rw (in_x, in_y, long, ← same)
     (sum_of-append a b (replicate (16 - length a) 0) (replicate (16 - length a) 0) same ∙ ap (λ xs. sum_of a b ++ xs) (sum_of-zeros_both (16 - length a)))
 
+-- a list of n zeros has length n
 length-zeros : (n : ℕ) → length {A = ℕ} (replicate n 0) ≡ n
 length-zeros n = length-replicate n 0
 
+-- the sixteen bytes of 0 are zeros
 bytes_of-zero : bytes_of 16 0 ≡ replicate 16 0
 unfolding bytes_of
 bytes_of-zero = refl
@@ -117,6 +128,7 @@ Holds-zeros n fits =
 
 -- ---- the table of multiples
 
+-- a table that begins with 0 has the multiple by 0
 pub HasMultiples-start : (generator : List ℕ) (table : List ℕ) → length generator ≤ 16 → get_or table 0 0 ≡ 0 → HasMultiples generator table 1
 HasMultiples-start generator table fits is_zero factor below =
     let none : factor ≡ 0 = omega arith in
@@ -132,7 +144,12 @@ top_and_lower lower bit below =
     cc (block, left, right, both, plus-zero 1, zero-plus lower)
 
 -- an upper place is the sum of the one below it and of the power of two
-pub Holds-upper : (generator : List ℕ) (bit factor lower multiple entry : ℕ) → factor ≡ 2 ^ bit → lower < factor → Holds multiple (scaled factor generator) → Holds entry (scaled lower generator) → Holds (plus entry multiple) (scaled (factor + lower) generator)
+pub Holds-upper : (generator : List ℕ) (bit factor lower multiple entry : ℕ)
+    → factor ≡ 2 ^ bit
+    → lower < factor
+    → Holds multiple (scaled factor generator)
+    → Holds entry (scaled lower generator)
+    → Holds (plus entry multiple) (scaled (factor + lower) generator)
 Holds-upper generator bit factor lower multiple entry is_power below in_multiple in_entry =
     let small : lower < 2 ^ bit = rw (← is_power) below in
     let split : factor + lower ≡ plus lower factor = rw is_power (sym (top_and_lower lower bit small) ∙ plus-comm (2 ^ bit) lower) in
@@ -149,6 +166,7 @@ front v n is_byte is_word =
     let right : v * 2 ^ 120 + 0 ≡ v * 2 ^ 120 = omega arith in
     cc (block, left, right, zero-plus v, plus-zero (n / 256))
 
+-- a byte put above a number shifted down by one byte comes first, and its upper fifteen bytes follow
 bytes_of-front : (v n : ℕ) → v < 256 → n < 2 ^ 128 → bytes_of 16 (plus (n / 256) (v * 2 ^ 120)) ≡ v ∷ bytes_of 15 (n / 256)
 bytes_of-front v n is_byte is_word =
     let first : byte_at 15 (v * 2 ^ 120 + n / 256) ≡ v = omega arith in
@@ -156,6 +174,7 @@ bytes_of-front v n is_byte is_word =
     ap (bytes_of 16) (front v n is_byte is_word) ∙ bytes_of-first 15 (v * 2 ^ 120 + n / 256)
     ∙ rw first (ap (λ xs. v ∷ xs) (sym (bytes_of-rest 15 (v * 2 ^ 120 + n / 256)) ∙ ap (bytes_of 15) rest))
 
+-- a register shifted down, with a byte put on top, holds its word with that byte in front
 pub Holds-front : (v n : ℕ) (bytes : List ℕ) → v < 256 → n < 2 ^ 128 → length bytes < 16 → Holds n bytes → Holds (plus (n / 256) (v * 2 ^ 120)) (v ∷ bytes)
 Holds-front v n bytes is_byte is_word fits holds =
     let count : 16 - length bytes ≡ 16 - length (v ∷ bytes) + 1 = omega arith in
@@ -170,7 +189,12 @@ Holds-front v n bytes is_byte is_word fits holds =
     bytes_of-front v n is_byte is_word ∙ ap (λ xs. v ∷ xs) upper
 
 -- one coefficient more, before those that were read
-pub Holds-multiple_more : (factor coefficient byte n : ℕ) (read : List ℕ) → byte ≡ product factor coefficient → n < 2 ^ 128 → length read < 16 → Holds n (scaled factor (reverse read)) → Holds (plus (n / 256) (byte * 2 ^ 120 % 2 ^ 128)) (scaled factor (reverse (read ++ coefficient ∷ [])))
+pub Holds-multiple_more : (factor coefficient byte n : ℕ) (read : List ℕ)
+    → byte ≡ product factor coefficient
+    → n < 2 ^ 128
+    → length read < 16
+    → Holds n (scaled factor (reverse read))
+    → Holds (plus (n / 256) (byte * 2 ^ 120 % 2 ^ 128)) (scaled factor (reverse (read ++ coefficient ∷ [])))
 Holds-multiple_more factor coefficient byte n read is is_word fits holds =
     let small : byte < 256 = rw is (product-byte factor coefficient) in
     let kept : byte * 2 ^ 120 % 2 ^ 128 ≡ byte * 2 ^ 120 = omega arith in
@@ -178,12 +202,14 @@ Holds-multiple_more factor coefficient byte n read is is_word fits holds =
     ap (scaled factor) (reverse-append read (coefficient ∷ [])) ∙ scaled-cons factor coefficient (reverse read) ∙ ap (λ b. b ∷ scaled factor (reverse read)) (sym is) in
     rw (kept, order) (Holds-front byte n (scaled factor (reverse read)) small is_word (omega (arith, length-scaled factor (reverse read), length-reverse read)) holds)
 
+-- the register 0 holds each multiple of no coefficients
 pub Holds-multiple_start : (factor : ℕ) → Holds 0 (scaled factor [])
 unfolding scaled
 Holds-multiple_start factor = Holds-zeros 0 (omega arith)
 
 -- ---- a byte leaves the register
 
+-- a number shifted up by one byte loses its first byte and gets a zero behind
 bytes_of-left : (n : ℕ) → n < 2 ^ 128 → bytes_of 16 (n * 256 % 2 ^ 128) ≡ bytes_of 15 n ++ 0 ∷ []
 bytes_of-left n is_word =
     let upper : n * 256 % 2 ^ 128 / 256 ≡ n % 2 ^ (8 * 15) = omega arith in
@@ -199,6 +225,7 @@ Holds-parts n first rest is_word holds =
     let is_rest : bytes_of 15 n ≡ rest ++ replicate (16 - length (first ∷ rest)) 0 = cc in
     (sym top ∙ is_first, is_rest)
 
+-- a register shifted up holds its word without the first byte, and a zero behind it
 Holds-left : (n first : ℕ) (rest : List ℕ) → n < 2 ^ 128 → Holds n (first ∷ rest) → Holds (n * 256 % 2 ^ 128) (rest ++ 0 ∷ [])
 Holds-left n first rest is_word holds =
     let zeros = 16 - length (first ∷ rest) in
@@ -212,7 +239,12 @@ Holds-left n first rest is_word holds =
     ∙ ap (λ m. (rest ++ 0 ∷ []) ++ replicate (16 - m) 0) (sym same)
 
 -- the shifted register and a multiple of the generator are the next register
-Holds-next : (generator : List ℕ) (n byte entry first : ℕ) (rest : List ℕ) → n < 2 ^ 128 → length (first ∷ rest) ≡ length generator → Holds n (first ∷ rest) → Holds entry (scaled (plus first byte) generator) → Holds (plus (n * 256 % 2 ^ 128) entry) (next_register generator (first ∷ rest) byte)
+Holds-next : (generator : List ℕ) (n byte entry first : ℕ) (rest : List ℕ)
+    → n < 2 ^ 128
+    → length (first ∷ rest) ≡ length generator
+    → Holds n (first ∷ rest)
+    → Holds entry (scaled (plus first byte) generator)
+    → Holds (plus (n * 256 % 2 ^ 128) entry) (next_register generator (first ∷ rest) byte)
 unfolding next_register
 Holds-next generator n byte entry first rest is_word long holds in_entry =
     let same : length (rest ++ 0 ∷ []) ≡ length (scaled (plus first byte) generator) = length-append rest (0 ∷ []) ∙ omega (arith, length-scaled (plus first byte) generator) in
@@ -220,6 +252,7 @@ Holds-next generator n byte entry first rest is_word long holds in_entry =
 
 -- ---- the remainder in the register
 
+-- a register that holds a remainder's bytes holds the remainder
 HoldsRemainder-from : (generator read bytes : List ℕ) (n : ℕ) → IsRemainder generator read bytes → Holds n bytes → HoldsRemainder generator read n
 HoldsRemainder-from generator read bytes n is holds =
     let upper : bytes ≡ take (length generator) (bytes_of 16 n) = sym (ap (take (length generator)) holds ∙ take_at bytes (replicate (16 - length bytes) 0) (length generator) is.size) in
@@ -228,11 +261,20 @@ HoldsRemainder-from generator read bytes n is holds =
       zeros = subst (λ xs. Holds n xs) upper holds;
     }
 
+-- before anything is read the register 0 holds the remainder
 pub HoldsRemainder-start : (generator : List ℕ) → length generator ≤ 16 → HoldsRemainder generator [] 0
 HoldsRemainder-start generator fits =
     HoldsRemainder-from generator [] (replicate (length generator) 0) 0 (IsRemainder-start generator) (Holds-zeros (length generator) fits)
 
-next_by_list : (generator read bytes table : List ℕ) (n byte : ℕ) → n < 2 ^ 128 → byte < 256 → 0 < length generator → HasMultiples generator table 256 → IsRemainder generator read bytes → Holds n bytes → HoldsRemainder generator (read ++ byte ∷ []) (plus (n * 256 % 2 ^ 128) (get_or table (plus (n / 2 ^ 120) byte) 0))
+-- one step of the division keeps the remainder, where the register's bytes are given as a list
+next_by_list : (generator read bytes table : List ℕ) (n byte : ℕ)
+    → n < 2 ^ 128
+    → byte < 256
+    → 0 < length generator
+    → HasMultiples generator table 256
+    → IsRemainder generator read bytes
+    → Holds n bytes
+    → HoldsRemainder generator (read ++ byte ∷ []) (plus (n * 256 % 2 ^ 128) (get_or table (plus (n / 2 ^ 120) byte) 0))
 next_by_list generator read [] table n byte is_word is_byte some_degree has is holds = let long : 0 ≡ length generator = is.size in absurd (omega arith)
 next_by_list generator read (first ∷ rest) table n byte is_word is_byte some_degree has is holds =
     let top : n / 2 ^ 120 ≡ first = (Holds-parts n first rest is_word holds).0 in
@@ -243,13 +285,23 @@ next_by_list generator read (first ∷ rest) table n byte is_word is_byte some_d
     (Holds-next generator n byte (get_or table (plus first byte) 0) first rest is_word is.size holds entry))
 
 -- one byte more
-pub HoldsRemainder-next : (generator read table : List ℕ) (n byte : ℕ) → n < 2 ^ 128 → byte < 256 → 0 < length generator → HasMultiples generator table 256 → HoldsRemainder generator read n → HoldsRemainder generator (read ++ byte ∷ []) (after_byte table n byte)
+pub HoldsRemainder-next : (generator read table : List ℕ) (n byte : ℕ)
+    → n < 2 ^ 128
+    → byte < 256
+    → 0 < length generator
+    → HasMultiples generator table 256
+    → HoldsRemainder generator read n
+    → HoldsRemainder generator (read ++ byte ∷ []) (after_byte table n byte)
 unfolding after_byte
 HoldsRemainder-next generator read table n byte is_word is_byte some_degree has before =
     next_by_list generator read (take (length generator) (bytes_of 16 n)) table n byte is_word is_byte some_degree has before.remainder before.zeros
 
 -- as a loop over the message has it
-pub HoldsRemainder-more : (generator message table : List ℕ) (i n byte : ℕ) → i < length message → byte ≡ get_or message i 0 → HoldsRemainder generator (take i message ++ byte ∷ []) n → HoldsRemainder generator (take (i + 1) message) n
+pub HoldsRemainder-more : (generator message table : List ℕ) (i n byte : ℕ)
+    → i < length message
+    → byte ≡ get_or message i 0
+    → HoldsRemainder generator (take i message ++ byte ∷ []) n
+    → HoldsRemainder generator (take (i + 1) message) n
 HoldsRemainder-more generator message table i n byte inside is after =
     rw (take_more message i 0 inside, ← is) after
 
@@ -277,7 +329,12 @@ bytes_of-same (suc k) a b below_a below_b same =
     omega arith
 
 -- the entry of a sum is the sum of the entries
-entry-plus : (generator table : List ℕ) (a b : ℕ) → a < 256 → b < 256 → ((i : ℕ) → get_or table i 0 < 2 ^ 128) → HasMultiples generator table 256 → get_or table (plus a b) 0 ≡ plus (get_or table a 0) (get_or table b 0)
+entry-plus : (generator table : List ℕ) (a b : ℕ)
+    → a < 256
+    → b < 256
+    → ((i : ℕ) → get_or table i 0 < 2 ^ 128)
+    → HasMultiples generator table 256
+    → get_or table (plus a b) 0 ≡ plus (get_or table a 0) (get_or table b 0)
 entry-plus generator table a b byte_a byte_b words has =
     let in_sum : Holds (get_or table (plus a b) 0) (sum_of (scaled a generator) (scaled b generator)) = rw (scaled-plus a b generator) at (has (plus a b) (plus-byte a b byte_a byte_b)) in
     let same : length (scaled a generator) ≡ length (scaled b generator) = length-scaled a generator ∙ sym (length-scaled b generator) in
@@ -294,18 +351,27 @@ left-plus a b =
     let whole : plus a b * 2 ^ 8 ≡ plus (a * 2 ^ 8) (b * 2 ^ 8) = cc (block, left, right, none, plus-self 0) in
     ap (λ m. m % 2 ^ 128) whole ∙ xor_mod (a * 2 ^ 8) (b * 2 ^ 8) 128
 
+-- two sums are summed part by part
 crossed : (a b c d : ℕ) → plus (plus a b) (plus c d) ≡ plus (plus a c) (plus b d)
 crossed a b c d = simp ring
 
+-- the register after one more byte is a number of 128 bits
 pub after_byte-word : (table : List ℕ) (n byte : ℕ) → ((i : ℕ) → get_or table i 0 < 2 ^ 128) → after_byte table n byte < 2 ^ 128
 unfolding after_byte
 after_byte-word table n byte words = xor_lt 128 (n * 2 ^ 8 % 2 ^ 128) (get_or table (plus (n / 2 ^ 120) byte) 0) (omega arith) (words (plus (n / 2 ^ 120) byte))
 
+-- the middle one of three summands comes out last
 last_out : (m q b : ℕ) → plus (plus m q) b ≡ plus (plus m b) q
 last_out m q b = simp ring
 
 -- a step of a sum is the sum of a step with the byte and of one with zero
-pub after_byte-sum : (generator table : List ℕ) (a b byte : ℕ) → a < 2 ^ 128 → b < 2 ^ 128 → byte < 256 → ((i : ℕ) → get_or table i 0 < 2 ^ 128) → HasMultiples generator table 256 → after_byte table (plus a b) byte ≡ plus (after_byte table a byte) (after_byte table b 0)
+pub after_byte-sum : (generator table : List ℕ) (a b byte : ℕ)
+    → a < 2 ^ 128
+    → b < 2 ^ 128
+    → byte < 256
+    → ((i : ℕ) → get_or table i 0 < 2 ^ 128)
+    → HasMultiples generator table 256
+    → after_byte table (plus a b) byte ≡ plus (after_byte table a byte) (after_byte table b 0)
 unfolding after_byte
 after_byte-sum generator table a b byte word_a word_b is_byte words has =
     let top_a = plus (a / 2 ^ 120) byte in

@@ -6,7 +6,7 @@ use Rattle.std.proofs.lemmas.List.Elements.{All-head, All-tail, All-replicate, A
 use Rattle.gf_field.specs.Field.{plus, product, power}
 use Rattle.gf_field.specs.Words.{IsByte, value}
 use Rattle.gf_field.proofs.FieldLaws.{plus-zero_same, product-byte, zero-product, power-suc}
-use Rattle.rs_code.specs.Polynomials.{sum_of, scaled, IsRemainder}
+use Rattle.rs_code.specs.Inner.Polynomials.{sum_of, scaled, IsRemainder}
 use Rattle.rs_code.proofs.Ring.{ring}
 use Rattle.rs_code.proofs.Values.{value-cons, value-append, value-push, value-sum_of, value-scaled, value-zeros, length-sum_of, length-scaled, get_or-sum_of, get_or-scaled}
 use Rattle.rs_code.proofs.Generator.{value-led, get_or-padded}
@@ -23,6 +23,7 @@ unfoldable pub next_register : List ℕ → List ℕ → ℕ → List ℕ
 next_register generator [] byte = []
 next_register generator (first ∷ rest) byte = sum_of (rest ++ 0 ∷ []) (scaled (plus first byte) generator)
 
+-- before anything is read the remainder is zeros
 pub IsRemainder-start : (generator : List ℕ) → IsRemainder generator [] (replicate (length generator) 0)
 IsRemainder-start generator = record {
   size = length-replicate (length generator) 0;
@@ -30,10 +31,15 @@ IsRemainder-start generator = record {
   vanishes = λ x root. value-zeros (length generator) x;
 }
 
+-- Horner's step of the message and the register's shift, with the factor's share of the generator, multiplied out
 turned : (v byte first t p x : ℕ) → plus (product (plus (product v x) byte) (product p x)) (plus (plus (product t x) 0) (product (plus first byte) (product p x))) ≡ product (plus (product v (product p x)) (plus (product first p) t)) x
 turned v byte first t p x = simp ring
 
-pub IsRemainder-next : (generator read : List ℕ) (first : ℕ) (rest : List ℕ) (byte : ℕ) → byte < 256 → IsRemainder generator read (first ∷ rest) → IsRemainder generator (read ++ byte ∷ []) (next_register generator (first ∷ rest) byte)
+-- the register after one more byte is the remainder of what was read with that byte
+pub IsRemainder-next : (generator read : List ℕ) (first : ℕ) (rest : List ℕ) (byte : ℕ)
+    → byte < 256
+    → IsRemainder generator read (first ∷ rest)
+    → IsRemainder generator (read ++ byte ∷ []) (next_register generator (first ∷ rest) byte)
 unfolding next_register
 IsRemainder-next generator read first rest byte is_byte before =
     let long : length (first ∷ rest) ≡ length generator = before.size in
@@ -60,7 +66,13 @@ IsRemainder-next generator read first rest byte is_byte before =
     }
 
 -- byte by byte: the next one, and the factor's share of the generator
-pub IsRemainder-from_places : (generator read register after : List ℕ) (byte : ℕ) → byte < 256 → 0 < length register → length after ≡ length register → ((k : ℕ) → k < length register → get_or after k 0 ≡ plus (get_or register (k + 1) 0) (product (plus (get_or register 0 0) byte) (get_or generator k 0))) → IsRemainder generator read register → IsRemainder generator (read ++ byte ∷ []) after
+pub IsRemainder-from_places : (generator read register after : List ℕ) (byte : ℕ)
+    → byte < 256
+    → 0 < length register
+    → length after ≡ length register
+    → ((k : ℕ) → k < length register → get_or after k 0 ≡ plus (get_or register (k + 1) 0) (product (plus (get_or register 0 0) byte) (get_or generator k 0)))
+    → IsRemainder generator read register
+    → IsRemainder generator (read ++ byte ∷ []) after
 unfolding next_register
 IsRemainder-from_places generator read [] after byte is_byte some long places before = absurd (omega arith)
 IsRemainder-from_places generator read (first ∷ rest) after byte is_byte some long places before =
@@ -77,12 +89,20 @@ IsRemainder-from_places generator read (first ∷ rest) after byte is_byte some 
     subst (λ xs. IsRemainder generator (read ++ byte ∷ []) xs) (sym is) (IsRemainder-next generator read first rest byte is_byte before)
 
 -- the register after one more byte, where the generator has a degree
-next_remainder : (generator read register : List ℕ) (byte : ℕ) → byte < 256 → 0 < length generator → IsRemainder generator read register → IsRemainder generator (read ++ byte ∷ []) (next_register generator register byte)
+next_remainder : (generator read register : List ℕ) (byte : ℕ)
+    → byte < 256
+    → 0 < length generator
+    → IsRemainder generator read register
+    → IsRemainder generator (read ++ byte ∷ []) (next_register generator register byte)
 next_remainder generator read [] byte is_byte some_degree before = let long : 0 ≡ length generator = before.size in absurd (omega arith)
 next_remainder generator read (first ∷ rest) byte is_byte some_degree before = IsRemainder-next generator read first rest byte is_byte before
 
 -- each list of bytes has a remainder
-pub remainder_of : (generator read message register : List ℕ) → 0 < length generator → All IsByte message → IsRemainder generator read register → (after : List ℕ) × IsRemainder generator (read ++ message) after
+pub remainder_of : (generator read message register : List ℕ)
+    → 0 < length generator
+    → All IsByte message
+    → IsRemainder generator read register
+    → (after : List ℕ) × IsRemainder generator (read ++ message) after
 remainder_of generator read [] register some_degree all before = (register, rw (append-nil read) before)
 remainder_of generator read (byte ∷ message) register some_degree all before =
     let is_byte = All-head IsByte byte message all in
@@ -91,6 +111,10 @@ remainder_of generator read (byte ∷ message) register some_degree all before =
     rw append_assoc at after
 
 -- as a loop over the message has it
-pub IsRemainder-more : (generator message register : List ℕ) (i byte : ℕ) → i < length message → byte ≡ get_or message i 0 → IsRemainder generator (take i message ++ byte ∷ []) register → IsRemainder generator (take (i + 1) message) register
+pub IsRemainder-more : (generator message register : List ℕ) (i byte : ℕ)
+    → i < length message
+    → byte ≡ get_or message i 0
+    → IsRemainder generator (take i message ++ byte ∷ []) register
+    → IsRemainder generator (take (i + 1) message) register
 IsRemainder-more generator message register i byte inside is after =
     rw (take_more message i 0 inside, ← is) after

@@ -6,18 +6,22 @@ use Rattle.gf_field.specs.Field.{alpha, power}
 use Rattle.gf_field.specs.Words.{value}
 use Rattle.rs_code.specs.Syndromes.{syndromes_of}
 
+-- no syndromes are the empty list
 pub syndromes_of-none : (word : List ℕ) → syndromes_of 0 word ≡ []
 unfolding syndromes_of
 syndromes_of-none word = refl
 
+-- one syndrome more comes behind the others
 pub syndromes_of-more : (r : ℕ) (word : List ℕ) → syndromes_of (r + 1) word ≡ syndromes_of r word ++ value word (power alpha r) ∷ []
 unfolding syndromes_of
 syndromes_of-more r word = map-range_with_len_more (λ k. value word (power alpha k)) 0 r r (zero-add r)
 
+-- r syndromes are r values
 pub length-syndromes_of : (r : ℕ) (word : List ℕ) → length (syndromes_of r word) ≡ r
 unfolding syndromes_of
 length-syndromes_of r word = length-map-range_with_len (λ k. value word (power alpha k)) 0 r
 
+-- syndrome k is the word's value at alpha^k
 pub get_or-syndromes_of : (r : ℕ) (word : List ℕ) (k : ℕ) → k < r → get_or (syndromes_of r word) k 0 ≡ value word (power alpha k)
 unfolding syndromes_of
 get_or-syndromes_of r word k below = get_or-map-range_with_len (λ j. value word (power alpha j)) 0 r k k 0 below (zero-add k)

@@ -4,21 +4,25 @@ use Rattle.std.proofs.lemmas.List.{length-map, take_more}
 use Rattle.gf_field.specs.Field.{plus, product, power}
 use Rattle.gf_field.specs.Words.{value}
 use Rattle.gf_field.proofs.FieldLaws.{plus-byte, product-byte, power-zero, power-suc, power-add, product-assoc, product-comm, product-one, zero-product, product-zero, zero-plus, plus-zero}
-use Rattle.rs_code.specs.Polynomials.{sum_of, scaled}
+use Rattle.rs_code.specs.Inner.Polynomials.{sum_of, scaled}
 use Rattle.rs_code.proofs.Ring.{ring}
 
+-- the value of the empty word is 0
 pub value-nil : (x : ℕ) → value [] x ≡ 0
 unfolding value
 value-nil x = refl
 
+-- a first byte counts as often as the power of x by the number of bytes behind it
 pub value-cons : (byte : ℕ) (rest : List ℕ) (x : ℕ) → value (byte ∷ rest) x ≡ plus (product byte (power x (length rest))) (value rest x)
 unfolding value
 value-cons byte rest x = refl
 
+-- a value is a byte
 pub value-byte : (word : List ℕ) (x : ℕ) → value word x < 256
 value-byte [] x = rw value-nil (omega arith)
 value-byte (byte ∷ rest) x = rw value-cons (plus-byte _ _ (product-byte byte (power x (length rest))) (value-byte rest x))
 
+-- a first byte before two joined words, multiplied out
 one_more : (c front back v w : ℕ) → plus (product c (product front back)) (plus (product v back) w) ≡ plus (product (plus (product c front) v) back) w
 one_more c front back v w = simp ring
 
@@ -36,12 +40,14 @@ value-push word byte x is_byte =
     let once : product (value word x) (power x 1) ≡ product (value word x) x = rw (power-suc, power-zero, ← product-assoc, product-one (value word x) (value-byte word x)) in
     value-append word (byte ∷ []) x ∙ simp (last, once)
 
+-- a sum of two words of one length has that length
 pub length-sum_of : (a b : List ℕ) → length a ≡ length b → length (sum_of a b) ≡ length a
 unfolding sum_of
 length-sum_of [] b same = refl
 length-sum_of (x ∷ a) [] same = absurd (omega arith)
 length-sum_of (x ∷ a) (y ∷ b) same = ap suc (length-sum_of a b (omega arith))
 
+-- each byte of a sum is the sum of the two bytes
 pub get_or-sum_of : (a b : List ℕ) (k : ℕ) → length a ≡ length b → get_or (sum_of a b) k 0 ≡ plus (get_or a k 0) (get_or b k 0)
 unfolding sum_of
 get_or-sum_of [] [] k same = refl
@@ -50,6 +56,7 @@ get_or-sum_of (x ∷ a) [] k same = absurd (omega arith)
 get_or-sum_of (x ∷ a) (y ∷ b) zero same = refl
 get_or-sum_of (x ∷ a) (y ∷ b) (suc k) same = get_or-sum_of a b k (omega arith)
 
+-- the value of a sum is the sum of the values
 pub value-sum_of : (a b : List ℕ) (x : ℕ) → length a ≡ length b → value (sum_of a b) x ≡ plus (value a x) (value b x)
 unfolding sum_of
 value-sum_of [] [] x same = simp (value-nil, plus-zero)
@@ -61,20 +68,24 @@ value-sum_of (c ∷ a) (d ∷ b) x same =
     let as_long_too : power x (length b) ≡ power x (length a) = ap (power x) (sym rest) in
     simp (value-cons, as_long, as_long_too, value-sum_of a b x rest, ring)
 
+-- a multiple of a word is as long as the word
 pub length-scaled : (factor : ℕ) (word : List ℕ) → length (scaled factor word) ≡ length word
 unfolding scaled
 length-scaled factor word = length-map word (product factor)
 
+-- a multiple begins with the multiple of the first byte
 pub scaled-cons : (factor byte : ℕ) (word : List ℕ) → scaled factor (byte ∷ word) ≡ product factor byte ∷ scaled factor word
 unfolding scaled
 scaled-cons factor byte word = refl
 
+-- each byte of a multiple is the factor times the word's byte
 pub get_or-scaled : (factor : ℕ) (word : List ℕ) (k : ℕ) → get_or (scaled factor word) k 0 ≡ product factor (get_or word k 0)
 unfolding scaled
 get_or-scaled factor [] k = sym (product-zero factor)
 get_or-scaled factor (byte ∷ word) zero = refl
 get_or-scaled factor (byte ∷ word) (suc k) = get_or-scaled factor word k
 
+-- the value of a multiple is the factor times the word's value
 pub value-scaled : (factor : ℕ) (word : List ℕ) (x : ℕ) → value (scaled factor word) x ≡ product factor (value word x)
 unfolding scaled
 value-scaled factor [] x = simp (value-nil, product-zero)
@@ -83,6 +94,7 @@ value-scaled factor (byte ∷ word) x =
     value-cons (product factor byte) (scaled factor word) x
     ∙ simp (as_long, value-cons, value-scaled factor word x, ring)
 
+-- the value of zeros is 0
 pub value-zeros : (n x : ℕ) → value (replicate n 0) x ≡ 0
 value-zeros zero x = value-nil x
 value-zeros (suc n) x = simp (value-cons, zero-product, zero-plus, value-zeros n x)

@@ -9,8 +9,8 @@ use Rattle.std.proofs.lemmas.List.Elements.{All-head, All-tail}
 use Rattle.gf_field.specs.Field.{plus}
 use Rattle.gf_field.specs.Words.{IsByte}
 use Rattle.gf_field.proofs.FieldLaws.{plus-byte, plus-assoc}
-use Rattle.rs_code.specs.Polynomials.{IsRemainder}
-use Rattle.rs_code.specs.Registers.{bytes_of, HoldsRemainder, HasMultiples, AreTables, after_byte, after_bytes}
+use Rattle.rs_code.specs.Inner.Polynomials.{IsRemainder}
+use Rattle.rs_code.specs.Inner.Registers.{bytes_of, HoldsRemainder, HasMultiples, AreTables, after_byte, after_bytes}
 use Rattle.rs_code.proofs.Registers.{after_byte-sum, after_byte-word, HoldsRemainder-next, HoldsRemainder-start}
 use Rattle.rs_code.proofs.Ring.{ring}
 
@@ -21,7 +21,14 @@ after_bytes-append table n [] back = refl
 after_bytes-append table n (byte ∷ front) back = after_bytes-append table (after_byte table n byte) front back
 
 -- the remainder after more bytes
-pub HoldsRemainder-bytes : (generator read table bytes : List ℕ) (n : ℕ) → n < 2 ^ 128 → All IsByte bytes → ((i : ℕ) → get_or table i 0 < 2 ^ 128) → 0 < length generator → HasMultiples generator table 256 → HoldsRemainder generator read n → HoldsRemainder generator (read ++ bytes) (after_bytes table n bytes)
+pub HoldsRemainder-bytes : (generator read table bytes : List ℕ) (n : ℕ)
+    → n < 2 ^ 128
+    → All IsByte bytes
+    → ((i : ℕ) → get_or table i 0 < 2 ^ 128)
+    → 0 < length generator
+    → HasMultiples generator table 256
+    → HoldsRemainder generator read n
+    → HoldsRemainder generator (read ++ bytes) (after_bytes table n bytes)
 unfolding after_bytes
 HoldsRemainder-bytes generator read table [] n is_word all words some_degree has before = rw (append-nil read) before
 HoldsRemainder-bytes generator read table (byte ∷ bytes) n is_word all words some_degree has before =
@@ -53,6 +60,7 @@ after_byte-is : (table : List ℕ) (n byte : ℕ) → after_byte table n byte �
 unfolding after_byte
 after_byte-is table n byte = refl
 
+-- the four entries in the order in which they were added, and in that in which they are looked up
 turned : (r t0 t1 t2 t3 : ℕ) → plus r (plus t0 (plus t1 (plus t2 t3))) ≡ plus (plus r (plus t3 t2)) (plus t1 t0)
 turned r t0 t1 t2 t3 = simp ring
 

@@ -3,8 +3,8 @@ use Rattle.std.specs.Prelude.{◌≡◌, [], ◌∷◌, refl}
 use Rattle.gf_field.specs.Field.{shift, shifted, partial_product, product, power}
 use Rattle.gf_field.specs.Words.{value}
 use Rattle.rs_code.specs.Distance.{weight, distance}
-use Rattle.rs_code.specs.Polynomials.{sum_of, scaled, times_root}
-use Rattle.rs_code.specs.PowerSums.{power_sum, points_of}
+use Rattle.rs_code.specs.Inner.Polynomials.{sum_of, scaled, times_root}
+use Rattle.rs_code.specs.Inner.PowerSums.{power_sum, points_of}
 use Rattle.rs_code.specs.Syndromes.{syndromes_of}
 
 -- the coefficients of the IED's generator after the leading 01: (x + 01) (x + 02) = x^2 + 03 x + 02

@@ -1,7 +1,6 @@
 pub mod Distance
 pub mod Examples
+pub mod Inner
 pub mod Laws
 pub mod Polynomials
-pub mod PowerSums
-pub mod Registers
 pub mod Syndromes

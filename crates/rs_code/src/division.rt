@@ -3,7 +3,8 @@
 ghost use Rattle.std.specs.Prelude.{◌≡◌, ℕ, ◌-◌, ◌<◌, ◌≤◌, List, [], ◌∷◌, ◌++◌, length, All};
 ghost use Rattle.arrayvec.specs.ArrayVec.{array_vec_len};
 ghost use Rattle.gf_field.specs.Words.{IsByte};
-ghost use Rattle.rs_code.specs.Polynomials.{sum_of, times_root, HasRoots, IsRemainder};
+ghost use Rattle.rs_code.specs.Polynomials.{HasRoots};
+ghost use Rattle.rs_code.specs.Inner.Polynomials.{sum_of, times_root, IsRemainder};
 
 use arrayvec::ArrayVec;
 use gf_field::mul;

@@ -3,8 +3,8 @@
 ghost use Rattle.std.specs.Prelude.{◌≡◌, ℕ, ◌<◌, ◌≤◌, List, [], ◌∷◌, ◌++◌, length, slice_index_or, take, All};
 ghost use Rattle.std.specs.List.{concat};
 ghost use Rattle.gf_field.specs.Words.{IsByte};
-ghost use Rattle.rs_code.specs.Polynomials.{IsRemainder};
-ghost use Rattle.rs_code.specs.Registers.{AreTables, after_bytes, bytes_of};
+ghost use Rattle.rs_code.specs.Inner.Polynomials.{IsRemainder};
+ghost use Rattle.rs_code.specs.Inner.Registers.{AreTables, after_bytes, bytes_of};
 
 /// Sets `parity` to the remainder of `message` by the generator whose tables these are.
 /// That the message is bytes is told too, since a word of constant length doesn't tell it.
@@ -118,7 +118,7 @@ fn with_word(tables: &[[u128; 256]; 4], register: u128, word: [u8; 4]) -> u128
 
 /// One step of the division: takes in one more byte.
 #[inline]
-#[tactic(auto, unfolding(crate::specs::Registers::after_byte, crate::specs::Registers::after_bytes))]
+#[tactic(auto, unfolding(crate::specs::Inner::Registers::after_byte, crate::specs::Inner::Registers::after_bytes))]
 fn with_byte(table: &[u128; 256], register: u128, byte: u8) -> u128
     ensures { (rest : List ℕ) → after_bytes table.now result rest ≡ after_bytes table.now register (byte ∷ rest) }
 {

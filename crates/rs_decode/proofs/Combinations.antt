@@ -10,19 +10,21 @@ use Rattle.gf_field.proofs.FieldLaws.{plus-zero, product-assoc, product-byte, pr
 use Rattle.rs_code.specs.Distance.{weight}
 use Rattle.rs_code.proofs.Ring.{ring}
 use Rattle.rs_code.proofs.Values.{value-nil, value-cons}
-use Rattle.rs_code.specs.PowerSums.{power_sum}
-use Rattle.rs_decode.specs.Locator.{at_points}
+use Rattle.rs_code.specs.Inner.PowerSums.{power_sum}
+use Rattle.rs_decode.specs.Inner.Locator.{at_points}
 use Rattle.rs_decode.specs.Register.{total, connection}
-use Rattle.rs_decode.specs.Sums.{AreSums}
+use Rattle.rs_decode.specs.Inner.Sums.{AreSums}
 use Rattle.rs_decode.proofs.Connections.{connection-total}
 use Rattle.rs_decode.proofs.Totals.{total-front, total-none, total-same}
 
+-- with a factor for each byte there are as many bytes as before
 pub length-at_points : (f : ℕ → ℕ) (bytes points : List ℕ) → length bytes ≡ length points → length (at_points f bytes points) ≡ length bytes
 unfolding at_points
 length-at_points f [] points same = refl
 length-at_points f (byte ∷ bytes) [] same = absurd (omega arith)
 length-at_points f (byte ∷ bytes) (point ∷ points) same = ap suc (length-at_points f bytes points (omega arith))
 
+-- with a factor for each byte they are still bytes
 pub All-at_points : (f : ℕ → ℕ) (bytes points : List ℕ) → All IsByte (at_points f bytes points)
 unfolding at_points
 All-at_points f [] points = All-nil IsByte
@@ -30,7 +32,11 @@ All-at_points f (byte ∷ bytes) [] = All-nil IsByte
 All-at_points f (byte ∷ bytes) (point ∷ points) =
     All-cons IsByte (product byte (f point)) (at_points f bytes points) (product-byte byte (f point)) (All-at_points f bytes points)
 
-pub get_or-at_points : (f : ℕ → ℕ) (bytes points : List ℕ) (j : ℕ) → length bytes ≡ length points → j < length bytes → get_or (at_points f bytes points) j 0 ≡ product (get_or bytes j 0) (f (get_or points j 0))
+-- each byte is multiplied by the function's value at its point
+pub get_or-at_points : (f : ℕ → ℕ) (bytes points : List ℕ) (j : ℕ)
+    → length bytes ≡ length points
+    → j < length bytes
+    → get_or (at_points f bytes points) j 0 ≡ product (get_or bytes j 0) (f (get_or points j 0))
 unfolding at_points
 get_or-at_points f [] points j same inside = absurd (omega arith)
 get_or-at_points f (byte ∷ bytes) [] j same inside = absurd (omega arith)
@@ -72,6 +78,7 @@ power_sum-alike f g (byte ∷ bytes) (point ∷ points) k alike =
     ap (λ v. plus (product (product byte v) (power point k)) (power_sum (at_points f bytes points) points k)) (alike point)
     ∙ ap (plus (product (product byte (g point)) (power point k))) (power_sum-alike f g bytes points k alike)
 
+-- the share of the first byte in the sum with one more coefficient, multiplied out
 one_more : (byte c high v up sum rest : ℕ)
     → plus (product (product byte (plus (product c high) v)) up) (plus (product c sum) rest) ≡ plus (product c (plus (product byte (product up high)) sum)) (plus (product (product byte v) up) rest)
 one_more byte c high v up sum rest = simp ring

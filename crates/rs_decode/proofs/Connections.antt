@@ -2,10 +2,10 @@
 use Rattle.std.proofs.Common.{◌≡◌, ℕ, ◌+◌, ◌-◌, ◌<◌, ◌≤◌, List, length, get_or, refl, sym, ap, ◌∙◌, arith}
 use Rattle.gf_field.specs.Field.{plus, product}
 use Rattle.gf_field.proofs.FieldLaws.{one-product, product-assoc, product-byte, product-comm, product-zero, zero-product, plus-product}
-use Rattle.rs_code.specs.Polynomials.{sum_of, scaled}
+use Rattle.rs_code.specs.Inner.Polynomials.{sum_of, scaled}
 use Rattle.rs_code.proofs.Values.{get_or-sum_of, get_or-scaled}
 use Rattle.rs_decode.specs.Register.{total, connection}
-use Rattle.rs_decode.specs.Steps.{Makes}
+use Rattle.rs_decode.specs.Inner.Steps.{Makes}
 use Rattle.rs_decode.proofs.Totals.{total-exchange, total-first, total-byte, total-later, total-longer, total-plus, total-product, total-same, total-zeros}
 
 -- the definition

@@ -13,17 +13,24 @@ use Rattle.rs_decode.proofs.Nearness.{cost-parts}
 pub error_at : Bool → ℕ → ℕ → ℕ
 error_at mark byte got = if mark then 0 else if byte == got then 0 else 1
 
-pub error_count-next : (received word : List ℕ) (marks : List Bool) (i : ℕ) → i < length marks → length received ≡ length marks → length word ≡ length marks → error_count (drop i received) (drop i word) (drop i marks) ≡ error_at (get_or marks i false) (get_or word i 0) (get_or received i 0) + error_count (drop (i + 1) received) (drop (i + 1) word) (drop (i + 1) marks)
+-- the errors from a place on are that place's share and the errors behind it
+pub error_count-next : (received word : List ℕ) (marks : List Bool) (i : ℕ)
+    → i < length marks
+    → length received ≡ length marks
+    → length word ≡ length marks
+    → error_count (drop i received) (drop i word) (drop i marks) ≡ error_at (get_or marks i false) (get_or word i 0) (get_or received i 0) + error_count (drop (i + 1) received) (drop (i + 1) word) (drop (i + 1) marks)
 unfolding error_count error_at
 error_count-next received word marks i inside size_r size_w =
     rw (drop_more received i 0 (omega arith), drop_more word i 0 (omega arith), drop_more marks i false inside) refl
 
+-- no places have no errors
 error_count-no_marks : (received word : List ℕ) → error_count received word [] ≡ 0
 unfolding error_count
 error_count-no_marks [] word = refl
 error_count-no_marks (got ∷ received) [] = refl
 error_count-no_marks (got ∷ received) (byte ∷ word) = refl
 
+-- past the last place there are no errors
 pub error_count-end : (received word : List ℕ) (marks : List Bool) (n : ℕ) → length marks ≤ n → error_count (drop n received) (drop n word) (drop n marks) ≡ 0
 error_count-end received word marks n past = rw (drop_all n marks past) (error_count-no_marks (drop n received) (drop n word))
 
@@ -36,6 +43,7 @@ error_at-number false byte got = elim (cases_eq byte got) [
   | inr differ ↦ grind (arith, nat_tests)
 ]
 
+-- one place has one error at most
 pub error_at-one : (mark : Bool) (byte got : ℕ) → error_at mark byte got ≤ 1
 unfolding error_at
 error_at-one true byte got = omega arith
@@ -55,7 +63,12 @@ error_count-self (byte ∷ word) [] = refl
 error_count-self (byte ∷ word) (mark ∷ marks) = ap (λ n. n + error_count word word marks) (error_same mark byte) ∙ omega (arith, error_count-self word marks)
 
 -- a codeword is near that costs little enough
-pub IsNear-from_counts : (n r : ℕ) (received word : List ℕ) (marks : List Bool) → IsCodeword n r word → length received ≡ n → length marks ≡ n → 2 * error_count received word marks + marked marks ≤ r → IsNear n r received marks word
+pub IsNear-from_counts : (n r : ℕ) (received word : List ℕ) (marks : List Bool)
+    → IsCodeword n r word
+    → length received ≡ n
+    → length marks ≡ n
+    → 2 * error_count received word marks + marked marks ≤ r
+    → IsNear n r received marks word
 IsNear-from_counts n r received word marks codeword size_r size_m few =
     let parts = cost-parts received word marks (size_r ∙ sym codeword.size) (size_m ∙ sym codeword.size) in
     record {
@@ -71,6 +84,7 @@ counts-from_near n r received word marks near =
     let parts = cost-parts received word marks (near.received_size ∙ sym near.codeword.size) (near.marks_size ∙ sym near.codeword.size) in
     omega (arith, near.within)
 
+-- a length that passes the test for 0 is 0
 pub empty_length : (n : ℕ) → (n == 0) ≡ true → n ≡ 0
 empty_length zero is = refl
 empty_length (suc n) is = grind (arith, nat_tests, is)

@@ -8,22 +8,25 @@ use Rattle.gf_field.proofs.FieldLaws.{plus-byte, plus-self, plus-zero, plus-zero
 use Rattle.rs_code.proofs.Ring.{ring}
 use Rattle.rs_code.proofs.Values.{value-nil, value-cons, value-byte}
 use Rattle.std.proofs.lemmas.Grind.{get_or-set_at}
-use Rattle.rs_code.specs.PowerSums.{points_of}
+use Rattle.rs_code.specs.Inner.PowerSums.{points_of}
 use Rattle.rs_code.proofs.PowerSums.{length-points_of}
-use Rattle.rs_decode.specs.Locator.{with_zeros}
+use Rattle.rs_decode.specs.Inner.Locator.{with_zeros}
 use Rattle.rs_decode.proofs.Nearness.{length-with_zeros}
 use Rattle.rs_decode.proofs.Zeros.{with_zeros-from_places, with_zeros-place, or_zero, or_false, is_zero, is_not_zero}
 use Rattle.rs_decode.specs.declared.few_zeros.TheConstants.{UNIT_ZEROS}
 
 -- ---- the values
 
+-- the value of x + a
 pub value-linear : (a x : ℕ) → IsByte a → IsByte x → value (1 ∷ a ∷ []) x ≡ plus x a
 value-linear a x byte_a byte_x =
     value-cons 1 (a ∷ []) x ∙ rw (value-cons a [] x, power-zero x, power-one x byte_x, value-nil x, one-product x byte_x, product-one a byte_a) (ap (plus x) (plus-zero a))
 
+-- x^2 + b x + c, with the factor x taken out of the first two terms
 two_terms : (x b c : ℕ) → plus (product x x) (plus (product b x) c) ≡ plus (product x (plus x b)) c
 two_terms x b c = simp ring
 
+-- the value of x^2 + b x + c
 pub value-quadratic : (b c x : ℕ) → IsByte c → IsByte x → value (1 ∷ b ∷ c ∷ []) x ≡ plus (product x (plus x b)) c
 value-quadratic b c x byte_c byte_x =
     let square : power x 2 ≡ product x x = power-suc x 1 ∙ ap (λ p. product p x) (power-one x byte_x) in
@@ -36,9 +39,11 @@ value-quadratic b c x byte_c byte_x =
 abbrev pub IsMet : ℕ → Type 0
 IsMet u = product (get_or UNIT_ZEROS u 0) (plus (get_or UNIT_ZEROS u 0) 1) ≡ u
 
+-- the table has a zero for the number that z is a zero for, as a test
 met : ℕ → Bool
 met z = product (get_or UNIT_ZEROS (product z (plus z 1)) 0) (plus (get_or UNIT_ZEROS (product z (plus z 1)) 0) 1) == product z (plus z 1)
 
+-- so it is for each z below n
 met_below : ℕ → Bool
 met_below zero = true
 met_below (suc n) = met n && met_below n
@@ -49,6 +54,7 @@ unfolding met_below met product partial_product shifted shift
 UNIT_ZEROS-meet = (Decides-below_and met (λ z. IsMet (product z (plus z 1))) met_below
     (λ z. Decides-eqb (product (get_or UNIT_ZEROS (product z (plus z 1)) 0) (plus (get_or UNIT_ZEROS (product z (plus z 1)) 0) 1)) (product z (plus z 1))) refl (λ _. refl) 256).0 refl
 
+-- x^2 + b x at x = b t, with the factor b^2 taken out
 scaled_pair : (b t : ℕ) → product (product b t) (plus (product b t) (product b 1)) ≡ product (product b b) (product t (plus t 1))
 scaled_pair b t = simp ring
 
@@ -56,6 +62,7 @@ scaled_pair b t = simp ring
 pair-scaled : (b t : ℕ) → IsByte b → product (product b t) (plus (product b t) b) ≡ product (product b b) (product t (plus t 1))
 pair-scaled b t byte_b = ap (λ one. product (product b t) (plus (product b t) one)) (sym (product-one b byte_b)) ∙ scaled_pair b t
 
+-- the square of a byte other than 0 isn't 0
 pub square-nonzero : (b : ℕ) → IsByte b → b ≢ 0 → product b b ≢ 0
 square-nonzero b byte_b nonzero is_zero = elim (product-zero_factor b b byte_b byte_b is_zero) [
   | inl none ↦ nonzero none
@@ -83,19 +90,24 @@ none-by_table b c u x byte_b byte_c byte_u byte_x nonzero unit fails vanishes =
     let met_there : product t (plus t 1) ≡ u = subst IsMet (sym of_unit.2) (UNIT_ZEROS-meet z of_unit.1) in
     fails (pair-scaled b t byte_b ∙ ap (product (product b b)) met_there ∙ product-comm (product b b) u ∙ unit)
 
+-- the values of x^2 + b x at x and at p add up to (x + p) (x + p + b)
 factors : (x p b : ℕ) → plus (product x (plus x b)) (product p (plus p b)) ≡ product (plus x p) (plus x (plus p b))
 factors x p b = simp ring
 
 -- ---- the marks
 
+-- x + a is 0 at a
 linear-zero : (a x : ℕ) → IsByte a → IsByte x → x ≡ a → (value (1 ∷ a ∷ []) x == 0) ≡ true
 linear-zero a x byte_a byte_x same = is_zero (value (1 ∷ a ∷ []) x) (value-linear a x byte_a byte_x ∙ ap (plus x) (sym same) ∙ plus-self x)
 
+-- and it isn't 0 at any other byte
 linear-nonzero : (a x : ℕ) → IsByte a → IsByte x → x ≢ a → (value (1 ∷ a ∷ []) x == 0) ≡ false
 linear-nonzero a x byte_a byte_x differ = is_not_zero (value (1 ∷ a ∷ []) x) (λ vanishes. differ (plus-zero_same x a (sym (value-linear a x byte_a byte_x) ∙ vanishes)))
 
 -- nothing changes where the polynomial has no zero among the points
-pub unmarked-by_none : (polynomial : List ℕ) (marks : List Bool) → ((k : ℕ) → k < length marks → value polynomial (power alpha (length marks - 1 - k)) ≢ 0) → marks ≡ with_zeros polynomial marks (points_of (length marks))
+pub unmarked-by_none : (polynomial : List ℕ) (marks : List Bool)
+    → ((k : ℕ) → k < length marks → value polynomial (power alpha (length marks - 1 - k)) ≢ 0)
+    → marks ≡ with_zeros polynomial marks (points_of (length marks))
 unmarked-by_none polynomial marks none =
     with_zeros-from_places polynomial marks marks refl (λ k below. or_false (get_or marks k false) (value polynomial (power alpha (length marks - 1 - k)) == 0) (is_not_zero (value polynomial (power alpha (length marks - 1 - k))) (none k below)))
 
@@ -105,7 +117,12 @@ no_place a marks byte_a apart = unmarked-by_none (1 ∷ a ∷ []) marks (λ k be
     apart k below (plus-zero_same (power alpha (length marks - 1 - k)) a (sym (value-linear a (power alpha (length marks - 1 - k)) byte_a (power-byte alpha (length marks - 1 - k))) ∙ vanishes)))
 
 -- the place of a point below
-pub one_place : (a e : ℕ) (marks : List Bool) → length marks ≤ 255 → IsByte a → power alpha e ≡ a → e < length marks → set marks (length marks - 1 - e) true ≡ with_zeros (1 ∷ a ∷ []) marks (points_of (length marks))
+pub one_place : (a e : ℕ) (marks : List Bool)
+    → length marks ≤ 255
+    → IsByte a
+    → power alpha e ≡ a
+    → e < length marks
+    → set marks (length marks - 1 - e) true ≡ with_zeros (1 ∷ a ∷ []) marks (points_of (length marks))
 one_place a e marks short byte_a reaches inside =
     let place = length marks - 1 - e in
     with_zeros-from_places (1 ∷ a ∷ []) marks (set marks place true) (length-set marks place true) (λ k below.
@@ -122,6 +139,7 @@ one_place a e marks short byte_a reaches inside =
           absurd (other (omega arith))))
     ])
 
+-- a mark for a zero of either factor is a mark for a zero of the product
 pair_tests : (m : Bool) (p q v : ℕ) → (v ≡ 0 → (p ≡ 0) ⊎ (q ≡ 0)) → (p ≡ 0 → v ≡ 0) → (q ≡ 0 → v ≡ 0) → ((m || (p == 0)) || (q == 0)) ≡ (m || (v == 0))
 pair_tests m p q v either first second =
     elim (cases_eq p 0) [

@@ -6,18 +6,19 @@ use Rattle.gf_field.specs.Words.{IsByte, IsCodeword, value}
 use Rattle.gf_field.proofs.FieldLaws.{plus-assoc, plus-pairs, plus-self, plus-zero, plus-product, power-swap}
 use Rattle.rs_code.specs.Syndromes.{syndromes_of}
 use Rattle.rs_code.proofs.Distance.{IsCodeword-close}
-use Rattle.rs_code.specs.PowerSums.{power_sum, points_of, AreDistinct}
+use Rattle.rs_code.specs.Inner.PowerSums.{power_sum, points_of, AreDistinct}
 use Rattle.rs_code.proofs.PowerSums.{length-points_of, AreDistinct-points_of}
 use Rattle.rs_code.proofs.Syndromes.{get_or-syndromes_of, length-syndromes_of}
 use Rattle.rs_code.proofs.Values.{value-cons}
 use Rattle.rs_decode.specs.Filling.{IsFilling, HasNoFilling, AgreeUnmarked, marked}
-use Rattle.rs_decode.specs.Places.{picked, patched}
-use Rattle.rs_decode.specs.Sums.{HasSums}
+use Rattle.rs_decode.specs.Inner.Places.{picked, patched}
+use Rattle.rs_decode.specs.Inner.Sums.{HasSums}
 use Rattle.rs_decode.proofs.Marks.{length-picked}
 use Rattle.rs_decode.proofs.Near.{distance-unmarked}
 
 -- ---- the points of marked places differ
 
+-- what holds of each number holds of those at marked places
 All-picked : (P : ℕ → Type 0) (marks : List Bool) (xs : List ℕ) → All P xs → All P (picked marks xs)
 unfolding picked
 All-picked P [] xs all = All-nil P
@@ -25,6 +26,7 @@ All-picked P (mark ∷ marks) [] all = All-nil P
 All-picked P (true ∷ marks) (x ∷ xs) all = All-cons P x (picked marks xs) (All-head P x xs all) (All-picked P marks xs (All-tail P x xs all))
 All-picked P (false ∷ marks) (x ∷ xs) all = All-picked P marks xs (All-tail P x xs all)
 
+-- of distinct numbers those at marked places are distinct
 AreDistinct-picked : (marks : List Bool) (xs : List ℕ) → AreDistinct xs → AreDistinct (picked marks xs)
 unfolding AreDistinct picked
 AreDistinct-picked [] xs distinct = tt
@@ -32,6 +34,7 @@ AreDistinct-picked (mark ∷ marks) [] distinct = tt
 AreDistinct-picked (true ∷ marks) (x ∷ xs) distinct = (All-picked (λ y. x ≢ y) marks xs distinct.0, AreDistinct-picked marks xs distinct.1)
 AreDistinct-picked (false ∷ marks) (x ∷ xs) distinct = AreDistinct-picked marks xs distinct.1
 
+-- the points of a word's marked places are distinct
 pub marked_points-distinct : (marks : List Bool) (points : List ℕ) → length marks ≤ 255 → points ≡ picked marks (points_of (length marks)) → AreDistinct points
 marked_points-distinct marks points short is = subst AreDistinct (sym is) (AreDistinct-picked marks (points_of (length marks)) (AreDistinct-points_of (length marks) short))
 
@@ -39,11 +42,13 @@ marked_points-distinct marks points short is = subst AreDistinct (sym is) (AreDi
 pub points-few : (marks : List Bool) (points : List ℕ) → points ≡ picked marks (points_of (length marks)) → length points ≡ marked marks
 points-few marks points are = ap length are ∙ length-picked marks (points_of (length marks)) (length-points_of (length marks))
 
+-- the first syndromes, up to r, are as many as were taken
 pub length-first_syndromes : (r count : ℕ) (word syndromes : List ℕ) → syndromes ≡ syndromes_of r word → count ≤ r → length (take count syndromes) ≡ count
 length-first_syndromes r count word syndromes are few = ap (λ xs. length (take count xs)) are ∙ simp (length-take, length-syndromes_of) (omega arith)
 
 -- ---- the filled word
 
+-- a filled word is as long as before
 pub length-patched : (word : List ℕ) (marks : List Bool) (bytes : List ℕ) → length (patched word marks bytes) ≡ length word
 unfolding patched
 length-patched [] marks bytes = refl
@@ -52,6 +57,7 @@ length-patched (byte ∷ word) (false ∷ marks) bytes = ap suc (length-patched 
 length-patched (byte ∷ word) (true ∷ marks) [] = ap suc (length-patched word marks [])
 length-patched (byte ∷ word) (true ∷ marks) (first ∷ rest) = ap suc (length-patched word marks rest)
 
+-- a filled word agrees with the received one at all places that aren't marked
 pub AgreeUnmarked-patched : (word : List ℕ) (marks : List Bool) (bytes : List ℕ) → length word ≡ length marks → AgreeUnmarked marks word (patched word marks bytes)
 unfolding patched
 AgreeUnmarked-patched [] marks bytes size k below clear = refl
@@ -63,7 +69,10 @@ AgreeUnmarked-patched (byte ∷ word) (true ∷ marks) [] size (suc k) below cle
 AgreeUnmarked-patched (byte ∷ word) (true ∷ marks) (first ∷ rest) size (suc k) below clear = AgreeUnmarked-patched word marks rest (omega arith) k (omega arith) clear
 
 -- what the added bytes count in a value is their power sum
-pub value-patched : (word : List ℕ) (marks : List Bool) (bytes : List ℕ) (k : ℕ) → length word ≡ length marks → length bytes ≡ marked marks → value (patched word marks bytes) (power alpha k) ≡ plus (value word (power alpha k)) (power_sum bytes (picked marks (points_of (length word))) k)
+pub value-patched : (word : List ℕ) (marks : List Bool) (bytes : List ℕ) (k : ℕ)
+    → length word ≡ length marks
+    → length bytes ≡ marked marks
+    → value (patched word marks bytes) (power alpha k) ≡ plus (value word (power alpha k)) (power_sum bytes (picked marks (points_of (length word))) k)
 unfolding patched picked points_of power_sum marked
 value-patched [] marks [] k size few = sym (plus-zero (value [] (power alpha k)))
 value-patched [] [] (first ∷ rest) k size few = absurd (omega arith)
@@ -91,7 +100,16 @@ value-patched (byte ∷ word) (true ∷ marks) (first ∷ rest) k size few =
     ∙ ap (λ p. plus (value (byte ∷ word) (power alpha k)) (plus (product first p) others)) (power-swap alpha k (length word))
 
 -- with the bytes whose sums are the first syndromes, it vanishes at as many powers of alpha as places are marked
-pub filled-codeword : (n r count : ℕ) (word : List ℕ) (marks : List Bool) (points bytes sums : List ℕ) → length word ≡ n → length marks ≡ n → count ≡ marked marks → count ≤ r → points ≡ picked marks (points_of (length marks)) → sums ≡ take count (syndromes_of r word) → HasSums points bytes sums → All IsByte (patched word marks bytes) → IsCodeword n (marked marks) (patched word marks bytes)
+pub filled-codeword : (n r count : ℕ) (word : List ℕ) (marks : List Bool) (points bytes sums : List ℕ)
+    → length word ≡ n
+    → length marks ≡ n
+    → count ≡ marked marks
+    → count ≤ r
+    → points ≡ picked marks (points_of (length marks))
+    → sums ≡ take count (syndromes_of r word)
+    → HasSums points bytes sums
+    → All IsByte (patched word marks bytes)
+    → IsCodeword n (marked marks) (patched word marks bytes)
 filled-codeword n r count word marks points bytes sums size marks_size is_count few points_are sums_are has_sums all =
     let alike : length word ≡ length marks = size ∙ sym marks_size in
     let long : length sums ≡ count = ap length sums_are ∙ length-first_syndromes r count word (syndromes_of r word) refl few in
@@ -108,7 +126,13 @@ filled-codeword n r count word marks points bytes sums size marks_size is_count 
     }
 
 -- if some codeword agrees, it is the filled word
-pub filling-filled : (n r : ℕ) (word filled filling : List ℕ) (marks : List Bool) → n ≤ 255 → length marks ≡ n → IsFilling n r word marks filling → AgreeUnmarked marks word filled → IsCodeword n (marked marks) filled → filling ≡ filled
+pub filling-filled : (n r : ℕ) (word filled filling : List ℕ) (marks : List Bool)
+    → n ≤ 255
+    → length marks ≡ n
+    → IsFilling n r word marks filling
+    → AgreeUnmarked marks word filled
+    → IsCodeword n (marked marks) filled
+    → filling ≡ filled
 filling-filled n r word filled filling marks short marks_size is_filling agree codeword =
     let alike : AgreeUnmarked marks filling filled = λ k below clear. agree k below clear ∙ sym (is_filling.agrees k below clear) in
     let weaker : IsCodeword n (marked marks) filling = record {
@@ -119,6 +143,13 @@ filling-filled n r word filled filling marks short marks_size is_filling agree c
     IsCodeword-close n (marked marks) filling filled short weaker codeword
     (distance-unmarked filling filled marks (is_filling.codeword.size ∙ sym marks_size) (codeword.size ∙ sym marks_size) alike)
 
-pub no_filling : (n r : ℕ) (word filled : List ℕ) (marks : List Bool) → n ≤ 255 → length marks ≡ n → AgreeUnmarked marks word filled → IsCodeword n (marked marks) filled → (IsCodeword n r filled → ⊥) → HasNoFilling n r word marks
+-- if the filled word isn't a codeword, no codeword agrees at all unmarked places
+pub no_filling : (n r : ℕ) (word filled : List ℕ) (marks : List Bool)
+    → n ≤ 255
+    → length marks ≡ n
+    → AgreeUnmarked marks word filled
+    → IsCodeword n (marked marks) filled
+    → (IsCodeword n r filled → ⊥)
+    → HasNoFilling n r word marks
 no_filling n r word filled marks short marks_size agree codeword fails filling is_filling =
     fails (subst (IsCodeword n r) (filling-filled n r word filled filling marks short marks_size is_filling agree codeword) is_filling.codeword)

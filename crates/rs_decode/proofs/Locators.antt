@@ -6,16 +6,16 @@ use Rattle.gf_field.specs.Field.{plus, product}
 use Rattle.gf_field.specs.Words.{IsByte, value}
 use Rattle.gf_field.proofs.FieldLaws.{plus-self, plus-zero, power-zero, product-one, product-zero, zero-product}
 use Rattle.rs_code.specs.Distance.{weight}
-use Rattle.rs_code.specs.Polynomials.{scaled, times_root}
-use Rattle.rs_code.specs.PowerSums.{power_sum}
+use Rattle.rs_code.specs.Inner.Polynomials.{scaled, times_root}
+use Rattle.rs_code.specs.Inner.PowerSums.{power_sum}
 use Rattle.rs_code.proofs.Distance.{All-sum_of}
 use Rattle.rs_code.proofs.Generator.{length-times_root, value-times_root}
 use Rattle.rs_code.proofs.PowerSums.{weight-zero, weight-nonzero}
 use Rattle.rs_code.proofs.Remainders.{All-scaled}
 use Rattle.rs_code.proofs.Values.{value-nil, value-cons}
-use Rattle.rs_decode.specs.Locator.{at_points, distances}
+use Rattle.rs_decode.specs.Inner.Locator.{at_points, distances}
 use Rattle.rs_decode.specs.Register.{Generates, IsLeast}
-use Rattle.rs_decode.specs.Sums.{AreSums}
+use Rattle.rs_decode.specs.Inner.Sums.{AreSums}
 use Rattle.rs_decode.proofs.Combinations.{connection-sums, power_sum-alike, power_sum-taken}
 
 -- ---- the polynomial with given zeros
@@ -25,17 +25,20 @@ product_of : List ℕ → List ℕ
 product_of [] = []
 product_of (a ∷ points) = times_root (product_of points) a
 
+-- the product has as many coefficients behind the leading 1 as there are points
 length-product_of : (points : List ℕ) → length (product_of points) ≡ length points
 unfolding product_of
 length-product_of [] = refl
 length-product_of (a ∷ points) = length-times_root (product_of points) a ∙ ap suc (length-product_of points)
 
+-- a polynomial of bytes times (x + root) has bytes as coefficients
 All-times_root : (generator : List ℕ) (root : ℕ) → All IsByte generator → All IsByte (times_root generator root)
 unfolding times_root
 All-times_root generator root all =
     All-sum_of (generator ++ 0 ∷ []) (scaled root (1 ∷ generator))
     (All-append IsByte generator (0 ∷ []) all (All-cons IsByte 0 [] (omega arith) (All-nil IsByte))) (All-scaled root (1 ∷ generator))
 
+-- the coefficients of the product are bytes
 All-product_of : (points : List ℕ) → All IsByte (product_of points)
 unfolding product_of
 All-product_of [] = All-nil IsByte
@@ -50,6 +53,7 @@ value-product_of (a ∷ points) x = value-times_root (product_of points) a x ∙
 
 -- ---- the points of the bytes that aren't 0
 
+-- the points of the bytes that aren't 0
 points_in_use : List ℕ → List ℕ → List ℕ
 points_in_use [] points = []
 points_in_use (byte ∷ bytes) [] = []

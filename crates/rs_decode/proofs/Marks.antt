@@ -6,14 +6,19 @@ use Rattle.std.proofs.lemmas.List.Elements.{All-set}
 use Rattle.gf_field.specs.Field.{alpha, plus, power}
 use Rattle.gf_field.specs.Words.{IsByte}
 use Rattle.gf_field.proofs.FieldLaws.{alpha-nonzero, plus-byte, power-alpha-differ, power-nonzero}
-use Rattle.rs_code.specs.PowerSums.{points_of}
+use Rattle.rs_code.specs.Inner.PowerSums.{points_of}
 use Rattle.rs_code.proofs.PowerSums.{length-points_of}
 use Rattle.rs_decode.specs.Filling.{marked}
-use Rattle.rs_decode.specs.Places.{picked, patched}
+use Rattle.rs_decode.specs.Inner.Places.{picked, patched}
 
 -- ---- the numbers at marked places
 
-picked-suc_marked : (marks : List Bool) (xs : List ℕ) (i : ℕ) → i < length marks → length xs ≡ length marks → get_or marks i false ≡ true → picked (take (suc i) marks) xs ≡ picked (take i marks) xs ++ get_or xs i 0 ∷ []
+-- one more place that is marked adds its number to those picked
+picked-suc_marked : (marks : List Bool) (xs : List ℕ) (i : ℕ)
+    → i < length marks
+    → length xs ≡ length marks
+    → get_or marks i false ≡ true
+    → picked (take (suc i) marks) xs ≡ picked (take i marks) xs ++ get_or xs i 0 ∷ []
 unfolding picked
 picked-suc_marked [] xs i below size set = absurd (omega arith)
 picked-suc_marked (mark ∷ marks) [] i below size set = absurd (omega arith)
@@ -22,6 +27,7 @@ picked-suc_marked (false ∷ marks) (x ∷ xs) zero below size set = absurd (cc)
 picked-suc_marked (true ∷ marks) (x ∷ xs) (suc i) below size set = ap (λ ys. x ∷ ys) (picked-suc_marked marks xs i (omega arith) (omega arith) set)
 picked-suc_marked (false ∷ marks) (x ∷ xs) (suc i) below size set = picked-suc_marked marks xs i (omega arith) (omega arith) set
 
+-- one more place that isn't marked adds nothing to those picked
 picked-suc_clear : (marks : List Bool) (xs : List ℕ) (i : ℕ) → i < length marks → length xs ≡ length marks → get_or marks i false ≡ false → picked (take (suc i) marks) xs ≡ picked (take i marks) xs
 unfolding picked
 picked-suc_clear [] xs i below size clear = absurd (omega arith)
@@ -31,22 +37,35 @@ picked-suc_clear (false ∷ marks) (x ∷ xs) zero below size clear = refl
 picked-suc_clear (true ∷ marks) (x ∷ xs) (suc i) below size clear = ap (λ ys. x ∷ ys) (picked-suc_clear marks xs i (omega arith) (omega arith) clear)
 picked-suc_clear (false ∷ marks) (x ∷ xs) (suc i) below size clear = picked-suc_clear marks xs i (omega arith) (omega arith) clear
 
+-- without marks nothing is picked
 pub picked-none : (xs : List ℕ) → picked [] xs ≡ []
 unfolding picked
 picked-none xs = refl
 
-pub picked-next_marked : (marks : List Bool) (xs : List ℕ) (i : ℕ) → i < length marks → length xs ≡ length marks → get_or marks i false ≡ true → picked (take (i + 1) marks) xs ≡ picked (take i marks) xs ++ get_or xs i 0 ∷ []
+-- the step of a marked place, as a loop counts
+pub picked-next_marked : (marks : List Bool) (xs : List ℕ) (i : ℕ)
+    → i < length marks
+    → length xs ≡ length marks
+    → get_or marks i false ≡ true
+    → picked (take (i + 1) marks) xs ≡ picked (take i marks) xs ++ get_or xs i 0 ∷ []
 picked-next_marked marks xs i below size set = rw add-one (picked-suc_marked marks xs i below size set)
 
-pub picked-next_clear : (marks : List Bool) (xs : List ℕ) (i : ℕ) → i < length marks → length xs ≡ length marks → get_or marks i false ≡ false → picked (take (i + 1) marks) xs ≡ picked (take i marks) xs
+-- the step of an unmarked place, as a loop counts
+pub picked-next_clear : (marks : List Bool) (xs : List ℕ) (i : ℕ)
+    → i < length marks
+    → length xs ≡ length marks
+    → get_or marks i false ≡ false
+    → picked (take (i + 1) marks) xs ≡ picked (take i marks) xs
 picked-next_clear marks xs i below size clear = rw add-one (picked-suc_clear marks xs i below size clear)
 
 -- ---- how many they are
 
+-- of no places none is marked
 pub marked-none : marked [] ≡ 0
 unfolding marked
 marked-none = refl
 
+-- one more place that is marked is counted
 marked-suc_marked : (marks : List Bool) (i : ℕ) → i < length marks → get_or marks i false ≡ true → marked (take (suc i) marks) ≡ suc (marked (take i marks))
 unfolding marked
 marked-suc_marked [] i below set = absurd (omega arith)
@@ -56,6 +75,7 @@ marked-suc_marked (mark ∷ marks) (suc i) below set =
     let rest : marked (take (suc i) marks) ≡ suc (marked (take i marks)) = marked-suc_marked marks i (omega arith) set in
     omega arith
 
+-- one more place that isn't marked isn't counted
 marked-suc_clear : (marks : List Bool) (i : ℕ) → i < length marks → get_or marks i false ≡ false → marked (take (suc i) marks) ≡ marked (take i marks)
 unfolding marked
 marked-suc_clear [] i below clear = absurd (omega arith)
@@ -65,12 +85,15 @@ marked-suc_clear (mark ∷ marks) (suc i) below clear =
     let rest : marked (take (suc i) marks) ≡ marked (take i marks) = marked-suc_clear marks i (omega arith) clear in
     omega arith
 
+-- a marked place is counted, as a loop counts
 pub marked-next_marked : (marks : List Bool) (i : ℕ) → i < length marks → get_or marks i false ≡ true → marked (take (i + 1) marks) ≡ suc (marked (take i marks))
 marked-next_marked marks i below set = rw add-one (marked-suc_marked marks i below set)
 
+-- an unmarked place isn't, as a loop counts
 pub marked-next_clear : (marks : List Bool) (i : ℕ) → i < length marks → get_or marks i false ≡ false → marked (take (i + 1) marks) ≡ marked (take i marks)
 marked-next_clear marks i below clear = rw add-one (marked-suc_clear marks i below clear)
 
+-- in front of a place no more are marked than in all
 pub marked-take-le : (marks : List Bool) (i : ℕ) → marked (take i marks) ≤ marked marks
 unfolding marked
 marked-take-le marks zero = omega arith
@@ -84,9 +107,11 @@ any-next : (mark : Bool) (before after : ℕ) → (mark ≡ true → after ≡ s
 any-next true before after one_more same = let more = one_more refl in grind (arith, nat_tests)
 any-next false before after one_more same = let kept = same refl in grind (arith, nat_tests)
 
+-- some place up to this one is marked where one before it is, or itself
 pub any_marked-next : (marks : List Bool) (i : ℕ) → i < length marks → (nat_lt 0 (marked (take i marks)) || get_or marks i false) ≡ nat_lt 0 (marked (take (i + 1) marks))
 any_marked-next marks i below = any-next (get_or marks i false) (marked (take i marks)) (marked (take (i + 1) marks)) (marked-next_marked marks i below) (marked-next_clear marks i below)
 
+-- as many numbers are picked as places are marked
 pub length-picked : (marks : List Bool) (xs : List ℕ) → length xs ≡ length marks → length (picked marks xs) ≡ marked marks
 unfolding picked marked
 length-picked [] xs size = refl
@@ -94,6 +119,7 @@ length-picked (mark ∷ marks) [] size = absurd (omega arith)
 length-picked (true ∷ marks) (x ∷ xs) size = ap suc (length-picked marks xs (omega arith)) ∙ omega arith
 length-picked (false ∷ marks) (x ∷ xs) size = length-picked marks xs (omega arith) ∙ omega arith
 
+-- a count that isn't above 0 is 0
 pub unmarked : (count : ℕ) → nat_lt 0 count ≡ false → count ≡ 0
 unmarked count none = grind (arith, nat_tests)
 
@@ -119,6 +145,7 @@ place_of_mark (true ∷ marks) zero = 0
 place_of_mark (true ∷ marks) (suc i) = suc (place_of_mark marks i)
 place_of_mark (false ∷ marks) i = suc (place_of_mark marks i)
 
+-- each mark's place is a place of the word
 place_of_mark-inside : (marks : List Bool) (i : ℕ) → i < marked marks → place_of_mark marks i < length marks
 unfolding place_of_mark marked
 place_of_mark-inside [] i below = absurd (omega arith)
@@ -126,6 +153,7 @@ place_of_mark-inside (true ∷ marks) zero below = omega arith
 place_of_mark-inside (true ∷ marks) (suc i) below = let rest = place_of_mark-inside marks i (omega arith) in omega arith
 place_of_mark-inside (false ∷ marks) i below = let rest = place_of_mark-inside marks i (omega arith) in omega arith
 
+-- the number picked by the mark i is the one at its place
 picked-at : (marks : List Bool) (xs : List ℕ) (i : ℕ) → length xs ≡ length marks → i < marked marks → get_or (picked marks xs) i 0 ≡ get_or xs (place_of_mark marks i) 0
 unfolding picked place_of_mark marked
 picked-at [] xs i size below = absurd (omega arith)
@@ -185,12 +213,14 @@ point-nonzero marks points i are inside is_zero =
     let at = point-at marks points i are inside in
     power-nonzero alpha (length marks - 1 - place_of_mark marks i) (omega arith) alpha-nonzero (sym at.1 ∙ is_zero)
 
+-- the logarithm of a marked place's point is below the number of places
 pub point-within : (marks : List Bool) (points : List ℕ) (i e : ℕ) → length marks ≤ 255 → points ≡ picked marks (points_of (length marks)) → i < length points
     → e < 255 → power alpha e ≡ get_or points i 0 → e < length marks
 point-within marks points i e short are inside below reaches =
     let at = point-at marks points i are inside in
     omega (arith, at.0, power-alpha-differ e (length marks - 1 - place_of_mark marks i) below (omega (arith, at.0)) (reaches ∙ at.1))
 
+-- with a byte added at a place, a word of bytes is one still
 pub byte-added : (word : List ℕ) (i byte : ℕ) → i < length word → byte < 256 → All IsByte word → All IsByte (set word i (plus (get_or word i 0) byte))
 byte-added word i byte inside is_byte all =
     All-set IsByte word i (plus (get_or word i 0) byte) (plus-byte (get_or word i 0) byte (all i 0 inside) is_byte) all

@@ -9,18 +9,20 @@ use Rattle.gf_field.specs.Field.{plus, product, power}
 use Rattle.gf_field.specs.Words.{IsByte}
 use Rattle.gf_field.proofs.FieldLaws.{plus-byte, one-product, plus-self, plus-zero_same, power-byte, product-assoc, product-byte, product-comm, product-zero, zero-product, product-zero_factor}
 use Rattle.rs_code.specs.Distance.{weight}
-use Rattle.rs_code.specs.PowerSums.{AreDistinct, shifted_by, power_sum}
+use Rattle.rs_code.specs.Inner.PowerSums.{AreDistinct, shifted_by, power_sum}
 use Rattle.rs_code.proofs.PowerSums.{power_sum-shifted_by}
 use Rattle.rs_decode.specs.Errors.{error_count}
-use Rattle.rs_decode.specs.Places.{picked}
-use Rattle.rs_decode.specs.Locator.{at_points, distances}
-use Rattle.rs_decode.specs.Sums.{AreSums}
+use Rattle.rs_decode.specs.Inner.Places.{picked}
+use Rattle.rs_decode.specs.Inner.Locator.{at_points, distances}
+use Rattle.rs_decode.specs.Inner.Sums.{AreSums}
 
+-- a product of distances is a byte
 pub distances-byte : (others : List ℕ) (x : ℕ) → distances others x < 256
 unfolding distances
 distances-byte [] x = omega arith
 distances-byte (a ∷ others) x = product-byte (plus x a) (distances others x)
 
+-- one point more is its distance as one factor more
 distances-push : (others : List ℕ) (a x : ℕ) → distances (others ++ a ∷ []) x ≡ product (distances others x) (plus x a)
 unfolding distances
 distances-push [] a x = product-comm (plus x a) 1
@@ -39,13 +41,18 @@ at_points-push others a (byte ∷ bytes) (point ∷ points) =
     cc
 
 -- the sums with a point taken out: each is the next one and the point times this one
-pub AreSums-shifted_by : (a : ℕ) (points bytes sums after : List ℕ) → length after + 1 ≡ length sums → ((k : ℕ) → k < length after → get_or after k 0 ≡ plus (get_or sums (k + 1) 0) (product a (get_or sums k 0))) → AreSums points bytes sums → AreSums points (shifted_by a bytes points) after
+pub AreSums-shifted_by : (a : ℕ) (points bytes sums after : List ℕ)
+    → length after + 1 ≡ length sums
+    → ((k : ℕ) → k < length after → get_or after k 0 ≡ plus (get_or sums (k + 1) 0) (product a (get_or sums k 0)))
+    → AreSums points bytes sums
+    → AreSums points (shifted_by a bytes points) after
 AreSums-shifted_by a points bytes sums after shorter are_after are = record {
   sums_are = λ k below.
       let next : power_sum bytes points (suc k) ≡ get_or sums (k + 1) 0 = are.sums_are (suc k) (omega arith) ∙ rw add-one refl in
       power_sum-shifted_by a bytes points k ∙ rw (next, are.sums_are k (omega arith)) (sym (are_after k below));
 }
 
+-- with no points to be distant from, the power sums stay
 power_sum-whole : (bytes points : List ℕ) (k : ℕ) → power_sum (at_points (distances []) bytes points) points k ≡ power_sum bytes points k
 unfolding at_points distances power_sum
 power_sum-whole [] points k = refl
@@ -62,7 +69,14 @@ AreSums-all points bytes sums are = record {
 }
 
 -- as a loop that takes the last sum off has it
-pub AreSums-next : (points bytes sums shifted after others : List ℕ) (i : ℕ) → i < length others → 0 < length sums → length shifted ≡ length sums → ((k : ℕ) → k + 1 < length sums → get_or shifted k 0 ≡ plus (get_or sums (k + 1) 0) (product (get_or others i 0) (get_or sums k 0))) → after ≡ take (length shifted - 1) shifted → AreSums points (at_points (distances (take i others)) bytes points) sums → AreSums points (at_points (distances (take (i + 1) others)) bytes points) after
+pub AreSums-next : (points bytes sums shifted after others : List ℕ) (i : ℕ)
+    → i < length others
+    → 0 < length sums
+    → length shifted ≡ length sums
+    → ((k : ℕ) → k + 1 < length sums → get_or shifted k 0 ≡ plus (get_or sums (k + 1) 0) (product (get_or others i 0) (get_or sums k 0)))
+    → after ≡ take (length shifted - 1) shifted
+    → AreSums points (at_points (distances (take i others)) bytes points) sums
+    → AreSums points (at_points (distances (take (i + 1) others)) bytes points) after
 AreSums-next points bytes sums shifted after others i inside some same are_shifted after_is are =
     let longer : at_points (distances (take (i + 1) others)) bytes points ≡ shifted_by (get_or others i 0) (at_points (distances (take i others)) bytes points) points =
     ap (λ xs. at_points (distances xs) bytes points) (take_more others i 0 inside) ∙ at_points-push (take i others) (get_or others i 0) bytes points in
@@ -71,6 +85,7 @@ AreSums-next points bytes sums shifted after others i inside some same are_shift
     (AreSums-shifted_by (get_or others i 0) points (at_points (distances (take i others)) bytes points) sums after size
     (λ k below. ap (λ xs. get_or xs k 0) after_is ∙ get_or-take (length shifted - 1) shifted k 0 (omega arith) ∙ are_shifted k (omega arith)) are)
 
+-- the product of distances from a point to others, none of which it is, isn't 0
 pub distances-apart : (others : List ℕ) (x : ℕ) → IsByte x → All IsByte others → All (λ a. x ≢ a) others → distances others x ≢ 0
 unfolding distances
 distances-apart [] x byte_x all apart is_zero = absurd (omega arith)
@@ -80,6 +95,7 @@ distances-apart (a ∷ others) x byte_x all apart is_zero =
       | inr rest ↦ distances-apart others x byte_x (All-tail IsByte a others all) (All-tail (λ b. x ≢ b) a others apart) rest
     ]
 
+-- what holds of each point holds of those at marked places
 All-picked : (P : ℕ → Type 0) (marks : List Bool) (points : List ℕ) → All P points → All P (picked marks points)
 unfolding picked
 All-picked P [] points all = All-nil P
@@ -113,10 +129,16 @@ distances-marked (true ∷ marks) (point ∷ points) (suc k) inside mark_is =
 distances-marked (false ∷ marks) (point ∷ points) (suc k) inside mark_is = distances-marked marks points k (omega arith) mark_is
 
 -- at an unmarked place
-pub distances-unmarked : (marks : List Bool) (points : List ℕ) (k : ℕ) → AreDistinct points → All IsByte points → k < length points → get_or marks k false ≡ false → distances (picked marks points) (get_or points k 0) ≢ 0
+pub distances-unmarked : (marks : List Bool) (points : List ℕ) (k : ℕ)
+    → AreDistinct points
+    → All IsByte points
+    → k < length points
+    → get_or marks k false ≡ false
+    → distances (picked marks points) (get_or points k 0) ≢ 0
 distances-unmarked marks points k distinct all inside clear =
     distances-apart (picked marks points) (get_or points k 0) (All-get_or IsByte points k 0 inside all) (All-picked IsByte marks points all) (picked-apart marks points k distinct inside clear)
 
+-- a byte that is 0 where the words agree weighs no more than the words differ
 weighs : (x y got w e : ℕ) → (y ≡ got → x ≡ 0) → w ≤ e → (if x == 0 then 0 else 1) + w ≤ (if y == got then 0 else 1) + e
 weighs x y got w e zero_there below =
     elim (cases_eq y got) [
@@ -125,7 +147,13 @@ weighs x y got w e zero_there below =
     ]
 
 -- bytes that are 0 at marked places and where two words agree are at most as many as the errors
-pub weight-error_count : (xs received word : List ℕ) (marks : List Bool) → length received ≡ length xs → length word ≡ length xs → length marks ≡ length xs → ((k : ℕ) → k < length xs → get_or marks k false ≡ true → get_or xs k 0 ≡ 0) → ((k : ℕ) → k < length xs → get_or marks k false ≡ false → get_or word k 0 ≡ get_or received k 0 → get_or xs k 0 ≡ 0) → weight xs ≤ error_count received word marks
+pub weight-error_count : (xs received word : List ℕ) (marks : List Bool)
+    → length received ≡ length xs
+    → length word ≡ length xs
+    → length marks ≡ length xs
+    → ((k : ℕ) → k < length xs → get_or marks k false ≡ true → get_or xs k 0 ≡ 0)
+    → ((k : ℕ) → k < length xs → get_or marks k false ≡ false → get_or word k 0 ≡ get_or received k 0 → get_or xs k 0 ≡ 0)
+    → weight xs ≤ error_count received word marks
 unfolding weight error_count
 weight-error_count [] received word marks size_r size_w size_m at_marked at_same = omega arith
 weight-error_count (x ∷ xs) [] word marks size_r size_w size_m at_marked at_same = absurd (omega arith)

@@ -11,11 +11,16 @@ use Rattle.rs_decode.specs.Laws.{NearCodewordIsOnlyOne, FillingIsOnlyOne, Fillin
 marked_costs : (x y d first second : ℕ) → 2 * d ≤ first + second → 2 * ((if x == y then 0 else 1) + d) ≤ 1 + first + (1 + second)
 marked_costs x y d first second rest = grind (arith, nat_tests)
 
+-- two words that differ at an unmarked place can't both be free of cost there
 unmarked_costs : (x y got d first second : ℕ) → 2 * d ≤ first + second → 2 * ((if x == y then 0 else 1) + d) ≤ (if x == got then 0 else 2) + first + ((if y == got then 0 else 2) + second)
 unmarked_costs x y got d first second rest = grind (arith, nat_tests)
 
 -- where two words differ, they cost at least two together
-distance-cost : (a b received : List ℕ) (marks : List Bool) → length a ≡ length received → length b ≡ length received → length marks ≡ length received → 2 * distance a b ≤ cost a received marks + cost b received marks
+distance-cost : (a b received : List ℕ) (marks : List Bool)
+    → length a ≡ length received
+    → length b ≡ length received
+    → length marks ≡ length received
+    → 2 * distance a b ≤ cost a received marks + cost b received marks
 unfolding distance cost
 distance-cost [] b received marks a_size b_size marks_size = omega arith
 distance-cost (x ∷ a) [] received marks a_size b_size marks_size = omega arith
@@ -26,6 +31,7 @@ distance-cost (x ∷ a) (y ∷ b) (got ∷ received) (true ∷ marks) a_size b_s
 distance-cost (x ∷ a) (y ∷ b) (got ∷ received) (false ∷ marks) a_size b_size marks_size =
     unmarked_costs x y got _ _ _ (distance-cost a b received marks (omega arith) (omega arith) (omega arith))
 
+-- at most one codeword is near a received word
 pub near_once : NearCodewordIsOnlyOne
 near_once n r received marks a b short near_a near_b =
     let apart = distance-cost a b received marks (near_a.codeword.size ∙ sym near_a.received_size) (near_b.codeword.size ∙ sym near_b.received_size) (near_a.marks_size ∙ sym near_a.received_size) in
@@ -35,6 +41,7 @@ near_once n r received marks a b short near_a near_b =
 agree-rest : (mark : Bool) (marks : List Bool) (x y : ℕ) (a b : List ℕ) → AgreeUnmarked (mark ∷ marks) (x ∷ a) (y ∷ b) → AgreeUnmarked marks a b
 agree-rest mark marks x y a b agree k below clear = agree (suc k) (omega arith) clear
 
+-- a place where two words agree adds nothing
 same_cost : (x y more d : ℕ) → x ≡ y → (if x == y then 0 else more) + d ≡ d
 same_cost x y more d same = grind (arith, nat_tests)
 
@@ -51,6 +58,7 @@ distance-unmarked (x ∷ a) (y ∷ b) (false ∷ marks) a_size b_size agree =
     let rest : distance a b ≤ marked marks = distance-unmarked a b marks (omega arith) (omega arith) (agree-rest false marks x y a b agree) in
     omega (arith, same_cost x y 1 (distance a b) (sym (agree 0 (omega arith) refl)))
 
+-- at most one codeword agrees with a received word at all unmarked places
 pub filling_once : FillingIsOnlyOne
 filling_once n r received marks a b short marks_size filling_a filling_b =
     let agree : AgreeUnmarked marks a b = λ k below clear. filling_b.agrees k below clear ∙ sym (filling_a.agrees k below clear) in
@@ -70,6 +78,7 @@ cost-unmarked (x ∷ word) (got ∷ received) (false ∷ marks) size received_si
     let rest : cost word received marks ≡ marked marks = cost-unmarked word received marks (omega arith) (omega arith) (agree-rest false marks got x received word agree) in
     omega (arith, same_cost x got 2 (cost word received marks) (agree 0 (omega arith) refl))
 
+-- a codeword that agrees at all unmarked places, where at most r are marked, is near
 pub filling_near : FillingIsNear
 filling_near n r received marks word received_size marks_size filling = record {
   codeword = filling.codeword;

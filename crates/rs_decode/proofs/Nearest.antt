@@ -17,26 +17,31 @@ abbrev Member : {X : Type 0} → List X → X → Type 0
 Member [] x = ⊥
 Member (y ∷ ys) x = (y ≡ x) ⊎ Member ys x
 
+-- an element of the first list is one of the joined lists
 member-append_left : {X : Type 0} (x : X) (xs ys : List X) → Member xs x → Member (xs ++ ys) x
 member-append_left x [] ys is = absurd is
 member-append_left x (y ∷ xs) ys (inl same) = inl same
 member-append_left x (y ∷ xs) ys (inr later) = inr (member-append_left x xs ys later)
 
+-- an element of the second list is one of the joined lists
 member-append_right : {X : Type 0} (x : X) (xs ys : List X) → Member ys x → Member (xs ++ ys) x
 member-append_right x [] ys is = is
 member-append_right x (y ∷ xs) ys is = inr (member-append_right x xs ys is)
 
+-- a function's value at an element is an element of the values
 member-map : {X Y : Type 0} (f : X → Y) (x : X) (xs : List X) → Member xs x → Member (map f xs) (f x)
 member-map f x [] is = absurd is
 member-map f x (y ∷ xs) (inl same) = inl (ap f same)
 member-map f x (y ∷ xs) (inr later) = inr (member-map f x xs later)
 
+-- an element of the list that belongs to an element is one of all these lists joined
 member-flat_map : {X Y : Type 0} (f : X → List Y) (x : X) (y : Y) (xs : List X) → Member xs x → Member (f x) y → Member (flat_map f xs) y
 member-flat_map f x y [] is inner = absurd is
 member-flat_map f x y (z ∷ xs) (inl same) inner =
     member-append_left y (f z) (flat_map f xs) (subst (λ w. Member (f w) y) (sym same) inner)
 member-flat_map f x y (z ∷ xs) (inr later) inner = member-append_right y (f z) (flat_map f xs) (member-flat_map f x y xs later inner)
 
+-- what stands at a place of a list is an element of it
 member-at : {X : Type 0} (xs : List X) (i : ℕ) (d : X) → i < length xs → Member xs (get_or xs i d)
 member-at [] i d within = absurd (omega arith)
 member-at (x ∷ xs) zero d within = inl refl
@@ -55,6 +60,7 @@ find-none p [] x passes found member = member
 find-none p (y ∷ xs) x passes found member =
     none-step p y x xs (find p xs) (p y) refl (find-none p xs x passes) found member passes
 
+-- what is found is the first element, which passes, or was found among the others
 some-step : {X : Type 0} (p : X → Bool) (y x : X) (rest : Option X) (b : Bool) → p y ≡ b → (rest ≡ Some x → p x ≡ true)
     → cond b (Some y) rest ≡ Some x → p x ≡ true
 some-step p y x rest true is later found = let same : y ≡ x = cc in subst (λ z. p z ≡ true) same is
@@ -78,10 +84,12 @@ member-all_words (suc n) (byte ∷ word) size bytes =
     let rest = member-all_words n word (omega arith) (All-tail IsByte byte word bytes) in
     member-flat_map (λ b. map (λ w. b ∷ w) (all_words n)) byte (byte ∷ word) (range_with_len 0 256) is (member-map (λ w. byte ∷ w) word (all_words n) rest)
 
+-- where a conjunction is true, both its parts are
 both : (a b : Bool) → (a && b) ≡ true → (a ≡ true) × (b ≡ true)
 both true b is = (refl, is)
 both false b is = absurd (false≢true is)
 
+-- where both parts are true, the conjunction is
 and_both : (a b : Bool) → a ≡ true → b ≡ true → (a && b) ≡ true
 and_both a b is_a is_b = rw (is_a, is_b) refl
 
@@ -92,6 +100,7 @@ tested_at test r k below passes =
     let passed = AllPass-from_list_all test (range_with_len 0 r) passes k 0 here in
     subst (λ n. test n ≡ true) (get_or-range_with_len 0 r k 0 below ∙ zero-add k) passed
 
+-- and where it holds of each number below r, the test of all is true
 tests_all : (test : ℕ → Bool) (r : ℕ) → ((k : ℕ) → k < r → test k ≡ true) → list_all test (range_with_len 0 r) ≡ true
 tests_all test r each =
     list_all-from_AllPass test (range_with_len 0 r)
@@ -120,6 +129,7 @@ near-from_test n r received word marks received_size marks_size passes =
       within = leb-true _ _ cheap.1;
     }
 
+-- a codeword that is near passes the test
 test-from_near : (n r : ℕ) (received word : List ℕ) (marks : List Bool) → IsNear n r received marks word → is_near n r received marks word ≡ true
 unfolding is_near vanishes_at_all
 test-from_near n r received word marks near =
@@ -144,6 +154,7 @@ near_of-none n r received marks nothing word near =
     find-none (is_near n r received marks) (all_words n) word (test-from_near n r received word marks near) nothing
     (member-all_words n word near.codeword.size near.codeword.bytes)
 
+-- where a codeword is near, the search can't have found another word, or none
 found_some : (n r : ℕ) (received word : List ℕ) (marks : List Bool) (found : Option (List ℕ)) → n ≤ 255 → IsNear n r received marks word
     → near_of n r received marks ≡ found → found ≡ Some word
 found_some n r received word marks None short near is = absurd (near_of-none n r received marks is word near)
@@ -154,6 +165,7 @@ found_some n r received word marks (Some other) short near is =
 pub near_of-some : (n r : ℕ) (received word : List ℕ) (marks : List Bool) → n ≤ 255 → IsNear n r received marks word → near_of n r received marks ≡ Some word
 near_of-some n r received word marks short near = found_some n r received word marks (near_of n r received marks) short near refl
 
+-- where no codeword is near, the search can't have found a word
 found_none : (n r : ℕ) (received : List ℕ) (marks : List Bool) (found : Option (List ℕ)) → length received ≡ n → length marks ≡ n
     → HasNoneNear n r received marks → near_of n r received marks ≡ found → found ≡ None
 found_none n r received marks None received_size marks_size nothing is = refl
@@ -172,6 +184,7 @@ unfolding vanishes_at_all
 codeword-vanishes n r word codeword =
     tests_all (λ k. nat_eq (value word (power alpha k)) 0) r (λ k below. eq-eqb (value word (power alpha k)) 0 (codeword.vanishes k below))
 
+-- bytes that vanish at alpha^0 to alpha^(r-1) are a codeword
 pub vanishing-codeword : (n r : ℕ) (word : List ℕ) → length word ≡ n → All IsByte word → vanishes_at_all r word ≡ true → IsCodeword n r word
 unfolding vanishes_at_all
 vanishing-codeword n r word size bytes passes = record {

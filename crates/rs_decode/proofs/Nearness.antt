@@ -9,29 +9,33 @@ use Rattle.gf_field.specs.Field.{alpha, plus, product, power}
 use Rattle.gf_field.specs.Words.{IsByte, IsCodeword, IsNear, cost, value}
 use Rattle.gf_field.proofs.FieldLaws.{plus-zero, plus-self, plus-zero_same, product-byte, product-zero, zero-product, product-zero_factor}
 use Rattle.rs_code.specs.Distance.{weight}
-use Rattle.rs_code.specs.Polynomials.{sum_of}
+use Rattle.rs_code.specs.Inner.Polynomials.{sum_of}
 use Rattle.rs_code.specs.Syndromes.{syndromes_of}
 use Rattle.rs_code.proofs.Distance.{All-sum_of}
 use Rattle.rs_code.proofs.Syndromes.{length-syndromes_of, get_or-syndromes_of}
 use Rattle.rs_code.proofs.Values.{value-byte, value-sum_of, length-sum_of, get_or-sum_of}
-use Rattle.rs_code.specs.PowerSums.{points_of, power_sum}
+use Rattle.rs_code.specs.Inner.PowerSums.{points_of, power_sum}
 use Rattle.rs_code.proofs.PowerSums.{AreDistinct-points_of, All-points_of, length-points_of, value-power_sum, none_hidden}
 use Rattle.rs_decode.specs.Errors.{error_count}
 use Rattle.rs_decode.specs.Filling.{IsFilling, marked}
-use Rattle.rs_decode.specs.Locator.{with_zeros, at_points, distances}
+use Rattle.rs_decode.specs.Inner.Locator.{with_zeros, at_points, distances}
 use Rattle.rs_decode.specs.Register.{Generates, IsLeast}
-use Rattle.rs_decode.specs.Sums.{AreSums}
-use Rattle.rs_decode.specs.Places.{picked}
+use Rattle.rs_decode.specs.Inner.Sums.{AreSums}
+use Rattle.rs_decode.specs.Inner.Places.{picked}
 use Rattle.rs_decode.proofs.Combinations.{length-at_points, All-at_points, get_or-at_points, weight-at_points}
 use Rattle.rs_decode.proofs.Locators.{shortest-few, power_sum-generated}
 use Rattle.rs_decode.proofs.Masking.{distances-byte, distances-marked, distances-unmarked, weight-error_count}
 use Rattle.rs_decode.proofs.Roots.{zeros_among, few_zeros}
 
+-- an unmarked place costs two where it has an error, and nothing else
 one_place : (byte got c e m : ℕ) → c ≡ 2 * e + m → (if byte == got then 0 else 2) + c ≡ 2 * ((if byte == got then 0 else 1) + e) + (0 + m)
 one_place byte got c e m parts = grind (arith, nat_tests)
 
 -- the cost has two parts
-pub cost-parts : (received word : List ℕ) (marks : List Bool) → length received ≡ length word → length marks ≡ length word → cost word received marks ≡ 2 * error_count received word marks + marked marks
+pub cost-parts : (received word : List ℕ) (marks : List Bool)
+    → length received ≡ length word
+    → length marks ≡ length word
+    → cost word received marks ≡ 2 * error_count received word marks + marked marks
 unfolding cost error_count marked
 cost-parts [] [] [] size_r size_m = refl
 cost-parts [] (byte ∷ word) marks size_r size_m = absurd (omega arith)
@@ -43,25 +47,32 @@ cost-parts (got ∷ received) (byte ∷ word) (false ∷ marks) size_r size_m =
     one_place byte got (cost word received marks) (error_count received word marks) (marked marks) (cost-parts received word marks (omega arith) (omega arith))
 
 -- the marks with the zeros, place by place
-pub get_or-with_zeros : (locator : List ℕ) (marks : List Bool) (points : List ℕ) (k : ℕ) → length marks ≡ length points → k < length marks → get_or (with_zeros locator marks points) k false ≡ (get_or marks k false || (value locator (get_or points k 0) == 0))
+pub get_or-with_zeros : (locator : List ℕ) (marks : List Bool) (points : List ℕ) (k : ℕ)
+    → length marks ≡ length points
+    → k < length marks
+    → get_or (with_zeros locator marks points) k false ≡ (get_or marks k false || (value locator (get_or points k 0) == 0))
 unfolding with_zeros
 get_or-with_zeros locator [] points k same inside = absurd (omega arith)
 get_or-with_zeros locator (mark ∷ marks) [] k same inside = absurd (omega arith)
 get_or-with_zeros locator (mark ∷ marks) (point ∷ points) zero same inside = refl
 get_or-with_zeros locator (mark ∷ marks) (point ∷ points) (suc k) same inside = get_or-with_zeros locator marks points k (omega arith) (omega arith)
 
+-- with the zeros marked too there are as many marks as before
 pub length-with_zeros : (locator : List ℕ) (marks : List Bool) (points : List ℕ) → length marks ≡ length points → length (with_zeros locator marks points) ≡ length marks
 unfolding with_zeros
 length-with_zeros locator [] points same = refl
 length-with_zeros locator (mark ∷ marks) [] same = absurd (omega arith)
 length-with_zeros locator (mark ∷ marks) (point ∷ points) same = ap suc (length-with_zeros locator marks points (omega arith))
 
+-- a place that was marked is counted once more, whether or not it is a zero
 mark_counts : (p w m z : ℕ) → w ≤ m + z → 1 + w ≤ 1 + m + ((if p == 0 then 1 else 0) + z)
 mark_counts p w m z below = grind (arith, nat_tests)
 
+-- a place that wasn't marked is counted once more where it is a zero
 zero_counts : (p w m z : ℕ) → w ≤ m + z → (if p == 0 then 1 else 0) + w ≤ 0 + m + ((if p == 0 then 1 else 0) + z)
 zero_counts p w m z below = grind (arith, nat_tests)
 
+-- the marks with the zeros are no more than the marks and the zeros together
 marked-with_zeros : (locator : List ℕ) (marks : List Bool) (points : List ℕ) → marked (with_zeros locator marks points) ≤ marked marks + zeros_among (value locator) points
 unfolding with_zeros marked zeros_among
 marked-with_zeros locator [] points = omega arith
@@ -94,7 +105,10 @@ no_error e d l byte_e byte_d byte_l apart no_root vanishes =
     ]
 
 -- the bytes with the marked places taken out are as few as the errors
-weight-masked : (n r : ℕ) (received word : List ℕ) (marks : List Bool) → n ≤ 255 → IsNear n r received marks word → weight (at_points (distances (picked marks (points_of n))) (sum_of received word) (points_of n)) ≤ error_count received word marks
+weight-masked : (n r : ℕ) (received word : List ℕ) (marks : List Bool)
+    → n ≤ 255
+    → IsNear n r received marks word
+    → weight (at_points (distances (picked marks (points_of n))) (sum_of received word) (points_of n)) ≤ error_count received word marks
 weight-masked n r received word marks short near =
     let points = points_of n in
     let others = picked marks points in
@@ -123,17 +137,26 @@ all_located n len masked sums locator short size least few are generates =
     (λ k below. power_sum-generated len locator sums masked points k generates (omega arith) are)
     ∙ ap (λ m. replicate m 0) hidden_size
 
+-- a place that isn't marked afterwards wasn't marked before
 or_left : (mark : Bool) (l : ℕ) → (mark || (l == 0)) ≡ false → mark ≡ false
 or_left true l clear = absurd (false≢true (sym clear))
 or_left false l clear = refl
 
+-- and is no zero of the locator
 or_right : (mark : Bool) (l : ℕ) → (mark || (l == 0)) ≡ false → l ≢ 0
 or_right true l clear = absurd (false≢true (sym clear))
 or_right false zero clear = absurd (false≢true (sym clear))
 or_right false (suc l) clear = λ is. absurd (omega arith)
 
 -- no error is left at a place that is neither marked nor a zero
-agrees_elsewhere : (n r : ℕ) (received word : List ℕ) (marks : List Bool) (locator : List ℕ) → n ≤ 255 → IsNear n r received marks word → All IsByte received → at_points (value locator) (at_points (distances (picked marks (points_of n))) (sum_of received word) (points_of n)) (points_of n) ≡ replicate n 0 → (k : ℕ) → k < n → get_or (with_zeros locator marks (points_of n)) k false ≡ false → get_or word k 0 ≡ get_or received k 0
+agrees_elsewhere : (n r : ℕ) (received word : List ℕ) (marks : List Bool) (locator : List ℕ)
+    → n ≤ 255
+    → IsNear n r received marks word
+    → All IsByte received
+    → at_points (value locator) (at_points (distances (picked marks (points_of n))) (sum_of received word) (points_of n)) (points_of n) ≡ replicate n 0
+    → (k : ℕ) → k < n
+    → get_or (with_zeros locator marks (points_of n)) k false ≡ false
+    → get_or word k 0 ≡ get_or received k 0
 agrees_elsewhere n r received word marks locator short near received_bytes hidden_is k inside clear =
     let points = points_of n in
     let others = picked marks points in

@@ -8,13 +8,13 @@ use Rattle.std.proofs.lemmas.List.Elements.{All-get_or}
 use Rattle.gf_field.specs.Field.{plus, product}
 use Rattle.gf_field.specs.Words.{IsByte}
 use Rattle.gf_field.proofs.FieldLaws.{has_inverse, plus-self, plus-zero, plus-zero_same, product-comm, product-zero}
-use Rattle.rs_code.specs.Polynomials.{sum_of, scaled}
+use Rattle.rs_code.specs.Inner.Polynomials.{sum_of, scaled}
 use Rattle.rs_code.proofs.Distance.{All-sum_of}
 use Rattle.rs_code.proofs.Remainders.{All-scaled}
 use Rattle.rs_code.proofs.Values.{length-sum_of, length-scaled, get_or-sum_of, get_or-scaled}
 use Rattle.rs_decode.specs.Laws.{ShortestRegisterIsOnlyOne}
 use Rattle.rs_decode.specs.Register.{Generates, IsLeast, connection}
-use Rattle.rs_decode.specs.Steps.{Makes}
+use Rattle.rs_decode.specs.Inner.Steps.{Makes}
 use Rattle.rs_decode.proofs.Connections.{connection-later, connection-sum_of, connection-scaled, connections-agree}
 
 -- the difference's connections are 0

@@ -10,6 +10,7 @@ use Rattle.gf_field.proofs.FieldLaws.{plus-byte, plus-self, plus-zero, zero-plus
 use Rattle.rs_code.proofs.Ring.{ring}
 use Rattle.rs_code.proofs.Values.{value-nil, value-cons, value-more, value-byte}
 
+-- the step of the division: one more coefficient of the quotient, and a new remainder, multiplied out
 one_more : (x a v old new : ℕ) → plus (product x (plus (product (plus x a) v) new)) old ≡ plus (product (plus x a) (plus (product x v) new)) (plus old (product a new))
 one_more x a v old new = simp ring
 
@@ -30,6 +31,7 @@ divided_to old new a x (suc i) bytes new_bytes same first others inside =
     ∙ rw (before, others i (omega arith), value-more new i x (omega arith) (All-get_or IsByte new i 0 (omega arith) new_bytes))
     (one_more x a (value (take i new) x) (get_or old (i + 1) 0) (get_or new i 0)))
 
+-- the coefficients of the quotient and the remainder are bytes
 quotient-bytes : (old new : List ℕ) (a : ℕ) → All IsByte old → length new ≡ length old → get_or new 0 0 ≡ get_or old 0 0
     → ((k : ℕ) → k + 1 < length old → get_or new (k + 1) 0 ≡ plus (get_or old (k + 1) 0) (product a (get_or new k 0))) → All IsByte new
 quotient-bytes old new a bytes same first others = All-from_get_or IsByte new 0 (λ k inside.
@@ -41,6 +43,7 @@ quotient-bytes old new a bytes same first others = All-from_get_or IsByte new 0 
           (plus-byte (get_or old (k - 1 + 1) 0) (product a (get_or new (k - 1) 0)) (All-get_or IsByte old (k - 1 + 1) 0 (omega arith) bytes) (product-byte a (get_or new (k - 1) 0)))
     ])
 
+-- a list that begins with 1 has an element
 nonempty : (xs : List ℕ) → get_or xs 0 0 ≡ 1 → 0 < length xs
 nonempty [] led = absurd (omega (arith, led))
 nonempty (x ∷ xs) led = omega arith
@@ -72,6 +75,7 @@ divided-led old new after a bytes same led first others after_is vanishes =
           ∙ plus-zero (product (plus x a) (value (take last new) x)) ∙ ap (λ xs. product (plus x a) (value xs x)) (sym cut),
     )
 
+-- two numbers, each of which is 0 where the other is, have the same test for 0
 tests_alike : (p q : ℕ) → (q ≡ 0 → p ≡ 0) → (p ≡ 0 → q ≡ 0) → (q == 0) ≡ (p == 0)
 tests_alike p q onward back =
     elim (cases_eq q 0) [

@@ -6,12 +6,12 @@ use Rattle.std.proofs.lemmas.List.Elements.{All-replicate, All-set, All-take}
 use Rattle.gf_field.specs.Field.{plus, product}
 use Rattle.gf_field.specs.Words.{IsByte}
 use Rattle.gf_field.proofs.FieldLaws.{plus-self, plus-zero, product-zero}
-use Rattle.rs_code.specs.Polynomials.{sum_of, scaled}
+use Rattle.rs_code.specs.Inner.Polynomials.{sum_of, scaled}
 use Rattle.rs_code.proofs.Distance.{All-sum_of}
 use Rattle.rs_code.proofs.Remainders.{All-scaled}
 use Rattle.rs_code.proofs.Values.{length-sum_of, length-scaled, get_or-sum_of, get_or-scaled}
 use Rattle.rs_decode.specs.Register.{Generates, IsLeast, connection}
-use Rattle.rs_decode.specs.Steps.{Makes, IsShortestTo, FailsAt}
+use Rattle.rs_decode.specs.Inner.Steps.{Makes, IsShortestTo, FailsAt}
 use Rattle.rs_decode.proofs.Connections.{connection-same, connection-longer, connection-later, connection-sum_of, connection-scaled, connections-agree}
 
 -- no place of a list of zeros holds another number

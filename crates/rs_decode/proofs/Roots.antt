@@ -12,13 +12,14 @@ use Rattle.gf_field.specs.Words.{IsByte, value}
 use Rattle.gf_field.proofs.FieldLaws.{plus-byte, plus-comm, plus-zero, plus-zero_same, power-suc, power-zero, product-byte, product-one, product-zero, product-zero_factor}
 use Rattle.rs_code.proofs.Ring.{ring}
 use Rattle.rs_code.proofs.Values.{value-nil, value-cons}
-use Rattle.rs_code.specs.PowerSums.{AreDistinct}
+use Rattle.rs_code.specs.Inner.PowerSums.{AreDistinct}
 
 -- the polynomial's value at x, the lowest power first
 polynomial_at : List ℕ → ℕ → ℕ
 polynomial_at [] x = 0
 polynomial_at (coefficient ∷ rest) x = plus coefficient (product x (polynomial_at rest x))
 
+-- a value of a polynomial of bytes is a byte
 polynomial_at-byte : (coefficients : List ℕ) (x : ℕ) → All IsByte coefficients → polynomial_at coefficients x < 256
 unfolding polynomial_at
 polynomial_at-byte [] x all = omega arith
@@ -29,18 +30,23 @@ quotient : ℕ → List ℕ → List ℕ
 quotient a [] = []
 quotient a (c ∷ cs) = polynomial_at (c ∷ cs) a ∷ quotient a cs
 
+-- the quotient, with the 0 at its end, is as long as the polynomial
 length-quotient : (a : ℕ) (cs : List ℕ) → length (quotient a cs) ≡ length cs
 unfolding quotient
 length-quotient a [] = refl
 length-quotient a (c ∷ cs) = ap suc (length-quotient a cs)
 
+-- the coefficients of the quotient are bytes
 All-quotient : (a : ℕ) (cs : List ℕ) → All IsByte cs → All IsByte (quotient a cs)
 unfolding quotient
 All-quotient a [] all = All-nil IsByte
 All-quotient a (c ∷ cs) all =
     All-cons IsByte (polynomial_at (c ∷ cs) a) (quotient a cs) (polynomial_at-byte (c ∷ cs) a all) (All-quotient a cs (All-tail IsByte c cs all))
 
-divided : (x a d at_x at_a q : ℕ) → product (plus x a) q ≡ plus (product x at_x) (product a at_a) → product (plus x a) (plus (plus d (product a at_a)) (product x q)) ≡ plus (product x (plus d (product x at_x))) (product a (plus d (product a at_a)))
+-- one more coefficient on both sides of the division's law, multiplied out
+divided : (x a d at_x at_a q : ℕ)
+    → product (plus x a) q ≡ plus (product x at_x) (product a at_a)
+    → product (plus x a) (plus (plus d (product a at_a)) (product x q)) ≡ plus (product x (plus d (product x at_x))) (product a (plus d (product a at_a)))
 divided x a d at_x at_a q rest =
     let first : product (plus x a) (plus (plus d (product a at_a)) (product x q)) ≡ plus (product (plus x a) (plus d (product a at_a))) (product x (product (plus x a) q)) = simp ring in
     first ∙ rw rest (simp ring)
@@ -56,6 +62,7 @@ unfoldable pub zeros_among : (ℕ → ℕ) → List ℕ → ℕ
 zeros_among f [] = 0
 zeros_among f (x ∷ xs) = (if f x == 0 then 1 else 0) + zeros_among f xs
 
+-- a polynomial of zeros is 0 everywhere
 polynomial_at-zeros : (n x : ℕ) → polynomial_at (replicate n 0) x ≡ 0
 unfolding polynomial_at
 polynomial_at-zeros zero x = refl
@@ -73,6 +80,7 @@ zeros_from_quotient a (d ∷ ds) zeros =
     let first : d ≡ 0 = plus-zero_same d (product a (polynomial_at ds a)) here ∙ none in
     cc
 
+-- two numbers, each of which is 0 where the other is, are counted alike
 same_tests : (p q : ℕ) → (p ≡ 0 → q ≡ 0) → (q ≡ 0 → p ≡ 0) → (n m : ℕ) → n ≡ m → (if p == 0 then 1 else 0) + n ≡ (if q == 0 then 1 else 0) + m
 same_tests p q onward back n m same =
     elim (cases_eq q 0) [
@@ -81,7 +89,13 @@ same_tests p q onward back n m same =
     ]
 
 -- with a zero taken out, the zeros at all other points stay
-same_zeros : (a c : ℕ) (cs xs : List ℕ) → IsByte a → All IsByte cs → All IsByte xs → All (λ y. a ≢ y) xs → polynomial_at (c ∷ cs) a ≡ 0 → zeros_among (polynomial_at (c ∷ cs)) xs ≡ zeros_among (polynomial_at (quotient a cs)) xs
+same_zeros : (a c : ℕ) (cs xs : List ℕ)
+    → IsByte a
+    → All IsByte cs
+    → All IsByte xs
+    → All (λ y. a ≢ y) xs
+    → polynomial_at (c ∷ cs) a ≡ 0
+    → zeros_among (polynomial_at (c ∷ cs)) xs ≡ zeros_among (polynomial_at (quotient a cs)) xs
 unfolding zeros_among polynomial_at
 same_zeros a c cs [] byte_a all all_points apart root = refl
 same_zeros a c cs (y ∷ xs) byte_a all all_points apart root =
@@ -98,9 +112,11 @@ same_zeros a c cs (y ∷ xs) byte_a all all_points apart root =
     (λ is_zero. factor ∙ rw is_zero (product-zero (plus y a)))
     _ _ (same_zeros a c cs xs byte_a all (All-tail IsByte y xs all_points) (All-tail (λ z. a ≢ z) y xs apart) root)
 
+-- a point counts as one zero at most
 one_at_most : (p n m : ℕ) → n ≡ m → (if p == 0 then 1 else 0) + n ≤ 1 + m
 one_at_most p n m same = grind (arith, nat_tests)
 
+-- a point where the value isn't 0 doesn't count
 not_counted : (p n : ℕ) → p ≢ 0 → (if p == 0 then 1 else 0) + n ≡ n
 not_counted p n not_zero = grind (arith, nat_tests)
 
@@ -112,7 +128,13 @@ all_zero c x cs root zeros =
     let first : c ≡ 0 = plus-zero_same c (product x (polynomial_at cs x)) root ∙ none in
     cc
 
-few_lowest_first : (points coefficients : List ℕ) → AreDistinct points → All IsByte points → All IsByte coefficients → (coefficients ≡ replicate (length coefficients) 0 → ⊥) → zeros_among (polynomial_at coefficients) points + 1 ≤ length coefficients
+-- a polynomial that isn't 0, the lowest power first, has fewer zeros than coefficients
+few_lowest_first : (points coefficients : List ℕ)
+    → AreDistinct points
+    → All IsByte points
+    → All IsByte coefficients
+    → (coefficients ≡ replicate (length coefficients) 0 → ⊥)
+    → zeros_among (polynomial_at coefficients) points + 1 ≤ length coefficients
 unfolding zeros_among AreDistinct
 few_lowest_first points [] distinct all_points all nonzero = absurd (nonzero refl)
 few_lowest_first [] (c ∷ cs) distinct all_points all nonzero = omega arith
@@ -134,6 +156,7 @@ few_lowest_first (x ∷ points) (c ∷ cs) distinct all_points all nonzero =
           omega arith
     ]
 
+-- one coefficient more at the end, multiplied out
 pushed : (d c x p u : ℕ) → plus d (product x (plus p (product c u))) ≡ plus (plus d (product x p)) (product c (product u x))
 pushed d c x p u = simp ring
 
@@ -157,11 +180,13 @@ value-reverse (c ∷ cs) x all =
     ∙ sym (polynomial_at-push (reverse cs) c x (All-head IsByte c cs all))
     ∙ ap (λ xs. polynomial_at xs x) (sym (reverse_onto cs c []))
 
+-- functions that agree have as many zeros
 zeros_among-alike : (f g : ℕ → ℕ) (points : List ℕ) → ((x : ℕ) → f x ≡ g x) → zeros_among f points ≡ zeros_among g points
 unfolding zeros_among
 zeros_among-alike f g [] alike = refl
 zeros_among-alike f g (x ∷ points) alike = rw (alike x, zeros_among-alike f g points alike) refl
 
+-- bytes in the reverse order are bytes
 All-reverse : (xs : List ℕ) → All IsByte xs → All IsByte (reverse xs)
 All-reverse xs all = All-from_get_or IsByte (reverse xs) 0 (λ k inside.
     let long : length (reverse xs) ≡ length xs = length-reverse xs in

@@ -5,15 +5,16 @@ use Rattle.gf_field.specs.Field.{plus, product}
 use Rattle.gf_field.specs.Words.{value}
 use Rattle.gf_field.proofs.FieldLaws.{plus-byte, one-product, plus-assoc, plus-self, plus-zero, zero-plus, plus-cancel_right, product-one, product-zero, zero-product, power-zero, one-power}
 use Rattle.rs_code.proofs.Values.{value-nil, value-cons, value-more, value-byte}
-use Rattle.rs_code.specs.PowerSums.{power_sum, shifted_by, AreDistinct}
+use Rattle.rs_code.specs.Inner.PowerSums.{power_sum, shifted_by, AreDistinct}
 use Rattle.rs_code.proofs.PowerSums.{power_sum-shifted_by}
-use Rattle.rs_decode.specs.Sums.{HasSums}
+use Rattle.rs_decode.specs.Inner.Sums.{HasSums}
 
 -- a first point and the others, where no point stands twice
 pub distinct-first : (points : List ℕ) (point : ℕ) (others : List ℕ) → points ≡ point ∷ others → AreDistinct points → All (λ other. point ≢ other) others
 unfolding AreDistinct
 distinct-first points point others split distinct = (subst AreDistinct split distinct).0
 
+-- the others are distinct among themselves
 pub distinct-others : (points : List ℕ) (point : ℕ) (others : List ℕ) → points ≡ point ∷ others → AreDistinct points → AreDistinct others
 unfolding AreDistinct
 distinct-others points point others split distinct = (subst AreDistinct split distinct).1
@@ -36,22 +37,39 @@ value-next bytes i byte sum below is_byte is_sum =
     let once : product 1 (value (take i bytes) 1) ≡ value (take i bytes) 1 = one-product (value (take i bytes) 1) (value-byte (take i bytes) 1) in
     cc (value-more (set bytes i byte) i 1 long is_byte_here, here, before, once, is_sum)
 
-pub divided-next : (bytes others old : List ℕ) (point i byte : ℕ) → i < length bytes → ((k : ℕ) → k < i → product (get_or bytes k 0) (plus (get_or others k 0) point) ≡ get_or old k 0) → ((k : ℕ) → i ≤ k → get_or bytes k 0 ≡ get_or old k 0) → product byte (plus (get_or others i 0) point) ≡ get_or bytes i 0 → (k : ℕ) → k < i + 1 → product (get_or (set bytes i byte) k 0) (plus (get_or others k 0) point) ≡ get_or old k 0
+-- with the byte at this place divided too, one place more gives its old byte when multiplied again
+pub divided-next : (bytes others old : List ℕ) (point i byte : ℕ)
+    → i < length bytes
+    → ((k : ℕ) → k < i → product (get_or bytes k 0) (plus (get_or others k 0) point) ≡ get_or old k 0)
+    → ((k : ℕ) → i ≤ k → get_or bytes k 0 ≡ get_or old k 0)
+    → product byte (plus (get_or others i 0) point) ≡ get_or bytes i 0
+    → (k : ℕ) → k < i + 1
+    → product (get_or (set bytes i byte) k 0) (plus (get_or others k 0) point) ≡ get_or old k 0
 divided-next bytes others old point i byte inside divided kept is_divided =
     below_more _ _
     (λ k below. let other : k ≢ i = omega arith in rw get_or-set_other (divided k below))
     (rw get_or-set_same (is_divided ∙ kept i (omega arith)))
 
-pub kept-next : (bytes old : List ℕ) (i byte : ℕ) → i < length bytes → ((k : ℕ) → i ≤ k → get_or bytes k 0 ≡ get_or old k 0) → (k : ℕ) → i + 1 ≤ k → get_or (set bytes i byte) k 0 ≡ get_or old k 0
+-- a byte set at this place leaves those behind it as they were
+pub kept-next : (bytes old : List ℕ) (i byte : ℕ)
+    → i < length bytes
+    → ((k : ℕ) → i ≤ k → get_or bytes k 0 ≡ get_or old k 0)
+    → (k : ℕ) → i + 1 ≤ k
+    → get_or (set bytes i byte) k 0 ≡ get_or old k 0
 kept-next bytes old i byte inside kept k from = let other : k ≢ i = omega arith in rw get_or-set_other (kept k (omega arith))
 
+-- counted over all bytes, the sum is their power sum of power 0
 pub value-whole : (bytes others : List ℕ) (i sum : ℕ) → length bytes ≤ i → length bytes ≡ length others → sum ≡ value (take i bytes) 1 → sum ≡ power_sum bytes others 0
 value-whole bytes others i sum past size is_sum =
     let whole : take i bytes ≡ bytes = grind (arith, common_steps) in
     is_sum ∙ ap (λ xs. value xs 1) whole ∙ sym (power_sum-plain bytes others size)
 
 -- each byte divided by its distance to the point: multiplied again they are the old ones
-pub shifted_by-from_places : (point : ℕ) (bytes others old : List ℕ) → length bytes ≡ length others → length old ≡ length others → ((k : ℕ) → k < length others → product (get_or bytes k 0) (plus (get_or others k 0) point) ≡ get_or old k 0) → shifted_by point bytes others ≡ old
+pub shifted_by-from_places : (point : ℕ) (bytes others old : List ℕ)
+    → length bytes ≡ length others
+    → length old ≡ length others
+    → ((k : ℕ) → k < length others → product (get_or bytes k 0) (plus (get_or others k 0) point) ≡ get_or old k 0)
+    → shifted_by point bytes others ≡ old
 unfolding shifted_by
 shifted_by-from_places point [] [] [] size old_size divided = refl
 shifted_by-from_places point [] [] (x ∷ old) size old_size divided = absurd (omega arith)
@@ -67,7 +85,12 @@ taken_sum : (point byte : ℕ) (bytes others : List ℕ) (k : ℕ) → power_sum
 unfolding power_sum shifted_by
 taken_sum point byte bytes others k = simp (plus-self, product-zero, zero-product, zero-plus)
 
-first_sum : (point : ℕ) (others : List ℕ) (first total : ℕ) (divided : List ℕ) → first < 256 → length divided ≡ length others → total ≡ power_sum divided others 0 → power_sum (plus first total ∷ divided) (point ∷ others) 0 ≡ first
+-- with the point's byte in front, the power sum of power 0 is the first of the old sums
+first_sum : (point : ℕ) (others : List ℕ) (first total : ℕ) (divided : List ℕ)
+    → first < 256
+    → length divided ≡ length others
+    → total ≡ power_sum divided others 0
+    → power_sum (plus first total ∷ divided) (point ∷ others) 0 ≡ first
 unfolding power_sum
 first_sum point others first total divided is_byte size is_total =
     let total_byte : total < 256 = subst (λ x. x < 256) (sym (is_total ∙ power_sum-plain divided others size)) (value-byte divided 1) in
@@ -77,7 +100,16 @@ first_sum point others first total divided is_byte size is_total =
 
 -- The step: with the point's byte, the sums of all are the old ones.
 -- The next sum is what was taken out plus the point times this one.
-solved_sum : (point : ℕ) (others : List ℕ) (first total : ℕ) (divided solved rest taken : List ℕ) → first < 256 → length divided ≡ length others → shifted_by point divided others ≡ solved → total ≡ power_sum divided others 0 → HasSums others solved taken → length taken ≡ length rest → ((k : ℕ) → k < length taken → get_or taken k 0 ≡ plus (get_or rest k 0) (product point (get_or (first ∷ rest) k 0))) → (k : ℕ) → k < suc (length rest) → power_sum (plus first total ∷ divided) (point ∷ others) k ≡ get_or (first ∷ rest) k 0
+solved_sum : (point : ℕ) (others : List ℕ) (first total : ℕ) (divided solved rest taken : List ℕ)
+    → first < 256
+    → length divided ≡ length others
+    → shifted_by point divided others ≡ solved
+    → total ≡ power_sum divided others 0
+    → HasSums others solved taken
+    → length taken ≡ length rest
+    → ((k : ℕ) → k < length taken → get_or taken k 0 ≡ plus (get_or rest k 0) (product point (get_or (first ∷ rest) k 0)))
+    → (k : ℕ) → k < suc (length rest)
+    → power_sum (plus first total ∷ divided) (point ∷ others) k ≡ get_or (first ∷ rest) k 0
 solved_sum point others first total divided solved rest taken is_byte size is_divided is_total sums taken_size taken_out zero below =
     first_sum point others first total divided is_byte size is_total
 solved_sum point others first total divided solved rest taken is_byte size is_divided is_total sums taken_size taken_out (suc k) below =
@@ -90,7 +122,18 @@ solved_sum point others first total divided solved rest taken is_byte size is_di
     (ap (λ x. plus (power_sum word points (suc k)) (product point x)) (sym this) ∙ next)
 
 -- as `solve` has it, of lists that were split
-pub HasSums-solved : (points sums : List ℕ) (point : ℕ) (others : List ℕ) (first total : ℕ) (divided solved rest taken : List ℕ) → points ≡ point ∷ others → sums ≡ first ∷ rest → first < 256 → length divided ≡ length others → shifted_by point divided others ≡ solved → total ≡ power_sum divided others 0 → HasSums others solved taken → length taken ≡ length rest → length rest ≡ length others → ((k : ℕ) → k < length taken → get_or taken k 0 ≡ plus (get_or rest k 0) (product point (get_or (first ∷ rest) k 0))) → HasSums points (plus first total ∷ divided) sums
+pub HasSums-solved : (points sums : List ℕ) (point : ℕ) (others : List ℕ) (first total : ℕ) (divided solved rest taken : List ℕ)
+    → points ≡ point ∷ others
+    → sums ≡ first ∷ rest
+    → first < 256
+    → length divided ≡ length others
+    → shifted_by point divided others ≡ solved
+    → total ≡ power_sum divided others 0
+    → HasSums others solved taken
+    → length taken ≡ length rest
+    → length rest ≡ length others
+    → ((k : ℕ) → k < length taken → get_or taken k 0 ≡ plus (get_or rest k 0) (product point (get_or (first ∷ rest) k 0)))
+    → HasSums points (plus first total ∷ divided) sums
 HasSums-solved points sums point others first total divided solved rest taken points_are sums_are is_byte size is_divided is_total has_sums taken_size rest_size taken_out =
     subst (λ xs. HasSums xs (plus first total ∷ divided) sums) (sym points_are) (subst (HasSums (point ∷ others) (plus first total ∷ divided)) (sym sums_are) (record {
       size = omega arith;

@@ -6,11 +6,12 @@ use Rattle.gf_field.specs.Words.{IsByte, value}
 use Rattle.gf_field.proofs.FieldLaws.{has_inverse, one-product, plus-assoc, plus-byte, plus-comm, plus-self, plus-zero, plus-zero_same, power-add, power-alpha-mod, product-assoc, product-byte, product-cancel, product-comm, product-zero_factor, zero-product}
 use Rattle.rs_code.proofs.Ring.{ring}
 use Rattle.rs_code.proofs.Values.{value-push}
-use Rattle.rs_code.specs.PowerSums.{points_of}
-use Rattle.rs_decode.specs.Locator.{with_zeros}
+use Rattle.rs_code.specs.Inner.PowerSums.{points_of}
+use Rattle.rs_decode.specs.Inner.Locator.{with_zeros}
 use Rattle.rs_decode.proofs.FewZeros.{marks_of_factors, value-linear, value-quadratic}
 use Rattle.rs_decode.specs.declared.few_zeros.TheConstants.{UNIT_CUBE_ZEROS}
 
+-- the value of x^3 + a x^2 + b x + c
 value-cubic : (a b c x : ℕ) → IsByte b → IsByte c → IsByte x → value (1 ∷ a ∷ b ∷ c ∷ []) x ≡ plus (product x (plus b (product x (plus x a)))) c
 value-cubic a b c x byte_b byte_c byte_x =
     value-push (1 ∷ a ∷ b ∷ []) c x byte_c ∙ ap (λ v. plus (product v x) c) (value-quadratic a b x byte_b byte_x)
@@ -18,6 +19,7 @@ value-cubic a b c x byte_b byte_c byte_x =
 
 -- ---- z^3 + z + u
 
+-- z^3 + z
 unfoldable pub cube_sum : ℕ → ℕ
 cube_sum z = plus (product (product z z) z) z
 
@@ -25,9 +27,11 @@ cube_sum z = plus (product (product z z) z) z
 abbrev pub IsCubeMet : ℕ → Type 0
 IsCubeMet u = cube_sum (get_or UNIT_CUBE_ZEROS u 0) ≡ u
 
+-- the table has a zero for the number that z is a zero for, as a test
 met : ℕ → Bool
 met z = cube_sum (get_or UNIT_CUBE_ZEROS (cube_sum z) 0) == cube_sum z
 
+-- so it is for each z below n
 met_below : ℕ → Bool
 met_below zero = true
 met_below (suc n) = met n && met_below n
@@ -40,10 +44,12 @@ UNIT_CUBE_ZEROS-meet = (Decides-below_and met (λ z. IsCubeMet (cube_sum z)) met
 
 -- ---- by x = r z + a
 
+-- x^3 + a x^2 + b x at x = r z + a, multiplied out
 expanded : (a b r z : ℕ) → product (plus (product r z) a) (plus b (product (plus (product r z) a) (plus (plus (product r z) a) a)))
     ≡ plus (plus (product (product (product r r) r) (product (product z z) z)) (product (product r z) (plus (product a a) b))) (product a b)
 expanded a b r z = simp ring
 
+-- p r z^3 and r z p, with the factor p r taken out
 gathered : (p r z w : ℕ) → plus (product (product p r) w) (product (product r z) p) ≡ product (product p r) (plus w z)
 gathered p r z w = simp ring
 
@@ -57,22 +63,27 @@ cubic-scaled a b p r z square scale =
     ∙ ap (λ q. plus (plus (product (product p r) (product (product z z) z)) (product (product r z) q)) (product a b)) scale
     ∙ ap (λ s. plus s (product a b)) (gathered p r z (product (product z z) z))
 
+-- z^3 + z is a byte
 cube_sum-byte : (z : ℕ) → z < 256 → cube_sum z < 256
 unfolding cube_sum
 cube_sum-byte z byte_z = plus-byte (product (product z z) z) z (product-byte (product z z) z) byte_z
 
+-- a summand goes over to the other side
 moved : (s t c : ℕ) → plus s t ≡ c → s ≡ plus t c
 moved s t c is = sym (plus-zero s) ∙ ap (plus s) (sym (plus-self t)) ∙ sym (plus-assoc s t t) ∙ ap (λ v. plus v t) is ∙ plus-comm c t
 
+-- a product of two bytes other than 0 isn't 0
 nonzero_product : (p r : ℕ) → IsByte p → IsByte r → p ≢ 0 → r ≢ 0 → product p r ≢ 0
 nonzero_product p r byte_p byte_r some_p some_r is_zero = elim (product-zero_factor p r byte_p byte_r is_zero) [
   | inl none ↦ some_p none
   | inr none ↦ some_r none
 ]
 
+-- a square root of a number other than 0 isn't 0
 pub root-nonzero : (p r : ℕ) → p ≢ 0 → product r r ≡ p → r ≢ 0
 root-nonzero p r some square none = some (sym square ∙ ap (λ q. product q r) none ∙ zero-product r)
 
+-- nor is that number times its square root
 pub scale-nonzero : (p r : ℕ) → IsByte p → IsByte r → p ≢ 0 → product r r ≡ p → product p r ≢ 0
 scale-nonzero p r byte_p byte_r some square = nonzero_product p r byte_p byte_r some (root-nonzero p r some square)
 
@@ -91,6 +102,7 @@ unit_cube_zero a b c p r u x byte_a byte_p byte_r byte_u byte_x some square scal
     let byte_z = product-byte inverse.0 (plus x a) in
     (z, byte_z, product-cancel (product p r) u (cube_sum z) (product-byte p r) byte_u (cube_sum-byte z byte_z) (scale-nonzero p r byte_p byte_r some square) same)
 
+-- a number added twice is gone
 again : (t c : ℕ) → plus (plus t c) t ≡ c
 again t c = simp ring
 
@@ -109,6 +121,7 @@ none-by_cubes a b c p r u x byte_a byte_b byte_c byte_p byte_r byte_u byte_x som
 
 -- ---- the marks
 
+-- the values of x^3 + a x^2 + b x at x and at y add up to a multiple of x + y
 factors : (x y a b : ℕ) → plus (product x (plus b (product x (plus x a)))) (product y (plus b (product y (plus y a))))
     ≡ product (plus x y) (plus (product x (plus x (plus y a))) (plus b (product y (plus y a))))
 factors x y a b = simp ring
@@ -129,6 +142,7 @@ three_places a b c y rest marks once twice byte_a byte_b byte_c byte_y rest_is r
 
 -- ---- square roots
 
+-- alpha to the power 128 l is a square root of alpha^l, since 256 l and l count alike
 pub root-squared : (l element : ℕ) → l < 255 → power alpha l ≡ element → product (power alpha (128 * l)) (power alpha (128 * l)) ≡ element
 root-squared l element below reaches =
     let round : (128 * l + 128 * l) % 255 ≡ l = omega arith in

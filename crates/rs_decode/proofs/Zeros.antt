@@ -6,14 +6,17 @@ use Rattle.std.proofs.lemmas.Bool.Decides.{nat_tests}
 use Rattle.gf_field.specs.Field.{alpha, power}
 use Rattle.gf_field.specs.Words.{value}
 use Rattle.gf_field.proofs.FieldLaws.{power-alpha-differ}
-use Rattle.rs_code.specs.PowerSums.{points_of}
+use Rattle.rs_code.specs.Inner.PowerSums.{points_of}
 use Rattle.rs_code.proofs.PowerSums.{length-points_of}
-use Rattle.rs_decode.specs.Locator.{with_zeros}
+use Rattle.rs_decode.specs.Inner.Locator.{with_zeros}
 use Rattle.rs_decode.proofs.Marks.{get_or-points_of}
 use Rattle.rs_decode.proofs.Nearness.{get_or-with_zeros, length-with_zeros}
 
 -- place by place
-pub with_zeros-from_places : (locator : List ℕ) (marks after : List Bool) → length after ≡ length marks → ((k : ℕ) → k < length marks → get_or after k false ≡ (get_or marks k false || (value locator (power alpha (length marks - 1 - k)) == 0))) → after ≡ with_zeros locator marks (points_of (length marks))
+pub with_zeros-from_places : (locator : List ℕ) (marks after : List Bool)
+    → length after ≡ length marks
+    → ((k : ℕ) → k < length marks → get_or after k false ≡ (get_or marks k false || (value locator (power alpha (length marks - 1 - k)) == 0)))
+    → after ≡ with_zeros locator marks (points_of (length marks))
 with_zeros-from_places locator marks after size places =
     let long : length marks ≡ length (points_of (length marks)) = sym (length-points_of (length marks)) in
     let zeros = with_zeros locator marks (points_of (length marks)) in
@@ -26,7 +29,9 @@ with_zeros-from_places locator marks after size places =
     ∙ sym (get_or-with_zeros locator marks (points_of (length marks)) k long (omega arith)))
 
 -- the same of one place
-pub with_zeros-place : (locator : List ℕ) (marks : List Bool) (k : ℕ) → k < length marks → get_or (with_zeros locator marks (points_of (length marks))) k false ≡ (get_or marks k false || (value locator (power alpha (length marks - 1 - k)) == 0))
+pub with_zeros-place : (locator : List ℕ) (marks : List Bool) (k : ℕ)
+    → k < length marks
+    → get_or (with_zeros locator marks (points_of (length marks))) k false ≡ (get_or marks k false || (value locator (power alpha (length marks - 1 - k)) == 0))
 with_zeros-place locator marks k below =
     get_or-with_zeros locator marks (points_of (length marks)) k (sym (length-points_of (length marks))) below
     ∙ ap (λ x. get_or marks k false || (value locator x == 0)) (get_or-points_of (length marks) k below)
@@ -51,9 +56,11 @@ pub or_false : (mark test : Bool) → test ≡ false → mark ≡ (mark || test)
 or_false true test none = refl
 or_false false test none = sym none
 
+-- 0 passes the test for 0
 pub is_zero : (n : ℕ) → n ≡ 0 → (n == 0) ≡ true
 is_zero n zero_is = grind (arith, nat_tests)
 
+-- and no other number does
 pub is_not_zero : (n : ℕ) → n ≢ 0 → (n == 0) ≡ false
 is_not_zero n nonzero = grind (arith, nat_tests)
 
@@ -63,6 +70,7 @@ points-differ n j k short before inside same =
     let e : n - 1 - k ≡ n - 1 - j = power-alpha-differ (n - 1 - k) (n - 1 - j) (omega arith) (omega arith) same in
     absurd (omega arith)
 
+-- where the first polynomial's zero is marked, a zero of the second that is one of the first marks nothing new
 or_again : (m : Bool) (p v : ℕ) → ((v == 0) ≡ false → p ≢ 0) → ((m || (v == 0)) || (p == 0)) ≡ (m || (v == 0))
 or_again true p v apart = refl
 or_again false p v apart = elim (cases_eq v 0) [

@@ -4,7 +4,7 @@ use Rattle.gf_field.specs.Field.{shift, shifted, partial_product, power, product
 use Rattle.gf_field.specs.Words.{value}
 use Rattle.rs_decode.specs.Errors.{error_count}
 use Rattle.rs_decode.specs.Filling.{marked}
-use Rattle.rs_decode.specs.Locator.{with_zeros}
+use Rattle.rs_decode.specs.Inner.Locator.{with_zeros}
 use Rattle.rs_decode.specs.Register.{total, connection}
 
 -- two bytes differ, and one of them is marked

@@ -1,10 +1,7 @@
 pub mod Errors
 pub mod Examples
 pub mod Filling
+pub mod Inner
 pub mod Laws
-pub mod Locator
-pub mod Places
-pub mod Register
-pub mod Steps
-pub mod Sums
 pub mod Nearest
+pub mod Register

@@ -1,6 +1,6 @@
 //! Sums of multiples of lists.
 ghost use Rattle.std.specs.Prelude.{◌≡◌, ℕ, ◌≤◌, length, slice_index};
-ghost use Rattle.rs_code.specs.Polynomials.{sum_of, scaled};
+ghost use Rattle.rs_code.specs.Inner.Polynomials.{sum_of, scaled};
 
 use gf_field::mul;
 

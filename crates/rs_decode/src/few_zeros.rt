@@ -1,8 +1,8 @@
 //! The zeros of polynomials of degree 1 to 3, by formulas instead of a search.
 ghost use Rattle.std.specs.Prelude.{◌≡◌, ◌≢◌, ◌≤◌, true, false, [], ◌∷◌, length, slice_index};
 ghost use Rattle.gf_field.specs.Field.{product};
-ghost use Rattle.rs_code.specs.PowerSums.{points_of};
-ghost use Rattle.rs_decode.specs.Locator.{with_zeros};
+ghost use Rattle.rs_code.specs.Inner.PowerSums.{points_of};
+ghost use Rattle.rs_decode.specs.Inner.Locator.{with_zeros};
 
 use gf_field::{alpha_pow, div, log, mul};
 

@@ -3,10 +3,10 @@ ghost use Rattle.std.specs.Prelude.{◌≡◌, ℕ, ◌+◌, ◌<◌, ◌≤◌,
 ghost use Rattle.arrayvec.specs.ArrayVec.{array_vec_len};
 ghost use Rattle.gf_field.specs.Field.{plus, product};
 ghost use Rattle.gf_field.specs.Words.{IsByte, value};
-ghost use Rattle.rs_code.specs.PowerSums.{points_of};
+ghost use Rattle.rs_code.specs.Inner.PowerSums.{points_of};
 ghost use Rattle.rs_decode.specs.Errors.{error_count};
-ghost use Rattle.rs_decode.specs.Locator.{at_points, distances, with_zeros};
-ghost use Rattle.rs_decode.specs.Sums.{AreSums};
+ghost use Rattle.rs_decode.specs.Inner.Locator.{at_points, distances, with_zeros};
+ghost use Rattle.rs_decode.specs.Inner.Sums.{AreSums};
 
 use crate::few_zeros::mark_few;
 use arrayvec::ArrayVec;

@@ -3,8 +3,8 @@ ghost use Rattle.std.specs.Prelude.{◌≡◌, ℕ, List, Bool, ◌-◌, ◌<◌
 ghost use Rattle.gf_field.specs.Field.{alpha, power};
 ghost use Rattle.gf_field.specs.Words.{IsByte};
 ghost use Rattle.rs_decode.specs.Filling.{marked};
-ghost use Rattle.rs_decode.specs.Places.{picked, patched};
-ghost use Rattle.rs_code.specs.PowerSums.{points_of};
+ghost use Rattle.rs_decode.specs.Inner.Places.{picked, patched};
+ghost use Rattle.rs_code.specs.Inner.PowerSums.{points_of};
 
 use arrayvec::ArrayVec;
 use gf_field::{alpha_pow, log};

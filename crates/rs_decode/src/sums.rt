@@ -2,8 +2,8 @@
 ghost use Rattle.std.specs.Prelude.{◌≡◌, ◌≢◌, ℕ, ◌<◌, ◌∷◌, length, All, EachIndex, slice_index};
 ghost use Rattle.gf_field.specs.Field.{plus, product};
 ghost use Rattle.gf_field.specs.Words.{value};
-ghost use Rattle.rs_code.specs.PowerSums.{AreDistinct, power_sum, shifted_by};
-ghost use Rattle.rs_decode.specs.Sums.{HasSums};
+ghost use Rattle.rs_code.specs.Inner.PowerSums.{AreDistinct, power_sum, shifted_by};
+ghost use Rattle.rs_decode.specs.Inner.Sums.{HasSums};
 
 use gf_field::{div, mul};
 

@@ -1,5 +1,5 @@
 use Rattle.std.proofs.Common.{drop, ap, sym, ◌+◌, ◌∙◌, arith}
-use Rattle.cd_sector.specs.Register.{after_bytes}
+use Rattle.cd_sector.specs.Inner.Register.{after_bytes}
 use Rattle.cd_sector.proofs.Steps.{after_bytes-next, after_bytes-end}
 use Rattle.cd_sector.proofs.edc.with_bytes.Goals as goal
 

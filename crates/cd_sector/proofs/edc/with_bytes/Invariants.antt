@@ -1,5 +1,5 @@
 use Rattle.std.proofs.Common.{◌≡◌, drop}
-use Rattle.cd_sector.specs.Register.{after_bytes}
+use Rattle.cd_sector.specs.Inner.Register.{after_bytes}
 use Rattle.cd_sector.proofs.edc.with_bytes.Given as goal
 
 abbrev pub invariant-loop-byte : goal.invariant-loop-byte

@@ -1,6 +1,6 @@
 use Rattle.std.proofs.Common.{ap, List, ℕ, ◌∙◌, get_or, zero-add, arith}
 use Rattle.std.proofs.lemmas.List.FromFn.{get_or-map-range_with_len}
-use Rattle.cd_sector.specs.Register.{after_steps}
+use Rattle.cd_sector.specs.Inner.Register.{after_steps}
 use Rattle.cd_sector.proofs.table.entry.Goals as goal
 
 pub returns : goal.returns

@@ -1,7 +1,7 @@
 use Rattle.std.proofs.Common.{refl, map}
 use Rattle.std.specs.List.{range_with_len}
 use Rattle.std.proofs.lemmas.Slice.Eq.{bytes_eq-Decides}
-use Rattle.cd_sector.specs.Register.{after_steps, stepped}
+use Rattle.cd_sector.specs.Inner.Register.{after_steps, stepped}
 use Rattle.cd_sector.proofs.table.remainder_of.Goals as goal
 
 -- computed over all 256 entries

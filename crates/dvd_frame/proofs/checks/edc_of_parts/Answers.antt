@@ -1,6 +1,6 @@
 use Rattle.std.proofs.Common.{List, ℕ, [], ◌++◌, ap, ◌∙◌, arith}
 use Rattle.std.proofs.lemmas.List.{append-nil}
-use Rattle.dvd_frame.specs.Registers.{divided_from}
+use Rattle.dvd_frame.specs.Inner.Registers.{divided_from}
 use Rattle.dvd_frame.proofs.Division.{edc_read}
 use Rattle.dvd_frame.proofs.checks.edc_of_parts.Goals as goal
 

@@ -1,6 +1,6 @@
 use Rattle.std.proofs.Common.{ℕ, ◌*◌, ◌%◌, ◌^◌, ap, ◌∙◌}
 use Rattle.std.specs.Prelude.{bit_xor}
-use Rattle.dvd_frame.specs.Registers.{divided_from}
+use Rattle.dvd_frame.specs.Inner.Registers.{divided_from}
 use Rattle.dvd_frame.proofs.Division.{byte_read}
 use Rattle.dvd_frame.proofs.checks.with_byte.Goals as goal
 

@@ -2,7 +2,7 @@ use Rattle.std.proofs.Common.{List, ℕ, ◌/◌, ◌++◌, length, ap, sym, ◌
 use Rattle.std.specs.List.{concat}
 use Rattle.std.specs.Simd.{first_chunks}
 use Rattle.std.proofs.lemmas.List.{append_assoc}
-use Rattle.dvd_frame.specs.Registers.{divided_from}
+use Rattle.dvd_frame.specs.Inner.Registers.{divided_from}
 use Rattle.rs_code.proofs.Words.{words_joined}
 use Rattle.dvd_frame.proofs.checks.with_bytes.Goals as goal
 

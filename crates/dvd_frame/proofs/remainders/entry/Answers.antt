@@ -1,6 +1,6 @@
 use Rattle.std.proofs.Common.{ap, List, ℕ, ◌∙◌, get_or, zero-add, arith}
 use Rattle.std.proofs.lemmas.List.FromFn.{get_or-map-range_with_len}
-use Rattle.dvd_frame.specs.Registers.{byte_remainder}
+use Rattle.dvd_frame.specs.Inner.Registers.{byte_remainder}
 use Rattle.dvd_frame.proofs.remainders.entry.Goals as goal
 
 pub returns : goal.returns

@@ -2,7 +2,7 @@ use Rattle.std.proofs.Common.{refl, map}
 use Rattle.std.specs.List.{range_with_len}
 use Rattle.dvd_frame.specs.Bits.{bits}
 use Rattle.dvd_frame.specs.Edc.{plus_front, remainder}
-use Rattle.dvd_frame.specs.Registers.{byte_remainder}
+use Rattle.dvd_frame.specs.Inner.Registers.{byte_remainder}
 use Rattle.std.proofs.lemmas.Slice.Eq.{bytes_eq-Decides}
 use Rattle.dvd_frame.proofs.remainders.remainder_of.Goals as goal
 

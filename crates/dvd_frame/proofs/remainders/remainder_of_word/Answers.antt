@@ -3,7 +3,7 @@ use Rattle.std.specs.List.{range_with_len}
 use Rattle.std.proofs.lemmas.Slice.Eq.{bytes_eq-Decides}
 use Rattle.dvd_frame.specs.Bits.{bits}
 use Rattle.dvd_frame.specs.Edc.{plus_front, remainder}
-use Rattle.dvd_frame.specs.Registers.{byte_remainder}
+use Rattle.dvd_frame.specs.Inner.Registers.{byte_remainder}
 use Rattle.dvd_frame.proofs.WordDivision.{word_remainder}
 use Rattle.dvd_frame.proofs.remainders.remainder_of_word.Goals as goal
 

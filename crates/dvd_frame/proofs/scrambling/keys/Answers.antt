@@ -1,5 +1,5 @@
 use Rattle.std.proofs.Common.{◌≡◌, ℕ, ◌+◌, ◌*◌, refl, ◌∙◌, ap, arith}
-use Rattle.dvd_frame.specs.Registers.{keys_from}
+use Rattle.dvd_frame.specs.Inner.Registers.{keys_from}
 use Rattle.dvd_frame.proofs.KeyWords.{keys_written}
 use Rattle.dvd_frame.proofs.scrambling.keys.Goals as goal
 

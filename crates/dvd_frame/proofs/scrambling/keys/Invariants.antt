@@ -1,6 +1,6 @@
 use Rattle.std.proofs.Common.{◌≡◌, ◌+◌, ◌*◌, take}
 use Rattle.std.specs.Int.{to_be_bytes, w64}
-use Rattle.dvd_frame.specs.Registers.{keys_from}
+use Rattle.dvd_frame.specs.Inner.Registers.{keys_from}
 use Rattle.dvd_frame.proofs.scrambling.keys.Given as goal
 
 abbrev pub invariant-loop-place : goal.invariant-loop-place

@@ -1,5 +1,5 @@
 use Rattle.std.proofs.Common.{◌≡◌, ℕ, ◌+◌, ◌<◌, get_or}
-use Rattle.dvd_frame.specs.Registers.{window}
+use Rattle.dvd_frame.specs.Scrambling.{window}
 use Rattle.dvd_frame.specs.Scrambling.{scrambling_byte}
 use Rattle.dvd_frame.proofs.scrambling.next_word.Given as goal
 

@@ -2,7 +2,7 @@ use Rattle.std.proofs.Common.{◌≡◌, ℕ, ◌/◌, List, length, take, get_o
 use Rattle.std.specs.Prelude.{bit_and, bit_xor, slice_index}
 use Rattle.std.proofs.lemmas.List.{length-take-le}
 use Rattle.std.proofs.lemmas.Nat.{and_mask}
-use Rattle.dvd_frame.specs.Registers.{keys_from}
+use Rattle.dvd_frame.specs.Inner.Registers.{keys_from}
 use Rattle.dvd_frame.specs.Scrambling.{presets, preset_of}
 use Rattle.dvd_frame.proofs.KeyWords.{key_made}
 use Rattle.dvd_frame.proofs.Masking.{masked_parts}

@@ -1,5 +1,5 @@
 use Rattle.std.proofs.Common.{take}
-use Rattle.rs_code.specs.Polynomials.{IsRemainder}
+use Rattle.rs_code.specs.Inner.Polynomials.{IsRemainder}
 use Rattle.rs_code.proofs.division.divide.Given as goal
 
 abbrev pub invariant-loop-byte : goal.invariant-loop-byte

@@ -1,7 +1,7 @@
 use Rattle.std.proofs.Common.{[], ◌++◌, length, take, ap, ◌∙◌, arith}
 use Rattle.std.proofs.lemmas.List.Elements.{All-from_get_or}
 use Rattle.gf_field.specs.Words.{IsByte}
-use Rattle.rs_code.specs.Registers.{bytes_of}
+use Rattle.rs_code.specs.Inner.Registers.{bytes_of}
 use Rattle.rs_code.proofs.Words.{written_remainder}
 use Rattle.rs_code.proofs.register.divide_both.Goals as goal
 

@@ -1,5 +1,5 @@
 use Rattle.std.proofs.Common.{◌≡◌, List, ℕ, [], ◌++◌, slice_index_or, drop}
-use Rattle.rs_code.specs.Registers.{after_bytes}
+use Rattle.rs_code.specs.Inner.Registers.{after_bytes}
 use Rattle.rs_code.proofs.register.with_bytes.Given as goal
 
 -- the bytes that are left lead to the same register

@@ -1,6 +1,6 @@
 use Rattle.std.proofs.Common.{◌≡◌, List, ℕ, [], ◌++◌, slice_index_or, drop}
 use Rattle.std.specs.List.{concat}
-use Rattle.rs_code.specs.Registers.{AreTables, after_bytes}
+use Rattle.rs_code.specs.Inner.Registers.{AreTables, after_bytes}
 use Rattle.rs_code.proofs.register.with_words_of_both.Given as goal
 
 -- the words that are left of each message lead to the same register

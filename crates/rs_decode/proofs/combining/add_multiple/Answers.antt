@@ -4,7 +4,7 @@ use Rattle.std.proofs.lemmas.List.{get_or_past}
 use Rattle.std.proofs.lemmas.Grind.{same_number_lists}
 use Rattle.gf_field.specs.Field.{plus, product}
 use Rattle.gf_field.proofs.FieldLaws.{plus-zero, product-zero}
-use Rattle.rs_code.specs.Polynomials.{sum_of, scaled}
+use Rattle.rs_code.specs.Inner.Polynomials.{sum_of, scaled}
 use Rattle.rs_code.proofs.Values.{length-sum_of, length-scaled, get_or-sum_of, get_or-scaled}
 use Rattle.rs_decode.proofs.combining.add_multiple.Goals as goal
 

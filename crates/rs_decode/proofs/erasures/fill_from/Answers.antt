@@ -3,7 +3,7 @@
 use Rattle.std.proofs.Common.{◌≡◌, ◌≤◌, length, take, All, arith, ap, sym, subst, ◌∙◌}
 use Rattle.gf_field.specs.Words.{IsByte, IsCodeword}
 use Rattle.rs_code.specs.Syndromes.{syndromes_of}
-use Rattle.rs_decode.specs.Places.{patched}
+use Rattle.rs_decode.specs.Inner.Places.{patched}
 use Rattle.rs_decode.specs.Filling.{AgreeUnmarked, marked}
 use Rattle.rs_decode.proofs.Fillings.{marked_points-distinct, points-few, length-first_syndromes, filled-codeword, AgreeUnmarked-patched, no_filling}
 use Rattle.rs_decode.proofs.erasures.fill_from.Goals as goal

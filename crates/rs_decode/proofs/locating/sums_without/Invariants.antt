@@ -1,7 +1,7 @@
 use Rattle.std.proofs.Common.{◌≡◌, ℕ, ◌+◌, List, length, take}
 use Rattle.arrayvec.specs.ArrayVec.{array_vec_len}
-use Rattle.rs_decode.specs.Locator.{at_points, distances}
-use Rattle.rs_decode.specs.Sums.{AreSums}
+use Rattle.rs_decode.specs.Inner.Locator.{at_points, distances}
+use Rattle.rs_decode.specs.Inner.Sums.{AreSums}
 use Rattle.rs_decode.proofs.locating.sums_without.Given as goal
 
 abbrev pub invariant-loop-point : goal.invariant-loop-point

@@ -1,5 +1,5 @@
 use Rattle.std.proofs.Common.{◌≡◌, ◌+◌, ◌<◌, length, arith, ap, sym, ◌∙◌}
-use Rattle.rs_code.specs.PowerSums.{points_of}
+use Rattle.rs_code.specs.Inner.PowerSums.{points_of}
 use Rattle.rs_code.proofs.PowerSums.{length-points_of}
 use Rattle.rs_decode.specs.Filling.{marked}
 use Rattle.rs_decode.proofs.Marks.{picked-none, picked-next_marked, picked-next_clear, picked-unmarked, unmarked, marked-none, marked-next_marked, marked-next_clear, marked-take-le, get_or-points_of}

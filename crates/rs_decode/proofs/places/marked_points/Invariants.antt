@@ -1,8 +1,8 @@
 use Rattle.std.proofs.Common.{◌≡◌, length, take, ◌≤◌}
 use Rattle.arrayvec.specs.ArrayVec.{array_vec_len}
-use Rattle.rs_code.specs.PowerSums.{points_of}
+use Rattle.rs_code.specs.Inner.PowerSums.{points_of}
 use Rattle.rs_decode.specs.Filling.{marked}
-use Rattle.rs_decode.specs.Places.{picked}
+use Rattle.rs_decode.specs.Inner.Places.{picked}
 use Rattle.rs_decode.proofs.places.marked_points.Given as goal
 
 abbrev pub invariant-loop-place : goal.invariant-loop-place

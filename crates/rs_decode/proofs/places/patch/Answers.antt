@@ -3,7 +3,7 @@ use Rattle.std.proofs.lemmas.List.{take_all}
 use Rattle.std.proofs.lemmas.List.Elements.{All-from_get_or}
 use Rattle.gf_field.specs.Field.{plus}
 use Rattle.gf_field.specs.Words.{IsByte}
-use Rattle.rs_decode.specs.Places.{patched}
+use Rattle.rs_decode.specs.Inner.Places.{patched}
 use Rattle.rs_decode.proofs.Marks.{byte-added, patched-next, patched-none, point-nonzero, point-within}
 use Rattle.rs_decode.proofs.places.patch.Goals as goal
 use Rattle.rs_decode.proofs.places.patch.Goals.{then-point-ne0+then-exponent-word, then-point-ne0+else-exponent-word, else-point-ne0}

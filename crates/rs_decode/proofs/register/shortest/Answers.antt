@@ -1,5 +1,5 @@
 use Rattle.std.proofs.Common.{◌≡◌, ◌+◌, ◌-◌, length, take, sym, ap, subst, ◌∙◌, arith}
-use Rattle.rs_decode.specs.Steps.{IsShortestTo, FailsAt}
+use Rattle.rs_decode.specs.Inner.Steps.{IsShortestTo, FailsAt}
 use Rattle.rs_decode.proofs.Registers.{IsShortestTo-start, FailsAt-start, FailsAt-times_x, Leaves, Leaves-stays, Leaves-mended, Leaves-longer, Generates-end, IsLeast-end, first-start}
 use Rattle.rs_decode.proofs.register.shortest.Goals as goal
 use Rattle.rs_decode.proofs.register.shortest.Goals.{then-found-ne0+then-len-place, then-found-ne0+else-len-place, else-found-ne0}

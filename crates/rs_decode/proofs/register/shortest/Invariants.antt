@@ -1,5 +1,5 @@
 use Rattle.std.proofs.Common.{◌≡◌, ◌≢◌, ◌+◌, ◌-◌, get_or}
-use Rattle.rs_decode.specs.Steps.{IsShortestTo, FailsAt}
+use Rattle.rs_decode.specs.Inner.Steps.{IsShortestTo, FailsAt}
 use Rattle.rs_decode.proofs.register.shortest.Given as goal
 
 abbrev pub invariant-loop-place : goal.invariant-loop-place

@@ -1,6 +1,6 @@
 -- Bytes at points and their power sums.
 use Rattle.std.specs.Prelude.{◌≡◌, ℕ, ◌<◌, List, length, slice_index}
-use Rattle.rs_code.specs.PowerSums.{power_sum}
+use Rattle.rs_code.specs.Inner.PowerSums.{power_sum}
 
 -- the first power sums of the bytes at the points are these
 pub record HasSums (points bytes sums : List ℕ) : Type 0 where

@@ -2,7 +2,7 @@
 use Rattle.std.specs.Prelude.{◌≡◌, ℕ, ◌-◌, ◌*◌, ◌/◌, ◌%◌, ◌^◌, ◌<◌, List, [], ◌∷◌, ◌++◌, length, take, replicate, get_or}
 use Rattle.std.specs.Int.{bytes_high_first}
 use Rattle.gf_field.specs.Field.{plus}
-use Rattle.rs_code.specs.Polynomials.{scaled, IsRemainder}
+use Rattle.rs_code.specs.Inner.Polynomials.{scaled, IsRemainder}
 
 -- the lowest k bytes of a number, the highest of them first
 unfoldable pub bytes_of : ℕ → ℕ → List ℕ

@@ -1,13 +1,9 @@
 -- What the registers of the code hold, of which the standard's definitions don't speak.
-use Rattle.std.specs.Prelude.{ℕ, ◌+◌, ◌*◌, List, ◌++◌, length, drop, map, replicate}
+use Rattle.std.specs.Prelude.{ℕ, ◌+◌, ◌*◌, List, ◌++◌, length, map, replicate}
 use Rattle.std.specs.List.{range_with_len}
 use Rattle.dvd_frame.specs.Bits.{bits, bits_of, number_of}
 use Rattle.dvd_frame.specs.Edc.{plus_front, remainder}
-use Rattle.dvd_frame.specs.Scrambling.{sequence, scrambling_byte}
-
--- u(8k) to u(8k+14), the 15 bits that the register of a preset shows at byte k
-unfoldable pub window : ℕ → ℕ → List ℕ
-window preset k = drop (8 * k) (sequence preset (8 * k))
+use Rattle.dvd_frame.specs.Scrambling.{scrambling_byte}
 
 -- n scrambling bytes of a preset, from byte k on
 unfoldable pub keys_from : ℕ → ℕ → ℕ → List ℕ
