@@ -12,11 +12,12 @@ use Rattle.dvd_loop.proofs.Reached.{goes_on, taken_unit}
 use Rattle.dvd_loop.proofs.Sizes.{IsShort, TakesOne, goes_one}
 use Rattle.dvd_loop.proofs.StepLemmas.{onto}
 
--- the first unit, and the others behind it
+-- the first unit is the first bytes, as many as its size
 first_unit : (size : ℕ) (own left : List ℕ) → length own ≡ size → own ≡ take size (drop (size * 0) (own ++ left))
 first_unit size own left is =
     sym (take-append_seam own left) ∙ ap (λ n. take n (own ++ left)) is ∙ ap (λ n. take size (drop n (own ++ left))) (sym (mul-zero size))
 
+-- unit k of what is left behind a unit is unit k + 1 of all
 next_unit : (size k : ℕ) (own left : List ℕ) → length own ≡ size → take size (drop (size * k) left) ≡ take size (drop (size * suc k) (own ++ left))
 next_unit size k own left is =
     let next : length own + size * k ≡ size * suc k = omega (arith, mul-suc size k) in
@@ -26,18 +27,22 @@ next_unit size k own left is =
 abbrev and_unit : List ℕ → List Step → Outcome → Outcome
 and_unit own steps outcome = record outcome { taken = outcome.taken ++ own; out = outcome.out ++ written steps; lines = outcome.lines ++ told steps }
 
+-- where nothing else was taken or done, a unit before the end is one behind it
 onto_done : (own : List ℕ) (steps : List Step) → onto own (written steps) (told steps) (ended Done) ≡ and_unit own steps (ended Done)
 onto_done own steps = simp append-nil
 
+-- it is the same whether what came before or the unit behind is put on first
 onto_and : (taken out lines own : List ℕ) (steps : List Step) (outcome : Outcome)
     → onto taken out lines (and_unit own steps outcome) ≡ and_unit own steps (onto taken out lines outcome)
 onto_and taken out lines own steps outcome = simp append_assoc
 
+-- units that are parts 1, 2 and so on, behind one that is part 0, are all parts in order
 each_later : (k : ℕ) (own : List ℕ) (more : List (List ℕ)) (parts : ℕ → List ℕ) → own ≡ parts 0 → ((j : ℕ) → j < k → get_or more j [] ≡ parts (suc j))
     → (j : ℕ) → j < suc k → get_or (own ∷ more) j [] ≡ parts j
 each_later k own more parts is each zero lt = is
 each_later k own more parts is each (suc j) lt = each j (omega arith)
 
+-- a front of what comes behind a piece is, behind that piece, a front of all
 front_later : (own front more whole all : List ℕ) → all ≡ own ++ whole → IsFrontOf (front ++ more) whole → IsFrontOf ((own ++ front) ++ more) all
 front_later own front more whole all is (left, so) = (left, is ∙ ap (λ l. own ++ l) so ∙ simp append_assoc)
 

@@ -7,6 +7,7 @@ use Rattle.dvd_loop.specs.declared.ends.LoopEnd.{LoopEnd}
 use Rattle.dvd_loop.specs.declared.ends.LoopEnd.TheVariants.{BadMarks, Damaged, Done, Long, NoControl, ReadFault, ReportFault, Short, WriteFault}
 use Rattle.dvd_loop.proofs.StepLemmas.{and_then}
 
+-- a line that is told takes nothing of the input
 line_takes : (line : List ℕ) (end : LoopEnd) (outcome : Outcome) → Does (Tell line ∷ []) (λ after. after ≡ ended end) outcome → outcome.taken ≡ []
 line_takes line end outcome does = elim does [
   | inl (front, left, whole, some, is) ↦ ap (λ (o : Outcome). o.taken) is

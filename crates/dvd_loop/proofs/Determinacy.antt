@@ -20,9 +20,11 @@ pub record Agree (a b : Outcome) : Type 0 where
   pub end : a.end ≡ b.end
   pub taken : IsUnbroken a.end → a.taken ≡ b.taken
 
+-- any two outcomes of two kinds agree, where no fault ended them
 abbrev AllAgree : (Outcome → Type 0) → (Outcome → Type 0) → Type 0
 AllAgree A B = (a b : Outcome) → A a → B b → IsFaultless a.end → IsFaultless b.end → Agree a b
 
+-- an outcome agrees with itself
 same_agree : (a b : Outcome) → a ≡ b → Agree a b
 same_agree a b is = record {
   out = ap (λ (o : Outcome). o.out) is;
@@ -40,20 +42,24 @@ onto_agree own w t a b agree = record {
   taken = λ not. ap (λ l. own ++ l) (agree.taken not);
 }
 
+-- outcomes equal to two that agree do agree
 agree_as : (a b x y : Outcome) → a ≡ x → b ≡ y → Agree x y → Agree a b
 agree_as a b x y p q agree = subst (λ o. Agree o b) (sym p) (subst (Agree x) (sym q) agree)
 
+-- outcomes behind the same steps agree where those behind all steps do
 steps_agree : (steps : List Step) (A B : Outcome → Type 0) → AllAgree A B → AllAgree (Does steps A) (Does steps B)
 steps_agree steps A B agree a b does others p q =
     let x = all_done steps A a does p in
     let y = all_done steps B b others q in
     agree_as a b _ _ x.is y.is (onto_agree [] (written steps) (told steps) x.after y.after (agree x.after y.after x.holds y.holds (faultless_behind steps A a x p) (faultless_behind steps B b y q)))
 
+-- whether the unit was the last or not, outcomes behind it agree where those of the units to come do
 turns_agree : (turn : Turn) (A : Outcome → Type 0) → AllAgree A A → AllAgree (GoesOn turn A) (GoesOn turn A)
 turns_agree Good A agree = agree
 turns_agree Bad A agree = agree
 turns_agree Last A agree = λ a b p q none other. same_agree a b (p ∙ sym q)
 
+-- outcomes each of which is that one or a failed read agree where no fault ended them
 by_no_fault : (x a b : Outcome) → (a ≡ x) ⊎ (a ≡ ended ReadFault) → (b ≡ x) ⊎ (b ≡ ended ReadFault) → IsFaultless a.end → IsFaultless b.end
     → Agree a b
 by_no_fault x a b p q none other = elim p [
@@ -64,6 +70,7 @@ by_no_fault x a b p q none other = elim p [
   ]
 ]
 
+-- outcomes behind the last unit agree
 behind_agree : (stands : Behind) (bad : ℕ) (left : List ℕ) → AllAgree (EndsBehind stands bad left) (EndsBehind stands bad left)
 behind_agree behind.Done bad left a b p q none other = same_agree a b (p ∙ sym q)
 behind_agree behind.NoControl bad left a b p q none other = same_agree a b (p ∙ sym q)
@@ -159,6 +166,7 @@ module _ (units : Units) (det : AreDetermined units) where
     ]
   ]
 
+-- the same units and bytes come to one outcome
 pub agrees : (units : Units) → OutcomesAgree units
 agrees units det bytes a b p q none other =
     let same = steps_agree units.opens (Goes units units.count [] 0 bytes) (Goes units units.count [] 0 bytes) (goes_agree units det units.count [] 0 bytes) a b p q none other in

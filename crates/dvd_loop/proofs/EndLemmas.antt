@@ -13,6 +13,7 @@ use Rattle.dvd_loop.specs.declared.ends.LoopEnd.{LoopEnd}
 use Rattle.dvd_loop.specs.declared.ends.LoopEnd.TheVariants.{BadMarks, Damaged, Done, Long, NoControl, ReadFault, ReportFault, Short, WriteFault}
 use Rattle.dvd_loop.proofs.StreamLemmas.{Consumes-none, left_of, none_left, stays, told_before}
 
+-- a list of length 0 is empty
 pub empty : (xs : List ℕ) → length xs ≡ 0 → xs ≡ []
 empty [] is = refl
 empty (x ∷ xs) is = absurd (omega arith)
@@ -91,6 +92,7 @@ closes_as closing (Damaged bad) outcome not does = does
 closes_as closing NoControl outcome not does = does
 closes_as closing (BadMarks unit at) outcome not does = does
 
+-- a count that stayed is right for an end that isn't a fault of the report
 pub not_report : (end : LoopEnd) → end ≢ ReportFault → (old new : ℕ) → new ≡ old → Counts (is_report_fault end) old new
 not_report ReportFault not old new same = absurd (not refl)
 not_report Done not old new same = same

@@ -20,6 +20,7 @@ record Ends (n size before : ℕ) (bytes : List ℕ) (a : Outcome) : Type 0 wher
   by : ((j held : ℕ) × (j < n) × (held < size) × (length bytes ≡ j * size + held) × (a.end ≡ Short (before + j) held))
       ⊎ ((length bytes ≡ n * size) × IsOver a.end) ⊎ ((n * size < length bytes) × (a.end ≡ Long))
 
+-- an input that ended behind the last unit is over
 end_by_over : (bad : ℕ) → IsOver (end_by bad)
 end_by_over zero = tt
 end_by_over (suc bad) = tt
@@ -89,6 +90,7 @@ module _ (units : Units) (size : ℕ) (are : AreOfOneSize units size) where
 earlier : (size j k held : ℕ) → held < size → j < k → j * size + held < k * size
 earlier size j k held fewer lt = omega (arith, suc-mul j size, mul-le-mul_right {m = suc j} {n = k} size lt)
 
+-- a place in units of one size names one unit
 one_place : (size j k held other : ℕ) → held < size → other < size → j * size + held ≡ k * size + other → j ≡ k
 one_place size j k held other p q is = elim (cases_lt j k) [
   | inl lt ↦ absurd (omega (arith, earlier size j k held p lt))
@@ -98,11 +100,13 @@ one_place size j k held other p q is = elim (cases_lt j k) [
   ]
 ]
 
+-- ends within a unit that are equal name the same unit and the same bytes of it
 short_is : (j k held other : ℕ) → Short (0 + j) held ≡ Short k other → (j ≡ k) × (held ≡ other)
 short_is j k held other is =
     let unit : 0 + j ≡ k = cc in
     (omega arith, cc)
 
+-- such an end tells how long the input is
 tells : (count size : ℕ) (bytes : List ℕ) (a : Outcome) → Ends count size 0 bytes a → TellsLength count size bytes a
 tells count size bytes a ends =
     let Within : ℕ → ℕ → Type 0 = λ k held. (k < count) × (held < size) × (length bytes ≡ k * size + held) in record {
@@ -151,6 +155,7 @@ tells count size bytes a ends =
       taken = ends.taken;
     }
 
+-- without a fault the end is by the length of the input
 pub ends_so : (units : Units) → EndsBySize units
 ends_so units size are bytes a runs none =
     let done = all_done units.opens (Goes units units.count [] 0 bytes) a runs none in

@@ -18,6 +18,7 @@ IsNoStepFault WriteFault = ⊥
 IsNoStepFault ReportFault = ⊥
 IsNoStepFault end = Unit {0}
 
+-- where there is no fault, no step failed
 no_step_fault : (end : LoopEnd) → IsFaultless end → IsNoStepFault end
 no_step_fault Done none = tt
 no_step_fault ReadFault none = absurd none
@@ -35,6 +36,7 @@ pub record AllDone (steps : List Step) (After : Outcome → Type 0) (outcome : O
   pub holds : After after
   pub is : outcome ≡ onto [] (written steps) (told steps) after
 
+-- a step that was taken, and all those behind it, are all taken
 done_first : (step : Step) (steps : List Step) (After : Outcome → Type 0) (outcome after : Outcome) → outcome ≡ stepping step after
     → AllDone steps After after → AllDone (step ∷ steps) After outcome
 done_first (Write bytes) steps After outcome after is rest = record {
@@ -48,14 +50,17 @@ done_first (Tell line) steps After outcome after is rest = record {
   is = is ∙ ap (stepping (Tell line)) rest.is ∙ ap (λ l. record rest.after { out = written steps ++ rest.after.out; lines = l }) (sym (append_assoc line (told steps) rest.after.lines));
 }
 
+-- an outcome of a step that failed ends with a fault of a step
 failed_step : (step : Step) (outcome : Outcome) → Fails step outcome → IsNoStepFault outcome.end → ⊥
 failed_step (Write bytes) outcome (front, left, whole, some, fails) none = subst (λ (o : Outcome). IsNoStepFault o.end) fails none
 failed_step (Tell line) outcome (front, left, whole, some, fails) none = subst (λ (o : Outcome). IsNoStepFault o.end) fails none
 
+-- a step that was taken leaves the end
 same_end : (step : Step) (after : Outcome) → (stepping step after).end ≡ after.end
 same_end (Write bytes) after = refl
 same_end (Tell line) after = refl
 
+-- where no step failed, all were taken
 pub all_done_but : (steps : List Step) (After : Outcome → Type 0) (outcome : Outcome) → Does steps After outcome → IsNoStepFault outcome.end
     → AllDone steps After outcome
 all_done_but [] After outcome does none = record { after = outcome; holds = does; is = refl }
@@ -64,10 +69,12 @@ all_done_but (step ∷ steps) After outcome does none = elim does [
   | inr (after, does, is) ↦ done_first step steps After outcome after is (all_done_but steps After after does (subst IsNoStepFault (ap (λ (o : Outcome). o.end) is ∙ same_end step after) none))
 ]
 
+-- where there is no fault, all steps were taken
 pub all_done : (steps : List Step) (After : Outcome → Type 0) (outcome : Outcome) → Does steps After outcome → IsFaultless outcome.end
     → AllDone steps After outcome
 all_done steps After outcome does none = all_done_but steps After outcome does (no_step_fault outcome.end none)
 
+-- where there is no fault, there is none behind the steps
 pub faultless_behind : (steps : List Step) (After : Outcome → Type 0) (outcome : Outcome) (done : AllDone steps After outcome)
     → IsFaultless outcome.end → IsFaultless done.after.end
 faultless_behind steps After outcome done none = subst (λ (o : Outcome). IsFaultless o.end) done.is none

@@ -28,9 +28,11 @@ pub record EndsThere (A : List ℕ → Outcome → Type 0) (a : Outcome) : Type 
 abbrev LeaveThat : (List ℕ → Outcome → Type 0) → List ℕ → Type 0
 LeaveThat A bytes = (a : Outcome) → A bytes a → a.end ≡ ReadFault → EndsThere A a
 
+-- what holds of an equal outcome holds of this one
 there_as : (A : List ℕ → Outcome → Type 0) (a x : Outcome) → a ≡ x → EndsThere A x → EndsThere A a
 there_as A a x is there = subst (EndsThere A) (sym is) there
 
+-- steps before it leave that too
 steps_there : (steps : List Step) (A : List ℕ → Outcome → Type 0) (bytes : List ℕ) → LeaveThat A bytes → LeaveThat (λ l. Does steps (A l)) bytes
 steps_there steps A bytes leaves a does fault =
     let done = all_done_but steps (A bytes) a does (subst IsNoStepFault (sym fault) tt) in
@@ -44,6 +46,7 @@ steps_there steps A bytes leaves a does fault =
       lines = ap (λ l. told steps ++ l) there.lines;
     })
 
+-- whether the unit was the last or not, what comes behind it leaves that too
 turns_there : (turn : Turn) (A : List ℕ → Outcome → Type 0) (bytes : List ℕ) → LeaveThat A bytes → LeaveThat (λ l. GoesOn turn (A l)) bytes
 turns_there Good A bytes leaves a goes fault = leaves a goes fault
 turns_there Bad A bytes leaves a goes fault = leaves a goes fault
@@ -60,10 +63,12 @@ no_byte bad = record {
   lines = refl;
 }
 
+-- the end of an input isn't a failed read
 end_by_not : (bad : ℕ) → end_by bad ≡ ReadFault → ⊥
 end_by_not zero is = cc
 end_by_not (suc bad) is = cc
 
+-- what stands behind the last unit leaves that too
 behind_there : (stands : Behind) (bad : ℕ) (bytes : List ℕ) → LeaveThat (EndsBehind stands bad) bytes
 behind_there behind.Done bad bytes a is fault = absurd (let no : Done ≡ ReadFault = sym (ap (λ (o : Outcome). o.end) is) ∙ fault in cc)
 behind_there behind.NoControl bad bytes a is fault = absurd (let no : NoControl ≡ ReadFault = sym (ap (λ (o : Outcome). o.end) is) ∙ fault in cc)
@@ -141,6 +146,7 @@ module _ (units : Units) where
         })
   ]
 
+-- after a fault of the source all is as if the input had ended there
 pub ends_there : (units : Units) → ReadFaultEndsInput units
 ends_there units bytes a runs fault =
     let there = steps_there units.opens (Goes units units.count [] 0) bytes (goes_there units units.count [] 0 bytes) a runs fault in
@@ -154,9 +160,11 @@ pub record Beyond (A : Outcome → Type 0) (a : Outcome) : Type 0 where
   pub out : IsFrontOf a.out outcome.out
   pub lines : IsFrontOf a.lines outcome.lines
 
+-- each outcome has its fronts of one without a fault
 abbrev LeaveFronts : (Outcome → Type 0) → Type 0
 LeaveFronts A = (a : Outcome) → A a → Beyond A a
 
+-- what holds of an equal outcome holds of this one
 beyond_as : (A : Outcome → Type 0) (a x : Outcome) → a ≡ x → Beyond A x → Beyond A a
 beyond_as A a x is beyond = subst (Beyond A) (sym is) beyond
 
@@ -170,6 +178,7 @@ beyond_none A a (outcome, holds, none) out lines = record {
   lines = (outcome.lines, ap (λ l. l ++ outcome.lines) (sym lines));
 }
 
+-- a front, with the same bytes before both, is a front still
 front_longer : (own front whole : List ℕ) → IsFrontOf front whole → IsFrontOf (own ++ front) (own ++ whole)
 front_longer own front whole (left, is) = (left, ap (λ l. own ++ l) is ∙ sym (append_assoc own front left))
 
@@ -181,6 +190,7 @@ front_cut own front left more is = (left ++ more, ap (λ l. l ++ more) is ∙ ap
 abbrev Stepped : Step → (Outcome → Type 0) → Outcome → Type 0
 Stepped step After outcome = (after : Outcome) × After after × (outcome ≡ stepping step after)
 
+-- a step that failed has done a front of what it does when it is taken
 failed_beyond : (step : Step) (After : Outcome → Type 0) (a : Outcome) → Fails step a → Exists After → Beyond (Stepped step After) a
 failed_beyond (Write bytes) After a (front, left, whole, some, fails) (after, holds, none) =
     beyond_as _ a (stepping (Write front) (ended WriteFault)) fails (record {
@@ -199,6 +209,7 @@ failed_beyond (Tell line) After a (front, left, whole, some, fails) (after, hold
       lines = front_cut line front left after.lines whole;
     })
 
+-- behind a step that was taken there are fronts as before
 stepped_beyond : (step : Step) (After : Outcome → Type 0) (after : Outcome) → Beyond After after → Beyond (Stepped step After) (stepping step after)
 stepped_beyond (Write bytes) After after beyond = record {
   outcome = stepping (Write bytes) beyond.outcome;
@@ -215,9 +226,11 @@ stepped_beyond (Tell line) After after beyond = record {
   lines = front_longer line after.lines beyond.outcome.lines beyond.lines;
 }
 
+-- an outcome beyond is one of a wider kind too
 beyond_by : (A B : Outcome → Type 0) (a : Outcome) → ((o : Outcome) → A o → B o) → Beyond A a → Beyond B a
 beyond_by A B a to beyond = record { outcome = beyond.outcome; holds = to beyond.outcome beyond.holds; faultless = beyond.faultless; out = beyond.out; lines = beyond.lines }
 
+-- steps leave fronts where what comes behind them does
 steps_beyond : (steps : List Step) (A : Outcome → Type 0) → Exists A → LeaveFronts A → LeaveFronts (Does steps A)
 steps_beyond [] A exists leaves a does = leaves a does
 steps_beyond (step ∷ steps) A exists leaves a does = elim does [
@@ -227,11 +240,13 @@ steps_beyond (step ∷ steps) A exists leaves a does = elim does [
       (beyond_by _ (Does (step ∷ steps) A) (stepping step after) (λ o is. inr is) (stepped_beyond step (Does steps A) after (steps_beyond steps A exists leaves after does)))
 ]
 
+-- whether the unit was the last or not, fronts are left where the units to come leave them
 turns_beyond : (turn : Turn) (A : Outcome → Type 0) → LeaveFronts A → LeaveFronts (GoesOn turn A)
 turns_beyond Good A leaves a goes = leaves a goes
 turns_beyond Bad A leaves a goes = leaves a goes
 turns_beyond Last A leaves a is = beyond_as (GoesOn Last A) a (ended Done) is (record { outcome = ended Done; holds = refl; faultless = tt; out = ([], refl); lines = ([], refl) })
 
+-- behind the last unit nothing is written or told
 nothing_behind : (stands : Behind) (bad : ℕ) (left : List ℕ) (a : Outcome) → EndsBehind stands bad left a → (a.out ≡ []) × (a.lines ≡ [])
 nothing_behind behind.Done bad left a is = (ap (λ (o : Outcome). o.out) is, ap (λ (o : Outcome). o.lines) is)
 nothing_behind behind.NoControl bad left a is = (ap (λ (o : Outcome). o.out) is, ap (λ (o : Outcome). o.lines) is)
@@ -281,6 +296,7 @@ module _ (units : Units) (total : AreTotal units) where
         })
   ]
 
+-- after any fault output and report have fronts of what they would have without one
 pub leave_fronts : (units : Units) → FaultsLeaveFronts units
 leave_fronts units total bytes a runs =
     let beyond = steps_beyond units.opens (Goes units units.count [] 0 bytes) (all_exist units total bytes) (goes_beyond units total units.count [] 0 bytes (omega arith)) a runs in

@@ -15,10 +15,12 @@ use Rattle.dvd_loop.proofs.Faultless.{not_by_fault}
 use Rattle.dvd_loop.proofs.Sizes.{goes_one}
 use Rattle.dvd_loop.proofs.StepLemmas.{onto}
 
+-- unit 0 begins at the front
 pub start-zero : (size : ℕ → ℕ) → start size 0 ≡ 0
 unfolding start
 start-zero size = refl
 
+-- the next unit begins behind unit k
 pub start-suc : (size : ℕ → ℕ) (k : ℕ) → start size (suc k) ≡ start size k + size k
 unfolding start
 start-suc size k = refl
@@ -42,9 +44,11 @@ same_pieces f g a (suc n) same =
 abbrev with_piece : ℕ → List ℕ → (ℕ → List ℕ) → ℕ → List ℕ
 with_piece k piece others j = cond (nat_eq j k) piece (others j)
 
+-- at k it is that piece
 piece_at : (k : ℕ) (piece : List ℕ) (others : ℕ → List ℕ) → with_piece k piece others k ≡ piece
 piece_at k piece others = ap (λ b. cond b piece (others k)) (eq-eqb k k refl)
 
+-- and behind k it is one of the others
 other_piece : (k : ℕ) (piece : List ℕ) (others : ℕ → List ℕ) (j : ℕ) → k < j → with_piece k piece others j ≡ others j
 other_piece k piece others j lt = ap (λ b. cond b piece (others j)) (ne_eqb j k (λ is. omega arith))
 

@@ -27,6 +27,7 @@ onto_unit : (taken out lines own w t : List ℕ) (after : Outcome)
     → onto taken out lines (taking own (onto [] w t after)) ≡ onto (taken ++ own) (out ++ w) (lines ++ t) after
 onto_unit taken out lines own w t after = simp append_assoc
 
+-- a unit that isn't the last is followed by those to come
 pub goes_on : (turn : Turn) (Goes : Outcome → Type 0) (outcome : Outcome) → turn ≢ Last → Goes outcome → GoesOn turn Goes outcome
 goes_on Good Goes outcome not goes = goes
 goes_on Bad Goes outcome not goes = goes

@@ -8,6 +8,7 @@ use Rattle.dvd_loop.specs.declared.ends.LoopEnd.{LoopEnd}
 use Rattle.dvd_loop.specs.declared.ends.LoopEnd.TheVariants.{Done}
 use Rattle.dvd_loop.proofs.StepLemmas.{and_then, onto}
 
+-- where nothing happens, no bytes are consumed
 pub Consumes-none : (a : Option (List ℕ)) → Consumes a a []
 Consumes-none None = tt
 Consumes-none (Some bytes) = refl
@@ -16,6 +17,7 @@ Consumes-none (Some bytes) = refl
 pub stays : (old : Streams) → HaveMoved old old [] [] []
 stays old = record { reads = Consumes-none old.source.bytes; writes = Appends-none old.output.bytes; tells = Appends-none old.report.bytes }
 
+-- what the streams moved by first, and then again, they moved by together
 pub moves_on : (a b c : Streams) (taken out lines taken2 out2 lines2 : List ℕ) → HaveMoved a b taken out lines → HaveMoved b c taken2 out2 lines2
     → HaveMoved a c (taken ++ taken2) (out ++ out2) (lines ++ lines2)
 moves_on a b c taken out lines taken2 out2 lines2 p q = record {

@@ -17,13 +17,16 @@ record TakesAll (stands : Behind) (count : ℕ) (bytes : List ℕ) (a : Outcome)
   number : length a.taken ≡ count
   all : stands ≡ behind.Asks → a.taken ≡ bytes
 
+-- an outcome equal to one that ends as done ends so too
 end_is : (a b : Outcome) → a ≡ b → a.end ≡ Done → b.end ≡ Done
 end_is a b is done = subst (λ (o : Outcome). o.end ≡ Done) is done
 
+-- what takes nothing has taken the bytes of no units, and all there is where one byte more is asked for
 none_taken : (stands : Behind) (bytes : List ℕ) (a x : Outcome) → a ≡ x → x.taken ≡ [] → (stands ≡ behind.Asks → x.taken ≡ bytes)
     → TakesAll stands 0 bytes a
 none_taken stands bytes a x is none all = subst (TakesAll stands 0 bytes) (sym is) (record { number = ap length none; all = all })
 
+-- a run that is done takes nothing behind the last unit, and none is left where one byte more is asked for
 behind_takes : (stands : Behind) (bad : ℕ) (bytes : List ℕ) (a : Outcome) → EndsBehind stands bad bytes a → a.end ≡ Done → TakesAll stands 0 bytes a
 behind_takes behind.Done bad bytes a is done = none_taken behind.Done bytes a _ is refl (λ no. absurd cc)
 behind_takes behind.NoControl bad bytes a is done = absurd (let no : NoControl ≡ Done = end_is a _ is done in cc)
@@ -36,6 +39,7 @@ behind_takes behind.Asks bad (byte ∷ left) a ends done = elim ends [
   | inr is ↦ absurd (let no : ReadFault ≡ Done = end_is a _ is done in cc)
 ]
 
+-- a unit before it adds its own bytes to both
 takes_more : (stands : Behind) (own left w t : List ℕ) (count : ℕ) (after : Outcome) → TakesAll stands count left after
     → TakesAll stands (length own + count) (own ++ left) (onto own w t after)
 takes_more stands own left w t count after takes = record {

@@ -14,18 +14,22 @@ use Rattle.dvd_loop.proofs.StepLemmas.{does_all, onto}
 abbrev pub Exists : (Outcome → Type 0) → Type 0
 Exists A = (outcome : Outcome) × A outcome × IsFaultless outcome.end
 
+-- steps have an outcome without a fault where what comes behind them does
 pub steps_exist : (steps : List Step) (A : Outcome → Type 0) → Exists A → Exists (Does steps A)
 steps_exist steps A (after, holds, none) = (onto [] (written steps) (told steps) after, does_all steps A after holds, none)
 
+-- whether the unit is the last or not, there is one where there is one of the units to come
 pub turns_exist : (turn : Turn) (A : Outcome → Type 0) → Exists A → Exists (GoesOn turn A)
 turns_exist Good A exists = exists
 turns_exist Bad A exists = exists
 turns_exist Last A exists = (ended Done, refl, tt)
 
+-- the end of an input is no fault
 pub end_by_none : (bad : ℕ) → IsFaultless (end_by bad)
 end_by_none zero = tt
 end_by_none (suc bad) = tt
 
+-- behind the last unit there is an outcome without a fault
 pub behind_exists : (stands : Behind) (bad : ℕ) (left : List ℕ) → Exists (EndsBehind stands bad left)
 behind_exists behind.Done bad left = (ended Done, refl, tt)
 behind_exists behind.NoControl bad left = (ended NoControl, refl, tt)
@@ -91,5 +95,6 @@ module _ (units : Units) (total : AreTotal units) where
   pub all_exist : (bytes : List ℕ) → Exists (Goes units units.count [] 0 bytes)
   all_exist bytes = goes_exist units.count [] 0 bytes (omega arith)
 
+-- every input has an outcome without a fault
 pub exists : (units : Units) → OutcomeExists units
 exists units total bytes = steps_exist units.opens (Goes units units.count [] 0 bytes) (all_exist units total bytes)

@@ -5,6 +5,7 @@ use Rattle.dvd_ports.specs.Seen.{Seen}
 use Rattle.dvd_loop.specs.Machine.{Does, IsUnit, IsTaken, IsWithin, Outcome, Step, Units}
 use Rattle.dvd_loop.specs.Machine.Step.{Write, Tell}
 use Rattle.dvd_loop.specs.Streams.{Comes, HaveCauses, HaveMoved, Streams}
+use Rattle.dvd_loop.specs.declared.ends.Behind.TheVariants.{Asks}
 use Rattle.dvd_loop.specs.declared.ends.LoopEnd.{LoopEnd}
 use Rattle.dvd_loop.specs.declared.ends.LoopEnd.TheVariants.{Done, ReadFault, Short}
 use Rattle.dvd_loop.specs.declared.ends.Turn.{Turn}
@@ -68,6 +69,16 @@ IsTurn units before ready old new (Err end) = Comes (EndsAt units before) old ne
 -- The same for all that may stand before unit k, where the command is ready for it.
 abbrev pub TakesTurn : Units → ℕ → (List (List ℕ) → Type 0) → (List (List ℕ) → Type 0) → Streams → Streams → Result Turn LoopEnd → Type 0
 TakesTurn units k ready next old new answer = (before : List (List ℕ)) → length before ≡ k → ready before → IsTurn units before next old new answer
+
+-- Nothing opens or closes these units, and one byte more is asked for behind the last.
+pub record StandAlone (units : Units) : Type 0 where
+  pub opens : units.opens ≡ []
+  pub closes : (before : List (List ℕ)) → units.closes before []
+  pub behind : units.behind ≡ Asks
+
+-- A turn for unit k of these, whatever stands before it.
+abbrev pub TakesLoneTurn : Units → ℕ → Streams → Streams → Result Turn LoopEnd → Type 0
+TakesLoneTurn units k old new answer = (before : List (List ℕ)) → length before ≡ k → IsTurn units before (λ behind. Unit {0}) old new answer
 
 -- The closing of all units, behind which the command is ready: some steps that may close them.
 abbrev pub TakesClosing : Units → (List (List ℕ) → Type 0) → Streams → Streams → Result (Unit {0}) LoopEnd → Type 0

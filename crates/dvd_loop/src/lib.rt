@@ -4,10 +4,12 @@
 mod ends; // how a loop ends, and what a unit is
 pub mod laws; // what holds of every run
 mod loops; // the loop over units, and the line that closes it
+mod lone; // a command whose units stand alone
 mod reading; // the bytes of one unit
 mod turns; // a command, seen from the loop
 
 pub use ends::{Behind, LoopEnd, Turn};
+pub use lone::{LoneTurns, follow_lone};
 pub use loops::{close, follow};
 pub use reading::read_unit;
 pub use turns::Turns;
