@@ -12,11 +12,11 @@ use Rattle.dvd_capture.specs.Answers.{marks_line}
 use Rattle.dvd_ports.specs.Whole.{ConsumesFewer}
 use Rattle.std.specs.Io.KnownBytes.{IsAtEnd}
 use Rattle.dvd_capture.specs.declared.capture.FetchAnswer.{FetchAnswer}
-use Rattle.dvd_capture.specs.declared.capture.FetchAnswer.TheVariants.{Full, End, Short, ReadFault}
-use Rattle.dvd_capture.specs.Captured.{Captures, EndsAfter, block_size, captured_marks, captured_rows, marks_in, record_of, record_size}
-use Rattle.dvd_capture.specs.Putting.{ArePut}
+use Rattle.dvd_capture.specs.declared.capture.FetchAnswer.TheVariants.{Full, End, Short, ReadFault, BadMarks}
+use Rattle.dvd_capture.specs.Captured.{Captures, EndsAfter, FailsWithin, HasSize, IsLawful, block_size, captured_marks, captured_rows, marks_in, record_marks, record_of, record_size, unit_size}
+use Rattle.dvd_capture.specs.Inner.Putting.{ArePut}
 use Rattle.dvd_capture.specs.declared.form.Form.{Form}
-use Rattle.dvd_capture.specs.declared.form.Form.TheVariants.{Plain, Marked}
+use Rattle.dvd_capture.specs.declared.form.Form.TheVariants.{Plain, Marked, Listed}
 
 -- the order of recording there and back
 pub row_at-record_at : (i : ℕ) → i < 208 → row_at (record_at i) ≡ i
@@ -41,6 +41,7 @@ pub record IsPartlyFetched (form : Form) (old now : Option (List ℕ)) (rows : L
 pub record_begins : (form : Form) (bytes : List ℕ) → length bytes ≡ record_size form → length (take 182 bytes) ≡ 182
 record_begins Plain bytes size = length-take-le 182 bytes (omega arith)
 record_begins Marked bytes size = length-take-le 182 bytes (omega arith)
+record_begins Listed bytes size = length-take-le 182 bytes (omega arith)
 
 -- a part of a list that is inside stays when the list grows
 pub part-append : (xs ys : List ℕ) (a n : ℕ) → a + n ≤ length xs → take n (drop a (xs ++ ys)) ≡ take n (drop a xs)
@@ -54,6 +55,7 @@ part-behind xs ys a n size more = subst (λ k. take n (drop k (xs ++ ys)) ≡ ys
 before : (form : Form) (k m : ℕ) → k < m → record_size form * k + record_size form ≤ record_size form * m
 before Plain k m below = omega arith
 before Marked k m below = omega arith
+before Listed k m below = omega arith
 
 Consumes-none : (a : Option (List ℕ)) → Consumes a a []
 Consumes-none None = tt
@@ -108,13 +110,35 @@ row_put form taken rows marks m r got height marks_height below recorded got_siz
       let k_below : record_at i < m = earlier i i_below i_read is.1 in
       get_or-set_other marks r i (marks_in form got) [] is.1 ∙ part.marks_set i i_below k_below ∙ sym (ap (marks_in form) (there (record_at i) k_below))
 
+-- where each block has as many bytes, these are those of its rows, and no rule is broken
+pub sized-unit : (form : Form) → HasSize form → (bytes : List ℕ) → unit_size form bytes ≡ record_size form * 208
+sized-unit Plain sized bytes = refl
+sized-unit Marked sized bytes = refl
+sized-unit Listed sized bytes = absurd (sized refl)
+
+pub sized-block : (form : Form) → HasSize form → (bytes : List ℕ) → unit_size form bytes ≡ block_size form
+sized-block Plain sized bytes = refl
+sized-block Marked sized bytes = refl
+sized-block Listed sized bytes = absurd (sized refl)
+
+sized-lawful : (form : Form) → HasSize form → (bytes : List ℕ) → IsLawful form bytes
+sized-lawful Plain sized bytes = tt
+sized-lawful Marked sized bytes = tt
+sized-lawful Listed sized bytes = absurd (sized refl)
+
+sized-marks : (form : Form) → HasSize form → (bytes : List ℕ) (m : ℕ) → record_marks form bytes m ≡ marks_in form (record_of form bytes m)
+sized-marks Plain sized bytes m = refl
+sized-marks Marked sized bytes m = refl
+sized-marks Listed sized bytes m = absurd (sized refl)
+
 -- all 208 recorded rows
-pub all_fetched : (form : Form) (old now : Option (List ℕ)) (rows : List (List ℕ)) (marks : List (List Bool)) (m : ℕ) → length rows ≡ 208 → length marks ≡ 208 → m ≡ 208
+pub all_fetched : (form : Form) → HasSize form → (old now : Option (List ℕ)) (rows : List (List ℕ)) (marks : List (List Bool)) (m : ℕ) → length rows ≡ 208 → length marks ≡ 208 → m ≡ 208
     → IsPartlyFetched form old now rows marks m → Captures form old now rows marks
 unfolding captured_rows captured_marks
-all_fetched form old now rows marks m height marks_height all part = record {
+all_fetched form sized old now rows marks m height marks_height all part = record {
   bytes = part.taken;
-  size = part.put.size ∙ ap (λ k. record_size form * k) all ∙ whole_size form;
+  size = part.put.size ∙ ap (λ k. record_size form * k) all ∙ sym (sized-unit form sized part.taken);
+  lawful = sized-lawful form sized part.taken;
   taken = part.bytes;
   rows_are =
       ext_get_or [] rows (captured_rows form part.taken) (height ∙ sym (length-map-range_with_len row 0 208))
@@ -123,46 +147,45 @@ all_fetched form old now rows marks m height marks_height all part = record {
   marks_are =
       ext_get_or [] marks (captured_marks form part.taken) (marks_height ∙ sym (length-map-range_with_len row_marks 0 208))
       (λ i within. let below : i < 208 = subst (λ n. i < n) marks_height within in
-      part.put.marks_set i below (subst (λ k. record_at i < k) (sym all) (record_at-lt i below)) ∙ sym (get_or-map-range_with_len row_marks 0 208 i i [] below (omega arith)));
+      part.put.marks_set i below (subst (λ k. record_at i < k) (sym all) (record_at-lt i below)) ∙ sym (sized-marks form sized part.taken (record_at i)) ∙ sym (get_or-map-range_with_len row_marks 0 208 i i [] below (omega arith)));
 } where
   row : ℕ → List ℕ
   row i = take 182 (record_of form part.taken (record_at i))
 
   row_marks : ℕ → List Bool
-  row_marks i = marks_in form (record_of form part.taken (record_at i))
-
-  whole_size : (f : Form) → record_size f * 208 ≡ block_size f
-  whole_size Plain = refl
-  whole_size Marked = refl
+  row_marks i = record_marks form part.taken (record_at i)
 
 -- sixteen recording frames are a block
-inside_block : (form : Form) (f n : ℕ) → f < 16 → n < record_size form * 13 → record_size form * (13 * f) + n < block_size form
+inside_block : (form : Form) (f n : ℕ) → f < 16 → n < record_size form * 13 → record_size form * (13 * f) + n < record_size form * 208
 inside_block Plain f n below few = omega arith
 inside_block Marked f n below few = omega arith
+inside_block Listed f n below few = omega arith
 
 -- the source ended in recording frame f
-pub ended : (form : Form) (old mid new : Option (List ℕ)) (rows : List (List ℕ)) (marks : List (List Bool)) (f count : ℕ) (buf : List ℕ)
+pub ended : (form : Form) → HasSize form → (old mid new : Option (List ℕ)) (rows : List (List ℕ)) (marks : List (List Bool)) (f count : ℕ) (buf : List ℕ)
     → f < 16 → count < record_size form * 13 → count ≤ length buf → IsPartlyFetched form old mid rows marks (13 * f)
     → Consumes mid new (take count buf) → IsAtEnd new → EndsAfter form old new (record_size form * (13 * f) + count)
-ended form old mid new rows marks f count buf below few inside part consumed at_end = record {
+ended form sized old mid new rows marks f count buf below few inside part consumed at_end = record {
   bytes = part.taken ++ take count buf;
   size = length-append part.taken (take count buf) ∙ omega (arith, part.put.size, length-take-le count buf inside);
   taken = Consumes-then old mid new part.taken (take count buf) part.bytes consumed;
-  fewer = inside_block form f count below few;
+  fewer = subst (λ n. record_size form * (13 * f) + count < n) (sym (sized-unit form sized (part.taken ++ take count buf))) (inside_block form f count below few);
+  lawful = sized-lawful form sized (part.taken ++ take count buf);
   at_end = at_end;
 }
 
 -- a fault in recording frame f
-pub faulted : (form : Form) (old mid new : Option (List ℕ)) (rows : List (List ℕ)) (marks : List (List Bool)) (f n : ℕ)
+pub faulted : (form : Form) → HasSize form → (old mid new : Option (List ℕ)) (rows : List (List ℕ)) (marks : List (List Bool)) (f n : ℕ)
     → f < 16 → n ≡ record_size form * 13 → IsPartlyFetched form old mid rows marks (13 * f) → ConsumesFewer mid new n
-    → ConsumesFewer old new (block_size form)
-faulted form old mid new rows marks f n below size part fewer = record {
-  taken = part.taken ++ fewer.taken;
-  loses = Consumes-then old mid new part.taken fewer.taken part.bytes fewer.loses;
+    → FailsWithin form old new
+faulted form sized old mid new rows marks f n below size part fewer = record {
+  bytes = part.taken ++ fewer.taken;
+  taken = Consumes-then old mid new part.taken fewer.taken part.bytes fewer.loses;
   fewer =
       let few : length fewer.taken < record_size form * 13 = subst (λ k. length fewer.taken < k) size fewer.fewer in
       let all = inside_block form f (length fewer.taken) below few in
-      omega (arith, length-append part.taken fewer.taken, part.put.size, all);
+      let unit = sized-unit form sized (part.taken ++ fewer.taken) in
+      omega (arith, length-append part.taken fewer.taken, part.put.size, all, unit);
 }
 
 abbrev count_of : FetchAnswer → ℕ
@@ -170,6 +193,7 @@ count_of Full = 0
 count_of End = 0
 count_of (Short count) = count
 count_of ReadFault = 0
+count_of (BadMarks at) = 0
 
 -- what is answered at the end of the source
 pub is_short : (bytes count : ℕ) → (if bytes == 0 then End else Short bytes) ≡ Short count → (0 < count) × (bytes ≡ count)
@@ -183,10 +207,18 @@ is_short bytes count same = by_case (eqb_tells bytes 0) where
       let equal : bytes ≡ count = ap count_of short in
       (omega (arith, is.1, equal), equal)
 
+-- which isn't for a broken rule
+pub not_broken : (bytes at : ℕ) → (if bytes == 0 then End else Short bytes) ≢ BadMarks at
+not_broken bytes at same = by_test (bytes == 0) same where
+  by_test : (test : Bool) → (if test then End else Short bytes) ≡ BadMarks at → ⊥
+  by_test true is = cc
+  by_test false is = cc
+
 -- frame f stands behind 13 f recorded rows
 pub frame_place : (form : Form) (f size : ℕ) → size ≡ record_size form * 13 → record_size form * (13 * f) ≡ size * f
 frame_place Plain f size is = rw is (omega arith)
 frame_place Marked f size is = rw is (omega arith)
+frame_place Listed f size is = rw is (omega arith)
 
 -- a recorded row of a frame's bytes, by the number of its bytes
 pub record_cut : (form : Form) (bytes : List ℕ) (size k : ℕ) → size ≡ record_size form
@@ -200,6 +232,7 @@ pub record_inside : (form : Form) (bytes : List ℕ) (k : ℕ) → k < 13 → le
     → length (take (record_size form) (drop (record_size form * k) bytes)) ≡ record_size form
 record_inside Plain bytes k below size = length-take-le 182 (drop (182 * k) bytes) (omega (arith, length-drop (182 * k) bytes))
 record_inside Marked bytes k below size = length-take-le 205 (drop (205 * k) bytes) (omega (arith, length-drop (205 * k) bytes))
+record_inside Listed bytes k below size = length-take-le 182 (drop (182 * k) bytes) (omega (arith, length-drop (182 * k) bytes))
 
 -- recorded row k of a frame's bytes is put too, as the buffers are then
 pub piece_put : (form : Form) (taken bytes got : List ℕ) (rows rows_now : List (List ℕ)) (marks marks_now : List (List Bool)) (m k : ℕ)

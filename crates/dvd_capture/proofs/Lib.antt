@@ -4,4 +4,12 @@ pub mod MarkLists
 pub mod WorkParts
 pub mod Fetching
 pub mod RecordedRows
+pub mod Headers
+pub mod ListedFields
+pub mod ListedTaken
+pub mod ListedUnit
+pub mod ListedWritten
+pub mod MarkPlaces
+pub mod OneSpelling
+pub mod RunStarts
 pub mod Undamaged

@@ -26,7 +26,7 @@ module _ (block : List (List ℕ)) (height : length block ≡ 208) (widths : All
       ∙ omega (arith, length-recorded n (omega arith), width (row_at n) (row_at-lt n (omega arith)))
 
   -- recorded row m stands behind m others
-  split : (m : ℕ) → m < 208 → recorded 0 208 block ≡ (recorded 0 m block ++ line block (row_at m)) ++ recorded (0 + (m + 1)) (207 - m) block
+  pub split : (m : ℕ) → m < 208 → recorded 0 208 block ≡ (recorded 0 m block ++ line block (row_at m)) ++ recorded (0 + (m + 1)) (207 - m) block
   split m below =
       let all : m + 1 + (207 - m) ≡ 208 = omega arith in
       ap (λ k. recorded 0 k block) (sym all) ∙ recorded-add 0 (m + 1) (207 - m) block

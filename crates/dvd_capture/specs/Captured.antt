@@ -1,32 +1,58 @@
 -- Captured blocks in a stream of bytes. A block has 208 recorded rows (ECMA-267, 19), one after the other. The definitions
 -- go by index; the code reads a recorded row at a time, and each in any pieces.
-use Rattle.std.specs.Prelude.{◌≡◌, ℕ, ◌*◌, ◌<◌, Bool, false, List, length, map, take, drop, replicate}
+use Rattle.std.specs.Prelude.{◌≡◌, ◌≢◌, ℕ, ◌*◌, ◌<◌, Bool, false, List, length, map, take, drop, replicate, ⊤}
 use Rattle.std.specs.List.{range_with_len}
 use Rattle.std.specs.Io.KnownBytes.{Consumes, IsAtEnd}
 use Rattle.std.specs.declared.option.Option.{Option}
 use Rattle.dvd_block.specs.Recording.{record_at}
+use Rattle.dvd_capture.specs.Listed.{IsBrokenAt, IsUnbroken, listed_row, listed_size}
 use Rattle.dvd_capture.specs.MarkBits.{marks_of}
 use Rattle.dvd_capture.specs.declared.form.Form.{Form}
-use Rattle.dvd_capture.specs.declared.form.Form.TheVariants.{Plain, Marked}
+use Rattle.dvd_capture.specs.declared.form.Form.TheVariants.{Plain, Marked, Listed}
 
 -- the bytes of a recorded row
 abbrev pub record_size : Form → ℕ
 record_size Plain = 182
 record_size Marked = 205
+record_size Listed = 182
 
--- the bytes of a block
+-- each block has as many bytes as any other
+abbrev pub HasSize : Form → Type 0
+HasSize form = form ≢ Listed
+
+-- the bytes of a block; a listed one has as many at least
 abbrev pub block_size : Form → ℕ
 block_size Plain = 37_856
 block_size Marked = 42_640
+block_size Listed = 37_858
+
+-- the bytes of the block that begins so
+abbrev pub unit_size : Form → List ℕ → ℕ
+unit_size Plain bytes = 37_856
+unit_size Marked bytes = 42_640
+unit_size Listed bytes = listed_size bytes
+
+-- no rule is broken in these bytes
+abbrev pub IsLawful : Form → List ℕ → Type 0
+IsLawful Plain bytes = ⊤
+IsLawful Marked bytes = ⊤
+IsLawful Listed bytes = IsUnbroken bytes
 
 -- the bytes of recorded row m
 abbrev pub record_of : Form → List ℕ → ℕ → List ℕ
 record_of form bytes m = take (record_size form) (drop (record_size form * m) bytes)
 
--- the marks in a recorded row
+-- the marks in a recorded row; in the listed form they stand behind the rows
 abbrev pub marks_in : Form → List ℕ → List Bool
 marks_in Plain record_bytes = replicate 182 false
 marks_in Marked record_bytes = marks_of (drop 182 record_bytes)
+marks_in Listed record_bytes = replicate 182 false
+
+-- the marks of recorded row m
+abbrev pub record_marks : Form → List ℕ → ℕ → List Bool
+record_marks Plain bytes m = marks_in Plain (record_of Plain bytes m)
+record_marks Marked bytes m = marks_in Marked (record_of Marked bytes m)
+record_marks Listed bytes m = listed_row bytes m
 
 -- the rows of a block in the order of the block; row i stands at recorded row `record_at i`
 unfoldable pub captured_rows : Form → List ℕ → List (List ℕ)
@@ -34,20 +60,42 @@ captured_rows form bytes = map (λ i. take 182 (record_of form bytes (record_at 
 
 -- and their marks
 unfoldable pub captured_marks : Form → List ℕ → List (List Bool)
-captured_marks form bytes = map (λ i. marks_in form (record_of form bytes (record_at i))) (range_with_len 0 208)
+captured_marks form bytes = map (λ i. record_marks form bytes (record_at i)) (range_with_len 0 208)
 
--- a source lost the bytes of one block, and these are its rows and marks
+-- a source lost the bytes of one block, which break no rule, and these are its rows and marks
 pub record Captures (form : Form) (old new : Option (List ℕ)) (rows : List (List ℕ)) (marks : List (List Bool)) : Type 0 where
   pub bytes : List ℕ
-  pub size : length bytes ≡ block_size form
+  pub size : length bytes ≡ unit_size form bytes
+  pub lawful : IsLawful form bytes
   pub taken : Consumes old new bytes
   pub rows_are : rows ≡ captured_rows form bytes
   pub marks_are : marks ≡ captured_marks form bytes
 
--- a source lost so many bytes, fewer than a block has, and has none left
+-- a source lost so many bytes, fewer than their block has, which break no rule, and has none left
 pub record EndsAfter (form : Form) (old new : Option (List ℕ)) (count : ℕ) : Type 0 where
   pub bytes : List ℕ
   pub size : length bytes ≡ count
   pub taken : Consumes old new bytes
-  pub fewer : count < block_size form
+  pub fewer : count < unit_size form bytes
+  pub lawful : IsLawful form bytes
   pub at_end : IsAtEnd new
+
+-- a source lost fewer bytes than their block has
+pub record FailsWithin (form : Form) (old new : Option (List ℕ)) : Type 0 where
+  pub bytes : List ℕ
+  pub taken : Consumes old new bytes
+  pub fewer : length bytes < unit_size form bytes
+
+-- a source lost bytes in which a rule is broken, first at that offset; only the listed form has rules
+pub record BreaksAt (form : Form) (old new : Option (List ℕ)) (at : ℕ) : Type 0 where
+  pub listed : form ≡ Listed
+  pub bytes : List ℕ
+  pub taken : Consumes old new bytes
+  pub broken : IsBrokenAt bytes at
+
+-- These bytes are the listed unit of a block with these rows and marks: one unit that breaks no rule. There is one such unit.
+pub record IsUnitOf (rows : List (List ℕ)) (marks : List (List Bool)) (unit : List ℕ) : Type 0 where
+  pub size : length unit ≡ listed_size unit
+  pub lawful : IsUnbroken unit
+  pub rows_are : captured_rows Listed unit ≡ rows
+  pub marks_are : captured_marks Listed unit ≡ marks

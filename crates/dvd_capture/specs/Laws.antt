@@ -1,11 +1,13 @@
--- The laws of two-pass decoding.
-use Rattle.std.specs.Prelude.{◌≡◌, ℕ, Bool, List, All, length}
+-- The laws of captured blocks and of two-pass decoding.
+use Rattle.std.specs.Prelude.{◌≡◌, ℕ, ◌<◌, ◌^◌, Bool, List, All, length, slice_index}
 use Rattle.dvd_block.specs.Product.{IsProduct}
 use Rattle.dvd_block.specs.Recording.{recording}
-use Rattle.dvd_capture.specs.Captured.{captured_rows}
+use Rattle.dvd_capture.specs.Captured.{IsUnitOf, captured_rows}
+use Rattle.dvd_capture.specs.Header.{header_bytes}
 use Rattle.dvd_capture.specs.TwoPass.{IsTwoPass}
 use Rattle.dvd_capture.specs.Within.{IsWithin}
 use Rattle.dvd_capture.specs.declared.form.Form.TheVariants.{Plain}
+use Rattle.dvd_capture.specs.declared.header.Header.{Header}
 
 -- at most one block has two-pass agreement
 abbrev pub TwoPassIsOnlyOne : Type 0
@@ -24,3 +26,31 @@ WithinIsTwoPass =
 abbrev pub RecordingIsCaptured : Type 0
 RecordingIsCaptured =
     (block : List (List ℕ)) → length block ≡ 208 → All (λ row. length row ≡ 182) block → captured_rows Plain (recording block) ≡ block
+
+-- rows and marks have at most one listed unit
+abbrev pub MarksHaveOneSpelling : Type 0
+MarksHaveOneSpelling =
+    (rows : List (List ℕ)) (marks : List (List Bool)) (a b : List ℕ) → ((i : ℕ) → slice_index a i < 256) → ((i : ℕ) → slice_index b i < 256)
+    → IsUnitOf rows marks a → IsUnitOf rows marks b → a ≡ b
+
+-- and they have one
+abbrev pub MarksHaveASpelling : Type 0
+MarksHaveASpelling =
+    (rows : List (List ℕ)) (marks : List (List Bool)) → length rows ≡ 208 → All (λ row. length row ≡ 182) rows
+    → length marks ≡ 208 → All (λ row. length row ≡ 182) marks → (unit : List ℕ) × IsUnitOf rows marks unit
+
+-- the numbers of a header have 32 bits
+abbrev pub HasNumbers : Header → Type 0
+HasNumbers header = (header.sectors0 < 2 ^ 32) × (header.sectors1 < 2 ^ 32) × (header.initial < 2 ^ 32) × (header.tail < 2 ^ 32)
+
+-- headers with the same bytes state the same
+pub record StateTheSame (a b : Header) : Type 0 where
+  pub shape : a.shape ≡ b.shape
+  pub zones : a.zones ≡ b.zones
+  pub sectors0 : a.sectors0 ≡ b.sectors0
+  pub sectors1 : a.sectors1 ≡ b.sectors1
+  pub initial : a.initial ≡ b.initial
+  pub tail : a.tail ≡ b.tail
+
+abbrev pub HeadersDiffer : Type 0
+HeadersDiffer = (a b : Header) → HasNumbers a → HasNumbers b → header_bytes a ≡ header_bytes b → StateTheSame a b

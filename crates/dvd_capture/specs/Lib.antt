@@ -1,10 +1,13 @@
 pub mod Answers
 pub mod Captured
+pub mod Header
+pub mod Inner
 pub mod Laws
 pub mod Lends
+pub mod Listed
+pub mod Listing
 pub mod MarkBits
 pub mod Parts
-pub mod Putting
 pub mod Rule
 pub mod TwoPass
 pub mod Within

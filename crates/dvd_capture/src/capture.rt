@@ -2,15 +2,15 @@
 ghost use Rattle.std.specs.Prelude.{◌≡◌, ◌≢◌, ℕ, ◌+◌, ◌*◌, ◌<◌, ◌≤◌, ◌==◌, if◌then◌else◌, List, ◌++◌, length, take, slice_set};
 ghost use Rattle.dvd_block.specs.Recording.{row_at};
 ghost use Rattle.dvd_ports.specs.Causes.{Rose};
-ghost use Rattle.dvd_ports.specs.Whole.{ConsumesFewer};
-ghost use Rattle.dvd_capture.specs.Captured.{Captures, EndsAfter, block_size, marks_in, record_size};
+ghost use Rattle.dvd_capture.specs.Captured.{BreaksAt, Captures, EndsAfter, FailsWithin, HasSize, marks_in, record_size};
 ghost use Rattle.dvd_capture.specs.Parts.{marks_rows, received_rows};
-ghost use Rattle.dvd_capture.specs.Putting.{ArePut};
+ghost use Rattle.dvd_capture.specs.Inner.Putting.{ArePut};
 ghost use Rattle.dvd_capture.specs.Works.{marks_of_work, rows_of, stage_of};
 ghost use Rattle.dvd_capture.specs.declared.stage.Stage.TheVariants.{Empty, Fetched};
-ghost use Rattle.dvd_capture.specs.declared.capture.FetchAnswer.TheVariants.{Full, End, Short, ReadFault};
+ghost use Rattle.dvd_capture.specs.declared.capture.FetchAnswer.TheVariants.{Full, End, Short, ReadFault, BadMarks};
 
 use crate::form::Form;
+use crate::listed::fetch_listed;
 use crate::parts::{Marks, Received};
 use crate::stage::Stage;
 use crate::work::Work;
@@ -31,6 +31,8 @@ pub enum FetchAnswer {
     Short { bytes: u32 },
     /// A fault.
     ReadFault,
+    /// Runs of marks that break a rule: the first field that does begins so many bytes behind the block's first.
+    BadMarks { at: u32 },
 }
 
 /// Reads one captured block, by as many calls as it takes. A block that isn't whole leaves the work at stage Empty.
@@ -38,7 +40,8 @@ pub fn fetch<S: Source>(src: &mut S, form: Form, work: &mut Work) -> FetchAnswer
     ensures full { result ≡ Full → Captures form (S.seen src.old).bytes (S.seen src.new).bytes (rows_of work.new) (marks_of_work work.new) }
     ensures end { result ≡ End → EndsAfter form (S.seen src.old).bytes (S.seen src.new).bytes 0 }
     ensures short { (count : ℕ) → result ≡ Short count → (0 < count) × EndsAfter form (S.seen src.old).bytes (S.seen src.new).bytes count }
-    ensures fault { result ≡ ReadFault → ConsumesFewer (S.seen src.old).bytes (S.seen src.new).bytes (block_size form) }
+    ensures fault { result ≡ ReadFault → FailsWithin form (S.seen src.old).bytes (S.seen src.new).bytes }
+    ensures broken { (at : ℕ) → result ≡ BadMarks at → BreaksAt form (S.seen src.old).bytes (S.seen src.new).bytes at }
     ensures cause { result ≡ ReadFault → Rose (S.seen src.old).faults (S.seen src.new).faults }
     ensures steady { result ≢ ReadFault → (S.seen src.new).faults ≡ (S.seen src.old).faults }
     ensures later { (S.seen src.old).faults ≤ (S.seen src.new).faults }
@@ -49,15 +52,15 @@ pub fn fetch<S: Source>(src: &mut S, form: Form, work: &mut Work) -> FetchAnswer
     ensures sectors { work.new.sectors ≡ work.old.sectors }
 {
     work.set_stage(Stage::Empty);
-    let answer = fetch_rows(src, form, &mut work.received, &mut work.marks);
+    let answer = fetch_parts(src, form, &mut work.received, &mut work.marks);
     if answer == FetchAnswer::Full {
         work.set_stage(Stage::Fetched);
     }
     answer
 }
 
-// Reads the sixteen recording frames of a block, each of thirteen recorded rows.
-fn fetch_rows<S: Source>(
+// Reads a block into its buffers.
+fn fetch_parts<S: Source>(
     src: &mut S,
     form: Form,
     received: &mut Received,
@@ -66,7 +69,31 @@ fn fetch_rows<S: Source>(
     ensures full { result ≡ Full → Captures form (S.seen src.old).bytes (S.seen src.new).bytes (received_rows received.new) (marks_rows marks.new) }
     ensures end { result ≡ End → EndsAfter form (S.seen src.old).bytes (S.seen src.new).bytes 0 }
     ensures short { (count : ℕ) → result ≡ Short count → (0 < count) × EndsAfter form (S.seen src.old).bytes (S.seen src.new).bytes count }
-    ensures fault { result ≡ ReadFault → ConsumesFewer (S.seen src.old).bytes (S.seen src.new).bytes (block_size form) }
+    ensures fault { result ≡ ReadFault → FailsWithin form (S.seen src.old).bytes (S.seen src.new).bytes }
+    ensures broken { (at : ℕ) → result ≡ BadMarks at → BreaksAt form (S.seen src.old).bytes (S.seen src.new).bytes at }
+    ensures cause { result ≡ ReadFault → Rose (S.seen src.old).faults (S.seen src.new).faults }
+    ensures steady { result ≢ ReadFault → (S.seen src.new).faults ≡ (S.seen src.old).faults }
+    ensures later { (S.seen src.old).faults ≤ (S.seen src.new).faults }
+{
+    match form {
+        Form::Plain | Form::Marked => fetch_rows(src, form, received, marks),
+        Form::Listed => fetch_listed(src, received, marks),
+    }
+}
+
+// Reads the sixteen recording frames of a block, each of thirteen recorded rows.
+pub(crate) fn fetch_rows<S: Source>(
+    src: &mut S,
+    form: Form,
+    received: &mut Received,
+    marks: &mut Marks,
+) -> FetchAnswer
+    requires { HasSize form }
+    ensures full { result ≡ Full → Captures form (S.seen src.old).bytes (S.seen src.new).bytes (received_rows received.new) (marks_rows marks.new) }
+    ensures end { result ≡ End → EndsAfter form (S.seen src.old).bytes (S.seen src.new).bytes 0 }
+    ensures short { (count : ℕ) → result ≡ Short count → (0 < count) × EndsAfter form (S.seen src.old).bytes (S.seen src.new).bytes count }
+    ensures fault { result ≡ ReadFault → FailsWithin form (S.seen src.old).bytes (S.seen src.new).bytes }
+    ensures never { (at : ℕ) → result ≢ BadMarks at }
     ensures cause { result ≡ ReadFault → Rose (S.seen src.old).faults (S.seen src.new).faults }
     ensures steady { result ≢ ReadFault → (S.seen src.new).faults ≡ (S.seen src.old).faults }
     ensures later { (S.seen src.old).faults ≤ (S.seen src.new).faults }
@@ -131,7 +158,7 @@ fn put_marks(marks: &mut Marks, i: usize, form: Form, bytes: &[u8])
     ensures { marks_rows marks.new ≡ slice_set (marks_rows marks.old) i (marks_in form bytes.now) }
 {
     match form {
-        Form::Plain => marks.clear_row(i),
+        Form::Plain | Form::Listed => marks.clear_row(i),
         Form::Marked => marks.set_row(i, &bytes[182..]),
     }
 }

@@ -1,6 +1,6 @@
 //! The forms in which a captured block is stored.
 ghost use Rattle.std.specs.Prelude.{◌≡◌, ◌*◌};
-ghost use Rattle.dvd_capture.specs.Captured.{block_size, record_size};
+ghost use Rattle.dvd_capture.specs.Captured.{HasSize, block_size, record_size};
 
 /// How the bytes of a captured block stand in a stream: its 208 recorded rows in order.
 #[derive(Clone, Copy, Debug, PartialEq, Eq)]
@@ -9,11 +9,14 @@ pub enum Form {
     Plain,
     /// Behind the 182 bytes of each row 23 bytes of mark bits.
     Marked,
+    /// The bytes of the plain form, and behind those of all rows the runs of marked places.
+    Listed,
 }
 
 impl Form {
-    /// The bytes of a captured block.
+    /// The bytes of a captured block, in a form that gives each block as many.
     pub fn size(self) -> usize
+        requires { HasSize self }
         ensures { result ≡ block_size self }
     {
         208 * self.record_size()
@@ -31,7 +34,7 @@ impl Form {
         ensures { result ≡ record_size self }
     {
         match self {
-            Form::Plain => 182,
+            Form::Plain | Form::Listed => 182,
             Form::Marked => 182 + 23,
         }
     }

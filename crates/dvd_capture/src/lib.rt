@@ -4,15 +4,22 @@
 
 mod capture; // blocks from a source
 mod form; // the forms in which a captured block is stored
+mod header; // the header of a listed capture
 pub mod laws; // what holds of every captured block, as contracts alone
+mod listed; // blocks in the listed form, written and read
 pub mod parts; // the buffers of a captured block, lent one by one
+mod places; // the marks of a block in the order of recording
 mod stage; // how far a captured block is
 mod work; // a captured block with all that is found of it
 
 pub use capture::{FetchAnswer, fetch};
 pub use form::Form;
+pub use header::{Header, HeaderFault};
+pub use listed::write_listed;
 pub use stage::Stage;
 pub use work::Work;
 
+#[cfg(test)]
+mod listed_tests;
 #[cfg(test)]
 mod tests;

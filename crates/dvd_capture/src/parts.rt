@@ -62,7 +62,7 @@ impl Received {
     ghost use Rattle.dvd_capture.specs.Parts.{received_rows};
 
     /// Zeros. `NoMemory` may come at any time, and nothing is taken then.
-    pub(crate) fn new(alloc: Global) -> Result<Received, NoMemory>
+    pub fn new(alloc: Global) -> Result<Received, NoMemory>
         ensures { IfOk result (λ received. received_rows received ≡ replicate 208 (replicate 182 0)) }
     {
         let rows = vec![in alloc; [0; 182]; 208].map_err(|_| NoMemory)?;
@@ -77,6 +77,13 @@ impl Received {
         &self.rows[i]
     }
 
+    /// Sets all rows to those of another buffer.
+    pub fn copy_from(&mut self, other: &Received)
+        ensures { received_rows self.new ≡ received_rows other.now }
+    {
+        self.set_rows(&other.rows);
+    }
+
     /// Sets all rows.
     pub(crate) fn set_rows(&mut self, rows: &[[u8; 182]])
         requires { length rows.now ≡ 208 }
@@ -86,7 +93,7 @@ impl Received {
     }
 
     /// Sets row `i`, and nothing else.
-    pub(crate) fn set_row(&mut self, i: usize, row: &[u8])
+    pub fn set_row(&mut self, i: usize, row: &[u8])
         requires row { i < 208 }
         requires size { length row.now ≡ 182 }
         ensures { received_rows self.new ≡ slice_set (received_rows self.old) i row.now }
@@ -95,7 +102,7 @@ impl Received {
     }
 
     /// Sets the byte in row `i` at place `j`, and nothing else.
-    pub(crate) fn set(&mut self, i: usize, j: usize, byte: u8)
+    pub fn set(&mut self, i: usize, j: usize, byte: u8)
         requires row { i < 208 }
         requires place { j < 182 }
         ensures received { received_rows self.new ≡ slice_set (received_rows self.old) i (slice_set (line (received_rows self.old) i) j byte) }
@@ -110,7 +117,7 @@ impl Marks {
     ghost use Rattle.dvd_capture.specs.Answers.{marks_line};
 
     /// No marks. `NoMemory` may come at any time, and nothing is taken then.
-    pub(crate) fn new(alloc: Global) -> Result<Marks, NoMemory>
+    pub fn new(alloc: Global) -> Result<Marks, NoMemory>
         ensures { IfOk result (λ marks. marks_rows marks ≡ replicate 208 (replicate 182 false)) }
     {
         let rows = vec![in alloc; [0; 23]; 208].map_err(|_| NoMemory)?;
@@ -136,7 +143,7 @@ impl Marks {
     }
 
     /// The mark in row `i` at place `j`.
-    pub(crate) fn get(&self, i: usize, j: usize) -> bool
+    pub fn get(&self, i: usize, j: usize) -> bool
         requires row { i < 208 }
         requires place { j < 182 }
         ensures { result ≡ slice_index_or (marks_line (marks_rows self.now) i) j false }
@@ -145,7 +152,7 @@ impl Marks {
     }
 
     /// Sets the mark in row `i` at place `j`, and nothing else.
-    pub(crate) fn set(&mut self, i: usize, j: usize, mark: bool)
+    pub fn set(&mut self, i: usize, j: usize, mark: bool)
         requires row { i < 208 }
         requires place { j < 182 }
         ensures { marks_rows self.new ≡ slice_set (marks_rows self.old) i (slice_set (marks_line (marks_rows self.old) i) j mark) }
@@ -163,11 +170,18 @@ impl Marks {
     }
 
     /// Takes the marks of row `i` away, and no others.
-    pub(crate) fn clear_row(&mut self, i: usize)
+    pub fn clear_row(&mut self, i: usize)
         requires { i < 208 }
         ensures { marks_rows self.new ≡ slice_set (marks_rows self.old) i (replicate 182 false) }
     {
         self.set_row(i, &[0; 23]);
+    }
+
+    /// Sets all marks to those of another buffer.
+    pub fn copy_from(&mut self, other: &Marks)
+        ensures { marks_rows self.new ≡ marks_rows other.now }
+    {
+        self.rows.copy_from_slice(&other.rows);
     }
 
     /// Takes all marks away.

@@ -1,7 +1,7 @@
 use Rattle.std.proofs.Common.{◌∙◌, ◌*◌, ◌+◌, ◌≡◌, ◌++◌, take, sym, subst, arith}
 use Rattle.dvd_capture.specs.Captured.{record_size}
 use Rattle.dvd_capture.specs.Parts.{marks_rows, received_rows}
-use Rattle.dvd_capture.specs.Putting.{ArePut}
+use Rattle.dvd_capture.specs.Inner.Putting.{ArePut}
 use Rattle.dvd_capture.proofs.Fetching.{frame_begun, frame_put, piece_put, record_cut}
 use Rattle.dvd_capture.proofs.WorkParts.{marks-height}
 use Rattle.dvd_capture.proofs.capture.put_frame.Goals as goal

@@ -1,7 +1,7 @@
 use Rattle.std.proofs.Common.{ℕ, ◌+◌, ◌*◌, List, ◌++◌, take}
 use Rattle.dvd_capture.specs.Captured.{record_size}
 use Rattle.dvd_capture.specs.Parts.{marks_rows, received_rows}
-use Rattle.dvd_capture.specs.Putting.{ArePut}
+use Rattle.dvd_capture.specs.Inner.Putting.{ArePut}
 use Rattle.dvd_capture.proofs.capture.put_frame.Given as goal
 
 abbrev pub invariant-loop-k : goal.invariant-loop-k

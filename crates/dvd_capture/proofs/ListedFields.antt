@@ -1,0 +1,223 @@
+-- The fields of a listed unit while they come one after the other.
+use Rattle.std.proofs.Common.{◌≡◌, ◌⊎◌, ◌∙◌, ℕ, zero, suc, ◌+◌, ◌-◌, ◌*◌, ◌<◌, ◌≤◌, ◌&&◌, ◌||◌, nat_le, nat_lt, Bool, true, false, List, ◌++◌, length, get_or, slice_index, inl, inr, refl, sym, ap, subst, arith, length-append}
+use Rattle.std.proofs.lemmas.Bool.Decides.{leb_tells}
+use Rattle.std.proofs.lemmas.List.{get_or_append_left, get_or-append-add}
+use Rattle.dvd_capture.specs.Listed.{BreaksLength, BreaksStart, HasBadField, IsBrokenAt, IsUnbroken, end_of, field_at, length_of, listed_size, marked_by, run_count, start_of}
+use Rattle.dvd_capture.specs.Inner.Listing.{HasRuns, IsCut}
+
+-- a field that stands wholly in bytes stays when they grow
+pub field_at-append : (a b : List ℕ) (offset : ℕ) → offset + 2 ≤ length a → field_at (a ++ b) offset ≡ field_at a offset
+unfolding field_at
+field_at-append a b offset within =
+    let first : slice_index (a ++ b) offset ≡ slice_index a offset = get_or_append_left a b 0 offset (omega arith) in
+    let second : slice_index (a ++ b) (offset + 1) ≡ slice_index a (offset + 1) = get_or_append_left a b 0 (offset + 1) (omega arith) in
+    omega (arith, first, second)
+
+-- the field that stands so far behind them
+pub field_at-behind : (a b : List ℕ) (offset k : ℕ) → length a + k ≡ offset → field_at (a ++ b) offset ≡ field_at b k
+unfolding field_at
+field_at-behind a b offset k size =
+    let next : offset + 1 ≡ length a + (k + 1) = omega arith in
+    let first : get_or (a ++ b) offset 0 ≡ get_or b k 0 = ap (λ n. get_or (a ++ b) n 0) (sym size) ∙ get_or-append-add a b k 0 in
+    let second : get_or (a ++ b) (offset + 1) 0 ≡ get_or b (k + 1) 0 = ap (λ n. get_or (a ++ b) n 0) next ∙ get_or-append-add a b (k + 1) 0 in
+    omega (arith, first, second)
+
+-- before a unit's first field is whole nothing is broken
+pub early-unbroken : (bytes : List ℕ) → length bytes < 37_858 → IsUnbroken bytes
+early-unbroken bytes few offset (stands, inl (is, number)) = omega arith
+early-unbroken bytes few offset (stands, inr (i, below, inl (is, start))) = omega arith
+early-unbroken bytes few offset (stands, inr (i, below, inr (is, long))) = omega arith
+
+pub early-cut : (bytes : List ℕ) → length bytes < 37_858 → IsCut bytes
+early-cut bytes few = record { fewer = omega arith; unbroken = early-unbroken bytes few }
+
+-- where only the number of runs stands, only it may break a rule
+module _ (bytes : List ℕ) (size : length bytes ≡ 37_858) where
+  pub number-unbroken : run_count bytes ≤ 18_928 → IsUnbroken bytes
+  number-unbroken few offset (stands, inl (is, number)) = omega arith
+  number-unbroken few offset (stands, inr (i, below, inl (is, start))) = omega arith
+  number-unbroken few offset (stands, inr (i, below, inr (is, long))) = omega arith
+
+  number-first : (offset : ℕ) → HasBadField bytes offset → 37_856 ≤ offset
+  number-first offset (stands, inl (is, number)) = omega arith
+  number-first offset (stands, inr (i, below, inl (is, start))) = omega arith
+  number-first offset (stands, inr (i, below, inr (is, long))) = omega arith
+
+  pub number-broken : 18_928 < run_count bytes → IsBrokenAt bytes 37_856
+  number-broken many = record { bad = (omega arith, inl (refl, many)); first = number-first }
+
+pub marked_by-suc : (bytes : List ℕ) (n place : ℕ) → marked_by bytes (suc n) place ≡ (marked_by bytes n place || (nat_le (start_of bytes n) place && nat_lt place (end_of bytes n)))
+unfolding marked_by
+marked_by-suc bytes n place = refl
+
+-- what the first n runs mark stays
+pub marked_by-append : (a b : List ℕ) (n place : ℕ) → 37_858 + 4 * n ≤ length a → marked_by (a ++ b) n place ≡ marked_by a n place
+unfolding marked_by
+marked_by-append a b zero place within = refl
+marked_by-append a b (suc n) place within =
+    let before = marked_by-append a b n place (omega arith) in
+    let start : start_of (a ++ b) n ≡ start_of a n = field_at-append a b (37_858 + 4 * n) (omega arith) in
+    let long : length_of (a ++ b) n ≡ length_of a n = field_at-append a b (37_860 + 4 * n) (omega arith) in
+    rw (before, start, long) refl
+
+-- BEHIND n runs. What may break a rule in more bytes is the start of run n and its length.
+module _ (bytes own : List ℕ) (count n end : ℕ) (mark : ℕ → Bool) (has : HasRuns bytes count n end mark) where
+  pub same-count : run_count (bytes ++ own) ≡ count
+  same-count = field_at-append bytes own 37_856 (let s = has.size in omega arith) ∙ has.number
+
+  earlier : (i : ℕ) → i < n → (start_of (bytes ++ own) i ≡ start_of bytes i) × (length_of (bytes ++ own) i ≡ length_of bytes i)
+  earlier i below = let s = has.size in
+      (field_at-append bytes own (37_858 + 4 * i) (omega arith), field_at-append bytes own (37_860 + 4 * i) (omega arith))
+
+  pub end-same : 0 < n → end_of (bytes ++ own) (n - 1) ≡ end
+  end-same some = let before = earlier (n - 1) (omega arith) in let last = has.last some in omega (arith, before.0, before.1, last)
+
+  -- an earlier run breaks no rule
+  start-fine : (i : ℕ) → i < n → i < count → BreaksStart (bytes ++ own) i → ⊥
+  start-fine i below inside (inl high) =
+      let s = has.size in let same = earlier i below in
+      has.unbroken (37_858 + 4 * i) (omega arith, inr (i, omega (arith, inside, has.number), inl (refl, inl (omega (arith, high, same.0)))))
+  start-fine i below inside (inr touching) =
+      let s = has.size in let same = earlier i below in let before = earlier (i - 1) (omega arith) in
+      has.unbroken (37_858 + 4 * i) (omega arith, inr (i, omega (arith, inside, has.number), inl (refl, inr (touching.0, omega (arith, touching.1, same.0, before.0, before.1)))))
+
+  length-fine : (i : ℕ) → i < n → i < count → BreaksLength (bytes ++ own) i → ⊥
+  length-fine i below inside (inl none) =
+      let s = has.size in let same = earlier i below in
+      has.unbroken (37_860 + 4 * i) (omega arith, inr (i, omega (arith, inside, has.number), inr (refl, inl (omega (arith, none, same.1)))))
+  length-fine i below inside (inr past) =
+      let s = has.size in let same = earlier i below in
+      has.unbroken (37_860 + 4 * i) (omega arith, inr (i, omega (arith, inside, has.number), inr (refl, inr (omega (arith, past, same.0, same.1)))))
+
+  -- the field of run n that breaks a rule
+  abbrev pub IsNext : ℕ → Type 0
+  IsNext offset =
+      ((offset ≡ 37_858 + 4 * n) × (2 ≤ length own) × BreaksStart (bytes ++ own) n)
+      ⊎ ((offset ≡ 37_860 + 4 * n) × (4 ≤ length own) × BreaksLength (bytes ++ own) n)
+
+  grown : length (bytes ++ own) ≡ 37_858 + 4 * n + length own
+  grown = let s = has.size in omega (arith, length-append bytes own, s)
+
+  by_start : (i offset : ℕ) → length own ≤ 4 → offset + 2 ≤ length (bytes ++ own) → i < count → offset ≡ 37_858 + 4 * i → BreaksStart (bytes ++ own) i
+      → (((nat_le (suc i) n ≡ true) × (suc i ≤ n)) ⊎ ((nat_le (suc i) n ≡ false) × (n < suc i))) → IsNext offset
+  by_start i offset few stands inside is breaks (inl below) = absurd (start-fine i (omega (arith, below.1)) inside breaks)
+  by_start i offset few stands inside is breaks (inr above) =
+      let g = grown in let same : i ≡ n = omega (arith, above.1) in
+      inl (omega arith, omega arith, subst (λ j. BreaksStart (bytes ++ own) j) same breaks)
+
+  by_length : (i offset : ℕ) → length own ≤ 4 → offset + 2 ≤ length (bytes ++ own) → i < count → offset ≡ 37_860 + 4 * i → BreaksLength (bytes ++ own) i
+      → (((nat_le (suc i) n ≡ true) × (suc i ≤ n)) ⊎ ((nat_le (suc i) n ≡ false) × (n < suc i))) → IsNext offset
+  by_length i offset few stands inside is breaks (inl below) = absurd (length-fine i (omega (arith, below.1)) inside breaks)
+  by_length i offset few stands inside is breaks (inr above) =
+      let g = grown in let same : i ≡ n = omega (arith, above.1) in
+      inr (omega arith, omega arith, subst (λ j. BreaksLength (bytes ++ own) j) same breaks)
+
+  pub next-bad : length own ≤ 4 → (offset : ℕ) → HasBadField (bytes ++ own) offset → IsNext offset
+  next-bad few offset (stands, inl (is, number)) =
+      let s = has.size in let same = same-count in
+      absurd (has.unbroken offset (omega arith, inl (is, omega (arith, number, same, has.number))))
+  next-bad few offset (stands, inr (i, below, inl (is, start))) =
+      let same = same-count in by_start i offset few stands (omega (arith, below, same)) is start (leb_tells (suc i) n)
+  next-bad few offset (stands, inr (i, below, inr (is, long))) =
+      let same = same-count in by_length i offset few stands (omega (arith, below, same)) is long (leb_tells (suc i) n)
+
+  -- what run n is, by its own bytes
+  start-is : start_of (bytes ++ own) n ≡ field_at own 0
+  start-is = field_at-behind bytes own (37_858 + 4 * n) 0 (let s = has.size in omega arith)
+
+  length-is : length_of (bytes ++ own) n ≡ field_at own 2
+  length-is = field_at-behind bytes own (37_860 + 4 * n) 2 (let s = has.size in omega arith)
+
+  -- a start above the end of the run before
+  abbrev pub IsFine : ℕ → Type 0
+  IsFine start = (start < 37_856) × (0 < n → end < start)
+
+  start-lawful : IsFine (field_at own 0) → BreaksStart (bytes ++ own) n → ⊥
+  start-lawful fine (inl high) = let is = start-is in let f = fine.0 in omega (arith, is, f, high)
+  start-lawful fine (inr (some, touching)) = let is = start-is in let f = fine.1 some in let e = end-same some in omega (arith, is, f, e, touching)
+
+  module _ (below : n < count) where
+    more-to-come : length own < 4 → length (bytes ++ own) < listed_size (bytes ++ own)
+    more-to-come few = let g = grown in let c = same-count in omega (arith, g, c)
+
+    no-start : length own < 2 → (offset : ℕ) → IsNext offset → ⊥
+    no-start few offset (inl (is, stands, breaks)) = omega arith
+    no-start few offset (inr (is, stands, breaks)) = omega arith
+
+    -- the unit is cut within the start of run n
+    pub cut-in-start : length own < 2 → IsCut (bytes ++ own)
+    cut-in-start few = record {
+      fewer = more-to-come (omega arith);
+      unbroken = λ offset bad. no-start few offset (next-bad (omega arith) offset bad);
+    }
+
+    no-length : length own < 4 → IsFine (field_at own 0) → (offset : ℕ) → IsNext offset → ⊥
+    no-length few fine offset (inl (is, stands, breaks)) = start-lawful fine breaks
+    no-length few fine offset (inr (is, stands, breaks)) = omega arith
+
+    -- or within its length
+    pub cut-in-length : length own < 4 → IsFine (field_at own 0) → IsCut (bytes ++ own)
+    cut-in-length few fine = record {
+      fewer = more-to-come few;
+      unbroken = λ offset bad. no-length few fine offset (next-bad (omega arith) offset bad);
+    }
+
+    breaks-start : (37_856 ≤ field_at own 0) ⊎ ((0 < n) × (field_at own 0 ≤ end)) → BreaksStart (bytes ++ own) n
+    breaks-start (inl high) = let is = start-is in inl (omega (arith, is, high))
+    breaks-start (inr (some, touching)) = let is = start-is in let e = end-same some in inr (some, omega (arith, is, e, touching))
+
+    first-next : (offset : ℕ) → IsNext offset → 37_858 + 4 * n ≤ offset
+    first-next offset (inl (is, stands, breaks)) = omega arith
+    first-next offset (inr (is, stands, breaks)) = omega arith
+
+    -- its start breaks a rule
+    pub broken-start : length own ≡ 2 → (37_856 ≤ field_at own 0) ⊎ ((0 < n) × (field_at own 0 ≤ end)) → IsBrokenAt (bytes ++ own) (37_858 + 4 * n)
+    broken-start size breaks = let g = grown in let c = same-count in record {
+      bad = (omega (arith, g), inr (n, omega (arith, below, c), inl (refl, breaks-start breaks)));
+      first = λ offset bad. first-next offset (next-bad (omega arith) offset bad);
+    }
+
+    breaks-length : (field_at own 2 ≡ 0) ⊎ (37_856 < field_at own 0 + field_at own 2) → BreaksLength (bytes ++ own) n
+    breaks-length (inl none) = let is = length-is in inl (omega (arith, is, none))
+    breaks-length (inr past) = let is = length-is in let s = start-is in inr (omega (arith, is, s, past))
+
+    second-next : IsFine (field_at own 0) → (offset : ℕ) → IsNext offset → 37_860 + 4 * n ≤ offset
+    second-next fine offset (inl (is, stands, breaks)) = absurd (start-lawful fine breaks)
+    second-next fine offset (inr (is, stands, breaks)) = omega arith
+
+    -- or its length does
+    pub broken-length : length own ≡ 4 → IsFine (field_at own 0) → (field_at own 2 ≡ 0) ⊎ (37_856 < field_at own 0 + field_at own 2)
+        → IsBrokenAt (bytes ++ own) (37_860 + 4 * n)
+    broken-length size fine breaks = let g = grown in let c = same-count in record {
+      bad = (omega (arith, g), inr (n, omega (arith, below, c), inr (refl, breaks-length breaks)));
+      first = λ offset bad. second-next fine offset (next-bad (omega arith) offset bad);
+    }
+
+    length-lawful : 0 < field_at own 2 → field_at own 0 + field_at own 2 ≤ 37_856 → BreaksLength (bytes ++ own) n → ⊥
+    length-lawful some within (inl none) = let is = length-is in omega (arith, is, none, some)
+    length-lawful some within (inr past) = let is = length-is in let s = start-is in omega (arith, is, s, past, within)
+
+    no-next : IsFine (field_at own 0) → 0 < field_at own 2 → field_at own 0 + field_at own 2 ≤ 37_856 → (offset : ℕ) → IsNext offset → ⊥
+    no-next fine some within offset (inl (is, stands, breaks)) = start-lawful fine breaks
+    no-next fine some within offset (inr (is, stands, breaks)) = length-lawful some within breaks
+
+    -- it is one run more
+    pub one-run-more : (mark_now : ℕ → Bool) → length own ≡ 4 → IsFine (field_at own 0) → 0 < field_at own 2 → field_at own 0 + field_at own 2 ≤ 37_856
+        → ((place : ℕ) → place < 37_856 → mark_now place ≡ (mark place || (nat_le (field_at own 0) place && nat_lt place (field_at own 0 + field_at own 2))))
+        → HasRuns (bytes ++ own) count (n + 1) (field_at own 0 + field_at own 2) mark_now
+    one-run-more mark_now size fine some within marked = let g = grown in record {
+      size = omega (arith, g);
+      number = same-count;
+      unbroken = λ offset bad. no-next fine some within offset (next-bad (omega arith) offset bad);
+      none = λ is. absurd (omega arith);
+      last = λ behind. let same : n + 1 - 1 ≡ n = omega arith in rw same (let is = length-is in let s = start-is in omega (arith, is, s));
+      marks = λ place place_below. marked place place_below ∙ sym (by_run place place_below);
+    } where
+      by_run : (place : ℕ) → place < 37_856 → marked_by (bytes ++ own) (n + 1) place ≡ (mark place || (nat_le (field_at own 0) place && nat_lt place (field_at own 0 + field_at own 2)))
+      by_run place place_below =
+          let one : n + 1 ≡ suc n = omega arith in
+          ap (λ k. marked_by (bytes ++ own) k place) one
+          ∙ marked_by-suc (bytes ++ own) n place
+          ∙ ap (λ (b : Bool). b || (nat_le (start_of (bytes ++ own) n) place && nat_lt place (end_of (bytes ++ own) n))) (marked_by-append bytes own n place (let s = has.size in omega arith) ∙ sym (has.marks place place_below))
+          ∙ ap (λ start. mark place || (nat_le start place && nat_lt place (start + length_of (bytes ++ own) n))) start-is
+          ∙ ap (λ long. mark place || (nat_le (field_at own 0) place && nat_lt place (field_at own 0 + long))) length-is

@@ -1,0 +1,190 @@
+-- The fields of a listed unit as a source gives them.
+use Rattle.std.proofs.Common.{◌≡◌, ◌⊎◌, ◌∙◌, ℕ, ◌+◌, ◌*◌, ◌<◌, ◌≤◌, ◌&&◌, ◌||◌, nat_le, nat_lt, Bool, List, ◌++◌, length, Option, Result, Ok, Err, inl, inr, refl, sym, ap, subst, arith, length-append, append_assoc}
+use Rattle.std.specs.Int.{from_be_bytes, w16}
+use Rattle.std.specs.Result.{IfErr, IsErrAnd}
+use Rattle.std.specs.Io.KnownBytes.{Consumes}
+use Rattle.dvd_ports.proofs.KnownLemmas.{Consumes-then}
+use Rattle.dvd_capture.specs.Listed.{field_at, marked_by, run_count}
+use Rattle.dvd_capture.specs.Inner.Listing.{AreRows, HasRuns, IsNoField, IsStop, IsStopped, TakesField, TakesRuns}
+use Rattle.dvd_capture.specs.declared.capture.FetchAnswer.{FetchAnswer}
+use Rattle.dvd_capture.specs.declared.capture.FetchAnswer.TheVariants.{Full, End, Short, ReadFault, BadMarks}
+use Rattle.dvd_capture.proofs.ListedFields.{IsFine, broken-length, broken-start, cut-in-length, cut-in-start, early-cut, field_at-append, field_at-behind, number-broken, number-unbroken, one-run-more}
+
+-- two fields behind each other
+pub first-field : (start long : List ℕ) → length start ≡ 2 → field_at (start ++ long) 0 ≡ field_at start 0
+first-field start long size = field_at-append start long 0 (omega arith)
+
+pub second-field : (start long : List ℕ) → length start ≡ 2 → field_at (start ++ long) 2 ≡ field_at long 0
+second-field start long size = field_at-behind start long 2 0 (omega arith)
+
+-- what holds of the error that an answer is
+pub if_err : {A : Type 0} (answer : Result A FetchAnswer) (error : FetchAnswer) (P : FetchAnswer → Type 0) → IsErrAnd answer (λ e. e ≡ error) → P error → IfErr answer P
+if_err (Ok value) error P is holds = absurd is
+if_err (Err e) error P is holds = subst P (sym is) holds
+
+-- a field by the bytes that were read
+pub field-read : (bytes : List ℕ) → length bytes ≡ 2 → from_be_bytes w16 bytes ≡ field_at bytes 0
+unfolding field_at
+field-read bytes size = omega arith
+
+module _ (bytes : List ℕ) (count n end : ℕ) (mark : ℕ → Bool) (has : HasRuns bytes count n end mark) (below : n < count) (old : Option (List ℕ)) where
+  -- the unit isn't fetched for want of the start of run n
+  pub stopped-in-start : (new : Option (List ℕ)) (held : ℕ) (answer : FetchAnswer) → held ≡ 37_858 + 4 * n → IsNoField held old new answer → IsStopped bytes old new answer
+  stopped-in-start new held Full is missing = absurd missing
+  stopped-in-start new held End is missing = absurd missing
+  stopped-in-start new held (BadMarks at) is missing = absurd missing
+  stopped-in-start new held (Short got) is missing = record {
+    own = missing.own;
+    taken = missing.taken;
+    stops = (
+      (let s = has.size in omega (arith, missing.is, is, s, length-append bytes missing.own)),
+      missing.at_end,
+      cut-in-start bytes missing.own count n end mark has below missing.fewer,
+    );
+  }
+  stopped-in-start new held ReadFault is missing = record {
+    own = missing.taken;
+    taken = missing.loses;
+    stops = cut-in-start bytes missing.taken count n end mark has below missing.fewer;
+  }
+
+  module _ (mid : Option (List ℕ)) (start : List ℕ) (size : length start ≡ 2) (takes : Consumes old mid start) where
+    -- its start breaks a rule
+    pub stopped-at-start : (at : ℕ) → at ≡ 37_858 + 4 * n → (37_856 ≤ field_at start 0) ⊎ ((0 < n) × (field_at start 0 ≤ end)) → IsStopped bytes old mid (BadMarks at)
+    stopped-at-start at is breaks = record {
+      own = start;
+      taken = takes;
+      stops = rw is (broken-start bytes start count n end mark has below size breaks);
+    }
+
+    module _ (fine : IsFine bytes start count n end mark has (field_at start 0)) (new : Option (List ℕ)) where
+      fine-in : (long : List ℕ) → IsFine bytes (start ++ long) count n end mark has (field_at (start ++ long) 0)
+      fine-in long = let same = first-field start long size in (omega (arith, fine.0, same), λ some. let above = fine.1 some in omega (arith, above, same))
+
+      few : (long : List ℕ) → length long < 2 → length (start ++ long) < 4
+      few long fewer = omega (arith, fewer, size, length-append start long)
+
+      -- for want of its length
+      pub stopped-in-length : (held : ℕ) (answer : FetchAnswer) → held ≡ 37_860 + 4 * n → IsNoField held mid new answer → IsStopped bytes old new answer
+      stopped-in-length held Full is missing = absurd missing
+      stopped-in-length held End is missing = absurd missing
+      stopped-in-length held (BadMarks at) is missing = absurd missing
+      stopped-in-length held (Short got) is missing = record {
+        own = start ++ missing.own;
+        taken = Consumes-then old mid new start missing.own takes missing.taken;
+        stops = (
+          (let s = has.size in omega (arith, missing.is, is, s, size, length-append bytes (start ++ missing.own), length-append start missing.own)),
+          missing.at_end,
+          cut-in-length bytes (start ++ missing.own) count n end mark has below (few missing.own missing.fewer) (fine-in missing.own),
+        );
+      }
+      stopped-in-length held ReadFault is missing = record {
+        own = start ++ missing.taken;
+        taken = Consumes-then old mid new start missing.taken takes missing.loses;
+        stops = cut-in-length bytes (start ++ missing.taken) count n end mark has below (few missing.taken missing.fewer) (fine-in missing.taken);
+      }
+
+      -- its length breaks a rule
+      pub stopped-at-length : (long : List ℕ) (at : ℕ) → at ≡ 37_860 + 4 * n → length long ≡ 2 → Consumes mid new long
+          → (field_at long 0 ≡ 0) ⊎ (37_856 < field_at start 0 + field_at long 0) → IsStopped bytes old new (BadMarks at)
+      stopped-at-length long at is long_size more breaks = record {
+        own = start ++ long;
+        taken = Consumes-then old mid new start long takes more;
+        stops = rw is (broken-length bytes (start ++ long) count n end mark has below (omega (arith, size, long_size, length-append start long)) (fine-in long) (in_both breaks));
+      } where
+        in_both : (field_at long 0 ≡ 0) ⊎ (37_856 < field_at start 0 + field_at long 0) → (field_at (start ++ long) 2 ≡ 0) ⊎ (37_856 < field_at (start ++ long) 0 + field_at (start ++ long) 2)
+        in_both (inl none) = inl (second-field start long size ∙ none)
+        in_both (inr past) = let first = first-field start long size in let second = second-field start long size in inr (omega (arith, past, first, second))
+
+      ends : (long : List ℕ) → field_at (start ++ long) 0 ≡ field_at start 0 → field_at (start ++ long) 2 ≡ field_at long 0
+          → field_at (start ++ long) 0 + field_at (start ++ long) 2 ≡ field_at start 0 + field_at long 0
+      ends long first second = omega (arith, first, second)
+
+      -- run n is taken
+      pub run-taken : (mark_now : ℕ → Bool) (long : List ℕ) → length long ≡ 2 → Consumes mid new long → 0 < field_at long 0 → field_at start 0 + field_at long 0 ≤ 37_856
+          → ((place : ℕ) → place < 37_856 → mark_now place ≡ (mark place || (nat_le (field_at start 0) place && nat_lt place (field_at start 0 + field_at long 0))))
+          → TakesRuns bytes count (n + 1) (field_at start 0 + field_at long 0) mark_now old new
+      run-taken mark_now long long_size more some within marked =
+          let first = first-field start long size in let second = second-field start long size in
+          record {
+            own = start ++ long;
+            taken = Consumes-then old mid new start long takes more;
+            runs = subst (λ e. HasRuns (bytes ++ (start ++ long)) count (n + 1) e mark_now) (ends long first second)
+                (one-run-more bytes (start ++ long) count n end mark has below mark_now (omega (arith, size, long_size, length-append start long)) (fine-in long)
+                (omega (arith, second, some)) (omega (arith, first, second, within))
+                (λ place place_below. marked place place_below
+                ∙ ap (λ s. mark place || (nat_le s place && nat_lt place (s + field_at long 0))) (sym first)
+                ∙ ap (λ l. mark place || (nat_le (field_at (start ++ long) 0) place && nat_lt place (field_at (start ++ long) 0 + l))) (sym second)));
+          }
+
+-- THE NUMBER OF RUNS, behind the bytes of the rows.
+module _ (rows : List ℕ) (mark : ℕ → Bool) (are : AreRows rows mark) (old : Option (List ℕ)) where
+  -- the unit isn't fetched for want of it
+  pub stopped-in-number : (new : Option (List ℕ)) (answer : FetchAnswer) → IsNoField 37_856 old new answer → IsStopped rows old new answer
+  stopped-in-number new Full missing = absurd missing
+  stopped-in-number new End missing = absurd missing
+  stopped-in-number new (BadMarks at) missing = absurd missing
+  stopped-in-number new (Short got) missing = record {
+    own = missing.own;
+    taken = missing.taken;
+    stops = (
+      omega (arith, missing.is, are.0, length-append rows missing.own),
+      missing.at_end,
+      early-cut (rows ++ missing.own) (omega (arith, missing.fewer, are.0, length-append rows missing.own)),
+    );
+  }
+  stopped-in-number new ReadFault missing = record {
+    own = missing.taken;
+    taken = missing.loses;
+    stops = early-cut (rows ++ missing.taken) (omega (arith, missing.fewer, are.0, length-append rows missing.taken));
+  }
+
+  module _ (new : Option (List ℕ)) (number : ℕ) (field : TakesField old new number) where
+    size : length (rows ++ field.own) ≡ 37_858
+    size = omega (arith, field.size, are.0, length-append rows field.own)
+
+    number-is : run_count (rows ++ field.own) ≡ number
+    number-is = field_at-behind rows field.own 37_856 0 (let r = are.0 in omega arith) ∙ field.is
+
+    -- there are too many
+    pub stopped-at-number : 18_928 < number → IsStopped rows old new (BadMarks 37_856)
+    stopped-at-number many = record {
+      own = field.own;
+      taken = field.taken;
+      stops = number-broken (rows ++ field.own) size (let is = number-is in omega (arith, is, many));
+    }
+
+    pub number-taken : number ≤ 18_928 → TakesRuns rows number 0 0 mark old new
+    unfolding marked_by
+    number-taken few = record {
+      own = field.own;
+      taken = field.taken;
+      runs = record {
+        size = let s = size in omega (arith, s);
+        number = number-is;
+        unbroken = number-unbroken (rows ++ field.own) size (let is = number-is in omega (arith, is, few));
+        none = λ is. refl;
+        last = λ some. absurd (omega arith);
+        marks = λ place below. are.1 place (omega arith) below;
+      };
+    }
+
+-- what is taken behind what was taken
+pub runs-behind : (bytes : List ℕ) (old mid new : Option (List ℕ)) (count n end next_end m : ℕ) (mark mark_now : ℕ → Bool)
+    → (t : TakesRuns bytes count n end mark old mid) → TakesRuns (bytes ++ t.own) count m next_end mark_now mid new → TakesRuns bytes count m next_end mark_now old new
+runs-behind bytes old mid new count n end next_end m mark mark_now t more = record {
+  own = t.own ++ more.own;
+  taken = Consumes-then old mid new t.own more.own t.taken more.taken;
+  runs = subst (λ l. HasRuns l count m next_end mark_now) (append_assoc bytes t.own more.own) more.runs;
+}
+
+pub stopped-behind : (bytes own : List ℕ) (old mid new : Option (List ℕ)) (answer : FetchAnswer) → Consumes old mid own → IsStopped (bytes ++ own) mid new answer → IsStopped bytes old new answer
+stopped-behind bytes own old mid new answer takes more = record {
+  own = own ++ more.own;
+  taken = Consumes-then old mid new own more.own takes more.taken;
+  stops = subst (λ l. IsStop l new answer) (append_assoc bytes own more.own) more.stops;
+}
+
+pub stopped_result : {A : Type 0} (bytes own : List ℕ) (old mid new : Option (List ℕ)) (error : FetchAnswer) (answer : Result A FetchAnswer) → IsErrAnd answer (λ e. e ≡ error)
+    → Consumes old mid own → IsStopped (bytes ++ own) mid new error → IfErr answer (IsStopped bytes old new)
+stopped_result bytes own old mid new error answer is takes more = if_err answer error (IsStopped bytes old new) is (stopped-behind bytes own old mid new error takes more)

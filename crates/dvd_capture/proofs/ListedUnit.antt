@@ -1,0 +1,144 @@
+-- A listed unit by the bytes of its rows and by its runs.
+use Rattle.std.proofs.Common.{◌≡◌, ◌∙◌, ℕ, ◌+◌, ◌*◌, ◌/◌, ◌%◌, ◌<◌, Bool, false, List, [], ◌++◌, length, map, take, get_or, replicate, Option, refl, sym, ap, subst, arith, length-append}
+use Rattle.std.specs.List.{range_with_len}
+use Rattle.std.proofs.lemmas.List.{ext_get_or, get_or-replicate}
+use Rattle.std.proofs.lemmas.List.FromFn.{length-map-range_with_len, get_or-map-range_with_len}
+use Rattle.dvd_ports.proofs.KnownLemmas.{Consumes-then}
+use Rattle.dvd_block.specs.Recording.{record_at, row_at}
+use Rattle.dvd_capture.specs.Answers.{marks_line}
+use Rattle.dvd_capture.specs.Captured.{BreaksAt, Captures, EndsAfter, FailsWithin, captured_marks, captured_rows, record_marks, record_of}
+use Rattle.dvd_capture.specs.Listed.{listed_size, mark_of, marked_by, run_count}
+use Rattle.dvd_capture.specs.Inner.Listing.{AreRows, IsFetched, IsStopped, TakesAll}
+use Rattle.dvd_capture.specs.declared.capture.FetchAnswer.{FetchAnswer}
+use Rattle.dvd_capture.specs.declared.capture.FetchAnswer.TheVariants.{Full, End, Short, ReadFault, BadMarks}
+use Rattle.dvd_capture.specs.declared.form.Form.TheVariants.{Plain, Listed}
+use Rattle.dvd_capture.proofs.ListedFields.{early-unbroken}
+use Rattle.dvd_capture.proofs.Fetching.{part-append, record_at-lt, row_at-lt, row_at-record_at}
+
+-- the rows stand in the first bytes
+pub rows-listed : (rows_bytes own : List ℕ) → length rows_bytes ≡ 37_856 → captured_rows Listed (rows_bytes ++ own) ≡ captured_rows Plain rows_bytes
+unfolding captured_rows
+rows-listed rows_bytes own size =
+    ext_get_or [] (map listed (range_with_len 0 208)) (map plain (range_with_len 0 208)) (length-map-range_with_len listed 0 208 ∙ sym (length-map-range_with_len plain 0 208))
+    (λ i within. let below : i < 208 = subst (λ n. i < n) (length-map-range_with_len listed 0 208) within in
+    get_or-map-range_with_len listed 0 208 i i [] below (omega arith)
+    ∙ ap (take 182) (part-append rows_bytes own (182 * record_at i) 182 (let m = record_at-lt i below in omega (arith, m, size)))
+    ∙ sym (get_or-map-range_with_len plain 0 208 i i [] below (omega arith)))
+  where
+    listed : ℕ → List ℕ
+    listed i = take 182 (record_of Listed (rows_bytes ++ own) (record_at i))
+
+    plain : ℕ → List ℕ
+    plain i = take 182 (record_of Plain rows_bytes (record_at i))
+
+-- the marks of rows by those of places
+pub marks-listed : (marks : List (List Bool)) (bytes : List ℕ) (count : ℕ) → length marks ≡ 208 → ((i : ℕ) → i < 208 → length (marks_line marks i) ≡ 182)
+    → run_count bytes ≡ count → ((place : ℕ) → place < 37_856 → mark_of marks place ≡ marked_by bytes count place) → marks ≡ captured_marks Listed bytes
+unfolding captured_marks
+marks-listed marks bytes count height width number same =
+    ext_get_or [] marks (map row (range_with_len 0 208)) (height ∙ sym (length-map-range_with_len row 0 208))
+    (λ i within. let below : i < 208 = subst (λ n. i < n) height within in
+    each_row i below ∙ sym (get_or-map-range_with_len row 0 208 i i [] below (omega arith)))
+  where
+    mark_at : ℕ → ℕ → Bool
+    mark_at m j = marked_by bytes (run_count bytes) (182 * m + j)
+
+    row : ℕ → List Bool
+    row i = record_marks Listed bytes (record_at i)
+
+    at : (i j : ℕ) → i < 208 → j < 182 → get_or (get_or marks i []) j false ≡ mark_at (record_at i) j
+    at i j below inside =
+        let m = record_at-lt i below in
+        let quotient : (182 * record_at i + j) / 182 ≡ record_at i = omega arith in
+        let rest : (182 * record_at i + j) % 182 ≡ j = omega arith in
+        let stands : row_at ((182 * record_at i + j) / 182) ≡ i = ap row_at quotient ∙ row_at-record_at i below in
+        ap (λ r. get_or (get_or marks r []) j false) (sym stands)
+        ∙ ap (λ k. get_or (get_or marks (row_at ((182 * record_at i + j) / 182)) []) k false) (sym rest)
+        ∙ same (182 * record_at i + j) (omega (arith, m))
+        ∙ ap (λ n. marked_by bytes n (182 * record_at i + j)) (sym number)
+
+    each_row : (i : ℕ) → i < 208 → get_or marks i [] ≡ row i
+    each_row i below =
+        ext_get_or false (get_or marks i []) (row i) (width i below ∙ sym (length-map-range_with_len (mark_at (record_at i)) 0 182))
+        (λ j within. let inside : j < 182 = subst (λ n. j < n) (width i below) within in
+        at i j below inside ∙ sym (get_or-map-range_with_len (mark_at (record_at i)) 0 182 j j false inside (omega arith)))
+
+-- a plain block has no marks
+pub rows-unmarked : (old new : Option (List ℕ)) (rows : List (List ℕ)) (marks : List (List Bool)) (c : Captures Plain old new rows marks) → AreRows c.bytes (mark_of marks)
+unfolding captured_marks
+rows-unmarked old new rows marks c = (
+  c.size,
+  λ place least below.
+      let m : row_at (place / 182) < 208 = row_at-lt (place / 182) (omega arith) in
+      ap (λ (all : List (List Bool)). mark_of all place) c.marks_are
+      ∙ ap (λ (l : List Bool). get_or l (place % 182) false) (get_or-map-range_with_len none 0 208 (row_at (place / 182)) (row_at (place / 182)) [] m (omega arith))
+      ∙ get_or-replicate 182 (place % 182) false false (omega arith),
+)
+  where
+    none : ℕ → List Bool
+    none i = replicate 182 false
+
+-- THE WHOLE UNIT, whose rows were captured before.
+module _ (old mid new : Option (List ℕ)) (rows : List (List ℕ)) (marks marks_now : List (List Bool)) (c : Captures Plain old mid rows marks)
+    (height : length marks_now ≡ 208) (width : (i : ℕ) → i < 208 → length (marks_line marks_now i) ≡ 182) where
+  unit-captured : TakesAll c.bytes (mark_of marks_now) mid new → Captures Listed old new rows marks_now
+  unit-captured all = let runs = all.takes.runs in record {
+    bytes = c.bytes ++ all.takes.own;
+    size = runs.size ∙ ap (λ n. 37_858 + 4 * n) (sym runs.number);
+    lawful = runs.unbroken;
+    taken = Consumes-then old mid new c.bytes all.takes.own c.taken all.takes.taken;
+    rows_are = c.rows_are ∙ sym (rows-listed c.bytes all.takes.own c.size);
+    marks_are = marks-listed marks_now (c.bytes ++ all.takes.own) all.count height width runs.number runs.marks;
+  }
+
+  pub unit-full : (answer : FetchAnswer) → IsFetched c.bytes (mark_of marks_now) mid new answer → answer ≡ Full → Captures Listed old new rows marks_now
+  unit-full answer fetched is = unit-captured (subst (IsFetched c.bytes (mark_of marks_now) mid new) is fetched)
+
+  pub unit-end : (answer : FetchAnswer) → IsFetched c.bytes (mark_of marks_now) mid new answer → answer ≡ End → ⊥
+  unit-end answer fetched is = subst (IsFetched c.bytes (mark_of marks_now) mid new) is fetched
+
+  pub unit-short : (answer : FetchAnswer) (count : ℕ) → IsFetched c.bytes (mark_of marks_now) mid new answer → answer ≡ Short count → (0 < count) × EndsAfter Listed old new count
+  unit-short answer count fetched is =
+      let stop : IsStopped c.bytes mid new (Short count) = subst (IsFetched c.bytes (mark_of marks_now) mid new) is fetched in
+      let (size, at_end, cut) = stop.stops in (
+        omega (arith, size, length-append c.bytes stop.own, c.size),
+        record {
+          bytes = c.bytes ++ stop.own;
+          size = sym size;
+          taken = Consumes-then old mid new c.bytes stop.own c.taken stop.taken;
+          fewer = subst (λ n. n < listed_size (c.bytes ++ stop.own)) (sym size) cut.fewer;
+          lawful = cut.unbroken;
+          at_end = at_end;
+        },
+      )
+
+  pub unit-fault : (answer : FetchAnswer) → IsFetched c.bytes (mark_of marks_now) mid new answer → answer ≡ ReadFault → FailsWithin Listed old new
+  unit-fault answer fetched is =
+      let stop : IsStopped c.bytes mid new ReadFault = subst (IsFetched c.bytes (mark_of marks_now) mid new) is fetched in record {
+        bytes = c.bytes ++ stop.own;
+        taken = Consumes-then old mid new c.bytes stop.own c.taken stop.taken;
+        fewer = stop.stops.fewer;
+      }
+
+  pub unit-broken : (answer : FetchAnswer) (at : ℕ) → IsFetched c.bytes (mark_of marks_now) mid new answer → answer ≡ BadMarks at → BreaksAt Listed old new at
+  unit-broken answer at fetched is =
+      let stop : IsStopped c.bytes mid new (BadMarks at) = subst (IsFetched c.bytes (mark_of marks_now) mid new) is fetched in record {
+        listed = refl;
+        bytes = c.bytes ++ stop.own;
+        taken = Consumes-then old mid new c.bytes stop.own c.taken stop.taken;
+        broken = stop.stops;
+      }
+
+-- a unit that ended, or failed, within its rows
+pub rows-ended : (old new : Option (List ℕ)) (count : ℕ) → EndsAfter Plain old new count → EndsAfter Listed old new count
+rows-ended old new count e = record {
+  bytes = e.bytes;
+  size = e.size;
+  taken = e.taken;
+  fewer = omega (arith, e.fewer);
+  lawful = early-unbroken e.bytes (omega (arith, e.fewer, e.size));
+  at_end = e.at_end;
+}
+
+pub rows-failed : (old new : Option (List ℕ)) → FailsWithin Plain old new → FailsWithin Listed old new
+rows-failed old new f = record { bytes = f.bytes; taken = f.taken; fewer = omega (arith, f.fewer) }

@@ -1,0 +1,435 @@
+-- The runs of marked places as they are written.
+use Rattle.std.proofs.Common.{◌≡◌, ◌≢◌, ◌⊎◌, ◌∙◌, ℕ, zero, suc, ◌+◌, ◌-◌, ◌*◌, ◌<◌, ◌≤◌, ◌==◌, ◌&&◌, ◌||◌, not, nat_le, nat_lt, Bool, true, false, List, [], ◌∷◌, ◌++◌, length, All, Option, inl, inr, refl, sym, ap, subst, arith, length-append, append_assoc, append-nil}
+use Rattle.std.specs.Int.{to_be_bytes, w16}
+use Rattle.std.specs.Io.KnownBytes.{Appends}
+use Rattle.std.proofs.lemmas.Bool.Decides.{eqb_tells, leb_tells, nat_tests}
+use Rattle.std.proofs.lemmas.List.Elements.{All-from_get_or}
+use Rattle.std.proofs.lemmas.Nat.{from_be_bytes-to_be_bytes_2}
+use Rattle.dvd_ports.specs.Whole.{AppendsPrefix}
+use Rattle.dvd_ports.proofs.KnownLemmas.{Appends-none, Appends-then}
+use Rattle.dvd_block.specs.Product.{line}
+use Rattle.dvd_block.specs.Recording.{recorded, recording, row_at}
+use Rattle.dvd_block.proofs.Recorded.{recorded-more}
+use Rattle.dvd_capture.specs.Answers.{marks_line}
+use Rattle.dvd_capture.specs.Captured.{IsUnitOf}
+use Rattle.dvd_capture.specs.Laws.{MarksHaveASpelling}
+use Rattle.dvd_capture.specs.Listed.{field_at, mark_of, marked_by, run_count}
+use Rattle.dvd_capture.specs.Listing.{AppendsPart, AppendsUnit}
+use Rattle.dvd_capture.specs.Inner.Listing.{AppendsAll, AppendsSome, AreMarked, HasRuns, starts_below}
+use Rattle.dvd_capture.proofs.ListedUnit.{marks-listed, rows-listed}
+use Rattle.dvd_capture.proofs.RecordedRows.{length-recorded, recording_captured, split}
+use Rattle.dvd_capture.proofs.ListedFields.{field_at-behind, number-unbroken, one-run-more}
+use Rattle.dvd_capture.proofs.ListedTaken.{field-read, first-field, second-field}
+use Rattle.dvd_capture.proofs.RunStarts.{none_left, start-first, start_at, starts-few, starts-marked, starts-next, starts-none, starts-unmarked}
+
+-- a written field holds its value
+pub field-written : (value : ℕ) → value < 65_536 → field_at (to_be_bytes w16 value) 0 ≡ value
+field-written value small = sym (field-read (to_be_bytes w16 value) refl) ∙ from_be_bytes-to_be_bytes_2 value small
+
+-- the marks below a place
+abbrev pub below : (ℕ → Bool) → ℕ → ℕ → Bool
+below mark end place = mark place && nat_lt place end
+
+-- The first n runs of these marks were written, the last of which ends there.
+pub record IsBegun (bytes : List ℕ) (mark : ℕ → Bool) (n end : ℕ) : Type 0 where
+  pub runs : HasRuns bytes (starts_below mark 37_856) n end (below mark end)
+  pub within : end ≤ 37_856
+  pub clear : 0 < end → end < 37_856 → mark end ≡ false
+  pub counted : starts_below mark end ≡ n
+
+-- where the next run starts and ends
+pub record IsNextRun (mark : ℕ → Bool) (end start next : ℕ) : Type 0 where
+  pub behind : end ≤ start
+  pub order : start ≤ next
+  pub within : next ≤ 37_856
+  pub unmarked : AreMarked mark false end start
+  pub starts : start < 37_856 → mark start ≡ true
+  pub marked : AreMarked mark true start next
+  pub ends : next < 37_856 → mark next ≡ false
+
+true_not_false : {A : Type 0} (b : Bool) → b ≡ true → b ≡ false → A
+true_not_false true is not_is = absurd (cc)
+true_not_false false is not_is = absurd (cc)
+
+-- no mark stands between the runs
+between : (mark : ℕ → Bool) (place end start next : ℕ) → end ≤ start → start ≤ next → (end ≤ place → place < start → mark place ≡ false)
+    → (start ≤ place → place < next → mark place ≡ true)
+    → below mark next place ≡ (below mark end place || (nat_le start place && nat_lt place next))
+between mark place end start next behind order unmarked marked = by_end (leb_tells end place) where
+  by_next : start ≤ place → (((nat_le next place ≡ true) × (next ≤ place)) ⊎ ((nat_le next place ≡ false) × (place < next)))
+      → below mark next place ≡ (below mark end place || (nat_le start place && nat_lt place next))
+  by_next high (inl is) = let far = is.1 in grind (arith, nat_tests)
+  by_next high (inr is) = let near = is.1 in let here = marked high near in grind (arith, nat_tests)
+
+  by_start : end ≤ place → (((nat_le start place ≡ true) × (start ≤ place)) ⊎ ((nat_le start place ≡ false) × (place < start)))
+      → below mark next place ≡ (below mark end place || (nat_le start place && nat_lt place next))
+  by_start high (inl is) = by_next is.1 (leb_tells next place)
+  by_start high (inr is) = let here = unmarked high is.1 in grind (arith, nat_tests)
+
+  by_end : (((nat_le end place ≡ true) × (end ≤ place)) ⊎ ((nat_le end place ≡ false) × (place < end)))
+      → below mark next place ≡ (below mark end place || (nat_le start place && nat_lt place next))
+  by_end (inl is) = by_start is.1 (leb_tells start place)
+  by_end (inr is) = let near = is.1 in grind (arith, nat_tests)
+
+-- ONE RUN MORE is written.
+module _ (bytes : List ℕ) (mark : ℕ → Bool) (n end start next : ℕ) (begun : IsBegun bytes mark n end) (run : IsNextRun mark end start next)
+    (more : n < starts_below mark 37_856) where
+  same_starts : starts_below mark start ≡ n
+  same_starts =
+      let k : end + (start - end) ≡ start = let b = run.behind in omega arith in
+      ap (starts_below mark) (sym k) ∙ starts-unmarked mark end (start - end) (subst (AreMarked mark false end) (sym k) run.unmarked) ∙ begun.counted
+
+  pub start-inside : start < 37_856
+  start-inside = by_start (leb_tells 37_856 start) where
+    by_start : (((nat_le 37_856 start ≡ true) × (37_856 ≤ start)) ⊎ ((nat_le 37_856 start ≡ false) × (start < 37_856))) → start < 37_856
+    by_start (inl is) =
+        let same = same_starts in let o = run.order in let w = run.within in let all : start ≡ 37_856 = omega (arith, is.1, o, w) in
+        let last = ap (starts_below mark) all in absurd (omega (arith, same, last, more))
+    by_start (inr is) = is.1
+
+  begun_apart : (((end == start) ≡ true) × (end ≡ start)) ⊎ (((end == start) ≡ false) × (end ≢ start)) → 0 < end → end < start
+  begun_apart (inl is) some = true_not_false (mark end) (ap mark is.1 ∙ run.starts start-inside) (begun.clear some (let s = start-inside in omega (arith, is.1, s)))
+  begun_apart (inr is) some = let b = run.behind in let apart = is.1 in omega arith
+
+  pub run-apart : 0 < end → end < start
+  run-apart some = begun_apart (eqb_tells end start) some
+
+  some_end : 0 < n → 0 < end
+  some_end some = by_end (leb_tells 1 end) where
+    by_end : (((nat_le 1 end ≡ true) × (1 ≤ end)) ⊎ ((nat_le 1 end ≡ false) × (end < 1))) → 0 < end
+    by_end (inl is) = omega (arith, is.1)
+    by_end (inr is) =
+        let none : end ≡ 0 = omega (arith, is.1) in
+        let counted = begun.counted in let first = ap (starts_below mark) none in let zero_starts = starts-none mark in absurd (omega (arith, counted, first, zero_starts, some))
+
+  pub some-length : start < next
+  some-length = by_next (leb_tells (suc start) next) where
+    by_next : (((nat_le (suc start) next ≡ true) × (suc start ≤ next)) ⊎ ((nat_le (suc start) next ≡ false) × (next < suc start))) → start < next
+    by_next (inl is) = omega (arith, is.1)
+    by_next (inr is) =
+        let o = run.order in let same : next ≡ start = omega (arith, is.1, o) in
+        true_not_false (mark start) (run.starts start-inside) (ap mark (sym same) ∙ run.ends (let s = start-inside in omega (arith, same, s)))
+
+  starts_here : start_at mark start ≡ 1
+  starts_here = start-first mark start (run.starts start-inside) (by_start (leb_tells (suc end) start)) where
+    by_start : (((nat_le (suc end) start ≡ true) × (suc end ≤ start)) ⊎ ((nat_le (suc end) start ≡ false) × (start < suc end))) → (start ≡ 0) ⊎ (mark (start - 1) ≡ false)
+    by_start (inl is) = inr (run.unmarked (start - 1) (omega (arith, is.1)) (omega (arith, is.1)))
+    by_start (inr is) = inl (at_end (leb_tells 1 end)) where
+      at_end : (((nat_le 1 end ≡ true) × (1 ≤ end)) ⊎ ((nat_le 1 end ≡ false) × (end < 1))) → start ≡ 0
+      at_end (inl some) = let apart = run-apart (omega (arith, some.1)) in absurd (omega (arith, is.1, apart))
+      at_end (inr none) = omega (arith, is.1, none.1)
+
+  pub counted-next : starts_below mark next ≡ n + 1
+  counted-next =
+      let s = some-length in
+      let k : start + suc (next - start - 1) ≡ next = omega (arith, s) in
+      let first = starts-next mark start in let one = starts_here in let same = same_starts in
+      ap (starts_below mark) (sym k) ∙ starts-marked mark start (next - start - 1) (subst (AreMarked mark true start) (sym k) run.marked) ∙ omega (arith, first, one, same)
+
+  abbrev pub run_bytes : List ℕ
+  run_bytes = to_be_bytes w16 start ++ to_be_bytes w16 (next - start)
+
+  start_field : field_at run_bytes 0 ≡ start
+  start_field = first-field (to_be_bytes w16 start) (to_be_bytes w16 (next - start)) refl ∙ field-written start (let s = start-inside in omega (arith, s))
+
+  length_field : field_at run_bytes 2 ≡ next - start
+  length_field = second-field (to_be_bytes w16 start) (to_be_bytes w16 (next - start)) refl ∙ field-written (next - start) (let w = run.within in omega (arith, w))
+
+  pub run-written : IsBegun (bytes ++ run_bytes) mark (n + 1) next
+  run-written =
+      let sf = start_field in let lf = length_field in let inside = start-inside in let some = some-length in let w = run.within in
+      let ends : field_at run_bytes 0 + field_at run_bytes 2 ≡ next = omega (arith, sf, lf, some) in record {
+        runs = subst (λ e. HasRuns (bytes ++ run_bytes) (starts_below mark 37_856) (n + 1) e (below mark next)) ends
+            (one-run-more bytes run_bytes (starts_below mark 37_856) n end (below mark end) begun.runs more (below mark next) refl
+            (omega (arith, sf, inside), λ behind. let apart = run-apart (some_end behind) in omega (arith, sf, apart))
+            (omega (arith, lf, some)) (omega (arith, ends, w))
+            (λ place place_below. between mark place end start next run.behind run.order (run.unmarked place) (run.marked place)
+            ∙ ap (λ s. below mark end place || (nat_le s place && nat_lt place next)) (sym sf)
+            ∙ ap (λ e. below mark end place || (nat_le (field_at run_bytes 0) place && nat_lt place e)) (sym ends)));
+        within = w;
+        clear = λ some_next inside_next. run.ends inside_next;
+        counted = counted-next;
+      }
+
+-- ALL RUNS are written.
+pub all-written : (bytes : List ℕ) (mark : ℕ → Bool) (n end : ℕ) → IsBegun bytes mark n end → n ≡ starts_below mark 37_856 → HasRuns bytes n n end mark
+all-written bytes mark n end begun all = record {
+  size = begun.runs.size;
+  number = begun.runs.number ∙ sym all;
+  unbroken = begun.runs.unbroken;
+  none = begun.runs.none;
+  last = begun.runs.last;
+  marks = λ place place_below. by_place place place_below (leb_tells end place) ∙ begun.runs.marks place place_below;
+} where
+  k : end + (37_856 - end) ≡ 37_856
+  k = let w = begun.within in omega arith
+
+  begins : (((nat_le 1 end ≡ true) × (1 ≤ end)) ⊎ ((nat_le 1 end ≡ false) × (end < 1))) → end < 37_856 → (end ≡ 0) ⊎ (mark end ≡ false)
+  begins (inl is) inside = inr (begun.clear (omega (arith, is.1)) inside)
+  begins (inr is) inside = inl (omega (arith, is.1))
+
+  left : (place : ℕ) → end ≤ place → place < 37_856 → mark place ≡ false
+  left place high inside =
+      none_left mark end (37_856 - end) (begins (leb_tells 1 end) (omega arith)) (ap (starts_below mark) k ∙ sym all ∙ sym begun.counted) place high (omega (arith, k))
+
+  by_place : (place : ℕ) → place < 37_856 → (((nat_le end place ≡ true) × (end ≤ place)) ⊎ ((nat_le end place ≡ false) × (place < end))) → mark place ≡ below mark end place
+  by_place place inside (inl is) = let none = left place is.1 inside in let high = is.1 in grind (arith, nat_tests)
+  by_place place inside (inr is) = let near = is.1 in grind (arith, nat_tests)
+
+-- THE NUMBER is written behind the bytes of the rows.
+pub none-written : (rows : List ℕ) (mark : ℕ → Bool) → length rows ≡ 37_856 → IsBegun (rows ++ to_be_bytes w16 (starts_below mark 37_856)) mark 0 0
+unfolding marked_by
+none-written rows mark size =
+    let bytes : List ℕ = rows ++ to_be_bytes w16 (starts_below mark 37_856) in
+    let few = starts-few mark in
+    let number : run_count bytes ≡ starts_below mark 37_856 = field_at-behind rows (to_be_bytes w16 (starts_below mark 37_856)) 37_856 0 (omega (arith, size)) ∙ field-written (starts_below mark 37_856) (omega (arith, few)) in
+    let whole : length bytes ≡ 37_858 = length-append rows (to_be_bytes w16 (starts_below mark 37_856)) ∙ omega (arith, size) in record {
+      runs = record {
+        size = omega (arith, whole);
+        number = number;
+        unbroken = number-unbroken bytes whole (omega (arith, number, few));
+        none = λ is. refl;
+        last = λ some. absurd (omega arith);
+        marks = λ place place_below. none_below place (mark place);
+      };
+      within = omega arith;
+      clear = λ some. absurd (omega arith);
+      counted = starts-none mark;
+    } where
+      none_below : (place : ℕ) (b : Bool) → (b && nat_lt place 0) ≡ false
+      none_below place b = grind (arith, nat_tests)
+
+-- SOME RUNS ARE LEFT to be written: there are bytes for them.
+pub record IsFound (mark : ℕ → Bool) (value : Bool) (from k at : ℕ) : Type 0 where
+  pub least : from ≤ at
+  pub within : at ≤ from + k
+  pub passed : AreMarked mark (not value) from at
+  pub found : at < from + k → mark at ≡ value
+
+other_mark : (value here : Bool) → (here ≡ value) ⊎ (here ≡ not value)
+other_mark true true = inl refl
+other_mark true false = inr refl
+other_mark false true = inr refl
+other_mark false false = inl refl
+
+one_passed : (mark : ℕ → Bool) (value : Bool) (from at place : ℕ) → mark from ≡ not value → AreMarked mark (not value) (suc from) at
+    → from ≤ place → place < at → (((nat_le (suc from) place ≡ true) × (suc from ≤ place)) ⊎ ((nat_le (suc from) place ≡ false) × (place < suc from))) → mark place ≡ not value
+one_passed mark value from at place here rest least inside (inl is) = rest place is.1 inside
+one_passed mark value from at place here rest least inside (inr is) = let same : place ≡ from = omega (arith, is.1, least) in ap mark same ∙ here
+
+further : (mark : ℕ → Bool) (value : Bool) (from k at : ℕ) → (mark from ≡ value) ⊎ (mark from ≡ not value) → IsFound mark value (suc from) k at
+    → (place : ℕ) × IsFound mark value from (suc k) place
+further mark value from k at (inl is) rest = (
+  from,
+  record {
+    least = omega arith;
+    within = omega arith;
+    passed = λ place least inside. absurd (omega arith);
+    found = λ inside. is;
+  },
+)
+further mark value from k at (inr is) rest = (
+  at,
+  record {
+    least = let l = rest.least in omega arith;
+    within = let w = rest.within in omega arith;
+    passed = λ place least inside. one_passed mark value from at place is rest.passed least inside (leb_tells (suc from) place);
+    found = λ inside. rest.found (omega arith);
+  },
+)
+
+find_place : (mark : ℕ → Bool) (value : Bool) (from k : ℕ) → (place : ℕ) × IsFound mark value from k place
+find_place mark value from zero = (
+  from,
+  record {
+    least = omega arith;
+    within = omega arith;
+    passed = λ place least inside. absurd (omega arith);
+    found = λ inside. absurd (omega arith);
+  },
+)
+find_place mark value from (suc k) =
+    let (at, rest) = find_place mark value (suc from) k in further mark value from k at (other_mark value (mark from)) rest
+
+pub record HasRest (bytes : List ℕ) (mark : ℕ → Bool) : Type 0 where
+  pub rest : List ℕ
+  pub count : ℕ
+  pub end : ℕ
+  pub runs : HasRuns (bytes ++ rest) count count end mark
+
+next_run : (mark : ℕ → Bool) (end : ℕ) → end ≤ 37_856 → (start : ℕ) × (next : ℕ) × IsNextRun mark end start next
+next_run mark end within =
+    let (start, found) = find_place mark true end (37_856 - end) in
+    let k : end + (37_856 - end) ≡ 37_856 = omega arith in
+    let (next, found_end) = find_place mark false start (37_856 - start) in
+    let start_within : start ≤ 37_856 = let w = found.within in omega (arith, w, k) in
+    let k_end : start + (37_856 - start) ≡ 37_856 = omega (arith, start_within) in (
+      start,
+      next,
+      record {
+        behind = found.least;
+        order = found_end.least;
+        within = let w = found_end.within in omega (arith, w, k_end);
+        unmarked = found.passed;
+        starts = λ inside. found.found (omega (arith, inside, k));
+        marked = found_end.passed;
+        ends = λ inside. found_end.found (omega (arith, inside, k_end));
+      },
+    )
+
+pub rest-exists : (d : ℕ) (bytes : List ℕ) (mark : ℕ → Bool) (n end : ℕ) → IsBegun bytes mark n end → n + d ≡ starts_below mark 37_856 → HasRest bytes mark
+rest-exists zero bytes mark n end begun all = record {
+  rest = [];
+  count = n;
+  end = end;
+  runs = subst (λ l. HasRuns l n n end mark) (sym (append-nil bytes)) (all-written bytes mark n end begun (omega (arith, all)));
+}
+rest-exists (suc d) bytes mark n end begun all =
+    let (start, next, run) = next_run mark end begun.within in
+    let more : n < starts_below mark 37_856 = omega (arith, all) in
+    let own = run_bytes bytes mark n end start next begun run more in
+    let after = rest-exists d (bytes ++ own) mark (n + 1) next (run-written bytes mark n end start next begun run more) (omega (arith, all)) in record {
+      rest = own ++ after.rest;
+      count = after.count;
+      end = after.end;
+      runs = subst (λ l. HasRuns l after.count after.count after.end mark) (append_assoc bytes own after.rest) after.runs;
+    }
+
+-- WRITING, run by run.
+pub record AreWritten (rows : List ℕ) (mark : ℕ → Bool) (n end : ℕ) (old now : Option (List ℕ)) : Type 0 where
+  pub own : List ℕ
+  pub grows : Appends old now own
+  pub begun : IsBegun (rows ++ own) mark n end
+
+-- a piece of which a front was written, and what is written before and behind it
+pub prefix-behind : (old mid new : Option (List ℕ)) (own piece rest : List ℕ) → Appends old mid own → AppendsPrefix mid new piece → AppendsPrefix old new (own ++ (piece ++ rest))
+prefix-behind old mid new own piece rest before part = record {
+  taken = own ++ part.taken;
+  rest = part.rest ++ rest;
+  grows = Appends-then old mid new own part.taken before part.grows;
+  whole = append_assoc own part.taken (part.rest ++ rest) ∙ ap (λ l. own ++ l) (sym (append_assoc part.taken part.rest rest) ∙ ap (λ l. l ++ rest) part.whole);
+  more = λ none. part.more (front_empty part.rest rest none);
+} where
+  front_empty : (a b : List ℕ) → a ++ b ≡ [] → a ≡ []
+  front_empty [] b none = refl
+  front_empty (x ∷ a) b none = absurd (let size = ap length none in omega (arith, size))
+
+module _ (rows : List ℕ) (mark : ℕ → Bool) (size : length rows ≡ 37_856) (old new : Option (List ℕ)) where
+  -- the number
+  pub number-written : (number : ℕ) → number ≡ starts_below mark 37_856 → Appends old new (to_be_bytes w16 number) → AreWritten rows mark 0 0 old new
+  number-written number is grows = record {
+    own = to_be_bytes w16 number;
+    grows = grows;
+    begun = subst (λ n. IsBegun (rows ++ to_be_bytes w16 n) mark 0 0) (sym is) (none-written rows mark size);
+  }
+
+  pub number-begun : (number : ℕ) → number ≡ starts_below mark 37_856 → AppendsPrefix old new (to_be_bytes w16 number) → AppendsSome rows mark old new
+  number-begun number is part =
+      let after = rest-exists (starts_below mark 37_856) (rows ++ to_be_bytes w16 (starts_below mark 37_856)) mark 0 0 (none-written rows mark size) (omega arith) in record {
+        own = to_be_bytes w16 (starts_below mark 37_856) ++ after.rest;
+        part = prefix-behind old old new [] (to_be_bytes w16 (starts_below mark 37_856)) after.rest (Appends-none old) (subst (λ n. AppendsPrefix old new (to_be_bytes w16 n)) is part);
+        count = after.count;
+        end = after.end;
+        runs = subst (λ l. HasRuns l after.count after.count after.end mark) (append_assoc rows (to_be_bytes w16 (starts_below mark 37_856)) after.rest) after.runs;
+      }
+
+  -- all runs
+  pub runs-written : (n end : ℕ) → n ≡ starts_below mark 37_856 → AreWritten rows mark n end old new → AppendsAll rows mark old new
+  runs-written n end all w = record { own = w.own; grows = w.grows; count = n; end = end; runs = all-written (rows ++ w.own) mark n end w.begun all }
+
+  module _ (mid : Option (List ℕ)) (n end start next : ℕ) (w : AreWritten rows mark n end old mid) (run : IsNextRun mark end start next) (more : n < starts_below mark 37_856) where
+    run_own : List ℕ
+    run_own = to_be_bytes w16 start ++ to_be_bytes w16 (next - start)
+
+    begun_next : IsBegun (rows ++ (w.own ++ run_own)) mark (n + 1) next
+    unfolding run_own
+    begun_next = subst (λ l. IsBegun l mark (n + 1) next) (append_assoc rows w.own run_own) (run-written (rows ++ w.own) mark n end start next w.begun run more)
+
+    -- one run more
+    pub one-more-written : Appends mid new (to_be_bytes w16 start ++ to_be_bytes w16 (next - start)) → AreWritten rows mark (n + 1) next old new
+    unfolding run_own
+    one-more-written grows = record { own = w.own ++ run_own; grows = Appends-then old mid new w.own run_own w.grows grows; begun = begun_next }
+
+    -- or a front of it
+    pub one-more-begun : AppendsPrefix mid new (to_be_bytes w16 start ++ to_be_bytes w16 (next - start)) → AppendsSome rows mark old new
+    unfolding run_own
+    one-more-begun part =
+        let after = rest-exists (starts_below mark 37_856 - (n + 1)) (rows ++ (w.own ++ run_own)) mark (n + 1) next begun_next (omega (arith, more)) in record {
+          own = w.own ++ (run_own ++ after.rest);
+          part = prefix-behind old mid new w.own run_own after.rest w.grows part;
+          count = after.count;
+          end = after.end;
+          runs = subst (λ l. HasRuns l after.count after.count after.end mark)
+              (append_assoc rows (w.own ++ run_own) after.rest ∙ ap (λ l. rows ++ l) (append_assoc w.own run_own after.rest)) after.runs;
+        }
+
+-- THE BYTES OF THE ROWS, and the whole unit.
+module _ (rows : List (List ℕ)) (height : length rows ≡ 208) (widths : (i : ℕ) → i < 208 → length (line rows i) ≡ 182) where
+  wide : All (λ row. length row ≡ 182) rows
+  wide = All-from_get_or (λ row. length row ≡ 182) rows [] (λ i within. widths i (omega (arith, within, height)))
+
+  pub recording_size : length (recording rows) ≡ 37_856
+  recording_size = length-recorded rows height wide 208 (omega arith) ∙ refl
+
+  -- one recorded row more
+  pub row-written : (old mid new : Option (List ℕ)) (m : ℕ) (row : List ℕ) → row ≡ line rows (row_at m) → Appends old mid (recorded 0 m rows) → Appends mid new row
+      → Appends old new (recorded 0 (m + 1) rows)
+  row-written old mid new m row is before grows =
+      let same : 0 + m ≡ m = omega arith in
+      subst (Appends old new) (ap (λ r. recorded 0 m rows ++ r) is ∙ ap (λ k. recorded 0 m rows ++ line rows (row_at k)) (sym same) ∙ sym (recorded-more 0 m rows))
+      (Appends-then old mid new (recorded 0 m rows) row before grows)
+
+  -- or a front of it
+  pub row-begun : (old mid new : Option (List ℕ)) (m : ℕ) (row : List ℕ) → m < 208 → row ≡ line rows (row_at m) → Appends old mid (recorded 0 m rows) → AppendsPrefix mid new row
+      → AppendsPrefix old new (recording rows)
+  row-begun old mid new m row below_all is before part =
+      subst (AppendsPrefix old new) (sym (append_assoc (recorded 0 m rows) (line rows (row_at m)) (recorded (0 + (m + 1)) (207 - m) rows)) ∙ sym (split rows height wide m below_all))
+      (prefix-behind old mid new (recorded 0 m rows) (line rows (row_at m)) (recorded (0 + (m + 1)) (207 - m) rows) before (subst (AppendsPrefix mid new) is part))
+
+  module _ (marks : List (List Bool)) (marks_height : length marks ≡ 208) (marks_widths : (i : ℕ) → i < 208 → length (marks_line marks i) ≡ 182) where
+    pub unit-of : (own : List ℕ) (count end : ℕ) → HasRuns (recording rows ++ own) count count end (mark_of marks) → IsUnitOf rows marks (recording rows ++ own)
+    unit-of own count end runs = record {
+      size = runs.size ∙ ap (λ n. 37_858 + 4 * n) (sym runs.number);
+      lawful = runs.unbroken;
+      rows_are = rows-listed (recording rows) own recording_size ∙ recording_captured rows height wide;
+      marks_are = sym (marks-listed marks (recording rows ++ own) count marks_height marks_widths runs.number runs.marks);
+    }
+
+    -- the rows were written, and all runs
+    pub unit-written : (old mid new : Option (List ℕ)) → Appends old mid (recording rows) → AppendsAll (recording rows) (mark_of marks) mid new → AppendsUnit old new rows marks
+    unit-written old mid new before all = record {
+      unit = recording rows ++ all.own;
+      is_unit = unit-of all.own all.count all.end all.runs;
+      grows = Appends-then old mid new (recording rows) all.own before all.grows;
+    }
+
+    -- or some of them
+    pub runs-begun : (old mid new : Option (List ℕ)) → Appends old mid (recording rows) → AppendsSome (recording rows) (mark_of marks) mid new → AppendsPart old new rows marks
+    runs-begun old mid new before some = record {
+      unit = recording rows ++ some.own;
+      is_unit = unit-of some.own some.count some.end some.runs;
+      part = subst (λ l. AppendsPrefix old new (recording rows ++ l)) (append-nil some.own) (prefix-behind old mid new (recording rows) some.own [] before some.part);
+    }
+
+    -- or a front of the rows
+    pub rows-begun : (old new : Option (List ℕ)) → AppendsPrefix old new (recording rows) → AppendsPart old new rows marks
+    rows-begun old new part =
+        let number = to_be_bytes w16 (starts_below (mark_of marks) 37_856) in
+        let after = rest-exists (starts_below (mark_of marks) 37_856) (recording rows ++ number) (mark_of marks) 0 0 (none-written (recording rows) (mark_of marks) recording_size) (omega arith) in record {
+          unit = recording rows ++ (number ++ after.rest);
+          is_unit = unit-of (number ++ after.rest) after.count after.end (subst (λ l. HasRuns l after.count after.count after.end (mark_of marks)) (append_assoc (recording rows) number after.rest) after.runs);
+          part = prefix-behind old old new [] (recording rows) (number ++ after.rest) (Appends-none old) part;
+        }
+
+-- any rows and marks have a unit
+pub some_spelling : MarksHaveASpelling
+some_spelling rows marks height wide_rows marks_height wide_marks =
+    let widths = λ (i : ℕ) (inside : i < 208). wide_rows i [] (omega arith) in
+    let marks_widths = λ (i : ℕ) (inside : i < 208). wide_marks i [] (omega arith) in
+    let number = to_be_bytes w16 (starts_below (mark_of marks) 37_856) in
+    let begun = none-written (recording rows) (mark_of marks) (recording_size rows height widths) in
+    let after = rest-exists (starts_below (mark_of marks) 37_856) (recording rows ++ number) (mark_of marks) 0 0 begun (omega arith) in (
+      recording rows ++ (number ++ after.rest),
+      unit-of rows height widths marks marks_height marks_widths (number ++ after.rest) after.count after.end
+          (subst (λ l. HasRuns l after.count after.count after.end (mark_of marks)) (append_assoc (recording rows) number after.rest) after.runs),
+    )

@@ -1,0 +1,62 @@
+-- The marks of a block by its places in the order of recording.
+use Rattle.std.proofs.Common.{◌≡◌, ◌≢◌, ◌⊎◌, ◌∙◌, ℕ, ◌+◌, ◌/◌, ◌%◌, ◌<◌, ◌≤◌, ◌==◌, ◌&&◌, ◌||◌, nat_le, nat_lt, Bool, true, false, List, [], length, set, get_or, inl, inr, sym, ap, subst, arith}
+use Rattle.std.proofs.lemmas.Bool.Decides.{eqb_tells, nat_tests}
+use Rattle.std.proofs.lemmas.List.{get_or-set_same, get_or-set_other}
+use Rattle.dvd_block.specs.Recording.{record_at, row_at}
+use Rattle.dvd_capture.specs.Answers.{marks_line}
+use Rattle.dvd_capture.specs.Listed.{mark_of}
+use Rattle.dvd_capture.specs.Parts.{marks_rows}
+use Rattle.dvd_capture.specs.declared.parts.Marks.{Marks}
+use Rattle.dvd_capture.proofs.Fetching.{record_at-row_at, row_at-lt}
+use Rattle.dvd_capture.proofs.MarkLists.{length-marks_of, line-marks}
+
+-- each row has 182 marks
+pub marks-width : (marks : Marks) (i : ℕ) → i < 208 → length (marks_line (marks_rows marks) i) ≡ 182
+marks-width marks i below =
+    ap length (line-marks marks.rows.items i (omega (arith, marks.size, marks.rows.ok.0))) ∙ length-marks_of (get_or marks.rows.items i [])
+
+module _ (marks : List (List Bool)) (place : ℕ) (value : Bool) (height : length marks ≡ 208)
+    (width : length (marks_line marks (row_at (place / 182))) ≡ 182) (below : place < 37_856) where
+  abbrev pub row : ℕ
+  row = row_at (place / 182)
+
+  abbrev pub line_now : List Bool
+  line_now = set (marks_line marks row) (place % 182) value
+
+  row_below : row < length marks
+  row_below = let r : row_at (place / 182) < 208 = row_at-lt (place / 182) (omega arith) in subst (λ n. row < n) (sym height) r
+
+  pub mark-set_same : mark_of (set marks row line_now) place ≡ value
+  mark-set_same =
+      ap (λ (l : List Bool). get_or l (place % 182) false) (get_or-set_same marks row line_now [] row_below)
+      ∙ get_or-set_same (marks_line marks row) (place % 182) value false (omega (arith, width))
+
+  -- another place in the same row
+  in_row : (other : ℕ) → other ≢ place → other / 182 ≡ place / 182 → get_or line_now (other % 182) false ≡ get_or (marks_line marks row) (other % 182) false
+  in_row other apart same =
+      let elsewhere : other % 182 ≢ place % 182 = λ equal. apart (omega (arith, same, equal)) in
+      get_or-set_other (marks_line marks row) (place % 182) (other % 182) value false elsewhere
+
+  by_row : (other : ℕ) → other < 37_856 → other ≢ place
+      → ((((row_at (other / 182) == row) ≡ true) × (row_at (other / 182) ≡ row)) ⊎ (((row_at (other / 182) == row) ≡ false) × (row_at (other / 182) ≢ row)))
+      → mark_of (set marks row line_now) other ≡ mark_of marks other
+  by_row other other_below apart (inl is) =
+      let same : other / 182 ≡ place / 182 = sym (record_at-row_at (other / 182) (omega arith)) ∙ ap record_at is.1 ∙ record_at-row_at (place / 182) (omega arith) in
+      ap (λ (r : ℕ). get_or (get_or (set marks row line_now) r []) (other % 182) false) is.1
+      ∙ ap (λ (l : List Bool). get_or l (other % 182) false) (get_or-set_same marks row line_now [] row_below)
+      ∙ in_row other apart same
+      ∙ sym (ap (λ (r : ℕ). get_or (get_or marks r []) (other % 182) false) is.1)
+  by_row other other_below apart (inr is) =
+      ap (λ (l : List Bool). get_or l (other % 182) false) (get_or-set_other marks row (row_at (other / 182)) line_now [] is.1)
+
+  pub mark-set_other : (other : ℕ) → other < 37_856 → other ≢ place → mark_of (set marks row line_now) other ≡ mark_of marks other
+  mark-set_other other other_below apart = by_row other other_below apart (eqb_tells (row_at (other / 182)) row)
+
+-- one place more of a run is marked
+pub mark-more : (old mid new : ℕ → Bool) (start at place : ℕ) → start ≤ at → mid place ≡ (old place || (nat_le start place && nat_lt place at))
+    → (place ≢ at → new place ≡ mid place) → (place ≡ at → new place ≡ true)
+    → new place ≡ (old place || (nat_le start place && nat_lt place (at + 1)))
+mark-more old mid new start at place order before others same = by_place (eqb_tells place at) where
+  by_place : ((((place == at) ≡ true) × (place ≡ at)) ⊎ (((place == at) ≡ false) × (place ≢ at))) → new place ≡ (old place || (nat_le start place && nat_lt place (at + 1)))
+  by_place (inl is) = let now = same is.1 in grind (arith, nat_tests)
+  by_place (inr is) = let now = others is.1 ∙ before in grind (arith, nat_tests)

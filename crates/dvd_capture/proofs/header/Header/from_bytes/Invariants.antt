@@ -1,0 +1,6 @@
+use Rattle.std.proofs.Common.{◌≡◌, ℕ, ◌<◌, true, slice_index}
+use Rattle.dvd_capture.specs.Header.{may_stand}
+use Rattle.dvd_capture.proofs.header.Header.from_bytes.Given as goal
+
+abbrev pub invariant-loop-at : goal.invariant-loop-at
+invariant-loop-at l = (place : ℕ) → place < l.at → may_stand place (slice_index l.bytes place) ≡ true

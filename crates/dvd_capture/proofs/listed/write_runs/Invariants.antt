@@ -1,0 +1,12 @@
+use Rattle.std.proofs.Common.{◌≡◌, ◌≤◌, ℕ, List, length}
+use Rattle.dvd_capture.specs.Listed.{mark_of}
+use Rattle.dvd_capture.specs.Parts.{marks_rows}
+use Rattle.dvd_capture.proofs.ListedWritten.{AreWritten}
+use Rattle.dvd_capture.proofs.listed.write_runs.Given as goal
+
+abbrev pub invariant-loop-run : goal.invariant-loop-run
+invariant-loop-run g l = record {
+  written : (before : List ℕ) → length before ≡ 37_856 → AreWritten before (mark_of (marks_rows l.marks)) l._run l.end (g.K.Sink.seen l.fn.out).bytes (g.K.Sink.seen l.out).bytes;
+  within : l.end ≤ 37_856;
+  steady : (g.K.Sink.seen l.out).faults ≡ (g.K.Sink.seen l.fn.out).faults;
+}

@@ -1,0 +1,112 @@
+-- Ours: what is known while the fields of a listed unit come or are written one after the other.
+use Rattle.std.specs.Prelude.{◌≡◌, ℕ, ◌+◌, ◌-◌, ◌*◌, ◌<◌, ◌≤◌, ◌==◌, not, Bool, false, ◌&&◌, ◌||◌, if◌then◌else◌, zero, suc, List, ◌++◌, length, Result, Ok, Err}
+use Rattle.std.specs.Io.KnownBytes.{Appends, Consumes, IsAtEnd}
+use Rattle.std.specs.declared.option.Option.{Option}
+use Rattle.dvd_ports.specs.Causes.{Rose}
+use Rattle.dvd_ports.specs.Whole.{AppendsPrefix, ConsumesFewer}
+use Rattle.dvd_capture.specs.Listed.{IsBrokenAt, IsUnbroken, end_of, field_at, listed_size, marked_by, run_count}
+use Rattle.dvd_capture.specs.declared.capture.FetchAnswer.{FetchAnswer}
+use Rattle.dvd_capture.specs.declared.capture.FetchAnswer.TheVariants.{Full, End, Short, ReadFault, BadMarks}
+
+-- These bytes are those of a unit up to its first n runs, and break no rule. The last of these runs ends there, and these marks
+-- are theirs.
+pub record HasRuns (bytes : List ℕ) (count n end : ℕ) (mark : ℕ → Bool) : Type 0 where
+  pub size : length bytes ≡ 37_858 + 4 * n
+  pub number : run_count bytes ≡ count
+  pub unbroken : IsUnbroken bytes
+  pub none : n ≡ 0 → end ≡ 0
+  pub last : 0 < n → end ≡ end_of bytes (n - 1)
+  pub marks : (place : ℕ) → place < 37_856 → mark place ≡ marked_by bytes n place
+
+-- no rule is broken in these bytes, and their unit has more
+pub record IsCut (bytes : List ℕ) : Type 0 where
+  pub fewer : length bytes < listed_size bytes
+  pub unbroken : IsUnbroken bytes
+
+-- why a unit isn't fetched that begins with these bytes, those that were taken of it
+abbrev pub IsStop : List ℕ → Option (List ℕ) → FetchAnswer → Type 0
+IsStop bytes left Full = ⊥
+IsStop bytes left End = ⊥
+IsStop bytes left (Short count) = (count ≡ length bytes) × IsAtEnd left × IsCut bytes
+IsStop bytes left ReadFault = IsCut bytes
+IsStop bytes left (BadMarks at) = IsBrokenAt bytes at
+
+-- behind those bytes more were taken, and the unit isn't fetched
+pub record IsStopped (before : List ℕ) (old new : Option (List ℕ)) (answer : FetchAnswer) : Type 0 where
+  pub own : List ℕ
+  pub taken : Consumes old new own
+  pub stops : IsStop (before ++ own) new answer
+
+-- behind those bytes more were taken, and now there are so many runs
+pub record TakesRuns (before : List ℕ) (count n end : ℕ) (mark : ℕ → Bool) (old new : Option (List ℕ)) : Type 0 where
+  pub own : List ℕ
+  pub taken : Consumes old new own
+  pub runs : HasRuns (before ++ own) count n end mark
+
+-- behind those bytes of rows more were taken or written, to the last run of their unit
+pub record TakesAll (before : List ℕ) (mark : ℕ → Bool) (old new : Option (List ℕ)) : Type 0 where
+  pub count : ℕ
+  pub end : ℕ
+  pub takes : TakesRuns before count count end mark old new
+
+-- what is answered behind the bytes of rows
+abbrev pub IsFetched : List ℕ → (ℕ → Bool) → Option (List ℕ) → Option (List ℕ) → FetchAnswer → Type 0
+IsFetched before mark old new Full = TakesAll before mark old new
+IsFetched before mark old new End = ⊥
+IsFetched before mark old new (Short count) = IsStopped before old new (Short count)
+IsFetched before mark old new ReadFault = IsStopped before old new ReadFault
+IsFetched before mark old new (BadMarks at) = IsStopped before old new (BadMarks at)
+
+pub record AppendsAll (before : List ℕ) (mark : ℕ → Bool) (old new : Option (List ℕ)) : Type 0 where
+  pub own : List ℕ
+  pub grows : Appends old new own
+  pub count : ℕ
+  pub end : ℕ
+  pub runs : HasRuns (before ++ own) count count end mark
+
+pub record AppendsSome (before : List ℕ) (mark : ℕ → Bool) (old new : Option (List ℕ)) : Type 0 where
+  pub own : List ℕ
+  pub part : AppendsPrefix old new own
+  pub count : ℕ
+  pub end : ℕ
+  pub runs : HasRuns (before ++ own) count count end mark
+
+-- a field was taken behind so many bytes of a unit, or the source failed or ended within it
+pub record TakesField (old new : Option (List ℕ)) (value : ℕ) : Type 0 where
+  pub own : List ℕ
+  pub size : length own ≡ 2
+  pub taken : Consumes old new own
+  pub is : field_at own 0 ≡ value
+
+pub record EndsInField (held : ℕ) (old new : Option (List ℕ)) (count : ℕ) : Type 0 where
+  pub own : List ℕ
+  pub fewer : length own < 2
+  pub taken : Consumes old new own
+  pub is : count ≡ held + length own
+  pub at_end : IsAtEnd new
+
+abbrev pub IsNoField : ℕ → Option (List ℕ) → Option (List ℕ) → FetchAnswer → Type 0
+IsNoField held old new Full = ⊥
+IsNoField held old new End = ⊥
+IsNoField held old new (Short count) = EndsInField held old new count
+IsNoField held old new ReadFault = ConsumesFewer old new 2
+IsNoField held old new (BadMarks at) = ⊥
+
+-- a read failed only where the count of faults rose, and else it stays
+abbrev pub HasFetchCause : {A : Type 0} → Result A FetchAnswer → ℕ → ℕ → Type 0
+HasFetchCause (Ok value) old new = new ≡ old
+HasFetchCause (Err ReadFault) old new = Rose old new
+HasFetchCause (Err other) old new = new ≡ old
+
+-- how many runs start below place n: at each marked place with none marked before it
+unfoldable pub starts_below : (ℕ → Bool) → ℕ → ℕ
+starts_below mark zero = 0
+starts_below mark (suc n) = starts_below mark n + (if mark n && ((n == 0) || not (mark (n - 1))) then 1 else 0)
+
+-- from a place on each place below another has this mark
+abbrev pub AreMarked : (ℕ → Bool) → Bool → ℕ → ℕ → Type 0
+AreMarked mark value from to = (place : ℕ) → from ≤ place → place < to → mark place ≡ value
+
+-- these bytes are those of the rows, and no place is marked yet
+abbrev pub AreRows : List ℕ → (ℕ → Bool) → Type 0
+AreRows before mark = (length before ≡ 37_856) × AreMarked mark false 0 37_856

@@ -1,0 +1,225 @@
+//! Blocks in the listed form: the bytes of the plain form, and behind them fields of two bytes, the number of runs of marked
+//! places and each run's start and length.
+ghost use Rattle.std.specs.Prelude.{◌≡◌, ◌≢◌, ℕ, ◌+◌, ◌*◌, ◌<◌, ◌≤◌, ◌⊎◌, true, false, List, ◌++◌, length, IfOk, IfErr, OnOk, OnErr};
+ghost use Rattle.std.specs.Io.KnownBytes.{Appends, Consumes};
+ghost use Rattle.std.specs.Int.{to_be_bytes, w16};
+ghost use Rattle.dvd_block.specs.Product.{line};
+ghost use Rattle.dvd_block.specs.Recording.{recording};
+ghost use Rattle.dvd_ports.specs.Causes.{HasCause, Rose};
+ghost use Rattle.dvd_ports.specs.Whole.{AppendsPrefix};
+ghost use Rattle.dvd_capture.specs.Captured.{BreaksAt, Captures, EndsAfter, FailsWithin};
+ghost use Rattle.dvd_capture.specs.Listed.{mark_of, run_count};
+ghost use Rattle.dvd_capture.specs.Listing.{AppendsPart, AppendsUnit};
+ghost use Rattle.dvd_capture.specs.Inner.Listing.{AppendsAll, AppendsSome, AreRows, HasFetchCause, HasRuns, IsFetched, IsNoField, IsStopped, TakesAll, TakesField, TakesRuns};
+ghost use Rattle.dvd_capture.specs.Parts.{marks_rows, received_rows};
+ghost use Rattle.dvd_capture.specs.Rule.{HasBlock};
+ghost use Rattle.dvd_capture.specs.Works.{marks_of_work, rows_of, stage_of};
+ghost use Rattle.dvd_capture.specs.declared.capture.FetchAnswer.TheVariants.{Full, End, Short, ReadFault, BadMarks};
+ghost use Rattle.dvd_capture.specs.declared.form.Form.TheVariants.{Plain, Listed};
+
+use crate::capture::{FetchAnswer, fetch_rows};
+use crate::form::Form;
+use crate::parts::{Marks, Received};
+use crate::places::{PLACES, count_runs, mark_places, next_place};
+use crate::work::Work;
+use dvd_block::row_of_record;
+use dvd_ports::{Failed, Sink, Source, WriteFault, read_whole, write_whole};
+
+// The most runs that a block has: every other place is marked.
+const MOST_RUNS: usize = 18_928;
+
+/// Writes the unit of the received rows and marks. After a fault a prefix of it was taken.
+pub fn write_listed<K: Sink>(work: &Work, out: &mut K) -> Result<(), WriteFault>
+    requires { HasBlock (stage_of work.now) }
+    ensures written { OnOk result (AppendsUnit (K.seen out.old).bytes (K.seen out.new).bytes (rows_of work.now) (marks_of_work work.now)) }
+    ensures begun { OnErr result (AppendsPart (K.seen out.old).bytes (K.seen out.new).bytes (rows_of work.now) (marks_of_work work.now)) }
+    ensures cause { HasCause (K.seen out.old).faults (K.seen out.new).faults result }
+{
+    see_rows(&work.received);
+    write_rows(&work.received, out)?;
+    write_runs(&work.marks, out)
+}
+
+// Each received row has 182 bytes, which is known of those that were looked at.
+fn see_rows(received: &Received)
+    ensures { (i : ℕ) → i < 208 → length (line (received_rows received.now) i) ≡ 182 }
+{
+    for i in 0..208 {
+        let _first = received.row(i)[0];
+    }
+}
+
+// Writes the 208 recorded rows.
+fn write_rows<K: Sink>(received: &Received, out: &mut K) -> Result<(), WriteFault>
+    requires { (i : ℕ) → i < 208 → length (line (received_rows received.now) i) ≡ 182 }
+    ensures written { OnOk result (Appends (K.seen out.old).bytes (K.seen out.new).bytes (recording (received_rows received.now))) }
+    ensures begun { OnErr result (AppendsPrefix (K.seen out.old).bytes (K.seen out.new).bytes (recording (received_rows received.now))) }
+    ensures cause { HasCause (K.seen out.old).faults (K.seen out.new).faults result }
+{
+    for m in 0..208 {
+        write_whole(out, received.row(row_of_record(m)))?;
+    }
+    Ok(())
+}
+
+// Writes the number of runs and then each run, behind the bytes of the rows.
+fn write_runs<K: Sink>(marks: &Marks, out: &mut K) -> Result<(), WriteFault>
+    ensures written { (before : List ℕ) → length before ≡ 37_856
+        → OnOk result (AppendsAll before (mark_of (marks_rows marks.now)) (K.seen out.old).bytes (K.seen out.new).bytes) }
+    ensures begun { (before : List ℕ) → length before ≡ 37_856
+        → OnErr result (AppendsSome before (mark_of (marks_rows marks.now)) (K.seen out.old).bytes (K.seen out.new).bytes) }
+    ensures cause { HasCause (K.seen out.old).faults (K.seen out.new).faults result }
+{
+    let number = count_runs(marks);
+    write_field(out, number)?;
+    let mut end = 0;
+    for _run in 0..number {
+        let start = next_place(marks, end, true);
+        end = next_place(marks, start, false);
+        write_run(out, start, end - start)?;
+    }
+    Ok(())
+}
+
+// Writes a run.
+fn write_run<K: Sink>(out: &mut K, start: usize, length: usize) -> Result<(), WriteFault>
+    requires start { start ≤ 37_856 }
+    requires length { length ≤ 37_856 }
+    ensures written { OnOk result (Appends (K.seen out.old).bytes (K.seen out.new).bytes (to_be_bytes w16 start ++ to_be_bytes w16 length)) }
+    ensures begun { OnErr result (AppendsPrefix (K.seen out.old).bytes (K.seen out.new).bytes (to_be_bytes w16 start ++ to_be_bytes w16 length)) }
+    ensures cause { HasCause (K.seen out.old).faults (K.seen out.new).faults result }
+{
+    let [start1, start0] = (start as u16).to_be_bytes();
+    let [length1, length0] = (length as u16).to_be_bytes();
+    write_whole(out, &[start1, start0, length1, length0])
+}
+
+// Writes a field.
+fn write_field<K: Sink>(out: &mut K, value: usize) -> Result<(), WriteFault>
+    requires { value ≤ 37_856 }
+    ensures written { OnOk result (Appends (K.seen out.old).bytes (K.seen out.new).bytes (to_be_bytes w16 value)) }
+    ensures begun { OnErr result (AppendsPrefix (K.seen out.old).bytes (K.seen out.new).bytes (to_be_bytes w16 value)) }
+    ensures cause { HasCause (K.seen out.old).faults (K.seen out.new).faults result }
+{
+    write_whole(out, &(value as u16).to_be_bytes())
+}
+
+/// Reads a unit into its buffers.
+pub(crate) fn fetch_listed<S: Source>(
+    src: &mut S,
+    received: &mut Received,
+    marks: &mut Marks,
+) -> FetchAnswer
+    ensures full { result ≡ Full → Captures Listed (S.seen src.old).bytes (S.seen src.new).bytes (received_rows received.new) (marks_rows marks.new) }
+    ensures end { result ≡ End → EndsAfter Listed (S.seen src.old).bytes (S.seen src.new).bytes 0 }
+    ensures short { (count : ℕ) → result ≡ Short count → (0 < count) × EndsAfter Listed (S.seen src.old).bytes (S.seen src.new).bytes count }
+    ensures fault { result ≡ ReadFault → FailsWithin Listed (S.seen src.old).bytes (S.seen src.new).bytes }
+    ensures broken { (at : ℕ) → result ≡ BadMarks at → BreaksAt Listed (S.seen src.old).bytes (S.seen src.new).bytes at }
+    ensures cause { result ≡ ReadFault → Rose (S.seen src.old).faults (S.seen src.new).faults }
+    ensures steady { result ≢ ReadFault → (S.seen src.new).faults ≡ (S.seen src.old).faults }
+    ensures later { (S.seen src.old).faults ≤ (S.seen src.new).faults }
+{
+    match fetch_rows(src, Form::Plain, received, marks) {
+        FetchAnswer::Full => fetch_marks(src, marks),
+        other => other,
+    }
+}
+
+// Reads the number of runs and then each run, behind the bytes of the rows.
+fn fetch_marks<S: Source>(src: &mut S, marks: &mut Marks) -> FetchAnswer
+    ensures fetched { (before : List ℕ) → AreRows before (mark_of (marks_rows marks.old))
+        → IsFetched before (mark_of (marks_rows marks.new)) (S.seen src.old).bytes (S.seen src.new).bytes result }
+    ensures cause { result ≡ ReadFault → Rose (S.seen src.old).faults (S.seen src.new).faults }
+    ensures steady { result ≢ ReadFault → (S.seen src.new).faults ≡ (S.seen src.old).faults }
+    ensures later { (S.seen src.old).faults ≤ (S.seen src.new).faults }
+{
+    match fetch_runs(src, marks) {
+        Ok(()) => FetchAnswer::Full,
+        Err(answer) => answer,
+    }
+}
+
+// As `fetch_marks`; `Ok` is the whole list.
+fn fetch_runs<S: Source>(src: &mut S, marks: &mut Marks) -> Result<(), FetchAnswer>
+    ensures all { (before : List ℕ) → AreRows before (mark_of (marks_rows marks.old))
+        → OnOk result (TakesAll before (mark_of (marks_rows marks.new)) (S.seen src.old).bytes (S.seen src.new).bytes) }
+    ensures stopped { (before : List ℕ) → AreRows before (mark_of (marks_rows marks.old))
+        → IfErr result (IsStopped before (S.seen src.old).bytes (S.seen src.new).bytes) }
+    ensures cause { HasFetchCause result (S.seen src.old).faults (S.seen src.new).faults }
+    ensures later { (S.seen src.old).faults ≤ (S.seen src.new).faults }
+{
+    let number = fetch_field(src, PLACES)?;
+    if number > MOST_RUNS {
+        return Err(FetchAnswer::BadMarks { at: PLACES as u32 });
+    }
+    let mut end = 0;
+    for i in 0..number {
+        end = fetch_run(src, marks, i, end)?;
+    }
+    Ok(())
+}
+
+// Reads run `i`, where the one before ended there, and marks its places. Answers where it ends.
+fn fetch_run<S: Source>(
+    src: &mut S,
+    marks: &mut Marks,
+    i: usize,
+    end: usize,
+) -> Result<usize, FetchAnswer>
+    requires { i < 18_928 }
+    ensures run { (before : List ℕ) (count : ℕ) → i < count → HasRuns before count i end (mark_of (marks_rows marks.old))
+        → IfOk result (λ next. TakesRuns before count (i + 1) next (mark_of (marks_rows marks.new)) (S.seen src.old).bytes (S.seen src.new).bytes) }
+    ensures stopped { (before : List ℕ) (count : ℕ) → i < count → HasRuns before count i end (mark_of (marks_rows marks.old))
+        → IfErr result (IsStopped before (S.seen src.old).bytes (S.seen src.new).bytes) }
+    ensures cause { HasFetchCause result (S.seen src.old).faults (S.seen src.new).faults }
+    ensures later { (S.seen src.old).faults ≤ (S.seen src.new).faults }
+{
+    let at = PLACES + 2 + 4 * i;
+    let start = fetch_field(src, at)?;
+    if breaks_start(i, start, end) {
+        return Err(FetchAnswer::BadMarks { at: at as u32 });
+    }
+    let length = fetch_field(src, at + 2)?;
+    if breaks_length(start, length) {
+        return Err(FetchAnswer::BadMarks { at: at as u32 + 2 });
+    }
+    mark_places(marks, start, start + length);
+    Ok(start + length)
+}
+
+// Whether run `i` may not start there, where the one before ended there.
+fn breaks_start(i: usize, start: usize, end: usize) -> bool
+    ensures breaks { result ≡ true → (37_856 ≤ start) ⊎ ((0 < i) × (start ≤ end)) }
+    ensures lawful { result ≡ false → (start < 37_856) × (0 < i → end < start) }
+{
+    start >= PLACES || (i > 0 && start <= end)
+}
+
+// Whether a run that starts there may not have this length.
+fn breaks_length(start: usize, length: usize) -> bool
+    requires start { start < 37_856 }
+    requires length { length < 65_536 }
+    ensures breaks { result ≡ true → (length ≡ 0) ⊎ (37_856 < start + length) }
+    ensures lawful { result ≡ false → (0 < length) × (start + length ≤ 37_856) }
+{
+    length == 0 || start + length > PLACES
+}
+
+// Reads a field, before which so many bytes of the unit were taken.
+fn fetch_field<S: Source>(src: &mut S, held: usize) -> Result<usize, FetchAnswer>
+    requires { held ≤ 200_000 }
+    ensures field { IfOk result (TakesField (S.seen src.old).bytes (S.seen src.new).bytes) }
+    ensures small { IfOk result (λ value. value < 65_536) }
+    ensures stopped { IfErr result (IsNoField held (S.seen src.old).bytes (S.seen src.new).bytes) }
+    ensures cause { HasFetchCause result (S.seen src.old).faults (S.seen src.new).faults }
+    ensures later { (S.seen src.old).faults ≤ (S.seen src.new).faults }
+{
+    let mut bytes = [0; 2];
+    match read_whole(src, &mut bytes) {
+        Ok(2) => Ok(usize::from(u16::from_be_bytes(bytes))),
+        Ok(count) => Err(FetchAnswer::Short {
+            bytes: (held + count) as u32,
+        }),
+        Err(Failed) => Err(FetchAnswer::ReadFault),
+    }
+}
