@@ -9,9 +9,10 @@ use Rattle.rs_decode.proofs.Nearest.{vanishing-codeword}
 use Rattle.dvd_capture.specs.Answers.{AreAnswers, marks_line}
 use Rattle.dvd_capture.specs.declared.parts.AnswerRow.{AnswerRow}
 use Rattle.dvd_block.specs.Product.{line}
-use Rattle.dvd_read.specs.Standing.{AreCodewords}
+use Rattle.dvd_read.specs.Inner.Standing.{AreCodewords}
 use Rattle.dvd_read.proofs.RowAnswers.{answer_word-is}
 
+-- what is found is the first element, which passes, or was found among the others
 step-passes : {X : Type 0} (p : X → Bool) (y x : X) (rest : Option X) (b : Bool) → p y ≡ b → (rest ≡ Some x → p x ≡ true)
     → cond b (Some y) rest ≡ Some x → p x ≡ true
 step-passes p y x rest true is later found = let same : y ≡ x = cc in subst (λ z. p z ≡ true) same is
@@ -22,10 +23,12 @@ find-passes : {X : Type 0} (p : X → Bool) (xs : List X) (x : X) → find p xs 
 find-passes p [] x found = cc
 find-passes p (y ∷ xs) x found = step-passes p y x (find p xs) (p y) refl (find-passes p xs x) found
 
+-- where a conjunction is true, both its parts are
 both : (a b : Bool) → (a && b) ≡ true → (a ≡ true) × (b ≡ true)
 both true b is = (refl, is)
 both false b is = cc
 
+-- a word that passes the test of nearness is a codeword
 codeword-passes : (n r : ℕ) (received word : List ℕ) (marks : List Bool) → is_near n r received marks word ≡ true → IsCodeword n r word
 unfolding is_near
 codeword-passes n r received word marks passes =
@@ -35,6 +38,7 @@ codeword-passes n r received word marks passes =
     vanishing-codeword n r word (eqb-true _ _ sized.0)
     (λ k d within. ltb-true _ _ (AllPass-from_list_all (λ byte. nat_lt byte 256) word sized.1 k d within)) vanishing.1
 
+-- the near codeword that is found is a codeword
 pub near_of-codeword : (n r : ℕ) (received word : List ℕ) (marks : List Bool) → near_of n r received marks ≡ Some word → IsCodeword n r word
 unfolding near_of
 near_of-codeword n r received word marks found =

@@ -13,7 +13,7 @@ use Rattle.dvd_capture.specs.TwoPass.{answer_column, byte_at, column_answer, fro
 use Rattle.dvd_capture.specs.declared.parts.AnswerRow.{AnswerRow}
 use Rattle.dvd_capture.specs.declared.parts.ColumnAnswer.{ColumnAnswer}
 use Rattle.dvd_capture.proofs.Columns.{from_columns-line}
-use Rattle.dvd_read.specs.Found.{answer_word, column_word, words_of}
+use Rattle.dvd_read.specs.Inner.Found.{answer_word, column_word, words_of}
 use Rattle.dvd_read.proofs.Positions.{first_passes, none_passes}
 use Rattle.dvd_read.proofs.RowAnswers.{blank_answer}
 
@@ -21,6 +21,7 @@ use Rattle.dvd_read.proofs.RowAnswers.{blank_answer}
 abbrev pub IsReadBefore : List AnswerRow → ℕ → List ℕ → ℕ → Type 0
 IsReadBefore answers j word i = (k : ℕ) (d : AnswerRow) → k < i → get_or word k 0 ≡ byte_at j (answer_word (get_or answers k d))
 
+-- once all rows are read, it is the column of the answers
 pub column_read : (answers : List AnswerRow) (j : ℕ) (word : List ℕ) → length answers ≡ 208 → length word ≡ 208 → IsReadBefore answers j word 208
     → word ≡ answer_column (map answer_word answers) j
 unfolding answer_column
@@ -43,6 +44,7 @@ blank_column = record { bytes = []; answered = false }
 abbrev pub IsRowBefore : List ColumnAnswer → ℕ → List ℕ → ℕ → Type 0
 IsRowBefore columns i row j = (k : ℕ) (d : ColumnAnswer) → k < j → get_or row k 0 ≡ slice_index (get_or columns k d).bytes i
 
+-- once all places are read, it is the row of the columns' words
 pub row_read : (columns : List ColumnAnswer) (i : ℕ) (row : List ℕ) → i < 208 → length columns ≡ 182 → length row ≡ 182 → IsRowBefore columns i row 182
     → row ≡ line (from_columns (words_of columns)) i
 row_read columns i row below size row_size read =
@@ -62,6 +64,7 @@ row_read columns i row below size row_size read =
 abbrev pub AreColumnsBefore : List (Option (List ℕ)) → List ColumnAnswer → ℕ → Type 0
 AreColumnsBefore answers columns j = (k : ℕ) (d : ColumnAnswer) → k < j → column_word (get_or columns k d) ≡ column_answer answers k
 
+-- one column more is answered
 pub columns-next : (answers : List (Option (List ℕ))) (columns : List ColumnAnswer) (j : ℕ) (column : ColumnAnswer) → j < length columns
     → AreColumnsBefore answers columns j → column_word column ≡ column_answer answers j → AreColumnsBefore answers (set columns j column) (j + 1)
 columns-next answers columns j column within before here k d below = elim (cases_eq k j) [
@@ -86,6 +89,7 @@ missing_first columns j within before here =
     first_passes (λ (column : ColumnAnswer). not column.answered) columns j blank_column within
     (λ k below. ap not (before k blank_column below)) (ap not here)
 
+-- and nowhere where all columns are answered
 pub missing_none : (columns : List ColumnAnswer) → ((k : ℕ) (d : ColumnAnswer) → k < length columns → (get_or columns k d).answered ≡ true)
     → position (λ (column : ColumnAnswer). not column.answered) columns ≡ None
 missing_none columns all = none_passes (λ (column : ColumnAnswer). not column.answered) columns blank_column (λ k within. ap not (all k blank_column within))
@@ -96,6 +100,7 @@ pub wrong_first : (block : List (List ℕ)) (i : ℕ) → i < length block → (
 wrong_first block i within before here =
     first_passes (λ row. not (vanishes_at_all 10 row)) block i [] within (λ k below. ap not (before k below)) (ap not here)
 
+-- and none where all rows vanish
 pub wrong_none : (block : List (List ℕ)) → ((k : ℕ) → k < length block → vanishes_at_all 10 (line block k) ≡ true)
     → position (λ row. not (vanishes_at_all 10 row)) block ≡ None
 wrong_none block all = none_passes (λ row. not (vanishes_at_all 10 row)) block [] (λ k within. ap not (all k within))

@@ -7,6 +7,7 @@ use Rattle.std.proofs.lemmas.List.{length-take-le}
 use Rattle.dvd_block.specs.Product.{line}
 use Rattle.dvd_read.specs.Found.{block_differences, differences}
 
+-- one byte more at the end of both words counts where the two bytes differ
 differences-push : (xs ys : List ℕ) (x y : ℕ) → length xs ≡ length ys → differences (xs ++ x ∷ []) (ys ++ y ∷ []) ≡ differences xs ys + cond (nat_eq x y) 0 1
 unfolding differences
 differences-push [] [] x y size = omega arith
@@ -16,10 +17,12 @@ differences-push (a ∷ xs) (b ∷ ys) x y size =
     let rest : differences (xs ++ x ∷ []) (ys ++ y ∷ []) ≡ differences xs ys + cond (nat_eq x y) 0 1 = differences-push xs ys x y (omega arith) in
     omega arith
 
+-- the flag that two bytes differ, as a number, is 0 where they are equal and 1 elsewhere
 as_number : (same : Bool) → bool_byte (not same) ≡ cond same 0 1
 as_number true = refl
 as_number false = refl
 
+-- one place counts at most one
 at_most_one : (same : Bool) → cond same 0 1 ≤ 1
 at_most_one true = omega arith
 at_most_one false = omega arith
@@ -32,9 +35,11 @@ differences-next xs ys i count within_x within_y counted =
     rw (add-one, take-suc xs i 0 within_x, take-suc ys i 0 within_y, differences-push (take i xs) (take i ys) (get_or xs i 0) (get_or ys i 0) sizes)
     (omega (arith, counted, as_number (nat_eq (get_or xs i 0) (get_or ys i 0))))
 
+-- after i + 1 places at most as many are counted
 pub differences-few : (x y i count : ℕ) → count ≤ i → count + bool_byte (not (nat_eq x y)) ≤ i + 1
 differences-few x y i count few = omega (arith, few, as_number (nat_eq x y), at_most_one (nat_eq x y))
 
+-- one row more at the end of both blocks adds its differences
 block_differences-push : (xs ys : List (List ℕ)) (x y : List ℕ) → length xs ≡ length ys → block_differences (xs ++ x ∷ []) (ys ++ y ∷ []) ≡ block_differences xs ys + differences x y
 unfolding block_differences
 block_differences-push [] [] x y size = omega arith
@@ -52,14 +57,17 @@ block_differences-next xs ys i count more within_x within_y counted row =
     rw (add-one, take-suc xs i [] within_x, take-suc ys i [] within_y, block_differences-push (take i xs) (take i ys) (line xs i) (line ys i) sizes)
     (omega (arith, counted, row))
 
+-- empty words differ nowhere
 pub differences-none : differences [] [] ≡ 0
 unfolding differences
 differences-none = refl
 
+-- blocks without rows differ nowhere
 pub block_differences-none : block_differences [] [] ≡ 0
 unfolding block_differences
 block_differences-none = refl
 
+-- where no difference is counted the first bytes are equal
 same-head : (x y rest : ℕ) → (if x == y then 0 else 1) + rest ≡ 0 → x ≡ y
 same-head x y rest none = grind (arith, nat_tests)
 
@@ -74,6 +82,7 @@ words-same (x ∷ xs) (y ∷ ys) size none =
     let rest : xs ≡ ys = words-same xs ys (omega arith) (omega (arith, none)) in
     cc
 
+-- of blocks that differ nowhere no row differs
 lines-same : (xs ys : List (List ℕ)) (i : ℕ) → block_differences xs ys ≡ 0 → i < length xs → i < length ys → differences (line xs i) (line ys i) ≡ 0
 unfolding block_differences
 lines-same [] ys i none within other = absurd (omega arith)

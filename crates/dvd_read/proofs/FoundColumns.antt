@@ -8,12 +8,14 @@ use Rattle.rs_decode.specs.Filling.{marked}
 use Rattle.dvd_capture.specs.TwoPass.{AgreesWith, failed_of, from_columns}
 use Rattle.dvd_capture.specs.declared.parts.ColumnAnswer.{ColumnAnswer}
 use Rattle.dvd_read.specs.Causes.{two_pass_cause}
-use Rattle.dvd_read.specs.Found.{AreColumns, block_found, column_word, columns_of, words_of}
+use Rattle.dvd_read.specs.Found.{block_found, columns_of}
+use Rattle.dvd_read.specs.Inner.Found.{AreColumns, column_word, words_of}
 use Rattle.dvd_read.specs.declared.cause.Cause.TheVariants.{Column, Row}
 use Rattle.dvd_read.proofs.ColumnAnswers.{blank_column}
 use Rattle.dvd_read.proofs.Outcomes.{missing_column, get_or-columns_of, length-columns_of, column_cause, row_cause, fixed-agrees}
 use Rattle.dvd_read.proofs.Positions.{none_fails}
 
+-- the columns that the code answered, as words, are those of the second pass
 answers-are : (answers : List (Option (List ℕ))) (columns : List ColumnAnswer) → length columns ≡ 182 → AreColumns answers columns → map column_word columns ≡ columns_of answers
 answers-are answers columns size are =
     ext_get_or None (map column_word columns) (columns_of answers) (length-map columns column_word ∙ size ∙ sym (length-columns_of answers))
@@ -27,6 +29,7 @@ prefix_len-map : {X Y : Type 0} (p : Y → Bool) (q : X → Bool) (f : X → Y) 
 prefix_len-map p q f [] same = refl
 prefix_len-map p q f (x ∷ xs) same = rw (same x, prefix_len-map p q f xs same) refl
 
+-- a column has no word where its flag isn't set
 unanswered-by : (flag : Bool) (bytes : List ℕ) → is_none (cond flag (Some bytes) None) ≡ not flag
 unanswered-by true bytes = refl
 unanswered-by false bytes = refl
@@ -44,6 +47,7 @@ missing-is answers columns size are =
         → prefix_len (λ x. not (p x)) xs ≡ prefix_len (λ y. not (q y)) ys → position p xs ≡ position q ys
     position-by p q xs ys sizes lengths = rw (sizes, lengths) refl
 
+-- a column whose flag is set has its bytes as its word
 word-by : (flag : Bool) (bytes : List ℕ) → flag ≡ true → bytes ≡ unwrap_or (cond flag (Some bytes) None) []
 word-by true bytes is = refl
 word-by false bytes is = cc
@@ -71,10 +75,12 @@ words-found answers columns size are none =
     unnot true is = refl
     unnot false is = sym is
 
+-- where at most sixteen rows failed, the first column without an answer is the cause
 pub column_refused : (answers : List (Option (List ℕ))) (columns : List ColumnAnswer) (j : ℕ) → length columns ≡ 182 → AreColumns answers columns
     → marked (failed_of answers) ≤ 16 → position (λ (column : ColumnAnswer). not column.answered) columns ≡ Some j → two_pass_cause answers ≡ Some (Column j)
 column_refused answers columns j size are few first = column_cause answers j few (sym (missing-is answers columns size are) ∙ first)
 
+-- where all columns are answered, the first row that isn't a codeword is the cause
 pub row_refused : (answers : List (Option (List ℕ))) (columns : List ColumnAnswer) (i : ℕ) → length columns ≡ 182 → AreColumns answers columns
     → marked (failed_of answers) ≤ 16 → position (λ (column : ColumnAnswer). not column.answered) columns ≡ None
     → position (λ row. not (vanishes_at_all 10 row)) (from_columns (words_of columns)) ≡ Some i → two_pass_cause answers ≡ Some (Row i)
@@ -82,6 +88,7 @@ row_refused answers columns i size are few none first =
     row_cause answers i few (sym (missing-is answers columns size are) ∙ none)
     (ap (position (λ row. not (vanishes_at_all 10 row))) (sym (words-found answers columns size are none)) ∙ first)
 
+-- where all columns are answered and all rows vanish, there is no cause, and the block found agrees
 pub block_accepted : (answers : List (Option (List ℕ))) (columns : List ColumnAnswer) → length answers ≡ 208 → length columns ≡ 182 → AreColumns answers columns
     → marked (failed_of answers) ≤ 16 → position (λ (column : ColumnAnswer). not column.answered) columns ≡ None
     → position (λ row. not (vanishes_at_all 10 row)) (from_columns (words_of columns)) ≡ None

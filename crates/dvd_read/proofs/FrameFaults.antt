@@ -13,6 +13,7 @@ use Rattle.dvd_frame.specs.declared.reading.FrameCause.{FrameCause}
 use Rattle.dvd_frame.specs.declared.scrambling.Rule.{Rule}
 use Rattle.dvd_layout.specs.declared.entry.BlockPlan.{BlockPlan}
 use Rattle.dvd_layout.specs.Place.{rule_for}
+use Rattle.dvd_read.specs.declared.cause.Cause.{Cause}
 use Rattle.dvd_read.specs.Frames.{cause_in, fault_at, frame_of, frames_cause, main_data, wanted_word}
 
 -- places 0 to 171 of the first n rows of frame f
@@ -26,6 +27,7 @@ flat_map-next h n =
     sym (map-id (range_with_len 0 (n + 1))) ∙ map-range_with_len_more (λ k. k) 0 n n (omega arith) ∙ ap (λ l. l ++ n ∷ []) (map-id (range_with_len 0 n)) in
     ap (flat_map h) more ∙ flat_map-append h (range_with_len 0 n) (n ∷ []) ∙ ap (λ l. flat_map h (range_with_len 0 n) ++ l) (append-nil (h n))
 
+-- the front of one row more comes behind the others
 pub fronts-more : (block : List (List ℕ)) (f q : ℕ) → fronts block f (q + 1) ≡ fronts block f q ++ take 172 (line block (12 * f + q))
 fronts-more block f q = flat_map-next (λ q. take 172 (line block (12 * f + q))) q
 
@@ -36,6 +38,7 @@ fronts-next block f q old new row put front is =
     let size : 172 * (q + 1) ≡ 172 * q + 172 = omega arith in
     rw (size, fronts-more block f q) (put ∙ ap (λ (l : List ℕ). l ++ take 172 row) front ∙ ap (λ (r : List ℕ). fronts block f q ++ take 172 r) is)
 
+-- a list of 2,064 bytes that are the fronts of all twelve rows is the frame
 pub fronts-all : (block : List (List ℕ)) (f : ℕ) (frame : List ℕ) → length frame ≡ 2064 → take (172 * 12) frame ≡ fronts block f 12 → frame ≡ frame_of block f
 unfolding frame_of
 fronts-all block f frame size front = sym (take_all 2064 frame (omega arith)) ∙ front
@@ -48,6 +51,7 @@ width-next block f q row is width before k below = elim (cases_eq k q) [
   | inr other ↦ before k (omega arith)
 ]
 
+-- the fronts of the same rows are the same
 fronts-same : (a b : List (List ℕ)) (f n : ℕ) → n ≤ 12 → ((q : ℕ) → q < 12 → line a (12 * f + q) ≡ line b (12 * f + q)) → fronts a f n ≡ fronts b f n
 fronts-same a b f zero within same = refl
 fronts-same a b f (suc n) within same =
@@ -63,7 +67,7 @@ unfolding frame_of
 frames-same a b f same = fronts-same a b f 12 (omega arith) same
 
 -- the cause of frame f by that of its bytes
-fault_by : (block : List (List ℕ)) (entry : BlockPlan) (f : ℕ) (frame : List ℕ) (cause : Option FrameCause) → frame ≡ frame_of block f
+pub fault_by : (block : List (List ℕ)) (entry : BlockPlan) (f : ℕ) (frame : List ℕ) (cause : Option FrameCause) → frame ≡ frame_of block f
     → frame_cause frame (wanted_word entry f) (rule_for entry.content f) ≡ cause → fault_at block entry f ≡ option_map (cause_in f) cause
 fault_by block entry f frame cause is caused =
     ap (λ (l : List ℕ). option_map (cause_in f) (frame_cause l (wanted_word entry f) (rule_for entry.content f))) (sym is) ∙ ap (option_map (cause_in f)) caused
@@ -88,19 +92,30 @@ first_none : {X : Type 0} (h : ℕ → Option X) (a n : ℕ) → ((i : ℕ) → 
 first_none h a zero none = refl
 first_none h a (suc n) none = rw (none a (omega arith)) (first_none h (a + 1) n (λ i below. none i (omega arith)))
 
-pub fault-next : (block : List (List ℕ)) (entry : BlockPlan) (f : ℕ) (frame : List ℕ) → NoFaultBefore block entry f → frame ≡ frame_of block f
-    → frame_cause frame (wanted_word entry f) (rule_for entry.content f) ≡ None → NoFaultBefore block entry (f + 1)
-fault-next block entry f frame before is right k below = elim (cases_eq k f) [
-  | inl same ↦ ap (fault_at block entry) same ∙ fault_by block entry f frame None is right
+-- a frame without a cause leaves no frame before the next with one more without a cause
+pub fault-passed : (block : List (List ℕ)) (entry : BlockPlan) (f : ℕ) → NoFaultBefore block entry f → fault_at block entry f ≡ None → NoFaultBefore block entry (f + 1)
+fault-passed block entry f before right k below = elim (cases_eq k f) [
+  | inl same ↦ ap (fault_at block entry) same ∙ right
   | inr other ↦ before k (omega arith)
 ]
 
+-- the first frame with a cause gives the cause of the sixteen
+pub fault-next : (block : List (List ℕ)) (entry : BlockPlan) (f : ℕ) (frame : List ℕ) → NoFaultBefore block entry f → frame ≡ frame_of block f
+    → frame_cause frame (wanted_word entry f) (rule_for entry.content f) ≡ None → NoFaultBefore block entry (f + 1)
+fault-next block entry f frame before is right = fault-passed block entry f before (fault_by block entry f frame None is right)
+
+-- the first that has one
+pub fault-first : (block : List (List ℕ)) (entry : BlockPlan) (f : ℕ) (cause : Cause) → f < 16 → NoFaultBefore block entry f → fault_at block entry f ≡ Some cause
+    → frames_cause block entry ≡ Some cause
+unfolding frames_cause
+fault-first block entry f cause below before here = first_at (fault_at block entry) 0 16 f cause (omega arith) (omega arith) before here
+
 pub fault-here : (block : List (List ℕ)) (entry : BlockPlan) (f : ℕ) (frame : List ℕ) (cause : FrameCause) → f < 16 → NoFaultBefore block entry f → frame ≡ frame_of block f
     → frame_cause frame (wanted_word entry f) (rule_for entry.content f) ≡ Some cause → frames_cause block entry ≡ Some (cause_in f cause)
-unfolding frames_cause
 fault-here block entry f frame cause below before is caused =
-    first_at (fault_at block entry) 0 16 f (cause_in f cause) (omega arith) (omega arith) before (fault_by block entry f frame (Some cause) is caused)
+    fault-first block entry f (cause_in f cause) below before (fault_by block entry f frame (Some cause) is caused)
 
+-- where no frame has a cause, the sixteen have none
 pub fault-none : (block : List (List ℕ)) (entry : BlockPlan) → NoFaultBefore block entry 16 → frames_cause block entry ≡ None
 unfolding frames_cause
 fault-none block entry before = first_none (fault_at block entry) 0 16 (λ i below. before i (omega arith))
@@ -109,6 +124,7 @@ fault-none block entry before = first_none (fault_at block entry) 0 16 (λ i bel
 abbrev pub AreMainsBefore : List (List ℕ) → BlockPlan → List (List ℕ) → ℕ → Type 0
 AreMainsBefore block entry sectors f = (k : ℕ) → k < f → get_or sectors k [] ≡ main_in (frame_of block k) (rule_for entry.content k)
 
+-- the Main Data of one frame more are written
 pub mains-next : (block : List (List ℕ)) (entry : BlockPlan) (sectors : List (List ℕ)) (f : ℕ) (frame main : List ℕ) → f < length sectors
     → AreMainsBefore block entry sectors f → frame ≡ frame_of block f → main ≡ main_in frame (rule_for entry.content f)
     → AreMainsBefore block entry (set sectors f main) (f + 1)
@@ -119,6 +135,7 @@ mains-next block entry sectors f frame main within before is main_is k below = e
   | inr other ↦ get_or-set_other sectors f k main [] other ∙ before k (omega arith)
 ]
 
+-- once all sixteen frames are done, the sectors are their Main Data
 pub mains-all : (block : List (List ℕ)) (entry : BlockPlan) (sectors : List (List ℕ)) → length sectors ≡ 16 → AreMainsBefore block entry sectors 16
     → sectors ≡ main_data block entry
 unfolding main_data

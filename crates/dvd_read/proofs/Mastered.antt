@@ -43,12 +43,14 @@ place-of_dim w small =
           rw none (omega arith)
     ]))
 
+-- the number of an area has two bits
 area_small : (area : Area) → area_number area < 4
 area_small DataZone = omega arith
 area_small LeadIn = omega arith
 area_small LeadOut = omega arith
 area_small Middle = omega arith
 
+-- the ID that is wanted has nothing above bit 28
 word_small : (entry : BlockPlan) (f : ℕ) → HasNumbers entry → f < 16 → wanted_word entry f < 2 ^ 29
 word_small entry f numbers below = omega (arith, area_small entry.area, numbers.numbers, numbers.layers)
 
@@ -61,6 +63,7 @@ same_place entry true f numbers below =
     let word : id_word entry.area entry.layer true (entry.first + f) ≡ 1 * 2 ^ 29 + w = omega arith in
     sym (place-of_dim w (word_small entry f numbers below)) ∙ ap (λ (n : ℕ). bit_and n 0x0DFFFFFF) (sym word)
 
+-- the ID of a frame has 32 bits
 full_word : (entry : BlockPlan) (dim : Bool) (f : ℕ) → HasNumbers entry → f < 16 → id_word entry.area entry.layer dim (entry.first + f) < 2 ^ 32
 full_word entry false f numbers below = omega (arith, word_small entry f numbers below)
 full_word entry true f numbers below = omega (arith, word_small entry f numbers below)
@@ -86,6 +89,7 @@ row_front block frame f q product holds f_below q_below size =
     get_or-take 172 (line block (12 * f + q)) p 0 below ∙ holds q p q_below below
     ∙ sym (get_or-take 172 (drop (172 * q) frame) p 0 below ∙ get_or-drop (172 * q) frame p 0))
 
+-- the fronts of the first rows of frame f are the first bytes of the frame that it was made of
 fronts-are : (block : List (List ℕ)) (frame : List ℕ) (f q : ℕ) → IsProduct block → HoldsFrame f frame block → f < 16 → q ≤ 12 → length frame ≡ 2064
     → fronts block f q ≡ take (172 * q) frame
 fronts-are block frame f zero product holds f_below most size = refl
@@ -102,6 +106,7 @@ pub frame_of-made : (block : List (List ℕ)) (frame : List ℕ) (f : ℕ) → I
 unfolding frame_of
 frame_of-made block frame f product holds below size = fronts-are block frame f 12 product holds below (omega arith) size ∙ take_all (172 * 12) frame (omega arith)
 
+-- a data frame has 2,064 bytes
 length-data_frame : (word : ℕ) (cpr main : List ℕ) (rule : Rule) → length cpr ≡ 6 → length main ≡ 2048 → length (data_frame word cpr rule main) ≡ 2064
 unfolding edc_of
 length-data_frame word cpr main rule cpr_size size =
@@ -117,6 +122,7 @@ length-data_frame word cpr main rule cpr_size size =
       length-ied_of word,
     )
 
+-- frame f of a block that was made has no cause, and its Main Data are those that it was made of
 pub frame_fine : (entry : BlockPlan) (dim : Bool) (cpr : List ℕ) (main : ℕ → List ℕ) (frames block : List (List ℕ)) (f : ℕ) → HasNumbers entry
     → IsMadeOf entry dim cpr main frames → IsBlockOf frames block → f < 16
     → (fault_at block entry f ≡ None) × (main_in (frame_of block f) (rule_for entry.content f) ≡ main f)

@@ -28,10 +28,12 @@ missing_column answers = position is_none (columns_of answers)
 abbrev pub wrong_row : List (Option (List ℕ)) → Option ℕ
 wrong_row answers = position (λ row. not (vanishes_at_all 10 row)) (block_found answers)
 
+-- the second pass answers to 182 columns
 pub length-columns_of : (answers : List (Option (List ℕ))) → length (columns_of answers) ≡ 182
 unfolding columns_of
 length-columns_of answers = length-map-range_with_len (column_answer answers) 0 182
 
+-- the answer to column j is that of the second pass to it
 pub get_or-columns_of : (answers : List (Option (List ℕ))) (j : ℕ) (d : Option (List ℕ)) → j < 182 → get_or (columns_of answers) j d ≡ column_answer answers j
 unfolding columns_of
 get_or-columns_of answers j d below = get_or-map-range_with_len (column_answer answers) 0 182 j j d below (omega arith)
@@ -48,16 +50,19 @@ none_missing answers block size agrees =
 words : List (Option (List ℕ)) → List (List ℕ)
 words answers = map (λ column. unwrap_or column []) (columns_of answers)
 
+-- there are 182 words of columns
 length-words : (answers : List (Option (List ℕ))) → length (words answers) ≡ 182
 unfolding words
 length-words answers = length-map (columns_of answers) (λ column. unwrap_or column []) ∙ length-columns_of answers
 
+-- the word of column j is its answer, or nothing
 get_or-words : (answers : List (Option (List ℕ))) (j : ℕ) → j < 182 → get_or (words answers) j [] ≡ unwrap_or (column_answer answers j) []
 unfolding words
 get_or-words answers j below =
     get_or-map (λ column. unwrap_or column []) (columns_of answers) j None [] (omega (arith, length-columns_of answers))
     ∙ ap (λ column. unwrap_or column []) (get_or-columns_of answers j None below)
 
+-- the block found has these words as columns
 found-words : (answers : List (Option (List ℕ))) → block_found answers ≡ from_columns (words answers)
 unfolding block_found words
 found-words answers = refl
@@ -69,6 +74,7 @@ near_word answers j None size is answered = cc
 near_word answers j (Some word) size is answered =
     near_of-is_near 208 16 (answer_column answers j) word (failed_of answers) (length-answer_column answers j ∙ size) (length-map answers is_none ∙ size) is
 
+-- where no column is missing, the words of all columns are near
 all_near : (answers : List (Option (List ℕ))) → length answers ≡ 208 → missing_column answers ≡ None → AreNearColumns answers (words answers)
 all_near answers size none = record {
   size = length-words answers;
@@ -84,6 +90,7 @@ all_near answers size none = record {
 row_size : (columns : List (List ℕ)) (i : ℕ) → length columns ≡ 182 → i < 208 → length (line (from_columns columns) i) ≡ 182
 row_size columns i size below = ap length (from_columns-line columns i below) ∙ length-map columns (λ word. slice_index word i) ∙ size
 
+-- the rows of near columns are of bytes
 row_bytes : (answers : List (Option (List ℕ))) (columns : List (List ℕ)) (i : ℕ) → AreNearColumns answers columns → i < 208
     → All IsByte (line (from_columns columns) i)
 row_bytes answers columns i are below =
@@ -120,6 +127,7 @@ pub found-agrees : (answers : List (Option (List ℕ))) (block : List (List ℕ)
 found-agrees answers block size agrees =
     found-words answers ∙ agrees-from_columns answers (words answers) block size (all_near answers size (none_missing answers block size agrees)) agrees
 
+-- where a block agrees, no row of the block found is wrong
 none_wrong : (answers : List (Option (List ℕ))) (block : List (List ℕ)) → length answers ≡ 208 → AgreesWith answers block → wrong_row answers ≡ None
 none_wrong answers block size agrees =
     let test : List ℕ → Bool = λ row. not (vanishes_at_all 10 row) in
@@ -136,18 +144,21 @@ no_cause answers few lost wrong =
     let not_many : nat_lt 16 (marked (failed_of answers)) ≡ false = grind (arith, nat_tests) in
     rw (not_many, lost, wrong) refl
 
+-- more than sixteen failed rows are the cause
 pub rows_cause : (answers : List (Option (List ℕ))) (failed : ℕ) → failed ≡ marked (failed_of answers) → 16 < failed → two_pass_cause answers ≡ Some (Rows failed)
 unfolding two_pass_cause
 rows_cause answers failed is many =
     let test : nat_lt 16 (marked (failed_of answers)) ≡ true = lt-ltb 16 (marked (failed_of answers)) (omega arith) in
     rw test (ap (λ n. Some (Rows n)) (sym is))
 
+-- with no more, the first column without an answer is the cause
 pub column_cause : (answers : List (Option (List ℕ))) (j : ℕ) → marked (failed_of answers) ≤ 16 → missing_column answers ≡ Some j → two_pass_cause answers ≡ Some (Column j)
 unfolding two_pass_cause
 column_cause answers j few lost =
     let not_many : nat_lt 16 (marked (failed_of answers)) ≡ false = grind (arith, nat_tests) in
     rw (not_many, lost) refl
 
+-- with all columns answered, the first wrong row is the cause
 pub row_cause : (answers : List (Option (List ℕ))) (i : ℕ) → marked (failed_of answers) ≤ 16 → missing_column answers ≡ None → wrong_row answers ≡ Some i → two_pass_cause answers ≡ Some (Row i)
 unfolding two_pass_cause
 row_cause answers i few lost wrong =
@@ -159,14 +170,17 @@ pub agrees-no_cause : (answers : List (Option (List ℕ))) (block : List (List �
 agrees-no_cause answers block size agrees =
     no_cause answers (few_fail answers block size agrees) (none_missing answers block size agrees) (none_wrong answers block size agrees)
 
+-- where there is a cause, no block agrees
 pub cause-none_agrees : (answers : List (Option (List ℕ))) (cause : Cause) (block : List (List ℕ)) → length answers ≡ 208 → two_pass_cause answers ≡ Some cause
     → AgreesWith answers block → ⊥
 cause-none_agrees answers cause block size is agrees = let none = agrees-no_cause answers block size agrees in cc
 
+-- where none of the three applies, there is no cause, and the block found agrees
 pub fixed-agrees : (answers : List (Option (List ℕ))) → length answers ≡ 208 → marked (failed_of answers) ≤ 16 → missing_column answers ≡ None → wrong_row answers ≡ None
     → (two_pass_cause answers ≡ None) × AgreesWith answers (block_found answers)
 fixed-agrees answers size few lost wrong = (no_cause answers few lost wrong, agrees-found answers size lost wrong)
 
+-- where there is no cause, none of its three parts is there
 cause_parts : (answers : List (Option (List ℕ))) (many : Bool) (lost wrong : Option ℕ) (failed : ℕ)
     → (if many then Some (Rows failed) else option_or (option_map Column lost) (option_map Row wrong)) ≡ None → (many ≡ false) × (lost ≡ None) × (wrong ≡ None)
 cause_parts answers true lost wrong failed is = cc

@@ -5,12 +5,14 @@ use Rattle.std.proofs.lemmas.Bool.{lt-ltb}
 use Rattle.std.proofs.lemmas.Bool.Decides.{nat_tests}
 use Rattle.std.proofs.lemmas.List.Sums.{position_or_len_is, fails_before_first}
 
+-- the first place whose element passes, where none before it does, is the one found
 pub first_passes : {X : Type 0} (p : X → Bool) (xs : List X) (i : ℕ) (d : X) → i < length xs
     → ((k : ℕ) → k < i → p (get_or xs k d) ≡ false) → p (get_or xs i d) ≡ true → position p xs ≡ Some i
 first_passes p xs i d within before here =
     let at = position_or_len_is p xs i d (omega arith) before (λ inside. here) in
     rw (at, lt-ltb i (length xs) within) refl
 
+-- where no element passes, no place is found
 pub none_passes : {X : Type 0} (p : X → Bool) (xs : List X) (d : X) → ((k : ℕ) → k < length xs → p (get_or xs k d) ≡ false) → position p xs ≡ None
 none_passes p xs d fails =
     let at = position_or_len_is p xs (length xs) d (omega arith) fails (λ inside. absurd (omega arith)) in

@@ -20,12 +20,13 @@ use Rattle.dvd_capture.specs.declared.parts.Marks.{Marks}
 use Rattle.dvd_capture.specs.declared.parts.Received.{Received}
 use Rattle.dvd_capture.specs.TwoPass.{answers_of, failed_of}
 use Rattle.dvd_capture.specs.declared.parts.AnswerRow.{AnswerRow}
-use Rattle.dvd_read.specs.Found.{answer_by, answer_word}
+use Rattle.dvd_read.specs.Inner.Found.{answer_by, answer_word}
 
 -- what is told of a row's answer by its fix
 abbrev AnswerBy : List ℕ → List Bool → List ℕ → Option Fix → Type 0
 AnswerBy row marks bytes fix = MatchOption fix (near_of 182 10 row marks ≡ None) (IsFix row marks bytes)
 
+-- the near codeword and the counts of what it corrects are an answer to the row
 pub row_fixed : (row word : List ℕ) (marks : List Bool) (fix : Fix) (answer : AnswerRow) → IsNear 182 10 row marks word
     → fix.errors ≡ error_count row word marks → fix.erased ≡ marked marks → answer.bytes ≡ word → answer.fix ≡ Some fix → IsAnswer row marks answer
 row_fixed row word marks fix answer near errors erased bytes_are fix_is =
@@ -37,9 +38,11 @@ word_by : (row bytes : List ℕ) (marks : List Bool) (fix : Option Fix) → Answ
 word_by row bytes marks None is = sym is
 word_by row bytes marks (Some fix) is = sym is.0
 
+-- the word of an answer to a row is the codeword near it, or none
 pub answer_word-is : (row : List ℕ) (marks : List Bool) (answer : AnswerRow) → IsAnswer row marks answer → answer_word answer ≡ near_of 182 10 row marks
 answer_word-is row marks answer is = word_by row answer.bytes marks answer.fix is
 
+-- answer i of the first pass is the codeword near row i, or none
 pub get_or-answers_of : (received : List (List ℕ)) (marks : List (List Bool)) (i : ℕ) (d : Option (List ℕ)) → i < length received → i < length marks
     → get_or (answers_of received marks) i d ≡ near_of 182 10 (get_or received i []) (get_or marks i [])
 unfolding answers_of
@@ -53,6 +56,7 @@ abbrev pub AreAnswersBefore : List (List ℕ) → List (List Bool) → List Answ
 AreAnswersBefore received marks answers i =
     (k : ℕ) (d : AnswerRow) → k < i → IsAnswer (line received k) (marks_line marks k) (get_or answers k d)
 
+-- one row more is answered
 pub answers-next : (received : List (List ℕ)) (marks : List (List Bool)) (answers : List AnswerRow) (i : ℕ) (answer : AnswerRow) → i < length answers
     → AreAnswersBefore received marks answers i → IsAnswer (line received i) (marks_line marks i) answer
     → AreAnswersBefore received marks (set answers i answer) (i + 1)
@@ -68,10 +72,12 @@ answers-next received marks answers i answer within before here k d below = elim
 abbrev pub AreFlagsBefore : List AnswerRow → List Bool → ℕ → Type 0
 AreFlagsBefore answers failed i = (k : ℕ) (d : AnswerRow) → k < i → get_or failed k false ≡ is_none (answer_word (get_or answers k d))
 
+-- an answer without a fix has no word
 pub flag-by : (bytes : List ℕ) (fix : Option Fix) → is_none fix ≡ is_none (answer_by fix bytes)
 flag-by bytes None = refl
 flag-by bytes (Some fix) = refl
 
+-- an answer's word is missing where its fix is
 pub flag-is : (answer : AnswerRow) → is_none answer.fix ≡ is_none (answer_word answer)
 flag-is answer = flag-by answer.bytes answer.fix
 
@@ -79,6 +85,7 @@ flag-is answer = flag-by answer.bytes answer.fix
 pub blank_answer : AnswerRow
 blank_answer = record { bytes = []; fix = None }
 
+-- once all rows are done, the flags are those of the rows that failed
 pub flags-all : (answers : List AnswerRow) (failed : List Bool) → length answers ≡ 208 → length failed ≡ 208 → AreFlagsBefore answers failed 208
     → failed ≡ failed_of (map answer_word answers)
 flags-all answers failed size failed_size flags =
@@ -105,6 +112,7 @@ answers-are received marks answers size marks_size answers_size are =
     ∙ answer_word-is (line received k) (marks_line marks k) (get_or answers k blank_answer) (are k blank_answer below)
     ∙ sym (get_or-answers_of received marks k None (omega arith) (omega arith)))
 
+-- one more place is counted where its flag is set
 next-by : (marks : List Bool) (i : ℕ) (flag : Bool) → i < length marks → get_or marks i false ≡ flag
     → marked (take i marks) + cond flag 1 0 ≡ marked (take (i + 1) marks)
 next-by marks i true within is = omega (arith, marked-next_marked marks i within is)
@@ -114,10 +122,12 @@ next-by marks i false within is = omega (arith, marked-next_clear marks i within
 pub marked-next : (marks : List Bool) (i : ℕ) → i < length marks → marked (take i marks) + cond (get_or marks i false) 1 0 ≡ marked (take (i + 1) marks)
 marked-next marks i within = next-by marks i (get_or marks i false) within refl
 
+-- a flag as a number is 1 where it is set and 0 elsewhere
 pub as_number : (flag : Bool) → bool_byte flag ≡ cond flag 1 0
 as_number true = refl
 as_number false = refl
 
+-- a flag counts at most one
 pub flag_small : (flag : Bool) → cond flag 1 0 ≤ 1
 flag_small true = omega arith
 flag_small false = omega arith
@@ -128,6 +138,7 @@ pub flag-counted : (marks : List Bool) (i count : ℕ) → i < length marks → 
 flag-counted marks i count within counted =
     omega (arith, marked-next marks i within, as_number (get_or marks i false))
 
+-- after i + 1 flags at most as many are counted
 pub flag-few : (marks : List Bool) (i count : ℕ) → count ≤ i → count + bool_byte (get_or marks i false) ≤ i + 1
 flag-few marks i count few = omega (arith, as_number (get_or marks i false), flag_small (get_or marks i false))
 
@@ -141,6 +152,7 @@ block_answers received marks answers size are =
     rows_size : length marks.rows.items ≡ 208
     rows_size = omega (arith, marks.size, marks.rows.ok.0)
 
+-- a captured block has 208 answers
 pub length-block_answers : (received : Received) (marks : Marks) → length (answers_of (received_rows received) (marks_rows marks)) ≡ 208
 length-block_answers received marks =
     length-answers_of (received_rows received) (marks_rows marks) 208 (omega (arith, received.size, received.rows.ok.0))

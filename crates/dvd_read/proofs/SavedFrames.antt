@@ -17,12 +17,14 @@ use Rattle.dvd_frame.specs.declared.scrambling.Rule.{Rule}
 use Rattle.dvd_layout.specs.declared.entry.BlockPlan.{BlockPlan}
 use Rattle.dvd_layout.specs.Place.{rule_for}
 use Rattle.dvd_read.specs.Causes.{two_pass_cause}
-use Rattle.dvd_read.specs.Found.{answer_by, answer_word, block_found}
+use Rattle.dvd_read.specs.Found.{block_found}
+use Rattle.dvd_read.specs.Inner.Found.{answer_by, answer_word}
 use Rattle.dvd_read.specs.Frames.{frame_of, wanted_word}
 use Rattle.dvd_read.specs.Salvage.{answered_block, candidate, lacks_row, main_if_right, rescued, sectors_saved}
 use Rattle.dvd_read.proofs.FrameFaults.{cause_as}
 use Rattle.dvd_read.proofs.RowAnswers.{as_number, flag-by, flag_small}
 
+-- a row with a fix has its bytes as its answer
 row_by : (bytes : List ℕ) (fix : Option Fix) → is_none fix ≡ false → unwrap_or (answer_by fix bytes) [] ≡ bytes
 row_by bytes None is = cc
 row_by bytes (Some fix) is = refl
@@ -40,6 +42,7 @@ answered-line answers i d within has =
 abbrev pub lacks_before : List (Option (List ℕ)) → ℕ → ℕ → Bool
 lacks_before answers f n = list_any is_none (take n (drop (12 * f) answers))
 
+-- behind the rows of the frames before frame f its own twelve rows are still to come
 length-rest : (answers : List (Option (List ℕ))) (f q : ℕ) → length answers ≡ 208 → f < 16 → q < 12 → q < length (drop (12 * f) answers)
 length-rest answers f q size f_below q_below = let rest = length-drop (12 * f) answers in omega arith
 
@@ -124,6 +127,7 @@ module _ (answers : List (Option (List ℕ))) (f : ℕ) where
         rescued-right frame is (cause_as frame want _ rule _ None same_word same_rule right) ∙ ap Some (sym (reads ∙ ap (main_in frame) same_rule))
     read-main (Err cause) frame main want rule is same_word same_rule ok right reads = cc
 
+-- where the opposite is true, it is false
 pub is_not : (b : Bool) → not b ≡ true → b ≡ false
 is_not true is = sym is
 is_not false is = refl
@@ -136,22 +140,25 @@ sector_saved answers entry f = unwrap_or (rescued answers entry f) (replicate 20
 abbrev pub saved_before : List (Option (List ℕ)) → BlockPlan → ℕ → ℕ
 saved_before answers entry n = count_by (λ f. is_some (rescued answers entry f)) (range_with_len 0 n)
 
--- one number more is counted
+-- one number more is counted where it passes
 pub count-next : (p : ℕ → Bool) (n : ℕ) → count_by p (range_with_len 0 (n + 1)) ≡ count_by p (range_with_len 0 n) + cond (p n) 1 0
 count-next p n =
     let more = sum_by-map-range_with_len_more (λ k. cond (p k) 1 0) (λ k. k) 0 n n (omega arith) in
     rw (sym (map-id (range_with_len 0 n)), sym (map-id (range_with_len 0 (n + 1)))) more
 
+-- one frame more is counted where it is rescued
 pub saved-next : (answers : List (Option (List ℕ))) (entry : BlockPlan) (n : ℕ)
     → saved_before answers entry (n + 1) ≡ saved_before answers entry n + cond (is_some (rescued answers entry n)) 1 0
 saved-next answers entry n = count-next (λ f. is_some (rescued answers entry f)) n
 
+-- the count goes on by the flag that tells whether frame f is rescued
 pub saved-counted : (answers : List (Option (List ℕ))) (entry : BlockPlan) (f count : ℕ) (flag : Bool) → count ≡ saved_before answers entry f
     → flag ≡ is_some (rescued answers entry f) → count + bool_byte flag ≡ saved_before answers entry (f + 1)
 saved-counted answers entry f count flag counted is =
     ap (λ (n : ℕ). count + n) (as_number flag ∙ ap (λ b. cond b 1 0) is) ∙ ap (λ (n : ℕ). n + cond (is_some (rescued answers entry f)) 1 0) counted
     ∙ sym (saved-next answers entry f)
 
+-- after f + 1 frames at most as many are counted
 pub saved-few : (f count : ℕ) (flag : Bool) → count ≤ f → count + bool_byte flag ≤ f + 1
 saved-few f count flag few = omega (arith, as_number flag, flag_small flag)
 
@@ -159,11 +166,13 @@ saved-few f count flag few = omega (arith, as_number flag, flag_small flag)
 abbrev pub AreSavedBefore : List (Option (List ℕ)) → BlockPlan → List (List ℕ) → ℕ → Type 0
 AreSavedBefore answers entry sectors f = (k : ℕ) → k < f → get_or sectors k [] ≡ sector_saved answers entry k
 
+-- the sector of one frame more is written
 pub saved_sectors-next : (answers : List (Option (List ℕ))) (entry : BlockPlan) (sectors : List (List ℕ)) (f : ℕ) (main : List ℕ) → f < length sectors
     → AreSavedBefore answers entry sectors f → main ≡ sector_saved answers entry f → AreSavedBefore answers entry (set sectors f main) (f + 1)
 saved_sectors-next answers entry sectors f main within before is k below =
     ap (λ (m : List ℕ). get_or (set sectors f m) k []) is ∙ fill_by_more (sector_saved answers entry) sectors f [] within before k below
 
+-- once all sixteen frames are done, the sectors are those that are saved
 pub saved_sectors-all : (answers : List (Option (List ℕ))) (entry : BlockPlan) (sectors : List (List ℕ)) → length sectors ≡ 16
     → AreSavedBefore answers entry sectors 16 → sectors ≡ sectors_saved answers entry
 saved_sectors-all answers entry sectors size saved = fill_by_all (sector_saved answers entry) sectors 16 [] size saved

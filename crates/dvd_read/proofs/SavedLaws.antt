@@ -85,6 +85,7 @@ first-nothing h a (suc n) i none from below =
       | inr other ↦ first-nothing h (a + 1) n i parts.1 (omega arith) (omega arith)
     ]
 
+-- where a value's image is missing, the value is
 unmapped : {X Y : Type 0} (g : X → Y) (o : Option X) → option_map g o ≡ None → o ≡ None
 unmapped g None is = refl
 unmapped g (Some x) is = cc
@@ -95,6 +96,7 @@ no_frame_cause : (block : List (List ℕ)) (entry : BlockPlan) (f : ℕ) → fra
 unfolding frames_cause
 no_frame_cause block entry f none below = unmapped (cause_in f) _ (first-nothing (fault_at block entry) 0 16 f none (omega arith) (omega arith))
 
+-- where each number below n passes, n are counted
 count-all : (p : ℕ → Bool) (n : ℕ) → ((k : ℕ) → k < n → p k ≡ true) → count_by p (range_with_len 0 n) ≡ n
 count-all p zero each = refl
 count-all p (suc n) each =
@@ -136,6 +138,7 @@ fronts-same a b f (suc n) same =
     ∙ ap (λ (l : List ℕ). fronts b f n ++ take 172 l) (same n (omega arith))
     ∙ sym (ap (fronts b f) next ∙ fronts-more b f n)
 
+-- frames of the same rows are the same
 frame_of-same : (a b : List (List ℕ)) (f : ℕ) → ((q : ℕ) → q < 12 → line a (12 * f + q) ≡ line b (12 * f + q)) → frame_of a f ≡ frame_of b f
 unfolding frame_of
 frame_of-same a b f same = fronts-same a b f 12 same
@@ -216,6 +219,8 @@ good_rows-saved entry dim cpr main frames block received marks cause f numbers m
     fine = frame_fine entry dim cpr main frames block f numbers made is_block below
 
 -- SIZES
+
+-- what is found is the first element, which passes, or was found among the others
 by_test : {X : Type 0} (p : X → Bool) (y x : X) (rest : Option X) (test : Bool) → p y ≡ test → (rest ≡ Some x → p x ≡ true)
     → cond test (Some y) rest ≡ Some x → p x ≡ true
 by_test p y x rest true is later found =
@@ -228,6 +233,7 @@ found-passes : {X : Type 0} (p : X → Bool) (xs : List X) (x : X) → find p xs
 found-passes p [] x found = cc
 found-passes p (y ∷ xs) x found = by_test p y x (find p xs) (p y) refl (found-passes p xs x) found
 
+-- where a conjunction is true, its first part is
 left_of : (a b : Bool) → (a && b) ≡ true → a ≡ true
 left_of true b is = refl
 left_of false b is = is
@@ -250,14 +256,17 @@ length-fronts block f (suc n) wide =
     ap (λ m. length (fronts block f m)) next ∙ ap length (fronts-more block f n)
     ∙ length-append (fronts block f n) (take 172 row) ∙ (omega (arith, part, rest))
 
+-- a frame of twelve rows of 182 places has 2,064 bytes
 length-frame : (block : List (List ℕ)) (f : ℕ) → ((q : ℕ) → q < 12 → length (line block (12 * f + q)) ≡ 182) → length (frame_of block f) ≡ 2064
 unfolding frame_of
 length-frame block f wide = length-fronts block f 12 wide
 
+-- the Main Data of a frame are 2,048 bytes
 length-main : (frame : List ℕ) (entry : BlockPlan) (f : ℕ) → length frame ≡ 2064 → length (main_in frame (rule_for entry.content f)) ≡ 2048
 length-main frame entry f size =
     length-masked (found_word frame) (rule_for entry.content f) (take 2048 (drop 12 frame)) ∙ length-take-le 2048 (drop 12 frame) (omega (arith, length-drop 12 frame))
 
+-- of sixteen numbers at most sixteen are counted
 count-most : (p : ℕ → Bool) → count_by p (range_with_len 0 16) ≤ 16
 count-most p =
     let most : count_by p (range_with_len 0 16) ≤ length (range_with_len 0 16) = count_by-le-length p (range_with_len 0 16) in

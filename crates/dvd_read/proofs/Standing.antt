@@ -22,21 +22,25 @@ use Rattle.dvd_capture.specs.TwoPass.{answer_column, byte_at, column_answer, fai
 use Rattle.dvd_capture.specs.declared.parts.AnswerRow.{AnswerRow}
 use Rattle.dvd_capture.specs.declared.parts.ColumnAnswer.{ColumnAnswer}
 use Rattle.dvd_capture.proofs.Columns.{from_columns-line, length-from_columns}
-use Rattle.dvd_read.specs.Found.{answer_by, answer_word, differences, words_of}
-use Rattle.dvd_read.specs.Standing.{AreCodewords, AreOwnColumns, AreWhole, bytes_of}
+use Rattle.dvd_read.specs.Found.{differences}
+use Rattle.dvd_read.specs.Inner.Found.{answer_by, answer_word, words_of}
+use Rattle.dvd_read.specs.Inner.Standing.{AreCodewords, AreOwnColumns, AreWhole, bytes_of}
 use Rattle.dvd_read.proofs.ColumnAnswers.{blank_column}
 use Rattle.dvd_read.proofs.RowAnswers.{blank_answer, row_fixed}
 
 -- ---- a codeword without marks
 
+-- a row of clear marks has none that is set
 marked-clear : (n : ℕ) → marked (replicate n false) ≡ 0
 unfolding marked
 marked-clear zero = refl
 marked-clear (suc n) = let rest = marked-clear n in omega (arith, rest)
 
+-- a first byte that stayed adds no cost
 same-byte : (byte rest : ℕ) → rest ≡ 0 → (if byte == byte then 0 else 2) + rest ≡ 0
 same-byte byte rest none = grind (arith, nat_tests)
 
+-- a word costs nothing against itself
 cost-itself : (word : List ℕ) (n : ℕ) → cost word word (replicate n false) ≡ 0
 unfolding cost
 cost-itself [] n = refl
@@ -52,6 +56,7 @@ near-itself n r word codeword = record {
   within = let none = cost-itself word n in omega arith;
 }
 
+-- so it is the near codeword that is found
 pub own-near_of : (n r : ℕ) (word : List ℕ) → n ≤ 255 → IsCodeword n r word → near_of n r word (replicate n false) ≡ Some word
 own-near_of n r word short codeword = near_of-some n r word word (replicate n false) short (near-itself n r word codeword)
 
@@ -64,17 +69,20 @@ own-row row answer codeword bytes_are fix_is =
 
 -- ---- a row where nothing was corrected and nothing marked
 
+-- a fix that was found tells what was corrected
 fix-told : (row word : List ℕ) (marks : List Bool) (found : Option Fix) (fix : Fix) → found ≡ Some fix
     → MatchOption found (near_of 182 10 row marks ≡ None) (IsFix row marks word) → IsFix row marks word fix
 fix-told row word marks found fix is told =
     subst (λ (f : Option Fix). MatchOption f (near_of 182 10 row marks ≡ None) (IsFix row marks word)) is told
 
+-- a first place that has no error doesn't differ
 own-step : (x y rest more : ℕ) → (if y == x then 0 else 1) + rest ≡ 0 → (rest ≡ 0 → more ≡ 0) → 0 ≡ (if x == y then 0 else 1) + more
 own-step x y rest more none later =
     let no_rest : rest ≡ 0 = omega (arith, none) in
     let no_more : more ≡ 0 = later no_rest in
     grind (arith, nat_tests)
 
+-- a word with no errors and no marks differs nowhere from what was received
 none-differ : (row word : List ℕ) (marks : List Bool) → length row ≤ length marks → marked marks ≡ 0 → error_count row word marks ≡ 0
     → 0 ≡ differences row word
 unfolding differences error_count marked
@@ -86,6 +94,7 @@ none-differ (x ∷ row) (y ∷ word) (false ∷ marks) within clear none =
     own-step x y (error_count row word marks) (differences row word) none
     (λ rest. sym (none-differ row word marks (omega arith) (omega (arith, clear)) rest))
 
+-- a row of which nothing was corrected and nothing marked doesn't differ from its answer
 pub uncorrected : (row : List ℕ) (marks : List Bool) (answer : AnswerRow) (fix : Fix) → length row ≡ length marks → answer.fix ≡ Some fix
     → fix.errors ≡ 0 → fix.erased ≡ 0 → IsAnswer row marks answer → 0 ≡ differences row answer.bytes
 uncorrected row marks answer fix size is errors erased told =
@@ -94,6 +103,7 @@ uncorrected row marks answer fix size is errors erased told =
 
 -- ---- rows of which none failed
 
+-- where no mark is counted, none is set
 none-marked : (marks : List Bool) (k : ℕ) → marked marks ≡ 0 → get_or marks k false ≡ false
 unfolding marked
 none-marked [] k none = refl
@@ -101,6 +111,7 @@ none-marked (true ∷ marks) k none = absurd (omega (arith, none))
 none-marked (false ∷ marks) zero none = refl
 none-marked (false ∷ marks) (suc k) none = none-marked marks k (omega (arith, none))
 
+-- an answer that isn't missing is its bytes
 answered-by : (fix : Option Fix) (bytes : List ℕ) → is_none (answer_by fix bytes) ≡ false → answer_by fix bytes ≡ Some bytes
 answered-by None bytes answered = cc
 answered-by (Some fix) bytes answered = refl
@@ -115,12 +126,15 @@ whole-answered answers i within none =
     (ap is_none (sym (get_or-map answer_word answers i blank_answer None within))
     ∙ sym (get_or-map is_none (map answer_word answers) i None false inside) ∙ none-marked (failed_of (map answer_word answers)) i none)
 
+-- the bytes of an answer
 abbrev bytes : AnswerRow → List ℕ
 bytes answer = answer.bytes
 
+-- row i of the answers' bytes is those of answer i
 get_or-bytes_of : (answers : List AnswerRow) (i : ℕ) → i < length answers → line (bytes_of answers) i ≡ (get_or answers i blank_answer).bytes
 get_or-bytes_of answers i within = get_or-map bytes answers i blank_answer [] within
 
+-- the answers' bytes are as many rows as there are answers
 pub length-bytes_of : (answers : List AnswerRow) → length (bytes_of answers) ≡ length answers
 length-bytes_of answers = length-map answers bytes
 
@@ -141,6 +155,7 @@ whole-column answers j none =
     ∙ sym (ap (λ (row : List ℕ). slice_index row j) (get_or-bytes_of answers k inside))
     ∙ sym (get_or-map (λ (row : List ℕ). slice_index row j) (bytes_of answers) k [] 0 inside_bytes))
 
+-- marks none of which is counted are clear
 all-clear : (marks : List Bool) (n : ℕ) → length marks ≡ n → marked marks ≡ 0 → replicate n false ≡ marks
 all-clear marks n size none =
     ext_get_or false (replicate n false) marks (length-replicate n false ∙ sym size)
@@ -158,6 +173,7 @@ whole-answer answers j word size none is =
 abbrev pub IsCopiedBefore : List AnswerRow → ℕ → List ℕ → ℕ → Type 0
 IsCopiedBefore answers j word i = (k : ℕ) (d : AnswerRow) → k < i → get_or word k 0 ≡ slice_index (get_or answers k d).bytes j
 
+-- once all rows are copied, it is the column
 pub column-copied : (answers : List AnswerRow) (j : ℕ) (word : List ℕ) → length answers ≡ 208 → length word ≡ 208 → IsCopiedBefore answers j word 208
     → word ≡ column (bytes_of answers) j
 unfolding column
@@ -182,6 +198,7 @@ whole-codewords answers i size below codewords none =
     subst (IsCodeword 182 10) (sym (get_or-bytes_of answers i inside))
     (codewords i blank_answer (get_or answers i blank_answer).bytes below (whole-answered answers i inside none))
 
+-- where no row failed and each column is its own answer, the block stands as its rows were answered
 pub stands : (answers : List AnswerRow) (columns : List ColumnAnswer) → length answers ≡ 208 → length columns ≡ 182 → AreCodewords answers
     → marked (failed_of (map answer_word answers)) ≡ 0 → AreOwnColumns answers columns → from_columns (words_of columns) ≡ bytes_of answers
 unfolding column
@@ -217,6 +234,7 @@ rows-stand answers columns size columns_size codewords none own k below =
 abbrev pub AreOwnBefore : List AnswerRow → List ColumnAnswer → ℕ → Type 0
 AreOwnBefore answers columns j = (k : ℕ) (d : ColumnAnswer) → k < j → (get_or columns k d).bytes ≡ column (bytes_of answers) k
 
+-- one column more is its own answer
 pub own-next : (answers : List AnswerRow) (columns : List ColumnAnswer) (j : ℕ) (own : ColumnAnswer) → j < length columns
     → AreOwnBefore answers columns j → own.bytes ≡ column (bytes_of answers) j → AreOwnBefore answers (set columns j own) (j + 1)
 own-next answers columns j own within before here k d below = elim (cases_eq k j) [

@@ -5,8 +5,8 @@ ghost use Rattle.dvd_capture.specs.TwoPass.{answer_column, byte_at, failed_of, f
 ghost use Rattle.rs_decode.specs.Nearest.{near_of, vanishes_at_all};
 ghost use Rattle.rs_decode.specs.Filling.{marked};
 ghost use Rattle.dvd_block.specs.Product.{column, line};
-ghost use Rattle.dvd_read.specs.Found.{AreColumns, answer_word, column_word, words_of};
-ghost use Rattle.dvd_read.specs.Standing.{AreKept, AreNear, AreOwnColumns, AreWhole, bytes_of};
+ghost use Rattle.dvd_read.specs.Inner.Found.{AreColumns, answer_word, column_word, words_of};
+ghost use Rattle.dvd_read.specs.Inner.Standing.{AreKept, AreNear, AreOwnColumns, AreWhole, bytes_of};
 
 use crate::rows::count_failed;
 use dvd_capture::parts::{AnswerRow, ColumnAnswer};

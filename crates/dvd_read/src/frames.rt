@@ -5,8 +5,9 @@ ghost use Rattle.dvd_capture.specs.Parts.{received_rows, sector_bytes};
 ghost use Rattle.dvd_capture.specs.TwoPass.{from_columns};
 ghost use Rattle.dvd_capture.specs.Works.{block_of, rows_of, sectors_of, stage_of};
 ghost use Rattle.dvd_layout.specs.Place.{HasNumbers};
-ghost use Rattle.dvd_read.specs.Found.{block_differences, words_of};
-ghost use Rattle.dvd_read.specs.Frames.{cause_in, frame_of, frames_cause, main_data};
+ghost use Rattle.dvd_read.specs.Found.{block_differences};
+ghost use Rattle.dvd_read.specs.Inner.Found.{words_of};
+ghost use Rattle.dvd_read.specs.Frames.{cause_in, fault_at, frame_of, frames_cause, main_at, main_data};
 
 use crate::cause::Cause;
 use crate::columns::read_row;
@@ -100,6 +101,29 @@ fn read_frames(
         sectors.set(f, &main);
     }
     Ok(())
+}
+
+/// Reads data frame `f` of a block as that of an entry of a plan: checks it, and writes its unscrambled Main Data. After a
+/// cause these mean nothing.
+pub fn read_frame_at(
+    rows: &Received,
+    plan: &BlockPlan,
+    f: usize,
+    main: &mut [u8; 2048],
+) -> Result<(), Cause>
+    requires numbers { HasNumbers plan.now }
+    requires frame { f < 16 }
+    ensures refused { IfErr result (λ cause. fault_at (received_rows rows.now) plan.now f ≡ Some cause) }
+    ensures right { OnOk result (fault_at (received_rows rows.now) plan.now f ≡ None) }
+    ensures main { OnOk result (main.new ≡ main_at (received_rows rows.now) plan.now f) }
+{
+    let mut frame = [0; 2064];
+    copy_received(rows, f, &mut frame);
+    let rule = rule_of(plan.content, f);
+    match read_frame(&frame, id_of(plan, false, f), rule, main) {
+        Ok(()) => Ok(()),
+        Err(cause) => Err(cause_of(f as u8, cause)),
+    }
 }
 
 fn cause_of(f: u8, cause: FrameCause) -> Cause

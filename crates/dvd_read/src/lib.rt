@@ -12,7 +12,7 @@ mod rescue; // the frames that can be saved, of a refused block too
 mod rows; // the first pass: rows
 
 pub use cause::{Cause, Fixed};
-pub use frames::sectors;
+pub use frames::{read_frame_at, sectors};
 pub use passes::two_pass;
 pub use reading::read_block;
 pub use rescue::salvage;

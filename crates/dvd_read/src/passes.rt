@@ -7,8 +7,9 @@ ghost use Rattle.dvd_capture.specs.TwoPass.{AgreesWith, answers_of, failed_of, f
 ghost use Rattle.dvd_capture.specs.Works.{answers_of_work, block_of, marks_of_work, rows_of, stage_of};
 ghost use Rattle.dvd_capture.specs.Parts.{marks_rows, received_rows};
 ghost use Rattle.dvd_read.specs.Causes.{two_pass_cause};
-ghost use Rattle.dvd_read.specs.Found.{answer_word, block_differences, block_found, differences, words_of};
-ghost use Rattle.dvd_read.specs.Standing.{AreCodewords, bytes_of};
+ghost use Rattle.dvd_read.specs.Found.{block_differences, block_found, differences};
+ghost use Rattle.dvd_read.specs.Inner.Found.{answer_word, words_of};
+ghost use Rattle.dvd_read.specs.Inner.Standing.{AreCodewords, bytes_of};
 
 use crate::cause::{Cause, Fixed};
 use crate::columns::{answer_columns, first_missing, first_wrong, read_row};

@@ -6,7 +6,7 @@ ghost use Rattle.dvd_block.specs.Product.{line};
 ghost use Rattle.dvd_capture.specs.Answers.{AreAnswers, IsAnswer};
 ghost use Rattle.dvd_capture.specs.Parts.{marks_rows, received_rows};
 ghost use Rattle.dvd_capture.specs.TwoPass.{answers_of, failed_of};
-ghost use Rattle.dvd_read.specs.Found.{answer_word};
+ghost use Rattle.dvd_read.specs.Inner.Found.{answer_word};
 
 use dvd_capture::parts::{AnswerRow, Marks, Received};
 use rs_code::Pi;

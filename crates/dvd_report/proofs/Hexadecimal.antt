@@ -21,6 +21,7 @@ digit-next line place number digit some is =
     ∙ ap (λ digits. line ++ digits) (sym (hexadecimal-first (place - 1) number))
     ∙ ap (λ n. line ++ hexadecimal n number) (omega arith)
 
+-- a power of sixteen isn't 0
 pub place-some : (place : ℕ) → 0 < 16 ^ place
 place-some place = omega (arith, pow-le-pow_right {n = 16} (omega arith) {i = 0} {j = place} (omega arith))
 

@@ -1,4 +1,4 @@
 pub mod Examples
+pub mod Inner
 pub mod Lines
-pub mod Sound
 pub mod Survey

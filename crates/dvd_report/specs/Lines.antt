@@ -1,4 +1,4 @@
--- The lines of a report that name damaged ECC blocks. Each ends with one line feed. Numbers are decimal, but where it says otherwise.
+-- The lines of a report that name damaged ECC blocks, and those that were given back. Each ends with one line feed. Numbers are decimal, but where it says otherwise.
 use Rattle.std.specs.Prelude.{ℕ, zero, suc, ◌/◌, ◌%◌, List, [], ◌∷◌, ◌++◌, true, codes, decimal}
 use Rattle.std.specs.Fmt.{digit_glyph}
 use Rattle.dvd_layout.specs.declared.entry.BlockPlan.{BlockPlan}
@@ -27,3 +27,7 @@ block_text k plan = codes "block " ++ decimal k ++ codes " sector " ++ hexadecim
 -- such a block, its cause, and how many of its sixteen frames were saved
 unfoldable pub damage_line : ℕ → BlockPlan → Cause → ℕ → List ℕ
 damage_line k plan cause saved = block_text k plan ++ codes ": " ++ cause_text cause ++ codes " saved " ++ decimal saved ++ codes "\n"
+
+-- such a block that two passes refuse, and the round that gave it back
+unfoldable pub round_line : ℕ → BlockPlan → ℕ → List ℕ
+round_line k plan round = block_text k plan ++ codes ": round " ++ decimal round ++ codes "\n"

@@ -5,6 +5,7 @@
 mod cause; // the line of a damaged block
 mod counts; // what a survey counts, of a block and over all blocks
 mod errors; // the counts of one block
+mod round; // the line of a block that a round gave back
 mod survey; // a survey, and what is added to it
 mod survey_lines; // the lines of a survey
 mod text; // lines of text, and what is put at their end
@@ -13,5 +14,6 @@ mod tests;
 
 pub use cause::write_cause;
 pub use counts::{Surveyed, Totals};
+pub use round::write_round;
 pub use survey::Survey;
 pub use text::Line;

@@ -7,7 +7,7 @@ ghost use Rattle.dvd_capture.specs.Works.{marks_of_work, rows_of, stage_of};
 ghost use Rattle.dvd_layout.specs.Place.{HasNumbers};
 ghost use Rattle.dvd_ports.specs.Causes.{HasCause};
 ghost use Rattle.dvd_ports.specs.Whole.{AppendsPrefix};
-ghost use Rattle.dvd_report.specs.Sound.{IsBounded};
+ghost use Rattle.dvd_report.specs.Inner.Sound.{IsBounded};
 ghost use Rattle.dvd_report.specs.Survey.{StandsFor, sum8, survey_line, surveyed_with, totals_line, totals_of};
 
 use crate::counts::{Surveyed, Totals};
@@ -37,7 +37,7 @@ pub struct Survey {
 }
 
 impl Model for Survey {
-    ghost use Rattle.dvd_report.specs.Sound.{IsSound};
+    ghost use Rattle.dvd_report.specs.Inner.Sound.{IsSound};
     ghost use Rattle.dvd_report.specs.Survey.{SurveyState};
 
     ghost Value = { SurveyState };

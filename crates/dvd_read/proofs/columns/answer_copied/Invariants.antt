@@ -1,6 +1,6 @@
 use Rattle.std.proofs.Common.{◌≡◌, ℕ, ◌≤◌, true, slice_index_or}
 use Rattle.dvd_capture.specs.declared.parts.ColumnAnswer.{ColumnAnswer}
-use Rattle.dvd_read.specs.Standing.{AreKept, AreNear}
+use Rattle.dvd_read.specs.Inner.Standing.{AreKept, AreNear}
 use Rattle.dvd_read.proofs.columns.answer_copied.Given as goal
 
 -- the columns before are answered, and the others are as they were

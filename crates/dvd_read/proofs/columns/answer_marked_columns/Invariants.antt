@@ -1,5 +1,5 @@
 use Rattle.std.proofs.Common.{map}
-use Rattle.dvd_read.specs.Found.{answer_word}
+use Rattle.dvd_read.specs.Inner.Found.{answer_word}
 use Rattle.dvd_read.proofs.ColumnAnswers.{AreColumnsBefore}
 use Rattle.dvd_read.proofs.columns.answer_marked_columns.Given as goal
 

@@ -1,5 +1,5 @@
 use Rattle.std.proofs.Common.{◌*◌}
-use Rattle.dvd_read.specs.Standing.{AreWhole}
+use Rattle.dvd_read.specs.Inner.Standing.{AreWhole}
 use Rattle.dvd_read.proofs.columns.find_codewords.Given as goal
 
 -- what is noted of the columns before

@@ -1,7 +1,7 @@
 use Rattle.std.proofs.Common.{sym, arith}
 use Rattle.dvd_capture.specs.TwoPass.{from_columns}
 use Rattle.dvd_capture.proofs.Columns.{length-from_columns}
-use Rattle.dvd_read.specs.Found.{words_of}
+use Rattle.dvd_read.specs.Inner.Found.{words_of}
 use Rattle.dvd_read.proofs.ColumnAnswers.{wrong_first, wrong_none}
 use Rattle.dvd_read.proofs.columns.first_wrong.Goals as goal
 

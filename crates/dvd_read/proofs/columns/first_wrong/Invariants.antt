@@ -2,7 +2,7 @@ use Rattle.std.proofs.Common.{◌≡◌, ℕ, ◌<◌, true}
 use Rattle.rs_decode.specs.Nearest.{vanishes_at_all}
 use Rattle.dvd_block.specs.Product.{line}
 use Rattle.dvd_capture.specs.TwoPass.{from_columns}
-use Rattle.dvd_read.specs.Found.{words_of}
+use Rattle.dvd_read.specs.Inner.Found.{words_of}
 use Rattle.dvd_read.proofs.columns.first_wrong.Given as goal
 
 abbrev pub invariant-loop-i : goal.invariant-loop-i

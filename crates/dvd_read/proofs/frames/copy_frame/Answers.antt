@@ -1,6 +1,6 @@
 use Rattle.std.proofs.Common.{◌≡◌, ◌∙◌, ◌*◌, ℕ, take, refl, sym, ap, arith}
 use Rattle.dvd_capture.specs.TwoPass.{from_columns}
-use Rattle.dvd_read.specs.Found.{words_of}
+use Rattle.dvd_read.specs.Inner.Found.{words_of}
 use Rattle.dvd_read.proofs.FrameFaults.{fronts, fronts-all, fronts-next}
 use Rattle.dvd_read.proofs.frames.copy_frame.Goals as goal
 

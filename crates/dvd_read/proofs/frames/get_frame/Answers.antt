@@ -5,7 +5,7 @@ use Rattle.dvd_capture.specs.Parts.{received_rows}
 use Rattle.dvd_capture.specs.TwoPass.{from_columns}
 use Rattle.dvd_capture.specs.declared.parts.ColumnAnswer.{ColumnAnswer}
 use Rattle.dvd_capture.proofs.Columns.{from_columns-line, length-from_columns}
-use Rattle.dvd_read.specs.Found.{words_of}
+use Rattle.dvd_read.specs.Inner.Found.{words_of}
 use Rattle.dvd_read.proofs.Differences.{rows-same}
 use Rattle.dvd_read.proofs.FrameFaults.{frames-same}
 use Rattle.dvd_read.proofs.frames.get_frame.Goals as goal

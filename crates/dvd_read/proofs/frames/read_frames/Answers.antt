@@ -2,7 +2,7 @@ use Rattle.std.proofs.Common.{◌≡◌, ◌∙◌, ◌+◌, ℕ, List, length, 
 use Rattle.dvd_capture.specs.Parts.{sector_bytes}
 use Rattle.dvd_capture.specs.TwoPass.{from_columns}
 use Rattle.dvd_frame.specs.Frame.{main_in}
-use Rattle.dvd_read.specs.Found.{words_of}
+use Rattle.dvd_read.specs.Inner.Found.{words_of}
 use Rattle.dvd_read.proofs.FrameFaults.{AreMainsBefore, cause_as, fault-here, fault-next, fault-none, mains-all, mains-next}
 use Rattle.dvd_read.proofs.frames.read_frames.Goals as goal
 

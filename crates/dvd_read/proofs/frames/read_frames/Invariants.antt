@@ -1,6 +1,6 @@
 use Rattle.dvd_capture.specs.Parts.{sector_bytes}
 use Rattle.dvd_capture.specs.TwoPass.{from_columns}
-use Rattle.dvd_read.specs.Found.{words_of}
+use Rattle.dvd_read.specs.Inner.Found.{words_of}
 use Rattle.dvd_read.proofs.FrameFaults.{AreMainsBefore, NoFaultBefore}
 use Rattle.dvd_read.proofs.frames.read_frames.Given as goal
 

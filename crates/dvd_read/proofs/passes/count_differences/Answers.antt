@@ -3,7 +3,8 @@ use Rattle.std.proofs.lemmas.List.{take_all}
 use Rattle.dvd_capture.specs.Parts.{received_rows}
 use Rattle.dvd_capture.specs.TwoPass.{from_columns}
 use Rattle.dvd_capture.proofs.Columns.{length-from_columns}
-use Rattle.dvd_read.specs.Found.{block_differences, differences, words_of}
+use Rattle.dvd_read.specs.Found.{block_differences, differences}
+use Rattle.dvd_read.specs.Inner.Found.{words_of}
 use Rattle.dvd_read.proofs.Differences.{block_differences-none, block_differences-next}
 use Rattle.dvd_read.proofs.passes.count_differences.Goals as goal
 

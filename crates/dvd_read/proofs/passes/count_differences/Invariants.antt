@@ -1,7 +1,8 @@
 use Rattle.std.proofs.Common.{◌≡◌, ◌≤◌, ◌*◌, take}
 use Rattle.dvd_capture.specs.Parts.{received_rows}
 use Rattle.dvd_capture.specs.TwoPass.{from_columns}
-use Rattle.dvd_read.specs.Found.{block_differences, words_of}
+use Rattle.dvd_read.specs.Found.{block_differences}
+use Rattle.dvd_read.specs.Inner.Found.{words_of}
 use Rattle.dvd_read.proofs.passes.count_differences.Given as goal
 
 abbrev pub invariant-loop-i : goal.invariant-loop-i

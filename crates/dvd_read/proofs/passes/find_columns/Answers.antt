@@ -4,7 +4,7 @@ use Rattle.rs_decode.specs.Filling.{marked}
 use Rattle.rs_decode.specs.Nearest.{vanishes_at_all}
 use Rattle.dvd_capture.specs.TwoPass.{AgreesWith, failed_of, from_columns}
 use Rattle.dvd_capture.proofs.Columns.{length-from_columns}
-use Rattle.dvd_read.specs.Found.{answer_word, words_of}
+use Rattle.dvd_read.specs.Inner.Found.{answer_word, words_of}
 use Rattle.dvd_read.proofs.ColumnAnswers.{wrong_none}
 use Rattle.dvd_read.proofs.Outcomes.{rows_cause}
 use Rattle.dvd_read.proofs.FoundColumns.{column_refused, row_refused, block_accepted, words-found}

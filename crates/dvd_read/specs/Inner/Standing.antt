@@ -6,7 +6,7 @@ use Rattle.rs_decode.specs.Nearest.{near_of}
 use Rattle.dvd_block.specs.Product.{column}
 use Rattle.dvd_capture.specs.declared.parts.AnswerRow.{AnswerRow}
 use Rattle.dvd_capture.specs.declared.parts.ColumnAnswer.{ColumnAnswer}
-use Rattle.dvd_read.specs.Found.{answer_word, column_word}
+use Rattle.dvd_read.specs.Inner.Found.{answer_word, column_word}
 
 -- the bytes of the rows' answers; where no row failed, these are the words of the answers
 abbrev pub bytes_of : List AnswerRow → List (List ℕ)

@@ -1,0 +1,40 @@
+//! The line of an ECC block that two passes refuse, and that a round of iterated reading gave back.
+ghost use Rattle.std.specs.Prelude.{◌≡◌, OnOk, OnErr};
+ghost use Rattle.std.specs.Io.KnownBytes.{Appends};
+ghost use Rattle.dvd_layout.specs.Place.{HasNumbers};
+ghost use Rattle.dvd_ports.specs.Causes.{HasCause};
+ghost use Rattle.dvd_ports.specs.Whole.{AppendsPrefix};
+ghost use Rattle.dvd_report.specs.Lines.{round_line};
+
+use crate::cause::put_block;
+use crate::text::Line;
+use dvd_layout::BlockPlan;
+use dvd_ports::{Sink, WriteFault, write_whole};
+
+/// Writes the line of block `k` of a plan, which this round gave back: `block K sector H6 layer L: round T` and a line feed.
+/// After a fault a prefix of the line was written.
+pub fn write_round<E: Sink>(
+    k: u64,
+    plan: &BlockPlan,
+    round: u8,
+    report: &mut E,
+) -> Result<(), WriteFault>
+    requires { HasNumbers plan.now }
+    ensures written { OnOk result (Appends (E.seen report.old).bytes (E.seen report.new).bytes (round_line k plan.now round)) }
+    ensures begun { OnErr result (AppendsPrefix (E.seen report.old).bytes (E.seen report.new).bytes (round_line k plan.now round)) }
+    ensures cause { HasCause (E.seen report.old).faults (E.seen report.new).faults result }
+{
+    write_whole(report, line_of(k, plan, round).as_slice())
+}
+
+#[tactic(auto, unfolding(crate::specs::Lines::round_line))]
+fn line_of(k: u64, plan: &BlockPlan, round: u8) -> Line
+    ensures { result ≡ round_line k plan.now round }
+{
+    let mut line = Line::new();
+    put_block(&mut line, k, plan);
+    line.put(b": round ");
+    line.put_byte(round);
+    line.put(b"\n");
+    line
+}
