@@ -1,0 +1,84 @@
+-- Rows in the marked form.
+use Rattle.std.proofs.Common.{◌≡◌, ℕ, ◌+◌, ◌*◌, ◌<◌, ◌≤◌, Bool, false, if◌then◌else◌, List, [], ◌∷◌, ◌++◌, length, map, take, drop, get_or, set, refl, sym, ◌∙◌, ap, arith}
+use Rattle.std.specs.List.{range_with_len}
+use Rattle.std.specs.Simd.Lanes.{zip2}
+use Rattle.std.proofs.lemmas.List.Sums.{fold_more}
+use Rattle.std.proofs.lemmas.List.{ext_get_or, map-append, take-append-drop, take_all, take_more, take_more_set}
+use Rattle.std.proofs.lemmas.List.FromFn.{length-map-range_with_len, get_or-map-range_with_len}
+use Rattle.std.proofs.lemmas.Simd.{get_or-zip2, length-zip2}
+use Rattle.dvd_block.specs.Product.{line}
+use Rattle.dvd_capture.specs.Answers.{marks_line}
+use Rattle.dvd_merge.specs.Join.{Table, join, join_rows, join_tables, row_of, seen, seen_row, seen_table}
+use Rattle.dvd_merge.specs.MarkedText.{number_of_marks, with_digit}
+use Rattle.dvd_merge.specs.declared.place.Place.{Place}
+use Rattle.dvd_merge.specs.declared.place.Place.TheVariants.{Unseen}
+
+-- the number of the first marks of a row of eight
+abbrev pub first_number : List Bool → ℕ → ℕ
+first_number marks k = number_of_marks (take k marks)
+
+pub first_number-none : (marks : List Bool) → first_number marks 0 ≡ 0
+unfolding number_of_marks
+first_number-none marks = refl
+
+pub first_number-more : (marks : List Bool) (k : ℕ) (mark : Bool) → k < length marks → get_or marks k false ≡ mark
+    → first_number marks (k + 1) ≡ 2 * first_number marks k + (if mark then 1 else 0)
+unfolding number_of_marks
+first_number-more marks k mark within is =
+    fold_more with_digit 0 marks k false within ∙ ap (λ m. 2 * first_number marks k + (if m then 1 else 0)) is
+
+-- one cell more of a row's bytes or marks
+pub cell_more : {B : Type 0} (f : Place → B) (places : List Place) (cells : List B) (j : ℕ) (cell : B) → j < length places → j < length cells
+    → take j cells ≡ map f (take j places) → cell ≡ f (get_or places j Unseen) → take (j + 1) (set cells j cell) ≡ map f (take (j + 1) places)
+cell_more f places cells j cell in_places in_cells before is =
+    take_more_set cells j cell in_cells ∙ ap (λ front. front ++ cell ∷ []) before ∙ ap (λ c. map f (take j places) ++ c ∷ []) is
+    ∙ sym (map-append f (take j places) (get_or places j Unseen ∷ [])) ∙ ap (map f) (sym (take_more places j Unseen in_places))
+
+-- all cells, and what stands behind them
+pub cells_all : {B : Type 0} (f : Place → B) (places : List Place) (cells old : List B) (j n : ℕ) → n ≤ j → j ≤ n → length places ≡ n
+    → take j cells ≡ map f (take j places) → drop n cells ≡ drop n old → cells ≡ map f places ++ drop n old
+cells_all f places cells old j n least most size front behind =
+    let last : j ≡ n = omega (arith, least, most) in
+    sym (take-append-drop n cells)
+    ∙ ap (λ l. l ++ drop n cells) (ap (λ k. take k cells) (sym last) ∙ front ∙ ap (map f) (take_all j places (omega (arith, size, last))))
+    ∙ ap (λ l. map f places ++ l) behind
+
+-- all bytes of mark bits
+pub packed_all : (marks : List Bool) (bytes : List ℕ) → length bytes ≡ 23
+    → ((q : ℕ) → q < 23 → get_or bytes q 0 ≡ number_of_marks (take 8 (drop (8 * q) marks)))
+    → bytes ≡ map (λ k. number_of_marks (take 8 (drop (8 * k) marks))) (range_with_len 0 23)
+packed_all marks bytes size each =
+    ext_get_or 0 bytes (map at (range_with_len 0 23)) (size ∙ sym (length-map-range_with_len at 0 23))
+    (λ q within. let below : q < 23 = omega (arith, size, within) in
+    each q below ∙ sym (get_or-map-range_with_len at 0 23 q q 0 below (omega arith))) where
+      at : ℕ → ℕ
+      at k = number_of_marks (take 8 (drop (8 * k) marks))
+
+-- a list that is joined at each place is the join
+pub zipped_all : {A B C : Type 0} (f : A → B → C) (xs : List A) (ys : List B) (zs : List C) (n : ℕ) (a : A) (b : B) (c : C)
+    → length xs ≡ n → length ys ≡ n → length zs ≡ n → ((q : ℕ) → q < n → get_or zs q c ≡ f (get_or xs q a) (get_or ys q b)) → zs ≡ zip2 f xs ys
+zipped_all f xs ys zs n a b c xs_size ys_size zs_size each =
+    ext_get_or c zs (zip2 f xs ys) (zs_size ∙ sym (length-zip2 f xs ys (xs_size ∙ sym ys_size) ∙ xs_size))
+    (λ q within. let below : q < n = omega (arith, zs_size, within) in
+    each q below ∙ sym (get_or-zip2 f xs ys q a b c (omega (arith, below, xs_size)) (omega (arith, below, ys_size))))
+
+-- a received row
+pub row_taken : (old now : List Place) (bytes : List ℕ) (marks : List Bool) → length old ≡ 182 → length bytes ≡ 182 → length marks ≡ 182 → length now ≡ 182
+    → ((q : ℕ) → q < 182 → get_or now q Unseen ≡ join (get_or old q Unseen) (seen (get_or bytes q 0) (get_or marks q false)))
+    → now ≡ join_rows old (seen_row bytes marks)
+row_taken old now bytes marks old_size bytes_size marks_size now_size each =
+    zipped_all join old (seen_row bytes marks) now 182 Unseen Unseen Unseen old_size
+    (length-zip2 seen bytes marks (bytes_size ∙ sym marks_size) ∙ bytes_size) now_size
+    (λ q below. each q below ∙ ap (join (get_or old q Unseen))
+    (sym (get_or-zip2 seen bytes marks q 0 false Unseen (omega (arith, below, bytes_size)) (omega (arith, below, marks_size)))))
+
+-- a received block
+pub table_taken : (old now : Table) (rows : List (List ℕ)) (marks : List (List Bool)) → length old ≡ 208 → length rows ≡ 208 → length marks ≡ 208 → length now ≡ 208
+    → ((q : ℕ) → q < 208 → row_of now q ≡ join_rows (row_of old q) (seen_row (line rows q) (marks_line marks q)))
+    → now ≡ join_tables old (seen_table rows marks)
+unfolding join_tables seen_table
+table_taken old now rows marks old_size rows_size marks_size now_size each =
+    zipped_all join_rows old (zip2 seen_row rows marks) now 208 [] [] [] old_size
+    (length-zip2 seen_row rows marks (rows_size ∙ sym marks_size) ∙ rows_size) now_size
+    (λ q below. each q below ∙ ap (join_rows (row_of old q))
+    (sym (get_or-zip2 seen_row rows marks q [] [] [] (omega (arith, below, rows_size)) (omega (arith, below, marks_size)))))

@@ -1,0 +1,69 @@
+-- Ours: several captures of one ECC block (ECMA-267, 18) joined place by place. A table has what is known of each place:
+-- 208 rows of 182 places.
+use Rattle.std.specs.Prelude.{ℕ, ◌==◌, Bool, true, false, if◌then◌else◌, List, [], map, replicate, slice_index_or}
+use Rattle.std.specs.List.{fold}
+use Rattle.std.specs.Simd.Lanes.{zip2}
+use Rattle.dvd_merge.specs.declared.place.Place.{Place}
+use Rattle.dvd_merge.specs.declared.place.Place.TheVariants.{Unseen, Value, Conflict}
+
+abbrev pub Table : Type 0
+Table = List (List Place)
+
+-- Ours: what two captures know of a place. One that hasn't seen it changes nothing, and two values make a conflict, which stays.
+unfoldable pub join : Place → Place → Place
+join Unseen other = other
+join (Value a) Unseen = Value a
+join (Value a) (Value b) = if a == b then Value a else Conflict
+join (Value a) Conflict = Conflict
+join Conflict other = Conflict
+
+-- Ours: what a capture knows of a place: nothing where it is marked, its byte elsewhere
+abbrev pub seen : ℕ → Bool → Place
+seen byte mark = if mark then Unseen else Value byte
+
+-- Ours: the table of a captured block
+abbrev pub seen_row : List ℕ → List Bool → List Place
+seen_row bytes marks = zip2 seen bytes marks
+
+unfoldable pub seen_table : List (List ℕ) → List (List Bool) → Table
+seen_table rows marks = zip2 seen_row rows marks
+
+-- Ours: the join of two tables, place by place
+abbrev pub join_rows : List Place → List Place → List Place
+join_rows a b = zip2 join a b
+
+unfoldable pub join_tables : Table → Table → Table
+join_tables a b = zip2 join_rows a b
+
+-- Ours: the table in which no place is seen
+unfoldable pub unseen : Table
+unseen = replicate 208 (replicate 182 Unseen)
+
+-- Ours: the join of the tables of all captures
+unfoldable pub joined : List Table → Table
+joined tables = fold join_tables unseen tables
+
+-- row i, and what is known of the place in row i at j
+abbrev pub row_of : Table → ℕ → List Place
+row_of table i = slice_index_or table i []
+
+abbrev pub place_of : Table → ℕ → ℕ → Place
+place_of table i j = slice_index_or (row_of table i) j Unseen
+
+-- Ours: the byte of a place, 0 where none is known, and its mark
+abbrev pub byte_of : Place → ℕ
+byte_of (Value byte) = byte
+byte_of Unseen = 0
+byte_of Conflict = 0
+
+abbrev pub mark_of : Place → Bool
+mark_of (Value byte) = false
+mark_of Unseen = true
+mark_of Conflict = true
+
+-- Ours: the rows of a table, as bytes and as marks
+unfoldable pub joined_rows : Table → List (List ℕ)
+joined_rows table = map (map byte_of) table
+
+unfoldable pub joined_marks : Table → List (List Bool)
+joined_marks table = map (map mark_of) table

@@ -1,0 +1,5 @@
+pub mod Agreeing
+pub mod Join
+pub mod Laws
+pub mod MarkedText
+pub mod Merges

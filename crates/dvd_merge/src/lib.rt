@@ -1,0 +1,14 @@
+//! Captures of one ECC block of a DVD (ECMA-267, clause 18) joined place by place: what one capture has lost another may
+//! have received, and where two received different bytes neither is believed.
+#![tactic(auto)]
+
+pub mod laws; // what holds of every join, as contracts alone
+mod merge; // what is known of each place of a block
+mod place; // what is known of a place
+mod record; // a row in the marked form
+
+pub use merge::Merge;
+pub use place::Place;
+
+#[cfg(test)]
+mod tests;

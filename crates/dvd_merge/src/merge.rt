@@ -1,0 +1,109 @@
+//! What captures of a block know of each of its places.
+ghost use Rattle.std.specs.Prelude.{◌≡◌, ◌<◌, vec_len, slice_set, IfOk, OnOk, OnErr};
+ghost use Rattle.std.specs.Io.KnownBytes.{Appends};
+ghost use Rattle.std.specs.Simd.Lanes.{zip2};
+ghost use Rattle.dvd_capture.specs.Rule.{HasBlock};
+ghost use Rattle.dvd_capture.specs.Works.{marks_of_work, rows_of, stage_of};
+ghost use Rattle.dvd_ports.specs.Causes.{HasCause};
+ghost use Rattle.dvd_ports.specs.Whole.{AppendsPrefix};
+ghost use Rattle.dvd_merge.specs.Join.{join, join_rows, join_tables, place_of, row_of, seen_row, seen_table, unseen};
+ghost use Rattle.dvd_merge.specs.MarkedText.{marked_text};
+ghost use Rattle.dvd_merge.specs.declared.place.Place.TheVariants.{Value};
+
+use crate::place::Place;
+use crate::record::{RECORD, fill_record};
+use dvd_block::row_of_record;
+use dvd_capture::Work;
+use dvd_ports::{NoMemory, Sink, WriteFault, write_whole};
+use std::alloc::Global;
+
+/// What captures of a block know of its places: 208 rows of 182, two bytes a place, which are twice 37,856 bytes in sum.
+#[derive(Drop)]
+pub struct Merge {
+    rows: Vec<[Place; 182]>,
+    pub ghost size: { vec_len rows ≡ 208 },
+}
+
+impl Merge {
+    ghost use Rattle.dvd_merge.specs.Merges.{table_of};
+
+    /// No place is seen. `NoMemory` may come at any time, and nothing is taken then.
+    pub fn new(alloc: Global) -> Result<Merge, NoMemory>
+        ensures { IfOk result (λ merge. table_of merge ≡ unseen) }
+    {
+        let rows = vec![in alloc; [Place::Unseen; 182]; 208].map_err(|_| NoMemory)?;
+        Ok(Merge { rows })
+    }
+
+    /// Forgets all places.
+    pub fn clear(&mut self)
+        ensures { table_of self.new ≡ unseen }
+    {
+        self.rows.fill([Place::Unseen; 182]);
+    }
+
+    /// Joins a byte into row `i` at place `j`. All else stays.
+    pub fn see(&mut self, i: usize, j: usize, byte: u8)
+        requires row { i < 208 }
+        requires place { j < 182 }
+        ensures { table_of self.new ≡ slice_set (table_of self.old) i
+            (slice_set (row_of (table_of self.old) i) j (join (place_of (table_of self.old) i j) (Value byte))) }
+    {
+        let place = &mut self.rows[i][j];
+        *place = place.join(Place::Value(byte));
+    }
+
+    /// Joins each place of the received block: its byte, or nothing where it is marked.
+    pub fn take(&mut self, work: &Work)
+        requires { HasBlock (stage_of work.now) }
+        ensures { table_of self.new ≡ join_tables (table_of self.old) (seen_table (rows_of work.now) (marks_of_work work.now)) }
+    {
+        let mut marks = [false; 182];
+        for (i, places) in self.rows.iter_mut().enumerate() {
+            work.marks.row(i, &mut marks);
+            take_row(places, work.received.row(i), &marks);
+        }
+    }
+
+    /// What is known of the place in row `i` at `j`.
+    pub fn place(&self, i: usize, j: usize) -> Place
+        requires row { i < 208 }
+        requires place { j < 182 }
+        ensures { result ≡ place_of (table_of self.now) i j }
+    {
+        self.rows[i][j]
+    }
+
+    /// Writes the block in the marked form, 42,640 bytes: a place with no known byte is 0 and marked. After a fault a prefix
+    /// of them was taken.
+    pub fn write_marked<K: Sink>(&self, out: &mut K) -> Result<(), WriteFault>
+        ensures written { OnOk result (Appends (K.seen out.old).bytes (K.seen out.new).bytes (marked_text (table_of self.now))) }
+        ensures begun { OnErr result (AppendsPrefix (K.seen out.old).bytes (K.seen out.new).bytes (marked_text (table_of self.now))) }
+        ensures cause { HasCause (K.seen out.old).faults (K.seen out.new).faults result }
+    {
+        let mut record = [0; RECORD];
+        for m in 0..208 {
+            fill_record(&self.rows[row_of_record(m)], &mut record);
+            write_whole(out, &record)?;
+        }
+        Ok(())
+    }
+
+    /// Joins each place of a received row into row `i`: its byte, or nothing where it is marked. All else stays.
+    pub fn take_row(&mut self, i: usize, bytes: &[u8; 182], marks: &[bool; 182])
+        requires { i < 208 }
+        ensures { table_of self.new ≡ slice_set (table_of self.old) i
+            (join_rows (row_of (table_of self.old) i) (seen_row bytes.now marks.now)) }
+    {
+        take_row(&mut self.rows[i], bytes, marks);
+    }
+}
+
+// Joins each place of a received row.
+fn take_row(places: &mut [Place; 182], bytes: &[u8; 182], marks: &[bool; 182])
+    ensures { places.new ≡ join_rows places.old (seen_row bytes.now marks.now) }
+{
+    for (j, place) in places.iter_mut().enumerate() {
+        *place = place.join(Place::seen(bytes[j], marks[j]));
+    }
+}
