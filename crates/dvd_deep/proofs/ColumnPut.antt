@@ -1,0 +1,79 @@
+-- A column that is put into its rows, one byte after the other.
+use Rattle.std.proofs.Common.{◌≡◌, ◌≢◌, ◌∙◌, ℕ, ◌+◌, ◌<◌, Bool, false, List, [], length, get_or, set, slice_index, inl, inr, sym, ap, arith}
+use Rattle.std.proofs.lemmas.Bool.{cases_eq}
+use Rattle.std.proofs.lemmas.List.{get_or-set_same, get_or-set_other, length-set}
+use Rattle.dvd_block.specs.Product.{line, place}
+use Rattle.dvd_capture.specs.Answers.{marks_line}
+use Rattle.dvd_deep.specs.Rounds.{mark_in}
+use Rattle.dvd_deep.specs.Inner.Steps.{AreMarksTaken, IsColumnPut}
+
+-- the first i rows have their byte and no mark at place j, and all else is as it was
+pub record IsPutBefore (j : ℕ) (word : List ℕ) (old now : List (List ℕ)) (marks_old marks_now : List (List Bool)) (i : ℕ) : Type 0 where
+  pub put : (k : ℕ) → k < i → place now k j ≡ slice_index word k
+  pub wide : (k : ℕ) → k < i → length (line now k) ≡ 182
+  pub taken : (k : ℕ) → k < i → mark_in marks_now k j ≡ false
+  pub others : (k p : ℕ) → k < 208 → p < 182 → p ≢ j → place now k p ≡ place old k p
+  pub marks_others : (k p : ℕ) → k < 208 → p < 182 → p ≢ j → mark_in marks_now k p ≡ mark_in marks_old k p
+
+-- one place of one row is set
+set-same : {X : Type 0} (rows : List (List X)) (i j : ℕ) (x d : X) → i < length rows → j < length (get_or rows i [])
+    → get_or (get_or (set rows i (set (get_or rows i []) j x)) i []) j d ≡ x
+set-same rows i j x d within inside =
+    ap (λ row. get_or row j d) (get_or-set_same rows i (set (get_or rows i []) j x) [] within) ∙ get_or-set_same (get_or rows i []) j x d inside
+
+set-other : {X : Type 0} (rows : List (List X)) (i j k p : ℕ) (x d : X) → i < length rows → p ≢ j
+    → get_or (get_or (set rows i (set (get_or rows i []) j x)) k []) p d ≡ get_or (get_or rows k []) p d
+set-other rows i j k p x d within other = elim (cases_eq k i) [
+  | inl same ↦
+      ap (λ n. get_or (get_or (set rows i (set (get_or rows i []) j x)) n []) p d) same
+      ∙ ap (λ row. get_or row p d) (get_or-set_same rows i (set (get_or rows i []) j x) [] within)
+      ∙ get_or-set_other (get_or rows i []) j p x d other ∙ ap (λ n. get_or (get_or rows n []) p d) (sym same)
+  | inr apart ↦ ap (λ row. get_or row p d) (get_or-set_other rows i k (set (get_or rows i []) j x) [] apart)
+]
+
+set-elsewhere : {X : Type 0} (rows : List (List X)) (i j k p : ℕ) (x d : X) → k ≢ i
+    → get_or (get_or (set rows i (set (get_or rows i []) j x)) k []) p d ≡ get_or (get_or rows k []) p d
+set-elsewhere rows i j k p x d apart = ap (λ row. get_or row p d) (get_or-set_other rows i k (set (get_or rows i []) j x) [] apart)
+
+-- one row more
+pub put-next : (j : ℕ) (word : List ℕ) (old now new : List (List ℕ)) (marks_old marks_now marks_new : List (List Bool)) (i : ℕ)
+    → length now ≡ 208 → length marks_now ≡ 208 → i < 208 → j < 182 → length (marks_line marks_now i) ≡ 182
+    → new ≡ set now i (set (line now i) j (slice_index word i)) → length (line new i) ≡ 182
+    → marks_new ≡ set marks_now i (set (marks_line marks_now i) j false)
+    → IsPutBefore j word old now marks_old marks_now i → IsPutBefore j word old new marks_old marks_new (i + 1)
+put-next j word old now new marks_old marks_now marks_new i height marks_height below inside marks_width new_is width marks_is part =
+    let within : i < length now = omega (arith, height) in
+    let marks_within : i < length marks_now = omega (arith, marks_height) in
+    let row_width : length (line now i) ≡ 182 =
+    sym (length-set (line now i) j (slice_index word i)) ∙ sym (ap length (ap (λ l. line l i) new_is ∙ get_or-set_same now i (set (line now i) j (slice_index word i)) [] within)) ∙ width in
+    record {
+      put = λ k k_below. elim (cases_eq k i) [
+        | inl same ↦
+            ap (λ n. place new n j) same ∙ ap (λ l. place l i j) new_is ∙ set-same now i j (slice_index word i) 0 within (omega (arith, row_width))
+            ∙ ap (slice_index word) (sym same)
+        | inr apart ↦ ap (λ l. place l k j) new_is ∙ set-elsewhere now i j k j (slice_index word i) 0 apart ∙ part.put k (omega arith)
+      ];
+      wide = λ k k_below. elim (cases_eq k i) [
+        | inl same ↦ ap (λ n. length (line new n)) same ∙ width
+        | inr apart ↦
+            ap (λ l. length (line l k)) new_is ∙ ap length (get_or-set_other now i k (set (line now i) j (slice_index word i)) [] apart) ∙ part.wide k (omega arith)
+      ];
+      taken = λ k k_below. elim (cases_eq k i) [
+        | inl same ↦
+            ap (λ n. mark_in marks_new n j) same ∙ ap (λ l. mark_in l i j) marks_is ∙ set-same marks_now i j false false marks_within (omega (arith, marks_width))
+        | inr apart ↦ ap (λ l. mark_in l k j) marks_is ∙ set-elsewhere marks_now i j k j false false apart ∙ part.taken k (omega arith)
+      ];
+      others = λ k p k_below p_below apart.
+          ap (λ l. place l k p) new_is ∙ set-other now i j k p (slice_index word i) 0 within apart ∙ part.others k p k_below p_below apart;
+      marks_others = λ k p k_below p_below apart.
+          ap (λ l. mark_in l k p) marks_is ∙ set-other marks_now i j k p false false marks_within apart ∙ part.marks_others k p k_below p_below apart;
+    }
+
+-- all rows
+pub column-put : (j : ℕ) (word : List ℕ) (old now : List (List ℕ)) (marks_old marks_now : List (List Bool)) → IsPutBefore j word old now marks_old marks_now 208
+    → IsColumnPut j word old now
+column-put j word old now marks_old marks_now part = record { here = λ i below. part.put i below; others = part.others }
+
+pub marks-taken : (j : ℕ) (word : List ℕ) (old now : List (List ℕ)) (marks_old marks_now : List (List Bool)) → IsPutBefore j word old now marks_old marks_now 208
+    → AreMarksTaken j marks_old marks_now
+marks-taken j word old now marks_old marks_now part = record { here = λ i below. part.taken i below; others = part.marks_others }

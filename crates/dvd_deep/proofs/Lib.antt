@@ -1,0 +1,9 @@
+pub mod RowStep
+pub mod ColumnStep
+pub mod ColumnPut
+pub mod Searches
+pub mod Mains
+pub mod Products
+pub mod RoundOne
+pub mod TrueBytes
+pub mod Readings

@@ -1,0 +1,98 @@
+-- The row step, one row after the other.
+use Rattle.std.proofs.Common.{◌≡◌, ◌≢◌, ◌∙◌, ℕ, ◌+◌, ◌<◌, ◌≤◌, Bool, true, false, not, cond, List, [], length, map, get_or, set, replicate, unwrap_or, inl, inr, refl, sym, ap, arith, Some, None, is_none, is_some}
+use Rattle.std.specs.List.{range_with_len}
+use Rattle.std.specs.declared.option.Option.{Option}
+use Rattle.std.proofs.lemmas.Bool.{cases_eq}
+use Rattle.std.proofs.lemmas.List.{get_or-set_same, get_or-set_other}
+use Rattle.std.proofs.lemmas.List.FromFn.{fill_by_all}
+use Rattle.rs_decode.specs.Nearest.{near_of}
+use Rattle.dvd_block.specs.Product.{line}
+use Rattle.dvd_capture.specs.Answers.{marks_line}
+use Rattle.dvd_deep.specs.Rounds.{State, failed_rows, row_near, row_step, state_in}
+
+-- what becomes of a row and of its marks
+abbrev pub row_then : State → ℕ → List ℕ
+row_then state i = unwrap_or (row_near state i) (line state.rows i)
+
+abbrev pub marks_then : State → ℕ → List Bool
+marks_then state i = cond (is_some (row_near state i)) (replicate 182 false) (marks_line state.marks i)
+
+-- the rows before row i have had their step, and the others are as they were
+pub record IsStepped (state : State) (rows : List (List ℕ)) (marks : List (List Bool)) (failed : List Bool) (i : ℕ) : Type 0 where
+  pub rows_done : (k : ℕ) → k < i → line rows k ≡ row_then state k
+  pub marks_done : (k : ℕ) → k < i → marks_line marks k ≡ marks_then state k
+  pub failed_done : (k : ℕ) → k < i → get_or failed k false ≡ is_none (row_near state k)
+  pub wide : (k : ℕ) → k < i → length (line rows k) ≡ 182
+  pub rows_left : (k : ℕ) → i ≤ k → line rows k ≡ line state.rows k
+  pub marks_left : (k : ℕ) → i ≤ k → marks_line marks k ≡ marks_line state.marks k
+
+-- a row without an answer fails
+pub not-is_some : {X : Type 0} (found : Option X) → not (is_some found) ≡ is_none found
+not-is_some None = refl
+not-is_some (Some x) = refl
+
+-- the marks of a row are taken where it is answered, and stay where it isn't
+taken-here : (found : Option (List ℕ)) (answered : Bool) (marks marks_new : List (List Bool)) (i : ℕ) → i < length marks → answered ≡ is_some found
+    → marks_new ≡ cond answered (set marks i (replicate 182 false)) marks → marks_line marks_new i ≡ cond (is_some found) (replicate 182 false) (marks_line marks i)
+taken-here None answered marks marks_new i within is made = ap (λ l. marks_line l i) (made ∙ ap (λ b. cond b (set marks i (replicate 182 false)) marks) is)
+taken-here (Some word) answered marks marks_new i within is made =
+    ap (λ l. marks_line l i) (made ∙ ap (λ b. cond b (set marks i (replicate 182 false)) marks) is) ∙ get_or-set_same marks i (replicate 182 false) [] within
+
+taken-there : (answered : Bool) (marks marks_new : List (List Bool)) (i k : ℕ) → k ≢ i
+    → marks_new ≡ cond answered (set marks i (replicate 182 false)) marks → marks_line marks_new k ≡ marks_line marks k
+taken-there false marks marks_new i k other made = ap (λ l. marks_line l k) made
+taken-there true marks marks_new i k other made = ap (λ l. marks_line l k) made ∙ get_or-set_other marks i k (replicate 182 false) [] other
+
+-- one row more
+pub stepped-next : (state : State) (rows rows_new : List (List ℕ)) (marks marks_new : List (List Bool)) (failed failed_new : List Bool) (i : ℕ) (answered : Bool)
+    → i < length rows → i < length marks → i < length failed
+    → answered ≡ is_some (row_near (state_in rows marks) i) → rows_new ≡ set rows i (row_then (state_in rows marks) i) → length (line rows_new i) ≡ 182
+    → marks_new ≡ cond answered (set marks i (replicate 182 false)) marks → failed_new ≡ set failed i (not answered)
+    → IsStepped state rows marks failed i → IsStepped state rows_new marks_new failed_new (i + 1)
+stepped-next state rows rows_new marks marks_new failed failed_new i answered within marks_within failed_within is rows_are wide_here marks_are failed_are part =
+    let same : row_near (state_in rows marks) i ≡ row_near state i =
+    ap (λ (row : List ℕ). near_of 182 10 row (marks_line marks i)) (part.rows_left i (omega arith)) ∙ ap (near_of 182 10 (line state.rows i)) (part.marks_left i (omega arith)) in
+    let then : row_then (state_in rows marks) i ≡ row_then state i =
+    ap (λ (found : Option (List ℕ)). unwrap_or found (line rows i)) same ∙ ap (unwrap_or (row_near state i)) (part.rows_left i (omega arith)) in
+    let marks_here : marks_line marks_new i ≡ marks_then state i =
+    taken-here (row_near (state_in rows marks) i) answered marks marks_new i marks_within is marks_are
+    ∙ ap (λ (found : Option (List ℕ)). cond (is_some found) (replicate 182 false) (marks_line marks i)) same
+    ∙ ap (cond (is_some (row_near state i)) (replicate 182 false)) (part.marks_left i (omega arith)) in
+    record {
+      rows_done = λ k below. elim (cases_eq k i) [
+        | inl k_is ↦
+            ap (line rows_new) k_is ∙ ap (λ l. line l i) rows_are ∙ get_or-set_same rows i (row_then (state_in rows marks) i) [] within ∙ then ∙ ap (row_then state) (sym k_is)
+        | inr other ↦ ap (λ l. line l k) rows_are ∙ get_or-set_other rows i k (row_then (state_in rows marks) i) [] other ∙ part.rows_done k (omega arith)
+      ];
+      marks_done = λ k below. elim (cases_eq k i) [
+        | inl k_is ↦ ap (marks_line marks_new) k_is ∙ marks_here ∙ ap (marks_then state) (sym k_is)
+        | inr other ↦ taken-there answered marks marks_new i k other marks_are ∙ part.marks_done k (omega arith)
+      ];
+      failed_done = λ k below. elim (cases_eq k i) [
+        | inl k_is ↦
+            ap (λ n. get_or failed_new n false) k_is ∙ ap (λ l. get_or l i false) failed_are ∙ get_or-set_same failed i (not answered) false failed_within
+            ∙ ap not (is ∙ ap is_some same) ∙ not-is_some (row_near state i) ∙ ap (λ n. is_none (row_near state n)) (sym k_is)
+        | inr other ↦ ap (λ l. get_or l k false) failed_are ∙ get_or-set_other failed i k (not answered) false other ∙ part.failed_done k (omega arith)
+      ];
+      wide = λ k below. elim (cases_eq k i) [
+        | inl k_is ↦ ap (λ n. length (line rows_new n)) k_is ∙ wide_here
+        | inr other ↦ ap (λ l. length (line l k)) rows_are ∙ ap length (get_or-set_other rows i k (row_then (state_in rows marks) i) [] other) ∙ part.wide k (omega arith)
+      ];
+      rows_left = λ k from.
+          let other : k ≢ i = λ equal. omega (arith, equal) in
+          ap (λ l. line l k) rows_are ∙ get_or-set_other rows i k (row_then (state_in rows marks) i) [] other ∙ part.rows_left k (omega arith);
+      marks_left = λ k from.
+          let other : k ≢ i = λ equal. omega (arith, equal) in
+          taken-there answered marks marks_new i k other marks_are ∙ part.marks_left k (omega arith);
+    }
+
+-- all rows
+pub stepped-all : (state : State) (rows : List (List ℕ)) (marks : List (List Bool)) (failed : List Bool) → length rows ≡ 208 → length marks ≡ 208 → length failed ≡ 208
+    → IsStepped state rows marks failed 208 → (state_in rows marks ≡ row_step state) × (failed ≡ failed_rows state)
+unfolding row_step failed_rows
+stepped-all state rows marks failed height marks_height size part =
+    let rows_are : rows ≡ map (row_then state) (range_with_len 0 208) = fill_by_all (row_then state) rows 208 [] height part.rows_done in
+    let marks_are : marks ≡ map (marks_then state) (range_with_len 0 208) = fill_by_all (marks_then state) marks 208 [] marks_height part.marks_done in (
+      ap (λ l. state_in l marks) rows_are ∙ ap (state_in (map (row_then state) (range_with_len 0 208))) marks_are,
+      fill_by_all (λ i. is_none (row_near state i)) failed 208 false size part.failed_done,
+    )

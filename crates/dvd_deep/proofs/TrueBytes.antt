@@ -1,0 +1,200 @@
+-- Where the unmarked bytes are those of a product block, each codeword that is found is a row or a column of it.
+use Rattle.std.proofs.Common.{◌≡◌, ◌∙◌, ℕ, zero, suc, ◌<◌, ◌≤◌, Bool, true, false, true≢false, cond, List, [], length, map, get_or, replicate, slice_index, unwrap_or, refl, sym, ap, arith, Some, None, is_none, is_some}
+use Rattle.std.specs.List.{range_with_len}
+use Rattle.std.specs.Option.{option_or}
+use Rattle.std.specs.declared.option.Option.{Option}
+use Rattle.std.proofs.lemmas.List.{get_or-map, length-map, length-replicate}
+use Rattle.std.proofs.lemmas.List.FromFn.{length-map-range_with_len, get_or-map-range_with_len}
+use Rattle.gf_field.specs.Words.{IsCodeword, IsNear, cost}
+use Rattle.rs_decode.specs.Filling.{AgreeUnmarked, marked}
+use Rattle.rs_decode.specs.Nearest.{near_of}
+use Rattle.rs_decode.proofs.Near.{filling_near, near_once}
+use Rattle.rs_decode.proofs.Nearest.{near_of-is_near}
+use Rattle.dvd_block.specs.Product.{IsProduct, column, line, place}
+use Rattle.dvd_capture.specs.Answers.{marks_line}
+use Rattle.dvd_capture.proofs.Bound.{marked-cost}
+use Rattle.dvd_capture.proofs.Columns.{from_columns-line, from_columns-product}
+use Rattle.dvd_deep.specs.Laws.{TrueBytesGiveTheBlock}
+use Rattle.dvd_deep.specs.Rounds.{State, after, are_answered, column_marks, column_near, column_step, failed_rows, finishes, mark_in, round, row_near, row_step, state_in}
+use Rattle.dvd_deep.specs.Inner.Steps.{AreWide}
+use Rattle.dvd_deep.proofs.ColumnStep.{column_then, column-byte, length-column, mark_then}
+use Rattle.dvd_deep.proofs.RowStep.{marks_then}
+use Rattle.dvd_deep.proofs.RoundOne.{row_step-line}
+use Rattle.dvd_deep.proofs.Products.{finished-answered, last_round, length-column_marks, length-failed, round-rows, row_step-height, tested-at, word-then, words_then}
+
+-- the state has the bytes of this block at each place that isn't marked
+pub record IsTrueTo (block : List (List ℕ)) (state : State) : Type 0 where
+  pub wide : AreWide state.rows
+  pub marks_wide : (i : ℕ) → i < 208 → length (marks_line state.marks i) ≡ 182
+  pub bytes : (i j : ℕ) → i < 208 → j < 182 → mark_in state.marks i j ≡ false → place state.rows i j ≡ place block i j
+
+-- a codeword near a word whose unmarked bytes are another's is that other one
+near-true : (n r : ℕ) (received word truth : List ℕ) (marks : List Bool) → n ≤ 255 → IsCodeword n r truth → IsNear n r received marks word
+    → AgreeUnmarked marks received truth → word ≡ truth
+near-true n r received word truth marks short codeword near agree =
+    let few : marked marks ≤ cost word received marks =
+    marked-cost word received marks (near.codeword.size ∙ sym near.marks_size) (near.received_size ∙ sym near.marks_size) in
+    near_once n r received marks word truth short near
+    (filling_near n r received marks truth near.received_size near.marks_size
+    (record { codeword = codeword; agrees = agree; within = omega (arith, few, near.within) }))
+
+-- ---- rows
+
+row-true : (block : List (List ℕ)) (state : State) (i : ℕ) (word : List ℕ) → IsProduct block → IsTrueTo block state → i < 208 → row_near state i ≡ Some word
+    → word ≡ line block i
+row-true block state i word product are below is =
+    near-true 182 10 (line state.rows i) word (line block i) (marks_line state.marks i) (omega arith) (product.rows i [] (omega (arith, product.height)))
+    (near_of-is_near 182 10 (line state.rows i) word (marks_line state.marks i) (are.wide i below) (are.marks_wide i below) is)
+    (λ k within clear. sym (are.bytes i k below (omega (arith, are.marks_wide i below)) clear))
+
+-- what becomes of a row
+abbrev RowIs : (block : List (List ℕ)) (state : State) (i : ℕ) → Option (List ℕ) → Type 0
+RowIs block state i found =
+    (length (unwrap_or found (line state.rows i)) ≡ 182)
+    × (length (cond (is_some found) (replicate 182 false) (marks_line state.marks i)) ≡ 182)
+    × (is_none found ≡ false → unwrap_or found (line state.rows i) ≡ line block i)
+    × ((j : ℕ) → j < 182 → get_or (cond (is_some found) (replicate 182 false) (marks_line state.marks i)) j false ≡ false
+    → slice_index (unwrap_or found (line state.rows i)) j ≡ place block i j)
+
+row-by : (block : List (List ℕ)) (state : State) (i : ℕ) (found : Option (List ℕ)) → IsProduct block → IsTrueTo block state → i < 208 → row_near state i ≡ found
+    → RowIs block state i found
+row-by block state i None product are below is =
+    (are.wide i below, are.marks_wide i below, λ answered. absurd (true≢false answered), λ j inside clear. are.bytes i j below inside clear)
+row-by block state i (Some word) product are below is =
+    let same : word ≡ line block i = row-true block state i word product are below is in
+    (ap length same ∙ (product.rows i [] (omega (arith, product.height))).size, length-replicate 182 false, λ answered. same, λ j inside clear. ap (λ row. slice_index row j) same)
+
+row_step-marks : (state : State) (i : ℕ) → i < 208 → marks_line (row_step state).marks i ≡ marks_then state i
+unfolding row_step
+row_step-marks state i below = get_or-map-range_with_len (marks_then state) 0 208 i i [] below (omega arith)
+
+failed-at : (state : State) (i : ℕ) → i < 208 → get_or (failed_rows state) i false ≡ is_none (row_near state i)
+unfolding failed_rows
+failed-at state i below = get_or-map-range_with_len (λ k. is_none (row_near state k)) 0 208 i i false below (omega arith)
+
+rows-true : (block : List (List ℕ)) (state : State) → IsProduct block → IsTrueTo block state → IsTrueTo block (row_step state)
+rows-true block state product are = record {
+  wide = λ i below. ap length (row_step-line state i below) ∙ (row-by block state i (row_near state i) product are below refl).0;
+  marks_wide = λ i below. ap length (row_step-marks state i below) ∙ (row-by block state i (row_near state i) product are below refl).1;
+  bytes = λ i j below inside clear.
+      ap (λ (row : List ℕ). slice_index row j) (row_step-line state i below)
+      ∙ (row-by block state i (row_near state i) product are below refl).3 j inside (ap (λ (marks : List Bool). get_or marks j false) (sym (row_step-marks state i below)) ∙ clear);
+}
+
+-- a row that didn't fail is the block's
+row-found : (block : List (List ℕ)) (state : State) (i : ℕ) → IsProduct block → IsTrueTo block state → i < 208 → get_or (failed_rows state) i false ≡ false
+    → line (row_step state).rows i ≡ line block i
+row-found block state i product are below clear =
+    row_step-line state i below ∙ (row-by block state i (row_near state i) product are below refl).2 (sym (failed-at state i below) ∙ clear)
+
+-- ---- columns
+
+-- what either try finds
+either : (first second : Option (List ℕ)) (truth : List ℕ) → ((word : List ℕ) → first ≡ Some word → word ≡ truth) → ((word : List ℕ) → second ≡ Some word → word ≡ truth)
+    → (word : List ℕ) → option_or first second ≡ Some word → word ≡ truth
+either None second truth one other word is = other word is
+either (Some found) second truth one other word is = one word is
+
+column_marks-at : (marks : List (List Bool)) (j i : ℕ) → i < 208 → get_or (column_marks marks j) i false ≡ mark_in marks i j
+unfolding column_marks
+column_marks-at marks j i below = get_or-map-range_with_len (λ k. mark_in marks k j) 0 208 i i false below (omega arith)
+
+column-true : (block : List (List ℕ)) (state : State) (j : ℕ) (word : List ℕ) → IsProduct block → IsTrueTo block state → j < 182
+    → column_near (failed_rows state) (row_step state) j ≡ Some word → word ≡ column block j
+column-true block state j word product are inside is =
+    either (near_of 208 16 (column stepped.rows j) (failed_rows state)) (near_of 208 16 (column stepped.rows j) (column_marks stepped.marks j)) (column block j)
+    (λ found first.
+    near-true 208 16 (column stepped.rows j) found (column block j) (failed_rows state) (omega arith) codeword
+    (near_of-is_near 208 16 (column stepped.rows j) found (failed_rows state) width (length-failed state) first)
+    (λ k within clear.
+    let below : k < 208 = omega (arith, length-failed state) in
+    at-place k below (ap (λ (row : List ℕ). slice_index row j) (row-found block state k product are below clear))))
+    (λ found second.
+    near-true 208 16 (column stepped.rows j) found (column block j) (column_marks stepped.marks j) (omega arith) codeword
+    (near_of-is_near 208 16 (column stepped.rows j) found (column_marks stepped.marks j) width (length-column_marks stepped.marks j) second)
+    (λ k within clear.
+    let below : k < 208 = omega (arith, length-column_marks stepped.marks j) in
+    at-place k below ((rows-true block state product are).bytes k j below inside (sym (column_marks-at stepped.marks j k below) ∙ clear))))
+    word is where
+      stepped : State
+      stepped = row_step state
+
+      codeword : IsCodeword 208 16 (column block j)
+      codeword = product.columns j inside
+
+      width : length (column (row_step state).rows j) ≡ 208
+      width = length-column (row_step state).rows j ∙ row_step-height state
+
+      at-place : (k : ℕ) → k < 208 → place (row_step state).rows k j ≡ place block k j → slice_index (column block j) k ≡ slice_index (column (row_step state).rows j) k
+      at-place k below same =
+          column-byte block k j (omega (arith, product.height)) ∙ sym same ∙ sym (column-byte (row_step state).rows k j (omega (arith, row_step-height state)))
+
+-- what becomes of a place of a column
+place-by : (block : List (List ℕ)) (state : State) (i j : ℕ) (found : Option (List ℕ)) → IsProduct block → IsTrueTo block state → i < 208 → j < 182
+    → column_near (failed_rows state) (row_step state) j ≡ found → cond (is_some found) false (mark_in (row_step state).marks i j) ≡ false
+    → slice_index (unwrap_or found (column (row_step state).rows j)) i ≡ place block i j
+place-by block state i j None product are below inside is clear =
+    column-byte (row_step state).rows i j (omega (arith, row_step-height state)) ∙ (rows-true block state product are).bytes i j below inside clear
+place-by block state i j (Some word) product are below inside is clear =
+    ap (λ word. slice_index word i) (column-true block state j word product are inside is) ∙ column-byte block i j (omega (arith, product.height))
+
+column_step-marks : (failed : List Bool) (state : State) (i : ℕ) → i < 208 → marks_line (column_step failed state).marks i ≡ map (mark_then failed state i) (range_with_len 0 182)
+unfolding column_step
+column_step-marks failed state i below = get_or-map-range_with_len (λ k. map (mark_then failed state k) (range_with_len 0 182)) 0 208 i i [] below (omega arith)
+
+round-marks : (state : State) (i : ℕ) → i < 208 → marks_line (round state).marks i ≡ map (mark_then (failed_rows state) (row_step state) i) (range_with_len 0 182)
+unfolding round
+round-marks state i below = column_step-marks (failed_rows state) (row_step state) i below
+
+round-line : (state : State) (i : ℕ) → i < 208 → line (round state).rows i ≡ map (λ word. slice_index word i) (words_then (failed_rows state) (row_step state))
+round-line state i below = ap (λ rows. line rows i) (round-rows state) ∙ from_columns-line (words_then (failed_rows state) (row_step state)) i below
+
+round-true : (block : List (List ℕ)) (state : State) → IsProduct block → IsTrueTo block state → IsTrueTo block (round state)
+round-true block state product are = record {
+  wide = λ i below.
+      ap length (round-line state i below) ∙ length-map words (λ word. slice_index word i) ∙ length-map-range_with_len (column_then (failed_rows state) (row_step state)) 0 182;
+  marks_wide = λ i below.
+      ap length (round-marks state i below) ∙ length-map-range_with_len (mark_then (failed_rows state) (row_step state) i) 0 182;
+  bytes = λ i j below inside clear.
+      ap (λ row. slice_index row j) (round-line state i below)
+      ∙ get_or-map (λ word. slice_index word i) words j [] 0 (omega (arith, length-map-range_with_len (column_then (failed_rows state) (row_step state)) 0 182))
+      ∙ ap (λ word. slice_index word i) (word-then (failed_rows state) (row_step state) j inside)
+      ∙ place-by block state i j (column_near (failed_rows state) (row_step state) j) product are below inside refl
+      (sym (ap (λ marks. get_or marks j false) (round-marks state i below)
+      ∙ get_or-map-range_with_len (mark_then (failed_rows state) (row_step state) i) 0 182 j j false inside (omega arith)) ∙ clear);
+} where
+  words : List (List ℕ)
+  words = words_then (failed_rows state) (row_step state)
+
+after-true : (block : List (List ℕ)) (state : State) (n : ℕ) → IsProduct block → IsTrueTo block state → IsTrueTo block (after n state)
+unfolding after
+after-true block state zero product are = are
+after-true block state (suc n) product are = round-true block (after n state) product (after-true block state n product are)
+
+-- ---- the block that is given back
+
+column-given : (block : List (List ℕ)) (state : State) (j : ℕ) (found : Option (List ℕ)) → IsProduct block → IsTrueTo block state → j < 182
+    → column_near (failed_rows state) (row_step state) j ≡ found → is_some found ≡ true → unwrap_or found (column (row_step state).rows j) ≡ column block j
+column-given block state j None product are inside is answered = absurd (true≢false (sym answered))
+column-given block state j (Some word) product are inside is answered = column-true block state j word product are inside is
+
+round-given : (block : List (List ℕ)) (state : State) → IsProduct block → IsTrueTo block state → finishes state ≡ true → (round state).rows ≡ block
+unfolding are_answered
+round-given block state product are done =
+    round-rows state
+    ∙ from_columns-product block (words_then (failed_rows state) (row_step state)) product (length-map-range_with_len (column_then (failed_rows state) (row_step state)) 0 182)
+    (λ j inside.
+    word-then (failed_rows state) (row_step state) j inside
+    ∙ column-given block state j (column_near (failed_rows state) (row_step state) j) product are inside refl
+    (tested-at (λ k. is_some (column_near (failed_rows state) (row_step state) k)) 182 j inside (finished-answered state done)))
+
+-- Where the unmarked bytes are true, no other block is given back.
+pub true_block_given : TrueBytesGiveTheBlock
+true_block_given received marks true_block block sizes product agree is =
+    let first : IsTrueTo true_block (state_in received marks) = record {
+      wide = λ i below. sizes.widths i [] (omega (arith, sizes.height));
+      marks_wide = λ i below. sizes.marks_widths i [] (omega (arith, sizes.marks_height));
+      bytes = λ i j below inside clear. sym (agree i below j (omega (arith, sizes.marks_widths i [] (omega (arith, sizes.marks_height)))) clear);
+    } in
+    let last = last_round received marks block is in
+    sym last.gives ∙ round-given true_block (after last.rounds (state_in received marks)) product (after-true true_block (state_in received marks) last.rounds product first) last.done

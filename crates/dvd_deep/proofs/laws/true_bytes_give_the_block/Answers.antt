@@ -1,0 +1,5 @@
+use Rattle.dvd_deep.proofs.TrueBytes.{true_block_given}
+use Rattle.dvd_deep.proofs.laws.true_bytes_give_the_block.Goals as goal
+
+pub returns : goal.returns
+returns c = true_block_given

@@ -1,0 +1,20 @@
+use Rattle.std.proofs.Common.{◌≡◌, subst, arith}
+use Rattle.dvd_capture.specs.Parts.{marks_rows, received_rows}
+use Rattle.dvd_capture.proofs.WorkParts.{marks-height}
+use Rattle.dvd_deep.specs.Inner.Buffers.{state_of}
+use Rattle.dvd_deep.specs.Rounds.{failed_rows, row_step}
+use Rattle.dvd_deep.proofs.RowStep.{IsStepped, stepped-all}
+use Rattle.dvd_deep.proofs.rounds.answer_rows.Goals as goal
+
+both : (c : goal.After-loop-i) → (state_of c.loop-i.rows c.loop-i.marks ≡ row_step (state_of c.args.rows.now c.args.marks.now)) × (c.loop-i.failed ≡ failed_rows (state_of c.args.rows.now c.args.marks.now))
+both c =
+    let last : c.loop-i.i ≡ 208 = omega arith in
+    stepped-all (state_of c.args.rows.now c.args.marks.now) (received_rows c.loop-i.rows) (marks_rows c.loop-i.marks) c.loop-i.failed
+    (omega (arith, c.loop-i.rows.size, c.loop-i.rows.rows.ok.0)) (marks-height c.loop-i.marks) c.loop-i.invariant.size
+    (subst (IsStepped (state_of c.args.rows.now c.args.marks.now) (received_rows c.loop-i.rows) (marks_rows c.loop-i.marks) c.loop-i.failed) last c.loop-i.invariant.part)
+
+pub returns-clause-state : goal.returns-clause-state
+returns-clause-state c = (both c).0
+
+pub returns-clause-failed : goal.returns-clause-failed
+returns-clause-failed c = (both c).1

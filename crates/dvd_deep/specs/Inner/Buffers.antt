@@ -1,0 +1,8 @@
+-- What the contracts see of the buffers of a state.
+use Rattle.dvd_capture.specs.Parts.{marks_rows, received_rows}
+use Rattle.dvd_capture.specs.declared.parts.Marks.{Marks}
+use Rattle.dvd_capture.specs.declared.parts.Received.{Received}
+use Rattle.dvd_deep.specs.Rounds.{State, state_in}
+
+abbrev pub state_of : Received → Marks → State
+state_of rows marks = state_in (received_rows rows) (marks_rows marks)

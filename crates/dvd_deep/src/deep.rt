@@ -1,0 +1,63 @@
+//! A search for the block behind a captured one, by rounds.
+ghost use Rattle.std.specs.Prelude.{◌≡◌, ◌<◌, IfOk, IfSome, IsTrue, Some, false, is_some};
+ghost use Rattle.dvd_block.specs.Product.{place};
+ghost use Rattle.dvd_capture.specs.Rule.{HasBlock};
+ghost use Rattle.dvd_capture.specs.Works.{marks_of_work, rows_of, stage_of};
+ghost use Rattle.dvd_deep.specs.Rounds.{deep_block, deep_round};
+
+use crate::rounds::play_rounds;
+use dvd_capture::Work;
+use dvd_capture::parts::{Marks, Received};
+use dvd_ports::NoMemory;
+use std::alloc::Global;
+
+/// The state of a search: the rows of a block, 37,856 bytes in sum, their marks, 4,784 bytes, and whether the last search
+/// found a block.
+#[derive(Drop)]
+pub struct Deep {
+    pub(crate) rows: Received,
+    marks: Marks,
+    has_found: bool,
+}
+
+impl Deep {
+    ghost use Rattle.dvd_deep.specs.Deeps.{has_found, rows_of_deep};
+
+    /// No block is found. `NoMemory` may come at any time, and nothing is taken then.
+    pub fn new(alloc: Global) -> Result<Deep, NoMemory>
+        ensures { IfOk result (λ deep. has_found deep ≡ false) }
+    {
+        Ok(Deep {
+            rows: Received::new(alloc)?,
+            marks: Marks::new(alloc)?,
+            has_found: false,
+        })
+    }
+
+    /// Looks for the block of a captured one by up to four rounds. Each answers rows by the codewords near them, and then
+    /// columns, first with the failed rows as marks, or else with the marks that they have left. Answers the number of the
+    /// first round that finishes: all columns are answered, and all rows are then codewords. Where none does, no block is
+    /// found.
+    pub fn search(&mut self, work: &Work) -> Option<u8>
+        requires stage { HasBlock (stage_of work.now) }
+        ensures round { result ≡ deep_round (rows_of work.now) (marks_of_work work.now) }
+        ensures block { IfSome result (λ _. deep_block (rows_of work.now) (marks_of_work work.now) ≡ Some (rows_of_deep self.new)) }
+        ensures found { has_found self.new ≡ is_some result }
+    {
+        self.rows.copy_from(&work.received);
+        self.marks.copy_from(&work.marks);
+        let round = play_rounds(&mut self.rows, &mut self.marks);
+        self.has_found = round.is_some();
+        round
+    }
+
+    /// The byte in row `i` at place `j` of the block that was found.
+    pub fn byte(&self, i: usize, j: usize) -> u8
+        requires found { IsTrue (has_found self.now) }
+        requires row { i < 208 }
+        requires place { j < 182 }
+        ensures { result ≡ place (rows_of_deep self.now) i j }
+    {
+        self.rows.row(i)[j]
+    }
+}

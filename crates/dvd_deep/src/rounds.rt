@@ -1,0 +1,199 @@
+//! Rounds over the state of a search: a row step, a column step, and the test whether the round finishes.
+ghost use Rattle.std.specs.Prelude.{◌≡◌, ◌≢◌, ◌<◌, ◌≤◌, ℕ, IfSome, IsTrue, Some, false, true, if◌then◌else◌, is_some, length, replicate, slice_set, unwrap_or};
+ghost use Rattle.std.specs.List.{list_all};
+ghost use Rattle.std.specs.Option.{option_or};
+ghost use Rattle.rs_decode.specs.Nearest.{near_of, vanishes_at_all};
+ghost use Rattle.dvd_block.specs.Product.{column, line};
+ghost use Rattle.dvd_capture.specs.Parts.{marks_rows, received_rows};
+ghost use Rattle.dvd_deep.specs.Inner.Buffers.{state_of};
+ghost use Rattle.dvd_deep.specs.Rounds.{after, are_answered, column_marks, column_near, column_step, failed_rows, finishes, first_round, round, row_near, row_step};
+ghost use Rattle.dvd_deep.specs.Inner.Steps.{AreMarksTaken, AreWide, IsColumnPut};
+
+use dvd_capture::parts::{Marks, Received};
+use rs_code::{Code, Pi, Po};
+use rs_decode::decode;
+
+// How many rounds there are at most.
+const MOST_ROUNDS: u8 = 4;
+
+/// Plays up to four rounds. Answers the number of the first that finishes, whose state then stands.
+pub(crate) fn play_rounds(rows: &mut Received, marks: &mut Marks) -> Option<u8>
+    ensures first { result ≡ first_round (state_of rows.old marks.old) }
+    ensures state { IfSome result (λ t. state_of rows.new marks.new ≡ after t (state_of rows.old marks.old)) }
+{
+    for t in 1..=MOST_ROUNDS {
+        if play_round(rows, marks) {
+            return Some(t);
+        }
+    }
+    None
+}
+
+// Plays one round. Answers whether it finishes.
+fn play_round(rows: &mut Received, marks: &mut Marks) -> bool
+    ensures state { state_of rows.new marks.new ≡ round (state_of rows.old marks.old) }
+    ensures finishes { result ≡ finishes (state_of rows.old marks.old) }
+{
+    let mut failed = [false; 208];
+    answer_rows(rows, marks, &mut failed);
+    let answered = answer_columns(rows, marks, &failed);
+    answered && are_codewords(rows)
+}
+
+// The row step. Notes which rows fail.
+fn answer_rows(rows: &mut Received, marks: &mut Marks, failed: &mut [bool; 208])
+    ensures state { state_of rows.new marks.new ≡ row_step (state_of rows.old marks.old) }
+    ensures failed { failed.new ≡ failed_rows (state_of rows.old marks.old) }
+    ensures wide { AreWide (received_rows rows.new) }
+{
+    let code = Pi::new();
+    for i in 0..208usize {
+        failed[i] = !answer_row(&code, rows, marks, i);
+    }
+}
+
+// Answers row `i`: it becomes the codeword near it and loses its marks, if there is one. Answers whether there is.
+fn answer_row(code: &Pi, rows: &mut Received, marks: &mut Marks, i: usize) -> bool
+    requires { i < 208 }
+    ensures answered { result ≡ is_some (row_near (state_of rows.old marks.old) i) }
+    ensures row { received_rows rows.new ≡ slice_set (received_rows rows.old) i (unwrap_or (row_near (state_of rows.old marks.old) i) (line (received_rows rows.old) i)) }
+    ensures wide { length (line (received_rows rows.new) i) ≡ 182 }
+    ensures marks { marks_rows marks.new ≡ (if result then slice_set (marks_rows marks.old) i (replicate 182 false) else marks_rows marks.old) }
+{
+    let mut row = *rows.row(i);
+    let mut row_marks = [false; 182];
+    marks.row(i, &mut row_marks);
+    let answered = answer_word(code, &mut row, &row_marks);
+    rows.set_row(i, &row);
+    if answered {
+        marks.clear_row(i);
+    }
+    answered
+}
+
+// Answers a word: it becomes the codeword near it, if there is one. Answers whether there is.
+fn answer_word<const N: usize, const R: usize>(
+    code: &Code<N, R>,
+    word: &mut [u8; N],
+    marks: &[bool; N],
+) -> bool
+    ensures answered { result ≡ is_some (near_of N R word.old marks.now) }
+    ensures word { word.new ≡ unwrap_or (near_of N R word.old marks.now) word.old }
+{
+    match decode(code, word, marks) {
+        Ok(_) => true,
+        Err(_) => false,
+    }
+}
+
+// The column step. Answers whether all columns are answered.
+fn answer_columns(rows: &mut Received, marks: &mut Marks, failed: &[bool; 208]) -> bool
+    requires wide { AreWide (received_rows rows.old) }
+    ensures state { state_of rows.new marks.new ≡ column_step failed.now (state_of rows.old marks.old) }
+    ensures answered { result ≡ are_answered failed.now (state_of rows.old marks.old) }
+{
+    let code = Po::new();
+    let mut all = true;
+    for j in 0..182usize {
+        all &= answer_column(&code, rows, marks, failed, j);
+    }
+    all
+}
+
+// Answers column `j`: it becomes the codeword that two tries find and loses its marks, if there is one. Answers whether
+// there is.
+fn answer_column(
+    code: &Po,
+    rows: &mut Received,
+    marks: &mut Marks,
+    failed: &[bool; 208],
+    j: usize,
+) -> bool
+    requires place { j < 182 }
+    requires wide { AreWide (received_rows rows.old) }
+    ensures answered { result ≡ is_some (column_near failed.now (state_of rows.old marks.old) j) }
+    ensures column { IsColumnPut j (unwrap_or (column_near failed.now (state_of rows.old marks.old) j) (column (received_rows rows.old) j)) (received_rows rows.old) (received_rows rows.new) }
+    ensures marks { IsTrue result → AreMarksTaken j (marks_rows marks.old) (marks_rows marks.new) }
+    ensures same { result ≡ false → marks_rows marks.new ≡ marks_rows marks.old }
+    ensures wide { AreWide (received_rows rows.new) }
+{
+    let mut word = [0; 208];
+    read_column(rows, j, &mut word);
+    if !answer_column_word(code, &mut word, failed, marks, j) {
+        return false;
+    }
+    put_column(rows, marks, j, &word);
+    true
+}
+
+// Answers the word of column `j`: with the failed rows as its marks, or else with its own.
+fn answer_column_word(
+    code: &Po,
+    word: &mut [u8; 208],
+    failed: &[bool; 208],
+    marks: &Marks,
+    j: usize,
+) -> bool
+    requires { j < 182 }
+    ensures answered { result ≡ is_some (option_or (near_of 208 16 word.old failed.now) (near_of 208 16 word.old (column_marks (marks_rows marks.now) j))) }
+    ensures word { word.new ≡ unwrap_or (option_or (near_of 208 16 word.old failed.now) (near_of 208 16 word.old (column_marks (marks_rows marks.now) j))) word.old }
+{
+    if answer_word(code, word, failed) {
+        return true;
+    }
+    let mut own = [false; 208];
+    read_marks(marks, j, &mut own);
+    answer_word(code, word, &own)
+}
+
+// Writes column `j`.
+fn read_column(rows: &Received, j: usize, word: &mut [u8; 208])
+    requires { j < 182 }
+    ensures { word.new ≡ column (received_rows rows.now) j }
+{
+    for i in 0..208usize {
+        word[i] = rows.row(i)[j];
+    }
+}
+
+// Writes its marks.
+fn read_marks(marks: &Marks, j: usize, own: &mut [bool; 208])
+    requires { j < 182 }
+    ensures { own.new ≡ column_marks (marks_rows marks.now) j }
+{
+    for i in 0..208usize {
+        own[i] = marks.get(i, j);
+    }
+}
+
+// Sets column `j` to a word, and takes its marks away.
+fn put_column(rows: &mut Received, marks: &mut Marks, j: usize, word: &[u8; 208])
+    requires { j < 182 }
+    ensures column { IsColumnPut j word.now (received_rows rows.old) (received_rows rows.new) }
+    ensures marks { AreMarksTaken j (marks_rows marks.old) (marks_rows marks.new) }
+    ensures wide { AreWide (received_rows rows.new) }
+{
+    for i in 0..208usize {
+        rows.set(i, j, word[i]);
+        marks.set(i, j, false);
+    }
+}
+
+// Whether all rows are codewords.
+fn are_codewords(rows: &Received) -> bool
+    ensures { result ≡ list_all (vanishes_at_all 10) (received_rows rows.now) }
+{
+    let code = Pi::new();
+    for i in 0..208usize {
+        if !is_codeword(&code, rows.row(i)) {
+            return false;
+        }
+    }
+    true
+}
+
+fn is_codeword(code: &Pi, row: &[u8; 182]) -> bool
+    ensures { result ≡ vanishes_at_all 10 row.now }
+{
+    code.is_codeword(row)
+}

@@ -1,0 +1,78 @@
+//! The checks of the sixteen data frames of a block that was found, and their Main Data.
+ghost use Rattle.std.specs.Prelude.{◌≡◌, ◌*◌, ◌+◌, ◌<◌, ◌≤◌, ◌++◌, IfErr, IsTrue, None, OnErr, OnOk, Some, length, replicate, take};
+ghost use Rattle.std.specs.List.{flat_map};
+ghost use Rattle.dvd_block.specs.Buffers.{piece_bytes};
+ghost use Rattle.dvd_capture.specs.Parts.{received_rows};
+ghost use Rattle.dvd_layout.specs.Place.{HasNumbers};
+ghost use Rattle.dvd_read.specs.Frames.{frames_cause, main_data};
+
+use crate::deep::Deep;
+use dvd_block::Piece;
+use dvd_capture::parts::Received;
+use dvd_layout::BlockPlan;
+use dvd_read::{Cause, read_frame_at};
+
+impl Deep {
+    ghost use Rattle.dvd_deep.specs.Deeps.{has_found, rows_of_deep};
+
+    /// Checks the sixteen data frames of the block that was found, as those of an entry of a plan, and writes their
+    /// unscrambled Main Data, 2,048 bytes each. After a cause, that of the first frame that has one, all bytes are 0.
+    pub fn sectors(&self, plan: &BlockPlan, out: &mut Piece) -> Result<(), Cause>
+        requires found { IsTrue (has_found self.now) }
+        requires numbers { HasNumbers plan.now }
+        ensures refused { IfErr result (λ cause. frames_cause (rows_of_deep self.now) plan.now ≡ Some cause) }
+        ensures right { OnOk result (frames_cause (rows_of_deep self.now) plan.now ≡ None) }
+        ensures main { OnOk result (piece_bytes out.new ≡ flat_map (λ sector. sector) (main_data (rows_of_deep self.now) plan.now)) }
+        ensures zeros { OnErr result (piece_bytes out.new ≡ replicate 32768 0) }
+    {
+        read_block(&self.rows, plan, out.bytes_mut())
+    }
+}
+
+// Writes the Main Data of the frames of a block, or zeros after a cause.
+fn read_block(rows: &Received, plan: &BlockPlan, out: &mut [u8]) -> Result<(), Cause>
+    requires size { length out.old ≡ 32768 }
+    requires numbers { HasNumbers plan.now }
+    ensures refused { IfErr result (λ cause. frames_cause (received_rows rows.now) plan.now ≡ Some cause) }
+    ensures right { OnOk result (frames_cause (received_rows rows.now) plan.now ≡ None) }
+    ensures main { OnOk result (out.new ≡ flat_map (λ sector. sector) (main_data (received_rows rows.now) plan.now)) }
+    ensures zeros { OnErr result (out.new ≡ replicate 32768 0) }
+    ensures size { length out.new ≡ 32768 }
+{
+    match read_frames(rows, plan, out) {
+        Ok(()) => Ok(()),
+        Err(cause) => {
+            out.fill(0);
+            Err(cause)
+        }
+    }
+}
+
+// Writes the Main Data of the frames of a block, up to the first that has a cause.
+fn read_frames(rows: &Received, plan: &BlockPlan, out: &mut [u8]) -> Result<(), Cause>
+    requires size { length out.old ≡ 32768 }
+    requires numbers { HasNumbers plan.now }
+    ensures refused { IfErr result (λ cause. frames_cause (received_rows rows.now) plan.now ≡ Some cause) }
+    ensures right { OnOk result (frames_cause (received_rows rows.now) plan.now ≡ None) }
+    ensures main { OnOk result (out.new ≡ flat_map (λ sector. sector) (main_data (received_rows rows.now) plan.now)) }
+    ensures size { length out.new ≡ 32768 }
+{
+    let mut main = [0; 2048];
+    for f in 0..16usize {
+        if let Err(cause) = read_frame_at(rows, plan, f, &mut main) {
+            return Err(cause);
+        }
+        put_sector(out, f, &main);
+    }
+    Ok(())
+}
+
+// Writes a sector behind those before it.
+fn put_sector(out: &mut [u8], f: usize, main: &[u8; 2048])
+    requires size { length out.old ≡ 32768 }
+    requires frame { f < 16 }
+    ensures sector { take (2048 * f + 2048) out.new ≡ take (2048 * f) out.old ++ main.now }
+    ensures size { length out.new ≡ 32768 }
+{
+    out[2048 * f..2048 * f + 2048].copy_from_slice(main);
+}
