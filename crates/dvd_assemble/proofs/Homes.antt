@@ -1,0 +1,332 @@
+-- The home of a frame by its sector number.
+use Rattle.std.proofs.Common.{◌≡◌, ◌⊎◌, inl, inr, ◌∙◌, sym, ap, subst, refl, ℕ, zero, suc, ◌+◌, ◌-◌, ◌*◌, ◌/◌, ◌%◌, ◌^◌, ◌<◌, ◌≤◌, ◌==◌, nat_lt, bit_and, true, false, Bool, if◌then◌else◌, arith}
+use Rattle.std.proofs.Common.{List, [], ◌∷◌, ◌++◌, length, get_or, Option, None, Some, slice_get, position, length-append, append-nil}
+use Rattle.std.specs.Int.{bit_at}
+use Rattle.std.specs.Option.{option_map}
+use Rattle.std.specs.List.{flat_map, filter}
+use Rattle.std.specs.Prelude.{IsTrue, ◌↔◌}
+use Rattle.std.proofs.lemmas.Bool.{cases_lt, eqb-true, false≢true}
+use Rattle.std.proofs.lemmas.Bool.Decides.{eqb_tells, nat_tests}
+use Rattle.std.specs.List.{position_or_len}
+use Rattle.std.proofs.lemmas.List.Sums.{position_or_len_is}
+use Rattle.std.proofs.lemmas.Nat.{and_mod, and_mask}
+use Rattle.std.proofs.lemmas.Nat.Bits.{bit_at_and, bit_at-lt}
+use Rattle.std.proofs.lemmas.List.{get_or_append_left, get_or-append-add}
+use Rattle.std.proofs.lemmas.List.FromFn.{length-map-range_with_len, get_or-map-range_with_len}
+use Rattle.std.proofs.lemmas.List.Quantifiers.{position-Some}
+use Rattle.std.proofs.lemmas.Option.{get_or_from_slice_get, slice_get_within}
+use Rattle.dvd_frame.specs.Id.{IsSamePlace, id_word, is_same_place}
+use Rattle.dvd_frame.specs.declared.id.Area.{Area}
+use Rattle.dvd_frame.specs.declared.id.Area.TheVariants.{DataZone}
+use Rattle.dvd_layout.specs.Lengths.{blocks_of, has_two_layers}
+use Rattle.dvd_layout.specs.Plan.{entries_of, entry_of, first_data, is_data, plan_of, second_data, second_first, zones_by}
+use Rattle.dvd_layout.specs.Place.{HasNumbers}
+use Rattle.dvd_layout.specs.declared.entry.BlockPlan.{BlockPlan}
+use Rattle.dvd_layout.specs.declared.entry.Content.TheVariants.{Zero}
+use Rattle.dvd_layout.specs.declared.layout.Layout.{Layout}
+use Rattle.dvd_layout.specs.declared.layout.Shape.{Shape}
+use Rattle.dvd_layout.specs.declared.layout.Shape.TheVariants.{Single, Parallel, Opposite}
+use Rattle.dvd_layout.specs.declared.layout.Zones.TheVariants.{DataOnly}
+use Rattle.dvd_layout.proofs.Blocks.{length-entries_of}
+use Rattle.dvd_layout.proofs.Ranges.{plan_of-numbers}
+use Rattle.dvd_assemble.specs.Home.{block_and_frame, block_words, home_in, words_of}
+
+-- the blocks of both Data Zones; that of layer 1 is empty where there is none
+no_entries : (layout : Layout) → layout.sectors1 ≡ 0 → entries_of (second_data layout) ≡ []
+no_entries layout none = rw none refl
+
+plan_by : (layout : Layout) (shape : Shape) → layout.shape ≡ shape
+    → flat_map entries_of (filter (λ zone. is_data zone.area) (zones_by layout shape)) ≡ entries_of (first_data layout) ++ entries_of (second_data layout)
+plan_by layout Single is = ap (λ l. entries_of (first_data layout) ++ l) (sym (no_entries layout (layout.one_layer (ap has_two_layers is))))
+plan_by layout Parallel is = ap (λ l. entries_of (first_data layout) ++ l) (append-nil (entries_of (second_data layout)))
+plan_by layout Opposite is = ap (λ l. entries_of (first_data layout) ++ l) (append-nil (entries_of (second_data layout)))
+
+data_plan : (layout : Layout) → plan_of layout DataOnly ≡ entries_of (first_data layout) ++ entries_of (second_data layout)
+unfolding plan_of
+data_plan layout = plan_by layout layout.shape refl
+
+pub length-plan : (layout : Layout) → length (plan_of layout DataOnly) ≡ blocks_of layout.sectors0 + blocks_of layout.sectors1
+length-plan layout =
+    ap length (data_plan layout) ∙ length-append (entries_of (first_data layout)) (entries_of (second_data layout))
+    ∙ omega (arith, length-entries_of (first_data layout), length-entries_of (second_data layout))
+
+-- block k of the plan stands in one of the zones
+abbrev pub StandsAt : Layout → ℕ → BlockPlan → Type 0
+StandsAt layout k entry =
+    ((entry.layer ≡ 0) × (k < blocks_of layout.sectors0) × (entry.first ≡ 0x30000 + 16 * k))
+    ⊎ ((entry.layer ≡ 1) × (blocks_of layout.sectors0 ≤ k) × (entry.first ≡ second_first layout + 16 * (k - blocks_of layout.sectors0)))
+
+pub stands_at : (layout : Layout) (k : ℕ) (d : BlockPlan) → k < length (plan_of layout DataOnly) → StandsAt layout k (get_or (plan_of layout DataOnly) k d)
+stands_at layout k d within = by_side (cases_lt k (blocks_of layout.sectors0))
+  where
+    front : List BlockPlan
+    front = entries_of (first_data layout)
+
+    back : List BlockPlan
+    back = entries_of (second_data layout)
+
+    fronts : length front ≡ blocks_of layout.sectors0
+    fronts = length-entries_of (first_data layout)
+
+    here : get_or (plan_of layout DataOnly) k d ≡ get_or (front ++ back) k d
+    here = ap (λ l. get_or l k d) (data_plan layout)
+
+    by_side : (k < blocks_of layout.sectors0) ⊎ (blocks_of layout.sectors0 ≤ k) → StandsAt layout k (get_or (plan_of layout DataOnly) k d)
+    by_side (inl less) =
+        let is : get_or (front ++ back) k d ≡ entry_of (first_data layout) k =
+        get_or_append_left front back d k (omega (arith, fronts, less))
+        ∙ get_or-map-range_with_len (entry_of (first_data layout)) 0 (blocks_of layout.sectors0) k k d less (omega arith) in
+        subst (StandsAt layout k) (sym (here ∙ is)) (inl (refl, less, refl))
+    by_side (inr more) =
+        let b : ℕ = k - blocks_of layout.sectors0 in
+        let whole = length-plan layout in
+        let behind : length front + b ≡ k = omega (arith, fronts, more) in
+        let is : get_or (front ++ back) k d ≡ entry_of (second_data layout) b =
+        ap (λ n. get_or (front ++ back) n d) (sym behind) ∙ get_or-append-add front back b d
+        ∙ get_or-map-range_with_len (entry_of (second_data layout)) 0 (blocks_of layout.sectors1) b b d (omega (arith, whole, within, more)) (omega arith) in
+        subst (StandsAt layout k) (sym (here ∙ is)) (inr (refl, more, refl))
+
+-- pieces of sixteen elements
+module _ {X A : Type 0} (f : X → List A) (sixteen : (x : X) → length (f x) ≡ 16) where
+  pub length-pieces : (xs : List X) → length (flat_map f xs) ≡ 16 * length xs
+  length-pieces [] = refl
+  length-pieces (x ∷ xs) = length-append (f x) (flat_map f xs) ∙ omega (arith, sixteen x, length-pieces xs)
+
+  pub piece-at : (xs : List X) (k n : ℕ) (e : X) (d : A) → k < length xs → n < 16 → get_or (flat_map f xs) (16 * k + n) d ≡ get_or (f (get_or xs k e)) n d
+  piece-at [] k n e d within below = absurd (omega (arith, within))
+  piece-at (x ∷ xs) zero n e d within below =
+      let place : 16 * zero + n ≡ n = omega arith in
+      rw place (get_or_append_left (f x) (flat_map f xs) d n (omega (arith, sixteen x, below)))
+  piece-at (x ∷ xs) (suc k) n e d within below =
+      let place : 16 * suc k + n ≡ length (f x) + (16 * k + n) = omega (arith, sixteen x) in
+      ap (λ m. get_or (f x ++ flat_map f xs) m d) place ∙ get_or-append-add (f x) (flat_map f xs) (16 * k + n) d
+      ∙ piece-at xs k n e d (omega (arith, within)) below
+
+-- the ID word of frame f of a block
+abbrev pub word_of : Layout → BlockPlan → ℕ → ℕ
+word_of layout entry f = id_word entry.area entry.layer (has_two_layers layout.shape) (entry.first + f)
+
+sixteen_words : (layout : Layout) (entry : BlockPlan) → length (block_words layout entry) ≡ 16
+sixteen_words layout entry = length-map-range_with_len (word_of layout entry) 0 16
+
+pub length-words : (layout : Layout) → length (words_of layout) ≡ 16 * length (plan_of layout DataOnly)
+unfolding words_of
+length-words layout = length-pieces (block_words layout) (sixteen_words layout) (plan_of layout DataOnly)
+
+pub word-at : (layout : Layout) (k f : ℕ) (e : BlockPlan) → k < length (plan_of layout DataOnly) → f < 16
+    → get_or (words_of layout) (16 * k + f) 0 ≡ word_of layout (get_or (plan_of layout DataOnly) k e) f
+unfolding words_of
+word-at layout k f e within below =
+    piece-at (block_words layout) (sixteen_words layout) (plan_of layout DataOnly) k f e 0 within below
+    ∙ get_or-map-range_with_len (word_of layout (get_or (plan_of layout DataOnly) k e)) 0 16 f f 0 below (omega arith)
+
+-- IDs of one place have one sector number and one layer
+same_number : (a b : ℕ) → IsSamePlace a b → a % 2 ^ 24 ≡ b % 2 ^ 24
+same_number a b same =
+    sym (masked a) ∙ ap (λ n. n % 2 ^ 24) same ∙ masked b
+  where
+    masked : (n : ℕ) → bit_and n 0x0DFFFFFF % 2 ^ 24 ≡ n % 2 ^ 24
+    masked n = and_mod n 0x0DFFFFFF 24 ∙ and_mask (n % 2 ^ 24) 24 ∙ omega arith
+
+same_layer : (a b : ℕ) → IsSamePlace a b → a / 2 ^ 24 % 2 ≡ b / 2 ^ 24 % 2
+same_layer a b same = sym (masked a) ∙ ap (λ n. bit_at n 24) same ∙ masked b
+  where
+    masked : (n : ℕ) → bit_at (bit_and n 0x0DFFFFFF) 24 ≡ bit_at n 24
+    masked n = bit_at_and n 0x0DFFFFFF 24 ∙ omega (arith, bit_at-lt n 24)
+
+-- those of an ID word
+word_number : (area : Area) (layer number : ℕ) (dim : Bool) → layer < 2 → number < 2 ^ 24 → id_word area layer dim number % 2 ^ 24 ≡ number
+word_number area layer number true two low = omega arith
+word_number area layer number false two low = omega arith
+
+word_layer : (area : Area) (layer number : ℕ) (dim : Bool) → layer < 2 → number < 2 ^ 24 → id_word area layer dim number / 2 ^ 24 % 2 ≡ layer
+word_layer area layer number true two low = omega arith
+word_layer area layer number false two low = omega arith
+
+pub some_entry : BlockPlan
+some_entry = record { first = 0; area = DataZone; layer = 0; content = Zero }
+
+pub has_numbers : (layout : Layout) (k : ℕ) (entry : BlockPlan) → slice_get (plan_of layout DataOnly) k ≡ Some entry → HasNumbers entry
+has_numbers layout k entry stands =
+    subst HasNumbers (get_or_from_slice_get (plan_of layout DataOnly) k entry entry stands)
+    (plan_of-numbers layout DataOnly k entry (slice_get_within (plan_of layout DataOnly) k entry stands))
+
+-- the frame of number n has the place of this word
+abbrev pub IsAt : Layout → ℕ → ℕ → Type 0
+IsAt layout word n = (n < length (words_of layout)) × (is_same_place word (get_or (words_of layout) n 0) ≡ true)
+
+-- the first block that may have the place, by the layer
+abbrev pub first_block : Layout → ℕ → ℕ
+first_block layout word = if word / 2 ^ 24 % 2 == 0 then 0 else blocks_of layout.sectors0
+
+-- what its place tells of its number
+abbrev pub Sides : Layout → ℕ → ℕ → Type 0
+Sides layout word n =
+    ((word / 2 ^ 24 % 2 ≡ 0) × (word % 2 ^ 24 ≡ 0x30000 + n))
+    ⊎ ((word / 2 ^ 24 % 2 ≡ 1) × (16 * blocks_of layout.sectors0 ≤ n) × (word % 2 ^ 24 ≡ second_first layout + (n - 16 * blocks_of layout.sectors0)))
+
+pub sides : (layout : Layout) (word n : ℕ) → IsAt layout word n → Sides layout word n
+sides layout word n at = by_zone (stands_at layout k some_entry within)
+  where
+    k : ℕ
+    k = n / 16
+
+    f : ℕ
+    f = n % 16
+
+    within : k < length (plan_of layout DataOnly)
+    within = omega (arith, at.0, length-words layout)
+
+    entry : BlockPlan
+    entry = get_or (plan_of layout DataOnly) k some_entry
+
+    numbers : HasNumbers entry
+    numbers = plan_of-numbers layout DataOnly k some_entry within
+
+    there : get_or (words_of layout) n 0 ≡ word_of layout entry f
+    there =
+        let place : n ≡ 16 * k + f = omega arith in
+        ap (λ m. get_or (words_of layout) m 0) place ∙ word-at layout k f some_entry within (omega arith)
+
+    same : IsSamePlace word (word_of layout entry f)
+    same = eqb-true (bit_and word 0x0DFFFFFF) (bit_and (word_of layout entry f) 0x0DFFFFFF) (ap (is_same_place word) (sym there) ∙ at.1)
+
+    number : word % 2 ^ 24 ≡ entry.first + f
+    number =
+        same_number word (word_of layout entry f) same
+        ∙ word_number entry.area entry.layer (entry.first + f) (has_two_layers layout.shape) numbers.layers (omega (arith, numbers.numbers))
+
+    layer : word / 2 ^ 24 % 2 ≡ entry.layer
+    layer =
+        same_layer word (word_of layout entry f) same
+        ∙ word_layer entry.area entry.layer (entry.first + f) (has_two_layers layout.shape) numbers.layers (omega (arith, numbers.numbers))
+
+    by_zone : StandsAt layout k entry → Sides layout word n
+    by_zone (inl first) = inl (layer ∙ first.0, omega (arith, number, first.2))
+    by_zone (inr second) = inr (layer ∙ second.0, omega (arith, second.1), omega (arith, number, second.1, second.2))
+
+-- it doesn't stand before the first block that may have it
+pub behind_first : (layout : Layout) (word n : ℕ) → IsAt layout word n → 16 * first_block layout word ≤ n
+behind_first layout word n at = by_side (sides layout word n at)
+  where
+    by_side : Sides layout word n → 16 * first_block layout word ≤ n
+    by_side (inl first) = rw first.0 (omega arith)
+    by_side (inr second) = rw second.0 second.1
+
+-- and its sector number tells how far behind
+pub number_behind : (layout : Layout) (word n : ℕ) (entry : BlockPlan) → slice_get (plan_of layout DataOnly) (first_block layout word) ≡ Some entry
+    → IsAt layout word n → word % 2 ^ 24 ≡ entry.first + (n - 16 * first_block layout word)
+number_behind layout word n entry stands at = by_side (sides layout word n at)
+  where
+    k : ℕ
+    k = first_block layout word
+
+    zone : StandsAt layout k entry
+    zone =
+        subst (StandsAt layout k) (get_or_from_slice_get (plan_of layout DataOnly) k entry entry stands)
+        (stands_at layout k entry (slice_get_within (plan_of layout DataOnly) k entry stands))
+
+    in_first : k ≡ 0 → StandsAt layout k entry → entry.first ≡ 0x30000
+    in_first none (inl first) = omega (arith, first.2, none)
+    in_first none (inr second) = absurd (omega (arith, second.1, none, layout.first_layer))
+
+    in_second : k ≡ blocks_of layout.sectors0 → StandsAt layout k entry → entry.first ≡ second_first layout
+    in_second is (inl first) = absurd (omega (arith, first.1, is))
+    in_second is (inr second) = omega (arith, second.2, is)
+
+    by_side : Sides layout word n → word % 2 ^ 24 ≡ entry.first + (n - 16 * k)
+    by_side (inl first) =
+        let none : k ≡ 0 = rw first.0 refl in
+        let begins = in_first none zone in
+        omega (arith, first.1, none, begins)
+    by_side (inr second) =
+        let is : k ≡ blocks_of layout.sectors0 = rw second.0 refl in
+        let begins = in_second is zone in
+        omega (arith, second.1, second.2, is, begins)
+
+-- the first frame that has the place
+pub home_none : (layout : Layout) (word : ℕ) → ((n : ℕ) → IsAt layout word n → ⊥) → home_in layout word ≡ None
+unfolding home_in
+home_none layout word none = by_answer (position (is_same_place word) (words_of layout)) refl
+  where
+    by_answer : (answer : Option ℕ) → position (is_same_place word) (words_of layout) ≡ answer → answer ≡ None
+    by_answer None is = refl
+    by_answer (Some n) is =
+        let found = position-Some (is_same_place word) (words_of layout) n 0 is in
+        absurd (none n (found.0, found.1))
+
+first_place : {X : Type 0} (p : X → Bool) (xs : List X) (n : ℕ) (d : X) → n < length xs → p (get_or xs n d) ≡ true
+    → ((m : ℕ) → m < length xs → p (get_or xs m d) ≡ true → m ≡ n) → position p xs ≡ Some n
+first_place p xs n d within passes only =
+    let first : position_or_len p xs ≡ n =
+    position_or_len_is p xs n d (omega (arith, within)) (λ k less. fails k less (p (get_or xs k d)) refl) (λ _. passes) in
+    let test : nat_lt n (length xs) ≡ true = grind (arith, nat_tests) in
+    ap (λ m. if nat_lt m (length xs) then Some m else None) first ∙ ap (λ t. if t then Some n else None) test
+  where
+    fails : (k : ℕ) → k < n → (answer : Bool) → p (get_or xs k d) ≡ answer → p (get_or xs k d) ≡ false
+    fails k less false is = is
+    fails k less true is = let same = only k (omega (arith, less, within)) is in absurd (omega (arith, less, same))
+
+pub home_some : (layout : Layout) (word n : ℕ) → IsAt layout word n → ((m : ℕ) → IsAt layout word m → m ≡ n) → home_in layout word ≡ Some n
+unfolding home_in
+home_some layout word n at only = first_place (is_same_place word) (words_of layout) n 0 at.0 at.1 (λ m within passes. only m (within, passes))
+
+-- a test by the bits
+pub tells_place : (answer : Bool) (a b : ℕ) → IsTrue answer ↔ IsSamePlace a b → answer ≡ is_same_place a b
+tells_place answer a b decides = by_test answer (eqb_tells (bit_and a 0x0DFFFFFF) (bit_and b 0x0DFFFFFF)) decides
+  where
+    by_test : (told : Bool) → ((((bit_and a 0x0DFFFFFF == bit_and b 0x0DFFFFFF) ≡ true) × IsSamePlace a b) ⊎ (((bit_and a 0x0DFFFFFF == bit_and b 0x0DFFFFFF) ≡ false) × (IsSamePlace a b → ⊥)))
+        → IsTrue told ↔ IsSamePlace a b → told ≡ is_same_place a b
+    by_test true (inl is) iff = sym is.0
+    by_test false (inl is) iff = absurd (false≢true (iff.1 is.1))
+    by_test true (inr is) iff = absurd (is.1 (iff.0 refl))
+    by_test false (inr is) iff = sym is.0
+
+-- The code's steps: the block `before` from which on the place is looked for, that block's entry, and the sectors behind its first.
+pub before_is : (layout : Layout) (word layer before : ℕ) → before ≡ (if layer == 0 then 0 else blocks_of layout.sectors0)
+    → layer ≡ word / 2 ^ 24 % 2 → before ≡ first_block layout word
+before_is layout word layer before is layer_is = is ∙ ap (λ (l : ℕ). if l == 0 then 0 else blocks_of layout.sectors0) layer_is
+
+pub none_behind : (layout : Layout) (word before : ℕ) → before ≡ first_block layout word → length (plan_of layout DataOnly) ≤ before
+    → home_in layout word ≡ None
+none_behind layout word before is least =
+    home_none layout word (λ n at. omega (arith, behind_first layout word n at, is, at.0, length-words layout, least))
+
+entry_stands : (layout : Layout) (word before : ℕ) (entry : BlockPlan) → before ≡ first_block layout word
+    → slice_get (plan_of layout DataOnly) before ≡ Some entry → slice_get (plan_of layout DataOnly) (first_block layout word) ≡ Some entry
+entry_stands layout word before entry is stands = ap (slice_get (plan_of layout DataOnly)) (sym is) ∙ stands
+
+pub none_below : (layout : Layout) (word before : ℕ) (entry : BlockPlan) → before ≡ first_block layout word
+    → slice_get (plan_of layout DataOnly) before ≡ Some entry → (entry.first ≤ word % 2 ^ 24 → ⊥) → home_in layout word ≡ None
+none_below layout word before entry is stands below =
+    home_none layout word (λ n at.
+    let number = number_behind layout word n entry (entry_stands layout word before entry is stands) at in
+    below (omega (arith, number)))
+
+-- any frame that has the place is this one
+pub only_there : (layout : Layout) (word before behind : ℕ) (entry : BlockPlan) → before ≡ first_block layout word
+    → slice_get (plan_of layout DataOnly) before ≡ Some entry → entry.first ≤ word % 2 ^ 24 → behind ≡ word % 2 ^ 24 - entry.first
+    → (n : ℕ) → IsAt layout word n → n ≡ 16 * (before + behind / 16) + behind % 16
+only_there layout word before behind entry is stands least behind_is n at =
+    let number = number_behind layout word n entry (entry_stands layout word before entry is stands) at in
+    let far = behind_first layout word n at in
+    omega (arith, number, far, is, least, behind_is)
+
+pub home_there : (layout : Layout) (word k f : ℕ) → k < length (plan_of layout DataOnly) → f < 16
+    → is_same_place word (get_or (words_of layout) (16 * k + f) 0) ≡ true → ((n : ℕ) → IsAt layout word n → n ≡ 16 * k + f)
+    → option_map block_and_frame (home_in layout word) ≡ Some (k, f)
+home_there layout word k f within below passes only =
+    let at : IsAt layout word (16 * k + f) = (omega (arith, length-words layout, within, below), passes) in
+    let block : (16 * k + f) / 16 ≡ k = omega (arith, below) in
+    let frame : (16 * k + f) % 16 ≡ f = omega (arith, below) in
+    ap (option_map block_and_frame) (home_some layout word (16 * k + f) at only)
+    ∙ ap (λ b. Some (b, (16 * k + f) % 16)) block ∙ ap (λ g. Some (k, g)) frame
+
+pub none_there : (layout : Layout) (word k f : ℕ) → ((n : ℕ) → IsAt layout word n → n ≡ 16 * k + f)
+    → (k < length (plan_of layout DataOnly) → is_same_place word (get_or (words_of layout) (16 * k + f) 0) ≡ false) → f < 16
+    → home_in layout word ≡ None
+none_there layout word k f only fails below =
+    home_none layout word (λ n at.
+    let place = only n at in
+    let inside : k < length (plan_of layout DataOnly) = omega (arith, place, at.0, length-words layout, below) in
+    false≢true (sym (fails inside) ∙ sym (ap (λ m. is_same_place word (get_or (words_of layout) m 0)) place) ∙ at.1))

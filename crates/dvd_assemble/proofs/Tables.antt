@@ -1,0 +1,122 @@
+-- Tables of one shape: what isn't seen changes nothing, and a frame's table is joined by its rows.
+use Rattle.std.proofs.Common.{◌≡◌, ◌≢◌, ◌⊎◌, inl, inr, ◌∙◌, refl, sym, ap, ℕ, zero, suc, ◌/◌, ◌%◌, ◌<◌, ◌≤◌, ◌==◌, true, false, if◌then◌else◌, List, [], ◌∷◌, ◌++◌, length, map, get_or, replicate, arith}
+use Rattle.std.specs.List.{fold, range_with_len}
+use Rattle.std.specs.Simd.Lanes.{zip2}
+use Rattle.std.proofs.lemmas.Bool.Decides.{eqb_tells}
+use Rattle.std.proofs.lemmas.List.{ext_get_or, get_or-replicate, length-replicate}
+use Rattle.std.proofs.lemmas.List.Sums.{fold-append}
+use Rattle.std.proofs.lemmas.List.FromFn.{length-map-range_with_len, get_or-map-range_with_len}
+use Rattle.std.proofs.lemmas.Simd.{length-zip2}
+use Rattle.dvd_block.specs.Recording.{record_at}
+use Rattle.dvd_merge.specs.Join.{Table, join, join_rows, join_tables, joined, row_of, unseen}
+use Rattle.dvd_merge.specs.declared.place.Place.{Place}
+use Rattle.dvd_merge.specs.declared.place.Place.TheVariants.{Unseen}
+use Rattle.dvd_merge.proofs.Places.{join-unseen, row-join}
+use Rattle.dvd_assemble.specs.Assembled.{frame_row, frame_table, with_frame}
+use Rattle.dvd_assemble.specs.Frames.{Frame}
+
+-- 208 rows of at most 182 places
+pub record IsShaped (table : Table) : Type 0 where
+  pub height : length table ≡ 208
+  pub widths : (i : ℕ) → length (row_of table i) ≤ 182
+
+unseen_row : (row : List Place) (n : ℕ) → length row ≤ n → join_rows row (replicate n Unseen) ≡ row
+unseen_row [] n fits = refl
+unseen_row (p ∷ row) zero fits = absurd (omega (arith, fits))
+unseen_row (p ∷ row) (suc n) fits = ap (λ q. q ∷ join_rows row (replicate n Unseen)) (join-unseen p) ∙ ap (λ r. p ∷ r) (unseen_row row n (omega (arith, fits)))
+
+pub length-unseen : length unseen ≡ 208
+unfolding unseen
+length-unseen = length-replicate 208 (replicate 182 Unseen)
+
+pub row-unseen : (i : ℕ) → i < 208 → row_of unseen i ≡ replicate 182 Unseen
+unfolding unseen
+row-unseen i below = get_or-replicate 208 i (replicate 182 Unseen) [] below
+
+length-join : (a b : Table) → length a ≡ length b → length (join_tables a b) ≡ length a
+unfolding join_tables
+length-join a b same = length-zip2 join_rows a b same
+
+-- what isn't seen
+pub join_none : (table : Table) → IsShaped table → join_tables table unseen ≡ table
+join_none table shaped =
+    ext_get_or [] (join_tables table unseen) table (heights)
+    (λ i within. let below : i < 208 = omega (arith, within, heights, shaped.height) in
+    row-join table unseen i ∙ ap (join_rows (row_of table i)) (row-unseen i below) ∙ unseen_row (row_of table i) 182 (shaped.widths i))
+  where
+    heights : length (join_tables table unseen) ≡ length table
+    heights = length-join table unseen (shaped.height ∙ sym length-unseen)
+
+rows-unseen : (n i : ℕ) → length (get_or (replicate n (replicate 182 Unseen)) i []) ≤ 182
+rows-unseen zero i = omega arith
+rows-unseen (suc n) zero = omega (arith, length-replicate 182 Unseen)
+rows-unseen (suc n) (suc i) = rows-unseen n i
+
+unseen-shaped : IsShaped unseen
+unfolding unseen
+unseen-shaped = record { height = length-unseen; widths = rows-unseen 208 }
+
+zip_short : (a b : List Place) → length (zip2 join a b) ≤ length a
+zip_short [] b = omega arith
+zip_short (p ∷ a) [] = omega arith
+zip_short (p ∷ a) (q ∷ b) = let less = zip_short a b in omega (arith, less)
+
+join-shaped : (a b : Table) → IsShaped a → length b ≡ 208 → IsShaped (join_tables a b)
+unfolding join_tables
+join-shaped a b shaped height = record {
+  height = length-zip2 join_rows a b (shaped.height ∙ sym height) ∙ shaped.height;
+  widths = λ i.
+      let row : row_of (zip2 join_rows a b) i ≡ join_rows (row_of a i) (row_of b i) = row-join a b i in
+      omega (arith, ap length row, zip_short (row_of a i) (row_of b i), shaped.widths i);
+}
+
+fold-shaped : {A : Type 0} (tell : A → Table) → ((x : A) → length (tell x) ≡ 208) → (start : Table) (xs : List A) → IsShaped start
+    → IsShaped (fold join_tables start (map tell xs))
+fold-shaped tell high start [] shaped = shaped
+fold-shaped tell high start (x ∷ xs) shaped = fold-shaped tell high (join_tables start (tell x)) xs (join-shaped start (tell x) shaped (high x))
+
+pub joined-shaped : {A : Type 0} (tell : A → Table) → ((x : A) → length (tell x) ≡ 208) → (xs : List A) → IsShaped (joined (map tell xs))
+unfolding joined
+joined-shaped tell high xs = fold-shaped tell high unseen xs unseen-shaped
+
+map-more : {A B : Type 0} (f : A → B) (xs : List A) (x : A) → map f (xs ++ x ∷ []) ≡ map f xs ++ f x ∷ []
+map-more f [] x = refl
+map-more f (y ∷ xs) x = ap (λ ys. f y ∷ ys) (map-more f xs x)
+
+pub joined-more : {A : Type 0} (tell : A → Table) (xs : List A) (x : A) → joined (map tell (xs ++ x ∷ [])) ≡ join_tables (joined (map tell xs)) (tell x)
+unfolding joined
+joined-more tell xs x = ap (fold join_tables unseen) (map-more tell xs x) ∙ fold-append join_tables unseen (map tell xs) (tell x ∷ [])
+
+pub length-frame_table : (f : ℕ) (frame : Frame) → length (frame_table f frame) ≡ 208
+unfolding frame_table
+length-frame_table f frame =
+    length-map-range_with_len (λ i. if record_at i / 13 == f then frame_row frame (record_at i % 13) else replicate 182 Unseen) 0 208
+
+abbrev Tells : ℕ → ℕ → Type 0
+Tells a b = ((((a == b) ≡ true) × (a ≡ b)) ⊎ (((a == b) ≡ false) × (a ≢ b)))
+
+-- a frame that is joined by its rows is joined by its table
+pub by_table : (f : ℕ) (frame : Frame) (table : Table) → IsShaped table → with_frame f frame table ≡ join_tables table (frame_table f frame)
+unfolding with_frame frame_table join_tables
+by_table f frame table shaped =
+    ext_get_or [] (map rows (range_with_len 0 208)) (zip2 join_rows table (map tells (range_with_len 0 208))) heights
+    (λ i within. let below : i < 208 = omega (arith, within, length-map-range_with_len rows 0 208) in
+    get_or-map-range_with_len rows 0 208 i i [] below (omega arith)
+    ∙ by_frame i (eqb_tells (record_at i / 13) f)
+    ∙ ap (join_rows (row_of table i)) (sym (get_or-map-range_with_len tells 0 208 i i [] below (omega arith)))
+    ∙ sym (row-join table (map tells (range_with_len 0 208)) i))
+  where
+    rows : ℕ → List Place
+    rows i = if record_at i / 13 == f then join_rows (row_of table i) (frame_row frame (record_at i % 13)) else row_of table i
+
+    tells : ℕ → List Place
+    tells i = if record_at i / 13 == f then frame_row frame (record_at i % 13) else replicate 182 Unseen
+
+    heights : length (map rows (range_with_len 0 208)) ≡ length (zip2 join_rows table (map tells (range_with_len 0 208)))
+    heights =
+        length-map-range_with_len rows 0 208 ∙ sym shaped.height
+        ∙ sym (length-zip2 join_rows table (map tells (range_with_len 0 208)) (shaped.height ∙ sym (length-map-range_with_len tells 0 208)))
+
+    by_frame : (i : ℕ) → Tells (record_at i / 13) f → rows i ≡ join_rows (row_of table i) (tells i)
+    by_frame i (inl here) = rw here.0 refl
+    by_frame i (inr elsewhere) = rw elsewhere.0 (sym (unseen_row (row_of table i) 182 (shaped.widths i)))

@@ -1,0 +1,15 @@
+use Rattle.std.proofs.Common.{◌∙◌, sym, ap, subst, All}
+use Rattle.std.proofs.lemmas.List.Elements.{All-from_get_or, All-take}
+use Rattle.gf_field.specs.Words.{IsByte}
+use Rattle.dvd_frame.specs.Id.{has_check}
+use Rattle.dvd_frame.proofs.IdChecks.{checked}
+use Rattle.dvd_assemble.proofs.home.has_right_ied.Goals as goal
+
+pub returns : goal.returns
+returns c =
+    let row = c.args.row.now in
+    let six = c.copy_from_slice.new.self in
+    let bytes : All IsByte six =
+    subst (All IsByte) (sym c.copy_from_slice.ensures.after)
+    (All-take IsByte 6 row (All-from_get_or IsByte row 0 (λ i within. c.fits-row i))) in
+    checked c.is_codeword.result six c.copy_from_slice.ensures.len bytes c.is_codeword.ensures ∙ ap has_check c.copy_from_slice.ensures.after

@@ -1,0 +1,176 @@
+//! A captured recording frame: thirteen rows with their marks.
+ghost use Rattle.std.specs.Prelude.{◌≡◌, ◌≢◌, ℕ, ◌+◌, ◌*◌, ◌<◌, ◌≤◌, ◌==◌, if◌then◌else◌, false, length, replicate, take};
+ghost use Rattle.dvd_block.specs.Product.{line};
+ghost use Rattle.dvd_capture.specs.Answers.{marks_line};
+ghost use Rattle.dvd_capture.specs.Captured.{HasSize, marks_in, record_size};
+ghost use Rattle.dvd_capture.specs.MarkBits.{mark_at, marks_of};
+ghost use Rattle.dvd_capture.specs.declared.capture.FetchAnswer.TheVariants.{Full, End, Short, ReadFault, BadMarks};
+ghost use Rattle.dvd_merge.specs.Merges.{table_of};
+ghost use Rattle.dvd_ports.specs.Causes.{Rose};
+ghost use Rattle.dvd_ports.specs.Whole.{ConsumesFewer};
+ghost use Rattle.dvd_assemble.specs.Frames.{CapturesFrame, FrameEndsAfter, frame_in, frame_size};
+ghost use Rattle.dvd_assemble.specs.Assembled.{with_frame};
+ghost use Rattle.dvd_assemble.specs.Works.{captured};
+
+use dvd_block::row_of_record;
+use dvd_capture::{FetchAnswer, Form};
+use dvd_merge::Merge;
+use dvd_ports::{Failed, Source, read_whole};
+
+// The bytes of a recorded row, and of its mark bits.
+const ROW: usize = 182;
+
+const BITS: usize = 23;
+
+// The bytes of a frame in the form that has most.
+const MOST: usize = 13 * (ROW + BITS);
+
+/// A captured recording frame: thirteen rows of 182 bytes, and 23 bytes of mark bits for each.
+#[derive(Clone, Copy, Debug, PartialEq, Eq)]
+pub struct FrameWork {
+    rows: [[u8; ROW]; 13],
+    marks: [[u8; BITS]; 13],
+}
+
+impl FrameWork {
+    ghost use Rattle.dvd_assemble.specs.Works.{captured, frame_marks, frame_rows};
+
+    /// Zeros without marks.
+    pub fn new() -> FrameWork
+        ensures rows { frame_rows result ≡ replicate 13 (replicate 182 0) }
+        ensures marks { frame_marks result ≡ replicate 13 (replicate 182 false) }
+    {
+        FrameWork {
+            rows: [[0; ROW]; 13],
+            marks: [[0; BITS]; 13],
+        }
+    }
+
+    // Sets all rows and their marks to those in these bytes.
+    fn put(&mut self, form: Form, bytes: &[u8])
+        requires { length bytes.now ≡ frame_size form }
+        ensures { captured self.new ≡ frame_in form bytes.now }
+    {
+        let size = record_size(form);
+        for q in 0..13usize {
+            let row = &bytes[size * q..size * q + size];
+            put_row(&mut self.rows[q], &mut self.marks[q], form, row);
+        }
+    }
+
+    // The first row.
+    pub(crate) fn first_row(&self) -> &[u8; ROW]
+        ensures { result.now ≡ line (frame_rows self.now) 0 }
+    {
+        &self.rows[0]
+    }
+
+    // Writes the marks of row `q`.
+    pub(crate) fn row_marks(&self, q: usize, out: &mut [bool; ROW])
+        requires { q < 13 }
+        ensures { out.new ≡ marks_line (frame_marks self.now) q }
+    {
+        read_bits(&self.marks[q], out);
+    }
+
+    // Joins the frame into a block as its recording frame `f`.
+    pub(crate) fn join_into(&self, f: usize, merge: &mut Merge)
+        requires { f < 16 }
+        ensures { table_of merge.new ≡ with_frame f (captured self.now) (table_of merge.old) }
+    {
+        let mut marks = [false; ROW];
+        for q in 0..13usize {
+            self.row_marks(q, &mut marks);
+            merge.take_row(row_of_record(13 * f + q), &self.rows[q], &marks);
+        }
+    }
+}
+
+// The bytes of a recorded row.
+fn record_size(form: Form) -> usize
+    ensures { result ≡ record_size form }
+{
+    match form {
+        Form::Plain | Form::Listed => ROW,
+        Form::Marked => ROW + BITS,
+    }
+}
+
+// Sets a row and its mark bits to those in the bytes of a recorded row.
+fn put_row(row: &mut [u8; ROW], bits: &mut [u8; BITS], form: Form, bytes: &[u8])
+    requires { length bytes.now ≡ record_size form }
+    ensures row { row.new ≡ take 182 bytes.now }
+    ensures marks { marks_of bits.new ≡ marks_in form bytes.now }
+{
+    row.copy_from_slice(&bytes[..ROW]);
+    put_bits(bits, form, bytes);
+}
+
+// Sets the mark bits of a row to those in a recorded row.
+fn put_bits(bits: &mut [u8; BITS], form: Form, row: &[u8])
+    requires { length row.now ≡ record_size form }
+    ensures { marks_of bits.new ≡ marks_in form row.now }
+{
+    match form {
+        Form::Plain | Form::Listed => *bits = [0; BITS],
+        Form::Marked => bits.copy_from_slice(&row[ROW..]),
+    }
+}
+
+// Writes the marks of a row by its bits.
+fn read_bits(bits: &[u8; BITS], marks: &mut [bool; ROW])
+    ensures { marks.new ≡ marks_of bits.now }
+{
+    for (j, mark) in marks.iter_mut().enumerate() {
+        *mark = is_marked(bits, j);
+    }
+}
+
+// The mark of place `j`: the most significant bit of a byte is that of its first place.
+fn is_marked(bits: &[u8; BITS], j: usize) -> bool
+    requires { j < 182 }
+    ensures { result ≡ mark_at bits.now j }
+{
+    bits[j / 8] >> (7 - j % 8) & 1 == 1
+}
+
+/// Reads one recording frame, by as many calls as it takes: 2,366 bytes in the plain form, 2,665 in the marked form.
+/// One that isn't whole leaves the frame as it was.
+pub fn fetch_frame<S: Source>(src: &mut S, form: Form, frame: &mut FrameWork) -> FetchAnswer
+    requires { HasSize form }
+    ensures full { result ≡ Full → CapturesFrame form (S.seen src.old).bytes (S.seen src.new).bytes (captured frame.new) }
+    ensures end { result ≡ End → FrameEndsAfter form (S.seen src.old).bytes (S.seen src.new).bytes 0 }
+    ensures short { (count : ℕ) → result ≡ Short count → (0 < count) × FrameEndsAfter form (S.seen src.old).bytes (S.seen src.new).bytes count }
+    ensures no_rule { (at : ℕ) → result ≢ BadMarks at }
+    ensures fault { result ≡ ReadFault → ConsumesFewer (S.seen src.old).bytes (S.seen src.new).bytes (frame_size form) }
+    ensures cause { result ≡ ReadFault → Rose (S.seen src.old).faults (S.seen src.new).faults }
+    ensures steady { result ≢ ReadFault → (S.seen src.new).faults ≡ (S.seen src.old).faults }
+    ensures later { (S.seen src.old).faults ≤ (S.seen src.new).faults }
+    ensures same { result ≢ Full → frame.new ≡ frame.old }
+{
+    let size = 13 * record_size(form);
+    let mut buffer = [0; MOST];
+    let bytes = &mut buffer[..size];
+    match read_whole(src, bytes) {
+        Ok(count) if count < size => cut_off(count),
+        Ok(_) => {
+            frame.put(form, bytes);
+            FetchAnswer::Full
+        }
+        Err(Failed) => FetchAnswer::ReadFault,
+    }
+}
+
+// What is answered where a source ended after so many bytes of a frame.
+fn cut_off(bytes: usize) -> FetchAnswer
+    requires { bytes < 2665 }
+    ensures { result ≡ (if bytes == 0 then End else Short bytes) }
+{
+    if bytes == 0 {
+        FetchAnswer::End
+    } else {
+        FetchAnswer::Short {
+            bytes: bytes as u32,
+        }
+    }
+}

@@ -1,0 +1,106 @@
+//! Where a captured recording frame belongs.
+ghost use Rattle.std.specs.Prelude.{◌≡◌, ◌+◌, ◌*◌, ◌<◌, ◌≤◌, ◌==◌, if◌then◌else◌, length, slice_index, take, IfSome};
+ghost use Rattle.std.specs.Option.{option_map};
+ghost use Rattle.rs_decode.specs.Nearest.{near_of};
+ghost use Rattle.dvd_frame.specs.Frame.{found_word};
+ghost use Rattle.dvd_frame.specs.Id.{has_check, is_same_place};
+ghost use Rattle.dvd_layout.specs.Lengths.{blocks_of};
+ghost use Rattle.dvd_layout.specs.Plan.{plan_of};
+ghost use Rattle.dvd_layout.specs.declared.layout.Zones.TheVariants.{DataOnly};
+ghost use Rattle.dvd_capture.specs.Answers.{marks_line};
+ghost use Rattle.dvd_block.specs.Product.{line};
+ghost use Rattle.dvd_assemble.specs.Home.{block_and_frame, home, home_in, word_in, words_of};
+ghost use Rattle.dvd_assemble.specs.Works.{captured};
+
+use crate::frame::FrameWork;
+use dvd_frame::Id;
+use dvd_layout::{Layout, Zones, id_of};
+use rs_code::{Ied, Pi};
+use rs_decode::decode;
+
+/// The block of the data zone and the recording frame of it that the first row of a captured frame names, if it names one.
+pub(crate) fn home_of(layout: &Layout, frame: &FrameWork) -> Option<(u16, u8)>
+    requires { length (plan_of layout.now DataOnly) ≤ 1024 }
+    ensures home { result ≡ option_map block_and_frame (home layout.now (captured frame.now)) }
+    ensures block { IfSome result (λ place. place.0 < length (plan_of layout.now DataOnly)) }
+    ensures frame { IfSome result (λ place. place.1 < 16) }
+{
+    let mut marks = [false; 182];
+    frame.row_marks(0, &mut marks);
+    let id = id_in(frame.first_row(), &marks)?;
+    home_of_id(layout, id)
+}
+
+// The ID in the codeword near a received first row, if its check is right.
+fn id_in(row: &[u8; 182], marks: &[bool; 182]) -> Option<Id>
+    ensures { result ≡ word_in row.now marks.now }
+{
+    let mut word = *row;
+    decode(&Pi::new(), &mut word, marks).ok()?;
+    if has_right_ied(&word) {
+        Some(found_id(&word))
+    } else {
+        None
+    }
+}
+
+// The ID as it was read.
+fn found_id(row: &[u8; 182]) -> Id
+    ensures { result ≡ found_word row.now }
+{
+    Id::from_word(u32::from_be_bytes([row[0], row[1], row[2], row[3]]))
+}
+
+// Whether the first six bytes are an ID with its right check.
+fn has_right_ied(row: &[u8; 182]) -> bool
+    ensures { result ≡ has_check (take 6 row.now) }
+{
+    let mut six = [0; 6];
+    six.copy_from_slice(&row[..6]);
+    Ied::new().is_codeword(&six)
+}
+
+// The block and the frame that have the place of this ID: the layer tells the first block that may have it, and the
+// sectors behind that block's first one tell the block. Only then is the whole ID compared with the plan's.
+fn home_of_id(layout: &Layout, id: Id) -> Option<(u16, u8)>
+    requires { length (plan_of layout.now DataOnly) ≤ 1024 }
+    ensures home { result ≡ option_map block_and_frame (home_in layout.now id) }
+    ensures block { IfSome result (λ place. place.0 < length (plan_of layout.now DataOnly)) }
+    ensures frame { IfSome result (λ place. place.1 < 16) }
+{
+    let blocks = layout.blocks(Zones::DataOnly);
+    let before = blocks_before(layout, id.layer());
+    if before >= blocks {
+        return None;
+    }
+    let first = layout.plan(Zones::DataOnly, before).first;
+    let behind = id.number().checked_sub(first)?;
+    let k = before + u64::from(behind / 16);
+    let f = behind % 16;
+    if k < blocks && has_frame(layout, k, f as usize, id) {
+        Some((k as u16, f as u8))
+    } else {
+        None
+    }
+}
+
+// How many blocks stand before those of a layer.
+fn blocks_before(layout: &Layout, layer: u8) -> u64
+    ensures { result ≡ (if layer == 0 then 0 else blocks_of layout.now.sectors0) }
+{
+    if layer == 0 {
+        0
+    } else {
+        u64::from(layout.sectors0.div_ceil(16))
+    }
+}
+
+// Whether frame `f` of block `k` has the place of this ID.
+fn has_frame(layout: &Layout, k: u64, f: usize, id: Id) -> bool
+    requires block { k < length (plan_of layout.now DataOnly) }
+    requires frame { f < 16 }
+    ensures { result ≡ is_same_place id (slice_index (words_of layout.now) (16 * k + f)) }
+{
+    let entry = layout.plan(Zones::DataOnly, k);
+    id.same_place(id_of(&entry, layout.dim(), f))
+}
