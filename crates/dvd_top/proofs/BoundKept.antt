@@ -1,4 +1,4 @@
--- A run of recovery keeps the bound.
+-- A run of recovery, by two passes or by rounds, keeps the bound.
 use Rattle.std.proofs.Common.{◌≡◌, ◌∙◌, min, ℕ, ◌+◌, ◌-◌, ◌*◌, ◌≤◌, List, [], ◌∷◌, ◌++◌, length, length-append, take, drop, slice_get, Some, refl, ap, sym, subst, append-nil, add-one, arith}
 use Rattle.std.proofs.Math.Nat.{mul-suc}
 use Rattle.std.proofs.lemmas.List.{length-drop, length-take-le}
@@ -16,7 +16,7 @@ use Rattle.dvd_layout.specs.declared.layout.Layout.{Layout}
 use Rattle.dvd_layout.specs.declared.layout.Zones.{Zones}
 use Rattle.dvd_layout.proofs.InOrder.{plan_of-in_order}
 use Rattle.dvd_loop.specs.Laws.{IsFaultless, IsFrontOf, first}
-use Rattle.dvd_loop.specs.Machine.{Closes, Does, IsClosed, IsOutcome, Outcome, Step, ended}
+use Rattle.dvd_loop.specs.Machine.{Closes, Does, IsClosed, IsOutcome, Outcome, Step, Units, ended}
 use Rattle.dvd_loop.specs.Machine.Step.{Tell, Write}
 use Rattle.dvd_loop.specs.Turns.{written}
 use Rattle.dvd_loop.specs.declared.ends.LoopEnd.{LoopEnd}
@@ -25,17 +25,20 @@ use Rattle.dvd_loop.specs.declared.ends.Turn.{Turn}
 use Rattle.dvd_loop.specs.declared.ends.Turn.TheVariants.{Good}
 use Rattle.dvd_loop.proofs.Apart.{takes_unit}
 use Rattle.dvd_loop.proofs.Faultless.{all_done}
-use Rattle.dvd_top.specs.Bound.{IsBorne, KeepsBound, block_bytes, image_part}
+use Rattle.dvd_top.specs.Bound.{IsBorne, IsRescued, KeepsBound, Rescues, block_bytes, image_part}
 use Rattle.dvd_top.specs.Commands.{meaning}
-use Rattle.dvd_top.specs.Commands.Master.{image_bytes}
-use Rattle.dvd_top.specs.Commands.Recover.{IsRecovered, recover_units}
+use Rattle.dvd_top.specs.Commands.Deep.{IsDeepened}
+use Rattle.dvd_top.specs.Commands.Master.{bytes_of_block, image_bytes}
+use Rattle.dvd_top.specs.Commands.Recover.{IsRecovered}
 use Rattle.dvd_top.specs.Laws.{BoundIsKept}
 use Rattle.dvd_top.specs.Lines.{closing_line}
 use Rattle.dvd_words.specs.Settings.{IsLayoutOf}
+use Rattle.dvd_words.specs.declared.settings.Command.{Command}
+use Rattle.dvd_words.specs.declared.settings.Command.TheVariants.{Frames, Master, Recover, Info, Survey, Exercise, CdMake, CdRead, Merge, Deep, Assemble}
 use Rattle.dvd_words.specs.declared.settings.Settings.{Settings}
 use Rattle.dvd_top.proofs.PlanBytes.{start-blocks}
-use Rattle.dvd_top.proofs.RecoveredWidths.{length-first, never_last}
-use Rattle.dvd_top.proofs.Repaired.{repaired}
+use Rattle.dvd_top.proofs.RecoveredWidths.{IsWide, block_units, deepened-wide, length-first, never_last, recovered-wide}
+use Rattle.dvd_top.proofs.Repaired.{repaired, repaired_deep}
 
 -- the image has the bytes that stand in a block
 pub length-part : (layout : Layout) (content : Content) (image : List ℕ) → length image ≡ 2048 * total_sectors layout
@@ -52,7 +55,7 @@ length-own size k bytes there =
     length-take-le size (drop (size * k) bytes) (omega (arith, subst (λ n. size * n ≤ length bytes) (add-one k) there, mul-suc size k, length-drop (size * k) bytes))
 
 -- a part that stands behind so many bytes
-part_there : (a n : ℕ) (before part out : List ℕ) → length before ≡ a → length part ≡ n → IsFrontOf (before ++ (part ++ [])) out
+pub part_there : (a n : ℕ) (before part out : List ℕ) → length before ≡ a → length part ≡ n → IsFrontOf (before ++ (part ++ [])) out
     → take n (drop a out) ≡ part
 part_there a n before part out at size (left, is) =
     let own : length (part ++ []) ≡ n = ap length (append-nil part) ∙ size in
@@ -60,16 +63,6 @@ part_there a n before part out at size (left, is) =
     ∙ part-append (before ++ (part ++ [])) left a n (omega (arith, length-append before (part ++ []), own))
     ∙ part-behind before (part ++ []) a n at own
     ∙ append-nil part
-
--- the blocks before a data block write the bytes before its first image sector, or as many zeros
-length-before : (layout : Layout) (zones : Zones) (form : Form) (k : ℕ) (entry : BlockPlan) (bytes : List ℕ) (a : Outcome)
-    → slice_get (plan_of layout zones) k ≡ Some entry → IsImage entry.content
-    → IsOutcome (first k (recover_units layout zones form)) bytes a → a.end ≡ Done → length a.out ≡ 2048 * image_from entry.content
-length-before layout zones form k entry bytes a stands is_image runs done =
-    let within = slice_get_within (plan_of layout zones) k entry stands in
-    length-first layout zones form k bytes a runs done
-    ∙ start-blocks layout zones k (omega arith)
-    ∙ ap (λ n. 2048 * n) (plan_of-in_order layout zones k entry stands is_image)
 
 -- what may be done for a block that is borne
 alone : (layout : Layout) (zones : Zones) (form : Form) (bytes cpr image : List ℕ) (k : ℕ) (entry : BlockPlan)
@@ -80,40 +73,60 @@ alone layout zones form bytes cpr image k entry b steps turn does =
     repaired layout zones form cpr k entry (image_part layout entry image) (block_bytes form bytes k) b.block steps turn b.stands b.is_image b.cpr_size
     (length-part layout entry.content image b.image_size) b.is_block (length-own (block_size form) k bytes b.whole) b.within does
 
--- In a run whose loop ended without a fault a data block that is whole has its turn, and what it writes stands behind the bytes
--- before its first image sector.
-pub record HasTurn (layout : Layout) (zones : Zones) (form : Form) (bytes : List ℕ) (a : Outcome) (k : ℕ) (entry : BlockPlan) : Type 0 where
-  pub steps : List Step
-  pub turn : Turn
-  pub does : IsRecovered layout zones form k (block_bytes form bytes k) steps turn
-  pub before : List ℕ
-  pub size : length before ≡ 2048 * image_from entry.content
-  pub out : IsFrontOf (before ++ written steps) a.out
+alone_deep : (layout : Layout) (zones : Zones) (form : Form) (bytes cpr image : List ℕ) (k : ℕ) (entry : BlockPlan)
+    → IsBorne layout zones form bytes cpr image k entry
+    → (steps : List Step) (turn : Turn) → IsDeepened layout zones form k (block_bytes form bytes k) steps turn
+    → (steps ≡ Write (image_part layout entry image) ∷ []) × (turn ≡ Good)
+alone_deep layout zones form bytes cpr image k entry b steps turn does =
+    repaired_deep layout zones form cpr k entry (image_part layout entry image) (block_bytes form bytes k) b.block steps turn b.stands b.is_image b.cpr_size
+    (length-part layout entry.content image b.image_size) b.is_block (length-own (block_size form) k bytes b.whole) b.within does
 
-pub has_turn : (layout : Layout) (zones : Zones) (form : Form) (bytes : List ℕ) (a : Outcome) → IsOutcome (recover_units layout zones form) bytes a
-    → IsFaultless a.end → (k : ℕ) (entry : BlockPlan) → slice_get (plan_of layout zones) k ≡ Some entry → IsImage entry.content
-    → block_size form * (k + 1) ≤ length bytes → HasTurn layout zones form bytes a k entry
-has_turn layout zones form bytes a runs none k entry stands is_image whole =
-    let in_plan = slice_get_within (plan_of layout zones) k entry stands in
-    let (steps, turn, t) = takes_unit (recover_units layout zones form) (block_size form) (λ j l. refl) (never_last layout zones form) refl bytes a runs none k in_plan whole in record {
-      steps = steps;
-      turn = turn;
-      does = subst (λ j. IsRecovered layout zones form j (block_bytes form bytes k) steps turn) t.number t.unit.does;
-      before = t.alone.out;
-      size = length-before layout zones form k entry bytes t.alone stands is_image t.runs t.ends;
-      out = t.out;
-    }
+-- Units that are the captured blocks of a plan, and write the image bytes that stand in each.
+module _ (layout : Layout) (zones : Zones) (form : Form) (May : ℕ → List ℕ → List Step → Turn → Type 0)
+    (wide : (k : ℕ) (own : List ℕ) (steps : List Step) (turn : Turn) → May k own steps turn → IsWide (bytes_of_block layout zones k) steps turn) where
+  -- the blocks before a data block write the bytes before its first image sector, or as many zeros
+  length-before : (k : ℕ) (entry : BlockPlan) (bytes : List ℕ) (a : Outcome) → slice_get (plan_of layout zones) k ≡ Some entry → IsImage entry.content
+      → IsOutcome (first k (block_units layout zones form May)) bytes a → a.end ≡ Done → length a.out ≡ 2048 * image_from entry.content
+  length-before k entry bytes a stands is_image runs done =
+      let within = slice_get_within (plan_of layout zones) k entry stands in
+      length-first layout zones form May wide k bytes a runs done
+      ∙ start-blocks layout zones k (omega arith)
+      ∙ ap (λ n. 2048 * n) (plan_of-in_order layout zones k entry stands is_image)
 
--- its sectors stand at their place
-at_place : (layout : Layout) (zones : Zones) (form : Form) (bytes : List ℕ) (a : Outcome) → IsOutcome (recover_units layout zones form) bytes a
-    → IsFaultless a.end
-    → (cpr image : List ℕ) (k : ℕ) (entry : BlockPlan) → IsBorne layout zones form bytes cpr image k entry
-    → take (image_bytes layout entry) (drop (2048 * image_from entry.content) a.out) ≡ image_part layout entry image
-at_place layout zones form bytes a runs none cpr image k entry b =
-    let t = has_turn layout zones form bytes a runs none k entry b.stands b.is_image b.whole in
-    let back = alone layout zones form bytes cpr image k entry b t.steps t.turn t.does in
-    part_there (2048 * image_from entry.content) (image_bytes layout entry) t.before (image_part layout entry image) a.out t.size
-    (length-part layout entry.content image b.image_size) (subst (λ s. IsFrontOf (t.before ++ written s) a.out) back.0 t.out)
+  -- In a run whose loop ended without a fault a data block that is whole has its turn, and what it writes stands behind the bytes
+  -- before its first image sector.
+  pub record HasTurn (bytes : List ℕ) (a : Outcome) (k : ℕ) (entry : BlockPlan) : Type 0 where
+    pub steps : List Step
+    pub turn : Turn
+    pub does : May k (block_bytes form bytes k) steps turn
+    pub before : List ℕ
+    pub size : length before ≡ 2048 * image_from entry.content
+    pub out : IsFrontOf (before ++ written steps) a.out
+
+  pub has_turn : (bytes : List ℕ) (a : Outcome) → IsOutcome (block_units layout zones form May) bytes a
+      → IsFaultless a.end → (k : ℕ) (entry : BlockPlan) → slice_get (plan_of layout zones) k ≡ Some entry → IsImage entry.content
+      → block_size form * (k + 1) ≤ length bytes → HasTurn bytes a k entry
+  has_turn bytes a runs none k entry stands is_image whole =
+      let in_plan = slice_get_within (plan_of layout zones) k entry stands in
+      let (steps, turn, t) = takes_unit (block_units layout zones form May) (block_size form) (λ j l. refl) (never_last layout zones form May wide) refl bytes a runs none k in_plan whole in record {
+        steps = steps;
+        turn = turn;
+        does = subst (λ j. May j (block_bytes form bytes k) steps turn) t.number t.unit.does;
+        before = t.alone.out;
+        size = length-before k entry bytes t.alone stands is_image t.runs t.ends;
+        out = t.out;
+      }
+
+  -- Where its image sectors alone may be written of a block that is borne, they stand at their place.
+  module _ (cpr image : List ℕ) (bytes : List ℕ) (k : ℕ) (entry : BlockPlan) (b : IsBorne layout zones form bytes cpr image k entry)
+      (alone : (steps : List Step) (turn : Turn) → May k (block_bytes form bytes k) steps turn → (steps ≡ Write (image_part layout entry image) ∷ []) × (turn ≡ Good)) where
+    at_place : (a : Outcome) → IsOutcome (block_units layout zones form May) bytes a → IsFaultless a.end
+        → take (image_bytes layout entry) (drop (2048 * image_from entry.content) a.out) ≡ image_part layout entry image
+    at_place a runs none =
+        let t = has_turn bytes a runs none k entry b.stands b.is_image b.whole in
+        let back = alone t.steps t.turn t.does in
+        part_there (2048 * image_from entry.content) (image_bytes layout entry) t.before (image_part layout entry image) a.out t.size
+        (length-part layout entry.content image b.image_size) (subst (λ s. IsFrontOf (t.before ++ written s) a.out) back.0 t.out)
 
 -- a closing line that was told writes nothing, and ends as its loop
 told_line : (line : List ℕ) (end : LoopEnd) (a : Outcome) → Does (Tell line ∷ []) (λ after. after ≡ ended end) a → IsFaultless a.end
@@ -129,30 +142,52 @@ closed closing ReportFault a is none = absurd (subst (λ (o : Outcome). IsFaultl
 closed closing end a does none = told_line (closing end) end a does none
 
 -- a run that no fault ended wrote what its loop wrote, which no fault ended
-pub closed_loop : (settings : Settings) (layout : Layout) (within : LoopEnd) (bytes : List ℕ) (outcome : Outcome)
-    (c : IsClosed (closing_line settings.command) (recover_units layout settings.zones settings.form) bytes within outcome) → IsFaultless outcome.end
+pub closed_loop : (command : Command) (units : Units) (within : LoopEnd) (bytes : List ℕ) (outcome : Outcome)
+    (c : IsClosed (closing_line command) units bytes within outcome) → IsFaultless outcome.end
     → (outcome.out ≡ c.loop.out) × IsFaultless c.loop.end
-closed_loop settings layout within bytes outcome c none =
-    let line = closed (closing_line settings.command) within c.line c.closes (subst (λ (o : Outcome). IsFaultless o.end) c.all none) in (
+closed_loop command units within bytes outcome c none =
+    let line = closed (closing_line command) within c.line c.closes (subst (λ (o : Outcome). IsFaultless o.end) c.all none) in (
       ap (λ (o : Outcome). o.out) c.all ∙ ap (λ l. c.loop.out ++ l) line.0 ∙ append-nil c.loop.out,
       subst IsFaultless (ap (λ (o : Outcome). o.end) c.all ∙ line.1 ∙ sym c.ends) none,
     )
 
-closed_keeps : (settings : Settings) (within : LoopEnd) (bytes : List ℕ) (outcome : Outcome) (layout : Layout) → IsLayoutOf settings layout
-    → IsClosed (closing_line settings.command) (recover_units layout settings.zones settings.form) bytes within outcome → IsFaultless outcome.end
+-- the bound is kept by units that write, of a block that is borne, its image sectors alone
+closed_keeps : (settings : Settings) (command : Command) (within : LoopEnd) (bytes : List ℕ) (outcome : Outcome) (layout : Layout) → IsLayoutOf settings layout
+    → ((k : ℕ) (own : List ℕ) (steps : List Step) (turn : Turn) → IsRescued command layout settings.zones settings.form k own steps turn → IsWide (bytes_of_block layout settings.zones k) steps turn)
+    → ((cpr image : List ℕ) (k : ℕ) (entry : BlockPlan) → IsBorne layout settings.zones settings.form bytes cpr image k entry
+    → (steps : List Step) (turn : Turn) → IsRescued command layout settings.zones settings.form k (block_bytes settings.form bytes k) steps turn
+    → (steps ≡ Write (image_part layout entry image) ∷ []) × (turn ≡ Good))
+    → settings.command ≡ command
+    → IsClosed (closing_line command) (block_units layout settings.zones settings.form (IsRescued command layout settings.zones settings.form)) bytes within outcome → IsFaultless outcome.end
     → KeepsBound settings bytes outcome
-closed_keeps settings within bytes outcome layout is_layout c none =
-    let (out, loop_none) = closed_loop settings layout within bytes outcome c none in
+closed_keeps settings command within bytes outcome layout is_layout wide alone is c none =
+    let (out, loop_none) = closed_loop command (block_units layout settings.zones settings.form (IsRescued command layout settings.zones settings.form)) within bytes outcome c none in
     record {
       layout = layout;
       is_layout = is_layout;
       at_place = λ cpr image k entry b.
           ap (λ l. take (image_bytes layout entry) (drop (2048 * image_from entry.content) l)) out
-          ∙ at_place layout settings.zones settings.form bytes c.loop c.runs loop_none cpr image k entry b;
-      alone = alone layout settings.zones settings.form bytes;
+          ∙ at_place layout settings.zones settings.form (IsRescued command layout settings.zones settings.form) wide cpr image bytes k entry b (alone cpr image k entry b) c.loop c.runs loop_none;
+      alone = λ cpr image k entry b steps turn does.
+          alone cpr image k entry b steps turn (subst (λ word. IsRescued word layout settings.zones settings.form k (block_bytes settings.form bytes k) steps turn) is does);
     }
 
+kept_by : (settings : Settings) (command : Command) (within : LoopEnd) (bytes : List ℕ) (outcome : Outcome) → Rescues command → settings.command ≡ command
+    → (meaning command).OfUnits settings (λ units. IsClosed (closing_line command) units bytes within outcome) → IsFaultless outcome.end
+    → KeepsBound settings bytes outcome
+kept_by settings Recover within bytes outcome rescues is (layout, is_layout, c) none =
+    closed_keeps settings Recover within bytes outcome layout is_layout (recovered-wide layout settings.zones settings.form) (alone layout settings.zones settings.form bytes) is c none
+kept_by settings Deep within bytes outcome rescues is (layout, is_layout, c) none =
+    closed_keeps settings Deep within bytes outcome layout is_layout (deepened-wide layout settings.zones settings.form) (alone_deep layout settings.zones settings.form bytes) is c none
+kept_by settings Frames within bytes outcome rescues is holds none = absurd rescues
+kept_by settings Master within bytes outcome rescues is holds none = absurd rescues
+kept_by settings Info within bytes outcome rescues is holds none = absurd rescues
+kept_by settings Survey within bytes outcome rescues is holds none = absurd rescues
+kept_by settings Exercise within bytes outcome rescues is holds none = absurd rescues
+kept_by settings CdMake within bytes outcome rescues is holds none = absurd rescues
+kept_by settings CdRead within bytes outcome rescues is holds none = absurd rescues
+kept_by settings Merge within bytes outcome rescues is holds none = absurd rescues
+kept_by settings Assemble within bytes outcome rescues is holds none = absurd rescues
+
 pub kept : BoundIsKept
-kept settings within bytes outcome is run none =
-    let (layout, is_layout, c) = subst (λ command. (meaning command).OfUnits settings (λ units. IsClosed (closing_line settings.command) units bytes within outcome)) is run in
-    closed_keeps settings within bytes outcome layout is_layout c none
+kept settings within bytes outcome is run none = kept_by settings settings.command within bytes outcome is refl run none

@@ -4,7 +4,7 @@ use Rattle.std.proofs.lemmas.List.FromFn.{length-map-range_with_len}
 use Rattle.dvd_block.proofs.OneBlock.{one_block_at_most}
 use Rattle.dvd_block.specs.Product.{IsBlockOf, line}
 use Rattle.dvd_block.specs.Recording.{record_at, recording}
-use Rattle.dvd_capture.specs.Captured.{captured_marks, captured_rows, marks_in, record_of}
+use Rattle.dvd_capture.specs.Captured.{captured_marks, captured_rows, record_marks, record_of}
 use Rattle.dvd_capture.specs.declared.form.Form.{Form}
 use Rattle.dvd_layout.specs.Place.{image_sectors}
 use Rattle.dvd_control.specs.Format.{control_fault, fields_in}
@@ -15,6 +15,7 @@ use Rattle.dvd_layout.specs.declared.entry.Content.TheVariants.{Zero, Reference,
 use Rattle.dvd_layout.specs.declared.layout.Layout.{Layout}
 use Rattle.dvd_layout.specs.declared.layout.Zones.{Zones}
 use Rattle.dvd_layout.proofs.SameLengths.{same_lengths-same}
+use Rattle.dvd_top.proofs.CdSectors.{made_is_one, read_is_one}
 use Rattle.dvd_top.proofs.ExerciseRuns.{exercised_is_one}
 use Rattle.dvd_top.proofs.PlanEntries.{one_entry}
 use Rattle.dvd_loop.specs.Laws.{AreDetermined, IsFaultless, IsUnbroken}
@@ -33,13 +34,21 @@ use Rattle.dvd_read.specs.Salvage.{block_out, saved_in}
 use Rattle.dvd_report.specs.Lines.{damage_line}
 use Rattle.dvd_report.specs.Survey.{survey_line}
 use Rattle.dvd_top.specs.Commands.{meaning}
+use Rattle.dvd_top.specs.Commands.CdMake.{cdmake_units}
+use Rattle.dvd_top.specs.Commands.CdRead.{cdread_units}
 use Rattle.dvd_top.specs.Commands.Exercise.{exercise_units}
 use Rattle.dvd_top.specs.Commands.Frames.{frames_units, sector_frame}
 use Rattle.dvd_top.specs.Commands.Info.{IsAnswer, IsAsked, IsNoAnswer, IsSought, format_lines, info_units}
 use Rattle.dvd_top.specs.Commands.Master.{IsMastered, filled, frames_of, master_units}
+use Rattle.dvd_capture.specs.TwoPass.{answers_of}
+use Rattle.dvd_deep.proofs.Readings.{deep-no_cause, deep-once}
+use Rattle.dvd_read.specs.Causes.{two_pass_cause}
+use Rattle.dvd_top.specs.Commands.Deep.{IsDeepened, IsGivenBack, IsLost, IsReadDeep, deep_units, round_told}
 use Rattle.dvd_top.specs.Commands.Recover.{IsDone, IsGiven, IsRecovered, IsRefused, recover_units}
+use Rattle.dvd_top.specs.Commands.Merge.{merge_units}
+use Rattle.dvd_top.specs.Commands.Assemble.{assemble_units}
 use Rattle.dvd_top.specs.Commands.Survey.{IsSurveyed, found_in, survey_units, turn_by}
-use Rattle.dvd_top.specs.Performing.{IsControlDone, IsImageDone, IsPassedOver, sectors_out}
+use Rattle.dvd_top.specs.Inner.Performing.{IsControlDone, IsImageDone, IsImageRead, IsPassedOver, sectors_out}
 use Rattle.dvd_top.specs.Headline.{IsLoop}
 use Rattle.dvd_words.specs.Settings.{IsLayoutOf}
 use Rattle.dvd_words.specs.declared.settings.Command.{Command}
@@ -103,7 +112,7 @@ length-captured_rows form own = length-map-range_with_len (λ i. take 182 (recor
 
 pub length-captured_marks : (form : Form) (own : List ℕ) → length (captured_marks form own) ≡ 208
 unfolding captured_marks
-length-captured_marks form own = length-map-range_with_len (λ i. marks_in form (record_of form own (record_at i))) 0 208
+length-captured_marks form own = length-map-range_with_len (λ i. record_marks form own (record_at i)) 0 208
 
 -- What is read of it is one, and where something is read it has no cause.
 module _ (layout : Layout) (k : ℕ) (entry : BlockPlan) (rows : List (List ℕ)) (marks : List (List Bool)) (size : length rows ≡ 208) (marks_size : length marks ≡ 208) where
@@ -150,6 +159,52 @@ recovered_is_one layout zones form k own steps others turn other p q =
     let entry : q.entry ≡ p.entry = one_entry (plan_of layout zones) k q.entry p.entry q.stands p.stands in
     done_is_one layout k p.entry rows marks (length-captured_rows form own) (length-captured_marks form own) p.entry.content steps others turn other
     p.does (subst (λ (e : BlockPlan). IsDone e.content layout k e rows marks others other) entry q.does)
+
+-- DEEP. What rounds read of a block is one, and it has no cause.
+module _ (layout : Layout) (k : ℕ) (entry : BlockPlan) (rows : List (List ℕ)) (marks : List (List Bool)) where
+  given_back_is_one : MayOne (IsGivenBack layout k entry rows marks)
+  given_back_is_one steps others turn other p q =
+      let same = deep-once rows marks entry p.round q.round p.sectors q.sectors p.read q.read in (
+        p.writes
+            ∙ ap (λ (t : ℕ). round_told (two_pass_cause (answers_of rows marks)) k entry t ++ Write (sectors_out (image_sectors layout entry.content) p.sectors) ∷ []) same.0
+            ∙ ap (λ (s : List (List ℕ)). round_told (two_pass_cause (answers_of rows marks)) k entry q.round ++ Write (sectors_out (image_sectors layout entry.content) s) ∷ []) same.1
+            ∙ sym q.writes,
+        p.good ∙ sym q.good,
+      )
+
+  lost_is_one : MayOne (IsLost layout k entry rows marks)
+  lost_is_one steps others turn other p q =
+      let cause : p.cause ≡ q.cause = (let is : Some p.cause ≡ Some q.cause = sym p.first ∙ q.first in cc) in
+      (p.tells ∙ ap (λ c. Tell (damage_line k entry c (saved_in rows marks entry)) ∷ Write (sectors_out (image_sectors layout entry.content) (block_out rows marks entry)) ∷ []) cause ∙ sym q.tells, p.bad ∙ sym q.bad)
+
+  not_lost : (steps others : List Step) (turn other : Turn) → IsGivenBack layout k entry rows marks steps turn → IsLost layout k entry rows marks others other → ⊥
+  not_lost steps others turn other p q = let no : None ≡ Some q.cause = sym (deep-no_cause rows marks entry p.round p.sectors p.read) ∙ q.first in cc
+
+  image_read_is_one : MayOne (IsImageRead layout k entry rows marks)
+  image_read_is_one steps others turn other p q = elim p [
+    | inl given ↦ elim q [
+      | inl same ↦ given_back_is_one steps others turn other given same
+      | inr lost ↦ absurd (not_lost steps others turn other given lost)
+    ]
+    | inr lost ↦ elim q [
+      | inl given ↦ absurd (not_lost others steps other turn given lost)
+      | inr same ↦ lost_is_one steps others turn other lost same
+    ]
+  ]
+
+  read_deep_is_one : (content : Content) → MayOne (IsReadDeep content layout k entry rows marks)
+  read_deep_is_one (Image sector) = image_read_is_one
+  read_deep_is_one Zero = λ steps others turn other p q. (p.0 ∙ sym q.0, p.1 ∙ sym q.1)
+  read_deep_is_one Reference = λ steps others turn other p q. (p.0 ∙ sym q.0, p.1 ∙ sym q.1)
+  read_deep_is_one Control = λ steps others turn other p q. (p.0 ∙ sym q.0, p.1 ∙ sym q.1)
+
+deepened_is_one : (layout : Layout) (zones : Zones) (form : Form) (k : ℕ) (own : List ℕ) → MayOne (IsDeepened layout zones form k own)
+deepened_is_one layout zones form k own steps others turn other p q =
+    let rows = captured_rows form own in
+    let marks = captured_marks form own in
+    let entry : q.entry ≡ p.entry = one_entry (plan_of layout zones) k q.entry p.entry q.stands p.stands in
+    read_deep_is_one layout k p.entry rows marks p.entry.content steps others turn other
+    p.does (subst (λ (e : BlockPlan). IsReadDeep e.content layout k e rows marks others other) entry q.does)
 
 -- INFO. A block answers with one format or with none.
 module _ (entry : BlockPlan) (rows : List (List ℕ)) (marks : List (List Bool)) (size : length rows ≡ 208) (marks_size : length marks ≡ 208) where
@@ -235,6 +290,24 @@ module _ (settings : Settings) (bytes : List ℕ) (a b : Outcome) (none : IsFaul
   by_command command.Exercise p q =
       one_run (exercise_units settings.seed settings.blocks) (λ k. 0) (λ k own. refl) (λ before own steps others turn other x y. (x.0 ∙ sym y.0, x.1 ∙ sym y.1))
       (λ before. exercised_is_one settings.seed settings.blocks) bytes a b p q none other
+  by_command command.CdMake p q =
+      one_run (cdmake_units settings.address settings.sectors) (λ k. 2048) (λ k own. refl)
+      (λ before own. made_is_one (settings.address + length before) own) (λ before. one_closing) bytes a b p q none other
+  by_command command.CdRead p q =
+      one_run (cdread_units settings.address settings.sectors) (λ k. 2352) (λ k own. refl)
+      (λ before own. read_is_one (settings.address + length before) (length before) own) (λ before. one_closing) bytes a b p q none other
+  by_command command.Merge (layout, is, p) (same, so, q) =
+      one_run (merge_units layout settings.zones settings.form settings.captures) _ (λ k own. refl)
+      (λ before own steps others turn other x y. (x.0 ∙ sym y.0, x.1 ∙ sym y.1)) (λ before. one_closing) bytes a b p
+      (subst (λ l. IsOutcome (merge_units l settings.zones settings.form settings.captures) bytes b) (one_layout settings same layout so is) q) none other
+  by_command command.Deep (layout, is, p) (same, so, q) =
+      one_run (deep_units layout settings.zones settings.form) _ (λ k own. refl)
+      (λ before own. deepened_is_one layout settings.zones settings.form (length before) own) (λ before. one_closing) bytes a b p
+      (subst (λ l. IsOutcome (deep_units l settings.zones settings.form) bytes b) (one_layout settings same layout so is) q) none other
+  by_command command.Assemble (layout, is, p) (same, so, q) =
+      one_run (assemble_units layout settings.form settings.frames) _ (λ k own. refl)
+      (λ before own steps others turn other x y. (x.0 ∙ sym y.0, x.1 ∙ sym y.1)) (λ before. one_closing) bytes a b p
+      (subst (λ l. IsOutcome (assemble_units l settings.form settings.frames) bytes b) (one_layout settings same layout so is) q) none other
 
 pub determined : (settings : Settings) (bytes : List ℕ) (a b : Outcome) → IsLoop settings bytes a → IsLoop settings bytes b
     → IsFaultless a.end → IsFaultless b.end → a ≡ b

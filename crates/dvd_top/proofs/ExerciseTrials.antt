@@ -17,7 +17,7 @@ use Rattle.dvd_loop.specs.Machine.Step.{Write}
 use Rattle.dvd_read.specs.Found.{block_differences}
 use Rattle.dvd_read.specs.Reading.{block_in}
 use Rattle.dvd_top.specs.Commands.Exercise.{AreTrials, IsExercised, IsLeft, IsTrial, Trial, drawn_sector, drawn_sectors, exercise_line, fixed_in, state_at}
-use Rattle.dvd_top.specs.Exercising.{CountsOne, IsBehind, are_sectors}
+use Rattle.dvd_top.specs.Inner.Exercising.{CountsOne, IsBehind, are_sectors}
 use Rattle.dvd_top.specs.declared.commands.exercise.Counts.{Counts}
 
 -- the first state, and those that follow

@@ -24,7 +24,7 @@ use Rattle.dvd_ports.specs.Seen.{Seen}
 use Rattle.dvd_read.specs.Reading.{IsReadAs}
 use Rattle.dvd_top.specs.Commands.Exercise.{IsHurtBlock, IsLeft, drawn_sectors, exercise_units, no_marks, state_at}
 use Rattle.dvd_top.specs.Commands.Master.{frames_of}
-use Rattle.dvd_top.specs.Exercising.{CountsOne, IsBehind}
+use Rattle.dvd_top.specs.Inner.Exercising.{CountsOne, IsBehind}
 use Rattle.dvd_top.specs.declared.commands.exercise.Counts.{Counts}
 use Rattle.dvd_top.proofs.ExerciseBlocks.{IsFound, data_entry, drawn_entry, drawn_mastered, is_found}
 use Rattle.dvd_top.proofs.ExerciseTrials.{one_more}

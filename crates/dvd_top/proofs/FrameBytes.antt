@@ -8,7 +8,7 @@ use Rattle.dvd_frame.specs.Bits.{bits}
 use Rattle.dvd_frame.specs.Edc.{edc_of}
 use Rattle.dvd_frame.specs.Frame.{data_frame, frame_head}
 use Rattle.dvd_frame.specs.Id.{ied_of, word_bytes}
-use Rattle.dvd_frame.specs.Registers.{window}
+use Rattle.dvd_frame.specs.Scrambling.{window}
 use Rattle.dvd_frame.specs.Scrambling.{mask, masked, preset_of, scrambled_count, scrambling_byte, sequence}
 use Rattle.dvd_frame.specs.declared.scrambling.Rule.{Rule}
 use Rattle.dvd_frame.proofs.IdChecks.{bytes-ied_of, length-ied_of}

@@ -17,7 +17,7 @@ use Rattle.dvd_loop.specs.declared.ends.LoopEnd.{LoopEnd}
 use Rattle.dvd_top.specs.Bound.{HasGoodRows, IsBeyond, KeepsGoodFrames, block_bytes, image_part}
 use Rattle.dvd_top.specs.Commands.{meaning}
 use Rattle.dvd_top.specs.Commands.Master.{image_bytes}
-use Rattle.dvd_top.specs.Commands.Recover.{recover_units}
+use Rattle.dvd_top.specs.Commands.Recover.{IsRecovered, recover_units}
 use Rattle.dvd_top.specs.Laws.{GoodFramesAreKept}
 use Rattle.dvd_top.specs.Lines.{closing_line}
 use Rattle.dvd_words.specs.Settings.{IsLayoutOf}
@@ -50,7 +50,7 @@ at_place layout zones form bytes a runs none cpr image k f entry b below good =
     let own = block_bytes form bytes k in
     let part = image_part layout entry image in
     let size = length-part layout entry.content image b.image_size in
-    let t = has_turn layout zones form bytes a runs none k entry b.stands b.is_image b.whole in
+    let t = has_turn layout zones form (IsRecovered layout zones form) (recovered-wide layout zones form) bytes a runs none k entry b.stands b.is_image b.whole in
     let wide : length (written t.steps) ≡ image_bytes layout entry = (recovered-wide layout zones form k own t.steps t.turn t.does).0 ∙ size_is layout zones k entry b.stands in
     let at : 2048 * (from + f) ≡ 2048 * from + 2048 * f = omega arith in
     ap (λ n. take 2048 (drop n a.out)) at
@@ -65,7 +65,7 @@ closed_keeps : (settings : Settings) (within : LoopEnd) (bytes : List ℕ) (outc
     → IsClosed (closing_line settings.command) (recover_units layout settings.zones settings.form) bytes within outcome → IsFaultless outcome.end
     → KeepsGoodFrames settings bytes outcome
 closed_keeps settings within bytes outcome layout is_layout c none =
-    let (out, loop_none) = closed_loop settings layout within bytes outcome c none in
+    let (out, loop_none) = closed_loop settings.command (recover_units layout settings.zones settings.form) within bytes outcome c none in
     record {
       layout = layout;
       is_layout = is_layout;

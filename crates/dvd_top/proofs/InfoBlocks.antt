@@ -18,7 +18,7 @@ use Rattle.dvd_loop.specs.declared.ends.Turn.{Turn}
 use Rattle.dvd_loop.specs.declared.ends.Turn.TheVariants.{Bad, Good, Last}
 use Rattle.dvd_loop.proofs.StreamLemmas.{stays}
 use Rattle.dvd_top.specs.Commands.Info.{IsAsked, IsSought, format_lines, info_units}
-use Rattle.dvd_top.specs.Performing.{AnswersNothing, IsControlDone, Tells}
+use Rattle.dvd_top.specs.Inner.Performing.{AnswersNothing, IsControlDone, Tells}
 use Rattle.dvd_top.proofs.RecoverBlocks.{passed_over}
 
 -- what holds of a result that is none once its error is dropped, and of one that is some

@@ -4,7 +4,7 @@ use Rattle.std.proofs.lemmas.Bool.{cases_lt}
 use Rattle.dvd_block.specs.Product.{line}
 use Rattle.dvd_capture.specs.Captured.{block_size, captured_marks, captured_rows}
 use Rattle.dvd_capture.specs.declared.form.Form.{Form}
-use Rattle.dvd_capture.specs.declared.form.Form.TheVariants.{Marked, Plain}
+use Rattle.dvd_capture.specs.declared.form.Form.TheVariants.{Listed, Marked, Plain}
 use Rattle.dvd_control.specs.Format.{Fields, fields_in}
 use Rattle.dvd_layout.specs.declared.entry.BlockPlan.{BlockPlan}
 use Rattle.dvd_layout.specs.declared.entry.Content.{Content}
@@ -44,11 +44,13 @@ tells_or_passes (Image sector) entry rows marks steps turn does = inl does
 before_the_end : (form : Form) (j k held : ℕ) → held < block_size form → block_size form * (j + 1) ≤ block_size form * k + held → j < k
 before_the_end Plain j k held fewer whole = omega arith
 before_the_end Marked j k held fewer whole = omega arith
+before_the_end Listed j k held fewer whole = omega arith
 
 -- so many blocks and one more are so many bytes
 one_block_more : (form : Form) (k n m : ℕ) → n ≡ block_size form * k → m ≡ block_size form → n + m ≡ block_size form * (k + 1)
 one_block_more Plain k n m at size = omega (arith, at, size)
 one_block_more Marked k n m at size = omega (arith, at, size)
+one_block_more Listed k n m at size = omega (arith, at, size)
 
 -- it ends with so much taken and written, and nothing told
 abbrev ends_with : List ℕ → List ℕ → LoopEnd → Outcome

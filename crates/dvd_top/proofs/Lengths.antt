@@ -2,7 +2,8 @@
 use Rattle.std.proofs.Common.{suc, ◌*◌, ◌^◌, ◌<◌, ◌≤◌, List, [], ◌∷◌, length, All, filter, arith, length-append}
 use Rattle.std.specs.List.{flat_map}
 use Rattle.std.proofs.lemmas.List.Concat.{flat_map-cons}
-use Rattle.dvd_layout.specs.Plan.{IsInRange, entries_of, zones_by, zone_table, is_data, plan_of}
+use Rattle.dvd_layout.specs.Plan.{entries_of, zones_by, zone_table, is_data, plan_of}
+use Rattle.dvd_layout.specs.Inner.Ranges.{IsInRange}
 use Rattle.dvd_layout.specs.declared.layout.Layout.{Layout}
 use Rattle.dvd_layout.specs.declared.layout.Shape.{Shape}
 use Rattle.dvd_layout.specs.declared.layout.Shape.TheVariants.{Single, Parallel, Opposite}

@@ -1,5 +1,9 @@
+pub mod AssembleFrames
 pub mod BlockFrames
 pub mod BoundKept
+pub mod CapturedFrames
+pub mod CdKept
+pub mod CdSectors
 pub mod Determined
 pub mod ExerciseBlocks
 pub mod ExerciseRuns
@@ -13,6 +17,7 @@ pub mod InfoBlocks
 pub mod InfoFound
 pub mod Layouts
 pub mod Lengths
+pub mod MergeCaptures
 pub mod MasterBlocks
 pub mod MasteredStream
 pub mod OnlyThese
@@ -20,6 +25,8 @@ pub mod Pieces
 pub mod PlanBytes
 pub mod PlanEntries
 pub mod RecoverBlocks
+pub mod TwoSteps
+pub mod DeepBlocks
 pub mod Recovered
 pub mod RecoveredWidths
 pub mod Repaired
@@ -29,4 +36,5 @@ pub mod RunEnds
 pub mod RunLemmas
 pub mod SomethingDone
 pub mod SurveyBlocks
+pub mod ToldThenWritten
 pub mod Written

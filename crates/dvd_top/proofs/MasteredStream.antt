@@ -27,7 +27,7 @@ use Rattle.dvd_loop.specs.declared.ends.Turn.TheVariants.{Good}
 use Rattle.dvd_loop.proofs.Over.{AreGood, InPieces, over, over_is, start-le, start-suc}
 use Rattle.dvd_top.specs.Commands.Master.{IsMastered, bytes_of_block, filled, frames_of, image_bytes, master_units}
 use Rattle.dvd_top.specs.Commands.Recover.{IsDone, IsRecovered, recover_units}
-use Rattle.dvd_top.specs.Performing.{IsPassedOver}
+use Rattle.dvd_top.specs.Inner.Performing.{IsPassedOver}
 use Rattle.dvd_top.specs.Laws.{MasteredStreamIsRecovered}
 use Rattle.dvd_top.proofs.MasterBlocks.{size_is}
 use Rattle.dvd_top.proofs.OnlyThese.{only_these, runs_only}

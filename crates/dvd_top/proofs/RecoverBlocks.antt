@@ -1,8 +1,5 @@
 -- One block that `recover` reads: its image sectors are written, or its line is told and what is saved of them is written.
-use Rattle.std.proofs.Common.{◌≡◌, ◌⊎◌, inl, inr, ℕ, ◌≤◌, Bool, List, [], ◌∷◌, ap, slice_get, Some, Result, Ok, Err, refl, sym, subst, ◌∙◌}
-use Rattle.std.specs.Io.KnownBytes.{Appends}
-use Rattle.dvd_ports.specs.Seen.{Seen}
-use Rattle.dvd_ports.specs.Whole.{AppendsPrefix}
+use Rattle.std.proofs.Common.{◌≡◌, ◌⊎◌, inl, inr, ℕ, ◌≤◌, Bool, List, [], ◌∷◌, ap, slice_get, Some, Result, Ok, refl, sym, subst, ◌∙◌}
 use Rattle.dvd_capture.specs.Captured.{captured_marks, captured_rows}
 use Rattle.dvd_capture.specs.declared.form.Form.{Form}
 use Rattle.dvd_capture.specs.Parts.{marks_rows, received_rows}
@@ -16,37 +13,35 @@ use Rattle.dvd_layout.specs.declared.entry.Content.{Content}
 use Rattle.dvd_layout.specs.declared.entry.Content.TheVariants.{Control, Reference, Zero}
 use Rattle.dvd_layout.specs.declared.layout.Layout.{Layout}
 use Rattle.dvd_layout.specs.declared.layout.Zones.{Zones}
-use Rattle.dvd_loop.specs.Machine.Step.{Tell, Write}
-use Rattle.dvd_loop.specs.Streams.{Streams, streams}
-use Rattle.dvd_loop.specs.Turns.{AreDone, AreSteps}
+use Rattle.dvd_loop.specs.Machine.{Step}
+use Rattle.dvd_loop.specs.Machine.Step.{Write}
+use Rattle.dvd_loop.specs.Streams.{Streams}
+use Rattle.dvd_loop.specs.Turns.{AreDone}
 use Rattle.dvd_loop.specs.declared.ends.LoopEnd.{LoopEnd}
-use Rattle.dvd_loop.specs.declared.ends.LoopEnd.TheVariants.{ReportFault, WriteFault}
 use Rattle.dvd_loop.specs.declared.ends.Turn.{Turn}
-use Rattle.dvd_loop.specs.declared.ends.Turn.TheVariants.{Bad, Good}
+use Rattle.dvd_loop.specs.declared.ends.Turn.TheVariants.{Good}
 use Rattle.dvd_loop.proofs.StreamLemmas.{stays}
-use Rattle.dvd_loop.proofs.TurnLemmas.{line_begun, step_begun, step_told, step_written, steps_behind_line}
 use Rattle.dvd_read.specs.Reading.{IsReadAs, block_cause}
-use Rattle.dvd_read.specs.Salvage.{block_out, saved_in}
+use Rattle.dvd_read.specs.Salvage.{saved_in}
 use Rattle.dvd_read.specs.declared.cause.Cause.{Cause}
 use Rattle.dvd_read.proofs.SavedLaws.{sixteen-sectors}
 use Rattle.dvd_report.specs.Lines.{damage_line}
 use Rattle.dvd_top.specs.Commands.Recover.{IsDone, IsRecovered}
-use Rattle.dvd_top.specs.Performing.{IsImageDone, IsPassedOver, sectors_out}
+use Rattle.dvd_top.specs.Inner.Performing.{IsImageDone, IsPassedOver, IsRefusedFor, sectors_out}
+
+-- the line of a refused block and its sectors, by the numbers that were told
+pub line_same : (k number : ℕ) (entry : BlockPlan) (cause : Cause) (saved frames : ℕ) → number ≡ k → saved ≡ frames
+    → damage_line number entry cause saved ≡ damage_line k entry cause frames
+line_same k number entry cause saved frames is saved_is = ap (λ n. damage_line n entry cause saved) is ∙ ap (damage_line k entry cause) saved_is
+
+pub sectors_same : (count number : ℕ) (sectors others : List (List ℕ)) → count ≡ number → sectors ≡ others → sectors_out count sectors ≡ sectors_out number others
+sectors_same count number sectors others is sectors_are = ap (λ n. sectors_out n sectors) is ∙ ap (sectors_out number) sectors_are
 
 -- Two passes leave what was received and its marks: what is then said of them is said of the block that was captured.
-module _ (layout : Layout) (k : ℕ) (entry : BlockPlan) (cause : Cause) (old after : Work) (received : after.received ≡ old.received) (marks : after.marks ≡ old.marks) where
-  pub line_same : (number saved : ℕ) → number ≡ k → saved ≡ saved_in (rows_of after) (marks_of_work after) entry
-      → damage_line number entry cause saved ≡ damage_line k entry cause (saved_in (rows_of old) (marks_of_work old) entry)
-  line_same number saved is saved_is =
-      ap (λ n. damage_line n entry cause saved) is
-      ∙ ap (damage_line k entry cause) (saved_is ∙ (λ i. saved_in (received_rows (received i)) (marks_rows (marks i)) entry))
-
-  pub sectors_same : (count : ℕ) (sectors : List (List ℕ)) → count ≡ image_sectors layout entry.content
-      → sectors ≡ block_out (rows_of after) (marks_of_work after) entry
-      → sectors_out count sectors ≡ sectors_out (image_sectors layout entry.content) (block_out (rows_of old) (marks_of_work old) entry)
-  sectors_same count sectors is sectors_are =
-      ap (λ n. sectors_out n sectors) is
-      ∙ ap (sectors_out (image_sectors layout entry.content)) (sectors_are ∙ (λ i. block_out (received_rows (received i)) (marks_rows (marks i)) entry))
+pub same_work : (P : List (List ℕ) → List (List Bool) → Type 0) (old after : Work) → after.received ≡ old.received → after.marks ≡ old.marks
+    → P (rows_of after) (marks_of_work after) → P (rows_of old) (marks_of_work old)
+same_work P old after received marks holds =
+    subst (λ m. P (rows_of old) (marks_rows m)) marks (subst (λ r. P (received_rows r) (marks_of_work after)) received holds)
 
 -- and at most sixteen frames are saved
 pub few_saved : (work : Work) (entry : BlockPlan) → saved_in (rows_of work) (marks_of_work work) entry ≤ 16
@@ -87,56 +82,10 @@ recovered layout zones form k entry stands own rows marks rows_are marks_are old
 }
 
 module _ (layout : Layout) (k : ℕ) (entry : BlockPlan) (rows : List (List ℕ)) (marks : List (List Bool)) where
-  -- what is written of a refused block
-  abbrev pub saved_bytes : List ℕ
-  saved_bytes = sectors_out (image_sectors layout entry.content) (block_out rows marks entry)
-
   pub given : (sectors : List (List ℕ)) → IsReadAs rows marks entry sectors
       → IsImageDone layout k entry rows marks (Write (sectors_out (image_sectors layout entry.content) sectors) ∷ []) Good
   given sectors read = inl (record { sectors = sectors; read = read; writes = refl; good = refl })
 
-  module _ (cause : Cause) (first : block_cause rows marks entry ≡ Some cause) where
-    abbrev line : List ℕ
-    line = damage_line k entry cause (saved_in rows marks entry)
-
-    refused : IsImageDone layout k entry rows marks (Tell line ∷ Write saved_bytes ∷ []) Bad
-    refused = inr (record { cause = cause; first = first; tells = refl; bad = refl })
-
-    -- the report failed within the line
-    pub line_fails : (source output report new_report : Seen) (answer : Result Turn LoopEnd) → answer ≡ Err ReportFault
-        → AppendsPrefix report.bytes new_report.bytes line
-        → AreDone (IsImageDone layout k entry rows marks) (streams source output report) (streams source output new_report) answer
-    line_fails source output report new_report answer is begun = record {
-      steps = Tell line ∷ Write saved_bytes ∷ [];
-      turn = Bad;
-      may = refused;
-      done = subst (AreSteps (Tell line ∷ Write saved_bytes ∷ []) (streams source output report) (streams source output new_report)) (sym is)
-          (line_begun source output report new_report line (Write saved_bytes ∷ []) begun);
-      is = λ value ok. cc;
-    }
-
-    module _ (source output new_output report new_report : Seen) (tells : Appends report.bytes new_report.bytes line) where
-      -- the line was told, and the output failed within the sectors
-      pub sectors_fail : (answer : Result Turn LoopEnd) → answer ≡ Err WriteFault → AppendsPrefix output.bytes new_output.bytes saved_bytes
-          → AreDone (IsImageDone layout k entry rows marks) (streams source output report) (streams source new_output new_report) answer
-      sectors_fail answer is begun = record {
-        steps = Tell line ∷ Write saved_bytes ∷ [];
-        turn = Bad;
-        may = refused;
-        done = steps_behind_line line (Write saved_bytes ∷ []) (streams source output report) (streams source output new_report) (streams source new_output new_report) answer
-            (step_told source output report new_report line tells)
-            (subst (AreSteps (Write saved_bytes ∷ []) (streams source output new_report) (streams source new_output new_report)) (sym is) (step_begun source output new_output new_report saved_bytes [] begun));
-        is = λ value ok. cc;
-      }
-
-      -- both were done
-      pub sectors_done : Appends output.bytes new_output.bytes saved_bytes
-          → AreDone (IsImageDone layout k entry rows marks) (streams source output report) (streams source new_output new_report) (Ok Bad)
-      sectors_done writes = record {
-        steps = Tell line ∷ Write saved_bytes ∷ [];
-        turn = Bad;
-        may = refused;
-        done = steps_behind_line line (Write saved_bytes ∷ []) (streams source output report) (streams source output new_report) (streams source new_output new_report) {A = Turn} (Ok Bad)
-            (step_told source output report new_report line tells) (step_written source output new_output new_report saved_bytes writes);
-        is = λ value is. cc;
-      }
+  pub refused : (cause : Cause) → block_cause rows marks entry ≡ Some cause → (steps : List Step) (turn : Turn) → IsRefusedFor layout k entry rows marks cause steps turn
+      → IsImageDone layout k entry rows marks steps turn
+  refused cause first steps turn is = inr (record { cause = cause; first = first; tells = is.0; bad = is.1 })

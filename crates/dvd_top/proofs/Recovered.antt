@@ -7,7 +7,7 @@ use Rattle.std.specs.Io.KnownBytes.{Appends}
 use Rattle.dvd_ports.specs.Whole.{AppendsPrefix}
 use Rattle.dvd_ports.proofs.KnownLemmas.{Appends-then}
 use Rattle.dvd_block.specs.Product.{line}
-use Rattle.dvd_top.specs.Performing.{sectors_out}
+use Rattle.dvd_top.specs.Inner.Performing.{sectors_out}
 
 -- fewer sectors are the front of more
 pub sectors_front : (sectors : List (List ℕ)) (f more : ℕ)

@@ -1,5 +1,5 @@
 -- How many bytes recovery writes for a block: those of its image sectors, whether it is read or refused.
-use Rattle.std.proofs.Common.{◌≡◌, ◌≢◌, ◌∙◌, inl, inr, ℕ, zero, suc, ◌+◌, ◌*◌, ◌<◌, ◌≤◌, Bool, List, [], ◌∷◌, length, length-append, take, drop, refl, ap, sym, subst, append-nil, add-one, arith}
+use Rattle.std.proofs.Common.{◌≡◌, ◌≢◌, ◌∙◌, inl, inr, ℕ, zero, suc, ◌+◌, ◌*◌, ◌<◌, ◌≤◌, Bool, List, [], ◌∷◌, ◌++◌, Option, Some, None, length, length-append, take, drop, refl, ap, sym, subst, append-nil, add-one, arith}
 use Rattle.std.specs.List.{flat_map, range_with_len}
 use Rattle.std.proofs.lemmas.List.{length-drop, length-take-le}
 use Rattle.std.proofs.lemmas.List.Folds.{flat_map-map}
@@ -16,18 +16,24 @@ use Rattle.dvd_layout.specs.declared.entry.Content.TheVariants.{Zero, Reference,
 use Rattle.dvd_layout.specs.declared.layout.Layout.{Layout}
 use Rattle.dvd_layout.specs.declared.layout.Zones.{Zones}
 use Rattle.dvd_loop.specs.Laws.{first, start}
-use Rattle.dvd_loop.specs.Machine.{IsOutcome, Outcome, Step}
+use Rattle.dvd_loop.specs.Machine.{IsOutcome, Outcome, Step, Units, plain_units}
 use Rattle.dvd_loop.specs.Machine.Step.{Write}
 use Rattle.dvd_loop.specs.Turns.{written}
 use Rattle.dvd_loop.specs.declared.ends.LoopEnd.TheVariants.{Done}
 use Rattle.dvd_loop.specs.declared.ends.Turn.{Turn}
 use Rattle.dvd_loop.specs.declared.ends.Turn.TheVariants.{Good, Bad, Last}
+use Rattle.dvd_deep.proofs.Products.{found_is_product}
+use Rattle.dvd_layout.specs.Plan.{plan_of}
+use Rattle.dvd_read.specs.Causes.{two_pass_cause}
+use Rattle.dvd_read.specs.declared.cause.Cause.{Cause}
+use Rattle.dvd_capture.specs.TwoPass.{answers_of}
 use Rattle.dvd_read.specs.Frames.{frame_of, main_data}
 use Rattle.dvd_read.specs.Salvage.{block_out}
 use Rattle.dvd_read.proofs.SavedLaws.{sixteen-sectors}
 use Rattle.dvd_top.specs.Commands.Master.{bytes_of_block, image_bytes}
-use Rattle.dvd_top.specs.Commands.Recover.{IsDone, IsRecovered, recover_units}
-use Rattle.dvd_top.specs.Performing.{IsImageDone, IsPassedOver, sectors_out}
+use Rattle.dvd_top.specs.Commands.Deep.{IsDeepened, IsReadDeep, round_told}
+use Rattle.dvd_top.specs.Commands.Recover.{IsDone, IsRecovered}
+use Rattle.dvd_top.specs.Inner.Performing.{IsImageDone, IsImageRead, IsPassedOver, sectors_out}
 use Rattle.dvd_top.proofs.Determined.{length-captured_marks, length-captured_rows}
 use Rattle.dvd_top.proofs.MasterBlocks.{size_is}
 use Rattle.dvd_top.proofs.Pieces.{length-pieces, start-same}
@@ -58,7 +64,7 @@ length-main block entry f is below =
     length-masked (found_word frame) (rule_for entry.content f) (take 2048 (drop 12 frame))
     ∙ length-take-le 2048 (drop 12 frame) (omega (arith, length-drop 12 frame))
 
-length-sectors_out : (block : List (List ℕ)) (entry : BlockPlan) (count : ℕ) → IsProduct block → count ≤ 16
+pub length-sectors_out : (block : List (List ℕ)) (entry : BlockPlan) (count : ℕ) → IsProduct block → count ≤ 16
     → length (sectors_out count (main_data block entry)) ≡ 2048 * count
 unfolding main_data
 length-sectors_out block entry count is few =
@@ -112,24 +118,68 @@ module _ (layout : Layout) (k : ℕ) (entry : BlockPlan) (rows : List (List ℕ)
   done-wide Reference is done = passed-wide (ap (λ c. 2048 * image_sectors layout c) is) done
   done-wide Control is done = passed-wide (ap (λ c. 2048 * image_sectors layout c) is) done
 
-module _ (layout : Layout) (zones : Zones) (form : Form) where
-  pub recovered-wide : (k : ℕ) (own : List ℕ) (steps : List Step) (turn : Turn) → IsRecovered layout zones form k own steps turn
-      → IsWide (bytes_of_block layout zones k) steps turn
-  recovered-wide k own steps turn r =
-      subst (λ n. IsWide n steps turn) (sym (size_is layout zones k r.entry r.stands))
-      (done-wide layout k r.entry (captured_rows form own) (captured_marks form own) (length-captured_rows form own) (length-captured_marks form own) steps turn r.entry.content refl r.does)
+pub recovered-wide : (layout : Layout) (zones : Zones) (form : Form) (k : ℕ) (own : List ℕ) (steps : List Step) (turn : Turn) → IsRecovered layout zones form k own steps turn
+    → IsWide (bytes_of_block layout zones k) steps turn
+recovered-wide layout zones form k own steps turn r =
+    subst (λ n. IsWide n steps turn) (sym (size_is layout zones k r.entry r.stands))
+    (done-wide layout k r.entry (captured_rows form own) (captured_marks form own) (length-captured_rows form own) (length-captured_marks form own) steps turn r.entry.content refl r.does)
 
+-- what the line of a round leaves to be written
+written-behind : (cause : Option Cause) (k : ℕ) (entry : BlockPlan) (round : ℕ) (bytes : List ℕ) → written (round_told cause k entry round ++ Write bytes ∷ []) ≡ bytes ++ []
+written-behind None k entry round bytes = refl
+written-behind (Some cause) k entry round bytes = refl
+
+module _ (layout : Layout) (k : ℕ) (entry : BlockPlan) (rows : List (List ℕ)) (marks : List (List Bool)) (size : length rows ≡ 208) (marks_size : length marks ≡ 208) (steps : List Step) (turn : Turn) where
+  read-wide : IsImageRead layout k entry rows marks steps turn → IsWide (image_bytes layout entry) steps turn
+  read-wide (inl given) =
+      let count = image_sectors layout entry.content in
+      let sectors = sectors_out count given.sectors in (
+        ap (λ s. length (written s)) given.writes
+            ∙ ap length (written-behind (two_pass_cause (answers_of rows marks)) k entry given.round sectors ∙ append-nil sectors)
+            ∙ ap (λ l. length (sectors_out count l)) given.read.main
+            ∙ length-sectors_out given.read.block entry count (found_is_product rows marks given.read.block given.read.gives) (few-sectors layout entry.content),
+        λ last. let no : Good ≡ Last = sym given.good ∙ last in cc,
+      )
+  read-wide (inr lost) =
+      let count = image_sectors layout entry.content in
+      let saved = sectors_out count (block_out rows marks entry) in
+      let widths = (sixteen-sectors rows marks size marks_size entry).1 in
+      let few = few-sectors layout entry.content in (
+        ap (λ s. length (written s)) lost.tells ∙ ap length (append-nil saved)
+            ∙ length-out (block_out rows marks entry) count (λ f below. widths f (omega arith)),
+        λ last. let no : Bad ≡ Last = sym lost.bad ∙ last in cc,
+      )
+
+  deep-wide : (content : Content) → entry.content ≡ content → IsReadDeep content layout k entry rows marks steps turn
+      → IsWide (image_bytes layout entry) steps turn
+  deep-wide (Image sector) is done = read-wide done
+  deep-wide Zero is done = passed-wide layout k entry rows marks size marks_size steps turn (ap (λ c. 2048 * image_sectors layout c) is) done
+  deep-wide Reference is done = passed-wide layout k entry rows marks size marks_size steps turn (ap (λ c. 2048 * image_sectors layout c) is) done
+  deep-wide Control is done = passed-wide layout k entry rows marks size marks_size steps turn (ap (λ c. 2048 * image_sectors layout c) is) done
+
+pub deepened-wide : (layout : Layout) (zones : Zones) (form : Form) (k : ℕ) (own : List ℕ) (steps : List Step) (turn : Turn) → IsDeepened layout zones form k own steps turn
+    → IsWide (bytes_of_block layout zones k) steps turn
+deepened-wide layout zones form k own steps turn r =
+    subst (λ n. IsWide n steps turn) (sym (size_is layout zones k r.entry r.stands))
+    (deep-wide layout k r.entry (captured_rows form own) (captured_marks form own) (length-captured_rows form own) (length-captured_marks form own) steps turn r.entry.content refl r.does)
+
+-- Units that are the captured blocks of a plan, and write the image bytes that stand in each.
+abbrev pub block_units : Layout → Zones → Form → (ℕ → List ℕ → List Step → Turn → Type 0) → Units
+block_units layout zones form May = plain_units (length (plan_of layout zones)) (λ k. block_size form) May
+
+module _ (layout : Layout) (zones : Zones) (form : Form) (May : ℕ → List ℕ → List Step → Turn → Type 0)
+    (wide : (k : ℕ) (own : List ℕ) (steps : List Step) (turn : Turn) → May k own steps turn → IsWide (bytes_of_block layout zones k) steps turn) where
   -- no block is the last
-  pub never_last : (k : ℕ) (before : List (List ℕ)) (own : List ℕ) (steps : List Step) → IsRecovered layout zones form k own steps Last → ⊥
-  never_last k before own steps r = (recovered-wide k own steps Last r).1 refl
+  pub never_last : (k : ℕ) (before : List (List ℕ)) (own : List ℕ) (steps : List Step) → May k own steps Last → ⊥
+  never_last k before own steps r = (wide k own steps Last r).1 refl
 
   -- what the first k blocks write
-  pub length-first : (k : ℕ) (bytes : List ℕ) (a : Outcome) → IsOutcome (first k (recover_units layout zones form)) bytes a → a.end ≡ Done
+  pub length-first : (k : ℕ) (bytes : List ℕ) (a : Outcome) → IsOutcome (first k (block_units layout zones form May)) bytes a → a.end ≡ Done
       → length a.out ≡ start (bytes_of_block layout zones) k
   length-first k bytes a runs done =
-      length-written (first k (recover_units layout zones form)) (λ j. block_size form) (bytes_of_block layout zones) (record {
+      length-written (first k (block_units layout zones form May)) (λ j. block_size form) (bytes_of_block layout zones) (record {
         begins = λ j l. refl;
         opens = refl;
-        does = λ before own steps turn does. recovered-wide (length before) own steps turn does;
+        does = λ before own steps turn unit. wide (length before) own steps turn unit.does;
         closes = λ before steps none. none;
       }) bytes a runs done

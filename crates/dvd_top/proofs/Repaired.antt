@@ -1,12 +1,17 @@
 -- A data block whose damage is within the bound gives back the image sectors that it was mastered from.
-use Rattle.std.proofs.Common.{◌≡◌, ◌∙◌, ℕ, ◌*◌, ◌<◌, Bool, false, inl, inr, List, [], ◌∷◌, length, take, drop, ap, subst, arith}
+use Rattle.std.proofs.Common.{◌≡◌, ◌∙◌, ℕ, ◌+◌, ◌*◌, ◌<◌, Bool, false, inl, inr, List, [], ◌∷◌, ◌++◌, length, take, drop, slice_get, Some, None, ap, subst, arith}
 use Rattle.std.proofs.lemmas.List.{length-take-le, length-drop, length-replicate}
 use Rattle.std.proofs.lemmas.List.Elements.{All-from_get_or}
 use Rattle.std.proofs.lemmas.List.FromFn.{length-map-range_with_len, get_or-map-range_with_len}
 use Rattle.dvd_block.specs.Recording.{record_at}
-use Rattle.dvd_capture.specs.Captured.{block_size, captured_marks, captured_rows, marks_in, record_of}
+use Rattle.dvd_capture.specs.Listed.{marked_by, run_count}
+use Rattle.dvd_capture.specs.Captured.{block_size, captured_marks, captured_rows, record_marks, record_of}
+use Rattle.dvd_block.specs.Product.{IsBlockOf}
+use Rattle.dvd_capture.specs.TwoPass.{answers_of}
+use Rattle.dvd_capture.specs.Within.{IsWithin}
+use Rattle.dvd_capture.proofs.Columns.{length-answers_of}
 use Rattle.dvd_capture.specs.declared.form.Form.{Form}
-use Rattle.dvd_capture.specs.declared.form.Form.TheVariants.{Plain, Marked}
+use Rattle.dvd_capture.specs.declared.form.Form.TheVariants.{Listed, Plain, Marked}
 use Rattle.dvd_capture.proofs.Fetching.{record_at-lt}
 use Rattle.dvd_capture.proofs.MarkLists.{length-marks_of}
 use Rattle.dvd_layout.specs.Content.{IsImage}
@@ -16,17 +21,25 @@ use Rattle.dvd_layout.specs.declared.entry.BlockPlan.{BlockPlan}
 use Rattle.dvd_layout.specs.declared.entry.Content.{Content}
 use Rattle.dvd_layout.specs.declared.entry.Content.TheVariants.{Zero, Reference, Control, Image}
 use Rattle.dvd_layout.specs.declared.layout.Layout.{Layout}
+use Rattle.dvd_layout.specs.declared.layout.Zones.{Zones}
+use Rattle.dvd_deep.proofs.Readings.{deep-no_cause, deep-once, read-deep}
 use Rattle.dvd_layout.specs.Place.{image_sectors}
 use Rattle.dvd_loop.specs.Machine.{Step}
 use Rattle.dvd_loop.specs.Machine.Step.{Write}
 use Rattle.dvd_loop.specs.declared.ends.Turn.{Turn}
+use Rattle.dvd_loop.specs.declared.ends.Turn.TheVariants.{Good}
 use Rattle.dvd_read.specs.Made.{IsReceived}
-use Rattle.dvd_read.proofs.BlockRead.{read-determined}
+use Rattle.dvd_read.specs.Causes.{two_pass_cause}
+use Rattle.dvd_read.specs.Reading.{block_sectors}
+use Rattle.dvd_read.proofs.BlockRead.{no_cause-read, read-determined}
+use Rattle.dvd_read.proofs.Outcomes.{agrees-no_cause}
 use Rattle.dvd_read.proofs.Mastered.{within-read}
-use Rattle.dvd_top.specs.Commands.Master.{cpr_in, filled, frames_of}
+use Rattle.dvd_top.specs.Commands.Master.{cpr_in, filled, frames_of, image_bytes}
+use Rattle.dvd_top.specs.Commands.Deep.{IsDeepened, IsReadDeep}
 use Rattle.dvd_top.specs.Commands.Recover.{IsDone}
-use Rattle.dvd_top.specs.Performing.{IsImageDone, sectors_out}
+use Rattle.dvd_top.specs.Inner.Performing.{IsImageDone, IsImageRead, sectors_out}
 use Rattle.dvd_top.specs.Laws.{DamageWithinTheBoundIsRepaired}
+use Rattle.dvd_top.proofs.DeepBlocks.{told_none}
 use Rattle.dvd_top.proofs.PlanEntries.{has_numbers, one_entry}
 use Rattle.dvd_top.proofs.Repairs.{data_block-made, few-sectors, sector, sectors_list, written-image}
 
@@ -35,17 +48,20 @@ row_in : Form → List ℕ → ℕ → List ℕ
 row_in form own i = take 182 (record_of form own (record_at i))
 
 row_marks_in : Form → List ℕ → ℕ → List Bool
-row_marks_in form own i = marks_in form (record_of form own (record_at i))
+row_marks_in form own i = record_marks form own (record_at i)
 
 length-row : (form : Form) (own : List ℕ) (m : ℕ) → length own ≡ block_size form → m < 208 → length (take 182 (record_of form own m)) ≡ 182
 length-row Plain own m size below =
     length-take-le 182 (record_of Plain own m) (omega (arith, length-take-le 182 (drop (182 * m) own) (omega (arith, length-drop (182 * m) own))))
 length-row Marked own m size below =
     length-take-le 182 (record_of Marked own m) (omega (arith, length-take-le 205 (drop (205 * m) own) (omega (arith, length-drop (205 * m) own))))
+length-row Listed own m size below =
+    length-take-le 182 (record_of Listed own m) (omega (arith, length-take-le 182 (drop (182 * m) own) (omega (arith, length-drop (182 * m) own))))
 
-length-row_marks : (form : Form) (record_bytes : List ℕ) → length (marks_in form record_bytes) ≡ 182
-length-row_marks Plain record_bytes = length-replicate {A = Bool} 182 false
-length-row_marks Marked record_bytes = length-marks_of (drop 182 record_bytes)
+length-row_marks : (form : Form) (own : List ℕ) (m : ℕ) → length (record_marks form own m) ≡ 182
+length-row_marks Plain own m = length-replicate {A = Bool} 182 false
+length-row_marks Marked own m = length-marks_of (drop 182 (record_of Marked own m))
+length-row_marks Listed own m = length-map-range_with_len (λ j. marked_by own (run_count own) (182 * m + j)) 0 182
 
 pub captured-received : (form : Form) (own : List ℕ) → length own ≡ block_size form → IsReceived (captured_rows form own) (captured_marks form own)
 unfolding captured_rows captured_marks row_in row_marks_in
@@ -57,7 +73,7 @@ captured-received form own size = record {
       ap length (get_or-map-range_with_len (row_in form own) 0 208 i i [] below (omega arith)) ∙ length-row form own (record_at i) size (record_at-lt i below));
   marks_widths = All-from_get_or (λ (row : List Bool). length row ≡ 182) (captured_marks form own) [] (λ i within.
       let below : i < 208 = subst (λ (n : ℕ). i < n) marks_height within in
-      ap length (get_or-map-range_with_len (row_marks_in form own) 0 208 i i [] below (omega arith)) ∙ length-row_marks form (record_of form own (record_at i)));
+      ap length (get_or-map-range_with_len (row_marks_in form own) 0 208 i i [] below (omega arith)) ∙ length-row_marks form own (record_at i));
 }
   where
     rows_height : length (captured_rows form own) ≡ 208
@@ -91,6 +107,46 @@ repaired layout zones form cpr k entry image own block steps turn stands is_imag
       | inl given ↦
           let sectors : given.sectors ≡ sectors_list (filled image) = (read-determined rows marks entry given.sectors received.height received.marks_height given.read).1 ∙ read.1 in (
             given.writes ∙ ap (λ l. Write l ∷ []) (ap (sectors_out count) sectors ∙ written-image layout entry.content image few image_size),
+            given.good,
+          )
+    ]
+
+-- what rounds read for a data block is read for image sectors
+image_read : (content : Content) (layout : Layout) (k : ℕ) (entry : BlockPlan) (rows : List (List ℕ)) (marks : List (List Bool)) (steps : List Step) (turn : Turn)
+    → IsImage content → IsReadDeep content layout k entry rows marks steps turn → IsImageRead layout k entry rows marks steps turn
+image_read (Image a) layout k entry rows marks steps turn is done = done
+image_read Zero layout k entry rows marks steps turn is done = absurd is
+image_read Reference layout k entry rows marks steps turn is done = absurd is
+image_read Control layout k entry rows marks steps turn is done = absurd is
+
+-- The same holds of `deep`.
+pub repaired_deep : (layout : Layout) (zones : Zones) (form : Form) (cpr : List ℕ) (k : ℕ) (entry : BlockPlan) (image own : List ℕ) (block : List (List ℕ)) (steps : List Step) (turn : Turn)
+    → slice_get (plan_of layout zones) k ≡ Some entry → IsImage entry.content → length cpr ≡ 6 → length image ≡ image_bytes layout entry
+    → IsBlockOf (frames_of layout entry cpr (filled image)) block
+    → length own ≡ block_size form → IsWithin block (captured_rows form own) (captured_marks form own)
+    → IsDeepened layout zones form k own steps turn → (steps ≡ Write image ∷ []) × (turn ≡ Good)
+repaired_deep layout zones form cpr k entry image own block steps turn stands is_image cpr_size image_size is_block size within does =
+    let few = few-sectors layout entry.content in
+    let rows = captured_rows form own in
+    let marks = captured_marks form own in
+    let count = image_sectors layout entry.content in
+    let received = captured-received form own size in
+    let made = data_block-made layout entry cpr image is_image cpr_size (omega (arith, image_size, few)) in
+    let within_read = within-read entry (has_two_layers layout.shape) (cpr_in entry.area cpr) (sector (filled image)) (frames_of layout entry cpr (filled image)) block rows marks
+    (has_numbers layout zones k entry stands) made is_block received within in
+    let read = no_cause-read rows marks entry received.height received.marks_height within_read.0 in
+    let deep = read-deep rows marks entry (block_sectors rows marks entry) received.height received.marks_height read in
+    let none : two_pass_cause (answers_of rows marks) ≡ None =
+    agrees-no_cause (answers_of rows marks) read.block (length-answers_of rows marks 208 received.height received.marks_height) read.agrees in
+    let done : IsReadDeep entry.content layout k entry rows marks steps turn =
+    subst (λ e. IsReadDeep e.content layout k e rows marks steps turn) (one_entry (plan_of layout zones) k does.entry entry does.stands stands) does.does in
+    elim (image_read entry.content layout k entry rows marks steps turn is_image done) [
+      | inr lost ↦ let first = lost.first in let no = deep-no_cause rows marks entry 1 (block_sectors rows marks entry) deep in cc
+      | inl given ↦
+          let sectors : given.sectors ≡ sectors_list (filled image) = (deep-once rows marks entry given.round 1 given.sectors (block_sectors rows marks entry) given.read deep).1 ∙ within_read.1 in (
+            given.writes
+                ∙ ap (λ (l : List Step). l ++ Write (sectors_out count given.sectors) ∷ []) (told_none k entry given.round (two_pass_cause (answers_of rows marks)) none)
+                ∙ ap (λ l. Write l ∷ []) (ap (sectors_out count) sectors ∙ written-image layout entry.content image few image_size),
             given.good,
           )
     ]

@@ -18,7 +18,7 @@ use Rattle.dvd_layout.specs.declared.entry.Content.TheVariants.{Zero, Reference,
 use Rattle.dvd_layout.specs.declared.layout.Layout.{Layout}
 use Rattle.dvd_read.specs.Made.{IsMadeOf}
 use Rattle.dvd_top.specs.Commands.Master.{cpr_in, filled, frames_of, main_for}
-use Rattle.dvd_top.specs.Performing.{sectors_out}
+use Rattle.dvd_top.specs.Inner.Performing.{sectors_out}
 use Rattle.dvd_top.proofs.BlockFrames.{line-frames_of}
 use Rattle.dvd_top.proofs.Recovered.{sectors_more}
 

@@ -21,7 +21,7 @@ use Rattle.dvd_read.proofs.SavedLaws.{good_rows-saved, sixteen-sectors}
 use Rattle.dvd_top.specs.Commands.Master.{cpr_in, filled, frames_of}
 use Rattle.dvd_top.specs.Commands.Recover.{IsDone, IsRefused}
 use Rattle.dvd_top.specs.Laws.{GoodFramesOfARefusedBlockAreGiven}
-use Rattle.dvd_top.specs.Performing.{sectors_out}
+use Rattle.dvd_top.specs.Inner.Performing.{sectors_out}
 use Rattle.dvd_top.proofs.PlanEntries.{has_numbers, one_entry}
 use Rattle.dvd_top.proofs.Recovered.{sectors_front, sectors_more}
 use Rattle.dvd_top.proofs.RecoveredWidths.{length-out}

@@ -9,17 +9,19 @@ use Rattle.dvd_loop.specs.declared.ends.LoopEnd.{LoopEnd}
 use Rattle.dvd_loop.specs.declared.ends.LoopEnd.TheVariants.{BadMarks, Damaged, Done, Long, NoControl, ReadFault, ReportFault, Short, WriteFault}
 use Rattle.dvd_loop.proofs.Faults.{ends_there}
 use Rattle.dvd_loop.proofs.StepLemmas.{and_then}
-use Rattle.dvd_top.specs.Bound.{KeepsBound, KeepsGoodFrames}
+use Rattle.dvd_top.specs.Bound.{KeepsBound, KeepsGoodFrames, Rescues}
+use Rattle.dvd_top.specs.CdBound.{KeepsSectors}
 use Rattle.dvd_top.specs.Commands.{meaning}
 use Rattle.dvd_top.specs.Headline.{EndsThere, HasRun, HaveRisen, IsRun}
 use Rattle.dvd_top.specs.Statuses.{status_of}
 use Rattle.dvd_top.specs.Lines.{closing_line}
 use Rattle.dvd_words.specs.declared.settings.Command.{Command}
-use Rattle.dvd_words.specs.declared.settings.Command.TheVariants.{Frames, Master, Recover, Info, Survey, Exercise}
+use Rattle.dvd_words.specs.declared.settings.Command.TheVariants.{Frames, Master, Recover, Info, Survey, Exercise, CdMake, CdRead, Merge, Deep, Assemble}
 use Rattle.dvd_words.specs.declared.settings.Settings.{Settings}
 use Rattle.dvd_top.specs.declared.status.Status.{Status}
 use Rattle.dvd_top.specs.declared.status.Status.TheVariants as status
 use Rattle.dvd_top.proofs.BoundKept.{kept}
+use Rattle.dvd_top.proofs.CdKept.{kept_sectors}
 use Rattle.dvd_top.proofs.GoodFrames.{kept_good}
 use Rattle.dvd_top.proofs.RunLemmas.{of_units}
 
@@ -60,6 +62,11 @@ taken_out Recover settings Moved holds = (holds.2.0, (holds.0, holds.1, holds.2.
 taken_out Info settings Moved holds = (holds.0, holds.1, holds.2)
 taken_out Survey settings Moved holds = (holds.2.0, (holds.0, holds.1, holds.2.1), holds.2.2)
 taken_out Exercise settings Moved holds = (holds.0, holds.1, holds.2)
+taken_out CdMake settings Moved holds = (holds.0, holds.1, holds.2)
+taken_out CdRead settings Moved holds = (holds.0, holds.1, holds.2)
+taken_out Merge settings Moved holds = (holds.2.0, (holds.0, holds.1, holds.2.1), holds.2.2)
+taken_out Deep settings Moved holds = (holds.2.0, (holds.0, holds.1, holds.2.1), holds.2.2)
+taken_out Assemble settings Moved holds = (holds.2.0, (holds.0, holds.1, holds.2.1), holds.2.2)
 
 -- a closed loop that a failed read ended: over the bytes that it took no fault would have ended it
 ends_over : (closing : LoopEnd → List ℕ) (units : Units) (bytes : List ℕ) (within : LoopEnd) (outcome : Outcome) (Moved : List ℕ → List ℕ → List ℕ → Type 0)
@@ -136,14 +143,14 @@ faultless_by (Damaged bad) sound = tt
 faultless_by NoControl sound = tt
 faultless_by (BadMarks k at) sound = tt
 
--- what holds of every run of recovery that no fault ended holds of this one
-run_keeps : (Keeps : Settings → List ℕ → Outcome → Type 0)
-    → ((settings : Settings) (within : LoopEnd) (bytes : List ℕ) (outcome : Outcome) → settings.command ≡ Recover → IsRun settings within bytes outcome → IsFaultless outcome.end
+-- what holds of every run of a command that no fault ended holds of this one
+run_keeps : (Is : Command → Type 0) (Keeps : Settings → List ℕ → Outcome → Type 0)
+    → ((settings : Settings) (within : LoopEnd) (bytes : List ℕ) (outcome : Outcome) → Is settings.command → IsRun settings within bytes outcome → IsFaultless outcome.end
     → Keeps settings bytes outcome)
     → (settings : Settings) (old new : Streams) (result : Status) → HasRun settings old new result
-    → (some : LoopEnd) → result ≡ status_of some → IsFaultless some → settings.command ≡ Recover
+    → (some : LoopEnd) → result ≡ status_of some → IsFaultless some → Is settings.command
     → (end : LoopEnd) × (result ≡ status_of end) × Comes (λ bytes outcome. IsRun settings end bytes outcome × Keeps settings bytes outcome) old new end
-run_keeps Keeps law settings old new result run some whole none is =
+run_keeps Is Keeps law settings old new result run some whole none is =
     let sound : IsFaultless run.end = faultless_by run.end (subst IsSound run.is_status (subst IsSound (sym whole) (sound_status some none))) in
     let same : run.end ≡ run.within = run.same_end (λ is. subst IsFaultless is sound) in (
       run.end,
@@ -162,14 +169,19 @@ run_keeps Keeps law settings old new result run some whole none is =
     )
 
 pub bound_kept : (settings : Settings) (old new : Streams) (result : Status) → HasRun settings old new result
-    → (some : LoopEnd) → result ≡ status_of some → IsFaultless some → settings.command ≡ Recover
+    → (some : LoopEnd) → result ≡ status_of some → IsFaultless some → Rescues settings.command
     → (end : LoopEnd) × (result ≡ status_of end) × Comes (λ bytes outcome. IsRun settings end bytes outcome × KeepsBound settings bytes outcome) old new end
-bound_kept = run_keeps KeepsBound kept
+bound_kept = run_keeps Rescues KeepsBound kept
 
 pub good_frames_kept : (settings : Settings) (old new : Streams) (result : Status) → HasRun settings old new result
     → (some : LoopEnd) → result ≡ status_of some → IsFaultless some → settings.command ≡ Recover
     → (end : LoopEnd) × (result ≡ status_of end) × Comes (λ bytes outcome. IsRun settings end bytes outcome × KeepsGoodFrames settings bytes outcome) old new end
-good_frames_kept = run_keeps KeepsGoodFrames kept_good
+good_frames_kept = run_keeps (λ command. command ≡ Recover) KeepsGoodFrames kept_good
+
+pub sectors_kept : (settings : Settings) (old new : Streams) (result : Status) → HasRun settings old new result
+    → (some : LoopEnd) → result ≡ status_of some → IsFaultless some → settings.command ≡ CdRead
+    → (end : LoopEnd) × (result ≡ status_of end) × Comes (λ bytes outcome. IsRun settings end bytes outcome × KeepsSectors settings bytes outcome) old new end
+sectors_kept = run_keeps (λ command. command ≡ CdRead) KeepsSectors kept_sectors
 
 -- the counts by the status of a run that begins
 pub risen : (within end : LoopEnd) (old new : Streams) → (end ≢ ReportFault → end ≡ within) → HaveCauses within end old new

@@ -12,9 +12,9 @@ use Rattle.dvd_top.specs.Commands.{meaning}
 use Rattle.dvd_top.specs.Headline.{HasRun, IsLoop, IsRun}
 use Rattle.dvd_top.specs.Statuses.{status_of}
 use Rattle.dvd_top.specs.Lines.{closing_line}
-use Rattle.dvd_top.specs.Performing.{HasLooped}
+use Rattle.dvd_top.specs.Inner.Performing.{HasLooped}
 use Rattle.dvd_words.specs.declared.settings.Command.{Command}
-use Rattle.dvd_words.specs.declared.settings.Command.TheVariants.{Frames, Master, Recover, Info, Survey, Exercise}
+use Rattle.dvd_words.specs.declared.settings.Command.TheVariants.{Frames, Master, Recover, Info, Survey, Exercise, CdMake, CdRead, Merge, Deep, Assemble}
 use Rattle.dvd_words.specs.declared.settings.Settings.{Settings}
 use Rattle.dvd_top.specs.declared.status.Status.{Status}
 
@@ -33,6 +33,11 @@ units_as Recover settings P Q to holds = (holds.0, holds.1, to _ holds.2)
 units_as Info settings P Q to holds = to _ holds
 units_as Survey settings P Q to holds = (holds.0, holds.1, to _ holds.2)
 units_as Exercise settings P Q to holds = to _ holds
+units_as CdMake settings P Q to holds = to _ holds
+units_as CdRead settings P Q to holds = to _ holds
+units_as Merge settings P Q to holds = (holds.0, holds.1, to _ holds.2)
+units_as Deep settings P Q to holds = (holds.0, holds.1, to _ holds.2)
+units_as Assemble settings P Q to holds = (holds.0, holds.1, to _ holds.2)
 
 -- what holds of the units of a command may be said otherwise
 pub of_units : (settings : Settings) (P Q : Units → Type 0) → ((units : Units) → P units → Q units) → OfUnits settings P → OfUnits settings Q

@@ -1,9 +1,10 @@
 -- For every input each command does something.
-use Rattle.std.proofs.Common.{◌≡◌, inl, inr, ℕ, zero, suc, ◌+◌, ◌<◌, Bool, List, [], ◌∷◌, ◌++◌, length, take, drop, slice_get, All, Option, Some, None, refl, sym, subst, ap, ◌∙◌, append-nil, take-append-drop, arith}
+use Rattle.std.proofs.Common.{◌≡◌, inl, inr, ℕ, zero, suc, ◌+◌, ◌*◌, ◌<◌, Bool, List, [], ◌∷◌, ◌++◌, length, take, drop, slice_get, All, Option, Some, None, refl, sym, subst, ap, ◌∙◌, append-nil, take-append-drop, arith}
 use Rattle.std.proofs.lemmas.Bool.{cases_lt}
 use Rattle.std.proofs.lemmas.List.{length-take-le}
 use Rattle.std.proofs.lemmas.List.Elements.{All-drop, All-take}
 use Rattle.std.proofs.lemmas.Option.{slice_get_cases}
+use Rattle.cd_sector.proofs.SomeSector.{some_sector}
 use Rattle.dvd_block.proofs.OneBlock.{some_block}
 use Rattle.dvd_block.specs.Product.{line}
 use Rattle.dvd_block.specs.Recording.{recording}
@@ -33,18 +34,31 @@ use Rattle.dvd_read.specs.declared.cause.Cause.{Cause}
 use Rattle.dvd_read.proofs.BlockRead.{no_cause-read}
 use Rattle.dvd_report.specs.Lines.{damage_line}
 use Rattle.dvd_top.specs.Commands.{meaning}
+use Rattle.dvd_top.specs.Commands.CdMake.{HasAddresses, IsMade, cdmake_units}
+use Rattle.dvd_top.specs.Commands.CdRead.{cdread_units}
+use Rattle.dvd_merge.specs.Join.{joined}
+use Rattle.dvd_merge.specs.MarkedText.{marked_text}
 use Rattle.dvd_top.specs.Commands.Exercise.{exercise_units}
+use Rattle.dvd_top.specs.Commands.Merge.{merge_units, tables_in}
+use Rattle.dvd_top.specs.Commands.Assemble.{assemble_units}
+use Rattle.dvd_assemble.specs.Frames.{frame_size}
 use Rattle.dvd_top.specs.Commands.Frames.{frames_units, sector_frame}
 use Rattle.dvd_top.specs.Commands.Info.{IsAsked, IsSought, format_lines, info_units}
 use Rattle.dvd_top.specs.Commands.Master.{IsMastered, bytes_of_block, bytes_of_entry, cpr_in, filled, frames_of, main_for, master_units}
+use Rattle.dvd_capture.specs.TwoPass.{answers_of}
+use Rattle.dvd_deep.specs.Reading.{deep_cause}
+use Rattle.dvd_deep.proofs.Readings.{deep-some}
+use Rattle.dvd_read.specs.Causes.{two_pass_cause}
+use Rattle.dvd_top.specs.Commands.Deep.{IsDeepened, IsReadDeep, deep_units, round_told}
 use Rattle.dvd_top.specs.Commands.Recover.{IsDone, IsRecovered, recover_units}
 use Rattle.dvd_top.specs.Commands.Survey.{IsSurveyed, survey_units}
-use Rattle.dvd_top.specs.Performing.{IsControlDone, IsImageDone, IsPassedOver, sectors_out}
+use Rattle.dvd_top.specs.Inner.Performing.{IsControlDone, IsImageDone, IsImageRead, IsPassedOver, sectors_out}
 use Rattle.dvd_top.specs.Laws.{SomethingIsDone}
 use Rattle.dvd_words.specs.declared.settings.Command.{Command}
 use Rattle.dvd_words.specs.declared.settings.Command.TheVariants as command
 use Rattle.dvd_words.specs.declared.settings.Settings.{Settings}
 use Rattle.dvd_top.proofs.BlockFrames.{line-frames_of}
+use Rattle.dvd_top.proofs.CdSectors.{read_some}
 use Rattle.dvd_top.proofs.Determined.{length-captured_marks, length-captured_rows}
 use Rattle.dvd_top.proofs.ExerciseRuns.{exercised_some}
 use Rattle.dvd_top.proofs.FormatBytes.{bytes-cpr, bytes-filled, bytes-main_for}
@@ -187,6 +201,34 @@ recovered_some layout zones form k own within are =
     let done = done_some layout k some.0 (captured_rows form own) (captured_marks form own) (length-captured_rows form own) (length-captured_marks form own) some.0.content in
     (done.0, done.1, record { entry = some.0; stands = some.1; does = done.2 })
 
+-- DEEP. A captured block has a cause, or rounds give it back.
+module _ (layout : Layout) (k : ℕ) (entry : BlockPlan) (rows : List (List ℕ)) (marks : List (List Bool)) (size : length rows ≡ 208) (marks_size : length marks ≡ 208) where
+  image_read_some : (cause : Option Cause) → deep_cause rows marks entry ≡ cause → MaySome (IsImageRead layout k entry rows marks)
+  image_read_some None none =
+      let some = deep-some rows marks entry size marks_size none in (
+        round_told (two_pass_cause (answers_of rows marks)) k entry some.0 ++ Write (sectors_out (image_sectors layout entry.content) some.1) ∷ [],
+        Good,
+        inl (record { round = some.0; sectors = some.1; read = some.2; writes = refl; good = refl }),
+      )
+  image_read_some (Some cause) first = (
+    Tell (damage_line k entry cause (saved_in rows marks entry)) ∷ Write (sectors_out (image_sectors layout entry.content) (block_out rows marks entry)) ∷ [],
+    Bad,
+    inr (record { cause = cause; first = first; tells = refl; bad = refl }),
+  )
+
+  read_deep_some : (content : Content) → MaySome (IsReadDeep content layout k entry rows marks)
+  read_deep_some (Image sector) = image_read_some (deep_cause rows marks entry) refl
+  read_deep_some Zero = ([], Good, (refl, refl))
+  read_deep_some Reference = ([], Good, (refl, refl))
+  read_deep_some Control = ([], Good, (refl, refl))
+
+deepened_some : (layout : Layout) (zones : Zones) (form : Form)
+    → MayEach (length (plan_of layout zones)) (λ k. block_size form) (IsDeepened layout zones form)
+deepened_some layout zones form k own within are =
+    let some = some_entry (plan_of layout zones) k within in
+    let done = read_deep_some layout k some.0 (captured_rows form own) (captured_marks form own) (length-captured_rows form own) (length-captured_marks form own) some.0.content in
+    (done.0, done.1, record { entry = some.0; stands = some.1; does = done.2 })
+
 -- INFO. A block of control data answers or it doesn't.
 module _ (entry : BlockPlan) (rows : List (List ℕ)) (marks : List (List Bool)) (size : length rows ≡ 208) (marks_size : length marks ≡ 208) where
   format_some : block_cause rows marks entry ≡ None → (fault : Option ControlFault) → control_fault (line (block_sectors rows marks entry) 0) ≡ fault
@@ -225,33 +267,62 @@ surveyed_some layout zones form before own within are =
     let some = some_entry (plan_of layout zones) (length before) within in
     (_, _, record { entry = some.0; stands = some.1; writes = refl; answers = refl })
 
+-- CDMAKE. Every address below the last has a sector.
+made_some : (address : ℕ) (user : List ℕ) → address < 450000 → HasBytes 2048 user → MaySome (IsMade address user)
+made_some address user below are =
+    let some = some_sector address user below are.size are.bytes in
+    (Write some.0 ∷ [], Good, record { sector = some.0; is_sector = some.1; writes = refl; good = refl })
+
 module _ (settings : Settings) (bytes : List ℕ) (six : HasBytes 6 settings.cpr) (are : All IsByte bytes) where
-  by_command : (word : Command) → (meaning word).breaks settings ≡ None
+  by_command : (word : Command) → (meaning word).breaks settings ≡ None → (word ≡ command.CdMake → HasAddresses settings)
       → Exists (λ outcome. (meaning word).OfUnits settings (λ units. IsOutcome units bytes outcome))
-  by_command command.Frames none =
+  by_command command.Frames none addresses =
       runs_exist (frames_units settings.first settings.sectors) (λ k. 2048) (λ k own. refl)
       (λ before own lt is. (Write (sector_frame (settings.first + length before) own) ∷ [], Good, (refl, refl))) (λ before all. no_closing) bytes are
-  by_command command.Master none =
+  by_command command.Master none addresses =
       let layout = layout_for settings none in
       let exists = runs_exist (master_units layout.0 settings.zones settings.cpr) (bytes_of_block layout.0 settings.zones) (λ k own. refl)
       (λ before own. mastered_some layout.0 settings.zones settings.cpr six (length before) own) (λ before all. no_closing) bytes are in
       (exists.0, (layout.0, layout.1, exists.1), exists.2)
-  by_command command.Recover none =
+  by_command command.Recover none addresses =
       let layout = layout_for settings none in
       let exists = runs_exist (recover_units layout.0 settings.zones settings.form) (λ k. block_size settings.form) (λ k own. refl)
       (λ before own. recovered_some layout.0 settings.zones settings.form (length before) own) (λ before all. no_closing) bytes are in
       (exists.0, (layout.0, layout.1, exists.1), exists.2)
-  by_command command.Info none =
+  by_command command.Info none addresses =
       runs_exist (info_units settings.initial settings.form) (λ k. block_size settings.form) (λ k own. refl)
       (λ before own. sought_some settings.initial settings.form (length before) own) (λ before all. no_closing) bytes are
-  by_command command.Survey none =
+  by_command command.Survey none addresses =
       let layout = layout_for settings none in
       let exists = runs_exist (survey_units layout.0 settings.zones settings.form) (λ k. block_size settings.form) (λ k own. refl)
       (λ before own. surveyed_some layout.0 settings.zones settings.form before own) (λ before all. (_, refl)) bytes are in
       (exists.0, (layout.0, layout.1, exists.1), exists.2)
-  by_command command.Exercise none =
+  by_command command.Exercise none addresses =
       runs_exist (exercise_units settings.seed settings.blocks) (λ k. 0) (λ k own. refl) (λ before own lt is. ([], Good, (refl, refl)))
       (λ before all. exercised_some settings.seed settings.blocks) bytes are
+  by_command command.CdMake none addresses =
+      let last = addresses refl in
+      runs_exist (cdmake_units settings.address settings.sectors) (λ k. 2048) (λ k own. refl)
+      (λ before own within. made_some (settings.address + length before) own (omega arith)) (λ before all. no_closing) bytes are
+  by_command command.CdRead none addresses =
+      runs_exist (cdread_units settings.address settings.sectors) (λ k. 2352) (λ k own. refl)
+      (λ before own within is. read_some (settings.address + length before) (length before) own) (λ before all. no_closing) bytes are
+  by_command command.Merge none addresses =
+      let layout = layout_for settings none in
+      let exists = runs_exist (merge_units layout.0 settings.zones settings.form settings.captures) (λ k. settings.captures * block_size settings.form) (λ k own. refl)
+      (λ before own lt is. (Write (marked_text (joined (tables_in settings.captures settings.form own))) ∷ [], Good, (refl, refl))) (λ before all. no_closing) bytes are in
+      (exists.0, (layout.0, layout.1, exists.1), exists.2)
+  by_command command.Deep none addresses =
+      let layout = layout_for settings none in
+      let exists = runs_exist (deep_units layout.0 settings.zones settings.form) (λ k. block_size settings.form) (λ k own. refl)
+      (λ before own. deepened_some layout.0 settings.zones settings.form (length before) own) (λ before all. no_closing) bytes are in
+      (exists.0, (layout.0, layout.1, exists.1), exists.2)
+  by_command command.Assemble none addresses =
+      let layout = layout_for settings none in
+      let exists = runs_exist (assemble_units layout.0 settings.form settings.frames) (λ k. frame_size settings.form) (λ k own. refl)
+      (λ before own lt is. ([], Good, (refl, refl))) (λ before all. (_, refl)) bytes are in
+      (exists.0, (layout.0, layout.1, exists.1), exists.2)
 
 pub something : SomethingIsDone
-something settings bytes size cpr_bytes are none = by_command settings bytes (record { size = size; bytes = cpr_bytes }) are settings.command none
+something settings bytes size cpr_bytes are none addresses =
+    by_command settings bytes (record { size = size; bytes = cpr_bytes }) are settings.command none addresses

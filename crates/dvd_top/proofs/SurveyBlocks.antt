@@ -23,7 +23,7 @@ use Rattle.dvd_read.specs.declared.cause.Fixed.{Fixed}
 use Rattle.dvd_report.specs.Survey.{StandsFor, SurveyState, survey_line, surveyed, surveyed_with}
 use Rattle.dvd_report.specs.declared.counts.Surveyed.{Surveyed}
 use Rattle.dvd_top.specs.Commands.Survey.{IsSurveyed, found_in, found_of, turn_by}
-use Rattle.dvd_top.specs.Performing.{IsLineDone}
+use Rattle.dvd_top.specs.Inner.Performing.{IsLineDone}
 
 -- one more beside the one that stands at its place
 zip_more : {A B : Type 0} (xs : List A) (ys : List B) (n : ℕ) (x : A) (y : B) → length xs ≡ n → slice_get ys n ≡ Some y

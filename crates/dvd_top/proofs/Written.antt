@@ -1,7 +1,7 @@
 -- How much a run writes whose units write so much each.
 use Rattle.std.proofs.Common.{◌≡◌, ◌≢◌, ◌∙◌, inl, inr, ℕ, zero, suc, ◌+◌, List, [], ◌∷◌, ◌++◌, length, length-append, refl, ap, sym, subst, add-one, arith}
 use Rattle.dvd_loop.specs.Laws.{IsFaultless, start}
-use Rattle.dvd_loop.specs.Machine.{Does, EndsBehind, Goes, IsOutcome, Outcome, Step, Units, bad_of, sized}
+use Rattle.dvd_loop.specs.Machine.{Does, EndsBehind, Goes, IsOutcome, IsUnit, Outcome, Step, Units, bad_of, sized}
 use Rattle.dvd_loop.specs.Turns.{written}
 use Rattle.dvd_loop.specs.declared.ends.Behind.{Behind}
 use Rattle.dvd_loop.specs.declared.ends.Behind.TheVariants as behind
@@ -24,7 +24,7 @@ none_behind behind.Asks bad (byte ∷ bytes) a (inr is) = ap (λ (o : Outcome). 
 pub record AreWide (units : Units) (size wide : ℕ → ℕ) : Type 0 where
   pub begins : (k : ℕ) (bytes : List ℕ) → units.begins k bytes ≡ sized (size k) bytes
   pub opens : units.opens ≡ []
-  pub does : (before : List (List ℕ)) (own : List ℕ) (steps : List Step) (turn : Turn) → units.does (length before) before own steps turn
+  pub does : (before : List (List ℕ)) (own : List ℕ) (steps : List Step) (turn : Turn) → IsUnit units before own steps turn
       → (length (written steps) ≡ wide (length before)) × (turn ≢ Last)
   pub closes : (before : List (List ℕ)) (steps : List Step) → units.closes before steps → steps ≡ []
 
@@ -38,7 +38,7 @@ module _ (units : Units) (size wide : ℕ → ℕ) (are : AreWide units size wid
       let nothing = none_behind units.behind bad bytes a (subst (λ l. Does l (EndsBehind units.behind bad bytes) a) (are.closes before steps closes) does) in
       omega (arith, ap length nothing, ap (start wide) here)
   goes_wide (suc n) before bad bytes a all goes none done =
-      elim (goes_one units size are.begins n before (λ own steps unit. (are.does before own steps Last unit.does).1 refl) bad bytes a goes none) [
+      elim (goes_one units size are.begins n before (λ own steps unit. (are.does before own steps Last unit).1 refl) bad bytes a goes none) [
         | inl short ↦ absurd (let no : Done ≡ Short (length before) (length bytes) = sym done ∙ ap (λ (o : Outcome). o.end) short.is in cc)
         | inr t ↦
             let one : length (before ++ t.own ∷ []) ≡ length before + 1 = length-append before (t.own ∷ []) in
@@ -48,7 +48,7 @@ module _ (units : Units) (size wide : ℕ → ℕ) (are : AreWide units size wid
               arith,
               ap (λ (o : Outcome). length o.out) t.is,
               length-append (written t.steps) t.after.out,
-              (are.does before t.own t.steps t.turn t.unit.does).0,
+              (are.does before t.own t.steps t.turn t.unit).0,
               further,
               rest,
             )

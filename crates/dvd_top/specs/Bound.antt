@@ -1,5 +1,5 @@
 -- The bound of recovery: what a run gives back where the damage of a block is within the bound.
-use Rattle.std.specs.Prelude.{◌≡◌, ℕ, ◌+◌, ◌*◌, ◌<◌, ◌≤◌, Bool, List, [], ◌∷◌, length, take, drop, Some, slice_get}
+use Rattle.std.specs.Prelude.{◌≡◌, ℕ, ◌+◌, ◌*◌, ◌<◌, ◌≤◌, ⊤, Bool, List, [], ◌∷◌, length, take, drop, Some, slice_get}
 use Rattle.dvd_block.specs.Product.{IsBlockOf, line}
 use Rattle.dvd_capture.specs.Answers.{marks_line}
 use Rattle.dvd_capture.specs.Captured.{block_size, captured_marks, captured_rows}
@@ -19,9 +19,23 @@ use Rattle.dvd_loop.specs.declared.ends.Turn.TheVariants.{Good}
 use Rattle.dvd_read.specs.Causes.{two_pass_cause}
 use Rattle.dvd_read.specs.declared.cause.Cause.{Cause}
 use Rattle.dvd_top.specs.Commands.Master.{filled, frames_of, image_bytes}
+use Rattle.dvd_top.specs.Commands.Deep.{IsDeepened}
 use Rattle.dvd_top.specs.Commands.Recover.{IsRecovered}
 use Rattle.dvd_words.specs.Settings.{IsLayoutOf}
+use Rattle.dvd_words.specs.declared.settings.Command.{Command}
+use Rattle.dvd_words.specs.declared.settings.Command.TheVariants.{Recover, Deep}
 use Rattle.dvd_words.specs.declared.settings.Settings.{Settings}
+
+-- the commands that write the image sectors of captured blocks
+abbrev pub Rescues : Command → Type 0
+Rescues Recover = ⊤
+Rescues Deep = ⊤
+Rescues other = ⊥
+
+-- and what they do for block k of the plan
+abbrev pub IsRescued : Command → Layout → Zones → Form → ℕ → List ℕ → List Step → Turn → Type 0
+IsRescued Deep = IsDeepened
+IsRescued other = IsRecovered
 
 -- the twelve rows of frame f are good against the block that was recorded: none weighs anything
 abbrev pub HasGoodRows : List (List ℕ) → List (List ℕ) → List (List Bool) → ℕ → Type 0
@@ -78,5 +92,5 @@ pub record KeepsBound (settings : Settings) (bytes : List ℕ) (outcome : Outcom
   pub at_place : (cpr image : List ℕ) (k : ℕ) (entry : BlockPlan) → IsBorne layout settings.zones settings.form bytes cpr image k entry
       → take (image_bytes layout entry) (drop (2048 * image_from entry.content) outcome.out) ≡ image_part layout entry image
   pub alone : (cpr image : List ℕ) (k : ℕ) (entry : BlockPlan) → IsBorne layout settings.zones settings.form bytes cpr image k entry
-      → (steps : List Step) (turn : Turn) → IsRecovered layout settings.zones settings.form k (block_bytes settings.form bytes k) steps turn
+      → (steps : List Step) (turn : Turn) → IsRescued settings.command layout settings.zones settings.form k (block_bytes settings.form bytes k) steps turn
       → (steps ≡ Write (image_part layout entry image) ∷ []) × (turn ≡ Good)

@@ -11,12 +11,13 @@ use Rattle.dvd_loop.specs.declared.ends.LoopEnd.TheVariants as ends
 use Rattle.dvd_ports.specs.Causes.{Rose}
 use Rattle.dvd_ports.specs.Seen.{Seen}
 use Rattle.dvd_ports.specs.Whole.{AppendsPrefix}
-use Rattle.dvd_top.specs.Bound.{KeepsBound, KeepsGoodFrames}
+use Rattle.dvd_top.specs.Bound.{KeepsBound, KeepsGoodFrames, Rescues}
+use Rattle.dvd_top.specs.CdBound.{KeepsSectors}
 use Rattle.dvd_top.specs.Commands.{meaning}
 use Rattle.dvd_top.specs.Lines.{closing_line, setting_line}
 use Rattle.dvd_top.specs.Statuses.{status_of}
 use Rattle.dvd_words.specs.Reading.{reading}
-use Rattle.dvd_words.specs.declared.settings.Command.TheVariants.{Recover}
+use Rattle.dvd_words.specs.declared.settings.Command.TheVariants.{CdRead, Recover}
 use Rattle.dvd_words.specs.declared.settings.Settings.{Settings}
 use Rattle.dvd_top.specs.declared.status.Status.{Status}
 use Rattle.dvd_top.specs.declared.status.Status.TheVariants as status
@@ -39,10 +40,19 @@ breaks settings = (meaning settings.command).breaks settings
 -- format is the last that is read: eleven lines tell that format. Behind all 192 of them the end is NoControl.
 -- exercise: block k has no bytes, and nothing is asked for behind the last. The blocks are drawn from the seed, damaged within the
 -- bound and read back, and one line then tells how many of their places differed and how many of their rows failed.
+-- cdmake: sector k is 2,048 bytes of user data, and its CD-ROM sector is written.
+-- cdread: sector k is a CD-ROM sector. Where what it is repaired to has nothing wrong its user data are written; else a line
+-- names the sector and the first cause, and then as many zeros are written.
+-- merge: block k is a captured block of each capture, one after the other. Their join, place by place, is written in the marked
+-- form: a place has the byte that all have who have one there, and is marked where none has one or two have different ones.
+-- deep: block k is a captured block, as in recover. A block that two passes refuse is read by up to four rounds, and where one of
+-- these gives it back and its frames are right, a line names the block and the round before its image sectors are written.
+-- assemble: frame k is a recording frame, and nothing is done for it. Behind the last one each data block is written in the marked
+-- form, as the join of all frames whose first rows name it, and then a line tells how many frames have a home and how many don't.
 -- OUTCOME. The units are taken in their order, each whole and with all that is done for it. Behind the last one byte more is
--- asked for, but by info and exercise: the end is Long if it comes, else Done, or Damaged if blocks have a cause. It is Short
--- where the input ends before, and ReadFault where a read fails; nothing is done of a unit that isn't whole. Where a write or a
--- line fails it is WriteFault or ReportFault: a front of that piece was done, not all, and nothing behind it. After all ends but
+-- asked for, but by info and exercise: the end is Long if it comes, else Done, or Damaged if blocks or sectors have a cause. It is
+-- Short where the input ends before, and ReadFault where a read fails; nothing is done of a unit that isn't whole. Where a write or
+-- a line fails it is WriteFault or ReportFault: a front of that piece was done, not all, and nothing behind it. After all ends but
 -- ReportFault comes the closing line.
 abbrev pub IsLoop : Settings → List ℕ → Outcome → Type 0
 IsLoop settings bytes outcome = (meaning settings.command).OfUnits settings (λ units. IsOutcome units bytes outcome)
@@ -95,14 +105,17 @@ pub record Headline (Untouched : Type 0) (words : List (List ℕ)) (old new : St
       → HasRun settings old new result ⊎ (Untouched × HasNoMemory old.report new.report result)
   pub faults : HaveRisen result old new
   -- These follow. Where no stream failed, the run ended as its loop, by no fault. What a failed read leaves. And if no fault
-  -- ended `recover`, each captured block whose damage is within the bound (twice its bad rows plus its lost rows is at most 16),
+  -- ended `recover` or `deep`, each captured block whose damage is within the bound (twice its bad rows plus its lost rows is at most 16),
   -- against any block that was mastered for its place, has given exactly the mastered sectors, whatever became of the others;
-  -- and of each that two passes refuse, every image sector whose twelve rows are good has come out as it was mastered.
+  -- and in `recover` of each that two passes refuse, every image sector whose twelve rows are good has come out as it was mastered.
   pub complete : (settings : Settings) → reading words ≡ Some settings → breaks settings ≡ None → result ≢ status.NoMemory
       → (Rose old.source.faults new.source.faults → ⊥) → (Rose old.output.faults new.output.faults → ⊥) → (Rose old.report.faults new.report.faults → ⊥)
       → (end : LoopEnd) × (result ≡ status_of end) × IsFaultless end × Comes (IsRun settings end) old new end
   pub read_fault : result ≡ status.ReadFault → (settings : Settings) → reading words ≡ Some settings → EndsThere settings old new
-  pub bound : (some : LoopEnd) → result ≡ status_of some → IsFaultless some → (settings : Settings) → reading words ≡ Some settings → settings.command ≡ Recover
+  pub bound : (some : LoopEnd) → result ≡ status_of some → IsFaultless some → (settings : Settings) → reading words ≡ Some settings → Rescues settings.command
       → (end : LoopEnd) × (result ≡ status_of end) × Comes (λ bytes outcome. IsRun settings end bytes outcome × KeepsBound settings bytes outcome) old new end
   pub good_frames : (some : LoopEnd) → result ≡ status_of some → IsFaultless some → (settings : Settings) → reading words ≡ Some settings → settings.command ≡ Recover
       → (end : LoopEnd) × (result ≡ status_of end) × Comes (λ bytes outcome. IsRun settings end bytes outcome × KeepsGoodFrames settings bytes outcome) old new end
+  -- The same for `cdread`: each CD-ROM sector whose damage is borne has given exactly its user data.
+  pub sectors : (some : LoopEnd) → result ≡ status_of some → IsFaultless some → (settings : Settings) → reading words ≡ Some settings → settings.command ≡ CdRead
+      → (end : LoopEnd) × (result ≡ status_of end) × Comes (λ bytes outcome. IsRun settings end bytes outcome × KeepsSectors settings bytes outcome) old new end

@@ -1,5 +1,9 @@
 -- What holds of every run of a command.
-use Rattle.std.specs.Prelude.{◌≡◌, ℕ, ◌*◌, ◌<◌, List, [], ◌∷◌, length, replicate, All, Some, None, slice_get, ◌⊎◌, ◌+◌, ◌≤◌, take, drop}
+use Rattle.std.specs.Prelude.{◌≡◌, ℕ, ◌*◌, ◌<◌, List, [], ◌∷◌, length, replicate, All, Some, None, slice_get, ◌⊎◌, ◌+◌, ◌≤◌, take, drop, slice_index_or}
+use Rattle.dvd_assemble.specs.Assembled.{assembled}
+use Rattle.dvd_assemble.specs.Frames.{Frame}
+use Rattle.dvd_assemble.specs.Home.{home}
+use Rattle.dvd_assemble.specs.Mastered.{IsCaptureOf, IsCaptured}
 use Rattle.dvd_block.specs.Product.{IsBlockOf}
 use Rattle.dvd_capture.specs.Captured.{block_size, captured_rows, captured_marks}
 use Rattle.dvd_capture.specs.TwoPass.{answers_of}
@@ -23,15 +27,19 @@ use Rattle.dvd_loop.specs.declared.ends.LoopEnd.{LoopEnd}
 use Rattle.dvd_loop.specs.declared.ends.LoopEnd.TheVariants.{Done, NoControl, Short}
 use Rattle.dvd_loop.specs.declared.ends.Turn.{Turn}
 use Rattle.dvd_loop.specs.declared.ends.Turn.TheVariants.{Good, Last}
+use Rattle.dvd_merge.specs.Agreeing.{IsOf}
+use Rattle.dvd_merge.specs.Join.{unseen}
 use Rattle.dvd_read.specs.Causes.{two_pass_cause}
 use Rattle.dvd_read.specs.declared.cause.Cause.{Cause}
-use Rattle.dvd_top.specs.Bound.{HasGoodRows, KeepsBound, KeepsGoodFrames, block_bytes}
+use Rattle.dvd_top.specs.Bound.{HasGoodRows, KeepsBound, KeepsGoodFrames, Rescues, block_bytes}
+use Rattle.dvd_top.specs.CdBound.{KeepsSectors}
+use Rattle.dvd_top.specs.Commands.CdMake.{HasAddresses}
 use Rattle.dvd_top.specs.Commands.Exercise.{drawn_frames}
 use Rattle.dvd_top.specs.Commands.Info.{IsSought, format_lines, info_units}
 use Rattle.dvd_top.specs.Commands.Master.{filled, frames_of, image_bytes, master_units}
 use Rattle.dvd_top.specs.Commands.Recover.{IsRecovered, recover_units}
 use Rattle.dvd_top.specs.Headline.{IsLoop, IsRun, breaks}
-use Rattle.dvd_words.specs.declared.settings.Command.TheVariants.{Recover}
+use Rattle.dvd_words.specs.declared.settings.Command.TheVariants.{CdMake, CdRead, Recover}
 use Rattle.dvd_words.specs.declared.settings.Settings.{Settings}
 
 -- What is done for an input is determined: the same settings and bytes come to one outcome, where no fault ends it.
@@ -43,10 +51,12 @@ WhatIsDoneIsDetermined =
 abbrev pub AreBytes : List ℕ → Type 0
 AreBytes numbers = All (λ byte. byte < 256) numbers
 
--- Something is done for every input: where the settings break no rule of layouts, there is an outcome that no fault ends.
+-- Something is done for every input: where the settings break no rule of layouts, and each CD-ROM sector that is to be made has
+-- an address, there is an outcome that no fault ends.
 abbrev pub SomethingIsDone : Type 0
 SomethingIsDone =
     (settings : Settings) (bytes : List ℕ) → length settings.cpr ≡ 6 → AreBytes settings.cpr → AreBytes bytes → breaks settings ≡ None
+    → (settings.command ≡ CdMake → HasAddresses settings)
     → (outcome : Outcome) × IsLoop settings bytes outcome × IsFaultless outcome.end
 
 -- What the blocks before a data block take are the image's bytes before its first sector.
@@ -88,10 +98,10 @@ DrawnFramesAreMastered =
     (layout : Layout) (k : ℕ) (entry : BlockPlan) (image : List ℕ) → layout.shape ≡ Single → slice_get (plan_of layout DataOnly) k ≡ Some entry
     → frames_of layout entry (replicate 6 0) image ≡ drawn_frames k image
 
--- Of a run of recovery that no fault ended: the bound is kept.
+-- Of a run of recovery, by two passes or by rounds, that no fault ended: the bound is kept.
 abbrev pub BoundIsKept : Type 0
 BoundIsKept =
-    (settings : Settings) (within : LoopEnd) (bytes : List ℕ) (outcome : Outcome) → settings.command ≡ Recover → IsRun settings within bytes outcome → IsFaultless outcome.end
+    (settings : Settings) (within : LoopEnd) (bytes : List ℕ) (outcome : Outcome) → Rescues settings.command → IsRun settings within bytes outcome → IsFaultless outcome.end
     → KeepsBound settings bytes outcome
 
 -- And of such a run: the good frames of the blocks that two passes refuse are kept.
@@ -143,3 +153,24 @@ abbrev pub InfoFindsTheFirstAnswer : Type 0
 InfoFindsTheFirstAnswer =
     (initial : ℕ) (form : Form) (bytes : List ℕ) (a : Outcome) → IsOutcome (info_units initial form) bytes a → IsFaultless a.end
     → FindsTheFirst initial form bytes a ⊎ FindsNone initial form bytes a
+
+-- Of a run of `cdread` that no fault ended: every sector whose damage is borne has given exactly its user data.
+abbrev pub BorneSectorsAreKept : Type 0
+BorneSectorsAreKept =
+    (settings : Settings) (within : LoopEnd) (bytes : List ℕ) (outcome : Outcome) → settings.command ≡ CdRead → IsRun settings within bytes outcome → IsFaultless outcome.end
+    → KeepsSectors settings bytes outcome
+
+-- The blocks of the Data Zones as they were mastered, each of its part of an image.
+abbrev pub AreMastered : Layout → List ℕ → (ℕ → List ℕ) → (ℕ → List (List ℕ)) → Type 0
+AreMastered layout cpr parts blocks =
+    (k : ℕ) (entry : BlockPlan) → slice_get (plan_of layout DataOnly) k ≡ Some entry → IsBlockOf (frames_of layout entry cpr (filled (parts k))) (blocks k)
+
+-- Frames that were captured of mastered ones, of any image and any CPR_MAI: whatever is lost, their bytes are right at all places
+-- that aren't marked, and at most ten of the first row are. Each has its home where it was mastered; and no place of the blocks
+-- that `assemble` makes of them is in conflict, each that is seen having the mastered byte.
+abbrev pub CapturedFramesAreAssembled : Type 0
+CapturedFramesAreAssembled =
+    (layout : Layout) (cpr : List ℕ) (parts : ℕ → List ℕ) (blocks : ℕ → List (List ℕ)) → AreMastered layout cpr parts blocks
+    → ((k f : ℕ) (frame : Frame) → k < length (plan_of layout DataOnly) → f < 16 → IsCaptureOf f (blocks k) frame → home layout frame ≡ Some (16 * k + f))
+    × ((frames : List Frame) → All (IsCaptured layout blocks) frames
+    → (k : ℕ) → k < length (plan_of layout DataOnly) → IsOf (blocks k) (slice_index_or (assembled layout frames) k unseen))

@@ -1,9 +1,10 @@
 pub mod Bound
 pub mod Commands
-pub mod Exercising
 pub mod Headline
+pub mod Inner
 pub mod Laws
 pub mod Lines
 pub mod Meaning
-pub mod Performing
 pub mod Statuses
+pub mod CdLines
+pub mod CdBound

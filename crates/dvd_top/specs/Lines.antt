@@ -28,6 +28,6 @@ closing_line command WriteFault = codes "write fault\n"
 closing_line command ReportFault = []
 closing_line command (Short unit bytes) = codes "short: " ++ (meaning command).unit_name ++ codes " " ++ decimal unit ++ codes ", " ++ decimal bytes ++ codes " bytes\n"
 closing_line command Long = codes "long\n"
-closing_line command (Damaged blocks) = codes "damaged: " ++ decimal blocks ++ codes " blocks\n"
+closing_line command (Damaged blocks) = codes "damaged: " ++ decimal blocks ++ codes " " ++ (meaning command).unit_name ++ codes "s\n"
 closing_line command NoControl = codes "no control block\n"
 closing_line command (BadMarks block at) = codes "bad marks: block " ++ decimal block ++ codes ", byte " ++ decimal at ++ codes "\n"

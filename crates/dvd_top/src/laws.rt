@@ -1,5 +1,5 @@
 //! What holds of every run of a command: each function's contract is one law, and its body is empty.
-ghost use Rattle.dvd_top.specs.Laws.{WhatIsDoneIsDetermined, SomethingIsDone, ImageIsTakenInOrder, ImageIsTakenWhole, DamageWithinTheBoundIsRepaired, GoodFramesOfARefusedBlockAreGiven, BoundIsKept, GoodFramesAreKept, DrawnFramesAreMastered, MasteredStreamIsRecovered, InfoFindsTheFirstAnswer};
+ghost use Rattle.dvd_top.specs.Laws.{WhatIsDoneIsDetermined, SomethingIsDone, ImageIsTakenInOrder, ImageIsTakenWhole, DamageWithinTheBoundIsRepaired, GoodFramesOfARefusedBlockAreGiven, BoundIsKept, GoodFramesAreKept, DrawnFramesAreMastered, MasteredStreamIsRecovered, InfoFindsTheFirstAnswer, BorneSectorsAreKept, CapturedFramesAreAssembled};
 
 /// What is done for an input is determined.
 pub fn what_is_done_is_determined()
@@ -31,7 +31,7 @@ pub fn good_frames_of_a_refused_block_are_given()
     ensures { GoodFramesOfARefusedBlockAreGiven }
 {}
 
-/// A run of recovery keeps the bound for each of its blocks.
+/// A run of recovery, by two passes or by rounds, keeps the bound for each of its blocks.
 pub fn bound_is_kept()
     ensures { BoundIsKept }
 {}
@@ -54,4 +54,14 @@ pub fn mastered_stream_is_recovered()
 /// What `info` writes and takes of an input is told by the first control block that answers.
 pub fn info_finds_the_first_answer()
     ensures { InfoFindsTheFirstAnswer }
+{}
+
+/// A run of `cdread` gives back the user data of each CD-ROM sector whose damage is borne.
+pub fn borne_sectors_are_kept()
+    ensures { BorneSectorsAreKept }
+{}
+
+/// Frames that were captured of mastered ones are put in order as they were mastered, and are nowhere in conflict.
+pub fn captured_frames_are_assembled()
+    ensures { CapturedFramesAreAssembled }
 {}

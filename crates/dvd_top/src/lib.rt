@@ -1,6 +1,7 @@
 //! The top of dvdecc: the commands, their loops, and the call that does all that the program does.
 #![tactic(auto)]
 
+mod cd_line; // the line of a damaged CD-ROM sector
 mod commands; // the commands, a module each
 mod format; // the lines of a physical format
 pub mod laws; // what holds of every run
@@ -8,7 +9,10 @@ mod lines; // the closing lines of the report
 mod status; // how a run ends
 mod top; // the top call
 
-pub use commands::{exercise_loop, frames_loop, info_loop, master_loop, recover_loop, survey_loop};
+pub use commands::{
+    assemble_loop, cdmake_loop, cdread_loop, deep_loop, exercise_loop, frames_loop, info_loop,
+    master_loop, merge_loop, recover_loop, survey_loop,
+};
 pub use dvd_loop::LoopEnd;
 pub use dvd_words::{Command, Settings};
 pub use status::Status;

@@ -31,7 +31,9 @@ pub fn close_line(command: Command, end: LoopEnd) -> Line
         LoopEnd::Damaged { blocks } => {
             line.put(b"damaged: ");
             line.put_number(u64::from(blocks));
-            line.put(b" blocks\n");
+            line.put(b" ");
+            line.put(name_of_unit(command));
+            line.put(b"s\n");
         }
         LoopEnd::NoControl => line.put(b"no control block\n"),
         LoopEnd::BadMarks { block, at } => {
@@ -94,7 +96,14 @@ fn name_of_unit(command: Command) -> &'static [u8]
 {
     match command {
         Command::Frames => b"sector",
-        Command::Master | Command::Recover | Command::Info | Command::Survey | Command::Exercise =>
-            b"block",
+        Command::Master
+        | Command::Recover
+        | Command::Info
+        | Command::Survey
+        | Command::Exercise
+        | Command::Merge
+        | Command::Deep => b"block",
+        Command::CdMake | Command::CdRead => b"sector",
+        Command::Assemble => b"frame",
     }
 }

@@ -2,10 +2,13 @@
 ghost use Rattle.std.specs.Prelude.{◌≡◌, map, string_bytes, IsErr};
 ghost use Rattle.dvd_loop.specs.Streams.{streams};
 ghost use Rattle.dvd_top.specs.Headline.{Headline, HasNotBegun};
-ghost use Rattle.dvd_top.specs.Performing.{IsPerformed};
+ghost use Rattle.dvd_top.specs.Inner.Performing.{IsPerformed};
 ghost use Rattle.dvd_words.specs.Reading.{IsLawful};
 
-use crate::commands::{run_exercise, run_frames, run_info, run_master, run_recover, run_survey};
+use crate::commands::{
+    cdread_loop, run_assemble, run_cdmake, run_deep, run_exercise, run_frames, run_info,
+    run_master, run_merge, run_recover, run_survey,
+};
 use crate::lines::{close_line, refused_line};
 use crate::status::{Refusal, Status};
 use dvd_loop::{LoopEnd, close};
@@ -65,6 +68,11 @@ fn perform<S: Source, K: Sink, E: Sink>(
         Command::Info => run_info(alloc, settings, src, out, report),
         Command::Survey => run_survey(alloc, settings, src, out, report),
         Command::Exercise => run_exercise(alloc, settings, src, out, report),
+        Command::CdMake => Ok(run_cdmake(settings, src, out, report)),
+        Command::CdRead => Ok(cdread_loop(settings, src, out, report)),
+        Command::Merge => run_merge(alloc, settings, src, out, report),
+        Command::Deep => run_deep(alloc, settings, src, out, report),
+        Command::Assemble => run_assemble(alloc, settings, src, out, report),
     }
 }
 

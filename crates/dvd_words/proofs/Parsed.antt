@@ -6,7 +6,7 @@ use Rattle.clap.specs.declared.error.kind.ErrorKind.{ErrorKind}
 use Rattle.dvd_words.specs.Apps.{app_for}
 use Rattle.dvd_words.specs.Reading.{rows_for}
 use Rattle.dvd_words.specs.declared.settings.Command.{Command}
-use Rattle.dvd_words.specs.declared.settings.Command.TheVariants.{Frames, Master, Recover, Info, Survey, Exercise}
+use Rattle.dvd_words.specs.declared.settings.Command.TheVariants.{Frames, Master, Recover, Info, Survey, Exercise, CdMake, CdRead, Merge, Deep, Assemble}
 
 -- clap tells of each command exactly what it makes of words
 pub free : (command : Command) → is_simple_and_free (app_for command) ≡ true
@@ -16,6 +16,11 @@ free Recover = refl
 free Info = refl
 free Survey = refl
 free Exercise = refl
+free CdMake = refl
+free CdRead = refl
+free Merge = refl
+free Deep = refl
+free Assemble = refl
 
 pub simple : (command : Command) → is_simple (app_for command) ≡ true
 simple Frames = refl
@@ -24,6 +29,11 @@ simple Recover = refl
 simple Info = refl
 simple Survey = refl
 simple Exercise = refl
+simple CdMake = refl
+simple CdRead = refl
+simple Merge = refl
+simple Deep = refl
+simple Assemble = refl
 
 -- words with no fault have these rows
 pub rows_taken : (command : Command) (words : List Text) (rows : List Row) → fault_of (app_for command) words ≡ [] → rows ≡ matches_of (app_for command) words

@@ -3,13 +3,14 @@ use Rattle.std.specs.Prelude.{◌≡◌, ◌≤◌, ℕ, ◌+◌, ◌^◌, ◌&&
 use Rattle.std.specs.Str.{bytes_eq}
 use Rattle.clap.specs.Words.{Row, Text, fault_of, first_of, matches_of}
 use Rattle.clap.specs.Walk.{is_empty}
+use Rattle.dvd_capture.specs.Captured.{HasSize}
 use Rattle.dvd_capture.specs.declared.form.Form.TheVariants.{Plain}
 use Rattle.dvd_layout.specs.declared.layout.Shape.TheVariants.{Single}
 use Rattle.dvd_layout.specs.declared.layout.Zones.TheVariants.{DataOnly}
 use Rattle.dvd_words.specs.Apps.{app_for}
-use Rattle.dvd_words.specs.Words.{blocks_of, bytes_of, form_of, number_of, sector_number_of, shape_of, workers_of, zones_of}
+use Rattle.dvd_words.specs.Words.{blocks_of, bytes_of, captures_of, form_of, frames_of, number_of, sector_number_of, shape_of, workers_of, zones_of}
 use Rattle.dvd_words.specs.declared.settings.Command.{Command}
-use Rattle.dvd_words.specs.declared.settings.Command.TheVariants.{Frames, Master, Recover, Info, Survey, Exercise}
+use Rattle.dvd_words.specs.declared.settings.Command.TheVariants.{Frames, Master, Recover, Info, Survey, Exercise, CdMake, CdRead, Merge, Deep, Assemble}
 use Rattle.dvd_words.specs.declared.settings.Settings.{Settings}
 
 infixl 10 ◌>>=◌
@@ -22,7 +23,13 @@ command_of word =
     else (if bytes_eq word (codes "master") then Some Master
     else (if bytes_eq word (codes "recover") then Some Recover
     else (if bytes_eq word (codes "info") then Some Info
-    else (if bytes_eq word (codes "survey") then Some Survey else (if bytes_eq word (codes "exercise") then Some Exercise else None)))))
+    else (if bytes_eq word (codes "survey") then Some Survey
+    else (if bytes_eq word (codes "exercise") then Some Exercise
+    else (if bytes_eq word (codes "cdmake") then Some CdMake
+    else (if bytes_eq word (codes "cdread") then Some CdRead
+    else (if bytes_eq word (codes "merge") then Some Merge
+    else (if bytes_eq word (codes "deep") then Some Deep
+    else (if bytes_eq word (codes "assemble") then Some Assemble else None))))))))))
 
 -- the options and their values, where clap finds no fault in the words
 abbrev pub rows_for : Command → List Text → Option (List Row)
@@ -33,14 +40,25 @@ abbrev pub value_or : {X : Type 0} → X → (Text → Option X) → Option Text
 value_or default value_of None = Some default
 value_or default value_of (Some text) = value_of text
 
--- `frames` has at least one sector, and none beyond FFFFFF; `exercise` has at least one block
-abbrev pub is_within : Command → ℕ → ℕ → ℕ → Bool
-is_within Frames first sectors blocks = nat_le 1 sectors && nat_le (first + sectors) (2 ^ 24)
-is_within Master first sectors blocks = true
-is_within Recover first sectors blocks = true
-is_within Info first sectors blocks = true
-is_within Survey first sectors blocks = true
-is_within Exercise first sectors blocks = nat_le 1 blocks
+-- `frames` has at least one sector, and none beyond FFFFFF; `exercise` has at least one block; `cdmake` and `cdread` have at
+-- least one sector, and none beyond the last address
+abbrev pub is_within : Command → ℕ → ℕ → ℕ → ℕ → Bool
+is_within Frames first sectors blocks address = nat_le 1 sectors && nat_le (first + sectors) (2 ^ 24)
+is_within Master first sectors blocks address = true
+is_within Recover first sectors blocks address = true
+is_within Info first sectors blocks address = true
+is_within Survey first sectors blocks address = true
+is_within Exercise first sectors blocks address = nat_le 1 blocks
+is_within CdMake first sectors blocks address = nat_le 1 sectors && nat_le (address + sectors) 450000
+is_within CdRead first sectors blocks address = nat_le 1 sectors && nat_le (address + sectors) 450000
+is_within Merge first sectors blocks address = true
+is_within Deep first sectors blocks address = true
+is_within Assemble first sectors blocks address = true
+
+-- `assemble` keeps a whole disk, so it has at most 16,384 sectors on both layers
+abbrev pub has_room : Command → ℕ → Bool
+has_room Assemble sectors = nat_le sectors 16384
+has_room other sectors = true
 
 -- each option by its form, and the sectors and blocks in range
 unfoldable pub settings_of : Command → List Row → Option Settings
@@ -57,7 +75,10 @@ settings_of command rows = do
   workers ← value_or 1 workers_of (first_of (codes "workers") rows)
   seed ← value_or 0 number_of (first_of (codes "seed") rows)
   blocks ← value_or 0 blocks_of (first_of (codes "blocks") rows)
-  if is_within command first sectors blocks then Some (record {
+  address ← value_or 0 number_of (first_of (codes "address") rows)
+  captures ← value_or 0 captures_of (first_of (codes "captures") rows)
+  frames ← value_or 0 frames_of (first_of (codes "frames") rows)
+  if is_within command first sectors blocks address && has_room command (sectors + sectors1) then Some (record {
     command = command;
     first = first;
     sectors = sectors;
@@ -71,6 +92,9 @@ settings_of command rows = do
     workers = workers;
     seed = seed;
     blocks = blocks;
+    address = address;
+    captures = captures;
+    frames = frames;
   }) else None
 
 -- the first word names the command, and clap reads those behind it
@@ -90,5 +114,12 @@ pub record IsLawful (settings : Settings) : Type 0 where
   pub few_workers : settings.workers ≤ 16
   pub some_block : settings.command ≡ Exercise → 1 ≤ settings.blocks
   pub few_blocks : settings.blocks ≤ 4096
+  pub few_captures : settings.captures ≤ 16
   pub some_sector : settings.command ≡ Frames → 1 ≤ settings.sectors
   pub last_sector : settings.command ≡ Frames → settings.first + settings.sectors ≤ 2 ^ 24
+  pub some_made : settings.command ≡ CdMake → 1 ≤ settings.sectors
+  pub last_made : settings.command ≡ CdMake → settings.address + settings.sectors ≤ 450000
+  pub some_read : settings.command ≡ CdRead → 1 ≤ settings.sectors
+  pub last_read : settings.command ≡ CdRead → settings.address + settings.sectors ≤ 450000
+  pub sized : HasSize settings.form
+  pub few_sectors : settings.command ≡ Assemble → settings.sectors + settings.sectors1 ≤ 16384

@@ -30,6 +30,14 @@ workers_of text = option_and_then (λ n. if nat_le 1 n && nat_le n 16 then Some 
 abbrev pub blocks_of : List ℕ → Option ℕ
 blocks_of text = option_and_then (λ n. if nat_le 1 n && nat_le n 4096 then Some n else None) (number_of text)
 
+-- a number from 2 to 16
+abbrev pub captures_of : List ℕ → Option ℕ
+captures_of text = option_and_then (λ n. if nat_le 2 n && nat_le n 16 then Some n else None) (number_of text)
+
+-- a number from 1 on
+abbrev pub frames_of : List ℕ → Option ℕ
+frames_of text = option_and_then (λ n. if nat_le 1 n then Some n else None) (number_of text)
+
 -- so many bytes, of two hexadecimal digits each, of either case
 abbrev pub bytes_of : ℕ → List ℕ → Option (List ℕ)
 bytes_of n text = result_ok (decode_sized text n)

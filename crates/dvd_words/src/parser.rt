@@ -2,7 +2,7 @@
 
 ghost use Rattle.std.specs.Prelude.{◌≡◌, [], ◌∷◌, codes, None, Some, IfOk, map, string_bytes};
 ghost use Rattle.clap.specs.Words.{app_of, found_of, rows_of, with_rule};
-ghost use Rattle.dvd_words.specs.Apps.{app_for, app_named, layout_options, option_rule};
+ghost use Rattle.dvd_words.specs.Apps.{app_for, app_named, cd_options, disk_options, layout_options, option_rule};
 ghost use Rattle.dvd_words.specs.Reading.{rows_for};
 
 use crate::fault::WordsFault;
@@ -48,6 +48,20 @@ fn parser_for<'a>(alloc: Global, command: Command) -> Result<clap::Command<'a>, 
             let parser = with_option(alloc, bare_parser(alloc, "info"), "initial", false)?;
             with_option(alloc, parser, "form", false)
         }
+        Command::CdMake => cd_parser(alloc, "cdmake"),
+        Command::CdRead => cd_parser(alloc, "cdread"),
+        Command::Merge => {
+            let parser = with_option(alloc, disk_parser(alloc, "merge")?, "form", false)?;
+            with_option(alloc, parser, "captures", true)
+        }
+        Command::Deep => with_option(alloc, disk_parser(alloc, "deep")?, "form", false),
+        Command::Assemble => {
+            let parser = with_option(alloc, bare_parser(alloc, "assemble"), "sectors", true)?;
+            let parser = with_option(alloc, parser, "frames", true)?;
+            let parser = with_option(alloc, parser, "sectors1", false)?;
+            let parser = with_option(alloc, parser, "shape", false)?;
+            with_option(alloc, parser, "form", false)
+        }
     }
 }
 
@@ -55,13 +69,27 @@ fn parser_for<'a>(alloc: Global, command: Command) -> Result<clap::Command<'a>, 
 fn layout_parser<'a>(alloc: Global, name: &'a str) -> Result<clap::Command<'a>, AllocError>
     ensures { IfOk result (λ parser. app_of parser ≡ app_named name.now (codes "sectors" ∷ []) layout_options) }
 {
+    with_option(alloc, disk_parser(alloc, name)?, "workers", false)
+}
+
+// A command with the options that tell of a layout.
+fn disk_parser<'a>(alloc: Global, name: &'a str) -> Result<clap::Command<'a>, AllocError>
+    ensures { IfOk result (λ parser. app_of parser ≡ app_named name.now (codes "sectors" ∷ []) disk_options) }
+{
     let parser = with_option(alloc, bare_parser(alloc, name), "sectors", true)?;
     let parser = with_option(alloc, parser, "sectors1", false)?;
     let parser = with_option(alloc, parser, "shape", false)?;
     let parser = with_option(alloc, parser, "zones", false)?;
     let parser = with_option(alloc, parser, "initial", false)?;
-    let parser = with_option(alloc, parser, "tail", false)?;
-    with_option(alloc, parser, "workers", false)
+    with_option(alloc, parser, "tail", false)
+}
+
+// A command with the options that tell which CD-ROM sectors there are.
+fn cd_parser<'a>(alloc: Global, name: &'a str) -> Result<clap::Command<'a>, AllocError>
+    ensures { IfOk result (λ parser. app_of parser ≡ app_named name.now cd_options []) }
+{
+    let parser = with_option(alloc, bare_parser(alloc, name), "address", true)?;
+    with_option(alloc, parser, "sectors", true)
 }
 
 // A command with no options, no flag for help either.

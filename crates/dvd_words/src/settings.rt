@@ -18,6 +18,16 @@ pub enum Command {
     Survey,
     /// Blocks that are drawn from a number, damaged up to the bound, and read back.
     Exercise,
+    /// A CD-ROM sector of Mode 1 for each sector.
+    CdMake,
+    /// The user data of CD-ROM sectors of Mode 1.
+    CdRead,
+    /// One stream of captured blocks, joined of several captures of one disk.
+    Merge,
+    /// The image sectors that are read by rounds, where two passes refuse a block.
+    Deep,
+    /// Scattered recording frames put in order.
+    Assemble,
 }
 
 /// A command with its options. A field without an option in its command has its default, or 0.
@@ -49,6 +59,12 @@ pub struct Settings {
     pub seed: u32,
     /// How many blocks are drawn, at most 4,096.
     pub blocks: u32,
+    /// The address of the first CD-ROM sector, below 450,000.
+    pub address: u32,
+    /// How many captures of a disk are joined, from 2 to 16.
+    pub captures: u32,
+    /// How many recording frames are put in order.
+    pub frames: u32,
 }
 
 impl Settings {

@@ -13,7 +13,7 @@ fn words(alloc: Global, text: &str) -> Result<Vec<String>, AllocError> {
     Ok(words)
 }
 
-static USAGE: [&str; 44] = [
+static USAGE: [&str; 67] = [
     "",
     "Frames",
     "frame --first 030000 --sectors 1",
@@ -58,6 +58,29 @@ static USAGE: [&str; 44] = [
     "exercise --seed 1",
     "exercise --seed 1 --blocks 0",
     "exercise --seed 1 --blocks 4097",
+    "cdmake",
+    "cdmake --sectors 1",
+    "cdmake --address 150",
+    "cdmake --address 449999 --sectors 2",
+    "cdmake --address 4294967295 --sectors 4294967295",
+    "cdmake --address 150 --sectors 0",
+    "cdread --address 450000 --sectors 0",
+    "cdread --address 150 --sectors 1 --first 030000",
+    "cdread --address 000150f --sectors 1",
+    "merge --sectors 16",
+    "merge --captures 2",
+    "merge --sectors 16 --captures 1",
+    "merge --sectors 16 --captures 17",
+    "merge --sectors 16 --captures 2 --workers 1",
+    "merge --sectors 16 --captures 2 --form listed",
+    "deep",
+    "deep --sectors 16 --workers 1",
+    "assemble --sectors 16",
+    "assemble --frames 1",
+    "assemble --sectors 16 --frames 0",
+    "assemble --sectors 16385 --frames 1",
+    "assemble --sectors 16368 --sectors1 17 --shape opposite --frames 1",
+    "assemble --sectors 16 --frames 1 --zones all",
 ];
 
 #[test]
@@ -85,6 +108,9 @@ static RECOVER: Settings = Settings {
     workers: 1,
     seed: 0,
     blocks: 0,
+    address: 0,
+    captures: 0,
+    frames: 0,
 };
 
 static FRAMES: Settings = Settings {
@@ -112,7 +138,7 @@ static INFO: Settings = Settings {
     ..RECOVER
 };
 
-static READ: [(&str, Settings); 14] = [
+static READ: [(&str, Settings); 21] = [
     ("recover --sectors 16", RECOVER),
     ("recover --sectors=16", RECOVER),
     ("recover --sectors 0016", RECOVER),
@@ -157,11 +183,77 @@ static READ: [(&str, Settings); 14] = [
         },
     ),
     (
+        "assemble --sectors 16384 --frames 4294967295",
+        Settings {
+            command: Command::Assemble,
+            sectors: 16_384,
+            frames: 4_294_967_295,
+            ..RECOVER
+        },
+    ),
+    (
+        "assemble --frames 1 --form marked --shape opposite --sectors1 17 --sectors 16367",
+        Settings {
+            command: Command::Assemble,
+            sectors: 16_367,
+            sectors1: 17,
+            shape: Shape::Opposite,
+            form: Form::Marked,
+            frames: 1,
+            ..RECOVER
+        },
+    ),
+    (
+        "merge --sectors 16 --captures 2",
+        Settings {
+            command: Command::Merge,
+            captures: 2,
+            ..RECOVER
+        },
+    ),
+    (
+        "merge --captures 16 --form marked --tail 17 --initial 18 --zones all --shape opposite --sectors1 17 --sectors 16",
+        Settings {
+            command: Command::Merge,
+            captures: 16,
+            form: Form::Marked,
+            tail: 17,
+            cpr: [0; 6],
+            workers: 1,
+            ..MASTER
+        },
+    ),
+    (
         "info --initial 4294967295 --form marked",
         Settings {
             initial: 4_294_967_295,
             form: Form::Marked,
             ..INFO
+        },
+    ),
+    (
+        "cdmake --address 449999 --sectors 1",
+        Settings {
+            command: Command::CdMake,
+            sectors: 1,
+            address: 449_999,
+            ..RECOVER
+        },
+    ),
+    (
+        "cdread --sectors 450000 --address 0",
+        Settings {
+            command: Command::CdRead,
+            sectors: 450_000,
+            ..RECOVER
+        },
+    ),
+    (
+        "deep --sectors 16 --form marked",
+        Settings {
+            command: Command::Deep,
+            form: Form::Marked,
+            ..RECOVER
         },
     ),
 ];

@@ -3,8 +3,9 @@
 ghost use Rattle.std.specs.Prelude.{◌≡◌, ◌≤◌, ℕ, option_map, replicate, IfSome};
 ghost use Rattle.std.specs.Char.{is_digit};
 ghost use Rattle.std.specs.List.{list_all};
+ghost use Rattle.dvd_capture.specs.Captured.{HasSize};
 ghost use Rattle.dvd_words.specs.Reading.{value_or};
-ghost use Rattle.dvd_words.specs.Words.{blocks_of, bytes_of, form_of, number_of, sector_number_of, shape_of, workers_of, zones_of};
+ghost use Rattle.dvd_words.specs.Words.{blocks_of, bytes_of, captures_of, form_of, frames_of, number_of, sector_number_of, shape_of, workers_of, zones_of};
 
 use dvd_capture::Form;
 use dvd_layout::{Shape, Zones};
@@ -63,6 +64,33 @@ pub fn read_blocks(text: Option<&str>) -> Option<u32>
     }
 }
 
+/// How many captures are joined: from 2 to 16.
+pub fn read_captures(text: Option<&str>) -> Option<u32>
+    ensures value { result ≡ value_or 0 captures_of (option_map (λ s. s.now) text.entry) }
+    ensures bound { IfSome result (λ n. n ≤ 16) }
+{
+    match text {
+        Some(text) => match number(text)? {
+            captures @ 2..=16 => Some(captures),
+            _ => None,
+        },
+        None => Some(0),
+    }
+}
+
+/// How many recording frames are put in order: at least one.
+pub fn read_frames(text: Option<&str>) -> Option<u32>
+    ensures { result ≡ value_or 0 frames_of (option_map (λ s. s.now) text.entry) }
+{
+    match text {
+        Some(text) => match number(text)? {
+            0 => None,
+            frames => Some(frames),
+        },
+        None => Some(0),
+    }
+}
+
 /// A sector number of six hexadecimal digits.
 pub fn read_sector_number(text: Option<&str>) -> Option<u32>
     ensures { result ≡ value_or 0 sector_number_of (option_map (λ s. s.now) text.entry) }
@@ -111,7 +139,8 @@ pub fn read_zones(text: Option<&str>) -> Option<Zones>
 
 /// How captured blocks are stored.
 pub fn read_form(text: Option<&str>) -> Option<Form>
-    ensures { result ≡ value_or Form.Plain form_of (option_map (λ s. s.now) text.entry) }
+    ensures value { result ≡ value_or Form.Plain form_of (option_map (λ s. s.now) text.entry) }
+    ensures sized { IfSome result HasSize }
 {
     match text {
         None | Some("plain") => Some(Form::Plain),

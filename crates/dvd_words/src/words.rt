@@ -1,15 +1,15 @@
 //! Reads the words of the command line.
 
-ghost use Rattle.std.specs.Prelude.{◌≡◌, None, IfOk, IfSome, map, option_map, string_bytes};
+ghost use Rattle.std.specs.Prelude.{◌≡◌, ◌+◌, None, IfOk, IfSome, map, option_map, string_bytes};
 ghost use Rattle.clap.specs.Words.{first_of, found_of, rows_of};
-ghost use Rattle.dvd_words.specs.Reading.{IsLawful, Reads, command_of, is_within, reading, settings_of};
+ghost use Rattle.dvd_words.specs.Reading.{IsLawful, Reads, command_of, has_room, is_within, reading, settings_of};
 
 use crate::fault::WordsFault;
 use crate::parser::parse;
 use crate::settings::{Command, Settings};
 use crate::values::{
-    read_blocks, read_cpr, read_form, read_number, read_sector_number, read_shape, read_workers,
-    read_zones,
+    read_blocks, read_captures, read_cpr, read_form, read_frames, read_number, read_sector_number,
+    read_shape, read_workers, read_zones,
 };
 use clap::ArgMatches;
 use std::alloc::Global;
@@ -41,6 +41,11 @@ fn command_named(word: &str) -> Option<Command>
         "info" => Some(Command::Info),
         "survey" => Some(Command::Survey),
         "exercise" => Some(Command::Exercise),
+        "cdmake" => Some(Command::CdMake),
+        "cdread" => Some(Command::CdRead),
+        "merge" => Some(Command::Merge),
+        "deep" => Some(Command::Deep),
+        "assemble" => Some(Command::Assemble),
         _ => None,
     }
 }
@@ -65,17 +70,21 @@ fn settings(command: Command, matches: &ArgMatches<'_>) -> Option<Settings>
         workers: read_workers(given(matches, "workers"))?,
         seed: read_number(given(matches, "seed"), 0)?,
         blocks: read_blocks(given(matches, "blocks"))?,
+        address: read_number(given(matches, "address"), 0)?,
+        captures: read_captures(given(matches, "captures"))?,
+        frames: read_frames(given(matches, "frames"))?,
     };
-    if has_units(command, &settings) {
+    if has_units(command, &settings) && has_room(command, &settings) {
         Some(settings)
     } else {
         None
     }
 }
 
-// `frames` has at least one sector, and none beyond FFFFFF; `exercise` has at least one block.
+// `frames` has at least one sector, and none beyond FFFFFF; `exercise` has at least one block; `cdmake` and `cdread` have at
+// least one sector, and none beyond address 449,999.
 fn has_units(command: Command, settings: &Settings) -> bool
-    ensures { result ≡ is_within command settings.now.first settings.now.sectors settings.now.blocks }
+    ensures { result ≡ is_within command settings.now.first settings.now.sectors settings.now.blocks settings.now.address }
 {
     match command {
         Command::Frames => {
@@ -84,6 +93,23 @@ fn has_units(command: Command, settings: &Settings) -> bool
         }
         Command::Master | Command::Recover | Command::Info | Command::Survey => true,
         Command::Exercise => settings.blocks >= 1,
+        Command::CdMake | Command::CdRead => {
+            settings.sectors >= 1
+                && u64::from(settings.address) + u64::from(settings.sectors) <= 450_000
+        }
+        Command::Merge => true,
+        Command::Deep => true,
+        Command::Assemble => true,
+    }
+}
+
+// `assemble` keeps a whole disk, so it has at most 16,384 sectors on both layers.
+fn has_room(command: Command, settings: &Settings) -> bool
+    ensures { result ≡ has_room command (settings.now.sectors + settings.now.sectors1) }
+{
+    match command {
+        Command::Assemble => u64::from(settings.sectors) + u64::from(settings.sectors1) <= 16_384,
+        _ => true,
     }
 }
 

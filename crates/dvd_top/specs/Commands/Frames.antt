@@ -1,5 +1,5 @@
 -- The command `frames`: a scrambled data frame for each sector.
-use Rattle.std.specs.Prelude.{◌≡◌, ℕ, ◌+◌, false, List, [], ◌∷◌, codes, replicate, None}
+use Rattle.std.specs.Prelude.{◌≡◌, ◌≤◌, ℕ, ◌+◌, ◌^◌, false, List, [], ◌∷◌, codes, replicate, None}
 use Rattle.dvd_frame.specs.Id.{id_word}
 use Rattle.dvd_frame.specs.Frame.{data_frame}
 use Rattle.dvd_frame.specs.declared.id.Area.TheVariants.{DataZone}
@@ -8,6 +8,7 @@ use Rattle.dvd_loop.specs.Machine.{Units, plain_units}
 use Rattle.dvd_loop.specs.Machine.Step.{Write}
 use Rattle.dvd_loop.specs.declared.ends.Turn.TheVariants.{Good}
 use Rattle.dvd_top.specs.Meaning.{Meaning}
+use Rattle.dvd_words.specs.declared.settings.Settings.{Settings}
 
 -- the frame of a sector in the Data Zone of a disk with one layer, with six bytes 00 for CPR_MAI
 abbrev pub sector_frame : ℕ → List ℕ → List ℕ
@@ -23,3 +24,7 @@ frames_meaning = record {
   breaks = λ settings. None;
   OfUnits = λ settings P. P (frames_units settings.first settings.sectors);
 }
+
+-- what holds of `frames` by its words: there is a sector, and the numbers have 24 bits
+abbrev pub HasSectors : Settings → Type 0
+HasSectors settings = (1 ≤ settings.sectors) × (settings.first + settings.sectors ≤ 2 ^ 24)

@@ -1,15 +1,23 @@
 //! Captured blocks, as the commands that read a stream of them take them.
-ghost use Rattle.std.specs.Prelude.{◌≡◌, IfErr, OnOk};
-ghost use Rattle.dvd_capture.specs.Captured.{block_size, Captures};
-ghost use Rattle.dvd_capture.specs.Rule.{HasBlock};
-ghost use Rattle.dvd_capture.specs.Works.{rows_of, marks_of_work, stage_of};
+ghost use Rattle.std.specs.Prelude.{◌≡◌, ◌≤◌, IfErr, OnErr, OnOk};
+ghost use Rattle.std.specs.Io.KnownBytes.{Appends};
+ghost use Rattle.dvd_capture.specs.Captured.{block_size, Captures, HasSize};
+ghost use Rattle.dvd_capture.specs.Rule.{HasAnswers, HasBlock};
+ghost use Rattle.dvd_capture.specs.Works.{rows_of, marks_of_work, sectors_of, stage_of};
 ghost use Rattle.dvd_loop.specs.Streams.{streams};
-ghost use Rattle.dvd_loop.specs.Turns.{EndsShort, HaveCausesFor};
+ghost use Rattle.dvd_layout.specs.Place.{HasNumbers};
+ghost use Rattle.dvd_loop.specs.Turns.{AreDone, EndsShort, HaveCausesFor};
+ghost use Rattle.dvd_ports.specs.Causes.{HasCause};
 ghost use Rattle.dvd_ports.specs.Seen.{Seen};
+ghost use Rattle.dvd_ports.specs.Whole.{AppendsPrefix};
+ghost use Rattle.dvd_top.specs.Inner.Performing.{IsRefusedFor, sectors_out};
 
 use dvd_capture::{FetchAnswer, Form, Work, fetch};
-use dvd_loop::LoopEnd;
-use dvd_ports::Source;
+use dvd_layout::{BlockPlan, Layout};
+use dvd_loop::{LoopEnd, Turn};
+use dvd_ports::{Sink, Source, WriteFault, write_whole};
+use dvd_read::{Cause, salvage};
+use dvd_report::write_cause;
 
 /// Reads captured block `k`, or answers how the loop ends within it.
 pub(crate) fn fetch_block<S: Source>(
@@ -18,6 +26,7 @@ pub(crate) fn fetch_block<S: Source>(
     form: Form,
     work: &mut Work,
 ) -> Result<(), LoopEnd>
+    requires { HasSize form }
     ensures full { OnOk result (Captures form (S.seen src.old).bytes (S.seen src.new).bytes (rows_of work.new) (marks_of_work work.new)) }
     ensures stage { OnOk result (HasBlock (stage_of work.new)) }
     ensures short { IfErr result (EndsShort k (block_size form) (S.seen src.old) (S.seen src.new)) }
@@ -29,5 +38,49 @@ pub(crate) fn fetch_block<S: Source>(
         FetchAnswer::End => Err(LoopEnd::Short { unit: k, bytes: 0 }),
         FetchAnswer::Short { bytes } => Err(LoopEnd::Short { unit: k, bytes }),
         FetchAnswer::ReadFault => Err(LoopEnd::ReadFault),
+        FetchAnswer::BadMarks { at } => Err(LoopEnd::BadMarks { block: k, at }),
     }
+}
+
+/// Tells the line of a block that is refused for this cause, and writes the image sectors of it that are saved, and zeros for
+/// the others.
+pub(crate) fn refuse_block<K: Sink, E: Sink>(
+    layout: &Layout,
+    k: u32,
+    entry: &BlockPlan,
+    cause: &Cause,
+    work: &mut Work,
+    out: &mut K,
+    report: &mut E,
+) -> Result<Turn, LoopEnd>
+    requires numbers { HasNumbers entry.now }
+    requires stage { HasAnswers (stage_of work.old) }
+    ensures done { (source : Seen) → AreDone (IsRefusedFor layout.now k entry.now (rows_of work.old) (marks_of_work work.old) cause.now)
+        (streams source (K.seen out.old) (E.seen report.old)) (streams source (K.seen out.new) (E.seen report.new)) result }
+    ensures causes { (source : Seen) → HaveCausesFor result
+        (streams source (K.seen out.old) (E.seen report.old)) (streams source (K.seen out.new) (E.seen report.new)) }
+{
+    let saved = salvage(work, entry);
+    if let Err(WriteFault) = write_cause(u64::from(k), entry, cause, saved, report) {
+        return Err(LoopEnd::ReportFault);
+    }
+    write_sectors(work, layout.image_sectors(entry.content), out)?;
+    Ok(Turn::Bad)
+}
+
+/// Writes the first sectors, each as one piece.
+pub(crate) fn write_sectors<K: Sink>(
+    work: &Work,
+    count: usize,
+    out: &mut K,
+) -> Result<(), WriteFault>
+    requires { count ≤ 16 }
+    ensures written { OnOk result (Appends (K.seen out.old).bytes (K.seen out.new).bytes (sectors_out count (sectors_of work.now))) }
+    ensures begun { OnErr result (AppendsPrefix (K.seen out.old).bytes (K.seen out.new).bytes (sectors_out count (sectors_of work.now))) }
+    ensures cause { HasCause (K.seen out.old).faults (K.seen out.new).faults result }
+{
+    for f in 0..count {
+        write_whole(out, work.sector(f))?;
+    }
+    Ok(())
 }

@@ -15,8 +15,8 @@ ghost use Rattle.dvd_loop.specs.Streams.{streams, Comes, HaveCauses, no_stream};
 ghost use Rattle.dvd_read.specs.Reading.{block_cause, IsReadAs};
 ghost use Rattle.dvd_top.specs.Commands.Exercise.{IsLeft, drawn_sector, drawn_sectors, exercise_line, exercise_units, no_marks, state_at};
 ghost use Rattle.dvd_top.specs.Commands.Master.{frames_of};
-ghost use Rattle.dvd_top.specs.Exercising.{CountsOne, IsBehind, IsDiskOf, are_sectors};
-ghost use Rattle.dvd_top.specs.Performing.{IsPerformed};
+ghost use Rattle.dvd_top.specs.Inner.Exercising.{CountsOne, IsBehind, IsDiskOf, are_sectors};
+ghost use Rattle.dvd_top.specs.Inner.Performing.{IsPerformed};
 
 use crate::commands::master::fill_block;
 use crate::status::Refusal;
@@ -279,7 +279,7 @@ fn read_back(entry: &BlockPlan, image: &[u8], work: &mut Work, counts: &mut Coun
 }
 
 // Whether the sectors that were read are those of an image.
-#[tactic(auto, unfolding(crate::specs::Exercising::are_sectors))]
+#[tactic(auto, unfolding(crate::specs::Inner::Exercising::are_sectors))]
 fn has_sectors(work: &Work, image: &[u8]) -> bool
     requires { length image.now ≡ 32768 }
     ensures { result ≡ are_sectors (sectors_of work.now) image.now }

@@ -1,13 +1,13 @@
 //! The command `frames`: a scrambled data frame for each sector.
-ghost use Rattle.std.specs.Prelude.{◌≡◌, ◌+◌, ◌<◌, ◌≤◌, ◌^◌, ℕ};
+ghost use Rattle.std.specs.Prelude.{◌≡◌, ◌+◌, ◌<◌, ◌≤◌, ◌^◌, ℕ, refl};
 ghost use Rattle.dvd_loop.specs.Laws.{IsPlainEnd};
 ghost use Rattle.dvd_loop.specs.Machine.{IsOutcome};
 ghost use Rattle.dvd_loop.specs.Streams.{streams, Comes, HaveCauses, no_stream};
 ghost use Rattle.dvd_top.specs.Commands.Frames.{frames_units, sector_frame};
-ghost use Rattle.dvd_top.specs.Performing.{HasSectors};
+ghost use Rattle.dvd_top.specs.Commands.Frames.{HasSectors};
 
 use dvd_frame::{Area, Id, Rule, make_frame};
-use dvd_loop::{Behind, LoopEnd, Turn, Turns, follow, read_unit};
+use dvd_loop::{LoneTurns, LoopEnd, Turn, follow_lone, read_unit};
 use dvd_ports::{NullSink, Sink, Source, write_whole};
 use dvd_words::Settings;
 
@@ -19,27 +19,17 @@ struct Frames {
     ghost within: { first + sectors ≤ 2 ^ 24 },
 }
 
-impl Turns for Frames {
+impl LoneTurns for Frames {
     ghost Key = { ℕ × ℕ };
 
     ghost key = { λ f. (f.first, f.sectors) };
 
     ghost units = { λ key. frames_units key.0 key.1 };
 
-    ghost ready = { λ _ _. Unit {0} };
-
-    ghost left = { λ _ _. Unit {0} };
+    ghost alone = { λ _. record { opens = refl; closes = λ _. refl; behind = refl } };
 
     fn count(&self) -> u32 {
         self.sectors
-    }
-
-    fn behind(&self) -> Behind {
-        Behind::Asks
-    }
-
-    fn open<K: Sink, E: Sink>(&self, _out: &mut K, _report: &mut E) -> Result<(), LoopEnd> {
-        Ok(())
     }
 
     fn turn<S: Source, K: Sink, E: Sink>(
@@ -55,10 +45,6 @@ impl Turns for Frames {
         write_frame(self.first + k, &sector, &mut frame);
         write_whole(out, &frame)?;
         Ok(Turn::Good)
-    }
-
-    fn close<K: Sink, E: Sink>(&self, _out: &mut K, _report: &mut E) -> Result<(), LoopEnd> {
-        Ok(())
     }
 }
 
@@ -89,11 +75,11 @@ pub(crate) fn run_frames<S: Source, K: Sink, E: Sink>(
         (streams (S.seen src.old) (K.seen out.old) (E.seen report.old))
         (streams (S.seen src.new) (K.seen out.new) (E.seen report.new)) }
 {
-    let mut frames = Frames {
+    let frames = Frames {
         first: settings.first,
         sectors: settings.sectors,
     };
-    follow(&mut frames, src, out, report)
+    follow_lone(frames, src, out, report)
 }
 
 // The frame of a sector in the Data Zone of a disk with one layer.

@@ -3,6 +3,7 @@ ghost use Rattle.std.specs.Prelude.{◌≡◌, ◌≤◌, ◌+◌, ℕ, List, No
 ghost use Rattle.dvd_block.specs.Product.{line};
 ghost use Rattle.dvd_capture.specs.Rule.{HasBlock};
 ghost use Rattle.dvd_capture.specs.Works.{rows_of, marks_of_work, stage_of};
+ghost use Rattle.dvd_capture.specs.Captured.{HasSize};
 ghost use Rattle.dvd_capture.specs.declared.form.Form.{Form as CaptureForm};
 ghost use Rattle.dvd_control.specs.Format.{control_fault, fields_in, fields_of};
 ghost use Rattle.dvd_layout.specs.Place.{HasNumbers};
@@ -12,7 +13,7 @@ ghost use Rattle.dvd_loop.specs.Streams.{streams, Comes, HaveCauses, no_stream};
 ghost use Rattle.dvd_loop.specs.Turns.{AreDone, HaveCausesFor};
 ghost use Rattle.dvd_ports.specs.Seen.{Seen};
 ghost use Rattle.dvd_top.specs.Commands.Info.{IsAsked, info_units};
-ghost use Rattle.dvd_top.specs.Performing.{AnswersNothing, Tells, IsControlDone, IsPerformed};
+ghost use Rattle.dvd_top.specs.Inner.Performing.{AnswersNothing, Tells, IsControlDone, IsPerformed};
 
 use crate::commands::captured::fetch_block;
 use crate::format::format_lines;
@@ -36,6 +37,7 @@ struct Info<'a> {
     form: Form,
     work: &'a mut Work,
     ghost fits: { initial ≤ 12031 },
+    ghost sized: { HasSize form },
 }
 
 impl<'a> Turns for Info<'a> {
@@ -85,7 +87,8 @@ pub fn info_loop<S: Source, K: Sink>(
     src: &mut S,
     out: &mut K,
 ) -> LoopEnd
-    requires { settings.now.initial ≤ 12031 }
+    requires initial { settings.now.initial ≤ 12031 }
+    requires form { HasSize settings.now.form }
     ensures follows { Comes (IsOutcome (info_units settings.now.initial settings.now.form))
         (streams (S.seen src.old) (K.seen out.old) no_stream) (streams (S.seen src.new) (K.seen out.new) no_stream) result }
     ensures causes { HaveCauses result result
@@ -103,7 +106,8 @@ fn seek_format<S: Source, K: Sink, E: Sink>(
     out: &mut K,
     report: &mut E,
 ) -> LoopEnd
-    requires { settings.now.initial ≤ 12031 }
+    requires initial { settings.now.initial ≤ 12031 }
+    requires form { HasSize settings.now.form }
     ensures follows { Comes (IsOutcome (info_units settings.now.initial settings.now.form))
         (streams (S.seen src.old) (K.seen out.old) (E.seen report.old))
         (streams (S.seen src.new) (K.seen out.new) (E.seen report.new)) result }
@@ -127,7 +131,8 @@ pub(crate) fn run_info<S: Source, K: Sink, E: Sink>(
     out: &mut K,
     report: &mut E,
 ) -> Result<LoopEnd, Refusal>
-    requires { settings.now.command ≡ Command.Info }
+    requires command { settings.now.command ≡ Command.Info }
+    requires form { HasSize settings.now.form }
     ensures performed { IsPerformed settings.now
         (streams (S.seen src.old) (K.seen out.old) (E.seen report.old))
         (streams (S.seen src.new) (K.seen out.new) (E.seen report.new)) result }

@@ -1,5 +1,5 @@
 //! The command `master`: the recording frames of each ECC block of a disk.
-ghost use Rattle.std.specs.Prelude.{◌≡◌, ◌-◌, ◌*◌, ◌<◌, ◌≤◌, ℕ, List, length, take, drop, replicate, IfErr, IsErr, OnOk};
+ghost use Rattle.std.specs.Prelude.{◌≡◌, ◌-◌, ◌*◌, ◌<◌, ◌≤◌, ℕ, List, length, take, drop, replicate, IfErr, IsErr, OnOk, refl};
 ghost use Rattle.std.specs.Io.KnownBytes.{Consumes};
 ghost use Rattle.dvd_ports.specs.Seen.{Seen};
 ghost use Rattle.dvd_block.specs.Buffers.{block_rows, piece_bytes};
@@ -13,7 +13,7 @@ ghost use Rattle.dvd_loop.specs.Machine.{IsOutcome};
 ghost use Rattle.dvd_loop.specs.Streams.{streams, Comes, HaveCauses, no_stream};
 ghost use Rattle.dvd_loop.specs.Turns.{EndsShort, HaveCausesFor};
 ghost use Rattle.dvd_top.specs.Commands.Master.{cpr_in, frame_of, frames_of, image_bytes, main_for, master_units};
-ghost use Rattle.dvd_top.specs.Performing.{IsPerformed};
+ghost use Rattle.dvd_top.specs.Inner.Performing.{IsPerformed};
 ghost use Rattle.dvd_words.specs.Settings.{IsLayoutOf};
 
 use crate::status::Refusal;
@@ -21,7 +21,7 @@ use dvd_block::{Block, Piece};
 use dvd_control::main_of;
 use dvd_frame::{Area, make_frame};
 use dvd_layout::{BlockPlan, Content, Layout, Zones, id_of, rule_of};
-use dvd_loop::{Behind, LoopEnd, Turn, Turns, follow, read_unit};
+use dvd_loop::{LoneTurns, LoopEnd, Turn, follow_lone, read_unit};
 use dvd_ports::{NullSink, Sink, Source};
 use dvd_words::{Command, Settings};
 use std::alloc::Global;
@@ -36,27 +36,17 @@ struct Master<'a> {
     piece: &'a mut Piece,
 }
 
-impl<'a> Turns for Master<'a> {
+impl<'a> LoneTurns for Master<'a> {
     ghost Key = { DiskLayout × WhichZones × List ℕ };
 
     ghost key = { λ m. (m.layout, m.zones, m.cpr) };
 
     ghost units = { λ key. master_units key.0 key.1 key.2 };
 
-    ghost ready = { λ _ _. Unit {0} };
-
-    ghost left = { λ _ _. Unit {0} };
+    ghost alone = { λ _. record { opens = refl; closes = λ _. refl; behind = refl } };
 
     fn count(&self) -> u32 {
         self.layout.blocks(self.zones) as u32
-    }
-
-    fn behind(&self) -> Behind {
-        Behind::Asks
-    }
-
-    fn open<K: Sink, E: Sink>(&self, _out: &mut K, _report: &mut E) -> Result<(), LoopEnd> {
-        Ok(())
     }
 
     fn turn<S: Source, K: Sink, E: Sink>(
@@ -78,10 +68,6 @@ impl<'a> Turns for Master<'a> {
         );
         self.block.write_recording(out)?;
         Ok(Turn::Good)
-    }
-
-    fn close<K: Sink, E: Sink>(&self, _out: &mut K, _report: &mut E) -> Result<(), LoopEnd> {
-        Ok(())
     }
 }
 
@@ -129,14 +115,14 @@ fn follow_blocks<S: Source, K: Sink, E: Sink>(
         (streams (S.seen src.old) (K.seen out.old) (E.seen report.old))
         (streams (S.seen src.new) (K.seen out.new) (E.seen report.new)) }
 {
-    let mut master = Master {
+    let master = Master {
         layout: *layout,
         zones: settings.zones,
         cpr: settings.cpr,
         block,
         piece,
     };
-    follow(&mut master, src, out, report)
+    follow_lone(master, src, out, report)
 }
 
 /// The command with its buffers, or why it doesn't begin.

@@ -1,11 +1,9 @@
 //! The command `recover`: image sectors from a stream of captured blocks.
-ghost use Rattle.std.specs.Prelude.{◌≡◌, ◌≤◌, ℕ, List, length, IsErr, OnErr, OnOk};
-ghost use Rattle.std.specs.Io.KnownBytes.{Appends};
-ghost use Rattle.dvd_ports.specs.Causes.{HasCause};
+ghost use Rattle.std.specs.Prelude.{◌≡◌, length, IsErr, refl};
 ghost use Rattle.dvd_ports.specs.Seen.{Seen};
-ghost use Rattle.dvd_ports.specs.Whole.{AppendsPrefix};
 ghost use Rattle.dvd_capture.specs.Rule.{HasBlock};
-ghost use Rattle.dvd_capture.specs.Works.{rows_of, marks_of_work, sectors_of, stage_of};
+ghost use Rattle.dvd_capture.specs.Works.{rows_of, marks_of_work, stage_of};
+ghost use Rattle.dvd_capture.specs.Captured.{HasSize};
 ghost use Rattle.dvd_capture.specs.declared.form.Form.{Form as CaptureForm};
 ghost use Rattle.dvd_layout.specs.Place.{HasNumbers};
 ghost use Rattle.dvd_layout.specs.Plan.{plan_of};
@@ -16,17 +14,16 @@ ghost use Rattle.dvd_loop.specs.Machine.{IsOutcome};
 ghost use Rattle.dvd_loop.specs.Streams.{streams, Comes, HaveCauses};
 ghost use Rattle.dvd_loop.specs.Turns.{AreDone, HaveCausesFor};
 ghost use Rattle.dvd_top.specs.Commands.Recover.{IsDone, recover_units};
-ghost use Rattle.dvd_top.specs.Performing.{IsPerformed, IsImageDone, sectors_out};
+ghost use Rattle.dvd_top.specs.Inner.Performing.{IsPerformed, IsImageDone};
 ghost use Rattle.dvd_words.specs.Settings.{IsLayoutOf};
 
-use crate::commands::captured::fetch_block;
+use crate::commands::captured::{fetch_block, refuse_block, write_sectors};
 use crate::status::Refusal;
 use dvd_capture::{Form, Work};
 use dvd_layout::{BlockPlan, Content, Layout, Zones};
-use dvd_loop::{Behind, LoopEnd, Turn, Turns, follow};
-use dvd_ports::{Sink, Source, WriteFault, write_whole};
-use dvd_read::{read_block, salvage};
-use dvd_report::write_cause;
+use dvd_loop::{LoneTurns, LoopEnd, Turn, follow_lone};
+use dvd_ports::{Sink, Source};
+use dvd_read::read_block;
 use dvd_words::{Command, Settings};
 use std::alloc::Global;
 
@@ -37,29 +34,20 @@ struct Recover<'a> {
     zones: Zones,
     form: Form,
     work: &'a mut Work,
+    ghost sized: { HasSize form },
 }
 
-impl<'a> Turns for Recover<'a> {
+impl<'a> LoneTurns for Recover<'a> {
     ghost Key = { DiskLayout × WhichZones × CaptureForm };
 
     ghost key = { λ r. (r.layout, r.zones, r.form) };
 
     ghost units = { λ key. recover_units key.0 key.1 key.2 };
 
-    ghost ready = { λ _ _. Unit {0} };
-
-    ghost left = { λ _ _. Unit {0} };
+    ghost alone = { λ _. record { opens = refl; closes = λ _. refl; behind = refl } };
 
     fn count(&self) -> u32 {
         self.layout.blocks(self.zones) as u32
-    }
-
-    fn behind(&self) -> Behind {
-        Behind::Asks
-    }
-
-    fn open<K: Sink, E: Sink>(&self, _out: &mut K, _report: &mut E) -> Result<(), LoopEnd> {
-        Ok(())
     }
 
     fn turn<S: Source, K: Sink, E: Sink>(
@@ -73,10 +61,6 @@ impl<'a> Turns for Recover<'a> {
         fetch_block(src, k, self.form, self.work)?;
         recover_block(&self.layout, k, &entry, self.work, out, report)
     }
-
-    fn close<K: Sink, E: Sink>(&self, _out: &mut K, _report: &mut E) -> Result<(), LoopEnd> {
-        Ok(())
-    }
 }
 
 /// Reads every block of the plan of the layout and the zones that the settings choose.
@@ -88,7 +72,8 @@ pub fn recover_loop<S: Source, K: Sink, E: Sink>(
     out: &mut K,
     report: &mut E,
 ) -> LoopEnd
-    requires { IsLayoutOf settings.now layout.now }
+    requires layout { IsLayoutOf settings.now layout.now }
+    requires form { HasSize settings.now.form }
     ensures follows { Comes (IsOutcome (recover_units layout.now settings.now.zones settings.now.form))
         (streams (S.seen src.old) (K.seen out.old) (E.seen report.old))
         (streams (S.seen src.new) (K.seen out.new) (E.seen report.new)) result }
@@ -97,13 +82,13 @@ pub fn recover_loop<S: Source, K: Sink, E: Sink>(
         (streams (S.seen src.new) (K.seen out.new) (E.seen report.new)) }
     ensures ends { IsDamageEnd (length (plan_of layout.now settings.now.zones)) result }
 {
-    let mut recover = Recover {
+    let recover = Recover {
         layout: *layout,
         zones: settings.zones,
         form: settings.form,
         work,
     };
-    follow(&mut recover, src, out, report)
+    follow_lone(recover, src, out, report)
 }
 
 /// The command with its buffers, or why it doesn't begin.
@@ -114,7 +99,8 @@ pub(crate) fn run_recover<S: Source, K: Sink, E: Sink>(
     out: &mut K,
     report: &mut E,
 ) -> Result<LoopEnd, Refusal>
-    requires { settings.now.command ≡ Command.Recover }
+    requires command { settings.now.command ≡ Command.Recover }
+    requires form { HasSize settings.now.form }
     ensures performed { IsPerformed settings.now
         (streams (S.seen src.old) (K.seen out.old) (E.seen report.old))
         (streams (S.seen src.new) (K.seen out.new) (E.seen report.new)) result }
@@ -169,26 +155,6 @@ fn recover_image<K: Sink, E: Sink>(
             write_sectors(work, count, out)?;
             Ok(Turn::Good)
         }
-        Err(cause) => {
-            let saved = salvage(work, entry);
-            if let Err(WriteFault) = write_cause(u64::from(k), entry, &cause, saved, report) {
-                return Err(LoopEnd::ReportFault);
-            }
-            write_sectors(work, count, out)?;
-            Ok(Turn::Bad)
-        }
+        Err(cause) => refuse_block(layout, k, entry, &cause, work, out, report),
     }
-}
-
-// Writes the first sectors, each as one piece.
-fn write_sectors<K: Sink>(work: &Work, count: usize, out: &mut K) -> Result<(), WriteFault>
-    requires { count ≤ 16 }
-    ensures written { OnOk result (Appends (K.seen out.old).bytes (K.seen out.new).bytes (sectors_out count (sectors_of work.now))) }
-    ensures begun { OnErr result (AppendsPrefix (K.seen out.old).bytes (K.seen out.new).bytes (sectors_out count (sectors_of work.now))) }
-    ensures cause { HasCause (K.seen out.old).faults (K.seen out.new).faults result }
-{
-    for f in 0..count {
-        write_whole(out, work.sector(f))?;
-    }
-    Ok(())
 }

@@ -3,6 +3,7 @@ ghost use Rattle.std.specs.Prelude.{◌≡◌, ◌++◌, ◌<◌, ◌^◌, ℕ, 
 ghost use Rattle.std.specs.Result.{result_err};
 ghost use Rattle.dvd_capture.specs.Rule.{HasBlock};
 ghost use Rattle.dvd_capture.specs.Works.{rows_of, marks_of_work, stage_of};
+ghost use Rattle.dvd_capture.specs.Captured.{HasSize};
 ghost use Rattle.dvd_capture.specs.declared.form.Form.{Form as CaptureForm};
 ghost use Rattle.dvd_layout.specs.Place.{HasNumbers};
 ghost use Rattle.dvd_layout.specs.Plan.{plan_of};
@@ -16,7 +17,7 @@ ghost use Rattle.dvd_ports.specs.Seen.{Seen};
 ghost use Rattle.dvd_report.specs.Survey.{StandsFor, surveyed};
 ghost use Rattle.dvd_report.specs.declared.counts.Surveyed.{Surveyed};
 ghost use Rattle.dvd_top.specs.Commands.Survey.{found_in, survey_units, turn_by};
-ghost use Rattle.dvd_top.specs.Performing.{IsPerformed, IsLineDone};
+ghost use Rattle.dvd_top.specs.Inner.Performing.{IsPerformed, IsLineDone};
 ghost use Rattle.dvd_words.specs.Settings.{IsLayoutOf};
 
 use crate::commands::captured::fetch_block;
@@ -38,6 +39,7 @@ struct Surveying<'a> {
     form: Form,
     survey: &'a mut Survey,
     work: &'a mut Work,
+    ghost sized: { HasSize form },
 }
 
 impl<'a> Turns for Surveying<'a> {
@@ -91,6 +93,7 @@ pub fn survey_loop<S: Source, K: Sink>(
     out: &mut K,
 ) -> LoopEnd
     requires layout { IsLayoutOf settings.now layout.now }
+    requires form { HasSize settings.now.form }
     requires empty { StandsFor survey.old [] }
     ensures follows { Comes (IsOutcome (survey_units layout.now settings.now.zones settings.now.form))
         (streams (S.seen src.old) (K.seen out.old) no_stream) (streams (S.seen src.new) (K.seen out.new) no_stream) result }
@@ -120,6 +123,7 @@ fn survey_stream<S: Source, K: Sink, E: Sink>(
     report: &mut E,
 ) -> LoopEnd
     requires layout { IsLayoutOf settings.now layout.now }
+    requires form { HasSize settings.now.form }
     requires empty { StandsFor survey.old [] }
     ensures follows { Comes (IsOutcome (survey_units layout.now settings.now.zones settings.now.form))
         (streams (S.seen src.old) (K.seen out.old) (E.seen report.old))
@@ -146,7 +150,8 @@ pub(crate) fn run_survey<S: Source, K: Sink, E: Sink>(
     out: &mut K,
     report: &mut E,
 ) -> Result<LoopEnd, Refusal>
-    requires { settings.now.command ≡ Command.Survey }
+    requires command { settings.now.command ≡ Command.Survey }
+    requires form { HasSize settings.now.form }
     ensures performed { IsPerformed settings.now
         (streams (S.seen src.old) (K.seen out.old) (E.seen report.old))
         (streams (S.seen src.new) (K.seen out.new) (E.seen report.new)) result }

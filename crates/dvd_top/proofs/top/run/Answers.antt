@@ -4,7 +4,7 @@ use Rattle.dvd_words.specs.Reading.{reading}
 use Rattle.dvd_words.specs.declared.settings.Settings.{Settings}
 use Rattle.dvd_top.specs.Headline.{HasRun, HaveRisen, breaks}
 use Rattle.dvd_top.specs.Lines.{closing_line}
-use Rattle.dvd_top.proofs.RunEnds.{bound_kept, complete_run, ends_there_run, good_frames_kept, risen}
+use Rattle.dvd_top.proofs.RunEnds.{bound_kept, complete_run, ends_there_run, good_frames_kept, risen, sectors_kept}
 use Rattle.dvd_top.proofs.RunLemmas.{has_run, same_settings}
 use Rattle.dvd_top.proofs.top.run.Given as given
 use Rattle.dvd_top.proofs.top.run.Goals as goal
@@ -42,4 +42,5 @@ returns-in-Ok-perform g c =
       read_fault = λ is settings reads. ends_there_run settings old new c.into.result (begun g c settings reads) is;
       bound = λ some whole none settings reads is. bound_kept settings old new c.into.result (begun g c settings reads) some whole none is;
       good_frames = λ some whole none settings reads is. good_frames_kept settings old new c.into.result (begun g c settings reads) some whole none is;
+      sectors = λ some whole none settings reads is. sectors_kept settings old new c.into.result (begun g c settings reads) some whole none is;
     }

@@ -2,7 +2,7 @@ use Rattle.std.proofs.Common.{◌≡◌, ◌∙◌, ◌+◌, true, None, Some, I
 use Rattle.dvd_capture.specs.Works.{marks_of_work, rows_of}
 use Rattle.dvd_read.specs.Found.{block_differences}
 use Rattle.dvd_read.specs.Reading.{block_cause}
-use Rattle.dvd_top.specs.Exercising.{are_sectors}
+use Rattle.dvd_top.specs.Inner.Exercising.{are_sectors}
 use Rattle.dvd_top.proofs.ExerciseTrials.{same_sectors}
 use Rattle.dvd_top.proofs.commands.exercise.read_back.Goals as goal
 

@@ -10,9 +10,9 @@ pub returns-clause-performed : goal.returns-clause-performed
 returns-clause-performed g c =
     let settings = c.args.settings.now in
     let layout = c.in_ok-layout.layout in record {
-      lawful = subst (λ command. (meaning command).breaks settings ≡ None) (sym c.requires) (c.in_ok-layout.ensures.lawful refl);
+      lawful = subst (λ command. (meaning command).breaks settings ≡ None) (sym c.requires.command) (c.in_ok-layout.ensures.lawful refl);
       comes = comes_as (IsOutcome (survey_units layout settings.zones settings.form)) (IsLoop settings) _ _ c.survey_stream.result
-          (λ bytes outcome runs. subst (λ command. (meaning command).OfUnits settings (λ units. IsOutcome units bytes outcome)) (sym c.requires) (layout, c.in_ok-layout.ensures.lengths, runs))
+          (λ bytes outcome runs. subst (λ command. (meaning command).OfUnits settings (λ units. IsOutcome units bytes outcome)) (sym c.requires.command) (layout, c.in_ok-layout.ensures.lengths, runs))
           c.survey_stream.ensures.follows;
       causes = c.survey_stream.ensures.causes;
     }

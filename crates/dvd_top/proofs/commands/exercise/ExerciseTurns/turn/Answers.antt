@@ -6,7 +6,7 @@ use Rattle.dvd_layout.specs.Plan.{plan_of}
 use Rattle.dvd_layout.specs.declared.layout.Zones.TheVariants.{DataOnly}
 use Rattle.dvd_loop.proofs.StreamLemmas.{stays}
 use Rattle.dvd_read.specs.Reading.{block_cause}
-use Rattle.dvd_top.specs.Exercising.{IsBehind}
+use Rattle.dvd_top.specs.Inner.Exercising.{IsBehind}
 use Rattle.dvd_top.proofs.ExerciseBlocks.{length-data_plan}
 use Rattle.dvd_top.proofs.ExerciseTurns.{entry_is, found_block, turn_behind}
 use Rattle.dvd_top.proofs.PlanEntries.{has_numbers}

@@ -1,4 +1,5 @@
-use Rattle.std.proofs.Common.{refl}
+use Rattle.std.proofs.Common.{◌∙◌, refl}
+use Rattle.dvd_capture.proofs.Fetching.{sized-block}
 use Rattle.dvd_capture.specs.Works.{marks_of_work, rows_of}
 use Rattle.dvd_loop.specs.Streams.{streams}
 use Rattle.dvd_loop.proofs.TurnLemmas.{causes_after, err_is, sized_done, sized_short}
@@ -25,7 +26,7 @@ returns-clause-turn g c = λ before number ready.
     let output = g.K.Sink.seen c.args.out.now in
     let report = g.E.Sink.seen c.args._report.now in
     let new_output = g.K.Sink.seen c.ask_block.new.out in
-    sized_done _ _ (λ k own. refl) c.args.k before number _ (g.S.Source.seen c.args.src.now) read output report fetched.bytes fetched.size fetched.taken new_output report c.ask_block.result
+    sized_done _ _ (λ k own. refl) c.args.k before number _ (g.S.Source.seen c.args.src.now) read output report fetched.bytes (fetched.size ∙ sized-block m.form m.sized fetched.bytes) fetched.taken new_output report c.ask_block.result
     (sought m.initial m.form c.args.k c.lead_in_block-entry.result c.lead_in_block-entry.ensures fetched.bytes (rows_of c.fetch_block.new.work) (marks_of_work c.fetch_block.new.work) fetched.rows_are fetched.marks_are
     (streams read output report) (streams read new_output report) c.ask_block.result (c.ask_block.ensures.done read report)) tt
 

@@ -1,4 +1,5 @@
 use Rattle.std.proofs.Common.{◌≡◌, ◌≤◌, ◌<◌, length, slice_get, Some, refl, ap, sym, ◌∙◌, arith}
+use Rattle.dvd_capture.proofs.Fetching.{sized-block}
 use Rattle.dvd_capture.specs.Works.{marks_of_work, rows_of}
 use Rattle.dvd_layout.specs.Plan.{plan_of}
 use Rattle.dvd_loop.specs.Streams.{streams}
@@ -46,7 +47,7 @@ returns-clause-turn g c = λ before number ready.
     let report = g.E.Sink.seen c.args._report.now in
     let new_output = g.K.Sink.seen c.survey_block.new.out in
     let found = found_in m.layout m.zones m.form before in
-    sized_done _ _ (λ k own. refl) c.args.k before number _ (g.S.Source.seen c.args.src.now) read output report fetched.bytes fetched.size fetched.taken new_output report c.survey_block.result
+    sized_done _ _ (λ k own. refl) c.args.k before number _ (g.S.Source.seen c.args.src.now) read output report fetched.bytes (fetched.size ∙ sized-block m.form m.sized fetched.bytes) fetched.taken new_output report c.survey_block.result
     (line_done m.layout m.zones m.form c.args.k before number fetched.bytes c.plan-entry.result stands rows marks fetched.rows_are fetched.marks_are c.requires.unit
     (streams read output report) (streams read new_output report) c.survey_block.result (c.survey_block.ensures.done read report found ready))
     (next_stands m.layout m.zones m.form c.args.k before number fetched.bytes c.plan-entry.result stands rows marks fetched.rows_are fetched.marks_are

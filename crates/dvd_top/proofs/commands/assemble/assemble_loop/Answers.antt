@@ -1,0 +1,11 @@
+use Rattle.dvd_assemble.specs.Shelves.{tables_of}
+use Rattle.dvd_top.proofs.AssembleFrames.{assemble_end, none_settled}
+use Rattle.dvd_top.proofs.commands.assemble.assemble_loop.Goals as goal
+
+pub follow-requires : goal.follow-requires
+follow-requires g c = none_settled c.args.layout.now c.args.settings.now.form (tables_of c.args.shelf.now) c.requires.unseen
+
+pub returns-clause-ends : goal.returns-clause-ends
+returns-clause-ends g c =
+    let f = c.follow.ensures.follows in
+    assemble_end c.args.layout.now c.args.settings.now.form c.args.settings.now.frames f.bytes f.outcome f.holds c.follow.result f.ends

@@ -1,0 +1,37 @@
+use Rattle.std.proofs.Common.{◌≡◌, None, refl, sym, subst, arith}
+use Rattle.dvd_loop.specs.Machine.{IsOutcome}
+use Rattle.dvd_loop.proofs.StreamLemmas.{comes_as}
+use Rattle.dvd_top.specs.Commands.{meaning}
+use Rattle.dvd_top.specs.Commands.Assemble.{assemble_units}
+use Rattle.dvd_top.specs.Headline.{IsLoop}
+use Rattle.dvd_top.proofs.AssembleFrames.{blocks_few}
+use Rattle.dvd_top.proofs.commands.assemble.run_assemble.Goals as goal
+
+pub returns-clause-performed : goal.returns-clause-performed
+returns-clause-performed g c =
+    let settings = c.args.settings.now in
+    let layout = c.in_ok-layout.layout in record {
+      lawful = subst (λ command. (meaning command).breaks settings ≡ None) (sym c.requires.command) (c.in_ok-layout.ensures.lawful refl);
+      comes = comes_as (IsOutcome (assemble_units layout settings.form settings.frames)) (IsLoop settings) _ _ c.assemble_loop.result
+          (λ bytes outcome runs. subst (λ command. (meaning command).OfUnits settings (λ units. IsOutcome units bytes outcome)) (sym c.requires.command) (layout, c.in_ok-layout.ensures.lengths, runs))
+          c.assemble_loop.ensures.follows;
+      causes = c.assemble_loop.ensures.causes;
+    }
+
+pub overflow_cast-blocks : goal.overflow_cast-blocks
+overflow_cast-blocks g c =
+    let is = c.in_ok-layout.ensures.lengths in
+    let few = blocks_few c.in_ok-layout.layout c.args.settings.now.sectors c.args.settings.now.sectors1 is.sectors0 is.sectors1 c.requires.few in
+    omega (arith, few.1, c.blocks-2.ensures)
+
+pub new-requires-clause-some : goal.new-requires-clause-some
+new-requires-clause-some g c =
+    let is = c.in_ok-layout.ensures.lengths in
+    let few = blocks_few c.in_ok-layout.layout c.args.settings.now.sectors c.args.settings.now.sectors1 is.sectors0 is.sectors1 c.requires.few in
+    omega (arith, few.0, c.blocks-2.ensures)
+
+pub new-requires-clause-few : goal.new-requires-clause-few
+new-requires-clause-few g c =
+    let is = c.in_ok-layout.ensures.lengths in
+    let few = blocks_few c.in_ok-layout.layout c.args.settings.now.sectors c.args.settings.now.sectors1 is.sectors0 is.sectors1 c.requires.few in
+    omega (arith, few.1, c.blocks-2.ensures)

@@ -1,0 +1,11 @@
+use Rattle.std.proofs.Common.{◌≡◌, take}
+use Rattle.std.specs.Io.KnownBytes.{Appends}
+use Rattle.dvd_assemble.specs.Shelves.{tables_of}
+use Rattle.dvd_top.specs.Commands.Assemble.{text_of}
+use Rattle.dvd_top.proofs.commands.assemble.write_blocks.Given as goal
+
+abbrev pub invariant-loop-k : goal.invariant-loop-k
+invariant-loop-k g l = record {
+  bytes : Appends (g.K.Sink.seen l.fn.out).bytes (g.K.Sink.seen l.out).bytes (text_of (take l.k (tables_of l.shelf)));
+  steady : (g.K.Sink.seen l.out).faults ≡ (g.K.Sink.seen l.fn.out).faults;
+}

@@ -1,0 +1,10 @@
+use Rattle.std.proofs.Common.{refl}
+use Rattle.dvd_loop.proofs.LoopEnds.{never_told, plain_end}
+use Rattle.dvd_top.specs.Commands.CdMake.{cdmake_units}
+use Rattle.dvd_top.proofs.commands.cd_make.cdmake_loop.Goals as goal
+
+pub returns-clause-ends : goal.returns-clause-ends
+returns-clause-ends g c =
+    let f = c.run_cdmake.ensures.follows in
+    plain_end (cdmake_units c.args.settings.now.address c.args.settings.now.sectors) (λ k. 2048) (λ k own. refl) refl f.bytes f.outcome f.holds (λ k before own steps does. let no = does.good in cc) c.run_cdmake.result f.ends
+    (never_told c.run_cdmake.result c.run_cdmake.ensures.causes.report)

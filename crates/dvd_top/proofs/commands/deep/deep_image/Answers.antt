@@ -1,0 +1,65 @@
+use Rattle.std.proofs.Common.{◌≡◌, ◌∙◌, ◌*◌, ℕ, List, Some, take, ap, subst}
+use Rattle.std.specs.Io.KnownBytes.{Appends}
+use Rattle.dvd_block.specs.Buffers.{piece_bytes}
+use Rattle.dvd_capture.proofs.WorkParts.{marks-height}
+use Rattle.dvd_capture.specs.Works.{marks_of_work, rows_of, sectors_of}
+use Rattle.dvd_deep.specs.Reading.{deep_cause}
+use Rattle.dvd_loop.specs.Streams.{streams}
+use Rattle.dvd_loop.specs.declared.ends.LoopEnd.TheVariants.{WriteFault}
+use Rattle.dvd_loop.proofs.TurnLemmas.{err_is, write_begun, write_done}
+use Rattle.dvd_ports.specs.Whole.{AppendsPrefix}
+use Rattle.dvd_top.specs.Inner.Performing.{IsFoundBy, IsRefusedFor, sectors_out}
+use Rattle.dvd_top.proofs.DeepBlocks.{found_given, height, lost, read_given}
+use Rattle.dvd_top.proofs.RecoverBlocks.{same_work}
+use Rattle.dvd_top.proofs.TwoSteps.{done_as}
+use Rattle.dvd_top.proofs.commands.deep.deep_image.Goals as goal
+
+pub returns-in_err-write_sectors-in-Ok-clause-done : goal.returns-in_err-write_sectors-in-Ok-clause-done
+returns-in_err-write_sectors-in-Ok-clause-done g c = λ source.
+    let work = c.args.work.now in
+    let output = g.K.Sink.seen c.args.out.now in
+    let new_output = g.K.Sink.seen c.write_sectors.new.out in
+    let sectors = sectors_of c.read_block.new.work in
+    write_begun _ _ _ (read_given c.args.layout.now c.args.k c.args.entry.now (rows_of work) (marks_of_work work) sectors (height work) (marks-height work.marks) c.in-Ok.ensures.read)
+    source output new_output (g.E.Sink.seen c.args.report.now) c.from_residual.result (err_is c.from_residual.result WriteFault c.from_residual.ensures.1)
+    (subst (λ n. AppendsPrefix output.bytes new_output.bytes (sectors_out n sectors)) c.image_sectors-count.ensures.value c.in_err-write_sectors-in-Ok.ensures.begun)
+
+pub returns-in_ok-write_sectors-in-Ok-clause-done : goal.returns-in_ok-write_sectors-in-Ok-clause-done
+returns-in_ok-write_sectors-in-Ok-clause-done g c = λ source.
+    let work = c.args.work.now in
+    let output = g.K.Sink.seen c.args.out.now in
+    let new_output = g.K.Sink.seen c.write_sectors.new.out in
+    let sectors = sectors_of c.read_block.new.work in
+    write_done _ _ _ (read_given c.args.layout.now c.args.k c.args.entry.now (rows_of work) (marks_of_work work) sectors (height work) (marks-height work.marks) c.in-Ok.ensures.read)
+    source output new_output (g.E.Sink.seen c.args.report.now)
+    (subst (λ n. Appends output.bytes new_output.bytes (sectors_out n sectors)) c.image_sectors-count.ensures.value c.in_ok-write_sectors-in-Ok.ensures.written)
+
+pub returns-in-Ok-search_block-clause-done : goal.returns-in-Ok-search_block-clause-done
+returns-in-Ok-search_block-clause-done g c = λ source.
+    let layout = c.args.layout.now in
+    let entry = c.args.entry.now in
+    let work = c.args.work.now in
+    let bytes : List ℕ = piece_bytes c.search_block.new.piece in
+    let round = c.in-Ok-search_block.round in
+    let found = same_work (λ rows marks. IsFoundBy layout entry rows marks bytes round) work c.read_block.new.work c.read_block.ensures.received c.read_block.ensures.marks
+    (c.in-Ok-search_block.ensures.found layout) in
+    done_as _ _
+    (found_given layout c.args.k entry (rows_of work) (marks_of_work work) bytes _ round found
+    (ap (take (2048 * c.image_sectors-count.result)) c.bytes.ensures.bytes ∙ ap (λ (n : ℕ). take (2048 * n) bytes) c.image_sectors-count.ensures.value))
+    (streams source (g.K.Sink.seen c.args.out.now) (g.E.Sink.seen c.args.report.now))
+    (streams source (g.K.Sink.seen c.give_back.new.out) (g.E.Sink.seen c.give_back.new.report)) c.give_back.result (c.give_back.ensures.done source)
+
+pub returns-in-Err-search_block-clause-done : goal.returns-in-Err-search_block-clause-done
+returns-in-Err-search_block-clause-done g c = λ source.
+    let layout = c.args.layout.now in
+    let entry = c.args.entry.now in
+    let work = c.args.work.now in
+    let cause = c.in-Err-search_block.cause in
+    let first = same_work (λ rows marks. deep_cause rows marks entry ≡ Some cause) work c.read_block.new.work c.read_block.ensures.received c.read_block.ensures.marks
+    c.in-Err-search_block.ensures.refused in
+    done_as _ _
+    (λ steps turn is.
+    lost layout c.args.k entry (rows_of work) (marks_of_work work) cause first steps turn
+    (same_work (λ rows marks. IsRefusedFor layout c.args.k entry rows marks cause steps turn) work c.read_block.new.work c.read_block.ensures.received c.read_block.ensures.marks is))
+    (streams source (g.K.Sink.seen c.args.out.now) (g.E.Sink.seen c.args.report.now))
+    (streams source (g.K.Sink.seen c.refuse_block.new.out) (g.E.Sink.seen c.refuse_block.new.report)) c.refuse_block.result (c.refuse_block.ensures.done source)

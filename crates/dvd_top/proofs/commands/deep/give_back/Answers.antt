@@ -1,0 +1,31 @@
+use Rattle.std.proofs.Common.{Err, refl, ap, subst}
+use Rattle.std.specs.Io.KnownBytes.{Appends}
+use Rattle.dvd_ports.specs.Whole.{AppendsPrefix}
+use Rattle.dvd_loop.specs.declared.ends.LoopEnd.TheVariants.{ReportFault, WriteFault}
+use Rattle.dvd_loop.proofs.TurnLemmas.{err_is}
+use Rattle.dvd_report.specs.Lines.{round_line}
+use Rattle.dvd_top.proofs.TwoSteps.{both_done, bytes_fail, line_fails}
+use Rattle.dvd_top.proofs.commands.deep.give_back.Goals as goal
+
+pub returns-in-Err-clause-done : goal.returns-in-Err-clause-done
+returns-in-Err-clause-done g c = λ source.
+    let report = g.E.Sink.seen c.args.report.now in
+    let new_report = g.E.Sink.seen c.write_round.new.report in
+    line_fails _ _ _ _ (refl, refl) source (g.K.Sink.seen c.args.out.now) report new_report (Err ReportFault) refl
+    (subst (AppendsPrefix report.bytes new_report.bytes) (ap (λ n. round_line n c.args.entry.now c.args.round) c.from.ensures) c.in-Err.ensures.begun)
+
+pub returns-in_err-write_whole-clause-done : goal.returns-in_err-write_whole-clause-done
+returns-in_err-write_whole-clause-done g c = λ source.
+    let report = g.E.Sink.seen c.args.report.now in
+    let new_report = g.E.Sink.seen c.write_round.new.report in
+    bytes_fail _ _ _ _ (refl, refl) source (g.K.Sink.seen c.args.out.now) (g.K.Sink.seen c.write_whole.new.out) report new_report
+    (subst (Appends report.bytes new_report.bytes) (ap (λ n. round_line n c.args.entry.now c.args.round) c.from.ensures) c.in_default.ensures.written)
+    c.from_residual.result (err_is c.from_residual.result WriteFault c.from_residual.ensures.1) c.in_err-write_whole.ensures.begun
+
+pub returns-clause-done : goal.returns-clause-done
+returns-clause-done g c = λ source.
+    let report = g.E.Sink.seen c.args.report.now in
+    let new_report = g.E.Sink.seen c.write_round.new.report in
+    both_done _ _ _ _ (refl, refl) source (g.K.Sink.seen c.args.out.now) (g.K.Sink.seen c.write_whole.new.out) report new_report
+    (subst (Appends report.bytes new_report.bytes) (ap (λ n. round_line n c.args.entry.now c.args.round) c.from.ensures) c.in_default.ensures.written)
+    c.in_ok-write_whole.ensures.written

@@ -1,0 +1,5 @@
+use Rattle.dvd_top.proofs.CapturedFrames.{assembled_so}
+use Rattle.dvd_top.proofs.laws.captured_frames_are_assembled.Goals as goal
+
+pub returns : goal.returns
+returns c = assembled_so

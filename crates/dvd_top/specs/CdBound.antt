@@ -1,0 +1,33 @@
+-- The bound of `cdread`: what a run gives back of CD-ROM sectors whose damage the words of a sector bear (ours).
+use Rattle.std.specs.Prelude.{◌≡◌, ℕ, ◌+◌, ◌*◌, ◌<◌, ◌≤◌, List, [], ◌∷◌, length, take, drop}
+use Rattle.cd_sector.specs.Laws.{IsBorne}
+use Rattle.cd_sector.specs.Sector.{IsSector}
+use Rattle.dvd_loop.specs.Machine.{Outcome, Step}
+use Rattle.dvd_loop.specs.Machine.Step.{Write}
+use Rattle.dvd_loop.specs.declared.ends.Turn.{Turn}
+use Rattle.dvd_loop.specs.declared.ends.Turn.TheVariants.{Good}
+use Rattle.dvd_top.specs.Commands.CdRead.{IsSectorRead}
+use Rattle.dvd_words.specs.declared.settings.Settings.{Settings}
+
+-- the bytes of sector k of the input
+abbrev pub cd_sector_bytes : List ℕ → ℕ → List ℕ
+cd_sector_bytes bytes k = take 2352 (drop (2352 * k) bytes)
+
+-- Sector k is whole in the input, it was made of these user data for its address, and in each half, that of the low and that of
+-- the high bytes, its damage is one that the words bear.
+pub record IsBorneSector (settings : Settings) (bytes user : List ℕ) (k : ℕ) : Type 0 where
+  pub asked : k < settings.sectors
+  pub whole : 2352 * (k + 1) ≤ length bytes
+  pub user_size : length user ≡ 2048
+  pub sector : List ℕ
+  pub is_sector : IsSector (settings.address + k) user sector
+  pub low : IsBorne 0 sector (cd_sector_bytes bytes k)
+  pub high : IsBorne 1 sector (cd_sector_bytes bytes k)
+
+-- Of all user data: a sector that is borne gives back exactly these, at their place in the output; and nothing else may be done
+-- for it, so that no line names it.
+pub record KeepsSectors (settings : Settings) (bytes : List ℕ) (outcome : Outcome) : Type 0 where
+  pub at_place : (user : List ℕ) (k : ℕ) → IsBorneSector settings bytes user k → take 2048 (drop (2048 * k) outcome.out) ≡ user
+  pub alone : (user : List ℕ) (k : ℕ) → IsBorneSector settings bytes user k
+      → (steps : List Step) (turn : Turn) → IsSectorRead (settings.address + k) k (cd_sector_bytes bytes k) steps turn
+      → (steps ≡ Write user ∷ []) × (turn ≡ Good)
