@@ -1,5 +1,7 @@
 //! Disks of every shape with all of their zones, mastered and read back. The digests and the first bytes were computed
 //! by another program from the standard.
+ghost use Rattle.dvd_capture.specs.Captured.{HasSize};
+
 use crate::fixture::{BLOCK, NEVER, image, sink, zeros};
 use dvd_block::{Block, Piece};
 use dvd_capture::{Form, Work};
@@ -61,7 +63,9 @@ static HEADS: [(usize, u128); 9] = [
 ];
 
 // The settings of all zones, with CPR_MAI 01 02 03 04 05 AB.
-fn settings(command: Command, disk: Disk) -> Settings {
+fn settings(command: Command, disk: Disk) -> Settings
+    ensures { HasSize result.form }
+{
     let (shape, sectors, sectors1, _) = disk;
     Settings {
         command,
@@ -77,6 +81,9 @@ fn settings(command: Command, disk: Disk) -> Settings {
         workers: 1,
         seed: 0,
         blocks: 0,
+        address: 0,
+        captures: 0,
+        frames: 0,
     }
 }
 
@@ -119,7 +126,9 @@ fn recover(
     stream: &[u8],
     out: &mut MemSink,
     report: &mut MemSink,
-) -> Result<LoopEnd, Fail> {
+) -> Result<LoopEnd, Fail>
+    requires { HasSize settings.now.form }
+{
     let layout = settings.layout()?;
     let mut work = Work::new(alloc)?;
     let mut src = SliceSource::new(stream);

@@ -4,7 +4,7 @@ use dvd_top::Status;
 use std::test::Fail;
 
 // Words and the report.
-static RUNS: [(&str, &str); 6] = [
+static RUNS: [(&str, &str); 8] = [
     ("master --sectors 8191744", "short: block 0, 5 bytes\n"),
     ("recover --sectors 8191744", "short: block 0, 5 bytes\n"),
     (
@@ -15,6 +15,14 @@ static RUNS: [(&str, &str); 6] = [
     ("info --initial 12031", "short: block 0, 5 bytes\n"),
     (
         "frames --first 000000 --sectors 16777216",
+        "short: sector 0, 5 bytes\n",
+    ),
+    (
+        "cdmake --address 0 --sectors 450000",
+        "short: sector 0, 5 bytes\n",
+    ),
+    (
+        "cdread --address 0 --sectors 450000",
         "short: sector 0, 5 bytes\n",
     ),
 ];

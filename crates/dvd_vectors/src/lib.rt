@@ -2,7 +2,11 @@
 #![tactic(auto)]
 
 #[cfg(test)]
+mod assemble; // scattered recording frames put in order
+#[cfg(test)]
 mod damage; // blocks within the bound and beyond it
+#[cfg(test)]
+mod deep; // blocks that rounds give back, and that they don't
 #[cfg(test)]
 mod disks; // disks of every shape, mastered and read back
 #[cfg(test)]
@@ -22,6 +26,8 @@ mod largest; // the largest disk of each command
 #[cfg(test)]
 mod master; // recordings
 #[cfg(test)]
+mod merge; // captures of one disk joined
+#[cfg(test)]
 mod options; // what the options of `master` change
 #[cfg(test)]
 mod recover; // streams that aren't those that are asked for
@@ -33,6 +39,8 @@ mod survey; // surveys of streams
 mod usage; // words that ask for nothing
 #[cfg(test)]
 mod values; // derived equality
+#[cfg(test)]
+mod cd_sectors; // CD-ROM sectors
 
 use std::alloc::{AllocError, Global};
 

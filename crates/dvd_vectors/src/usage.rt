@@ -3,7 +3,7 @@ use crate::fixture::{Case, NEVER, SOUND, leave_fronts, zeros};
 use dvd_top::Status;
 use std::test::Fail;
 
-static TEXTS: [&str; 16] = [
+static TEXTS: [&str; 20] = [
     "",
     "Frames --first 030000 --sectors 1",
     "--help",
@@ -20,6 +20,10 @@ static TEXTS: [&str; 16] = [
     "frames --first 30000 --sectors 1",
     "frames --first 03000g --sectors 1",
     "master --sectors 17 --sectors 17",
+    "merge --sectors 16 --captures 1",
+    "merge --sectors 16 --captures 17",
+    "assemble --sectors 16385 --frames 1",
+    "assemble --sectors 16 --frames 0",
 ];
 
 // Where the report has no room for the line, the status tells it.

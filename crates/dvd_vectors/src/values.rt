@@ -12,13 +12,18 @@ use dvd_words::WordsFault;
 use rs_decode::{Fix, shortest};
 use std::test::Fail;
 
-static COMMANDS: [Command; 6] = [
+static COMMANDS: [Command; 11] = [
     Command::Frames,
     Command::Master,
     Command::Recover,
     Command::Info,
     Command::Survey,
     Command::Exercise,
+    Command::CdMake,
+    Command::CdRead,
+    Command::Merge,
+    Command::Deep,
+    Command::Assemble,
 ];
 
 static STATUSES: [Status; 12] = [
@@ -67,10 +72,13 @@ const PLAIN: Settings = Settings {
     workers: 1,
     seed: 0,
     blocks: 0,
+    address: 0,
+    captures: 0,
+    frames: 0,
 };
 
 // Each with another field of its own.
-static SETTINGS: [Settings; 14] = [
+static SETTINGS: [Settings; 17] = [
     PLAIN,
     Settings {
         command: Command::Master,
@@ -112,6 +120,15 @@ static SETTINGS: [Settings; 14] = [
     },
     Settings { seed: 1, ..PLAIN },
     Settings { blocks: 1, ..PLAIN },
+    Settings {
+        address: 1,
+        ..PLAIN
+    },
+    Settings {
+        captures: 2,
+        ..PLAIN
+    },
+    Settings { frames: 1, ..PLAIN },
 ];
 
 static RULES: [Rule; 3] = [Rule::Whole, Rule::Off, Rule::First160];
@@ -226,16 +243,18 @@ static CONTROL_FAULTS: [ControlFault; 9] = [
     ControlFault::Range { first: 2, last: 1 },
 ];
 
-static FORMS: [Form; 2] = [Form::Plain, Form::Marked];
+static FORMS: [Form; 3] = [Form::Plain, Form::Marked, Form::Listed];
 
 static STAGES: [Stage; 4] = [Stage::Empty, Stage::Fetched, Stage::Refused, Stage::Fixed];
 
-static FETCHES: [FetchAnswer; 5] = [
+static FETCHES: [FetchAnswer; 7] = [
     FetchAnswer::Full,
     FetchAnswer::End,
     FetchAnswer::Short { bytes: 1 },
     FetchAnswer::Short { bytes: 2 },
     FetchAnswer::ReadFault,
+    FetchAnswer::BadMarks { at: 1 },
+    FetchAnswer::BadMarks { at: 2 },
 ];
 
 static ROW_ANSWERS: [AnswerRow; 3] = [

@@ -1,0 +1,199 @@
+//! CD-ROM sectors that are made, and their user data, by whole runs.
+use crate::fixture::{ALL_SOUND, End, image, run_to, zeros};
+use dvd_top::Status;
+use sha2::{Digest, Sha256};
+use std::test::Fail;
+use std::thread::Threads;
+
+const MAKE: &str = "cdmake --address 150 --sectors 1";
+
+const READ: &str = "cdread --address 150 --sectors 1";
+
+// The first sector behind the pause of two seconds, of zeros: SHA-256 of its bytes.
+const ZEROS: [u8; 32] = [
+    0xB4, 0xF1, 0x8A, 0xB6, 0x67, 0x09, 0xC9, 0xB3, 0xFD, 0xEF, 0x27, 0x21, 0xCC, 0x32, 0x3E, 0x03,
+    0x1B, 0x67, 0x28, 0xF3, 0xCA, 0x6C, 0x57, 0xB7, 0xC4, 0x35, 0xC9, 0x61, 0x89, 0x22, 0x22, 0x50,
+];
+
+// The same of counted bytes.
+const COUNTED: [u8; 32] = [
+    0x53, 0x5D, 0x2B, 0x4A, 0xE3, 0xC6, 0xB5, 0xDC, 0xF3, 0xBE, 0x1B, 0x31, 0x45, 0xBD, 0xBE, 0x0C,
+    0x67, 0x80, 0x83, 0x98, 0x2D, 0xFB, 0xC7, 0x81, 0xC5, 0x5B, 0xA1, 0x47, 0x29, 0x89, 0x6B, 0x47,
+];
+
+// Byte i of the user data is 7i + i / 256.
+fn counted() -> [u8; 2048] {
+    let mut bytes = [0; 2048];
+    for i in 0..2048 {
+        bytes[i] = ((7 * i + i / 256) % 256) as u8;
+    }
+    bytes
+}
+
+// The sector of address 150.
+fn made<R: AllocGlobal + Threads + Sync>(rt: &R, user: &[u8]) -> Result<Vec<u8>, Fail> {
+    run_to(rt, MAKE, user, ALL_SOUND, (Status::Done, 2352, "done\n"))
+}
+
+fn has_at(sector: &[u8], at: usize, bytes: &[u8]) -> bool {
+    sector.get(at..).is_some_and(|rest| rest.starts_with(bytes))
+}
+
+// What the sector library of the program wodim makes (libedc of cdrkit 1.1.11), and a program that was made from the standard
+// alone.
+#[test]
+fn the_sectors_of_another_program(rt: HostRuntime) -> Result<(), Fail> {
+    let sector = made(&rt, &[0; 2048])?;
+    let front = [
+        0x00, 0xFF, 0xFF, 0xFF, 0xFF, 0xFF, 0xFF, 0xFF, 0xFF, 0xFF, 0xFF, 0x00, 0x00, 0x02, 0x00,
+        0x01,
+    ];
+    assert!(rt; sector.starts_with(&front));
+    assert_eq!(rt; Sha256::digest(&sector), ZEROS);
+    let sector = made(&rt, &counted())?;
+    assert!(rt; has_at(&sector, 2064, &[0xA2, 0xCA, 0x36, 0xEC]));
+    assert!(rt; has_at(&sector, 2076, &[0xD2, 0x24, 0xCD, 0x3B]));
+    assert!(rt; has_at(&sector, 2248, &[0x59, 0x71, 0x7C, 0xF6]));
+    assert_eq!(rt; Sha256::digest(&sector), COUNTED);
+    Ok(())
+}
+
+// Words, zeros read, and the end.
+type Run = (&'static str, usize, End);
+
+static RUNS: [Run; 12] = [
+    (
+        MAKE,
+        2047,
+        (Status::Short, 0, "short: sector 0, 2047 bytes\n"),
+    ),
+    (MAKE, 2049, (Status::Long, 2352, "long\n")),
+    (
+        "cdmake --address 0 --sectors 450000",
+        2050,
+        (Status::Short, 2352, "short: sector 1, 2 bytes\n"),
+    ),
+    (
+        "cdmake --address 449999 --sectors 2",
+        2048,
+        (Status::Usage, 0, "usage\n"),
+    ),
+    (READ, 0, (Status::Short, 0, "short: sector 0, 0 bytes\n")),
+    (
+        READ,
+        2351,
+        (Status::Short, 0, "short: sector 0, 2351 bytes\n"),
+    ),
+    (
+        READ,
+        2352,
+        (
+            Status::Damaged,
+            2048,
+            "sector 0: mode 0\ndamaged: 1 sectors\n",
+        ),
+    ),
+    (READ, 2353, (Status::Long, 2048, "sector 0: mode 0\nlong\n")),
+    (
+        "cdread --address 449998 --sectors 2",
+        4704,
+        (
+            Status::Damaged,
+            4096,
+            "sector 0: mode 0\nsector 1: mode 0\ndamaged: 2 sectors\n",
+        ),
+    ),
+    (
+        "cdread --address 0 --sectors 450000",
+        2353,
+        (
+            Status::Short,
+            2048,
+            "sector 0: mode 0\nshort: sector 1, 1 bytes\n",
+        ),
+    ),
+    (
+        "cdread --address 449999 --sectors 2",
+        2352,
+        (Status::Usage, 0, "usage\n"),
+    ),
+    (
+        "cdread --address 150 --sectors 1 --form plain",
+        2352,
+        (Status::Usage, 0, "usage\n"),
+    ),
+];
+
+#[test]
+fn each_run_ends_as_its_input_says(rt: HostRuntime) -> Result<(), Fail> {
+    for (text, size, end) in &RUNS {
+        run_to(&rt, text, &zeros(rt.alloc(), *size)?, ALL_SOUND, *end)?;
+    }
+    Ok(())
+}
+
+#[test]
+fn a_sector_of_another_address(rt: HostRuntime) -> Result<(), Fail> {
+    let sector = made(&rt, &counted())?;
+    let end = (
+        Status::Damaged,
+        2048,
+        "sector 0: address found 000200\ndamaged: 1 sectors\n",
+    );
+    let out = run_to(
+        &rt,
+        "cdread --address 151 --sectors 1",
+        &sector,
+        ALL_SOUND,
+        end,
+    )?;
+    assert_eq!(rt; &out, &zeros(rt.alloc(), 2048)?);
+    Ok(())
+}
+
+// The bits that are read wrong: of the first sector all bytes of one P word in each half, of the second one a thousand bytes,
+// of the third one the sync and a byte of each half behind it.
+fn wrong_bits(at: usize) -> u8 {
+    match (at / 2352, at % 2352) {
+        (0, place @ 12..=2247) if place % 86 == 22 => 0xFF,
+        (0, place @ 12..=2247) if place % 86 == 11 => 0x5A,
+        (1, 1000..=1999) => 0x55,
+        (2, 0..=13) => 0x33,
+        _ => 0,
+    }
+}
+
+#[test]
+fn a_damaged_sector_among_good_ones(rt: HostRuntime) -> Result<(), Fail> {
+    let mut user = image(rt.alloc(), 4)?;
+    let done = (Status::Done, 9408, "done\n");
+    let mut stream = run_to(
+        &rt,
+        "cdmake --address 4498 --sectors 4",
+        &user,
+        ALL_SOUND,
+        done,
+    )?;
+    for (at, byte) in stream.iter_mut().enumerate() {
+        *byte ^= wrong_bits(at);
+    }
+    let end = (
+        Status::Damaged,
+        8192,
+        "sector 1: parity 0\ndamaged: 1 sectors\n",
+    );
+    let out = run_to(
+        &rt,
+        "cdread --address 4498 --sectors 4",
+        &stream,
+        ALL_SOUND,
+        end,
+    )?;
+    for (k, sector) in user.chunks_exact_mut(2048).enumerate() {
+        if k == 1 {
+            sector.fill(0);
+        }
+    }
+    assert_eq!(rt; &out, &user);
+    Ok(())
+}
