@@ -1,7 +1,9 @@
 -- A block whose rows got inner parity, and whose columns then got outer parity, is a product code block.
 use Rattle.std.proofs.Common.{◌≡◌, ℕ, ◌+◌, ◌-◌, ◌<◌, ◌≤◌, List, [], ◌++◌, length, map, get_or, take, drop, All, inl, inr, sym, ◌∙◌, ap, subst, arith}
 use Rattle.std.proofs.lemmas.Bool.{cases_lt}
-use Rattle.std.proofs.lemmas.List.{get_or-take, get_or-drop, take-map, take-append-drop, length-drop, length-append, length-take-le, get_or_default}
+use Rattle.std.proofs.lemmas.List.{get_or-take, get_or-drop, take-map, take-append-drop, take_all, take_at, length-drop, length-append, length-take-le, get_or_default, get_or-append_right}
+use Rattle.std.specs.List.{range_with_len}
+use Rattle.std.proofs.lemmas.List.FromFn.{get_or-map-range_with_len}
 use Rattle.std.proofs.lemmas.Grind.{same_number_lists}
 use Rattle.gf_field.specs.Field.{alpha, power}
 use Rattle.gf_field.specs.Words.{IsByte, IsCodeword, IsEncoded}
@@ -93,3 +95,33 @@ module _ (old upper cells block : List (List ℕ)) (filled : IsFilled old upper 
     rows = λ i d below. subst (IsCodeword 182 10) (get_or_default block i [] d below) (row_codeword i (omega (arith, filled.height)));
     columns = column_codeword;
   }
+
+-- the columns of rows of outer parity, as cells
+pub cells_of : List (List ℕ) → List (List ℕ)
+cells_of lower = map (column lower) (range_with_len 0 182)
+
+-- rows with inner parity, and below them the rows of outer parity
+pub filled_below : (old upper lower : List (List ℕ)) → length upper ≡ 192 → length lower ≡ 16
+    → ((i : ℕ) → i < 192 → IsEncoded 182 10 (take 172 (line old i)) (line upper i))
+    → ((j : ℕ) → j < 182 → IsEncoded 208 16 (column upper j) (column upper j ++ column lower j))
+    → ((t : ℕ) → t < 16 → length (line lower t) ≡ 182)
+    → IsFilled old upper (cells_of lower) (upper ++ lower)
+unfolding cells_of
+filled_below old upper lower upper_height lower_height rows columns sizes =
+    let cell : (j : ℕ) → j < 182 → line (cells_of lower) j ≡ column lower j =
+    λ j within. get_or-map-range_with_len (column lower) 0 182 j j [] within (omega arith) in
+    let below : (t : ℕ) → line (upper ++ lower) (192 + t) ≡ line lower t =
+    λ t. get_or-append_right upper lower 192 (192 + t) [] upper_height (omega arith) ∙ ap (line lower) (omega arith) in
+    record {
+      height = length-append upper lower ∙ omega arith;
+      upper_height = omega arith;
+      kept = take_at upper lower 192 upper_height ∙ sym (take_all 192 upper (omega arith));
+      rows = rows;
+      columns = λ j within.
+          let whole : take 192 (column upper j) ≡ column upper j = take_all 192 (column upper j) (omega (arith, length-column upper j)) in
+          rw (whole, cell j within) (columns j within).codeword;
+      placed = λ t j small within.
+          ap (λ (row : List ℕ). get_or row j 0) (below t)
+          ∙ sym (ap (λ (word : List ℕ). get_or word t 0) (cell j within) ∙ get_or-column lower j t (omega arith));
+      sizes = λ t small. ap (λ (row : List ℕ). length row) (below t) ∙ sizes t small;
+    }

@@ -8,9 +8,7 @@ ghost use Rattle.dvd_block.specs.Recording.{recorded};
 
 use crate::buffers::{Cells, Lines};
 use crate::order::row_of_record;
-use crate::parity::{
-    columns_are_codewords, place_cells, rows_are_codewords, set_inner_parity, set_outer_parity,
-};
+use crate::parity::{columns_are_codewords, fill_parity, place_cells, rows_are_codewords};
 use dvd_ports::{NoMemory, Sink, WriteFault, write_whole};
 use std::alloc::Global;
 
@@ -72,11 +70,7 @@ impl Block {
         ensures product { IsProduct (block_rows self.new) }
         ensures kept { (i j : ℕ) → i < 192 → j < 172 → place (block_rows self.new) i j ≡ place (block_rows self.old) i j }
     {
-        // The columns of inner parity get outer parity too. The rows of outer parity are then codewords,
-        // since the code is linear.
-        set_inner_parity(&mut self.lines);
-        set_outer_parity(&self.lines, &mut self.cells);
-        self.place_parity();
+        fill_parity(self.lines.rows_mut());
     }
 
     /// Whether each row and each column is a codeword.

@@ -2,11 +2,12 @@
 //! parity (PO) end a column.
 ghost use Rattle.std.specs.Prelude.{◌≡◌, ℕ, ◌<◌, ◌≤◌, ◌++◌, length, take, slice_index, EachIndex, All, ◌↔◌, IsTrue};
 ghost use Rattle.gf_field.specs.Words.{IsCodeword, IsEncoded};
-ghost use Rattle.dvd_block.specs.Buffers.{lines_rows, cells_all};
-ghost use Rattle.dvd_block.specs.Product.{line, place, column};
+ghost use Rattle.dvd_block.specs.Buffers.{lines_rows};
+ghost use Rattle.dvd_block.specs.Product.{line, place, column, IsProduct};
 
-use crate::buffers::{Cells, Lines};
+use crate::buffers::Lines;
 use rs_code::{Pi, Po};
+use rs_lanes::{inner_parity, outer_parity};
 
 /// Keeps the first 172 bytes of a row and sets the last ten so that it is a codeword.
 pub fn row_parity(code: &Pi, row: &mut [u8; 182])
@@ -27,37 +28,27 @@ pub fn column_parity(code: &Po, lines: &Lines, j: usize, cell: &mut [u8; 16])
     cell.copy_from_slice(&word[192..]);
 }
 
-// Sets the inner parity of the upper 192 rows.
-pub(crate) fn set_inner_parity(lines: &mut Lines)
-    ensures { (i : ℕ) → i < 192 → IsEncoded 182 10 (take 172 (line (lines_rows lines.old) i)) (line (lines_rows lines.new) i) }
+// Sets the inner parity of the upper 192 of 208 rows, and then the outer parity of all their columns, those of inner parity
+// too. The rows of outer parity are then codewords, since the code is linear.
+pub(crate) fn fill_parity(rows: &mut [[u8; 182]])
+    requires { length rows.old ≡ 208 }
+    ensures size { length rows.new ≡ 208 }
+    ensures product { IsProduct rows.new }
+    ensures kept { (i j : ℕ) → i < 192 → j < 172 → place rows.new i j ≡ place rows.old i j }
 {
-    let (upper, _) = lines.rows_mut().split_at_mut(192);
-    encode_rows(upper);
+    let (upper, lower) = rows.split_at_mut(192);
+    set_inner_parity(upper);
+    outer_parity(upper, lower);
 }
 
-fn encode_rows(rows: &mut [[u8; 182]])
-    ensures { EachIndex rows.new (λ i. IsEncoded 182 10 (take 172 (line rows.old i)) (line rows.new i)) }
+// Sets the inner parity of 192 rows, of 32 at once.
+fn set_inner_parity(rows: &mut [[u8; 182]])
+    requires { length rows.old ≡ 192 }
+    ensures size { length rows.new ≡ 192 }
+    ensures encoded { (i : ℕ) → i < 192 → IsEncoded 182 10 (take 172 (line rows.old i)) (line rows.new i) }
 {
-    let code = Pi::new();
-    for row in rows {
-        row_parity(&code, row);
-    }
-}
-
-// Sets the outer parity of each column.
-pub(crate) fn set_outer_parity(lines: &Lines, cells: &mut Cells)
-    ensures { (j : ℕ) → j < 182 → IsCodeword 208 16 (take 192 (column (lines_rows lines.now) j) ++ line (cells_all cells.new) j) }
-{
-    encode_columns(lines, cells.all_mut());
-}
-
-fn encode_columns(lines: &Lines, cells: &mut [[u8; 16]])
-    requires { length cells.old ≡ 182 }
-    ensures { EachIndex cells.new (λ j. IsCodeword 208 16 (take 192 (column (lines_rows lines.now) j) ++ line cells.new j)) }
-{
-    let code = Po::new();
-    for (j, cell) in cells.iter_mut().enumerate() {
-        column_parity(&code, lines, j, cell);
+    for group in 0..6 {
+        inner_parity(rows, 32 * group);
     }
 }
 

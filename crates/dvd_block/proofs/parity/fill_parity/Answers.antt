@@ -1,0 +1,34 @@
+use Rattle.std.proofs.Common.{◌≡◌, ℕ, ◌<◌, List, [], ◌++◌, take, sym, ap, ◌∙◌, subst, arith}
+use Rattle.std.proofs.lemmas.List.{get_or_append_left}
+use Rattle.gf_field.specs.Words.{IsEncoded}
+use Rattle.dvd_block.specs.Product.{line, column}
+use Rattle.dvd_block.proofs.Filling.{IsFilled, filled_below, cells_of, message_kept, is_product}
+use Rattle.dvd_block.proofs.parity.fill_parity.Goals as goal
+
+module _ (c : goal.After-rows-2-1) where
+  abbrev old : List (List ℕ)
+  old = c.args.rows.now
+
+  abbrev upper : List (List ℕ)
+  upper = c.set_inner_parity.new.rows
+
+  abbrev lower : List (List ℕ)
+  lower = c.outer_parity.new.parity
+
+  filled : IsFilled old upper (cells_of lower) (upper ++ lower)
+  unfolding column
+  filled =
+      let was : List (List ℕ) = c.split_at_mut-upper.result.0.now in
+      let row_is : (i : ℕ) → i < 192 → line was i ≡ line old i =
+      λ i above. sym (ap (λ (rows : List (List ℕ)). line rows i) c.split_at_mut-upper.ensures.value
+      ∙ get_or_append_left was c.split_at_mut-upper.result.1.now [] i (omega (arith, c.split_at_mut-upper.ensures.front_len))) in
+      filled_below old upper lower c.set_inner_parity.ensures.size c.outer_parity.ensures.size
+      (λ i above. subst (λ (row : List ℕ). IsEncoded 182 10 (take 172 row) (line upper i)) (row_is i above) (c.set_inner_parity.ensures.encoded i above))
+      c.outer_parity.ensures.encoded
+      c.outer_parity.ensures.sizes
+
+pub returns-clause-product : goal.returns-clause-product
+returns-clause-product c = is_product (old c) (upper c) (cells_of (lower c)) (upper c ++ lower c) (filled c)
+
+pub returns-clause-kept : goal.returns-clause-kept
+returns-clause-kept c = message_kept (old c) (upper c) (cells_of (lower c)) (upper c ++ lower c) (filled c)

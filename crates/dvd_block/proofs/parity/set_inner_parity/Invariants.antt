@@ -1,0 +1,12 @@
+use Rattle.std.proofs.Common.{◌≡◌, ℕ, ◌*◌, ◌<◌, ◌≤◌, length, take}
+use Rattle.gf_field.specs.Words.{IsEncoded}
+use Rattle.dvd_block.specs.Product.{line}
+use Rattle.dvd_block.proofs.parity.set_inner_parity.Given as goal
+
+-- the rows of the groups that are done have their parity, and all others are as they were
+abbrev pub invariant-loop-group : goal.invariant-loop-group
+invariant-loop-group l = record {
+  size : length l.rows ≡ 192;
+  set : (i : ℕ) → i < 32 * l.group → IsEncoded 182 10 (take 172 (line l.initial.rows i)) (line l.rows i);
+  rest : (i : ℕ) → 32 * l.group ≤ i → line l.rows i ≡ line l.initial.rows i;
+}

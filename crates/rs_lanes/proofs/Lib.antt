@@ -1,0 +1,7 @@
+pub mod CodewordLemmas
+pub mod ColumnLemmas
+pub mod LaneLemmas
+pub mod Nibbles
+pub mod RowLemmas
+pub mod TableLemmas
+pub mod Tiles

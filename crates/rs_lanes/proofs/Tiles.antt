@@ -1,0 +1,112 @@
+-- Tiles of sixteen vectors: what their pairs of rows hold (HasPairs, pairs_more, pairs_wide), and vectors by places: what holds
+-- below a place, and of sixteen vectors from it on, holds of all of them (places_more).
+use Rattle.std.proofs.Common.{◌≡◌, ℕ, ◌+◌, ◌-◌, ◌*◌, ◌/◌, ◌%◌, ◌<◌, List, [], length, get_or, set, sym, ap, subst, ◌∙◌, inl, inr, arith, length-set, get_or-set_other}
+use Rattle.std.proofs.lemmas.Bool.{cases_eq, cases_lt}
+use Rattle.std.proofs.lemmas.Grind.{get_or-set_at}
+use Rattle.rs_lanes.specs.Rows.{line, place}
+
+-- the vectors below `to` have the places of 32 rows from `top` on
+pub record HasPlaces (rows : List (List ℕ)) (top to : ℕ) (turned : List (List ℕ)) : Type 0 where
+  pub lanes : (k : ℕ) → k < to → length (line turned k) ≡ 32
+  pub set : (k n : ℕ) → k < to → n < 32 → place turned k n ≡ place rows (top + n) k
+
+-- sixteen vectors more
+pub places_more : (rows : List (List ℕ)) (top at : ℕ) (before after tile : List (List ℕ))
+    → ((k : ℕ) → k < at → line after k ≡ line before k)
+    → ((k : ℕ) → k < 16 → line after (at + k) ≡ line tile k)
+    → HasPlaces rows top at before
+    → ((k : ℕ) → k < 16 → length (line tile k) ≡ 32)
+    → ((k n : ℕ) → k < 16 → n < 32 → place tile k n ≡ place rows (top + n) (at + k))
+    → HasPlaces rows top (at + 16) after
+places_more rows top at before after tile kept set has lanes turned = record {
+  lanes = λ k below.
+      elim (cases_lt k at) [
+        | inl under ↦ ap length (kept k under) ∙ has.lanes k under
+        | inr over ↦
+            let whole : at + (k - at) ≡ k = omega arith in
+            ap (λ m. length (line after m)) (sym whole) ∙ ap length (set (k - at) (omega arith)) ∙ lanes (k - at) (omega arith)
+      ];
+  set = λ k n below lane.
+      elim (cases_lt k at) [
+        | inl under ↦ ap (λ row. get_or row n 0) (kept k under) ∙ has.set k n under lane
+        | inr over ↦
+            let whole : at + (k - at) ≡ k = omega arith in
+            ap (λ m. place after m n) (sym whole)
+            ∙ ap (λ row. get_or row n 0) (set (k - at) (omega arith))
+            ∙ turned (k - at) n (omega arith) lane
+            ∙ ap (place rows (top + n)) whole
+      ];
+}
+
+-- k vectors of a tile have sixteen places from `at` on of two rows each, the one sixteen below the other, and the rows have 182
+pub record HasPairs (rows : List (List ℕ)) (top at k : ℕ) (tile : List (List ℕ)) : Type 0 where
+  pub size : length tile ≡ 16
+  pub upper : (i : ℕ) → i < k → length (line rows (top + i)) ≡ 182
+  pub lower : (i : ℕ) → i < k → length (line rows (top + 16 + i)) ≡ 182
+  pub lanes : (i : ℕ) → i < k → length (line tile i) ≡ 32
+  pub bytes : (i n : ℕ) → i < k → n < 32 → place tile i n ≡ place rows (top + (16 * (n / 16) + i)) (at + n % 16)
+
+-- one vector more
+pub pairs_more : (rows : List (List ℕ)) (top at k : ℕ) (tile : List (List ℕ)) (one other pair : List ℕ)
+    → k < 16
+    → HasPairs rows top at k tile
+    → one ≡ line rows (top + k) → length one ≡ 182
+    → other ≡ line rows (top + 16 + k) → length other ≡ 182
+    → length pair ≡ 32
+    → ((n : ℕ) → n < 16 → get_or pair n 0 ≡ get_or one (at + n) 0)
+    → ((n : ℕ) → n < 16 → get_or pair (16 + n) 0 ≡ get_or other (at + n) 0)
+    → HasPairs rows top at (k + 1) (set tile k pair)
+pairs_more rows top at k tile one other pair below has upper upper_size lower lower_size size first second =
+    let many = has.size in
+    record {
+      size = length-set tile k pair ∙ has.size;
+      upper = λ i under.
+          elim (cases_lt i k) [
+            | inl before ↦ has.upper i before
+            | inr last ↦
+                let same : k ≡ i = omega arith in
+                subst (λ m. length (line rows (top + m)) ≡ 182) same (ap length (sym upper) ∙ upper_size)
+          ];
+      lower = λ i under.
+          elim (cases_lt i k) [
+            | inl before ↦ has.lower i before
+            | inr last ↦
+                let same : k ≡ i = omega arith in
+                subst (λ m. length (line rows (top + 16 + m)) ≡ 182) same (ap length (sym lower) ∙ lower_size)
+          ];
+      lanes = λ i under.
+          elim (cases_eq i k) [
+            | inl same ↦ ap length (get_or-set_at tile k i pair [] same (omega arith)) ∙ size
+            | inr apart ↦ ap length (get_or-set_other tile k i pair [] apart) ∙ has.lanes i (omega arith)
+          ];
+      bytes = λ i n under lane.
+          elim (cases_eq i k) [
+            | inl same ↦
+                ap (λ row. get_or row n 0) (get_or-set_at tile k i pair [] same (omega arith))
+                ∙ elim (cases_lt n 16) [
+                  | inl left ↦
+                      let row : top + k ≡ top + (16 * (n / 16) + i) = omega arith in
+                      let lane_is : at + n ≡ at + n % 16 = omega arith in
+                      first n left ∙ ap (λ xs. get_or xs (at + n) 0) upper ∙ (λ q. place rows (row q) (lane_is q))
+                  | inr right ↦
+                      let row : top + 16 + k ≡ top + (16 * (n / 16) + i) = omega arith in
+                      let lane_is : at + (n - 16) ≡ at + n % 16 = omega arith in
+                      let whole : 16 + (n - 16) ≡ n = omega arith in
+                      ap (λ m. get_or pair m 0) (sym whole)
+                      ∙ second (n - 16) (omega arith)
+                      ∙ ap (λ xs. get_or xs (at + (n - 16)) 0) lower
+                      ∙ (λ q. place rows (row q) (lane_is q))
+                ]
+            | inr apart ↦ ap (λ row. get_or row n 0) (get_or-set_other tile k i pair [] apart) ∙ has.bytes i n (omega arith) lane
+          ];
+    }
+
+-- all 32 rows have 182 places
+pub pairs_wide : (rows : List (List ℕ)) (top at : ℕ) (tile : List (List ℕ)) → HasPairs rows top at 16 tile → (n : ℕ) → n < 32 → length (line rows (top + n)) ≡ 182
+pairs_wide rows top at tile has n below =
+    elim (cases_lt n 16) [
+      | inl left ↦ has.upper n left
+      | inr right ↦
+          let whole : top + 16 + (n - 16) ≡ top + n = omega arith in
+          subst (λ m. length (line rows m) ≡ 182) whole (has.lower (n - 16) (omega arith))
+    ]

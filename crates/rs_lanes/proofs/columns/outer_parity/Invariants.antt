@@ -1,0 +1,11 @@
+use Rattle.std.proofs.Common.{◌≡◌, ℕ, ◌*◌, ◌<◌, ◌++◌, length}
+use Rattle.gf_field.specs.Words.{IsEncoded}
+use Rattle.rs_lanes.specs.Rows.{column}
+use Rattle.rs_lanes.proofs.columns.outer_parity.Given as goal
+
+-- the columns of the groups that are done have their parity
+abbrev pub invariant-loop-group : goal.invariant-loop-group
+invariant-loop-group l = record {
+  size : length l.parity ≡ 16;
+  encoded : (j : ℕ) → j < 32 * l.group → IsEncoded 208 16 (column l.rows j) (column l.rows j ++ column l.parity j);
+}

@@ -1,0 +1,12 @@
+use Rattle.std.proofs.Common.{◌≡◌, ℕ, ◌+◌, ◌*◌, ◌/◌, ◌%◌, ◌<◌, length}
+use Rattle.rs_lanes.specs.Rows.{line, place}
+use Rattle.rs_lanes.proofs.turning.riffle.Given as goal
+
+-- the first k pairs are set
+abbrev pub invariant-loop-k : goal.invariant-loop-k
+invariant-loop-k l = record {
+  size : length l.riffled ≡ 16;
+  lanes : (i : ℕ) → i < 2 * l.k → length (line l.riffled i) ≡ 32;
+  set : (i n : ℕ) → i < 2 * l.k → n < 32
+      → place l.riffled i n ≡ place l.tile (8 * (n % 2) + i / 2) (16 * (n / 16) + (8 * (i % 2) + n % 16 / 2));
+}

@@ -1,0 +1,4 @@
+-- What only the private functions of this crate promise. No public contract cites these pages.
+pub mod Lanes
+pub mod Tables
+pub mod Turning

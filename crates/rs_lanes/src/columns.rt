@@ -1,0 +1,136 @@
+//! The columns of an ECC block, 32 at once.
+ghost use Rattle.std.specs.Prelude.{◌≡◌, ◌↔◌, ℕ, ◌+◌, ◌<◌, ◌≤◌, List, ◌++◌, length, map, slice_index, EachIndex, All};
+ghost use Rattle.gf_field.specs.Words.{IsByte, IsCodeword, IsEncoded};
+ghost use Rattle.rs_code.specs.Inner.Polynomials.{IsRemainder};
+ghost use Rattle.rs_lanes.specs.Rows.{line, place, column};
+ghost use Rattle.rs_lanes.specs.Inner.Lanes.{HasLanes};
+ghost use Rattle.rs_lanes.specs.Inner.Tables.{AreTables};
+
+use crate::division::read_bytes;
+use crate::lanes::{also, load, store};
+use crate::row::Row;
+use crate::tables::PO;
+use std::simd::prelude::*;
+
+/// Sets sixteen rows to the outer parity of 192 rows: each column is then followed by its parity.
+pub fn outer_parity(rows: &[[u8; 182]], parity: &mut [[u8; 182]])
+    requires rows { length rows.now ≡ 192 }
+    requires parity { length parity.old ≡ 16 }
+    ensures size { length parity.new ≡ 16 }
+    ensures sizes { (k : ℕ) → k < 16 → length (line parity.new k) ≡ 182 }
+    ensures encoded { (j : ℕ) → j < 182 → IsEncoded 208 16 (column rows.now j) (column rows.now j ++ column parity.new j) }
+{
+    for group in 0..5 {
+        put_parity(rows, 32 * group, parity);
+    }
+    put_parity(rows, 150, parity);
+}
+
+/// Zero at each column of 208 rows that is a codeword, and not at any other.
+pub fn wrong_columns<T: Row>(rows: &[T]) -> [u8; 182]
+    requires { length rows.now ≡ 208 }
+    ensures { (j : ℕ) → j < 182 → (slice_index result j ≡ 0) ↔ IsCodeword 208 16 (column (map T.word rows.now) j) }
+{
+    let mut wrong = [0; 182];
+    for group in 0..5 {
+        put_wrong(rows, 32 * group, &mut wrong);
+    }
+    put_wrong(rows, 150, &mut wrong);
+    wrong
+}
+
+// Sets the outer parity of the 32 columns from `at` on. All else stays.
+fn put_parity(rows: &[[u8; 182]], at: usize, parity: &mut [[u8; 182]])
+    requires at { at + 32 ≤ 182 }
+    requires rows { length rows.now ≡ 192 }
+    requires parity { length parity.old ≡ 16 }
+    ensures size { length parity.new ≡ 16 }
+    ensures sizes { (k : ℕ) → k < 16 → length (line parity.new k) ≡ 182 }
+    ensures encoded { (j : ℕ) → j < 32 → IsEncoded 208 16 (column rows.now (at + j)) (column rows.now (at + j) ++ column parity.new (at + j)) }
+    ensures below { (k j : ℕ) → j < at → place parity.new k j ≡ place parity.old k j }
+    ensures above { (k j : ℕ) → at + 32 ≤ j → place parity.new k j ≡ place parity.old k j }
+{
+    put_register(&divide_columns(&PO, rows, at), at, parity);
+}
+
+// Sets the bytes of 32 columns to those of a register. All others stay.
+#[inline(always)]
+fn put_register(register: &[u8x32; 16], at: usize, parity: &mut [[u8; 182]])
+    requires at { at + 32 ≤ 182 }
+    requires parity { length parity.old ≡ 16 }
+    ensures size { length parity.new ≡ 16 }
+    ensures sizes { (k : ℕ) → k < 16 → length (line parity.new k) ≡ 182 }
+    ensures set { (k j : ℕ) → k < 16 → j < 32 → place parity.new k (at + j) ≡ place register.now k j }
+    ensures below { (k j : ℕ) → j < at → place parity.new k j ≡ place parity.old k j }
+    ensures above { (k j : ℕ) → at + 32 ≤ j → place parity.new k j ≡ place parity.old k j }
+{
+    for k in 0..16 {
+        put_lanes(register[k], &mut parity[k], at);
+    }
+}
+
+// Sets places 32 from `at` on in a row whose length is told.
+#[inline(always)]
+fn put_lanes(lanes: u8x32, row: &mut [u8; 182], at: usize)
+    requires { at + 32 ≤ 182 }
+    ensures size { length row.new ≡ 182 }
+    ensures set { (k : ℕ) → k < 32 → slice_index row.new (at + k) ≡ slice_index lanes k }
+    ensures below { (k : ℕ) → k < at → slice_index row.new k ≡ slice_index row.old k }
+    ensures above { (k : ℕ) → at + 32 ≤ k → slice_index row.new k ≡ slice_index row.old k }
+{
+    store(lanes, row, at);
+}
+
+// The 32 bytes of a row from place `at` on.
+#[inline(always)]
+fn lanes_at(row: &[u8; 182], at: usize) -> u8x32
+    requires { at + 32 ≤ 182 }
+    ensures { HasLanes result (λ k. slice_index row.now (at + k)) }
+{
+    load(row, at)
+}
+
+// Sets 32 bytes to zero where their columns are codewords, and to others where not.
+fn put_wrong<T: Row>(rows: &[T], at: usize, wrong: &mut [u8; 182])
+    requires at { at + 32 ≤ 182 }
+    requires rows { length rows.now ≡ 208 }
+    ensures set { (j : ℕ) → j < 32 → (slice_index wrong.new (at + j) ≡ 0) ↔ IsCodeword 208 16 (column (map T.word rows.now) (at + j)) }
+    ensures below { (k : ℕ) → k < at → slice_index wrong.new k ≡ slice_index wrong.old k }
+    ensures above { (k : ℕ) → at + 32 ≤ k → slice_index wrong.new k ≡ slice_index wrong.old k }
+{
+    let (message, parity) = rows.split_at(192);
+    let register = divide_columns(&PO, message, at);
+    put_lanes(unlike_rows(&register, parity, at), wrong, at);
+}
+
+// Zero in each lane where the register and the rows from place `at` on are equal.
+#[inline(always)]
+fn unlike_rows<T: Row>(register: &[u8x32; 16], rows: &[T], at: usize) -> u8x32
+    requires at { at + 32 ≤ 182 }
+    requires rows { length rows.now ≡ 16 }
+    ensures size { length result ≡ 32 }
+    ensures zeros { (j : ℕ) → j < 32
+        → (slice_index result j ≡ 0) ↔ ((k : ℕ) → k < 16 → place register.now k j ≡ place (map T.word rows.now) k (at + j)) }
+{
+    let mut differs = u8x32::splat(0);
+    for k in 0..16 {
+        differs = also(differs, register[k], lanes_at(rows[k].row(), at));
+    }
+    differs
+}
+
+// The remainders of 32 columns from `at` on. That the columns are bytes is told too.
+#[inline(always)]
+fn divide_columns<T: Row>(tables: &[[[u8; 16]; 2]; 16], rows: &[T], at: usize) -> [u8x32; 16]
+    requires { at + 32 ≤ 182 }
+    ensures lanes { EachIndex result (λ k. length (line result k) ≡ 32) }
+    ensures bytes { (j : ℕ) → j < 32 → All IsByte (column (map T.word rows.now) (at + j)) }
+    ensures remainders { (generator : List ℕ) → AreTables generator tables.now → (j : ℕ) → j < 32
+        → IsRemainder generator (column (map T.word rows.now) (at + j)) (column result j) }
+{
+    let mut register = [u8x32::splat(0); 16];
+    for row in rows {
+        read_bytes(tables, &mut register, lanes_at(row.row(), at));
+    }
+    register
+}

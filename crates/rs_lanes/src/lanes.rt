@@ -1,0 +1,83 @@
+//! Vectors of 32 bytes, lane by lane.
+ghost use Rattle.std.specs.Prelude.{◌≡◌, ◌↔◌, ℕ, ◌+◌, ◌*◌, ◌/◌, ◌%◌, ◌<◌, ◌≤◌, length, slice_index};
+ghost use Rattle.gf_field.specs.Field.{plus, product};
+ghost use Rattle.rs_lanes.specs.Inner.Lanes.{HasLanes};
+ghost use Rattle.rs_lanes.specs.Inner.Tables.{IsTable};
+
+use std::simd::prelude::*;
+
+/// The sum of two vectors.
+#[inline(always)]
+pub fn mixed(a: u8x32, b: u8x32) -> u8x32
+    ensures { HasLanes result (λ k. plus (slice_index a k) (slice_index b k)) }
+{
+    a ^ b
+}
+
+/// Lanes that are zero exactly where those of `differs` are and the other two are equal.
+#[inline(always)]
+pub fn also(differs: u8x32, a: u8x32, b: u8x32) -> u8x32
+    ensures size { length result ≡ 32 }
+    ensures zeros { (k : ℕ) → k < 32 → (slice_index result k ≡ 0) ↔ ((slice_index differs k ≡ 0) × (slice_index a k ≡ slice_index b k)) }
+{
+    differs | (a ^ b)
+}
+
+/// The 32 bytes from place `at` on.
+#[inline(always)]
+pub fn load(row: &[u8], at: usize) -> u8x32
+    requires { at + 32 ≤ length row.now }
+    ensures { HasLanes result (λ k. slice_index row.now (at + k)) }
+{
+    u8x32::from_slice(&row[at..])
+}
+
+/// Sets the 32 bytes from place `at` on. All others stay.
+#[inline(always)]
+pub fn store(lanes: u8x32, row: &mut [u8], at: usize)
+    requires { at + 32 ≤ length row.old }
+    ensures size { length row.new ≡ length row.old }
+    ensures set { (k : ℕ) → k < 32 → slice_index row.new (at + k) ≡ slice_index lanes k }
+    ensures below { (k : ℕ) → k < at → slice_index row.new k ≡ slice_index row.old k }
+    ensures above { (k : ℕ) → at + 32 ≤ k → slice_index row.new k ≡ slice_index row.old k }
+{
+    lanes.copy_to_slice(&mut row[at..]);
+}
+
+/// The product of each lane and the factor that the table is of.
+#[inline(always)]
+pub fn times(table: &[[u8; 16]; 2], lanes: u8x32) -> u8x32
+    ensures { (factor : ℕ) → IsTable factor table.now → HasLanes result (λ k. product (slice_index lanes k) factor) }
+{
+    mixed(
+        by_low_nibble(&table[0], lanes),
+        by_high_nibble(&table[1], lanes),
+    )
+}
+
+// The table's entries at the low four bits of each lane.
+#[inline(always)]
+fn by_low_nibble(table: &[u8; 16], lanes: u8x32) -> u8x32
+    ensures { HasLanes result (λ k. slice_index table.now (slice_index lanes k % 16)) }
+{
+    twice(table).swizzle_dyn_within::<16>(lanes & u8x32::splat(15))
+}
+
+// The table's entries at the high four bits of each lane.
+#[inline(always)]
+fn by_high_nibble(table: &[u8; 16], lanes: u8x32) -> u8x32
+    ensures { HasLanes result (λ k. slice_index table.now (slice_index lanes k / 16)) }
+{
+    twice(table).swizzle_dyn_within::<16>(lanes >> u8x32::splat(4))
+}
+
+// The table in both halves of a vector.
+#[inline(always)]
+fn twice(table: &[u8; 16]) -> u8x32
+    ensures { HasLanes result (λ k. slice_index table.now (k % 16)) }
+{
+    u8x16::from_slice(table).swizzle([
+        0, 1, 2, 3, 4, 5, 6, 7, 8, 9, 10, 11, 12, 13, 14, 15, 0, 1, 2, 3, 4, 5, 6, 7, 8, 9, 10, 11,
+        12, 13, 14, 15,
+    ])
+}

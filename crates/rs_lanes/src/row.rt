@@ -1,0 +1,19 @@
+//! What has the bytes of a row.
+ghost use Rattle.std.specs.Prelude.{◌≡◌, ℕ, List};
+
+/// A row of a block, whatever stands beside its bytes.
+pub trait Row {
+    ghost word: { Self → List ℕ };
+
+    /// The bytes of the row.
+    fn row(&self) -> &[u8; 182]
+        ensures { result.now ≡ word self.now };
+}
+
+impl Row for [u8; 182] {
+    ghost word = { λ row. row };
+
+    fn row(&self) -> &[u8; 182] {
+        self
+    }
+}

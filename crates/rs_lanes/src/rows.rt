@@ -1,0 +1,80 @@
+//! The rows of an ECC block, 32 at once.
+ghost use Rattle.std.specs.Prelude.{◌≡◌, ◌↔◌, ℕ, ◌+◌, ◌<◌, ◌≤◌, List, ◌++◌, length, take, slice_index, EachIndex, All};
+ghost use Rattle.gf_field.specs.Words.{IsByte, IsCodeword, IsEncoded};
+ghost use Rattle.rs_code.specs.Inner.Polynomials.{IsRemainder};
+ghost use Rattle.rs_lanes.specs.Rows.{line, place, column};
+ghost use Rattle.rs_lanes.specs.Inner.Tables.{AreTables};
+
+use crate::division::read_bytes;
+use crate::lanes::also;
+use crate::tables::PI;
+use crate::turning::turn;
+use std::simd::prelude::*;
+
+/// Sets the last ten bytes of the 32 rows from `top` on so that these rows are codewords. All else stays.
+pub fn inner_parity(rows: &mut [[u8; 182]], top: usize)
+    requires { top + 32 ≤ length rows.old }
+    ensures size { length rows.new ≡ length rows.old }
+    ensures encoded { (n : ℕ) → n < 32 → IsEncoded 182 10 (take 172 (line rows.old (top + n))) (line rows.new (top + n)) }
+    ensures below { (i : ℕ) → i < top → line rows.new i ≡ line rows.old i }
+    ensures above { (i : ℕ) → top + 32 ≤ i → line rows.new i ≡ line rows.old i }
+{
+    let mut turned = [u8x32::splat(0); 182];
+    turn(rows, top, &mut turned);
+    let parity = divide_rows(&PI, &turned);
+    for n in 0..32 {
+        put_end(&parity, n, &mut rows[top + n]);
+    }
+}
+
+/// Zero in lane `n` where row `top + n` is a codeword, and not in any other of the 32 lanes.
+pub fn wrong_rows(rows: &[[u8; 182]], top: usize) -> u8x32
+    requires { top + 32 ≤ length rows.now }
+    ensures size { length result ≡ 32 }
+    ensures zeros { (n : ℕ) → n < 32 → (slice_index result n ≡ 0) ↔ IsCodeword 182 10 (line rows.now (top + n)) }
+{
+    let mut turned = [u8x32::splat(0); 182];
+    turn(rows, top, &mut turned);
+    unlike_ends(&divide_rows(&PI, &turned), &turned)
+}
+
+// Sets the last ten bytes of a row to lane `n` of these vectors.
+#[inline(always)]
+fn put_end(parity: &[u8x32; 10], n: usize, row: &mut [u8; 182])
+    requires lane { n < 32 }
+    requires lanes { EachIndex parity.now (λ k. length (line parity.now k) ≡ 32) }
+    ensures { row.new ≡ take 172 row.old ++ column parity.now n }
+{
+    for k in 0..10 {
+        row[172 + k] = parity[k][n];
+    }
+}
+
+// Zero in each lane where the register and the last ten vectors are equal.
+#[inline(always)]
+fn unlike_ends(register: &[u8x32; 10], turned: &[u8x32; 182]) -> u8x32
+    ensures size { length result ≡ 32 }
+    ensures zeros { (n : ℕ) → n < 32
+        → (slice_index result n ≡ 0) ↔ ((k : ℕ) → k < 10 → place register.now k n ≡ place turned.now (172 + k) n) }
+{
+    let mut differs = u8x32::splat(0);
+    for k in 0..10 {
+        differs = also(differs, register[k], turned[172 + k]);
+    }
+    differs
+}
+
+// The remainders of the first 172 places in each lane. That all places are bytes is told too.
+#[inline(always)]
+fn divide_rows(tables: &[[[u8; 16]; 2]; 10], turned: &[u8x32; 182]) -> [u8x32; 10]
+    ensures lanes { EachIndex result (λ k. length (line result k) ≡ 32) }
+    ensures bytes { (n : ℕ) → n < 32 → All IsByte (take 172 (column turned.now n)) }
+    ensures remainders { (generator : List ℕ) → AreTables generator tables.now → (n : ℕ) → n < 32
+        → IsRemainder generator (take 172 (column turned.now n)) (column result n) }
+{
+    let mut register = [u8x32::splat(0); 10];
+    for k in 0..172 {
+        read_bytes(tables, &mut register, turned[k]);
+    }
+    register
+}

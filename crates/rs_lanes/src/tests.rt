@@ -1,0 +1,148 @@
+//! The parity of drawn words, as a program computed it that solves the parity checks as linear equations and knows no
+//! generator, and as the encoder of one word has it.
+ghost use Rattle.std.specs.Prelude.{◌≡◌, ◌<◌, ◌≤◌, vec_len, IfOk};
+
+use crate::{inner_parity, outer_parity, wrong_columns, wrong_rows};
+use rs_code::{Pi, Po};
+use sha2::{Digest, Sha256};
+use std::alloc::{AllocError, Global};
+use std::test::Fail;
+
+/// A generator of drawn words: three shifts of 64 bits a word, of which a byte is the top eight bits.
+#[derive(Drop)]
+struct Drawn {
+    state: u64,
+}
+
+impl Drawn {
+    fn byte(&mut self) -> u8 {
+        self.state ^= self.state << 13;
+        self.state ^= self.state >> 7;
+        self.state ^= self.state << 17;
+        self.state.to_be_bytes()[0]
+    }
+
+    fn fill_front(&mut self, bytes: &mut [u8], count: usize) {
+        for byte in bytes.iter_mut().take(count) {
+            *byte = self.byte();
+        }
+    }
+}
+
+// Rows of zeros.
+fn empty_rows(alloc: Global, count: usize) -> Result<Vec<[u8; 182]>, AllocError>
+    ensures { IfOk result (λ rows. vec_len rows ≡ count) }
+{
+    vec![in alloc; [0; 182]; count]
+}
+
+fn put_column(rows: &mut [[u8; 182]], j: usize, word: &[u8; 208])
+    requires { j < 182 }
+{
+    for (row, byte) in rows.iter_mut().zip(word) {
+        row[j] = *byte;
+    }
+}
+
+fn column(rows: &[[u8; 182]], j: usize) -> [u8; 208]
+    requires { j < 182 }
+{
+    let mut word = [0; 208];
+    for (byte, row) in word.iter_mut().zip(rows) {
+        *byte = row[j];
+    }
+    word
+}
+
+fn parity_of_rows(rows: &[[u8; 182]]) -> [u8; 32] {
+    let mut hasher = Sha256::new();
+    for row in rows {
+        hasher.update(&row[172..]);
+    }
+    hasher.finalize()
+}
+
+fn parity_of_columns(rows: &[[u8; 182]], count: usize) -> [u8; 32]
+    requires { count ≤ 182 }
+{
+    let mut hasher = Sha256::new();
+    for j in 0..count {
+        hasher.update(&column(rows, j)[192..]);
+    }
+    hasher.finalize()
+}
+
+#[test]
+fn rows_get_the_parity_of_drawn_words(rt: HostRuntime) -> Result<(), Fail> {
+    let mut rows = empty_rows(rt.alloc(), 100)?;
+    let mut drawn = Drawn { state: 2 };
+    for row in rows.iter_mut() {
+        drawn.fill_front(row, 172);
+    }
+    let mut encoded = rows[99];
+    Pi::new().encode(&mut encoded);
+    inner_parity(&mut rows, 0);
+    inner_parity(&mut rows, 32);
+    inner_parity(&mut rows, 64);
+    assert!(rt; rows[99] != encoded);
+    inner_parity(&mut rows, 68);
+    assert!(rt; rows[99] == encoded);
+    assert_eq!(rt;
+        parity_of_rows(&rows),
+        [
+            0x27, 0xD5, 0xDA, 0x99, 0xDE, 0x4A, 0xA7, 0x92, 0x32, 0xBD, 0x17, 0x8F, 0x9F, 0x4A,
+            0x7E, 0x2B, 0xCE, 0x3C, 0x43, 0xE8, 0x90, 0x9A, 0x2B, 0x7E, 0x53, 0xA1, 0x72, 0xB8,
+            0x8E, 0x5D, 0x19, 0x7B
+        ]
+    );
+    Ok(())
+}
+
+#[test]
+fn wrong_rows_are_told(rt: HostRuntime) -> Result<(), Fail> {
+    let mut rows = empty_rows(rt.alloc(), 40)?;
+    rows[7][0] = 1;
+    rows[38][181] = 1;
+    let wrong = wrong_rows(&rows, 7);
+    for n in 0..32 {
+        assert!(rt; (wrong[n] != 0) == (n == 0 || n == 31));
+    }
+    Ok(())
+}
+
+#[test]
+fn columns_get_the_parity_of_drawn_words(rt: HostRuntime) -> Result<(), Fail> {
+    let mut rows = empty_rows(rt.alloc(), 208)?;
+    let mut drawn = Drawn { state: 3 };
+    for j in 0..100 {
+        let mut word = [0; 208];
+        drawn.fill_front(&mut word, 192);
+        put_column(&mut rows, j, &word);
+    }
+    let mut encoded = column(&rows, 99);
+    Po::new().encode(&mut encoded);
+    let (upper, lower) = rows.split_at_mut(192);
+    outer_parity(upper, lower);
+    assert!(rt; column(&rows, 99) == encoded);
+    assert_eq!(rt;
+        parity_of_columns(&rows, 100),
+        [
+            0xDE, 0x6E, 0x4C, 0x02, 0x0E, 0x93, 0x0A, 0x1D, 0x8C, 0xA3, 0x93, 0x6C, 0x57, 0xC4,
+            0x4C, 0x86, 0xC2, 0x40, 0x22, 0x59, 0x13, 0x22, 0x41, 0x9B, 0x14, 0x9B, 0xCF, 0x3F,
+            0x24, 0x71, 0xE3, 0xB7
+        ]
+    );
+    Ok(())
+}
+
+#[test]
+fn wrong_columns_are_told(rt: HostRuntime) -> Result<(), Fail> {
+    let mut rows = empty_rows(rt.alloc(), 208)?;
+    rows[0][77] = 1;
+    rows[207][181] = 1;
+    let wrong = wrong_columns(&rows);
+    for (j, byte) in wrong.iter().enumerate() {
+        assert!(rt; (*byte != 0) == (j == 77 || j == 181));
+    }
+    Ok(())
+}

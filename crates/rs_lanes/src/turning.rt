@@ -1,0 +1,154 @@
+//! 32 rows as vectors by places: vector `k` has place `k` of each row.
+ghost use Rattle.std.specs.Prelude.{◌≡◌, ℕ, ◌+◌, ◌*◌, ◌/◌, ◌%◌, ◌<◌, ◌≤◌, length, map, slice_index, EachIndex};
+ghost use Rattle.rs_lanes.specs.Rows.{line, place};
+ghost use Rattle.rs_lanes.specs.Inner.Turning.{IsRiffled, IsTurned};
+
+use crate::row::Row;
+use std::simd::prelude::*;
+
+/// Sets the vectors to the places of the 32 rows from `top` on. That these rows have 182 places is told too.
+pub fn turn<T: Row>(rows: &[T], top: usize, turned: &mut [u8x32; 182])
+    requires { top + 32 ≤ length rows.now }
+    ensures sizes { (n : ℕ) → n < 32 → length (line (map T.word rows.now) (top + n)) ≡ 182 }
+    ensures lanes { (k : ℕ) → k < 182 → length (line turned.new k) ≡ 32 }
+    ensures turned { (k n : ℕ) → k < 182 → n < 32 → place turned.new k n ≡ place (map T.word rows.now) (top + n) k }
+{
+    for tile in 0..11 {
+        put_tile(&load_turned(rows, top, 16 * tile), 16 * tile, turned);
+    }
+    put_tile(&load_turned(rows, top, 166), 166, turned);
+}
+
+// Sets sixteen vectors. All others stay.
+#[inline(always)]
+fn put_tile(tile: &[u8x32; 16], at: usize, turned: &mut [u8x32; 182])
+    requires { at + 16 ≤ 182 }
+    ensures size { length turned.new ≡ 182 }
+    ensures set { (k : ℕ) → k < 16 → line turned.new (at + k) ≡ line tile.now k }
+    ensures below { (k : ℕ) → k < at → line turned.new k ≡ line turned.old k }
+    ensures above { (k : ℕ) → at + 16 ≤ k → line turned.new k ≡ line turned.old k }
+{
+    for k in 0..16 {
+        turned[at + k] = tile[k];
+    }
+}
+
+// Sixteen places of 32 rows as vectors by places.
+#[inline(always)]
+fn load_turned<T: Row>(rows: &[T], top: usize, at: usize) -> [u8x32; 16]
+    requires top { top + 32 ≤ length rows.now }
+    requires at { at + 16 ≤ 182 }
+    ensures sizes { (n : ℕ) → n < 32 → length (line (map T.word rows.now) (top + n)) ≡ 182 }
+    ensures lanes { EachIndex result (λ k. length (line result k) ≡ 32) }
+    ensures turned { (k n : ℕ) → k < 16 → n < 32 → place result k n ≡ place (map T.word rows.now) (top + n) (at + k) }
+{
+    turn_tile(&load_tile(rows, top, at))
+}
+
+// Sixteen places of 32 rows: the upper sixteen rows in the lower halves of the vectors, and the others in the upper halves.
+#[inline(always)]
+fn load_tile<T: Row>(rows: &[T], top: usize, at: usize) -> [u8x32; 16]
+    requires top { top + 32 ≤ length rows.now }
+    requires at { at + 16 ≤ 182 }
+    ensures sizes { (n : ℕ) → n < 32 → length (line (map T.word rows.now) (top + n)) ≡ 182 }
+    ensures lanes { EachIndex result (λ k. length (line result k) ≡ 32) }
+    ensures bytes { (k n : ℕ) → k < 16 → n < 32 → place result k n ≡ place (map T.word rows.now) (top + (16 * (n / 16) + k)) (at + n % 16) }
+{
+    let mut tile = [u8x32::splat(0); 16];
+    for k in 0..16 {
+        tile[k] = pair_at(rows[top + k].row(), rows[top + 16 + k].row(), at);
+    }
+    tile
+}
+
+// The same of two rows, whose lengths are told.
+#[inline(always)]
+fn pair_at(one: &[u8; 182], other: &[u8; 182], at: usize) -> u8x32
+    requires { at + 16 ≤ 182 }
+    ensures one_size { length one.now ≡ 182 }
+    ensures other_size { length other.now ≡ 182 }
+    ensures size { length result ≡ 32 }
+    ensures one { (n : ℕ) → n < 16 → slice_index result n ≡ slice_index one.now (at + n) }
+    ensures other { (n : ℕ) → n < 16 → slice_index result (16 + n) ≡ slice_index other.now (at + n) }
+{
+    load_pair(one, other, at)
+}
+
+// Sixteen bytes of each of two slices, one after the other.
+#[inline(always)]
+fn load_pair(one: &[u8], other: &[u8], at: usize) -> u8x32
+    requires one { at + 16 ≤ length one.now }
+    requires other { at + 16 ≤ length other.now }
+    ensures size { length result ≡ 32 }
+    ensures one { (n : ℕ) → n < 16 → slice_index result n ≡ slice_index one.now (at + n) }
+    ensures other { (n : ℕ) → n < 16 → slice_index result (16 + n) ≡ slice_index other.now (at + n) }
+{
+    u8x16::from_slice(&one[at..]).shuffle(
+        u8x16::from_slice(&other[at..]),
+        [
+            0, 1, 2, 3, 4, 5, 6, 7, 8, 9, 10, 11, 12, 13, 14, 15, 16, 17, 18, 19, 20, 21, 22, 23,
+            24, 25, 26, 27, 28, 29, 30, 31,
+        ],
+    )
+}
+
+// Exchanges rows and lanes of both halves of a tile.
+#[inline(always)]
+fn turn_tile(tile: &[u8x32; 16]) -> [u8x32; 16]
+    requires { EachIndex tile.now (λ k. length (line tile.now k) ≡ 32) }
+    ensures lanes { EachIndex result (λ k. length (line result k) ≡ 32) }
+    ensures turned { IsTurned tile.now result }
+{
+    riffle(&riffle(&riffle(&riffle(tile))))
+}
+
+// One of four equal steps: the vectors of the upper and of the lower half take turns, lane by lane.
+#[inline(always)]
+fn riffle(tile: &[u8x32; 16]) -> [u8x32; 16]
+    requires { EachIndex tile.now (λ k. length (line tile.now k) ≡ 32) }
+    ensures lanes { EachIndex result (λ k. length (line result k) ≡ 32) }
+    ensures riffled { IsRiffled tile.now result }
+{
+    let mut riffled = [u8x32::splat(0); 16];
+    for k in 0..8 {
+        riffled[2 * k] = first_lanes(tile[k], tile[k + 8]);
+        riffled[2 * k + 1] = last_lanes(tile[k], tile[k + 8]);
+    }
+    riffled
+}
+
+// The first eight lanes of each half of two vectors, in turns.
+#[inline(always)]
+fn first_lanes(a: u8x32, b: u8x32) -> u8x32
+    requires a { length a ≡ 32 }
+    requires b { length b ≡ 32 }
+    ensures size { length result ≡ 32 }
+    ensures even { (n : ℕ) → n < 32 → n % 2 ≡ 0 → slice_index result n ≡ slice_index a (16 * (n / 16) + n % 16 / 2) }
+    ensures odd { (n : ℕ) → n < 32 → n % 2 ≡ 1 → slice_index result n ≡ slice_index b (16 * (n / 16) + n % 16 / 2) }
+{
+    a.shuffle(
+        b,
+        [
+            0, 32, 1, 33, 2, 34, 3, 35, 4, 36, 5, 37, 6, 38, 7, 39, 16, 48, 17, 49, 18, 50, 19, 51,
+            20, 52, 21, 53, 22, 54, 23, 55,
+        ],
+    )
+}
+
+// The last eight lanes of each half of two vectors, in turns.
+#[inline(always)]
+fn last_lanes(a: u8x32, b: u8x32) -> u8x32
+    requires a { length a ≡ 32 }
+    requires b { length b ≡ 32 }
+    ensures size { length result ≡ 32 }
+    ensures even { (n : ℕ) → n < 32 → n % 2 ≡ 0 → slice_index result n ≡ slice_index a (16 * (n / 16) + (8 + n % 16 / 2)) }
+    ensures odd { (n : ℕ) → n < 32 → n % 2 ≡ 1 → slice_index result n ≡ slice_index b (16 * (n / 16) + (8 + n % 16 / 2)) }
+{
+    a.shuffle(
+        b,
+        [
+            8, 40, 9, 41, 10, 42, 11, 43, 12, 44, 13, 45, 14, 46, 15, 47, 24, 56, 25, 57, 26, 58,
+            27, 59, 28, 60, 29, 61, 30, 62, 31, 63,
+        ],
+    )
+}
