@@ -64,7 +64,7 @@ unfolding divided_from remainder bits_of
 divided_from_none register = plus_front-zeros 32 register
 
 -- the division of a list of bytes begins with a register of zeros
-divided_from_zero : (bytes : List ℕ) → divided_from 0 bytes ≡ remainder (8 * length bytes) (bits_of bytes ++ replicate 32 0)
+pub divided_from_zero : (bytes : List ℕ) → divided_from 0 bytes ≡ remainder (8 * length bytes) (bits_of bytes ++ replicate 32 0)
 unfolding divided_from
 divided_from_zero bytes = ap (remainder (8 * length bytes)) (plus_front_none 32 (bits_of bytes ++ replicate 32 0))
 

@@ -9,3 +9,5 @@ pub mod IdChecks
 pub mod ReadBack
 pub mod Multiples
 pub mod WordDivision
+pub mod ByteFolds
+pub mod ChunkFolds

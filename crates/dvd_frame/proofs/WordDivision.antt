@@ -13,7 +13,7 @@ use Rattle.dvd_frame.proofs.Division.{plus_front_twice, plus_front-append, plus_
 use Rattle.dvd_frame.proofs.Multiples.{IsBit, length-plus_front, bits-plus_front, plus_front_swap, plus_front_self, zeros_plus, bits-bits, bits-bits_of, length-bits_of, bits_of-append, bits_of-word_bytes}
 
 -- division takes a sum apart
-divided_sum : (n : ℕ) (xs ys : List ℕ) → length xs ≡ n + 32 → length ys ≡ n + 32 → All IsBit xs → All IsBit ys
+pub divided_sum : (n : ℕ) (xs ys : List ℕ) → length xs ≡ n + 32 → length ys ≡ n + 32 → All IsBit xs → All IsBit ys
     → remainder n (plus_front xs ys) ≡ plus_front (remainder n xs) (remainder n ys)
 unfolding remainder plus_front bits
 divided_sum zero xs ys size_xs size_ys bits_xs bits_ys = refl
@@ -72,7 +72,7 @@ divided_sum (suc n) (x ∷ xs) (y ∷ ys) size_xs size_ys bits_xs bits_ys =
     each below (suc (suc a)) b bit_a bit_b = absurd (omega arith)
 
 -- what division leaves of each byte with the zeros in place of those behind it, added up
-remainders_sum : List ℕ → ℕ
+unfoldable pub remainders_sum : List ℕ → ℕ
 remainders_sum [] = 0
 remainders_sum (byte ∷ bytes) = bit_xor (byte_remainder (length bytes) byte) (remainders_sum bytes)
 
@@ -109,7 +109,7 @@ sum_with byte bytes is =
     ∙ ap (λ (m : ℕ). remainder m ((bits 8 byte ++ bits_of bytes) ++ replicate 32 0)) whole
 
 -- what division leaves of bytes is the sum of what it leaves of each
-bits-remainders_sum : (bytes : List ℕ) → bits 32 (remainders_sum bytes) ≡ remainder (8 * length bytes) (bits_of bytes ++ replicate 32 0)
+pub bits-remainders_sum : (bytes : List ℕ) → bits 32 (remainders_sum bytes) ≡ remainder (8 * length bytes) (bits_of bytes ++ replicate 32 0)
 unfolding remainders_sum bits bits_of remainder
 bits-remainders_sum [] = refl
 bits-remainders_sum (byte ∷ bytes) = sum_with byte bytes (bits-remainders_sum bytes)

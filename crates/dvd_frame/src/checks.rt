@@ -1,13 +1,15 @@
 //! The two codes of a data frame that detect errors: the IED over its ID (ECMA-267, 16.2)
 //! and the EDC over its first 2,060 bytes (16.4).
-ghost use Rattle.std.specs.Prelude.{◌≡◌, ℕ, List, ◌∷◌, ◌++◌};
+ghost use Rattle.std.specs.Prelude.{◌≡◌, ℕ, ◌+◌, ◌≤◌, List, [], ◌∷◌, ◌++◌, length};
 ghost use Rattle.std.specs.List.{concat};
 ghost use Rattle.gf_field.specs.Words.{IsCodeword};
 ghost use Rattle.dvd_frame.specs.Edc.{edc_of};
 ghost use Rattle.dvd_frame.specs.Id.{word_bytes, ied_of};
 ghost use Rattle.dvd_frame.specs.Inner.Registers.{divided_from};
 
+use crate::folds::fold;
 use crate::id::Id;
+use crate::parts::put;
 use crate::remainders::{remainder_of, remainder_of_word};
 use byteorder::{BigEndian, ByteOrder};
 use rs_code::Ied;
@@ -35,10 +37,36 @@ pub fn edc(bytes: &[u8]) -> [u8; 4]
 pub(crate) fn edc_of_parts(front: &[u8], back: &[u8]) -> [u8; 4]
     ensures { result ≡ edc_of (front.now ++ back.now) }
 {
-    let register = with_bytes(with_bytes(0, front), back);
+    let register = divide_parts(front, back);
     let mut edc = [0; 4];
     BigEndian::write_u32(&mut edc, register);
     edc
+}
+
+// The remainder of two lists of bytes, as if the second stood behind the first.
+fn divide_parts(front: &[u8], back: &[u8]) -> u32
+    ensures { divided_from result [] ≡ divided_from 0 (front.now ++ back.now) }
+{
+    if front.len() <= 2080 && back.len() <= 2080 - front.len() {
+        return folded(front, back);
+    }
+    with_bytes(with_bytes(0, front), back)
+}
+
+// The remainder of at most 2,080 bytes, as many as 65 chunks of 32: zeros in front of them change nothing. Three folds by
+// vectors leave the last 256 bytes to divide.
+fn folded(front: &[u8], back: &[u8]) -> u32
+    requires { length front.now + length back.now ≤ 2080 }
+    ensures { divided_from result [] ≡ divided_from 0 (front.now ++ back.now) }
+{
+    let mut bytes = [0; 2080];
+    let middle = 2080 - back.len();
+    put(&mut bytes, middle - front.len(), front);
+    put(&mut bytes, middle, back);
+    fold::<32>(&mut bytes, 0, 33);
+    fold::<16>(&mut bytes, 1056, 32);
+    fold::<8>(&mut bytes, 1568, 32);
+    with_bytes(0, &bytes[1824..])
 }
 
 // The remainder of what was read so far, with these bytes more.

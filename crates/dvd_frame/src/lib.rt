@@ -3,6 +3,7 @@
 #![tactic(auto)]
 
 mod checks; // the two codes that detect errors: IED and EDC
+mod folds; // chunks of bytes added to later ones, for the EDC
 mod frame; // a whole data frame
 mod id; // the identification of a sector: area, layer and number
 pub mod laws; // what holds of every data frame

@@ -25,6 +25,45 @@ fn edcs_of_known_bytes(rt: HostRuntime) {
     assert_eq!(rt; edc(&[]), [0; 4]);
 }
 
+// The remainder of a list of bytes, bit by bit.
+fn divided_by_bits(bytes: &[u8]) -> u32 {
+    let mut register = 0;
+    for byte in bytes {
+        register ^= (*byte as u32) << 24;
+        for _ in 0..8 {
+            let leaving = register >> 31;
+            register = register << 1 ^ leaving * 0x8000_0011;
+        }
+    }
+    register
+}
+
+// A list of drawn bytes: three shifts of 64 bits a byte, of which it is the top eight bits.
+fn draw(bytes: &mut [u8]) {
+    let mut state = 0x9E37_79B9_7F4A_7C15u64;
+    for byte in bytes {
+        state ^= state << 13;
+        state ^= state >> 7;
+        state ^= state << 17;
+        *byte = state.to_be_bytes()[0];
+    }
+}
+
+// The bytes of a frame are 2,060, and up to 2,080 are folded.
+#[test]
+fn edcs_of_drawn_bytes(rt: HostRuntime) {
+    let mut bytes = [0; 2100];
+    draw(&mut bytes);
+    for step in 0..71 {
+        let list = &bytes[..30 * step];
+        assert_eq!(rt; edc(list), divided_by_bits(list).to_be_bytes());
+    }
+    for start in 19..42 {
+        let list = &bytes[start..];
+        assert_eq!(rt; edc(list), divided_by_bits(list).to_be_bytes());
+    }
+}
+
 #[test]
 fn the_fields_of_an_id(rt: HostRuntime) {
     let id = Id::new(Area::LeadIn, 0, false, 0x02_F000);

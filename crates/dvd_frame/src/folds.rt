@@ -1,0 +1,60 @@
+//! The division for the EDC (ECMA-267, 16.4) of whole chunks of bytes.
+//!
+//! The square of a sum of polynomials over the two bits is the sum of their squares. So with x^32 + x^31 + x^4 + 1,
+//! x^(32 n) + x^(31 n) + x^(4 n) + 1 is a multiple of the divisor for each power of two n, and a chunk of n bits may be added
+//! to those that stand 1, 28 and 32 chunks behind it and then left out.
+ghost use Rattle.std.specs.Prelude.{◌≡◌, ℕ, ◌+◌, ◌*◌, ◌^◌, ◌≤◌, ◌++◌, length, drop, take, replicate};
+ghost use Rattle.dvd_frame.specs.Edc.{plus_front};
+ghost use Rattle.dvd_frame.specs.Inner.Registers.{divided_from};
+
+use std::simd::prelude::*;
+
+/// Folds away as many chunks of W bytes, from a place on: what division leaves of the bytes behind them is then what it left of
+/// all from there on.
+#[inline(always)]
+pub(crate) fn fold<const W: usize>(bytes: &mut [u8], from: usize, count: usize)
+    requires { from + W * count + 32 * W ≤ length bytes.old }
+    ensures size { length bytes.new ≡ length bytes.old }
+    ensures same { (k : ℕ) → W ≡ 2 ^ k → divided_from 0 (drop (from + W * count) bytes.new) ≡ divided_from 0 (drop from bytes.old) }
+{
+    let mut carried = Simd::<u8, W>::splat(0);
+    let mut at = from;
+    for _ in 0..count {
+        carried = push(bytes, at, carried);
+        at += W;
+    }
+    add(bytes, at, carried);
+}
+
+// One chunk and what is carried to it, added to those 28 and 32 chunks behind it, and carried to the next.
+#[inline(always)]
+fn push<const W: usize>(bytes: &mut [u8], at: usize, carried: Simd<u8, W>) -> Simd<u8, W>
+    requires { at + 33 * W ≤ length bytes.old }
+    ensures size { length bytes.new ≡ length bytes.old }
+    ensures same { (k : ℕ) → W ≡ 2 ^ k
+        → divided_from 0 (plus_front (drop (at + W) bytes.new) result) ≡ divided_from 0 (plus_front (drop at bytes.old) carried.entry) }
+{
+    let taken = load(bytes, at) ^ carried;
+    add(bytes, at + 28 * W, taken);
+    add(bytes, at + 32 * W, taken);
+    taken
+}
+
+// The W bytes from a place on.
+#[inline(always)]
+fn load<const W: usize>(bytes: &[u8], at: usize) -> Simd<u8, W>
+    requires { at + W ≤ length bytes.now }
+    ensures { result ≡ take W (drop at bytes.now) }
+{
+    Simd::from_slice(&bytes[at..])
+}
+
+// Adds W bytes to those from a place on.
+#[inline(always)]
+fn add<const W: usize>(bytes: &mut [u8], at: usize, lanes: Simd<u8, W>)
+    requires { at + W ≤ length bytes.old }
+    ensures { bytes.new ≡ plus_front bytes.old (replicate at 0 ++ lanes.entry) }
+{
+    let sum = load(bytes, at) ^ lanes;
+    sum.copy_to_slice(&mut bytes[at..]);
+}
