@@ -1,4 +1,5 @@
 pub mod Bound
+pub mod ClearMarks
 pub mod Columns
 pub mod MarkLists
 pub mod WorkParts

@@ -1,8 +1,10 @@
 -- The runs of marked places as they are written.
-use Rattle.std.proofs.Common.{◌≡◌, ◌≢◌, ◌⊎◌, ◌∙◌, ℕ, zero, suc, ◌+◌, ◌-◌, ◌*◌, ◌<◌, ◌≤◌, ◌==◌, ◌&&◌, ◌||◌, not, nat_le, nat_lt, Bool, true, false, List, [], ◌∷◌, ◌++◌, length, All, Option, inl, inr, refl, sym, ap, subst, arith, length-append, append_assoc, append-nil}
+use Rattle.std.proofs.Common.{◌≡◌, ◌≢◌, ◌⊎◌, ◌∙◌, ℕ, zero, suc, ◌+◌, ◌-◌, ◌*◌, ◌<◌, ◌≤◌, ◌==◌, ◌&&◌, ◌||◌, not, nat_le, nat_lt, Bool, true, false, List, [], ◌∷◌, ◌++◌, length, get_or, slice_index, All, Option, inl, inr, refl, sym, ap, subst, arith, length-append, append_assoc, append-nil}
 use Rattle.std.specs.Int.{to_be_bytes, w16}
 use Rattle.std.specs.Io.KnownBytes.{Appends}
 use Rattle.std.proofs.lemmas.Bool.Decides.{eqb_tells, leb_tells, nat_tests}
+use Rattle.std.proofs.lemmas.Bool.{cases_lt}
+use Rattle.std.proofs.lemmas.List.{get_or_append_left, get_or-append-add}
 use Rattle.std.proofs.lemmas.List.Elements.{All-from_get_or}
 use Rattle.std.proofs.lemmas.Nat.{from_be_bytes-to_be_bytes_2}
 use Rattle.dvd_ports.specs.Whole.{AppendsPrefix}
@@ -25,6 +27,24 @@ use Rattle.dvd_capture.proofs.RunStarts.{none_left, start-first, start_at, start
 -- a written field holds its value
 pub field-written : (value : ℕ) → value < 65_536 → field_at (to_be_bytes w16 value) 0 ≡ value
 field-written value small = sym (field-read (to_be_bytes w16 value) refl) ∙ from_be_bytes-to_be_bytes_2 value small
+
+-- BYTES. Lists of bytes one after the other are one, and so are the fields that are written.
+pub small-append : (a b : List ℕ) → ((k : ℕ) → slice_index a k < 256) → ((k : ℕ) → slice_index b k < 256) → (k : ℕ) → slice_index (a ++ b) k < 256
+small-append a b first second k = elim (cases_lt k (length a)) [
+  | inl lt ↦ subst (λ n. n < 256) (sym (get_or_append_left a b 0 k lt)) (first k)
+  | inr le ↦
+      let is : length a + (k - length a) ≡ k = omega arith in
+      let same : slice_index (a ++ b) k ≡ slice_index b (k - length a) = ap (λ n. get_or (a ++ b) n 0) (sym is) ∙ get_or-append-add a b (k - length a) 0 in
+      subst (λ n. n < 256) (sym same) (second (k - length a))
+]
+
+pub small-field : (n k : ℕ) → slice_index (to_be_bytes w16 n) k < 256
+small-field n zero = omega arith
+small-field n (suc zero) = omega arith
+small-field n (suc (suc k)) = omega arith
+
+small-run : (start length : ℕ) (k : ℕ) → slice_index (to_be_bytes w16 start ++ to_be_bytes w16 length) k < 256
+small-run start length k = small-append (to_be_bytes w16 start) (to_be_bytes w16 length) (small-field start) (small-field length) k
 
 -- the marks below a place
 abbrev pub below : (ℕ → Bool) → ℕ → ℕ → Bool
@@ -253,6 +273,7 @@ find_place mark value from (suc k) =
 
 pub record HasRest (bytes : List ℕ) (mark : ℕ → Bool) : Type 0 where
   pub rest : List ℕ
+  pub small : (k : ℕ) → slice_index rest k < 256
   pub count : ℕ
   pub end : ℕ
   pub runs : HasRuns (bytes ++ rest) count count end mark
@@ -280,6 +301,7 @@ next_run mark end within =
 pub rest-exists : (d : ℕ) (bytes : List ℕ) (mark : ℕ → Bool) (n end : ℕ) → IsBegun bytes mark n end → n + d ≡ starts_below mark 37_856 → HasRest bytes mark
 rest-exists zero bytes mark n end begun all = record {
   rest = [];
+  small = λ k. omega arith;
   count = n;
   end = end;
   runs = subst (λ l. HasRuns l n n end mark) (sym (append-nil bytes)) (all-written bytes mark n end begun (omega (arith, all)));
@@ -290,6 +312,7 @@ rest-exists (suc d) bytes mark n end begun all =
     let own = run_bytes bytes mark n end start next begun run more in
     let after = rest-exists d (bytes ++ own) mark (n + 1) next (run-written bytes mark n end start next begun run more) (omega (arith, all)) in record {
       rest = own ++ after.rest;
+      small = small-append own after.rest (small-run start (next - start)) after.small;
       count = after.count;
       end = after.end;
       runs = subst (λ l. HasRuns l after.count after.count after.end mark) (append_assoc bytes own after.rest) after.runs;
@@ -298,6 +321,7 @@ rest-exists (suc d) bytes mark n end begun all =
 -- WRITING, run by run.
 pub record AreWritten (rows : List ℕ) (mark : ℕ → Bool) (n end : ℕ) (old now : Option (List ℕ)) : Type 0 where
   pub own : List ℕ
+  pub bytes : (k : ℕ) → slice_index own k < 256
   pub grows : Appends old now own
   pub begun : IsBegun (rows ++ own) mark n end
 
@@ -319,6 +343,7 @@ module _ (rows : List ℕ) (mark : ℕ → Bool) (size : length rows ≡ 37_856)
   pub number-written : (number : ℕ) → number ≡ starts_below mark 37_856 → Appends old new (to_be_bytes w16 number) → AreWritten rows mark 0 0 old new
   number-written number is grows = record {
     own = to_be_bytes w16 number;
+    bytes = small-field number;
     grows = grows;
     begun = subst (λ n. IsBegun (rows ++ to_be_bytes w16 n) mark 0 0) (sym is) (none-written rows mark size);
   }
@@ -327,6 +352,7 @@ module _ (rows : List ℕ) (mark : ℕ → Bool) (size : length rows ≡ 37_856)
   number-begun number is part =
       let after = rest-exists (starts_below mark 37_856) (rows ++ to_be_bytes w16 (starts_below mark 37_856)) mark 0 0 (none-written rows mark size) (omega arith) in record {
         own = to_be_bytes w16 (starts_below mark 37_856) ++ after.rest;
+        bytes = small-append (to_be_bytes w16 (starts_below mark 37_856)) after.rest (small-field (starts_below mark 37_856)) after.small;
         part = prefix-behind old old new [] (to_be_bytes w16 (starts_below mark 37_856)) after.rest (Appends-none old) (subst (λ n. AppendsPrefix old new (to_be_bytes w16 n)) is part);
         count = after.count;
         end = after.end;
@@ -335,7 +361,7 @@ module _ (rows : List ℕ) (mark : ℕ → Bool) (size : length rows ≡ 37_856)
 
   -- all runs
   pub runs-written : (n end : ℕ) → n ≡ starts_below mark 37_856 → AreWritten rows mark n end old new → AppendsAll rows mark old new
-  runs-written n end all w = record { own = w.own; grows = w.grows; count = n; end = end; runs = all-written (rows ++ w.own) mark n end w.begun all }
+  runs-written n end all w = record { own = w.own; bytes = w.bytes; grows = w.grows; count = n; end = end; runs = all-written (rows ++ w.own) mark n end w.begun all }
 
   module _ (mid : Option (List ℕ)) (n end start next : ℕ) (w : AreWritten rows mark n end old mid) (run : IsNextRun mark end start next) (more : n < starts_below mark 37_856) where
     run_own : List ℕ
@@ -348,7 +374,7 @@ module _ (rows : List ℕ) (mark : ℕ → Bool) (size : length rows ≡ 37_856)
     -- one run more
     pub one-more-written : Appends mid new (to_be_bytes w16 start ++ to_be_bytes w16 (next - start)) → AreWritten rows mark (n + 1) next old new
     unfolding run_own
-    one-more-written grows = record { own = w.own ++ run_own; grows = Appends-then old mid new w.own run_own w.grows grows; begun = begun_next }
+    one-more-written grows = record { own = w.own ++ run_own; bytes = small-append w.own run_own w.bytes (small-run start (next - start)); grows = Appends-then old mid new w.own run_own w.grows grows; begun = begun_next }
 
     -- or a front of it
     pub one-more-begun : AppendsPrefix mid new (to_be_bytes w16 start ++ to_be_bytes w16 (next - start)) → AppendsSome rows mark old new
@@ -356,6 +382,7 @@ module _ (rows : List ℕ) (mark : ℕ → Bool) (size : length rows ≡ 37_856)
     one-more-begun part =
         let after = rest-exists (starts_below mark 37_856 - (n + 1)) (rows ++ (w.own ++ run_own)) mark (n + 1) next begun_next (omega (arith, more)) in record {
           own = w.own ++ (run_own ++ after.rest);
+          bytes = small-append w.own (run_own ++ after.rest) w.bytes (small-append run_own after.rest (small-run start (next - start)) after.small);
           part = prefix-behind old mid new w.own run_own after.rest w.grows part;
           count = after.count;
           end = after.end;
@@ -387,19 +414,25 @@ module _ (rows : List (List ℕ)) (height : length rows ≡ 208) (widths : (i : 
       (prefix-behind old mid new (recorded 0 m rows) (line rows (row_at m)) (recorded (0 + (m + 1)) (207 - m) rows) before (subst (AppendsPrefix mid new) is part))
 
   module _ (marks : List (List Bool)) (marks_height : length marks ≡ 208) (marks_widths : (i : ℕ) → i < 208 → length (marks_line marks i) ≡ 182) where
-    pub unit-of : (own : List ℕ) (count end : ℕ) → HasRuns (recording rows ++ own) count count end (mark_of marks) → IsUnitOf rows marks (recording rows ++ own)
-    unit-of own count end runs = record {
+    pub unit-of : (own : List ℕ) → ((k : ℕ) → slice_index own k < 256) → (count end : ℕ) → HasRuns (recording rows ++ own) count count end (mark_of marks)
+        → IsUnitOf rows marks (recording rows ++ own)
+    unit-of own small count end runs = record {
       size = runs.size ∙ ap (λ n. 37_858 + 4 * n) (sym runs.number);
       lawful = runs.unbroken;
       rows_are = rows-listed (recording rows) own recording_size ∙ recording_captured rows height wide;
       marks_are = sym (marks-listed marks (recording rows ++ own) count marks_height marks_widths runs.number runs.marks);
+      fields = λ offset behind.
+          let is : length (recording rows) + (offset - 37_856) ≡ offset = omega (arith, recording_size, behind) in
+          let same : slice_index (recording rows ++ own) offset ≡ slice_index own (offset - 37_856) =
+          ap (λ n. get_or (recording rows ++ own) n 0) (sym is) ∙ get_or-append-add (recording rows) own (offset - 37_856) 0 in
+          subst (λ n. n < 256) (sym same) (small (offset - 37_856));
     }
 
     -- the rows were written, and all runs
     pub unit-written : (old mid new : Option (List ℕ)) → Appends old mid (recording rows) → AppendsAll (recording rows) (mark_of marks) mid new → AppendsUnit old new rows marks
     unit-written old mid new before all = record {
       unit = recording rows ++ all.own;
-      is_unit = unit-of all.own all.count all.end all.runs;
+      is_unit = unit-of all.own all.bytes all.count all.end all.runs;
       grows = Appends-then old mid new (recording rows) all.own before all.grows;
     }
 
@@ -407,7 +440,7 @@ module _ (rows : List (List ℕ)) (height : length rows ≡ 208) (widths : (i : 
     pub runs-begun : (old mid new : Option (List ℕ)) → Appends old mid (recording rows) → AppendsSome (recording rows) (mark_of marks) mid new → AppendsPart old new rows marks
     runs-begun old mid new before some = record {
       unit = recording rows ++ some.own;
-      is_unit = unit-of some.own some.count some.end some.runs;
+      is_unit = unit-of some.own some.bytes some.count some.end some.runs;
       part = subst (λ l. AppendsPrefix old new (recording rows ++ l)) (append-nil some.own) (prefix-behind old mid new (recording rows) some.own [] before some.part);
     }
 
@@ -417,7 +450,7 @@ module _ (rows : List (List ℕ)) (height : length rows ≡ 208) (widths : (i : 
         let number = to_be_bytes w16 (starts_below (mark_of marks) 37_856) in
         let after = rest-exists (starts_below (mark_of marks) 37_856) (recording rows ++ number) (mark_of marks) 0 0 (none-written (recording rows) (mark_of marks) recording_size) (omega arith) in record {
           unit = recording rows ++ (number ++ after.rest);
-          is_unit = unit-of (number ++ after.rest) after.count after.end (subst (λ l. HasRuns l after.count after.count after.end (mark_of marks)) (append_assoc (recording rows) number after.rest) after.runs);
+          is_unit = unit-of (number ++ after.rest) (small-append number after.rest (small-field (starts_below (mark_of marks) 37_856)) after.small) after.count after.end (subst (λ l. HasRuns l after.count after.count after.end (mark_of marks)) (append_assoc (recording rows) number after.rest) after.runs);
           part = prefix-behind old old new [] (recording rows) (number ++ after.rest) (Appends-none old) part;
         }
 
@@ -430,6 +463,7 @@ some_spelling rows marks height wide_rows marks_height wide_marks =
     let begun = none-written (recording rows) (mark_of marks) (recording_size rows height widths) in
     let after = rest-exists (starts_below (mark_of marks) 37_856) (recording rows ++ number) (mark_of marks) 0 0 begun (omega arith) in (
       recording rows ++ (number ++ after.rest),
-      unit-of rows height widths marks marks_height marks_widths (number ++ after.rest) after.count after.end
+      unit-of rows height widths marks marks_height marks_widths (number ++ after.rest)
+          (small-append number after.rest (small-field (starts_below (mark_of marks) 37_856)) after.small) after.count after.end
           (subst (λ l. HasRuns l after.count after.count after.end (mark_of marks)) (append_assoc (recording rows) number after.rest) after.runs),
     )

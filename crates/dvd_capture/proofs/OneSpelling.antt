@@ -231,7 +231,7 @@ module _ (rows : List (List ℕ)) (marks : List (List Bool)) (unit : List ℕ) (
       ∙ ap (λ p. get_or unit p 0) whole)
 
 -- TWO UNITS of the same rows and marks.
-module _ (rows : List (List ℕ)) (marks : List (List Bool)) (a b : List ℕ) (small_a : (i : ℕ) → slice_index a i < 256) (small_b : (i : ℕ) → slice_index b i < 256)
+module _ (rows : List (List ℕ)) (marks : List (List Bool)) (a b : List ℕ)
     (is_a : IsUnitOf rows marks a) (is_b : IsUnitOf rows marks b) where
   across : (place : ℕ) → place < 37_856 → HasPlace (start_of a) (end_of a) (run_count a) place → HasPlace (start_of b) (end_of b) (run_count b) place
   across place below h =
@@ -252,34 +252,38 @@ module _ (rows : List (List ℕ)) (marks : List (List Bool)) (a b : List ℕ) (s
       (run_count a) (omega arith) (omega (arith, c)) i below
 
   -- fields that are the same have the same bytes
-  first_byte : (offset : ℕ) → field_at a offset ≡ field_at b offset → slice_index a offset ≡ slice_index b offset
+  first_byte : (offset : ℕ) → 37_856 ≤ offset → field_at a offset ≡ field_at b offset → slice_index a offset ≡ slice_index b offset
   unfolding field_at
-  first_byte offset same =
-      let x = small_a offset in let y = small_b offset in let z = small_a (offset + 1) in let w = small_b (offset + 1) in omega (arith, same, x, y, z, w)
+  first_byte offset behind same =
+      let next : 37_856 ≤ offset + 1 = omega (arith, behind) in
+      let x = is_a.fields offset behind in let y = is_b.fields offset behind in
+      let z = is_a.fields (offset + 1) next in let w = is_b.fields (offset + 1) next in omega (arith, same, x, y, z, w)
 
-  second_byte : (offset : ℕ) → field_at a offset ≡ field_at b offset → slice_index a (offset + 1) ≡ slice_index b (offset + 1)
+  second_byte : (offset : ℕ) → 37_856 ≤ offset → field_at a offset ≡ field_at b offset → slice_index a (offset + 1) ≡ slice_index b (offset + 1)
   unfolding field_at
-  second_byte offset same =
-      let x = small_a offset in let y = small_b offset in let z = small_a (offset + 1) in let w = small_b (offset + 1) in omega (arith, same, x, y, z, w)
+  second_byte offset behind same =
+      let next : 37_856 ≤ offset + 1 = omega (arith, behind) in
+      let x = is_a.fields offset behind in let y = is_b.fields offset behind in
+      let z = is_a.fields (offset + 1) next in let w = is_b.fields (offset + 1) next in omega (arith, same, x, y, z, w)
 
-  in_field : (k offset : ℕ) → field_at a offset ≡ field_at b offset → (k ≡ offset) ⊎ (k ≡ offset + 1) → slice_index a k ≡ slice_index b k
-  in_field k offset same (inl is) = subst (λ j. slice_index a j ≡ slice_index b j) (sym is) (first_byte offset same)
-  in_field k offset same (inr is) = subst (λ j. slice_index a j ≡ slice_index b j) (sym is) (second_byte offset same)
+  in_field : (k offset : ℕ) → 37_856 ≤ offset → field_at a offset ≡ field_at b offset → (k ≡ offset) ⊎ (k ≡ offset + 1) → slice_index a k ≡ slice_index b k
+  in_field k offset behind same (inl is) = subst (λ j. slice_index a j ≡ slice_index b j) (sym is) (first_byte offset behind same)
+  in_field k offset behind same (inr is) = subst (λ j. slice_index a j ≡ slice_index b j) (sym is) (second_byte offset behind same)
 
   one_of_two : (k offset : ℕ) → offset ≤ k → k < offset + 2 → (((nat_le (suc k) (offset + 1) ≡ true) × (suc k ≤ offset + 1)) ⊎ ((nat_le (suc k) (offset + 1) ≡ false) × (offset + 1 < suc k))) → (k ≡ offset) ⊎ (k ≡ offset + 1)
   one_of_two k offset low high (inl is) = inl (omega (arith, is.1, low))
   one_of_two k offset low high (inr is) = inr (omega (arith, is.1, high))
 
-  field_byte : (k offset : ℕ) → offset ≤ k → k < offset + 2 → field_at a offset ≡ field_at b offset → slice_index a k ≡ slice_index b k
-  field_byte k offset low high same = in_field k offset same (one_of_two k offset low high (leb_tells (suc k) (offset + 1)))
+  field_byte : (k offset : ℕ) → 37_856 ≤ offset → offset ≤ k → k < offset + 2 → field_at a offset ≡ field_at b offset → slice_index a k ≡ slice_index b k
+  field_byte k offset behind low high same = in_field k offset behind same (one_of_two k offset low high (leb_tells (suc k) (offset + 1)))
 
   -- a byte of run i
   run_byte : (k i : ℕ) → i < run_count a → 37_858 + 4 * i ≤ k → k < 37_862 + 4 * i
       → (((nat_le (37_860 + 4 * i) k ≡ true) × (37_860 + 4 * i ≤ k)) ⊎ ((nat_le (37_860 + 4 * i) k ≡ false) × (k < 37_860 + 4 * i))) → slice_index a k ≡ slice_index b k
-  run_byte k i below low high (inr is) = field_byte k (37_858 + 4 * i) low (omega (arith, is.1)) (runs_agree i below).0
+  run_byte k i below low high (inr is) = field_byte k (37_858 + 4 * i) (omega arith) low (omega (arith, is.1)) (runs_agree i below).0
   run_byte k i below low high (inl is) =
       let starts = (runs_agree i below).0 in let ends = (runs_agree i below).1 in
-      field_byte k (37_860 + 4 * i) is.1 (omega arith) (omega (arith, starts, ends))
+      field_byte k (37_860 + 4 * i) (omega arith) is.1 (omega arith) (omega (arith, starts, ends))
 
   behind_number : (k : ℕ) → k < length a → 37_858 ≤ k → slice_index a k ≡ slice_index b k
   behind_number k within low =
@@ -288,7 +292,7 @@ module _ (rows : List (List ℕ)) (marks : List (List Bool)) (a b : List ℕ) (s
 
   by_number : (k : ℕ) → k < length a → 37_856 ≤ k → (((nat_le 37_858 k ≡ true) × (37_858 ≤ k)) ⊎ ((nat_le 37_858 k ≡ false) × (k < 37_858))) → slice_index a k ≡ slice_index b k
   by_number k within low (inl is) = behind_number k within is.1
-  by_number k within low (inr is) = field_byte k 37_856 low (omega (arith, is.1)) counts
+  by_number k within low (inr is) = field_byte k 37_856 (omega arith) low (omega (arith, is.1)) counts
 
   each : (k : ℕ) → k < length a → (((nat_le 37_856 k ≡ true) × (37_856 ≤ k)) ⊎ ((nat_le 37_856 k ≡ false) × (k < 37_856))) → slice_index a k ≡ slice_index b k
   each k within (inl is) = by_number k within is.1 (leb_tells 37_858 k)
@@ -300,4 +304,4 @@ module _ (rows : List (List ℕ)) (marks : List (List Bool)) (a b : List ℕ) (s
       same_number_lists a b (omega (arith, size_a, size_b, c)) (λ k within. each k within (leb_tells 37_856 k))
 
 pub one_spelling : MarksHaveOneSpelling
-one_spelling rows marks a b small_a small_b is_a is_b = units-same rows marks a b small_a small_b is_a is_b
+one_spelling rows marks a b is_a is_b = units-same rows marks a b is_a is_b

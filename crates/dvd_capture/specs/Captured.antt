@@ -1,6 +1,6 @@
 -- Captured blocks in a stream of bytes. A block has 208 recorded rows (ECMA-267, 19), one after the other. The definitions
 -- go by index; the code reads a recorded row at a time, and each in any pieces.
-use Rattle.std.specs.Prelude.{◌≡◌, ◌≢◌, ℕ, ◌*◌, ◌<◌, Bool, false, List, length, map, take, drop, replicate, ⊤}
+use Rattle.std.specs.Prelude.{◌≡◌, ◌≢◌, ℕ, ◌*◌, ◌<◌, ◌≤◌, Bool, false, List, length, map, take, drop, replicate, slice_index, ⊤}
 use Rattle.std.specs.List.{range_with_len}
 use Rattle.std.specs.Io.KnownBytes.{Consumes, IsAtEnd}
 use Rattle.std.specs.declared.option.Option.{Option}
@@ -93,9 +93,11 @@ pub record BreaksAt (form : Form) (old new : Option (List ℕ)) (at : ℕ) : Typ
   pub taken : Consumes old new bytes
   pub broken : IsBrokenAt bytes at
 
--- These bytes are the listed unit of a block with these rows and marks: one unit that breaks no rule. There is one such unit.
+-- These are the listed unit of a block with these rows and marks: one unit that breaks no rule, whose fields have bytes. There is
+-- one such unit.
 pub record IsUnitOf (rows : List (List ℕ)) (marks : List (List Bool)) (unit : List ℕ) : Type 0 where
   pub size : length unit ≡ listed_size unit
   pub lawful : IsUnbroken unit
   pub rows_are : captured_rows Listed unit ≡ rows
   pub marks_are : captured_marks Listed unit ≡ marks
+  pub fields : (offset : ℕ) → 37_856 ≤ offset → slice_index unit offset < 256

@@ -1,5 +1,5 @@
 -- The laws of captured blocks and of two-pass decoding.
-use Rattle.std.specs.Prelude.{◌≡◌, ℕ, ◌<◌, ◌^◌, Bool, List, All, length, slice_index}
+use Rattle.std.specs.Prelude.{◌≡◌, ℕ, ◌<◌, ◌^◌, Bool, List, All, length}
 use Rattle.dvd_block.specs.Product.{IsProduct}
 use Rattle.dvd_block.specs.Recording.{recording}
 use Rattle.dvd_capture.specs.Captured.{IsUnitOf, captured_rows}
@@ -30,8 +30,7 @@ RecordingIsCaptured =
 -- rows and marks have at most one listed unit
 abbrev pub MarksHaveOneSpelling : Type 0
 MarksHaveOneSpelling =
-    (rows : List (List ℕ)) (marks : List (List Bool)) (a b : List ℕ) → ((i : ℕ) → slice_index a i < 256) → ((i : ℕ) → slice_index b i < 256)
-    → IsUnitOf rows marks a → IsUnitOf rows marks b → a ≡ b
+    (rows : List (List ℕ)) (marks : List (List Bool)) (a b : List ℕ) → IsUnitOf rows marks a → IsUnitOf rows marks b → a ≡ b
 
 -- and they have one
 abbrev pub MarksHaveASpelling : Type 0

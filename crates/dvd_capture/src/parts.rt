@@ -1,5 +1,5 @@
 //! The buffers of a captured block. Whoever decodes several rows or columns at once lends them one by one.
-ghost use Rattle.std.specs.Prelude.{◌≡◌, ℕ, ◌<◌, ◌≢◌, ◌==◌, Bool, false, List, [], length, vec_len, IfOk, IsTrue, replicate, slice_index_or, slice_set, map};
+ghost use Rattle.std.specs.Prelude.{◌≡◌, ◌↔◌, ℕ, ◌<◌, ◌≢◌, ◌==◌, Bool, false, List, [], length, vec_len, IfOk, IsTrue, replicate, slice_index_or, slice_set, map};
 ghost use Rattle.std.specs.declared.option.Option.TheVariants.{None, Some};
 ghost use Rattle.std.specs.Int.{bit_at};
 ghost use Rattle.dvd_block.specs.Product.{line};
@@ -7,6 +7,7 @@ ghost use Rattle.dvd_capture.specs.MarkBits.{mark_at, marks_of};
 
 use dvd_ports::NoMemory;
 use rs_decode::Fix;
+use rs_lanes::Row;
 use std::alloc::Global;
 
 /// The received rows: 208 of 182 bytes, 37,856 bytes in sum.
@@ -67,6 +68,14 @@ impl Received {
     {
         let rows = vec![in alloc; [0; 182]; 208].map_err(|_| NoMemory)?;
         Ok(Received { rows })
+    }
+
+    /// The received rows.
+    pub fn rows(&self) -> &[[u8; 182]]
+        ensures rows { result.now ≡ received_rows self.now }
+        ensures size { length result.now ≡ 208 }
+    {
+        &self.rows
     }
 
     /// Received row `i`.
@@ -134,12 +143,12 @@ impl Marks {
         }
     }
 
-    /// Whether no mark bit of row `i` is set, the spare ones included: no place of it is marked then.
+    /// Whether no place of row `i` is marked.
     pub fn is_clear(&self, i: usize) -> bool
         requires { i < 208 }
-        ensures { IsTrue result → marks_line (marks_rows self.now) i ≡ replicate 182 false }
+        ensures { IsTrue result ↔ (marks_line (marks_rows self.now) i ≡ replicate 182 false) }
     {
-        self.rows[i] == [0; 23]
+        has_no_mark(&self.rows[i])
     }
 
     /// The mark in row `i` at place `j`.
@@ -192,6 +201,13 @@ impl Marks {
     }
 }
 
+// Whether no place has a mark; the two spare bits don't count.
+fn has_no_mark(row: &[u8; 23]) -> bool
+    ensures { IsTrue result ↔ (marks_of row.now ≡ replicate 182 false) }
+{
+    row[..22] == [0; 22] && row[22] < 4
+}
+
 // The mark of place `j` in a row of mark bits.
 fn is_marked(bits: &[u8; 23], j: usize) -> bool
     requires { j < 182 }
@@ -226,6 +242,14 @@ impl AnswerRow {
     {
         self.bytes = *bytes;
         self.fix = fix;
+    }
+}
+
+impl Row for AnswerRow {
+    ghost word = { λ answer. answer.bytes };
+
+    fn row(&self) -> &[u8; 182] {
+        &self.bytes
     }
 }
 

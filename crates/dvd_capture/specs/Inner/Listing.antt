@@ -1,5 +1,5 @@
 -- Ours: what is known while the fields of a listed unit come or are written one after the other.
-use Rattle.std.specs.Prelude.{◌≡◌, ℕ, ◌+◌, ◌-◌, ◌*◌, ◌<◌, ◌≤◌, ◌==◌, not, Bool, false, ◌&&◌, ◌||◌, if◌then◌else◌, zero, suc, List, ◌++◌, length, Result, Ok, Err}
+use Rattle.std.specs.Prelude.{◌≡◌, ℕ, ◌+◌, ◌-◌, ◌*◌, ◌<◌, ◌≤◌, ◌==◌, not, Bool, false, ◌&&◌, ◌||◌, if◌then◌else◌, zero, suc, List, ◌++◌, length, slice_index, Result, Ok, Err}
 use Rattle.std.specs.Io.KnownBytes.{Appends, Consumes, IsAtEnd}
 use Rattle.std.specs.declared.option.Option.{Option}
 use Rattle.dvd_ports.specs.Causes.{Rose}
@@ -59,6 +59,7 @@ IsFetched before mark old new (BadMarks at) = IsStopped before old new (BadMarks
 
 pub record AppendsAll (before : List ℕ) (mark : ℕ → Bool) (old new : Option (List ℕ)) : Type 0 where
   pub own : List ℕ
+  pub bytes : (k : ℕ) → slice_index own k < 256
   pub grows : Appends old new own
   pub count : ℕ
   pub end : ℕ
@@ -66,6 +67,7 @@ pub record AppendsAll (before : List ℕ) (mark : ℕ → Bool) (old new : Optio
 
 pub record AppendsSome (before : List ℕ) (mark : ℕ → Bool) (old new : Option (List ℕ)) : Type 0 where
   pub own : List ℕ
+  pub bytes : (k : ℕ) → slice_index own k < 256
   pub part : AppendsPrefix old new own
   pub count : ℕ
   pub end : ℕ
