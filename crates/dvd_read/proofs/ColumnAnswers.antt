@@ -1,9 +1,8 @@
 -- The columns of the rows' answers, and the rows of the columns' words.
-use Rattle.std.proofs.Common.{◌≡◌, ◌∙◌, ℕ, ◌+◌, ◌<◌, Bool, true, false, not, List, [], length, map, get_or, set, position, slice_index, All, inl, inr, refl, sym, ap, arith, Some, None}
+use Rattle.std.proofs.Common.{◌≡◌, ◌∙◌, ℕ, ◌+◌, ◌<◌, Bool, true, false, not, List, [], length, map, get_or, position, slice_index, All, refl, sym, ap, subst, arith, Some, None}
 use Rattle.std.specs.Prelude.{◌↔◌, IsTrue}
 use Rattle.std.specs.declared.option.Option.{Option}
-use Rattle.std.proofs.lemmas.Bool.{cases_eq}
-use Rattle.std.proofs.lemmas.List.{get_or-map, get_or-set_same, get_or-set_other, length-map}
+use Rattle.std.proofs.lemmas.List.{get_or-map, length-map}
 use Rattle.std.proofs.lemmas.Grind.{same_number_lists}
 use Rattle.gf_field.specs.Words.{IsByte, IsCodeword}
 use Rattle.rs_decode.specs.Nearest.{vanishes_at_all}
@@ -13,7 +12,8 @@ use Rattle.dvd_capture.specs.TwoPass.{answer_column, byte_at, column_answer, fro
 use Rattle.dvd_capture.specs.declared.parts.AnswerRow.{AnswerRow}
 use Rattle.dvd_capture.specs.declared.parts.ColumnAnswer.{ColumnAnswer}
 use Rattle.dvd_capture.proofs.Columns.{from_columns-line}
-use Rattle.dvd_read.specs.Inner.Found.{answer_word, column_word, words_of}
+use Rattle.dvd_read.specs.Parts.{AreColumnsFrom, answer_word, column_word}
+use Rattle.dvd_read.specs.Inner.Found.{AreColumns, words_of}
 use Rattle.dvd_read.proofs.Positions.{first_passes, none_passes}
 use Rattle.dvd_read.proofs.RowAnswers.{blank_answer}
 
@@ -60,19 +60,15 @@ row_read columns i row below size row_size read =
     ∙ sym (get_or-map (λ word. slice_index word i) (words_of columns) k [] 0 inside_words))
     ∙ sym (from_columns-line (words_of columns) i below)
 
--- the columns before column j are answered
-abbrev pub AreColumnsBefore : List (Option (List ℕ)) → List ColumnAnswer → ℕ → Type 0
-AreColumnsBefore answers columns j = (k : ℕ) (d : ColumnAnswer) → k < j → column_word (get_or columns k d) ≡ column_answer answers k
+-- the first n columns from `start` on are answered
+abbrev pub AreColumnsBefore : List (Option (List ℕ)) → ℕ → List ColumnAnswer → ℕ → Type 0
+AreColumnsBefore answers start piece n = (k : ℕ) (d : ColumnAnswer) → k < n → column_word (get_or piece k d) ≡ column_answer answers (start + k)
 
--- one column more is answered
-pub columns-next : (answers : List (Option (List ℕ))) (columns : List ColumnAnswer) (j : ℕ) (column : ColumnAnswer) → j < length columns
-    → AreColumnsBefore answers columns j → column_word column ≡ column_answer answers j → AreColumnsBefore answers (set columns j column) (j + 1)
-columns-next answers columns j column within before here k d below = elim (cases_eq k j) [
-  | inl same ↦
-      ap (λ n. column_word (get_or (set columns j column) n d)) same ∙ ap column_word (get_or-set_same columns j column d within) ∙ here
-      ∙ ap (column_answer answers) (sym same)
-  | inr other ↦ ap column_word (get_or-set_other columns j k column d other) ∙ before k d (omega arith)
-]
+-- the answers to all columns from the first on
+pub columns-whole : (answers : List (Option (List ℕ))) (columns : List ColumnAnswer) → length columns ≡ 182
+    → AreColumnsFrom answers 0 columns → AreColumns answers columns
+columns-whole answers columns size from j d below =
+    subst (λ (n : ℕ). column_word (get_or columns j d) ≡ column_answer answers n) {x = 0 + j} (omega arith) (from.are j d (omega (arith, below, size)))
 
 -- an answer that is true exactly for codewords is the test
 pub codeword_tested : (answer : Bool) (row : List ℕ) → length row ≡ 182 → All IsByte row → IsTrue answer ↔ IsCodeword 182 10 row → answer ≡ vanishes_at_all 10 row

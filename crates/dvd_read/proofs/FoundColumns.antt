@@ -9,7 +9,8 @@ use Rattle.dvd_capture.specs.TwoPass.{AgreesWith, failed_of, from_columns}
 use Rattle.dvd_capture.specs.declared.parts.ColumnAnswer.{ColumnAnswer}
 use Rattle.dvd_read.specs.Causes.{two_pass_cause}
 use Rattle.dvd_read.specs.Found.{block_found, columns_of}
-use Rattle.dvd_read.specs.Inner.Found.{AreColumns, column_word, words_of}
+use Rattle.dvd_read.specs.Parts.{column_word}
+use Rattle.dvd_read.specs.Inner.Found.{AreColumns, words_of}
 use Rattle.dvd_read.specs.declared.cause.Cause.TheVariants.{Column, Row}
 use Rattle.dvd_read.proofs.ColumnAnswers.{blank_column}
 use Rattle.dvd_read.proofs.Outcomes.{missing_column, get_or-columns_of, length-columns_of, column_cause, row_cause, fixed-agrees}

@@ -1,9 +1,9 @@
 -- The answer to one row, and the answers to all of them as words.
-use Rattle.std.proofs.Common.{◌≡◌, ◌∙◌, ℕ, zero, suc, ◌+◌, ◌<◌, ◌≤◌, Bool, true, false, cond, List, [], ◌∷◌, length, map, take, get_or, set, inl, inr, refl, sym, ap, subst, arith, Some, None, is_none, MatchOption}
+use Rattle.std.proofs.Common.{◌≡◌, ◌∙◌, ℕ, zero, suc, min, ◌+◌, ◌-◌, ◌*◌, ◌<◌, ◌≤◌, Bool, true, false, cond, List, [], ◌∷◌, length, map, take, get_or, set, inl, inr, refl, sym, ap, subst, arith, Some, None, is_none, MatchOption}
 use mir.Val.{bool_byte}
 use Rattle.std.specs.declared.option.Option.{Option}
 use Rattle.std.proofs.lemmas.Bool.{cases_eq}
-use Rattle.std.proofs.lemmas.List.{get_or-map, get_or-set_same, get_or-set_other, ext_get_or, length-map}
+use Rattle.std.proofs.lemmas.List.{get_or-map, get_or-set_same, get_or-set_other, ext_get_or, length-map, length-set}
 use Rattle.gf_field.specs.Words.{IsNear}
 use Rattle.rs_decode.specs.Errors.{error_count}
 use Rattle.rs_decode.specs.Filling.{marked}
@@ -20,7 +20,7 @@ use Rattle.dvd_capture.specs.declared.parts.Marks.{Marks}
 use Rattle.dvd_capture.specs.declared.parts.Received.{Received}
 use Rattle.dvd_capture.specs.TwoPass.{answers_of, failed_of}
 use Rattle.dvd_capture.specs.declared.parts.AnswerRow.{AnswerRow}
-use Rattle.dvd_read.specs.Inner.Found.{answer_by, answer_word}
+use Rattle.dvd_read.specs.Parts.{AreAnswersFrom, answer_by, answer_word}
 
 -- what is told of a row's answer by its fix
 abbrev AnswerBy : List ℕ → List Bool → List ℕ → Option Fix → Type 0
@@ -51,21 +51,40 @@ get_or-answers_of (row ∷ received) [] i d within marks_within = absurd (omega 
 get_or-answers_of (row ∷ received) (mark ∷ marks) zero d within marks_within = refl
 get_or-answers_of (row ∷ received) (mark ∷ marks) (suc i) d within marks_within = get_or-answers_of received marks i d (omega arith) (omega arith)
 
--- the answers to the rows before row i
-abbrev pub AreAnswersBefore : List (List ℕ) → List (List Bool) → List AnswerRow → ℕ → Type 0
-AreAnswersBefore received marks answers i =
-    (k : ℕ) (d : AnswerRow) → k < i → IsAnswer (line received k) (marks_line marks k) (get_or answers k d)
+-- the answers to the first n rows from `start` on
+abbrev pub AreAnswersBefore : List (List ℕ) → List (List Bool) → ℕ → List AnswerRow → ℕ → Type 0
+AreAnswersBefore received marks start piece n =
+    (k : ℕ) (d : AnswerRow) → k < n → IsAnswer (line received (start + k)) (marks_line marks (start + k)) (get_or piece k d)
 
--- one row more is answered
-pub answers-next : (received : List (List ℕ)) (marks : List (List Bool)) (answers : List AnswerRow) (i : ℕ) (answer : AnswerRow) → i < length answers
-    → AreAnswersBefore received marks answers i → IsAnswer (line received i) (marks_line marks i) answer
-    → AreAnswersBefore received marks (set answers i answer) (i + 1)
-answers-next received marks answers i answer within before here k d below = elim (cases_eq k i) [
-  | inl same ↦
-      subst (λ (n : ℕ). IsAnswer (line received n) (marks_line marks n) (get_or (set answers i answer) n d)) (sym same)
-      (subst (IsAnswer (line received i) (marks_line marks i)) (sym (get_or-set_same answers i answer d within)) here)
-  | inr other ↦
-      subst (IsAnswer (line received k) (marks_line marks k)) (sym (get_or-set_other answers i k answer d other)) (before k d (omega arith))
+-- the answers to all rows from the first on
+pub answers-whole : (received : List (List ℕ)) (marks : List (List Bool)) (answers : List AnswerRow) → length answers ≡ 208
+    → AreAnswersFrom received marks 0 answers → AreAnswers received marks answers
+answers-whole received marks answers size from i d below =
+    subst (λ (n : ℕ). IsAnswer (line received n) (marks_line marks n) (get_or answers i d)) {x = 0 + i} (omega arith) (from.are i d (omega (arith, below, size)))
+
+-- of two more rows or columns it is noted which are codewords, where the second may be the first again
+pub noted-next : (P : ℕ → Type 0) (whole : List Bool) (k other count : ℕ) (first second : Bool)
+    → 2 * k < length whole
+    → other < length whole
+    → other ≡ min (2 * k + 1) (count - 1)
+    → (first ≡ true → P (2 * k))
+    → (second ≡ true → P other)
+    → ((j : ℕ) → j < 2 * k → j < count → get_or whole j false ≡ true → P j)
+    → (j : ℕ) → j < 2 * (k + 1) → j < count → get_or (set (set whole (2 * k) first) other second) j false ≡ true → P j
+noted-next P whole k other count first second one_inside other_inside is one two before j below within noted = elim (cases_eq j other) [
+  | inl last ↦
+      subst P (sym last)
+      (two
+      (sym (get_or-set_same (set whole (2 * k) first) other second false (omega (arith, other_inside, length-set whole (2 * k) first)))
+      ∙ ap (λ n. get_or (set (set whole (2 * k) first) other second) n false) (sym last) ∙ noted))
+  | inr not_last ↦
+      let left : get_or (set whole (2 * k) first) j false ≡ true = sym (get_or-set_other (set whole (2 * k) first) other j second false not_last) ∙ noted in
+      elim (cases_eq j (2 * k)) [
+        | inl here ↦
+            subst P (sym here)
+            (one (sym (get_or-set_same whole (2 * k) first false one_inside) ∙ ap (λ n. get_or (set whole (2 * k) first) n false) (sym here) ∙ left))
+        | inr not_here ↦ before j (omega (arith, not_last, not_here, is, within, below)) within (sym (get_or-set_other whole (2 * k) j first false not_here) ∙ left)
+      ]
 ]
 
 -- the flags of the rows before row i

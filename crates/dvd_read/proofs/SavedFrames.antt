@@ -18,7 +18,7 @@ use Rattle.dvd_layout.specs.declared.entry.BlockPlan.{BlockPlan}
 use Rattle.dvd_layout.specs.Place.{rule_for}
 use Rattle.dvd_read.specs.Causes.{two_pass_cause}
 use Rattle.dvd_read.specs.Found.{block_found}
-use Rattle.dvd_read.specs.Inner.Found.{answer_by, answer_word}
+use Rattle.dvd_read.specs.Parts.{answer_by, answer_word}
 use Rattle.dvd_read.specs.Frames.{frame_of, wanted_word}
 use Rattle.dvd_read.specs.Salvage.{answered_block, candidate, lacks_row, main_if_right, rescued, sectors_saved}
 use Rattle.dvd_read.proofs.FrameFaults.{cause_as}

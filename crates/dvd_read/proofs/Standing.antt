@@ -1,9 +1,8 @@
 -- Rows and columns that are their own answers, and blocks that stand as their rows were answered.
-use Rattle.std.proofs.Common.{◌≡◌, ◌∙◌, ℕ, zero, suc, ◌+◌, ◌*◌, ◌<◌, ◌≤◌, ◌==◌, Bool, true, false, if◌then◌else◌, MatchOption, List, [], ◌∷◌, length, map, get_or, set, replicate, slice_index, inl, inr, refl, sym, ap, subst, arith, Some, None, is_none}
+use Rattle.std.proofs.Common.{◌≡◌, ◌∙◌, ℕ, zero, suc, ◌+◌, ◌<◌, ◌≤◌, ◌==◌, Bool, true, false, if◌then◌else◌, MatchOption, List, [], ◌∷◌, length, map, get_or, replicate, slice_index, refl, sym, ap, subst, arith, Some, None, is_none}
 use Rattle.std.specs.declared.option.Option.{Option}
 use Rattle.std.proofs.lemmas.Bool.Decides.{nat_tests}
-use Rattle.std.proofs.lemmas.List.{get_or-map, get_or-set_same, get_or-set_other, ext_get_or, get_or-replicate, length-map, length-replicate, length-set, get_or_default}
-use Rattle.std.proofs.lemmas.Bool.{cases_eq}
+use Rattle.std.proofs.lemmas.List.{get_or-map, ext_get_or, get_or-replicate, length-map, length-replicate}
 use Rattle.std.proofs.lemmas.Grind.{same_number_lists}
 use Rattle.gf_field.specs.Words.{IsCodeword, IsNear, cost}
 use Rattle.rs_decode.specs.Errors.{error_count}
@@ -23,8 +22,9 @@ use Rattle.dvd_capture.specs.declared.parts.AnswerRow.{AnswerRow}
 use Rattle.dvd_capture.specs.declared.parts.ColumnAnswer.{ColumnAnswer}
 use Rattle.dvd_capture.proofs.Columns.{from_columns-line, length-from_columns}
 use Rattle.dvd_read.specs.Found.{differences}
-use Rattle.dvd_read.specs.Inner.Found.{answer_by, answer_word, words_of}
-use Rattle.dvd_read.specs.Inner.Standing.{AreCodewords, AreOwnColumns, AreWhole, bytes_of}
+use Rattle.dvd_read.specs.Parts.{AreOwnFrom, answer_by, answer_word, bytes_of}
+use Rattle.dvd_read.specs.Inner.Found.{words_of}
+use Rattle.dvd_read.specs.Inner.Standing.{AreCodewords, AreKept, AreOwnColumns}
 use Rattle.dvd_read.proofs.ColumnAnswers.{blank_column}
 use Rattle.dvd_read.proofs.RowAnswers.{blank_answer, row_fixed}
 
@@ -169,24 +169,17 @@ whole-answer answers j word size none is =
     let clear : replicate 208 false ≡ failed = all-clear failed 208 (length-map (map answer_word answers) is_none ∙ length-map answers answer_word ∙ size) none in
     ap (near_of 208 16 word) clear ∙ ap (λ w. near_of 208 16 w failed) (is ∙ sym (whole-column answers j none))
 
--- and is copied byte by byte
-abbrev pub IsCopiedBefore : List AnswerRow → ℕ → List ℕ → ℕ → Type 0
-IsCopiedBefore answers j word i = (k : ℕ) (d : AnswerRow) → k < i → get_or word k 0 ≡ slice_index (get_or answers k d).bytes j
-
 -- once all rows are copied, it is the column
-pub column-copied : (answers : List AnswerRow) (j : ℕ) (word : List ℕ) → length answers ≡ 208 → length word ≡ 208 → IsCopiedBefore answers j word 208
+pub column-copied : (answers : List AnswerRow) (j : ℕ) (word : List ℕ) → length answers ≡ 208 → length word ≡ 208
+    → ((k : ℕ) → k < 208 → get_or word k 0 ≡ get_or (line (bytes_of answers) k) j 0)
     → word ≡ column (bytes_of answers) j
 unfolding column
 column-copied answers j word size word_size copied =
     same_number_lists word (map (λ row. slice_index row j) (bytes_of answers))
     (word_size ∙ sym (length-map (bytes_of answers) (λ row. slice_index row j) ∙ length-bytes_of answers ∙ size))
     (λ k within.
-    let below : k < 208 = omega arith in
-    let inside : k < length answers = omega arith in
-    let inside_bytes : k < length (bytes_of answers) = subst (λ n. k < n) (sym (length-bytes_of answers)) inside in
-    copied k blank_answer below
-    ∙ sym (ap (λ (row : List ℕ). slice_index row j) (get_or-bytes_of answers k inside))
-    ∙ sym (get_or-map (λ (row : List ℕ). slice_index row j) (bytes_of answers) k [] 0 inside_bytes))
+    let inside : k < length (bytes_of answers) = omega (arith, length-bytes_of answers) in
+    copied k (omega arith) ∙ sym (get_or-map (λ (row : List ℕ). slice_index row j) (bytes_of answers) k [] 0 inside))
 
 -- ---- blocks that stand
 
@@ -230,37 +223,17 @@ rows-stand answers columns size columns_size codewords none own k below =
     ap (λ (block : List (List ℕ)). vanishes_at_all 10 (line block k)) (stands answers columns size columns_size codewords none own)
     ∙ codeword-vanishes 182 10 (line (bytes_of answers) k) (whole-codewords answers k size below codewords none)
 
--- the columns before column j have the bytes of the rows' answers
-abbrev pub AreOwnBefore : List AnswerRow → List ColumnAnswer → ℕ → Type 0
-AreOwnBefore answers columns j = (k : ℕ) (d : ColumnAnswer) → k < j → (get_or columns k d).bytes ≡ column (bytes_of answers) k
+-- all columns from the first on are their own answers
+pub own-whole : (answers : List AnswerRow) (columns : List ColumnAnswer) → length columns ≡ 182 → AreOwnFrom answers 0 columns → AreOwnColumns answers columns
+own-whole answers columns size from j d below =
+    subst (λ (n : ℕ). (get_or columns j d).bytes ≡ column (bytes_of answers) n) {x = 0 + j} (omega arith) (from.are j d (omega (arith, below, size)))
 
--- one column more is its own answer
-pub own-next : (answers : List AnswerRow) (columns : List ColumnAnswer) (j : ℕ) (own : ColumnAnswer) → j < length columns
-    → AreOwnBefore answers columns j → own.bytes ≡ column (bytes_of answers) j → AreOwnBefore answers (set columns j own) (j + 1)
-own-next answers columns j own within before here k d below = elim (cases_eq k j) [
-  | inl same ↦
-      ap (λ n. (get_or (set columns j own) n d).bytes) same ∙ ap (λ (c : ColumnAnswer). c.bytes) (get_or-set_same columns j own d within) ∙ here
-      ∙ ap (column (bytes_of answers)) (sym same)
-  | inr other ↦ ap (λ (c : ColumnAnswer). c.bytes) (get_or-set_other columns j k own d other) ∙ before k d (omega arith)
-]
-
--- two columns more are noted
-pub whole-next : (columns : List ColumnAnswer) (whole : List Bool) (k : ℕ) (first second : Bool) (default : ColumnAnswer) → 2 * k + 1 < length columns → 2 * k + 1 < length whole
-    → (first ≡ true → IsCodeword 208 16 (get_or columns (2 * k) default).bytes) → (second ≡ true → IsCodeword 208 16 (get_or columns (2 * k + 1) default).bytes)
-    → AreWhole columns whole (2 * k) → AreWhole columns (set (set whole (2 * k) first) (2 * k + 1) second) (2 * (k + 1))
-whole-next columns whole k first second default inside room one other before j d below noted = elim (cases_eq j (2 * k + 1)) [
-  | inl last ↦
-      let is : second ≡ true = sym (get_or-set_same (set whole (2 * k) first) (2 * k + 1) second false (omega (arith, length-set whole (2 * k) first))) ∙ ap (λ n. get_or (set (set whole (2 * k) first) (2 * k + 1) second) n false) (sym last) ∙ noted in
-      subst (λ (c : ColumnAnswer). IsCodeword 208 16 c.bytes) (get_or_default columns (2 * k + 1) default d inside ∙ ap (λ n. get_or columns n d) (sym last)) (other is)
-  | inr not_last ↦
-      let left : get_or (set whole (2 * k) first) j false ≡ true = sym (get_or-set_other (set whole (2 * k) first) (2 * k + 1) j second false not_last) ∙ noted in
-      elim (cases_eq j (2 * k)) [
-        | inl here ↦
-            let is : first ≡ true = sym (get_or-set_same whole (2 * k) first false (omega arith)) ∙ ap (λ n. get_or (set whole (2 * k) first) n false) (sym here) ∙ left in
-            subst (λ (c : ColumnAnswer). IsCodeword 208 16 c.bytes) (get_or_default columns (2 * k) default d (omega arith) ∙ ap (λ n. get_or columns n d) (sym here)) (one is)
-        | inr not_here ↦ before j d (omega arith) (sym (get_or-set_other whole (2 * k) j first false not_here) ∙ left)
-      ]
-]
+-- columns that kept their bytes are still their own answers
+pub own-kept : (answers : List AnswerRow) (start n : ℕ) (columns answered : List ColumnAnswer) → n ≡ length columns → length answered ≡ length columns
+    → AreOwnFrom answers start columns → AreKept columns answered n → AreOwnFrom answers start answered
+own-kept answers start n columns answered is size own kept = record {
+  are = λ k d within. kept k d (omega (arith, within, is, size)) ∙ own.are k d (omega (arith, within, size));
+}
 
 -- what is counted of row i of a captured block
 pub row-counted : (work : Work) (i : ℕ) (row : List ℕ) (default : AnswerRow) (count : ℕ) → i < 208 → HasAnswers (stage_of work) → row ≡ line (rows_of work) i

@@ -4,5 +4,6 @@ pub mod Frames
 pub mod Inner
 pub mod Laws
 pub mod Made
+pub mod Parts
 pub mod Reading
 pub mod Salvage

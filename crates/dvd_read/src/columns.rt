@@ -1,88 +1,124 @@
 //! The second pass: each column of the rows' answers is answered by the codeword near it, the failed rows being marked.
-ghost use Rattle.std.specs.Prelude.{◌≡◌, ◌<◌, IsTrue, true, false, length, map, replicate, position, not};
+ghost use Rattle.std.specs.Prelude.{◌≡◌, ℕ, ◌+◌, ◌<◌, ◌≤◌, IsTrue, true, false, length, map, replicate, slice_index, slice_index_or, position, not};
 ghost use Rattle.gf_field.specs.Words.{IsCodeword};
 ghost use Rattle.dvd_capture.specs.TwoPass.{answer_column, byte_at, failed_of, from_columns};
 ghost use Rattle.rs_decode.specs.Nearest.{near_of, vanishes_at_all};
 ghost use Rattle.rs_decode.specs.Filling.{marked};
 ghost use Rattle.dvd_block.specs.Product.{column, line};
-ghost use Rattle.dvd_read.specs.Inner.Found.{AreColumns, answer_word, column_word, words_of};
-ghost use Rattle.dvd_read.specs.Inner.Standing.{AreKept, AreNear, AreOwnColumns, AreWhole, bytes_of};
+ghost use Rattle.dvd_read.specs.Parts.{AreColumnsFrom, AreOwnFrom, answer_word, bytes_of, column_word};
+ghost use Rattle.dvd_read.specs.Inner.Found.{words_of};
+ghost use Rattle.dvd_read.specs.Inner.Standing.{AreCopied, AreKept, AreNear, AreWhole};
 
 use crate::rows::count_failed;
 use dvd_capture::parts::{AnswerRow, ColumnAnswer};
 use rs_code::{Pi, Po};
 use rs_decode::decode;
+use rs_lanes::{store, turn, wrong_columns};
+use std::simd::prelude::*;
 
-/// Answers all columns. Answers whether the block stands as its rows were answered: no row failed, and each column is its
-/// own answer.
-pub(crate) fn answer_columns(
+/// Answers the columns from `start` on, one for each place of a piece of the columns. Answers whether each is as its rows
+/// were answered: no row failed, and the column is its own answer.
+pub fn answer_columns(
+    code: &Po,
     answers: &[AnswerRow],
     failed: &[bool; 208],
-    columns: &mut [ColumnAnswer],
+    start: usize,
+    piece: &mut [ColumnAnswer],
 ) -> bool
     requires rows { length answers.now ≡ 208 }
     requires marks { failed.now ≡ failed_of (map answer_word answers.now) }
-    requires columns { length columns.old ≡ 182 }
-    ensures columns { AreColumns (map answer_word answers.now) columns.new }
-    ensures none_failed { IsTrue result → marked (failed_of (map answer_word answers.now)) ≡ 0 }
-    ensures stands { IsTrue result → AreOwnColumns answers.now columns.new }
+    requires columns { start + length piece.old ≤ 182 }
+    ensures columns { AreColumnsFrom (map answer_word answers.now) start piece.new }
+    ensures none_failed { IsTrue result → marked failed.now ≡ 0 }
+    ensures own { IsTrue result → AreOwnFrom answers.now start piece.new }
 {
     if count_failed(failed) == 0 {
-        return answer_whole_columns(answers, columns);
+        return answer_whole_columns(code, answers, start, piece);
     }
-    answer_marked_columns(answers, failed, columns);
+    answer_marked_columns(code, answers, failed, start, piece);
     false
 }
 
-// Answers all columns of rows of which none failed. Answers whether each column is its own answer.
-fn answer_whole_columns(answers: &[AnswerRow], columns: &mut [ColumnAnswer]) -> bool
+// Answers columns of rows of which none failed. Answers whether each column is its own answer.
+fn answer_whole_columns(
+    code: &Po,
+    answers: &[AnswerRow],
+    start: usize,
+    piece: &mut [ColumnAnswer],
+) -> bool
     requires rows { length answers.now ≡ 208 }
     requires none_failed { marked (failed_of (map answer_word answers.now)) ≡ 0 }
-    requires columns { length columns.old ≡ 182 }
-    ensures columns { AreColumns (map answer_word answers.now) columns.new }
-    ensures stands { IsTrue result → AreOwnColumns answers.now columns.new }
+    requires columns { start + length piece.old ≤ 182 }
+    ensures columns { AreColumnsFrom (map answer_word answers.now) start piece.new }
+    ensures own { IsTrue result → AreOwnFrom answers.now start piece.new }
 {
-    copy_columns(answers, columns);
-    let code = Po::new();
+    copy_columns(answers, start, piece);
     let mut whole = [false; 182];
-    find_codewords(&code, columns, &mut whole);
-    answer_copied(&code, &whole, columns)
+    find_codewords(answers, &mut whole);
+    answer_copied(code, &whole, start, piece)
 }
 
-// Writes all columns of the rows' answers, of which none failed.
-fn copy_columns(answers: &[AnswerRow], columns: &mut [ColumnAnswer])
+// Writes columns of the rows' answers, of which none failed.
+fn copy_columns(answers: &[AnswerRow], start: usize, piece: &mut [ColumnAnswer])
     requires rows { length answers.now ≡ 208 }
-    requires columns { length columns.old ≡ 182 }
-    ensures { AreOwnColumns answers.now columns.new }
+    requires columns { start + length piece.old ≤ 182 }
+    ensures { AreOwnFrom answers.now start piece.new }
 {
-    for (j, column) in columns.iter_mut().enumerate() {
-        copy_column(answers, j, &mut column.bytes);
+    for group in 0..6 {
+        copy_rows(answers, 32 * group, start, piece);
+    }
+    copy_rows(answers, 176, start, piece);
+}
+
+// Writes into each column the bytes of the 32 rows' answers from `top` on.
+fn copy_rows(answers: &[AnswerRow], top: usize, start: usize, piece: &mut [ColumnAnswer])
+    requires rows { length answers.now ≡ 208 }
+    requires top { top + 32 ≤ 208 }
+    requires columns { start + length piece.old ≤ 182 }
+    ensures size { length piece.new ≡ length piece.old }
+    ensures wide { (j : ℕ) (default : ColumnAnswer) → j < length piece.new → length (slice_index_or piece.new j default).bytes ≡ 208 }
+    ensures copied { AreCopied answers.now start piece.old top → AreCopied answers.now start piece.new (top + 32) }
+{
+    let mut turned = [u8x32::splat(0); 182];
+    turn(answers, top, &mut turned);
+    for (j, column) in piece.iter_mut().enumerate() {
+        put_lanes(turned[start + j], top, &mut column.bytes);
     }
 }
 
-// Notes which columns are codewords, of two at a time.
-fn find_codewords(code: &Po, columns: &[ColumnAnswer], whole: &mut [bool; 182])
-    requires { length columns.now ≡ 182 }
-    ensures { AreWhole columns.now whole.new 182 }
+// Writes 32 bytes of a column, whose length is told.
+fn put_lanes(lanes: u8x32, at: usize, word: &mut [u8; 208])
+    requires { at + 32 ≤ 208 }
+    ensures size { length word.new ≡ 208 }
+    ensures set { (n : ℕ) → n < 32 → slice_index word.new (at + n) ≡ slice_index lanes n }
+    ensures below { (i : ℕ) → i < at → slice_index word.new i ≡ slice_index word.old i }
 {
-    for k in 0..91usize {
-        let (first, second) = code.are_codewords(&columns[2 * k].bytes, &columns[2 * k + 1].bytes);
-        whole[2 * k] = first;
-        whole[2 * k + 1] = second;
+    store(lanes, word, at);
+}
+
+// Notes which columns of the rows' answers are codewords.
+#[tactic(auto, unfolding(dvd_block::specs::Product::column))]
+fn find_codewords(answers: &[AnswerRow], whole: &mut [bool; 182])
+    requires { length answers.now ≡ 208 }
+    ensures { (j : ℕ) → j < 182 → slice_index_or whole.new j false ≡ true → IsCodeword 208 16 (column (bytes_of answers.now) j) }
+{
+    let wrong = wrong_columns(answers);
+    for j in 0..182 {
+        whole[j] = wrong[j] == 0;
     }
 }
 
-// Answers all columns, without marks. Answers whether each is its own answer.
-fn answer_copied(code: &Po, whole: &[bool; 182], columns: &mut [ColumnAnswer]) -> bool
-    requires columns { length columns.old ≡ 182 }
-    requires whole { AreWhole columns.old whole.now 182 }
-    ensures answered { AreNear columns.old columns.new 182 }
-    ensures own { IsTrue result → AreKept columns.old columns.new 182 }
+// Answers columns, without marks. Answers whether each is its own answer.
+fn answer_copied(code: &Po, whole: &[bool; 182], start: usize, columns: &mut [ColumnAnswer]) -> bool
+    requires columns { start + length columns.old ≤ 182 }
+    requires whole { AreWhole start columns.old whole.now (length columns.old) }
+    ensures answered { AreNear columns.old columns.new (length columns.old) }
+    ensures own { IsTrue result → AreKept columns.old columns.new (length columns.old) }
 {
     let mut stands = true;
     for (j, column) in columns.iter_mut().enumerate() {
-        answer_unmarked(code, whole[j], column);
-        stands = stands && whole[j];
+        answer_unmarked(code, whole[start + j], column);
+        stands = stands && whole[start + j];
     }
     stands
 }
@@ -100,17 +136,22 @@ fn answer_unmarked(code: &Po, is_codeword: bool, column: &mut ColumnAnswer)
     }
 }
 
-// Answers all columns, with the failed rows marked.
-fn answer_marked_columns(answers: &[AnswerRow], failed: &[bool; 208], columns: &mut [ColumnAnswer])
+// Answers columns, with the failed rows marked.
+fn answer_marked_columns(
+    code: &Po,
+    answers: &[AnswerRow],
+    failed: &[bool; 208],
+    start: usize,
+    piece: &mut [ColumnAnswer],
+)
     requires rows { length answers.now ≡ 208 }
     requires marks { failed.now ≡ failed_of (map answer_word answers.now) }
-    requires columns { length columns.old ≡ 182 }
-    ensures { AreColumns (map answer_word answers.now) columns.new }
+    requires columns { start + length piece.old ≤ 182 }
+    ensures { AreColumnsFrom (map answer_word answers.now) start piece.new }
 {
-    let code = Po::new();
-    for (j, column) in columns.iter_mut().enumerate() {
-        read_column(answers, j, &mut column.bytes);
-        decode_column(&code, failed, column);
+    for (k, column) in piece.iter_mut().enumerate() {
+        read_column(answers, start + k, &mut column.bytes);
+        decode_column(code, failed, column);
     }
 }
 
@@ -121,17 +162,6 @@ fn decode_column(code: &Po, marks: &[bool; 208], column: &mut ColumnAnswer)
     match decode(code, &mut column.bytes, marks) {
         Ok(_) => column.answered = true,
         Err(_) => column.answered = false,
-    }
-}
-
-// Writes column `j` of the rows' answers, of which none failed.
-fn copy_column(answers: &[AnswerRow], j: usize, word: &mut [u8; 208])
-    requires rows { length answers.now ≡ 208 }
-    requires place { j < 182 }
-    ensures { word.new ≡ column (bytes_of answers.now) j }
-{
-    for i in 0..208usize {
-        word[i] = answers[i].bytes[j];
     }
 }
 

@@ -37,13 +37,9 @@ pub fn sectors(work: &mut Work, plan: &BlockPlan) -> Result<(), Cause>
     sectors_of_block(work, plan, false)
 }
 
-/// The same. Where two passes fixed no byte, the block is what was received, and its frames are taken from there: row by
+/// Checks the frames as `sectors` does. Where two passes fixed no byte, the block is what was received, and its frames are taken from there: row by
 /// row, and not from all columns.
-pub(crate) fn sectors_of_block(
-    work: &mut Work,
-    plan: &BlockPlan,
-    as_received: bool,
-) -> Result<(), Cause>
+pub fn sectors_of_block(work: &mut Work, plan: &BlockPlan, as_received: bool) -> Result<(), Cause>
     requires stage { stage_of work.old ≡ Stage.Fixed }
     requires numbers { HasNumbers plan.now }
     requires as_received { IsTrue as_received → block_differences (rows_of work.old) (block_of work.old) ≡ 0 }

@@ -6,6 +6,7 @@ mod cause; // why a block is refused, and what was fixed
 mod columns; // the second pass: columns of the rows' answers
 mod frames; // the checks of the sixteen data frames
 pub mod laws; // what holds of every captured block that is read
+pub mod parts; // the passes piece by piece, for work on several pieces at once
 mod passes; // both passes, and the test of the rows
 mod reading; // a captured block read as an entry of a plan
 mod rescue; // the frames that can be saved, of a refused block too

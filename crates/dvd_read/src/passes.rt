@@ -5,20 +5,19 @@ ghost use Rattle.dvd_capture.specs.Answers.{AreAnswers, IsAnswer};
 ghost use Rattle.dvd_capture.specs.Rule.{HasAnswers, HasBlock, HasNoTwoPass};
 ghost use Rattle.dvd_capture.specs.TwoPass.{AgreesWith, answers_of, failed_of, from_columns, IsTwoPass};
 ghost use Rattle.dvd_capture.specs.Works.{answers_of_work, block_of, marks_of_work, rows_of, stage_of};
-ghost use Rattle.dvd_capture.specs.Parts.{marks_rows, received_rows};
+ghost use Rattle.dvd_capture.specs.Parts.{column_answers, received_rows};
 ghost use Rattle.dvd_read.specs.Causes.{two_pass_cause};
 ghost use Rattle.dvd_read.specs.Found.{block_differences, block_found, differences};
-ghost use Rattle.dvd_read.specs.Inner.Found.{answer_word, words_of};
-ghost use Rattle.dvd_read.specs.Inner.Standing.{AreCodewords, bytes_of};
+ghost use Rattle.dvd_read.specs.Parts.{AreAnswersFrom, AreColumnsFrom, AreOwnFrom, answer_word, bytes_of};
+ghost use Rattle.dvd_read.specs.Inner.Found.{words_of};
+ghost use Rattle.dvd_read.specs.Inner.Standing.{AreCodewords};
 
 use crate::cause::{Cause, Fixed};
 use crate::columns::{answer_columns, first_missing, first_wrong, read_row};
-use crate::rows::{answer_rows, count_failed, mark_failed};
-use dvd_capture::parts::{AnswerRow, ColumnAnswer, Marks, Received};
+use crate::rows::{MOST_FAILED, answer_rows, are_few, count_failed, mark_failed};
+use dvd_capture::parts::{AnswerRow, ColumnAnswer, Received};
 use dvd_capture::{Stage, Work};
-
-// More failed rows than this leave no column an answer.
-const MOST_FAILED: u16 = 16;
+use rs_code::{Pi, Po};
 
 /// Decodes a captured block: each received row is answered by the codeword near it or fails; each column of the answers,
 /// with the failed rows marked, by the codeword near it; and the block of these columns must have codewords in all its rows.
@@ -40,19 +39,57 @@ pub fn two_pass(work: &mut Work) -> Result<Fixed, Cause>
     ensures sectors { work.new.sectors ≡ work.old.sectors }
 {
     work.set_stage(Stage::Fetched);
-    let found = find_block(
+    answer_rows(
+        &Pi::new(),
         &work.received,
         &work.marks,
+        0,
         work.answers.rows_mut(),
-        work.columns.all_mut(),
     );
-    match found {
-        Ok(
-            BlockFound {
-                failed_rows,
-                stands,
-            },
-        ) => {
+    let stands = answer_all_columns(work.answers.rows(), work.columns.all_mut());
+    settle(work, stands)
+}
+
+// The second pass, where no more rows failed than it can bear. Answers whether the block stands as its rows were answered.
+fn answer_all_columns(answers: &[AnswerRow], columns: &mut [ColumnAnswer]) -> bool
+    requires rows { length answers.now ≡ 208 }
+    requires columns { length columns.old ≡ 182 }
+    ensures columns { marked (failed_of (map answer_word answers.now)) ≤ 16 → AreColumnsFrom (map answer_word answers.now) 0 columns.new }
+    ensures none_failed { IsTrue result → marked (failed_of (map answer_word answers.now)) ≡ 0 }
+    ensures own { IsTrue result → AreOwnFrom answers.now 0 columns.new }
+{
+    let mut failed = [false; 208];
+    mark_failed(answers, &mut failed);
+    if !are_few(&failed) {
+        return false;
+    }
+    answer_columns(&Po::new(), answers, &failed, 0, columns)
+}
+
+/// Sets the stage of a block whose rows and columns are answered, as `two_pass` does: the block of these columns must have
+/// codewords in all its rows. Where it stands as its rows were answered they are codewords, and need no test.
+pub fn settle(work: &mut Work, stands: bool) -> Result<Fixed, Cause>
+    requires answers { AreAnswersFrom (rows_of work.old) (marks_of_work work.old) 0 (answers_of_work work.old) }
+    requires columns { marked (failed_of (map answer_word (answers_of_work work.old))) ≤ 16
+        → AreColumnsFrom (map answer_word (answers_of_work work.old)) 0 (column_answers work.old.columns) }
+    requires none_failed { IsTrue stands → marked (failed_of (map answer_word (answers_of_work work.old))) ≡ 0 }
+    requires own { IsTrue stands → AreOwnFrom (answers_of_work work.old) 0 (column_answers work.old.columns) }
+
+    ensures refused { IfErr result (λ cause. two_pass_cause (answers_of (rows_of work.old) (marks_of_work work.old)) ≡ Some cause) }
+    ensures fixed { OnOk result (two_pass_cause (answers_of (rows_of work.old) (marks_of_work work.old)) ≡ None) }
+    ensures block { OnOk result (block_of work.new ≡ block_found (answers_of (rows_of work.old) (marks_of_work work.old))) }
+    ensures bytes { IfOk result (λ fixed. fixed.bytes ≡ block_differences (rows_of work.old) (block_of work.new)) }
+    ensures failed_rows { IfOk result (λ fixed. fixed.failed_rows ≡ marked (failed_of (answers_of (rows_of work.old) (marks_of_work work.old)))) }
+
+    ensures stage_fixed { OnOk result (stage_of work.new ≡ Stage.Fixed) }
+    ensures stage_refused { OnErr result (stage_of work.new ≡ Stage.Refused) }
+    ensures answers { AreAnswers (rows_of work.old) (marks_of_work work.old) (answers_of_work work.new) }
+    ensures received { work.new.received ≡ work.old.received }
+    ensures marks { work.new.marks ≡ work.old.marks }
+    ensures sectors { work.new.sectors ≡ work.old.sectors }
+{
+    match find_block(work, stands) {
+        Ok(failed_rows) => {
             work.set_stage(Stage::Fixed);
             let bytes = count_fixed(work, stands);
             Ok(Fixed { bytes, failed_rows })
@@ -64,74 +101,58 @@ pub fn two_pass(work: &mut Work) -> Result<Fixed, Cause>
     }
 }
 
-// What is told of a block that both passes found: how many rows failed, and whether it stands as its rows were answered.
-struct BlockFound {
-    failed_rows: u16,
-    stands: bool,
-}
-
-// Both passes over the buffers of a captured block.
-fn find_block(
-    received: &Received,
-    marks: &Marks,
-    answers: &mut [AnswerRow],
-    columns: &mut [ColumnAnswer],
-) -> Result<BlockFound, Cause>
-    requires rows { length answers.old ≡ 208 }
-    requires columns { length columns.old ≡ 182 }
-    ensures answers { AreAnswers (received_rows received.now) (marks_rows marks.now) answers.new }
-    ensures refused { IfErr result (λ cause. two_pass_cause (answers_of (received_rows received.now) (marks_rows marks.now)) ≡ Some cause) }
-    ensures none { OnErr result (HasNoTwoPass (received_rows received.now) (marks_rows marks.now)) }
-    ensures found { OnOk result (two_pass_cause (answers_of (received_rows received.now) (marks_rows marks.now)) ≡ None) }
-    ensures block { OnOk result (from_columns (words_of columns.new) ≡ block_found (answers_of (received_rows received.now) (marks_rows marks.now))) }
-    ensures agrees { OnOk result (IsTwoPass (received_rows received.now) (marks_rows marks.now) (from_columns (words_of columns.new))) }
-    ensures failed { IfOk result (λ found. found.failed_rows ≡ marked (failed_of (answers_of (received_rows received.now) (marks_rows marks.now)))) }
-    ensures stands { IfOk result (λ found. IsTrue found.stands → from_columns (words_of columns.new) ≡ bytes_of answers.new) }
+// How many rows failed, or why there is no block.
+fn find_block(work: &Work, stands: bool) -> Result<u16, Cause>
+    requires answers { AreAnswersFrom (rows_of work.now) (marks_of_work work.now) 0 (answers_of_work work.now) }
+    requires columns { marked (failed_of (map answer_word (answers_of_work work.now))) ≤ 16
+        → AreColumnsFrom (map answer_word (answers_of_work work.now)) 0 (column_answers work.now.columns) }
+    requires none_failed { IsTrue stands → marked (failed_of (map answer_word (answers_of_work work.now))) ≡ 0 }
+    requires own { IsTrue stands → AreOwnFrom (answers_of_work work.now) 0 (column_answers work.now.columns) }
+    ensures answers { AreAnswers (rows_of work.now) (marks_of_work work.now) (answers_of_work work.now) }
+    ensures refused { IfErr result (λ cause. two_pass_cause (answers_of (rows_of work.now) (marks_of_work work.now)) ≡ Some cause) }
+    ensures none { OnErr result (HasNoTwoPass (rows_of work.now) (marks_of_work work.now)) }
+    ensures found { OnOk result (two_pass_cause (answers_of (rows_of work.now) (marks_of_work work.now)) ≡ None) }
+    ensures block { OnOk result (block_of work.now ≡ block_found (answers_of (rows_of work.now) (marks_of_work work.now))) }
+    ensures agrees { OnOk result (IsTwoPass (rows_of work.now) (marks_of_work work.now) (block_of work.now)) }
+    ensures failed { IfOk result (λ failed. failed ≡ marked (failed_of (answers_of (rows_of work.now) (marks_of_work work.now)))) }
+    ensures stands { IsTrue stands → block_of work.now ≡ bytes_of (answers_of_work work.now) }
 {
-    answer_rows(received, marks, answers);
-    let mut failed = [false; 208];
-    mark_failed(answers, &mut failed);
-    let stands = find_columns(answers, &failed, columns)?;
-    Ok(BlockFound {
-        failed_rows: count_failed(&failed),
-        stands,
-    })
+    find_columns(work.answers.rows(), work.columns.all(), stands)
 }
 
-// Answers the columns and tests the rows of the block that they are. Answers whether it stands as its rows were answered;
-// they are codewords then, and need no test.
-fn find_columns(
-    answers: &[AnswerRow],
-    failed: &[bool; 208],
-    columns: &mut [ColumnAnswer],
-) -> Result<bool, Cause>
+// The same of the answers alone.
+fn find_columns(answers: &[AnswerRow], columns: &[ColumnAnswer], stands: bool) -> Result<u16, Cause>
     requires rows { length answers.now ≡ 208 }
     requires codewords { AreCodewords answers.now }
-    requires marks { failed.now ≡ failed_of (map answer_word answers.now) }
-    requires columns { length columns.old ≡ 182 }
+    requires columns { length columns.now ≡ 182 }
+    requires answered { marked (failed_of (map answer_word answers.now)) ≤ 16 → AreColumnsFrom (map answer_word answers.now) 0 columns.now }
+    requires none_failed { IsTrue stands → marked (failed_of (map answer_word answers.now)) ≡ 0 }
+    requires own { IsTrue stands → AreOwnFrom answers.now 0 columns.now }
     ensures refused { IfErr result (λ cause. two_pass_cause (map answer_word answers.now) ≡ Some cause) }
     ensures found { OnOk result (two_pass_cause (map answer_word answers.now) ≡ None) }
-    ensures block { OnOk result (from_columns (words_of columns.new) ≡ block_found (map answer_word answers.now)) }
-    ensures agrees { OnOk result (AgreesWith (map answer_word answers.now) (from_columns (words_of columns.new))) }
-    ensures stands { IfOk result (λ stands. IsTrue stands → from_columns (words_of columns.new) ≡ bytes_of answers.now) }
+    ensures block { OnOk result (from_columns (words_of columns.now) ≡ block_found (map answer_word answers.now)) }
+    ensures agrees { OnOk result (AgreesWith (map answer_word answers.now) (from_columns (words_of columns.now))) }
+    ensures failed { IfOk result (λ failed. failed ≡ marked (failed_of (map answer_word answers.now))) }
+    ensures stands { IsTrue stands → from_columns (words_of columns.now) ≡ bytes_of answers.now }
 {
-    let failed_rows = count_failed(failed);
+    let mut failed = [false; 208];
+    mark_failed(answers, &mut failed);
+    let failed_rows = count_failed(&failed);
     if failed_rows > MOST_FAILED {
         return Err(Cause::Rows {
             failed: failed_rows,
         });
     }
-    let stands = answer_columns(answers, failed, columns);
     if let Some(j) = first_missing(columns) {
         return Err(Cause::Column { j });
     }
     if stands {
-        return Ok(true);
+        return Ok(failed_rows);
     }
     if let Some(i) = first_wrong(columns) {
         return Err(Cause::Row { i });
     }
-    Ok(false)
+    Ok(failed_rows)
 }
 
 // In how many places the block differs from what was received.

@@ -7,7 +7,8 @@ ghost use Rattle.dvd_capture.specs.Works.{marks_of_work, rows_of, sectors_of, st
 ghost use Rattle.dvd_layout.specs.Place.{HasNumbers};
 ghost use Rattle.dvd_read.specs.Causes.{two_pass_cause};
 ghost use Rattle.dvd_read.specs.Found.{block_found};
-ghost use Rattle.dvd_read.specs.Inner.Found.{answer_word, words_of};
+ghost use Rattle.dvd_read.specs.Parts.{answer_word};
+ghost use Rattle.dvd_read.specs.Inner.Found.{words_of};
 ghost use Rattle.dvd_read.specs.Frames.{frame_of};
 ghost use Rattle.dvd_read.specs.Salvage.{answered_block, block_out, candidate, frames_saved, lacks_row, rescued, saved_in, sectors_saved};
 

@@ -22,7 +22,7 @@ use Rattle.dvd_capture.specs.Works.{answers_of_work, marks_of_work, rows_of, sta
 use Rattle.dvd_capture.specs.declared.parts.AnswerRow.{AnswerRow}
 use Rattle.dvd_capture.specs.declared.work.Work.{Work}
 use Rattle.dvd_capture.proofs.MarkLists.{length-marks_of}
-use Rattle.dvd_read.specs.Inner.Found.{answer_word}
+use Rattle.dvd_read.specs.Parts.{answer_word}
 use Rattle.dvd_read.proofs.RowAnswers.{block_answers, flag-counted, flag-is}
 use Rattle.dvd_report.specs.Survey.{failed_rows, has_pi_error, pi_rows}
 

@@ -1,22 +1,9 @@
--- Ours: what the buffers of a captured block hold between the passes, as words and as whole lists.
-use Rattle.std.specs.Prelude.{◌≡◌, ◌<◌, ℕ, slice_index_or, List, [], map, Some, None, if◌then◌else◌}
+-- Ours: the columns between the passes, as whole lists.
+use Rattle.std.specs.Prelude.{◌≡◌, ◌<◌, ℕ, slice_index_or, List, map}
 use Rattle.std.specs.declared.option.Option.{Option}
-use Rattle.rs_decode.specs.declared.errors.Fix.{Fix}
-use Rattle.dvd_capture.specs.declared.parts.AnswerRow.{AnswerRow}
 use Rattle.dvd_capture.specs.declared.parts.ColumnAnswer.{ColumnAnswer}
 use Rattle.dvd_capture.specs.TwoPass.{column_answer}
-
--- a row's answer as a word or none
-abbrev pub answer_by : Option Fix → List ℕ → Option (List ℕ)
-answer_by None bytes = None
-answer_by (Some fix) bytes = Some bytes
-
-abbrev pub answer_word : AnswerRow → Option (List ℕ)
-answer_word row = answer_by row.fix row.bytes
-
--- a column's answer
-abbrev pub column_word : ColumnAnswer → Option (List ℕ)
-column_word column = if column.answered then Some column.bytes else None
+use Rattle.dvd_read.specs.Parts.{column_word}
 
 -- the words of columns
 abbrev pub words_of : List ColumnAnswer → List (List ℕ)

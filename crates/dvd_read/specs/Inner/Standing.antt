@@ -1,16 +1,12 @@
 -- Ours: rows that are answered by codewords, and blocks that stand as their rows were answered. The second pass finds
 -- nothing to correct in such a block, so its rows need no test.
-use Rattle.std.specs.Prelude.{◌≡◌, ℕ, ◌<◌, Bool, true, false, List, map, replicate, slice_index_or, Some}
+use Rattle.std.specs.Prelude.{◌≡◌, ℕ, ◌+◌, ◌<◌, Bool, true, false, List, [], length, replicate, slice_index, slice_index_or, Some}
 use Rattle.gf_field.specs.Words.{IsCodeword}
 use Rattle.rs_decode.specs.Nearest.{near_of}
 use Rattle.dvd_block.specs.Product.{column}
 use Rattle.dvd_capture.specs.declared.parts.AnswerRow.{AnswerRow}
 use Rattle.dvd_capture.specs.declared.parts.ColumnAnswer.{ColumnAnswer}
-use Rattle.dvd_read.specs.Inner.Found.{answer_word, column_word}
-
--- the bytes of the rows' answers; where no row failed, these are the words of the answers
-abbrev pub bytes_of : List AnswerRow → List (List ℕ)
-bytes_of answers = map (λ (answer : AnswerRow). answer.bytes) answers
+use Rattle.dvd_read.specs.Parts.{answer_word, bytes_of, column_word}
 
 -- each row that is answered is answered by a codeword
 abbrev pub AreCodewords : List AnswerRow → Type 0
@@ -21,10 +17,16 @@ AreCodewords answers =
 abbrev pub AreOwnColumns : List AnswerRow → List ColumnAnswer → Type 0
 AreOwnColumns answers columns = (j : ℕ) (default : ColumnAnswer) → j < 182 → (slice_index_or columns j default).bytes ≡ column (bytes_of answers) j
 
--- of the first n columns, those that are noted are codewords
-abbrev pub AreWhole : List ColumnAnswer → List Bool → ℕ → Type 0
-AreWhole columns whole n =
-    (j : ℕ) (default : ColumnAnswer) → j < n → slice_index_or whole j false ≡ true → IsCodeword 208 16 (slice_index_or columns j default).bytes
+-- of each column of a piece that begins at column `start` the bytes of the first n rows' answers are copied
+abbrev pub AreCopied : List AnswerRow → ℕ → List ColumnAnswer → ℕ → Type 0
+AreCopied answers start piece n =
+    (j i : ℕ) (default : ColumnAnswer) → j < length piece → i < n
+    → slice_index (slice_index_or piece j default).bytes i ≡ slice_index (slice_index_or (bytes_of answers) i []) (start + j)
+
+-- of the first n columns from `start` on, those that are noted are codewords
+abbrev pub AreWhole : ℕ → List ColumnAnswer → List Bool → ℕ → Type 0
+AreWhole start columns whole n =
+    (j : ℕ) (default : ColumnAnswer) → j < n → slice_index_or whole (start + j) false ≡ true → IsCodeword 208 16 (slice_index_or columns j default).bytes
 
 -- each of the first n columns is answered by the codeword near its bytes
 abbrev pub AreNear : List ColumnAnswer → List ColumnAnswer → ℕ → Type 0

@@ -1,6 +1,17 @@
-use Rattle.std.proofs.Common.{arith}
-use Rattle.dvd_read.proofs.Standing.{own-next}
+use Rattle.std.proofs.Common.{◌+◌, get_or, arith}
+use Rattle.dvd_read.proofs.Standing.{column-copied}
 use Rattle.dvd_read.proofs.columns.copy_columns.Goals as goal
 
-pub loop-j-preserved : goal.loop-j-preserved
-loop-j-preserved c = own-next c.args.answers.now c.loop-j.columns c.loop-j.j _ (omega arith) c.loop-j.invariant c.copy_column.ensures
+pub loop-group-preserved : goal.loop-group-preserved
+loop-group-preserved c = record {
+  size = omega (arith, c.copy_rows.ensures.size, c.loop-group.invariant.size);
+  copied = λ j i d within above. c.copy_rows.ensures.copied c.loop-group.invariant.copied j i d within (omega arith);
+}
+
+pub returns : goal.returns
+returns c = record {
+  are = λ j d below.
+      let copied = c.copy_rows-2.ensures.copied (λ k i e within above. c.loop-group.invariant.copied k i e within (omega arith)) in
+      column-copied c.args.answers.now (c.args.start + j) (get_or c.copy_rows-2.new.piece j d).bytes c.requires.rows (c.copy_rows-2.ensures.wide j d below)
+      (λ k above. copied j k d below above);
+}

@@ -1,5 +1,7 @@
-use Rattle.dvd_read.proofs.Standing.{AreOwnBefore}
+use Rattle.std.proofs.Common.{◌≡◌, ◌*◌, length}
+use Rattle.dvd_read.specs.Inner.Standing.{AreCopied}
 use Rattle.dvd_read.proofs.columns.copy_columns.Given as goal
 
-abbrev pub invariant-loop-j : goal.invariant-loop-j
-invariant-loop-j l = AreOwnBefore l.answers l.columns l.j
+-- the rows of the groups that are done are copied
+abbrev pub invariant-loop-group : goal.invariant-loop-group
+invariant-loop-group l = record { size : length l.piece ≡ length l.initial.piece; copied : AreCopied l.answers l.start l.piece (32 * l.group) }

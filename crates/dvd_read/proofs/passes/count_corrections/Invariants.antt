@@ -1,7 +1,7 @@
 use Rattle.std.proofs.Common.{◌≡◌, ◌≤◌, ◌*◌, take}
 use Rattle.dvd_capture.specs.Works.{answers_of_work, rows_of}
 use Rattle.dvd_read.specs.Found.{block_differences}
-use Rattle.dvd_read.specs.Inner.Standing.{bytes_of}
+use Rattle.dvd_read.specs.Parts.{bytes_of}
 use Rattle.dvd_read.proofs.passes.count_corrections.Given as goal
 
 abbrev pub invariant-loop-i : goal.invariant-loop-i

@@ -1,5 +1,5 @@
 use Rattle.std.proofs.Common.{◌≡◌, ◌*◌, false, length, map, take}
-use Rattle.dvd_read.specs.Inner.Found.{answer_word}
+use Rattle.dvd_read.specs.Parts.{answer_word}
 use Rattle.dvd_read.specs.Salvage.{answered_block}
 use Rattle.dvd_read.proofs.FrameFaults.{fronts}
 use Rattle.dvd_read.proofs.SavedFrames.{lacks_before}

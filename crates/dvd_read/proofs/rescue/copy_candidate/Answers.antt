@@ -1,6 +1,7 @@
 use Rattle.std.proofs.Common.{◌∙◌, map, sym, ap, is_some}
 use Rattle.dvd_capture.specs.TwoPass.{from_columns}
-use Rattle.dvd_read.specs.Inner.Found.{answer_word, words_of}
+use Rattle.dvd_read.specs.Parts.{answer_word}
+use Rattle.dvd_read.specs.Inner.Found.{words_of}
 use Rattle.dvd_read.proofs.SavedFrames.{candidate-answered, candidate-found, candidate-has, is_not}
 use Rattle.dvd_read.proofs.rescue.copy_candidate.Goals as goal
 

@@ -1,5 +1,5 @@
 use Rattle.std.proofs.Common.{◌∙◌, map, sym}
-use Rattle.dvd_read.specs.Inner.Found.{answer_word}
+use Rattle.dvd_read.specs.Parts.{answer_word}
 use Rattle.dvd_read.proofs.SavedFrames.{read-has, read-main, rescued-none}
 use Rattle.dvd_read.proofs.rescue.read_candidate.Goals as goal
 

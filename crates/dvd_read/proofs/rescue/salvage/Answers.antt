@@ -9,7 +9,8 @@ use Rattle.dvd_capture.specs.declared.parts.ColumnAnswer.{ColumnAnswer}
 use Rattle.dvd_capture.specs.declared.work.Work.{Work}
 use Rattle.dvd_read.specs.Causes.{two_pass_cause}
 use Rattle.dvd_read.specs.Found.{block_found}
-use Rattle.dvd_read.specs.Inner.Found.{answer_word, words_of}
+use Rattle.dvd_read.specs.Parts.{answer_word}
+use Rattle.dvd_read.specs.Inner.Found.{words_of}
 use Rattle.dvd_read.specs.Salvage.{block_out, frames_saved, saved_in, sectors_saved}
 use Rattle.dvd_read.proofs.RowAnswers.{block_answers}
 use Rattle.dvd_read.proofs.SavedLaws.{fixed-found, fixed-told}

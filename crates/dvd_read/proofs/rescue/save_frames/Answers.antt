@@ -1,6 +1,6 @@
 use Rattle.std.proofs.Common.{◌≡◌, ◌+◌, ◌≤◌, ℕ, List, length, map, subst, sym, arith}
 use Rattle.dvd_capture.specs.Parts.{sector_bytes}
-use Rattle.dvd_read.specs.Inner.Found.{answer_word}
+use Rattle.dvd_read.specs.Parts.{answer_word}
 use Rattle.dvd_read.proofs.SavedFrames.{AreSavedBefore, saved-counted, saved-few, saved_before, saved_sectors-all, saved_sectors-next}
 use Rattle.dvd_read.proofs.rescue.save_frames.Goals as goal
 

@@ -1,6 +1,6 @@
 use Rattle.std.proofs.Common.{◌≡◌, ◌≤◌, map}
 use Rattle.dvd_capture.specs.Parts.{sector_bytes}
-use Rattle.dvd_read.specs.Inner.Found.{answer_word}
+use Rattle.dvd_read.specs.Parts.{answer_word}
 use Rattle.dvd_read.proofs.SavedFrames.{AreSavedBefore, saved_before}
 use Rattle.dvd_read.proofs.rescue.save_frames.Given as goal
 

@@ -2,5 +2,5 @@ use Rattle.dvd_capture.specs.Parts.{marks_rows, received_rows}
 use Rattle.dvd_read.proofs.RowAnswers.{AreAnswersBefore}
 use Rattle.dvd_read.proofs.rows.answer_rows.Given as goal
 
-abbrev pub invariant-loop-i : goal.invariant-loop-i
-invariant-loop-i l = AreAnswersBefore (received_rows l.received) (marks_rows l.marks) l.answers l.i
+abbrev pub invariant-loop-k : goal.invariant-loop-k
+invariant-loop-k l = AreAnswersBefore (received_rows l.received) (marks_rows l.marks) l.start l.piece l.k

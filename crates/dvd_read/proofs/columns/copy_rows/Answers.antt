@@ -1,0 +1,12 @@
+use Rattle.std.proofs.Common.{◌≡◌, ℕ, ◌+◌, [], get_or, ◌∙◌, arith}
+use Rattle.rs_lanes.proofs.ColumnLemmas.{group_more}
+use Rattle.dvd_read.specs.Parts.{bytes_of}
+use Rattle.dvd_read.proofs.columns.copy_rows.Goals as goal
+
+pub returns-clause-copied : goal.returns-clause-copied
+returns-clause-copied c = λ copied j i d within below.
+    let done = c.loop-j.invariant in
+    group_more (λ (k : ℕ). get_or (get_or c.loop-j.piece j d).bytes k 0 ≡ get_or (get_or (bytes_of c.args.answers.now) k []) (c.args.start + j) 0) c.args.top
+    (λ k under. done.below j k d (omega arith) under ∙ copied j k d (omega arith) under)
+    (λ n inside. done.set j n d (omega arith) inside ∙ c.turn.ensures.turned (c.args.start + j) n (omega arith) inside)
+    i below

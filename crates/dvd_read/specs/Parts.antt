@@ -1,0 +1,41 @@
+-- Ours: what the buffers of a captured block hold between the passes, and what a piece of them holds whose rows or columns
+-- begin at one of the block's. All rows, and all columns, are the piece that begins at the first.
+use Rattle.std.specs.Prelude.{◌≡◌, ◌+◌, ◌<◌, ℕ, Bool, List, length, map, slice_index_or, Some, None, if◌then◌else◌}
+use Rattle.std.specs.declared.option.Option.{Option}
+use Rattle.rs_decode.specs.declared.errors.Fix.{Fix}
+use Rattle.dvd_block.specs.Product.{column, line}
+use Rattle.dvd_capture.specs.Answers.{IsAnswer, marks_line}
+use Rattle.dvd_capture.specs.declared.parts.AnswerRow.{AnswerRow}
+use Rattle.dvd_capture.specs.declared.parts.ColumnAnswer.{ColumnAnswer}
+use Rattle.dvd_capture.specs.TwoPass.{column_answer}
+
+-- a row's answer as a word or none
+abbrev pub answer_by : Option Fix → List ℕ → Option (List ℕ)
+answer_by None bytes = None
+answer_by (Some fix) bytes = Some bytes
+
+abbrev pub answer_word : AnswerRow → Option (List ℕ)
+answer_word row = answer_by row.fix row.bytes
+
+-- a column's answer
+abbrev pub column_word : ColumnAnswer → Option (List ℕ)
+column_word column = if column.answered then Some column.bytes else None
+
+-- the bytes of the rows' answers; where no row failed, these are the words of the answers
+abbrev pub bytes_of : List AnswerRow → List (List ℕ)
+bytes_of answers = map (λ (answer : AnswerRow). answer.bytes) answers
+
+-- these are the answers of the first pass to the rows from `start` on
+pub record AreAnswersFrom (received : List (List ℕ)) (marks : List (List Bool)) (start : ℕ) (piece : List AnswerRow) : Type 0 where
+  pub are : (k : ℕ) (default : AnswerRow) → k < length piece
+      → IsAnswer (line received (start + k)) (marks_line marks (start + k)) (slice_index_or piece k default)
+
+-- these are what the second pass answers to the columns of these answers from `start` on
+pub record AreColumnsFrom (answers : List (Option (List ℕ))) (start : ℕ) (piece : List ColumnAnswer) : Type 0 where
+  pub are : (k : ℕ) (default : ColumnAnswer) → k < length piece
+      → column_word (slice_index_or piece k default) ≡ column_answer answers (start + k)
+
+-- these have the bytes of the columns of these answers from `start` on
+pub record AreOwnFrom (answers : List AnswerRow) (start : ℕ) (piece : List ColumnAnswer) : Type 0 where
+  pub are : (k : ℕ) (default : ColumnAnswer) → k < length piece
+      → (slice_index_or piece k default).bytes ≡ column (bytes_of answers) (start + k)
