@@ -1,0 +1,16 @@
+//! What is asked before each piece of a pass.
+
+/// It is asked once at the start of each piece, in each pass, by the worker that does the piece. It can let a worker wait,
+/// and changes nothing that the work reads.
+pub trait Gate: Sync {
+    /// Piece `piece` of a pass begins.
+    fn pass(&self, piece: usize);
+}
+
+/// A gate where nobody waits.
+#[derive(Clone, Copy, Debug, Drop)]
+pub struct OpenGate;
+
+impl Gate for OpenGate {
+    fn pass(&self, _piece: usize) {}
+}

@@ -1,0 +1,17 @@
+//! Work on one captured or mastered block by several workers at once: each pass over its rows or over its columns is cut into
+//! pieces, as many as there are workers at most, and each piece is done by a thread of its own where one can be made. The
+//! answers are those of one worker.
+#![tactic(auto)]
+
+mod gate; // what is asked before each piece
+mod parity; // the parity of a block
+mod passes; // both passes over a captured block
+mod reading; // a captured block read as an entry of a plan
+
+pub use gate::{Gate, OpenGate};
+pub use parity::add_parity_par;
+pub use passes::two_pass_par;
+pub use reading::read_block_par;
+
+#[cfg(test)]
+mod tests;

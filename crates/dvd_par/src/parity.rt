@@ -1,0 +1,116 @@
+//! The parity of a block, with several workers.
+ghost use Rattle.std.specs.Prelude.{◌≡◌, ℕ, ◌+◌, ◌<◌, ◌≤◌, ◌++◌, length, take, EachIndex};
+ghost use Rattle.gf_field.specs.Words.{IsCodeword, IsEncoded};
+ghost use Rattle.dvd_block.specs.Buffers.{block_rows, cells_all, lines_rows};
+ghost use Rattle.dvd_block.specs.Product.{IsProduct, column, line, place};
+
+use crate::gate::Gate;
+use dvd_block::Block;
+use dvd_block::parts::{Cells, Lines, column_parity, row_parity};
+use rs_code::{Pi, Po};
+use std::thread::{Threads, for_each_chunk_mut};
+
+/// Sets the inner and the outer parity as `Block::add_parity` does, with so many workers. A worker has the rows of a piece in
+/// the first pass, and the columns of a piece in the second, which begins where the first has ended. One worker works on
+/// this thread.
+pub fn add_parity_par<R: Threads + Sync, G: Gate>(rt: &R, workers: u8, gate: &G, block: &mut Block)
+    requires workers { (1 ≤ workers) × (workers ≤ 16) }
+    ensures product { IsProduct (block_rows block.new) }
+    ensures kept { (i j : ℕ) → i < 192 → j < 172 → place (block_rows block.new) i j ≡ place (block_rows block.old) i j }
+{
+    if workers == 1 {
+        // Both passes at once.
+        gate.pass(0);
+        gate.pass(0);
+        block.add_parity();
+        return;
+    }
+    inner_parity(rt, workers, gate, &mut block.lines);
+    outer_parity(rt, workers, gate, &block.lines, &mut block.cells);
+    block.place_parity();
+}
+
+// Sets the inner parity of the upper 192 rows.
+fn inner_parity<R: Threads + Sync, G: Gate>(rt: &R, workers: u8, gate: &G, lines: &mut Lines)
+    requires { 1 ≤ workers }
+    ensures { (i : ℕ) → i < 192 → IsEncoded 182 10 (take 172 (line (lines_rows lines.old) i)) (line (lines_rows lines.new) i) }
+{
+    let (upper, _) = lines.rows_mut().split_at_mut(192);
+    row_pieces(rt, workers, gate, upper);
+}
+
+// Sets the inner parity of these rows, piece by piece.
+fn row_pieces<R: Threads + Sync, G: Gate>(rt: &R, workers: u8, gate: &G, rows: &mut [[u8; 182]])
+    requires workers { 1 ≤ workers }
+    requires rows { length rows.old ≡ 192 }
+    ensures { EachIndex rows.new (λ i. IsEncoded 182 10 (take 172 (line rows.old i)) (line rows.new i)) }
+{
+    let code = Pi::new();
+    let size = 192usize.div_ceil(usize::from(workers));
+    let piece = |start: usize, piece: &mut [[u8; 182]]|
+        requires { 0 < size }
+        ensures rows { EachIndex piece.exit.now (λ i. IsEncoded 182 10 (take 172 (line piece.entry.now i)) (line piece.exit.now i)) }
+        ensures size { length piece.exit.now ≡ length piece.entry.now }
+    {
+        gate.pass(start / size);
+        encode_rows(&code, piece);
+    };
+    for_each_chunk_mut(rt, rows, size, &piece);
+}
+
+fn encode_rows(code: &Pi, rows: &mut [[u8; 182]])
+    ensures { EachIndex rows.new (λ i. IsEncoded 182 10 (take 172 (line rows.old i)) (line rows.new i)) }
+{
+    for row in rows {
+        row_parity(code, row);
+    }
+}
+
+// Sets the outer parity of each column.
+fn outer_parity<R: Threads + Sync, G: Gate>(
+    rt: &R,
+    workers: u8,
+    gate: &G,
+    lines: &Lines,
+    cells: &mut Cells,
+)
+    requires { 1 ≤ workers }
+    ensures { (j : ℕ) → j < 182 → IsCodeword 208 16 (take 192 (column (lines_rows lines.now) j) ++ line (cells_all cells.new) j) }
+{
+    cell_pieces(rt, workers, gate, lines, cells.all_mut());
+}
+
+// Sets these cells to the outer parity of their columns, piece by piece.
+fn cell_pieces<R: Threads + Sync, G: Gate>(
+    rt: &R,
+    workers: u8,
+    gate: &G,
+    lines: &Lines,
+    cells: &mut [[u8; 16]],
+)
+    requires workers { 1 ≤ workers }
+    requires cells { length cells.old ≡ 182 }
+    ensures { EachIndex cells.new (λ j. IsCodeword 208 16 (take 192 (column (lines_rows lines.now) j) ++ line cells.new j)) }
+{
+    let code = Po::new();
+    let size = 182usize.div_ceil(usize::from(workers));
+    let piece = |start: usize, piece: &mut [[u8; 16]]|
+        requires { (0 < size) × (start + length piece.now ≤ 182) }
+        ensures cells { EachIndex piece.exit.now (λ k. IsCodeword 208 16 (take 192 (column (lines_rows lines.entry.now) (start + k)) ++ line piece.exit.now k)) }
+        ensures size { length piece.exit.now ≡ length piece.entry.now }
+    {
+        gate.pass(start / size);
+        encode_cells(&code, lines, start, piece);
+    };
+    for_each_chunk_mut(rt, cells, size, &piece);
+}
+
+// Sets cells to the outer parity of the columns from `start` on.
+fn encode_cells(code: &Po, lines: &Lines, start: usize, piece: &mut [[u8; 16]])
+    requires { start + length piece.old ≤ 182 }
+    ensures { EachIndex piece.new (λ k. IsCodeword 208 16 (take 192 (column (lines_rows lines.now) (start + k)) ++ line piece.new k)) }
+{
+    for (k, cell) in piece.iter_mut().enumerate() {
+        column_parity(code, lines, start + k, cell);
+    }
+}

@@ -1,0 +1,137 @@
+//! Both passes over a captured block, with several workers in each.
+ghost use Rattle.std.specs.Prelude.{◌≡◌, ◌+◌, ◌<◌, ◌≤◌, None, Some, length, map, IsTrue, IfErr, IfOk, OnErr, OnOk};
+ghost use Rattle.rs_decode.specs.Filling.{marked};
+ghost use Rattle.dvd_capture.specs.Answers.{AreAnswers};
+ghost use Rattle.dvd_capture.specs.Rule.{HasBlock};
+ghost use Rattle.dvd_capture.specs.TwoPass.{answers_of, failed_of};
+ghost use Rattle.dvd_capture.specs.Works.{answers_of_work, block_of, marks_of_work, rows_of, stage_of};
+ghost use Rattle.dvd_capture.specs.Parts.{marks_rows, received_rows};
+ghost use Rattle.dvd_read.specs.Causes.{two_pass_cause};
+ghost use Rattle.dvd_read.specs.Found.{block_differences, block_found};
+ghost use Rattle.dvd_read.specs.Parts.{AreAnswersFrom, AreColumnsFrom, AreOwnFrom, answer_word};
+
+use crate::gate::Gate;
+use dvd_capture::parts::{AnswerRow, ColumnAnswer, Marks, Received};
+use dvd_capture::{Stage, Work};
+use dvd_read::parts::{answer_columns, answer_rows, are_few, mark_failed, settle};
+use dvd_read::{Cause, Fixed};
+use rs_code::{Pi, Po};
+use std::thread::{Threads, for_each_chunk_mut};
+
+/// Decodes a captured block as `dvd_read::two_pass` does, with so many workers. A worker has the rows of a piece in the first
+/// pass, and the columns of a piece in the second, which begins where the first has ended. One worker works on this thread.
+pub fn two_pass_par<R: Threads + Sync, G: Gate>(
+    rt: &R,
+    workers: u8,
+    gate: &G,
+    work: &mut Work,
+) -> Result<Fixed, Cause>
+    requires workers { (1 ≤ workers) × (workers ≤ 16) }
+    requires stage { HasBlock (stage_of work.old) }
+
+    ensures refused { IfErr result (λ cause. two_pass_cause (answers_of (rows_of work.old) (marks_of_work work.old)) ≡ Some cause) }
+    ensures fixed { OnOk result (two_pass_cause (answers_of (rows_of work.old) (marks_of_work work.old)) ≡ None) }
+    ensures block { OnOk result (block_of work.new ≡ block_found (answers_of (rows_of work.old) (marks_of_work work.old))) }
+    ensures bytes { IfOk result (λ fixed. fixed.bytes ≡ block_differences (rows_of work.old) (block_of work.new)) }
+    ensures failed_rows { IfOk result (λ fixed. fixed.failed_rows ≡ marked (failed_of (answers_of (rows_of work.old) (marks_of_work work.old)))) }
+
+    ensures stage_fixed { OnOk result (stage_of work.new ≡ Stage.Fixed) }
+    ensures stage_refused { OnErr result (stage_of work.new ≡ Stage.Refused) }
+    ensures answers { AreAnswers (rows_of work.old) (marks_of_work work.old) (answers_of_work work.new) }
+    ensures received { work.new.received ≡ work.old.received }
+    ensures marks { work.new.marks ≡ work.old.marks }
+    ensures sectors { work.new.sectors ≡ work.old.sectors }
+{
+    work.set_stage(Stage::Fetched);
+    let answers = work.answers.rows_mut();
+    row_pass(rt, workers, gate, &work.received, &work.marks, answers);
+    let columns = work.columns.all_mut();
+    let stands = column_pass(rt, workers, gate, work.answers.rows(), columns);
+    settle(work, stands)
+}
+
+// The first pass. A single piece is done on this thread.
+fn row_pass<R: Threads + Sync, G: Gate>(
+    rt: &R,
+    workers: u8,
+    gate: &G,
+    received: &Received,
+    marks: &Marks,
+    answers: &mut [AnswerRow],
+)
+    requires workers { 1 ≤ workers }
+    requires rows { length answers.old ≡ 208 }
+    ensures { AreAnswersFrom (received_rows received.now) (marks_rows marks.now) 0 answers.new }
+{
+    let code = Pi::new();
+    let size = 208usize.div_ceil(usize::from(workers));
+    let piece = |start: usize, piece: &mut [AnswerRow]|
+        requires { (0 < size) × (start + length piece.now ≤ 208) }
+        ensures answers { AreAnswersFrom (received_rows received.entry.now) (marks_rows marks.entry.now) start piece.exit.now }
+        ensures size { length piece.exit.now ≡ length piece.entry.now }
+    {
+        gate.pass(start / size);
+        answer_rows(&code, received, marks, start, piece);
+    };
+    for_each_chunk_mut(rt, answers, size, &piece);
+}
+
+// The second pass, where no more rows failed than it can bear. Answers whether the block is known to stand as its rows were
+// answered.
+fn column_pass<R: Threads + Sync, G: Gate>(
+    rt: &R,
+    workers: u8,
+    gate: &G,
+    answers: &[AnswerRow],
+    columns: &mut [ColumnAnswer],
+) -> bool
+    requires workers { 1 ≤ workers }
+    requires rows { length answers.now ≡ 208 }
+    requires columns { length columns.old ≡ 182 }
+    ensures columns { marked (failed_of (map answer_word answers.now)) ≤ 16 → AreColumnsFrom (map answer_word answers.now) 0 columns.new }
+    ensures none_failed { IsTrue result → marked (failed_of (map answer_word answers.now)) ≡ 0 }
+    ensures own { IsTrue result → AreOwnFrom answers.now 0 columns.new }
+{
+    let mut failed = [false; 208];
+    mark_failed(answers, &mut failed);
+    if !are_few(&failed) {
+        return false;
+    }
+    if workers == 1 {
+        gate.pass(0);
+        return answer_columns(&Po::new(), answers, &failed, 0, columns);
+    }
+    column_pieces(rt, workers, gate, answers, &failed, columns);
+    false
+}
+
+// The columns, piece by piece.
+fn column_pieces<R: Threads + Sync, G: Gate>(
+    rt: &R,
+    workers: u8,
+    gate: &G,
+    answers: &[AnswerRow],
+    failed: &[bool; 208],
+    columns: &mut [ColumnAnswer],
+)
+    requires workers { 1 ≤ workers }
+    requires rows { length answers.now ≡ 208 }
+    requires marks { failed.now ≡ failed_of (map answer_word answers.now) }
+    requires columns { length columns.old ≡ 182 }
+    ensures { AreColumnsFrom (map answer_word answers.now) 0 columns.new }
+{
+    let code = Po::new();
+    let size = 182usize.div_ceil(usize::from(workers));
+    let piece = |start: usize, piece: &mut [ColumnAnswer]|
+        requires { (0 < size)
+            × (start + length piece.now ≤ 182)
+            × (length answers.now ≡ 208)
+            × (failed.now ≡ failed_of (map answer_word answers.now)) }
+        ensures columns { AreColumnsFrom (map answer_word answers.entry.now) start piece.exit.now }
+        ensures size { length piece.exit.now ≡ length piece.entry.now }
+    {
+        gate.pass(start / size);
+        answer_columns(&code, answers, failed, start, piece);
+    };
+    for_each_chunk_mut(rt, columns, size, &piece);
+}
