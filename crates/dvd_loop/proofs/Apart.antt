@@ -1,27 +1,19 @@
 -- One unit of a run apart from the others: what stands before it, its own, and what comes behind it.
-use Rattle.std.proofs.Common.{◌≡◌, ◌≢◌, inl, inr, ◌⊎◌, ℕ, zero, suc, ◌+◌, ◌*◌, ◌<◌, ◌≤◌, List, [], ◌∷◌, ◌++◌, length, get_or, take, drop, refl, ap, sym, subst, ◌∙◌, append_assoc, append-nil, add-one, length-append, arith}
-use Rattle.std.proofs.Math.Nat.{mul-suc, mul-zero}
-use Rattle.std.proofs.Math.Seq.{drop-append-add, take-append_seam}
-use Rattle.dvd_loop.specs.Laws.{IsFaultless, IsFrontOf, IsNever, TakesUnit, first}
-use Rattle.dvd_loop.specs.Machine.{Does, Goes, IsOutcome, IsUnit, Outcome, Step, Units, bad_of, ended, sized}
+use Rattle.std.proofs.Common.{◌≡◌, ◌≢◌, inl, inr, ℕ, zero, suc, ◌+◌, ◌*◌, ◌<◌, ◌≤◌, List, [], ◌∷◌, ◌++◌, length, get_or, take, drop, refl, ap, sym, subst, ◌∙◌, append_assoc, append-nil, add-one, length-append, arith}
+use Rattle.std.proofs.Math.Nat.{mul-le-mul_left, mul-suc, mul-zero}
+use Rattle.std.proofs.lemmas.List.{drop-drop, length-drop, length-take-le, take-append-drop}
+use Rattle.dvd_loop.specs.Laws.{BeginWith, IsFaultless, IsFrontOf, IsNever, TakesUnit, first}
+use Rattle.dvd_loop.specs.Machine.{Does, EndsWithin, Goes, GoesOn, IsOutcome, IsUnit, IsWithin, Outcome, Step, Units, bad_of, ended, sized, taking}
+use Rattle.dvd_loop.specs.Machine.Part.{Whole, Cut, Broken}
 use Rattle.dvd_loop.specs.Turns.{told, written}
 use Rattle.dvd_loop.specs.declared.ends.LoopEnd.TheVariants.{Done}
 use Rattle.dvd_loop.specs.declared.ends.Turn.{Turn}
 use Rattle.dvd_loop.specs.declared.ends.Turn.TheVariants.{Last}
-use Rattle.dvd_loop.proofs.Reached.{goes_on, taken_unit}
-use Rattle.dvd_loop.proofs.Sizes.{IsShort, TakesOne, goes_one}
+use Rattle.dvd_loop.proofs.Faultless.{all_done, faultless_behind}
+use Rattle.dvd_loop.proofs.Fronts.{same_front, same_left}
+use Rattle.dvd_loop.proofs.Reached.{goes_further, goes_on, taken_unit}
+use Rattle.dvd_loop.proofs.Sizes.{broken_stays, sized_whole, whole_stays}
 use Rattle.dvd_loop.proofs.StepLemmas.{onto}
-
--- the first unit is the first bytes, as many as its size
-first_unit : (size : ℕ) (own left : List ℕ) → length own ≡ size → own ≡ take size (drop (size * 0) (own ++ left))
-first_unit size own left is =
-    sym (take-append_seam own left) ∙ ap (λ n. take n (own ++ left)) is ∙ ap (λ n. take size (drop n (own ++ left))) (sym (mul-zero size))
-
--- unit k of what is left behind a unit is unit k + 1 of all
-next_unit : (size k : ℕ) (own left : List ℕ) → length own ≡ size → take size (drop (size * k) left) ≡ take size (drop (size * suc k) (own ++ left))
-next_unit size k own left is =
-    let next : length own + size * k ≡ size * suc k = omega (arith, mul-suc size k) in
-    ap (take size) (sym (drop-append-add own left (size * k)) ∙ ap (λ n. drop n (own ++ left)) next)
 
 -- an outcome with one unit more behind it
 abbrev and_unit : List ℕ → List Step → Outcome → Outcome
@@ -37,131 +29,209 @@ onto_and : (taken out lines own : List ℕ) (steps : List Step) (outcome : Outco
 onto_and taken out lines own steps outcome = simp append_assoc
 
 -- units that are parts 1, 2 and so on, behind one that is part 0, are all parts in order
-each_later : (k : ℕ) (own : List ℕ) (more : List (List ℕ)) (parts : ℕ → List ℕ) → own ≡ parts 0 → ((j : ℕ) → j < k → get_or more j [] ≡ parts (suc j))
+each_later : (k : ℕ) (own : List ℕ) (more : List (List ℕ)) (parts : ℕ → List ℕ) → own ≡ parts 0
+    → ((j : ℕ) → j < k → get_or more j [] ≡ parts (suc j))
     → (j : ℕ) → j < suc k → get_or (own ∷ more) j [] ≡ parts j
 each_later k own more parts is each zero lt = is
 each_later k own more parts is each (suc j) lt = each j (omega arith)
 
 -- a front of what comes behind a piece is, behind that piece, a front of all
-front_later : (own front more whole all : List ℕ) → all ≡ own ++ whole → IsFrontOf (front ++ more) whole → IsFrontOf ((own ++ front) ++ more) all
+front_later : (own front more whole all : List ℕ) → all ≡ own ++ whole → IsFrontOf (front ++ more) whole
+    → IsFrontOf ((own ++ front) ++ more) all
 front_later own front more whole all is (left, so) = (left, is ∙ ap (λ l. own ++ l) so ∙ simp append_assoc)
 
-module _ (units : Units) (size : ℕ) (begins : (k : ℕ) (bytes : List ℕ) → units.begins k bytes ≡ sized size bytes) (never : IsNever units Last) where
-  -- the k-th of the units to come, behind those that were taken
-  record Reaches (before : List (List ℕ)) (bad : ℕ) (bytes : List ℕ) (a : Outcome) (k : ℕ) : Type 0 where
-    more : List (List ℕ)
-    number : length more ≡ k
-    each : (j : ℕ) → j < k → get_or more j [] ≡ take size (drop (size * j) bytes)
-    own : List ℕ
-    own_is : own ≡ take size (drop (size * k) bytes)
+module _ (units : Units) (never : IsNever units Last)
+    (stays : (k : ℕ) (own more : List ℕ) → units.begins k own ≡ Whole (length own) → units.begins k (own ++ more) ≡ Whole (length own))
+    (breaks : (k at : ℕ) (own more : List ℕ) → units.begins k own ≡ Broken at → units.begins k (own ++ more) ≡ Broken at) where
+  -- The unit behind those, of these bytes, is taken and done without a fault, and then the units to come.
+  record TakesOne (n : ℕ) (before : List (List ℕ)) (bad : ℕ) (own left : List ℕ) (outcome : Outcome) : Type 0 where
     steps : List Step
     turn : Turn
-    unit : IsUnit units (before ++ more) own steps turn
-    alone : Outcome
-    runs : (count : ℕ) → Goes (first count units) k before bad bytes alone
-    ends : alone.end ≡ Done
-    runs_on : (count : ℕ) → Goes (first count units) (suc k) before bad bytes (and_unit own steps alone)
-    out : IsFrontOf (alone.out ++ written steps) a.out
-    lines : IsFrontOf (alone.lines ++ told steps) a.lines
+    unit : IsUnit units before own steps turn
+    after : Outcome
+    goes : Goes units n (before ++ own ∷ []) (bad + bad_of turn) left after
+    is : outcome ≡ onto own (written steps) (told steps) after
+    faultless : IsFaultless after.end
 
-  abbrev One : ℕ → List (List ℕ) → ℕ → List ℕ → Outcome → Type 0
-  One n before bad bytes a = TakesOne units (λ k. size) begins n before bad bytes a
+  -- without a fault no loop ends within a unit that is whole
+  not_within : (k : ℕ) (own left : List ℕ) (a : Outcome) → units.begins k own ≡ Whole (length own) → IsWithin units k (own ++ left) a
+      → IsFaultless a.end → ⊥
+  not_within k own left a whole w none =
+      let all : units.begins k (own ++ left) ≡ Whole (length own) = stays k own left whole in
+      elim (units.begins k w.own) as (λ part. units.begins k w.own ≡ part → EndsWithin part k (length w.own) w.left a.end → ⊥) [
+        | Whole size ↦ λ begins ends. ends
+        | Cut ↦ λ begins ends. elim ends [
+          | inr fault ↦ subst IsFaultless fault none
+          | inl (short, nothing) ↦
+              let same : w.own ≡ own ++ left = sym (w.front ∙ ap (λ l. w.own ++ l) nothing ∙ append-nil w.own) in
+              let no : Cut ≡ Whole (length own) = sym begins ∙ ap (units.begins k) same ∙ all in cc
+        ]
+        | Broken at ↦ λ begins ends. elim ends [
+          | inr fault ↦ subst IsFaultless fault none
+          | inl marks ↦ (let no : Broken at ≡ Whole (length own) = sym (breaks k at w.own w.left begins) ∙ ap (units.begins k) (sym w.front) ∙ all in cc)
+        ]
+      ] refl w.ends
 
+  -- a unit that was taken is not the last
   not_last : (before : List (List ℕ)) (own : List ℕ) (steps : List Step) (turn : Turn) → IsUnit units before own steps turn → turn ≢ Last
   not_last before own steps turn unit is = never (length before) before own steps (subst (units.does (length before) before own steps) is unit.does)
 
-  -- a run of the first units alone goes through a unit that was taken
-  through : (count n m : ℕ) (before : List (List ℕ)) (bad : ℕ) (bytes : List ℕ) (a : Outcome) (t : One n before bad bytes a) (after : Outcome)
-      → Goes (first count units) m (before ++ t.own ∷ []) (bad + bad_of t.turn) t.left after
-      → Goes (first count units) (suc m) before bad bytes (onto t.own (written t.steps) (told t.steps) after)
-  through count n m before bad bytes a t after goes =
-      subst (λ l. Goes (first count units) (suc m) before bad l (onto t.own (written t.steps) (told t.steps) after)) (sym t.front)
-      (taken_unit (first count units) m before t.own t.left t.steps t.turn bad after (record { whole = t.unit.whole; does = t.unit.does })
-      (goes_on t.turn (Goes (first count units) m (before ++ t.own ∷ []) (bad + bad_of t.turn) t.left) after (not_last before t.own t.steps t.turn t.unit) goes))
+  -- so the unit is taken, and no other
+  takes_one : (n : ℕ) (before : List (List ℕ)) (bad : ℕ) (own left : List ℕ) (a : Outcome)
+      → units.begins (length before) own ≡ Whole (length own)
+      → Goes units (suc n) before bad (own ++ left) a → IsFaultless a.end → TakesOne n before bad own left a
+  unfolding Goes
+  takes_one n before bad own left a whole goes none = elim goes [
+    | inl w ↦ absurd (not_within (length before) own left a whole w none)
+    | inr t ↦
+        let all = stays (length before) own left whole in
+        let so = subst (λ l. units.begins (length before) l ≡ Whole (length t.own)) (sym t.front) (stays (length before) t.own t.left t.unit.whole) in
+        let size : length t.own ≡ length own = (let is : Whole (length t.own) ≡ Whole (length own) = sym so ∙ all in cc) in
+        let same = same_front t.own own t.left left (sym t.front) size in
+        let rest = same_left t.own own t.left left (sym t.front) same in
+        let unit : IsUnit units before own t.steps t.turn = subst (λ l. IsUnit units before l t.steps t.turn) same t.unit in
+        let Next : Outcome → Type 0 = Goes units n (before ++ own ∷ []) (bad + bad_of t.turn) left in
+        let does : Does t.steps (GoesOn t.turn Next) t.after =
+        subst (λ l. Does t.steps (GoesOn t.turn (Goes units n (before ++ own ∷ []) (bad + bad_of t.turn) l)) t.after) rest
+        (subst (λ l. Does t.steps (GoesOn t.turn (Goes units n (before ++ l ∷ []) (bad + bad_of t.turn) t.left)) t.after) same t.does) in
+        let takes : a ≡ taking own t.after = t.takes ∙ ap (λ l. taking l t.after) same in
+        let faultless : IsFaultless t.after.end = subst (λ (o : Outcome). IsFaultless o.end) takes none in
+        let done = all_done t.steps (GoesOn t.turn Next) t.after does faultless in
+        record {
+          steps = t.steps;
+          turn = t.turn;
+          unit = unit;
+          after = done.after;
+          goes = goes_further t.turn Next done.after (not_last before own t.steps t.turn unit) done.holds;
+          is = takes ∙ ap (taking own) done.is;
+          faultless = faultless_behind t.steps (GoesOn t.turn Next) t.after done faultless;
+        }
+  ]
 
+  -- a run of the first units alone goes through a unit that was taken
+  through : (count n m : ℕ) (before : List (List ℕ)) (bad : ℕ) (own left : List ℕ) (a : Outcome) (t : TakesOne n before bad own left a) (after : Outcome)
+      → Goes (first count units) m (before ++ own ∷ []) (bad + bad_of t.turn) left after
+      → Goes (first count units) (suc m) before bad (own ++ left) (onto own (written t.steps) (told t.steps) after)
+  through count n m before bad own left a t after goes =
+      taken_unit (first count units) m before own left t.steps t.turn bad after (record { whole = t.unit.whole; does = t.unit.does })
+      (goes_on t.turn (Goes (first count units) m (before ++ own ∷ []) (bad + bad_of t.turn) left) after (not_last before own t.steps t.turn t.unit) goes)
+
+  -- behind the first units alone nothing comes
   nothing_more : (count : ℕ) (before : List (List ℕ)) (bad : ℕ) (bytes : List ℕ) → Goes (first count units) 0 before bad bytes (ended Done)
   unfolding Goes
   nothing_more count before bad bytes = ([], refl, refl)
 
-  own_is_first : (n : ℕ) (before : List (List ℕ)) (bad : ℕ) (bytes : List ℕ) (a : Outcome) (t : One n before bad bytes a)
-      → t.own ≡ take size (drop (size * 0) bytes)
-  own_is_first n before bad bytes a t = first_unit size t.own t.left t.size_is ∙ ap (λ l. take size (drop (size * 0) l)) (sym t.front)
+  -- the k-th of the units to come, behind those that were taken
+  record Reaches (own : ℕ → List ℕ) (before : List (List ℕ)) (bad : ℕ) (bytes : List ℕ) (a : Outcome) (k : ℕ) : Type 0 where
+    more : List (List ℕ)
+    number : length more ≡ k
+    each : (j : ℕ) → j < k → get_or more j [] ≡ own j
+    steps : List Step
+    turn : Turn
+    unit : IsUnit units (before ++ more) (own k) steps turn
+    alone : Outcome
+    runs : (count : ℕ) → Goes (first count units) k before bad bytes alone
+    ends : alone.end ≡ Done
+    runs_on : (count : ℕ) → Goes (first count units) (suc k) before bad bytes (and_unit (own k) steps alone)
+    out : IsFrontOf (alone.out ++ written steps) a.out
+    lines : IsFrontOf (alone.lines ++ told steps) a.lines
 
   -- the unit at hand
-  reaches_one : (n : ℕ) (before : List (List ℕ)) (bad : ℕ) (bytes : List ℕ) (a : Outcome) → One n before bad bytes a → Reaches before bad bytes a 0
-  reaches_one n before bad bytes a t = record {
+  reaches_one : (own : ℕ → List ℕ) (n : ℕ) (before : List (List ℕ)) (bad : ℕ) (left : List ℕ) (a : Outcome)
+      → TakesOne n before bad (own 0) left a
+      → Reaches own before bad (own 0 ++ left) a 0
+  reaches_one own n before bad left a t = record {
     more = [];
     number = refl;
     each = λ j lt. absurd (omega arith);
-    own = t.own;
-    own_is = own_is_first n before bad bytes a t;
     steps = t.steps;
     turn = t.turn;
-    unit = subst (λ l. IsUnit units l t.own t.steps t.turn) (sym (append-nil before)) t.unit;
+    unit = subst (λ l. IsUnit units l (own 0) t.steps t.turn) (sym (append-nil before)) t.unit;
     alone = ended Done;
-    runs = λ count. nothing_more count before bad bytes;
+    runs = λ count. nothing_more count before bad (own 0 ++ left);
     ends = refl;
     runs_on = λ count.
-        subst (Goes (first count units) 1 before bad bytes) (onto_done t.own t.steps)
-        (through count n 0 before bad bytes a t (ended Done) (nothing_more count (before ++ t.own ∷ []) (bad + bad_of t.turn) t.left));
+        subst (Goes (first count units) 1 before bad (own 0 ++ left)) (onto_done (own 0) t.steps)
+        (through count n 0 before bad (own 0) left a t (ended Done) (nothing_more count (before ++ own 0 ∷ []) (bad + bad_of t.turn) left));
     out = (t.after.out, ap (λ (o : Outcome). o.out) t.is);
     lines = (t.after.lines, ap (λ (o : Outcome). o.lines) t.is);
   }
 
   -- a unit behind it
-  reaches_later : (n k : ℕ) (before : List (List ℕ)) (bad : ℕ) (bytes : List ℕ) (a : Outcome) (t : One n before bad bytes a)
-      → Reaches (before ++ t.own ∷ []) (bad + bad_of t.turn) t.left t.after k → Reaches before bad bytes a (suc k)
-  reaches_later n k before bad bytes a t r =
-      let at : (j : ℕ) → take size (drop (size * j) t.left) ≡ take size (drop (size * suc j) bytes) =
-      λ j. next_unit size j t.own t.left t.size_is ∙ ap (λ l. take size (drop (size * suc j) l)) (sym t.front) in
-      record {
-        more = t.own ∷ r.more;
-        number = ap suc r.number;
-        each = each_later k t.own r.more (λ j. take size (drop (size * j) bytes)) (own_is_first n before bad bytes a t) (λ j lt. r.each j lt ∙ at j);
-        own = r.own;
-        own_is = r.own_is ∙ at k;
-        steps = r.steps;
-        turn = r.turn;
-        unit = subst (λ l. IsUnit units l r.own r.steps r.turn) (append_assoc before (t.own ∷ []) r.more) r.unit;
-        alone = onto t.own (written t.steps) (told t.steps) r.alone;
-        runs = λ count. through count n k before bad bytes a t r.alone (r.runs count);
-        ends = r.ends;
-        runs_on = λ count.
-            subst (Goes (first count units) (suc (suc k)) before bad bytes) (onto_and t.own (written t.steps) (told t.steps) r.own r.steps r.alone)
-            (through count n (suc k) before bad bytes a t (and_unit r.own r.steps r.alone) (r.runs_on count));
-        out = front_later (written t.steps) r.alone.out (written r.steps) t.after.out a.out (ap (λ (o : Outcome). o.out) t.is) r.out;
-        lines = front_later (told t.steps) r.alone.lines (told r.steps) t.after.lines a.lines (ap (λ (o : Outcome). o.lines) t.is) r.lines;
-      }
+  reaches_later : (own : ℕ → List ℕ) (n k : ℕ) (before : List (List ℕ)) (bad : ℕ) (left : List ℕ) (a : Outcome) (t : TakesOne n before bad (own 0) left a)
+      → Reaches (λ j. own (suc j)) (before ++ own 0 ∷ []) (bad + bad_of t.turn) left t.after k
+      → Reaches own before bad (own 0 ++ left) a (suc k)
+  reaches_later own n k before bad left a t r = record {
+    more = own 0 ∷ r.more;
+    number = ap suc r.number;
+    each = each_later k (own 0) r.more own refl r.each;
+    steps = r.steps;
+    turn = r.turn;
+    unit = subst (λ l. IsUnit units l (own (suc k)) r.steps r.turn) (append_assoc before (own 0 ∷ []) r.more) r.unit;
+    alone = onto (own 0) (written t.steps) (told t.steps) r.alone;
+    runs = λ count. through count n k before bad (own 0) left a t r.alone (r.runs count);
+    ends = r.ends;
+    runs_on = λ count.
+        subst (Goes (first count units) (suc (suc k)) before bad (own 0 ++ left)) (onto_and (own 0) (written t.steps) (told t.steps) (own (suc k)) r.steps r.alone)
+        (through count n (suc k) before bad (own 0) left a t (and_unit (own (suc k)) r.steps r.alone) (r.runs_on count));
+    out = front_later (written t.steps) r.alone.out (written r.steps) t.after.out a.out (ap (λ (o : Outcome). o.out) t.is) r.out;
+    lines = front_later (told t.steps) r.alone.lines (told r.steps) t.after.lines a.lines (ap (λ (o : Outcome). o.lines) t.is) r.lines;
+  }
 
-  one : (n : ℕ) (before : List (List ℕ)) (bad : ℕ) (bytes : List ℕ) (a : Outcome) → Goes units (suc n) before bad bytes a → IsFaultless a.end
-      → IsShort units (λ k. size) begins (length before) bytes a ⊎ One n before bad bytes a
-  one n before = goes_one units (λ k. size) begins n before (λ own steps unit. never (length before) before own steps unit.does)
+  -- from the bytes of one unit on there are whole ones
+  record ComeOn (at : ℕ) (own from : ℕ → List ℕ) (count : ℕ) : Type 0 where
+    next : (j : ℕ) → j < count → from j ≡ own j ++ from (suc j)
+    whole : (j : ℕ) → j < count → units.begins (at + j) (own j) ≡ Whole (length (own j))
 
-  reaches : (k n : ℕ) (before : List (List ℕ)) (bad : ℕ) (bytes : List ℕ) (a : Outcome) → Goes units n before bad bytes a → IsFaultless a.end
-      → k < n → size * suc k ≤ length bytes → Reaches before bad bytes a k
-  reaches k zero before bad bytes a goes none lt long = absurd (omega arith)
-  reaches zero (suc n) before bad bytes a goes none lt long = elim (one n before bad bytes a goes none) [
-    | inl short ↦ absurd (omega (arith, short.fewer, mul-suc size 0, mul-zero size))
-    | inr t ↦ reaches_one n before bad bytes a t
-  ]
-  reaches (suc k) (suc n) before bad bytes a goes none lt long = elim (one n before bad bytes a goes none) [
-    | inl short ↦ absurd (omega (arith, short.fewer, mul-suc size (suc k)))
-    | inr t ↦
-        reaches_later n k before bad bytes a t
-        (reaches k n (before ++ t.own ∷ []) (bad + bad_of t.turn) t.left t.after t.goes t.faultless (omega arith)
-        (omega (arith, mul-suc size (suc k), ap length t.front, length-append t.own t.left, t.size_is)))
-  ]
+  -- the unit at hand is taken
+  takes_first : (k n : ℕ) (own from : ℕ → List ℕ) (before : List (List ℕ)) (bad : ℕ) (a : Outcome) → ComeOn (length before) own from (suc k)
+      → Goes units (suc n) before bad (from 0) a → IsFaultless a.end → TakesOne n before bad (own 0) (from 1) a
+  takes_first k n own from before bad a come goes none =
+      let here : length before + 0 ≡ length before = omega arith in
+      takes_one n before bad (own 0) (from 1) a (subst (λ i. units.begins i (own 0) ≡ Whole (length (own 0))) here (come.whole 0 (omega arith)))
+      (subst (λ l. Goes units (suc n) before bad l a) (come.next 0 (omega arith)) goes) none
 
-  -- A run without a fault over as many bytes takes unit k.
-  pub takes_unit : units.opens ≡ [] → (bytes : List ℕ) (a : Outcome) → IsOutcome units bytes a → IsFaultless a.end → (k : ℕ) → k < units.count
-      → size * (k + 1) ≤ length bytes
-      → (steps : List Step) × (turn : Turn) × TakesUnit units size bytes a k (take size (drop (size * k) bytes)) steps turn
-  takes_unit opens bytes a runs none k lt long =
+  -- and there are those behind it
+  come_later : (k : ℕ) (own from : ℕ → List ℕ) (before : List (List ℕ)) → ComeOn (length before) own from (suc (suc k))
+      → ComeOn (length (before ++ own 0 ∷ [])) (λ j. own (suc j)) (λ j. from (suc j)) (suc k)
+  come_later k own from before come = record {
+    next = λ j below. come.next (suc j) (omega (arith, below));
+    whole = λ j below.
+        let at : length before + suc j ≡ length (before ++ own 0 ∷ []) + j = omega (arith, length-append before (own 0 ∷ [])) in
+        subst (λ i. units.begins i (own (suc j)) ≡ Whole (length (own (suc j)))) at (come.whole (suc j) (omega (arith, below)));
+  }
+
+  -- the k-th of the units to come is reached
+  reaches : (k n : ℕ) (own from : ℕ → List ℕ) (before : List (List ℕ)) (bad : ℕ) (a : Outcome) → ComeOn (length before) own from (suc k)
+      → Goes units n before bad (from 0) a → IsFaultless a.end → k < n → Reaches own before bad (from 0) a k
+  reaches k zero own from before bad a come goes none lt = absurd (omega arith)
+  reaches zero (suc n) own from before bad a come goes none lt =
+      subst (λ l. Reaches own before bad l a 0) (sym (come.next 0 (omega arith))) (reaches_one own n before bad (from 1) a (takes_first 0 n own from before bad a come goes none))
+  reaches (suc k) (suc n) own from before bad a come goes none lt =
+      let t = takes_first (suc k) n own from before bad a come goes none in
+      subst (λ l. Reaches own before bad l a (suc k)) (sym (come.next 0 (omega arith))) (
+      reaches_later own n k before bad (from 1) a t
+      (reaches k n (λ j. own (suc j)) (λ j. from (suc j)) (before ++ own 0 ∷ []) (bad + bad_of t.turn) t.after (come_later k own from before come) t.goes t.faultless (omega (arith, lt)))
+      )
+
+  -- A run without a fault over bytes that begin with k + 1 whole units takes unit k.
+  pub takes_unit : units.opens ≡ [] → (bytes : List ℕ) (a : Outcome) → IsOutcome units bytes a → IsFaultless a.end → (k : ℕ)
+      → k < units.count
+      → (own from : ℕ → List ℕ) → BeginWith units own from (k + 1) bytes
+      → (steps : List Step) × (turn : Turn) × TakesUnit units own bytes a k steps turn
+  takes_unit opens bytes a runs none k lt own from begin =
       let goes : Goes units units.count [] 0 bytes a = subst (λ l. Does l (Goes units units.count [] 0 bytes) a) opens runs in
-      let r = reaches k units.count [] 0 bytes a goes none lt (subst (λ n. size * n ≤ length bytes) (add-one k) long) in (
+      let come : ComeOn 0 own from (suc k) = record {
+        next = λ j below. begin.next j (omega (arith, below));
+        whole = λ j below.
+            let at : j ≡ 0 + j = omega arith in
+            subst (λ i. units.begins i (own j) ≡ Whole (length (own j))) at (begin.whole j (omega (arith, below)));
+      } in
+      let r = subst (λ l. Reaches own [] 0 l a k) begin.first
+      (reaches k units.count own from [] 0 a come (subst (λ l. Goes units units.count [] 0 l a) (sym begin.first) goes) none lt) in (
         r.steps,
         r.turn,
-        subst (λ l. TakesUnit units size bytes a k l r.steps r.turn) r.own_is (record {
+        record {
           before = r.more;
           number = r.number;
           each = r.each;
@@ -169,9 +239,36 @@ module _ (units : Units) (size : ℕ) (begins : (k : ℕ) (bytes : List ℕ) →
           alone = r.alone;
           runs = subst (λ l. Does l (Goes (first k units) k [] 0 bytes) r.alone) (sym opens) (r.runs k);
           ends = r.ends;
-          runs_on = subst (λ l. Does l (Goes (first (k + 1) units) (k + 1) [] 0 bytes) (and_unit r.own r.steps r.alone)) (sym opens)
-              (subst (λ n. Goes (first (k + 1) units) n [] 0 bytes (and_unit r.own r.steps r.alone)) (sym (add-one k)) (r.runs_on (k + 1)));
+          runs_on = subst (λ l. Does l (Goes (first (k + 1) units) (k + 1) [] 0 bytes) (and_unit (own k) r.steps r.alone)) (sym opens)
+              (subst (λ n. Goes (first (k + 1) units) n [] 0 bytes (and_unit (own k) r.steps r.alone)) (sym (add-one k)) (r.runs_on (k + 1)));
           out = r.out;
           lines = r.lines;
-        }),
+        },
       )
+
+-- OF ONE SIZE. So many bytes begin with k + 1 whole units.
+begin_sized : (units : Units) (size : ℕ) → ((k : ℕ) (bytes : List ℕ) → units.begins k bytes ≡ sized size bytes) → (bytes : List ℕ) (k : ℕ)
+    → size * (k + 1) ≤ length bytes
+    → BeginWith units (λ j. take size (drop (size * j) bytes)) (λ j. drop (size * j) bytes) (k + 1) bytes
+begin_sized units size begins bytes k long = record {
+  first = ap (λ n. drop n bytes) (mul-zero size);
+  next = λ j below.
+      let further : size * suc j ≡ size + size * j = omega (arith, mul-suc size j) in
+      sym (take-append-drop size (drop (size * j) bytes))
+      ∙ ap (λ l. take size (drop (size * j) bytes) ++ l) (drop-drop size (size * j) bytes ∙ ap (λ n. drop n bytes) (let at : size * j + size ≡ size * suc j = omega (arith, further) in at));
+  whole = λ j below.
+      let enough : size * suc j ≤ size * (k + 1) = mul-le-mul_left {m = suc j} {n = k + 1} size (omega (arith, below)) in
+      begins j (take size (drop (size * j) bytes))
+      ∙ (sized_whole size (take size (drop (size * j) bytes))).1
+      (length-take-le size (drop (size * j) bytes) (omega (arith, mul-suc size j, length-drop (size * j) bytes, enough, long)));
+}
+
+-- a run over them takes unit k
+pub takes_sized : (units : Units) (size : ℕ) → ((k : ℕ) (bytes : List ℕ) → units.begins k bytes ≡ sized size bytes) → IsNever units Last
+    → units.opens ≡ []
+    → (bytes : List ℕ) (a : Outcome) → IsOutcome units bytes a → IsFaultless a.end → (k : ℕ) → k < units.count
+    → size * (k + 1) ≤ length bytes
+    → (steps : List Step) × (turn : Turn) × TakesUnit units (λ j. take size (drop (size * j) bytes)) bytes a k steps turn
+takes_sized units size begins never opens bytes a runs none k lt long =
+    takes_unit units never (whole_stays units (λ k. size) begins) (broken_stays units (λ k. size) begins) opens bytes a runs none k lt
+    (λ j. take size (drop (size * j) bytes)) (λ j. drop (size * j) bytes) (begin_sized units size begins bytes k long)

@@ -1,10 +1,10 @@
 -- A loop and its closing line.
 use Rattle.std.proofs.Common.{◌≡◌, inl, inr, ℕ, List, [], ◌∷◌, refl, ap, sym, subst, ◌∙◌}
-use Rattle.dvd_loop.specs.Machine.{Closes, Does, IsClosed, IsOutcome, Outcome, Units, ended}
+use Rattle.dvd_loop.specs.Machine.{Closes, Does, IsClosed, Outcome, ended}
 use Rattle.dvd_loop.specs.Machine.Step.{Tell}
 use Rattle.dvd_loop.specs.Streams.{Counts, HaveCauses, Streams, is_read_fault, is_report_fault, is_write_fault}
 use Rattle.dvd_loop.specs.declared.ends.LoopEnd.{LoopEnd}
-use Rattle.dvd_loop.specs.declared.ends.LoopEnd.TheVariants.{BadMarks, Damaged, Done, Long, NoControl, ReadFault, ReportFault, Short, WriteFault}
+use Rattle.dvd_loop.specs.declared.ends.LoopEnd.TheVariants.{BadHeader, BadMarks, Damaged, Done, Long, NoControl, ReadFault, ReportFault, Short, ShortHeader, WriteFault}
 use Rattle.dvd_loop.proofs.StepLemmas.{and_then}
 
 -- a line that is told takes nothing of the input
@@ -25,11 +25,13 @@ closes_takes closing Long outcome does = line_takes (closing Long) Long outcome 
 closes_takes closing (Damaged bad) outcome does = line_takes (closing (Damaged bad)) (Damaged bad) outcome does
 closes_takes closing NoControl outcome does = line_takes (closing NoControl) NoControl outcome does
 closes_takes closing (BadMarks k at) outcome does = line_takes (closing (BadMarks k at)) (BadMarks k at) outcome does
+closes_takes closing (ShortHeader held) outcome does = line_takes (closing (ShortHeader held)) (ShortHeader held) outcome does
+closes_takes closing (BadHeader at) outcome does = line_takes (closing (BadHeader at)) (BadHeader at) outcome does
 
 -- a loop, and its closing line behind it
-pub closed : (closing : LoopEnd → List ℕ) (units : Units) (bytes : List ℕ) (within : LoopEnd) (loop line : Outcome) → IsOutcome units bytes loop
-    → loop.end ≡ within → Closes closing within line → IsClosed closing units bytes within (and_then loop line)
-closed closing units bytes within loop line runs ends closes = record { loop = loop; runs = runs; ends = ends; line = line; closes = closes; all = refl }
+pub closed : (closing : LoopEnd → List ℕ) (May : Outcome → Type 0) (within : LoopEnd) (loop line : Outcome) → May loop
+    → loop.end ≡ within → Closes closing within line → IsClosed closing May within (and_then loop line)
+closed closing May within loop line runs ends closes = record { loop = loop; runs = runs; ends = ends; line = line; closes = closes; all = refl }
 
 -- The counts of a loop and of its closing line: the line's is the report's alone.
 pub causes_closed : (within end : LoopEnd) (old mid new : Streams) → HaveCauses within within old mid → new.source.faults ≡ mid.source.faults

@@ -10,7 +10,7 @@ use Rattle.dvd_loop.specs.Streams.{Comes, Counts, IsTold, Streams, is_report_fau
 use Rattle.dvd_loop.specs.declared.ends.Behind.{Behind}
 use Rattle.dvd_loop.specs.declared.ends.Behind.TheVariants.{Asks}
 use Rattle.dvd_loop.specs.declared.ends.LoopEnd.{LoopEnd}
-use Rattle.dvd_loop.specs.declared.ends.LoopEnd.TheVariants.{BadMarks, Damaged, Done, Long, NoControl, ReadFault, ReportFault, Short, WriteFault}
+use Rattle.dvd_loop.specs.declared.ends.LoopEnd.TheVariants.{BadHeader, BadMarks, Damaged, Done, Long, NoControl, ReadFault, ReportFault, Short, ShortHeader, WriteFault}
 use Rattle.dvd_loop.proofs.StreamLemmas.{Consumes-none, left_of, none_left, stays, told_before}
 
 -- a list of length 0 is empty
@@ -91,6 +91,8 @@ closes_as closing Long outcome not does = does
 closes_as closing (Damaged bad) outcome not does = does
 closes_as closing NoControl outcome not does = does
 closes_as closing (BadMarks unit at) outcome not does = does
+closes_as closing (ShortHeader held) outcome not does = does
+closes_as closing (BadHeader at) outcome not does = does
 
 -- a count that stayed is right for an end that isn't a fault of the report
 pub not_report : (end : LoopEnd) → end ≢ ReportFault → (old new : ℕ) → new ≡ old → Counts (is_report_fault end) old new
@@ -103,6 +105,8 @@ not_report Long not old new same = same
 not_report (Damaged bad) not old new same = same
 not_report NoControl not old new same = same
 not_report (BadMarks unit at) not old new same = same
+not_report (ShortHeader held) not old new same = same
+not_report (BadHeader at) not old new same = same
 
 -- none is tried
 pub closed_none : (closing : LoopEnd → List ℕ) (old : Streams) → Comes (λ bytes. Closes closing ReportFault) old old ReportFault

@@ -5,7 +5,7 @@ use Rattle.dvd_loop.specs.Machine.{Does, Fails, Outcome, Step, stepping}
 use Rattle.dvd_loop.specs.Machine.Step.{Write, Tell}
 use Rattle.dvd_loop.specs.Turns.{told, written}
 use Rattle.dvd_loop.specs.declared.ends.LoopEnd.{LoopEnd}
-use Rattle.dvd_loop.specs.declared.ends.LoopEnd.TheVariants.{BadMarks, Damaged, Done, Long, NoControl, ReadFault, ReportFault, Short, WriteFault}
+use Rattle.dvd_loop.specs.declared.ends.LoopEnd.TheVariants.{BadHeader, BadMarks, Damaged, Done, Long, NoControl, ReadFault, ReportFault, Short, ShortHeader, WriteFault}
 use Rattle.dvd_loop.proofs.StepLemmas.{onto}
 
 -- an outcome that ends with a fault isn't without one
@@ -29,6 +29,8 @@ no_step_fault Long none = tt
 no_step_fault (Damaged bad) none = tt
 no_step_fault NoControl none = tt
 no_step_fault (BadMarks unit at) none = tt
+no_step_fault (ShortHeader held) none = tt
+no_step_fault (BadHeader at) none = tt
 
 -- what is behind steps that were all taken
 pub record AllDone (steps : List Step) (After : Outcome → Type 0) (outcome : Outcome) : Type 0 where

@@ -5,9 +5,9 @@ use Rattle.dvd_loop.specs.Laws.{IsDamageEnd, IsNever, IsPlainEnd, IsSearchEnd}
 use Rattle.dvd_loop.specs.Machine.{IsOutcome, Outcome, Units, sized}
 use Rattle.dvd_loop.specs.declared.ends.Behind.TheVariants.{Asks, NoControl as StopsNoControl}
 use Rattle.dvd_loop.specs.declared.ends.LoopEnd.{LoopEnd}
-use Rattle.dvd_loop.specs.declared.ends.LoopEnd.TheVariants.{BadMarks, Damaged, Done, Long, NoControl, ReadFault, ReportFault, Short, WriteFault}
+use Rattle.dvd_loop.specs.declared.ends.LoopEnd.TheVariants.{BadHeader, BadMarks, Damaged, Done, Long, NoControl, ReadFault, ReportFault, Short, ShortHeader, WriteFault}
 use Rattle.dvd_loop.specs.declared.ends.Turn.TheVariants.{Bad}
-use Rattle.dvd_loop.proofs.PlainEnds.{damaged_at_most, never_bad_marks, never_damaged, never_long, never_no_control, short_below}
+use Rattle.dvd_loop.proofs.PlainEnds.{damaged_at_most, never_bad_header, never_bad_marks, never_damaged, never_long, never_no_control, never_short_header, short_below}
 use Rattle.dvd_loop.proofs.Sizes.{sized_never_broken}
 
 module _ (units : Units) (size : ℕ → ℕ) (begins : (k : ℕ) (own : List ℕ) → units.begins k own ≡ sized (size k) own) (asks : units.behind ≡ Asks) (bytes : List ℕ) (outcome : Outcome) (runs : IsOutcome units bytes outcome) where
@@ -28,6 +28,8 @@ module _ (units : Units) (size : ℕ → ℕ) (begins : (k : ℕ) (own : List �
   plain_end never (Damaged bad) is told = absurd (never_damaged units bytes outcome runs never bad is)
   plain_end never NoControl is told = absurd (no_control is)
   plain_end never (BadMarks k at) is told = absurd (no_marks k at is)
+  plain_end never (ShortHeader held) is told = absurd (never_short_header units bytes outcome runs held is)
+  plain_end never (BadHeader at) is told = absurd (never_bad_header units bytes outcome runs at is)
 
   -- whatever the units are
   pub damage_end : (end : LoopEnd) → outcome.end ≡ end → IsDamageEnd units.count end
@@ -40,6 +42,8 @@ module _ (units : Units) (size : ℕ → ℕ) (begins : (k : ℕ) (own : List �
   damage_end (Damaged bad) is = damaged_at_most units bytes outcome runs bad is
   damage_end NoControl is = absurd (no_control is)
   damage_end (BadMarks k at) is = absurd (no_marks k at is)
+  damage_end (ShortHeader held) is = absurd (never_short_header units bytes outcome runs held is)
+  damage_end (BadHeader at) is = absurd (never_bad_header units bytes outcome runs at is)
 
 -- where none of the units is bad, the last of them ends the run, and nothing is asked for behind them
 pub search_end : (units : Units) (size : ℕ → ℕ) → ((k : ℕ) (own : List ℕ) → units.begins k own ≡ sized (size k) own) → units.behind ≡ StopsNoControl
@@ -57,6 +61,8 @@ search_end units size begins stands never bytes outcome runs (Damaged bad) is to
 search_end units size begins stands never bytes outcome runs NoControl is told = tt
 search_end units size begins stands never bytes outcome runs (BadMarks k at) is told =
     absurd (never_bad_marks units bytes outcome runs (λ j place own broken. sized_never_broken (size j) place own (sym (begins j own) ∙ broken)) k at is)
+search_end units size begins stands never bytes outcome runs (ShortHeader held) is told = absurd (never_short_header units bytes outcome runs held is)
+search_end units size begins stands never bytes outcome runs (BadHeader at) is told = absurd (never_bad_header units bytes outcome runs at is)
 
 -- the report of a stream that is not there can't fail
 pub never_told : (end : LoopEnd) → Counts (is_report_fault end) 0 0 → end ≢ ReportFault

@@ -8,7 +8,7 @@ use Rattle.dvd_loop.specs.Turns.{told}
 use Rattle.dvd_loop.specs.declared.ends.Behind.{Behind}
 use Rattle.dvd_loop.specs.declared.ends.Behind.TheVariants as behind
 use Rattle.dvd_loop.specs.declared.ends.LoopEnd.{LoopEnd}
-use Rattle.dvd_loop.specs.declared.ends.LoopEnd.TheVariants.{BadMarks, Damaged, Done, Long, NoControl, ReadFault, ReportFault, Short, WriteFault}
+use Rattle.dvd_loop.specs.declared.ends.LoopEnd.TheVariants.{BadHeader, BadMarks, Damaged, Done, Long, NoControl, ReadFault, ReportFault, Short, ShortHeader, WriteFault}
 use Rattle.dvd_loop.specs.declared.ends.Turn.{Turn}
 use Rattle.dvd_loop.specs.declared.ends.Turn.TheVariants.{Good, Bad, Last}
 use Rattle.dvd_loop.proofs.Totality.{one_fewer}
@@ -17,7 +17,7 @@ use Rattle.dvd_loop.proofs.Totality.{one_fewer}
 abbrev HasLast : Units → Type 0
 HasLast units = (k : ℕ) × (before : List (List ℕ)) × (own : List ℕ) × (steps : List Step) × units.does k before own steps Last
 
--- Why a run of these units ends so, where Many tells how many of the first k units may be bad.
+-- Why a run of these units ends so, where Many tells how many of the first k units may be bad. None ends in a header.
 abbrev HasReason : Units → (ℕ → ℕ → Type 0) → LoopEnd → Type 0
 HasReason units Many Done = HasLast units ⊎ ((units.behind ≡ behind.Done) ⊎ ((units.behind ≡ behind.Asks) × Many units.count 0))
 HasReason units Many ReadFault = Unit {0}
@@ -28,6 +28,8 @@ HasReason units Many (BadMarks k at) = (own : List ℕ) × (k < units.count) × 
 HasReason units Many NoControl = units.behind ≡ behind.NoControl
 HasReason units Many Long = units.behind ≡ behind.Asks
 HasReason units Many (Damaged bad) = (units.behind ≡ behind.Asks) × Many units.count bad × (bad ≢ 0)
+HasReason units Many (ShortHeader held) = ⊥
+HasReason units Many (BadHeader at) = ⊥
 
 -- Many holds of no units, and of one unit more with those that it adds.
 record Counts (units : Units) (Many : ℕ → ℕ → Type 0) : Type 0 where
@@ -250,9 +252,20 @@ module _ (units : Units) (bytes : List ℕ) (outcome : Outcome) (runs : IsOutcom
   pub never_short : ((k : ℕ) (own : List ℕ) → units.begins k own ≢ Cut) → (k held : ℕ) → outcome.end ≢ Short k held
   never_short never k held is = let why = reason (Short k held) is in never k why.0 why.2
 
+  -- no run over units ends in a header
+  pub never_short_header : (held : ℕ) → outcome.end ≢ ShortHeader held
+  never_short_header held is = reason (ShortHeader held) is
+
+  pub never_bad_header : (at : ℕ) → outcome.end ≢ BadHeader at
+  never_bad_header at is = reason (BadHeader at) is
+
   -- where no bytes break a rule, no run ends so
   pub never_bad_marks : ((k at : ℕ) (own : List ℕ) → units.begins k own ≢ Broken at) → (k at : ℕ) → outcome.end ≢ BadMarks k at
   never_bad_marks never k at is = let why = reason (BadMarks k at) is in never k at why.0 why.2
+
+  -- the unit that breaks a rule is one of them
+  pub marks_below : (k at : ℕ) → outcome.end ≡ BadMarks k at → k < units.count
+  marks_below k at is = (reason (BadMarks k at) is).1
 
   -- unless no control stands behind the units, none ends the run
   pub never_no_control : units.behind ≢ behind.NoControl → outcome.end ≢ NoControl

@@ -33,6 +33,12 @@ goes_on Good Goes outcome not goes = goes
 goes_on Bad Goes outcome not goes = goes
 goes_on Last Goes outcome not goes = absurd (not refl)
 
+-- and what comes behind it is that
+pub goes_further : (turn : Turn) (Goes : Outcome → Type 0) (outcome : Outcome) → turn ≢ Last → GoesOn turn Goes outcome → Goes outcome
+goes_further Good Goes outcome not goes = goes
+goes_further Bad Goes outcome not goes = goes
+goes_further Last Goes outcome not goes = absurd (not refl)
+
 module _ (units : Units) where
   -- the opening was done
   pub reached_first : (old now : Streams) → HaveMoved old now [] (written units.opens) (told units.opens) → Reached units 0 [] old now 0

@@ -9,8 +9,9 @@ use Rattle.dvd_loop.specs.Machine.Part.{Whole, Cut, Broken}
 use Rattle.dvd_loop.specs.Turns.{told, written}
 use Rattle.dvd_loop.specs.declared.ends.LoopEnd.TheVariants.{Short}
 use Rattle.dvd_loop.specs.declared.ends.Turn.{Turn}
-use Rattle.dvd_loop.specs.declared.ends.Turn.TheVariants.{Good, Bad, Last}
+use Rattle.dvd_loop.specs.declared.ends.Turn.TheVariants.{Last}
 use Rattle.dvd_loop.proofs.Faultless.{all_done, faultless_behind}
+use Rattle.dvd_loop.proofs.Reached.{goes_further}
 use Rattle.dvd_loop.proofs.StepLemmas.{onto}
 
 -- enough bytes begin with the whole unit
@@ -107,11 +108,6 @@ module _ (units : Units) (size : ℕ → ℕ) (begins : (k : ℕ) (bytes : List 
     pub goes : Goes units n (before ++ own ∷ []) (bad + bad_of turn) left after
     pub is : outcome ≡ onto own (written steps) (told steps) after
     pub faultless : IsFaultless after.end
-
-  goes_further : (turn : Turn) (A : Outcome → Type 0) (outcome : Outcome) → turn ≢ Last → GoesOn turn A outcome → A outcome
-  goes_further Good A outcome not goes = goes
-  goes_further Bad A outcome not goes = goes
-  goes_further Last A outcome not goes = absurd (not refl)
 
   -- one unit of a run without a fault: too few bytes are left for it, or it is taken and done
   pub goes_one : (n : ℕ) (before : List (List ℕ)) → ((own : List ℕ) (steps : List Step) → IsUnit units before own steps Last → ⊥)

@@ -1,6 +1,6 @@
 -- What holds of every run over units: that it is one and that it is there, what its faults leave, and where it ends by the
 -- sizes of its units.
-use Rattle.std.specs.Prelude.{◌≡◌, ◌⊎◌, ◌↔◌, ℕ, zero, suc, ◌+◌, ◌*◌, ◌<◌, ◌≤◌, List, [], ◌++◌, length, slice_index_or, take, drop}
+use Rattle.std.specs.Prelude.{◌≡◌, ◌⊎◌, ◌↔◌, ℕ, zero, suc, ◌+◌, ◌*◌, ◌<◌, ◌≤◌, List, [], ◌++◌, length, slice_index_or, take}
 use Rattle.dvd_loop.specs.Machine.{IsOutcome, IsUnit, Outcome, Step, Units, sized}
 use Rattle.dvd_loop.specs.Machine.Part.{Whole, Cut, Broken}
 use Rattle.dvd_loop.specs.Turns.{told, written}
@@ -128,16 +128,22 @@ unfoldable pub start : (ℕ → ℕ) → ℕ → ℕ
 start size zero = 0
 start size (suc k) = start size k + size k
 
--- A run over units of one size takes unit k, this, with those steps: they stand behind what the k units before it do alone,
--- and together that is what the first k + 1 do.
-pub record TakesUnit (units : Units) (size : ℕ) (bytes : List ℕ) (a : Outcome) (k : ℕ) (own : List ℕ) (steps : List Step) (turn : Turn) : Type 0 where
+-- Bytes begin with so many whole units at least: these are the bytes of each, and those from it on.
+pub record BeginWith (units : Units) (own from : ℕ → List ℕ) (count : ℕ) (bytes : List ℕ) : Type 0 where
+  pub first : from 0 ≡ bytes
+  pub next : (j : ℕ) → j < count → from j ≡ own j ++ from (suc j)
+  pub whole : (j : ℕ) → j < count → units.begins j (own j) ≡ Whole (length (own j))
+
+-- A run over units with these bytes takes unit k, with those steps: they stand behind what the k units before it do alone, and
+-- together that is what the first k + 1 do.
+pub record TakesUnit (units : Units) (own : ℕ → List ℕ) (bytes : List ℕ) (a : Outcome) (k : ℕ) (steps : List Step) (turn : Turn) : Type 0 where
   pub before : List (List ℕ)
   pub number : length before ≡ k
-  pub each : (j : ℕ) → j < k → slice_index_or before j [] ≡ take size (drop (size * j) bytes)
-  pub unit : IsUnit units before own steps turn
+  pub each : (j : ℕ) → j < k → slice_index_or before j [] ≡ own j
+  pub unit : IsUnit units before (own k) steps turn
   pub alone : Outcome
   pub runs : IsOutcome (first k units) bytes alone
   pub ends : alone.end ≡ Done
-  pub runs_on : IsOutcome (first (k + 1) units) bytes (record alone { taken = alone.taken ++ own; out = alone.out ++ written steps; lines = alone.lines ++ told steps })
+  pub runs_on : IsOutcome (first (k + 1) units) bytes (record alone { taken = alone.taken ++ own k; out = alone.out ++ written steps; lines = alone.lines ++ told steps })
   pub out : IsFrontOf (alone.out ++ written steps) a.out
   pub lines : IsFrontOf (alone.lines ++ told steps) a.lines

@@ -134,10 +134,10 @@ abbrev pub Closes : (LoopEnd → List ℕ) → LoopEnd → Outcome → Type 0
 Closes closing ReportFault outcome = outcome ≡ ended ReportFault
 Closes closing end outcome = Does (Tell (closing end) ∷ []) (λ after. after ≡ ended end) outcome
 
--- A run of these units over these bytes whose loop ended so, and its closing line.
-pub record IsClosed (closing : LoopEnd → List ℕ) (units : Units) (bytes : List ℕ) (within : LoopEnd) (outcome : Outcome) : Type 0 where
+-- A loop, of those that may be, that ended so, and its closing line.
+pub record IsClosed (closing : LoopEnd → List ℕ) (May : Outcome → Type 0) (within : LoopEnd) (outcome : Outcome) : Type 0 where
   pub loop : Outcome
-  pub runs : IsOutcome units bytes loop
+  pub runs : May loop
   pub ends : loop.end ≡ within
   pub line : Outcome
   pub closes : Closes closing within line

@@ -27,6 +27,10 @@ pub enum LoopEnd {
     NoControl,
     /// This unit breaks a rule of its form at that byte.
     BadMarks { block: u32, at: u32 },
+    /// The input ended in the header before its first unit, after so many of its bytes.
+    ShortHeader { bytes: u32 },
+    /// That header breaks a rule at that byte.
+    BadHeader { at: u32 },
 }
 
 /// A call of the source failed.

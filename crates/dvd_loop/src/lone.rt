@@ -17,6 +17,9 @@ pub trait LoneTurns {
     /// Its units.
     ghost units: { Key → Units };
 
+    /// It can take a turn: what it works with serves.
+    ghost ready: { Self → Type 0 } = { λ _. Unit {0} };
+
     /// They stand alone.
     ghost alone: { (key : Key) → StandAlone (units key) };
 
@@ -33,7 +36,9 @@ pub trait LoneTurns {
         report: &mut E,
     ) -> Result<Turn, LoopEnd>
         requires unit { k < (units (key self.old)).count }
+        requires ready { ready self.old }
         ensures same { key self.new ≡ key self.old }
+        ensures ready { ready self.new }
         ensures turn { TakesLoneTurn (units (key self.old)) k
             (streams (S.seen src.old) (K.seen out.old) (E.seen report.old))
             (streams (S.seen src.new) (K.seen out.new) (E.seen report.new)) result }
@@ -55,7 +60,7 @@ impl<P: LoneTurns + Drop> Turns for Lone<P> {
 
     ghost units = { λ key. P.units key };
 
-    ghost ready = { λ _ _. Unit {0} };
+    ghost ready = { λ lone _. P.ready lone.command };
 
     ghost left = { λ _ _. Unit {0} };
 
@@ -93,6 +98,7 @@ pub fn follow_lone<P: LoneTurns + Drop, S: Source, K: Sink, E: Sink>(
     out: &mut K,
     report: &mut E,
 ) -> LoopEnd
+    requires { P.ready command }
     ensures follows { Comes (IsOutcome (P.units (P.key command)))
         (streams (S.seen src.old) (K.seen out.old) (E.seen report.old))
         (streams (S.seen src.new) (K.seen out.new) (E.seen report.new)) result }

@@ -6,7 +6,7 @@ use Rattle.clap.specs.declared.error.kind.ErrorKind.{ErrorKind}
 use Rattle.dvd_words.specs.Apps.{app_for}
 use Rattle.dvd_words.specs.Reading.{rows_for}
 use Rattle.dvd_words.specs.declared.settings.Command.{Command}
-use Rattle.dvd_words.specs.declared.settings.Command.TheVariants.{Frames, Master, Recover, Info, Survey, Exercise, CdMake, CdRead, Merge, Deep, Assemble}
+use Rattle.dvd_words.specs.declared.settings.Command.TheVariants.{Frames, Master, Recover, Info, Survey, Exercise, CdMake, CdRead, Merge, Deep, Assemble, Convert}
 
 -- clap tells of each command exactly what it makes of words
 pub free : (command : Command) → is_simple_and_free (app_for command) ≡ true
@@ -21,6 +21,7 @@ free CdRead = refl
 free Merge = refl
 free Deep = refl
 free Assemble = refl
+free Convert = refl
 
 pub simple : (command : Command) → is_simple (app_for command) ≡ true
 simple Frames = refl
@@ -34,6 +35,7 @@ simple CdRead = refl
 simple Merge = refl
 simple Deep = refl
 simple Assemble = refl
+simple Convert = refl
 
 -- words with no fault have these rows
 pub rows_taken : (command : Command) (words : List Text) (rows : List Row) → fault_of (app_for command) words ≡ [] → rows ≡ matches_of (app_for command) words

@@ -4,7 +4,7 @@ use Rattle.clap.specs.Words.{App, Rule, Text, new_rule, with_rule}
 use Rattle.clap.specs.Simple.{new_shape}
 use Rattle.clap.specs.declared.builder.action.ArgAction.TheVariants.{Set}
 use Rattle.dvd_words.specs.declared.settings.Command.{Command}
-use Rattle.dvd_words.specs.declared.settings.Command.TheVariants.{Frames, Master, Recover, Info, Survey, Exercise, CdMake, CdRead, Merge, Deep, Assemble}
+use Rattle.dvd_words.specs.declared.settings.Command.TheVariants.{Frames, Master, Recover, Info, Survey, Exercise, CdMake, CdRead, Merge, Deep, Assemble, Convert}
 
 -- `--name` with one value, at most once
 abbrev pub option_rule : Bool → Text → Rule
@@ -33,12 +33,13 @@ cd_options = codes "address" ∷ codes "sectors" ∷ []
 abbrev pub app_for : Command → App
 app_for Frames = app_named (codes "frames") (codes "first" ∷ codes "sectors" ∷ []) []
 app_for Master = app_named (codes "master") (codes "sectors" ∷ []) (layout_options ++ codes "cpr" ∷ [])
-app_for Recover = app_named (codes "recover") (codes "sectors" ∷ []) (layout_options ++ codes "form" ∷ [])
-app_for Survey = app_named (codes "survey") (codes "sectors" ∷ []) (layout_options ++ codes "form" ∷ [])
+app_for Recover = app_named (codes "recover") [] (codes "sectors" ∷ layout_options ++ codes "form" ∷ [])
+app_for Survey = app_named (codes "survey") [] (codes "sectors" ∷ layout_options ++ codes "form" ∷ [])
 app_for Exercise = app_named (codes "exercise") (codes "seed" ∷ codes "blocks" ∷ []) (codes "workers" ∷ [])
 app_for Info = app_named (codes "info") [] (codes "initial" ∷ codes "form" ∷ [])
 app_for CdMake = app_named (codes "cdmake") cd_options []
 app_for CdRead = app_named (codes "cdread") cd_options []
 app_for Merge = with_rule (app_named (codes "merge") (codes "sectors" ∷ []) (disk_options ++ codes "form" ∷ [])) (option_rule true (codes "captures"))
-app_for Deep = app_named (codes "deep") (codes "sectors" ∷ []) (disk_options ++ codes "form" ∷ [])
+app_for Deep = app_named (codes "deep") [] (codes "sectors" ∷ disk_options ++ codes "form" ∷ [])
+app_for Convert = app_named (codes "convert") (codes "sectors" ∷ []) (disk_options ++ codes "form" ∷ [])
 app_for Assemble = app_named (codes "assemble") (codes "sectors" ∷ codes "frames" ∷ []) (codes "sectors1" ∷ codes "shape" ∷ codes "form" ∷ [])

@@ -1,16 +1,16 @@
 -- What the words of a command line ask for.
-use Rattle.std.specs.Prelude.{◌≡◌, ◌≤◌, ℕ, ◌+◌, ◌^◌, ◌&&◌, nat_le, Bool, true, if◌then◌else◌, List, [], ◌∷◌, codes, replicate, Option, Some, None, option_and_then}
+use Rattle.std.specs.Prelude.{◌≡◌, ◌≤◌, ℕ, ◌+◌, ◌^◌, ◌&&◌, ◌||◌, not, nat_le, Bool, true, false, if◌then◌else◌, List, [], ◌∷◌, codes, replicate, Option, Some, None, is_some, option_and_then}
 use Rattle.std.specs.Str.{bytes_eq}
 use Rattle.clap.specs.Words.{Row, Text, fault_of, first_of, matches_of}
 use Rattle.clap.specs.Walk.{is_empty}
-use Rattle.dvd_capture.specs.Captured.{HasSize}
-use Rattle.dvd_capture.specs.declared.form.Form.TheVariants.{Plain}
+use Rattle.dvd_capture.specs.declared.form.Form.{Form}
+use Rattle.dvd_capture.specs.declared.form.Form.TheVariants.{Plain, Marked, Listed}
 use Rattle.dvd_layout.specs.declared.layout.Shape.TheVariants.{Single}
 use Rattle.dvd_layout.specs.declared.layout.Zones.TheVariants.{DataOnly}
 use Rattle.dvd_words.specs.Apps.{app_for}
 use Rattle.dvd_words.specs.Words.{blocks_of, bytes_of, captures_of, form_of, frames_of, number_of, sector_number_of, shape_of, workers_of, zones_of}
 use Rattle.dvd_words.specs.declared.settings.Command.{Command}
-use Rattle.dvd_words.specs.declared.settings.Command.TheVariants.{Frames, Master, Recover, Info, Survey, Exercise, CdMake, CdRead, Merge, Deep, Assemble}
+use Rattle.dvd_words.specs.declared.settings.Command.TheVariants.{Frames, Master, Recover, Info, Survey, Exercise, CdMake, CdRead, Merge, Deep, Assemble, Convert}
 use Rattle.dvd_words.specs.declared.settings.Settings.{Settings}
 
 infixl 10 ◌>>=◌
@@ -29,7 +29,8 @@ command_of word =
     else (if bytes_eq word (codes "cdread") then Some CdRead
     else (if bytes_eq word (codes "merge") then Some Merge
     else (if bytes_eq word (codes "deep") then Some Deep
-    else (if bytes_eq word (codes "assemble") then Some Assemble else None))))))))))
+    else (if bytes_eq word (codes "assemble") then Some Assemble
+    else (if bytes_eq word (codes "convert") then Some Convert else None)))))))))))
 
 -- the options and their values, where clap finds no fault in the words
 abbrev pub rows_for : Command → List Text → Option (List Row)
@@ -54,13 +55,45 @@ is_within CdRead first sectors blocks address = nat_le 1 sectors && nat_le (addr
 is_within Merge first sectors blocks address = true
 is_within Deep first sectors blocks address = true
 is_within Assemble first sectors blocks address = true
+is_within Convert first sectors blocks address = true
 
 -- `assemble` keeps a whole disk, so it has at most 16,384 sectors on both layers
 abbrev pub has_room : Command → ℕ → Bool
 has_room Assemble sectors = nat_le sectors 16384
 has_room other sectors = true
 
--- each option by its form, and the sectors and blocks in range
+-- whether an option is given
+abbrev pub is_given : Text → List Row → Bool
+is_given name rows = is_some (first_of name rows)
+
+-- whether an option tells of the lengths of a disk or of its zones
+abbrev pub tells_layout : List Row → Bool
+tells_layout rows =
+    is_given (codes "sectors") rows || (is_given (codes "sectors1") rows || (is_given (codes "shape") rows
+    || (is_given (codes "zones") rows || (is_given (codes "initial") rows || is_given (codes "tail") rows))))
+
+-- the commands that read listed captures
+abbrev pub takes_listed : Command → Bool
+takes_listed Recover = true
+takes_listed Info = true
+takes_listed Survey = true
+takes_listed Deep = true
+takes_listed other = false
+
+-- these need no number of sectors where a capture states it
+abbrev pub has_sectors : Command → List Row → Bool
+has_sectors Recover rows = is_given (codes "sectors") rows
+has_sectors Survey rows = is_given (codes "sectors") rows
+has_sectors Deep rows = is_given (codes "sectors") rows
+has_sectors other rows = true
+
+-- The layout is told once: a listed capture states its own, and no option tells of it then; else the words state it.
+abbrev pub has_layout : Command → Form → List Row → Bool
+has_layout command Listed rows = takes_listed command && not (tells_layout rows)
+has_layout command Plain rows = has_sectors command rows
+has_layout command Marked rows = has_sectors command rows
+
+-- each option by its form, the layout told once, and the sectors and blocks in range
 unfoldable pub settings_of : Command → List Row → Option Settings
 settings_of command rows = do
   first ← value_or 0 sector_number_of (first_of (codes "first") rows)
@@ -78,7 +111,7 @@ settings_of command rows = do
   address ← value_or 0 number_of (first_of (codes "address") rows)
   captures ← value_or 0 captures_of (first_of (codes "captures") rows)
   frames ← value_or 0 frames_of (first_of (codes "frames") rows)
-  if is_within command first sectors blocks address && has_room command (sectors + sectors1) then Some (record {
+  if has_layout command form rows && (is_within command first sectors blocks address && has_room command (sectors + sectors1)) then Some (record {
     command = command;
     first = first;
     sectors = sectors;
@@ -121,5 +154,5 @@ pub record IsLawful (settings : Settings) : Type 0 where
   pub last_made : settings.command ≡ CdMake → settings.address + settings.sectors ≤ 450000
   pub some_read : settings.command ≡ CdRead → 1 ≤ settings.sectors
   pub last_read : settings.command ≡ CdRead → settings.address + settings.sectors ≤ 450000
-  pub sized : HasSize settings.form
+  pub listed : settings.form ≡ Listed → takes_listed settings.command ≡ true
   pub few_sectors : settings.command ≡ Assemble → settings.sectors + settings.sectors1 ≤ 16384

@@ -8,7 +8,7 @@ use Rattle.std.specs.Str.{bytes_eq}
 use Rattle.std.specs.Str.Parse.{digits_value}
 use Rattle.hex.specs.Hex.{decode_sized}
 use Rattle.dvd_capture.specs.declared.form.Form.{Form}
-use Rattle.dvd_capture.specs.declared.form.Form.TheVariants.{Plain, Marked}
+use Rattle.dvd_capture.specs.declared.form.Form.TheVariants.{Plain, Marked, Listed}
 use Rattle.dvd_layout.specs.declared.layout.Shape.{Shape}
 use Rattle.dvd_layout.specs.declared.layout.Shape.TheVariants.{Single, Parallel, Opposite}
 use Rattle.dvd_layout.specs.declared.layout.Zones.{Zones}
@@ -55,4 +55,6 @@ abbrev pub zones_of : List ℕ → Option Zones
 zones_of text = if bytes_eq text (codes "data") then Some DataOnly else (if bytes_eq text (codes "all") then Some All else None)
 
 abbrev pub form_of : List ℕ → Option Form
-form_of text = if bytes_eq text (codes "plain") then Some Plain else (if bytes_eq text (codes "marked") then Some Marked else None)
+form_of text =
+    if bytes_eq text (codes "plain") then Some Plain
+    else (if bytes_eq text (codes "marked") then Some Marked else (if bytes_eq text (codes "listed") then Some Listed else None))

@@ -1,8 +1,8 @@
 //! The clap command of each command of the program.
 
-ghost use Rattle.std.specs.Prelude.{◌≡◌, [], ◌∷◌, codes, None, Some, IfOk, map, string_bytes};
+ghost use Rattle.std.specs.Prelude.{◌≡◌, [], ◌∷◌, codes, false, None, Some, IfOk, map, string_bytes};
 ghost use Rattle.clap.specs.Words.{app_of, found_of, rows_of, with_rule};
-ghost use Rattle.dvd_words.specs.Apps.{app_for, app_named, cd_options, disk_options, layout_options, option_rule};
+ghost use Rattle.dvd_words.specs.Apps.{app_for, app_named, app_with, cd_options, disk_options, layout_options, option_rule};
 ghost use Rattle.dvd_words.specs.Reading.{rows_for};
 
 use crate::fault::WordsFault;
@@ -36,9 +36,19 @@ fn parser_for<'a>(alloc: Global, command: Command) -> Result<clap::Command<'a>, 
             let parser = with_option(alloc, bare_parser(alloc, "frames"), "first", true)?;
             with_option(alloc, parser, "sectors", true)
         }
-        Command::Master => with_option(alloc, layout_parser(alloc, "master")?, "cpr", false),
-        Command::Recover => with_option(alloc, layout_parser(alloc, "recover")?, "form", false),
-        Command::Survey => with_option(alloc, layout_parser(alloc, "survey")?, "form", false),
+        Command::Master => with_option(alloc, layout_parser(alloc, "master", true)?, "cpr", false),
+        Command::Recover => with_option(
+            alloc,
+            layout_parser(alloc, "recover", false)?,
+            "form",
+            false,
+        ),
+        Command::Survey => with_option(
+            alloc,
+            layout_parser(alloc, "survey", false)?,
+            "form",
+            false,
+        ),
         Command::Exercise => {
             let parser = with_option(alloc, bare_parser(alloc, "exercise"), "seed", true)?;
             let parser = with_option(alloc, parser, "blocks", true)?;
@@ -51,10 +61,11 @@ fn parser_for<'a>(alloc: Global, command: Command) -> Result<clap::Command<'a>, 
         Command::CdMake => cd_parser(alloc, "cdmake"),
         Command::CdRead => cd_parser(alloc, "cdread"),
         Command::Merge => {
-            let parser = with_option(alloc, disk_parser(alloc, "merge")?, "form", false)?;
+            let parser = with_option(alloc, disk_parser(alloc, "merge", true)?, "form", false)?;
             with_option(alloc, parser, "captures", true)
         }
-        Command::Deep => with_option(alloc, disk_parser(alloc, "deep")?, "form", false),
+        Command::Deep => with_option(alloc, disk_parser(alloc, "deep", false)?, "form", false),
+        Command::Convert => with_option(alloc, disk_parser(alloc, "convert", true)?, "form", false),
         Command::Assemble => {
             let parser = with_option(alloc, bare_parser(alloc, "assemble"), "sectors", true)?;
             let parser = with_option(alloc, parser, "frames", true)?;
@@ -66,17 +77,32 @@ fn parser_for<'a>(alloc: Global, command: Command) -> Result<clap::Command<'a>, 
 }
 
 // A command with the options that tell of a layout, and of how many threads work.
-fn layout_parser<'a>(alloc: Global, name: &'a str) -> Result<clap::Command<'a>, AllocError>
-    ensures { IfOk result (λ parser. app_of parser ≡ app_named name.now (codes "sectors" ∷ []) layout_options) }
+fn layout_parser<'a>(
+    alloc: Global,
+    name: &'a str,
+    needs_sectors: bool,
+) -> Result<clap::Command<'a>, AllocError>
+    ensures { IfOk result (λ parser. app_of parser
+        ≡ app_with name.now (option_rule needs_sectors (codes "sectors") ∷ map (option_rule false) layout_options)) }
 {
-    with_option(alloc, disk_parser(alloc, name)?, "workers", false)
+    with_option(
+        alloc,
+        disk_parser(alloc, name, needs_sectors)?,
+        "workers",
+        false,
+    )
 }
 
-// A command with the options that tell of a layout.
-fn disk_parser<'a>(alloc: Global, name: &'a str) -> Result<clap::Command<'a>, AllocError>
-    ensures { IfOk result (λ parser. app_of parser ≡ app_named name.now (codes "sectors" ∷ []) disk_options) }
+// A command with the options that tell of a layout, the first of which it may need.
+fn disk_parser<'a>(
+    alloc: Global,
+    name: &'a str,
+    needs_sectors: bool,
+) -> Result<clap::Command<'a>, AllocError>
+    ensures { IfOk result (λ parser. app_of parser
+        ≡ app_with name.now (option_rule needs_sectors (codes "sectors") ∷ map (option_rule false) disk_options)) }
 {
-    let parser = with_option(alloc, bare_parser(alloc, name), "sectors", true)?;
+    let parser = with_option(alloc, bare_parser(alloc, name), "sectors", needs_sectors)?;
     let parser = with_option(alloc, parser, "sectors1", false)?;
     let parser = with_option(alloc, parser, "shape", false)?;
     let parser = with_option(alloc, parser, "zones", false)?;

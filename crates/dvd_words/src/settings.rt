@@ -28,6 +28,8 @@ pub enum Command {
     Deep,
     /// Scattered recording frames put in order.
     Assemble,
+    /// Captured blocks in the listed form.
+    Convert,
 }
 
 /// A command with its options. A field without an option in its command has its default, or 0.

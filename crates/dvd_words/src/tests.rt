@@ -13,7 +13,7 @@ fn words(alloc: Global, text: &str) -> Result<Vec<String>, AllocError> {
     Ok(words)
 }
 
-static USAGE: [&str; 67] = [
+static USAGE: [&str; 90] = [
     "",
     "Frames",
     "frame --first 030000 --sectors 1",
@@ -54,6 +54,29 @@ static USAGE: [&str; 67] = [
     "recover --sectors 16 --workers 17",
     "recover --sectors 16 --cpr 010203040506",
     "recover --sectors 16 --form listed",
+    "recover --form listed --sectors 16",
+    "recover --form listed --sectors1 16",
+    "recover --form listed --shape single",
+    "recover --form listed --zones data",
+    "recover --form listed --initial 0",
+    "recover --form listed --tail 16",
+    "recover --form Listed",
+    "recover --form plain",
+    "recover --form marked --tail 16",
+    "survey",
+    "survey --form listed --sectors 16",
+    "survey --form marked",
+    "info --form listed --initial 0",
+    "deep --form listed --tail 16",
+    "deep --form marked",
+    "assemble --sectors 16 --frames 1 --form listed",
+    "master --sectors 16 --form listed",
+    "convert",
+    "convert --form marked",
+    "convert --sectors 16 --form listed",
+    "convert --form listed",
+    "convert --sectors 16 --workers 1",
+    "convert --sectors 16 --captures 2",
     "info --sectors 16",
     "exercise --seed 1",
     "exercise --seed 1 --blocks 0",
@@ -113,6 +136,13 @@ static RECOVER: Settings = Settings {
     frames: 0,
 };
 
+// What `recover --form listed` asks for.
+static LISTED: Settings = Settings {
+    sectors: 0,
+    form: Form::Listed,
+    ..RECOVER
+};
+
 static FRAMES: Settings = Settings {
     command: Command::Frames,
     first: 0xFFFFFF,
@@ -138,12 +168,54 @@ static INFO: Settings = Settings {
     ..RECOVER
 };
 
-static READ: [(&str, Settings); 21] = [
+static READ: [(&str, Settings); 28] = [
     ("recover --sectors 16", RECOVER),
     ("recover --sectors=16", RECOVER),
     ("recover --sectors 0016", RECOVER),
     ("recover --sectors 0000000016", RECOVER),
     ("recover --sectors 16 --", RECOVER),
+    ("recover --form plain --sectors 16", RECOVER),
+    ("recover --form listed", LISTED),
+    (
+        "convert --sectors 16",
+        Settings {
+            command: Command::Convert,
+            ..RECOVER
+        },
+    ),
+    (
+        "convert --form marked --tail 17 --initial 18 --zones all --shape opposite --sectors1 17 --sectors 16",
+        Settings {
+            command: Command::Convert,
+            form: Form::Marked,
+            tail: 17,
+            cpr: [0; 6],
+            workers: 1,
+            ..MASTER
+        },
+    ),
+    (
+        "survey --workers 16 --form listed",
+        Settings {
+            command: Command::Survey,
+            workers: 16,
+            ..LISTED
+        },
+    ),
+    (
+        "info --form listed",
+        Settings {
+            command: Command::Info,
+            ..LISTED
+        },
+    ),
+    (
+        "deep --form listed",
+        Settings {
+            command: Command::Deep,
+            ..LISTED
+        },
+    ),
     (
         "recover --form marked --workers 2 --shape parallel --sectors 16",
         Settings {

@@ -3,7 +3,6 @@
 ghost use Rattle.std.specs.Prelude.{◌≡◌, ◌≤◌, ℕ, option_map, replicate, IfSome};
 ghost use Rattle.std.specs.Char.{is_digit};
 ghost use Rattle.std.specs.List.{list_all};
-ghost use Rattle.dvd_capture.specs.Captured.{HasSize};
 ghost use Rattle.dvd_words.specs.Reading.{value_or};
 ghost use Rattle.dvd_words.specs.Words.{blocks_of, bytes_of, captures_of, form_of, frames_of, number_of, sector_number_of, shape_of, workers_of, zones_of};
 
@@ -139,12 +138,12 @@ pub fn read_zones(text: Option<&str>) -> Option<Zones>
 
 /// How captured blocks are stored.
 pub fn read_form(text: Option<&str>) -> Option<Form>
-    ensures value { result ≡ value_or Form.Plain form_of (option_map (λ s. s.now) text.entry) }
-    ensures sized { IfSome result HasSize }
+    ensures { result ≡ value_or Form.Plain form_of (option_map (λ s. s.now) text.entry) }
 {
     match text {
         None | Some("plain") => Some(Form::Plain),
         Some("marked") => Some(Form::Marked),
+        Some("listed") => Some(Form::Listed),
         _ => None,
     }
 }

@@ -2,7 +2,7 @@
 
 ghost use Rattle.std.specs.Prelude.{◌≡◌, ◌+◌, None, IfOk, IfSome, map, option_map, string_bytes};
 ghost use Rattle.clap.specs.Words.{first_of, found_of, rows_of};
-ghost use Rattle.dvd_words.specs.Reading.{IsLawful, Reads, command_of, has_room, is_within, reading, settings_of};
+ghost use Rattle.dvd_words.specs.Reading.{IsLawful, Reads, command_of, has_layout, has_room, has_sectors, is_given, is_within, takes_listed, tells_layout, reading, settings_of};
 
 use crate::fault::WordsFault;
 use crate::parser::parse;
@@ -12,6 +12,7 @@ use crate::values::{
     read_shape, read_workers, read_zones,
 };
 use clap::ArgMatches;
+use dvd_capture::Form;
 use std::alloc::Global;
 
 /// The settings that the words ask for.
@@ -46,6 +47,7 @@ fn command_named(word: &str) -> Option<Command>
         "merge" => Some(Command::Merge),
         "deep" => Some(Command::Deep),
         "assemble" => Some(Command::Assemble),
+        "convert" => Some(Command::Convert),
         _ => None,
     }
 }
@@ -74,10 +76,54 @@ fn settings(command: Command, matches: &ArgMatches<'_>) -> Option<Settings>
         captures: read_captures(given(matches, "captures"))?,
         frames: read_frames(given(matches, "frames"))?,
     };
-    if has_units(command, &settings) && has_room(command, &settings) {
+    if has_layout(command, settings.form, matches)
+        && has_units(command, &settings)
+        && has_room(command, &settings)
+    {
         Some(settings)
     } else {
         None
+    }
+}
+
+// The layout is told once: a listed capture states its own, and no option tells of it then; else the words state it.
+fn has_layout(command: Command, form: Form, matches: &ArgMatches<'_>) -> bool
+    ensures { result ≡ has_layout command form (rows_of (found_of matches.now)) }
+{
+    match form {
+        Form::Listed => takes_listed(command) && !tells_layout(matches),
+        Form::Plain | Form::Marked => has_sectors(command, matches),
+    }
+}
+
+// The commands that read listed captures.
+fn takes_listed(command: Command) -> bool
+    ensures { result ≡ takes_listed command }
+{
+    match command {
+        Command::Recover | Command::Info | Command::Survey | Command::Deep => true,
+        _ => false,
+    }
+}
+
+fn tells_layout(matches: &ArgMatches<'_>) -> bool
+    ensures { result ≡ tells_layout (rows_of (found_of matches.now)) }
+{
+    is_given(matches, "sectors")
+        || is_given(matches, "sectors1")
+        || is_given(matches, "shape")
+        || is_given(matches, "zones")
+        || is_given(matches, "initial")
+        || is_given(matches, "tail")
+}
+
+// `recover`, `survey` and `deep` may leave their number of sectors to a capture that states it.
+fn has_sectors(command: Command, matches: &ArgMatches<'_>) -> bool
+    ensures { result ≡ has_sectors command (rows_of (found_of matches.now)) }
+{
+    match command {
+        Command::Recover | Command::Survey | Command::Deep => is_given(matches, "sectors"),
+        _ => true,
     }
 }
 
@@ -99,7 +145,7 @@ fn has_units(command: Command, settings: &Settings) -> bool
         }
         Command::Merge => true,
         Command::Deep => true,
-        Command::Assemble => true,
+        Command::Assemble | Command::Convert => true,
     }
 }
 
@@ -111,6 +157,12 @@ fn has_room(command: Command, settings: &Settings) -> bool
         Command::Assemble => u64::from(settings.sectors) + u64::from(settings.sectors1) <= 16_384,
         _ => true,
     }
+}
+
+fn is_given(matches: &ArgMatches<'_>, name: &str) -> bool
+    ensures { result ≡ is_given name.now (rows_of (found_of matches.now)) }
+{
+    given(matches, name).is_some()
 }
 
 // The value of an option, if it is given.
