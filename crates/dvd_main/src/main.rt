@@ -1,6 +1,7 @@
 //! The program dvdecc: it makes the real words and streams, and ends with the status of the run.
 #![tactic(auto)]
 
+use dvd_par::OpenGate;
 use dvd_ports::{NoMemory, StdSink, StdSource};
 use dvd_top::{Status, run};
 use std::env;
@@ -14,7 +15,15 @@ fn main(rt: HostRuntime) -> ExitCode {
             let mut src = StdSource::new(rt.reader());
             let mut out = StdSink::new(io::writer(&rt));
             let mut report = StdSink::new(rt.stderr());
-            run(&rt, rt.alloc(), &words, &mut src, &mut out, &mut report)
+            run(
+                &rt,
+                &OpenGate,
+                rt.alloc(),
+                &words,
+                &mut src,
+                &mut out,
+                &mut report,
+            )
         }
         Err(NoMemory) => Status::NoMemory,
     };

@@ -29,7 +29,7 @@ use Rattle.dvd_loop.specs.Machine.Step.{Tell, Write}
 use Rattle.dvd_loop.specs.Streams.{HaveMoved, Streams}
 use Rattle.dvd_loop.specs.Turns.{AreDone, AreSteps, Nothing, told, written}
 use Rattle.dvd_loop.specs.declared.ends.LoopEnd.{LoopEnd}
-use Rattle.dvd_loop.specs.declared.ends.LoopEnd.TheVariants.{BadMarks, Damaged, Done, Long, NoControl, ReadFault, ReportFault, Short, WriteFault}
+use Rattle.dvd_loop.specs.declared.ends.LoopEnd.TheVariants.{BadHeader, BadMarks, Damaged, Done, Long, NoControl, ReadFault, ReportFault, Short, ShortHeader, WriteFault}
 use Rattle.dvd_loop.specs.declared.ends.Turn.TheVariants.{Good}
 use Rattle.dvd_loop.proofs.LoopEnds.{plain_end}
 use Rattle.dvd_loop.proofs.StepLemmas.{onto}
@@ -214,3 +214,5 @@ assemble_end layout form frames bytes outcome runs end is = by_end end is
     by_end (Damaged bad) is = plain (Damaged bad) is (λ no. cc)
     by_end NoControl is = plain NoControl is (λ no. cc)
     by_end (BadMarks k at) is = plain (BadMarks k at) is (λ no. cc)
+    by_end (ShortHeader held) is = plain (ShortHeader held) is (λ no. cc)
+    by_end (BadHeader at) is = plain (BadHeader at) is (λ no. cc)

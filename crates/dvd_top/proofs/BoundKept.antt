@@ -1,9 +1,7 @@
 -- A run of recovery, by two passes or by rounds, keeps the bound.
-use Rattle.std.proofs.Common.{◌≡◌, ◌∙◌, min, ℕ, ◌+◌, ◌-◌, ◌*◌, ◌≤◌, List, [], ◌∷◌, ◌++◌, length, length-append, take, drop, slice_get, Some, refl, ap, sym, subst, append-nil, add-one, arith}
-use Rattle.std.proofs.Math.Nat.{mul-suc}
+use Rattle.std.proofs.Common.{◌≡◌, ◌∙◌, min, ℕ, ◌+◌, ◌-◌, ◌*◌, List, [], ◌∷◌, ◌++◌, length, length-append, take, drop, slice_get, Some, refl, ap, sym, subst, append-nil, arith}
 use Rattle.std.proofs.lemmas.List.{length-drop, length-take-le}
 use Rattle.std.proofs.lemmas.Option.{slice_get_within}
-use Rattle.dvd_capture.specs.Captured.{block_size}
 use Rattle.dvd_capture.specs.declared.form.Form.{Form}
 use Rattle.dvd_capture.proofs.Fetching.{part-append, part-behind}
 use Rattle.dvd_layout.specs.Content.{IsImage, image_from}
@@ -16,7 +14,7 @@ use Rattle.dvd_layout.specs.declared.layout.Layout.{Layout}
 use Rattle.dvd_layout.specs.declared.layout.Zones.{Zones}
 use Rattle.dvd_layout.proofs.InOrder.{plan_of-in_order}
 use Rattle.dvd_loop.specs.Laws.{IsFaultless, IsFrontOf, first}
-use Rattle.dvd_loop.specs.Machine.{Closes, Does, IsClosed, IsOutcome, Outcome, Step, Units, ended}
+use Rattle.dvd_loop.specs.Machine.{Closes, Does, IsClosed, IsOutcome, Outcome, Step, ended}
 use Rattle.dvd_loop.specs.Machine.Step.{Tell, Write}
 use Rattle.dvd_loop.specs.Turns.{written}
 use Rattle.dvd_loop.specs.declared.ends.LoopEnd.{LoopEnd}
@@ -25,17 +23,21 @@ use Rattle.dvd_loop.specs.declared.ends.Turn.{Turn}
 use Rattle.dvd_loop.specs.declared.ends.Turn.TheVariants.{Good}
 use Rattle.dvd_loop.proofs.Apart.{takes_unit}
 use Rattle.dvd_loop.proofs.Faultless.{all_done}
-use Rattle.dvd_top.specs.Bound.{IsBorne, IsRescued, KeepsBound, Rescues, block_bytes, image_part}
+use Rattle.dvd_top.specs.Bound.{IsBorne, IsRescued, KeepsBound, Rescues, image_part}
+use Rattle.dvd_top.specs.Captured.{HasBlocks, block_bytes, from_block}
 use Rattle.dvd_top.specs.Commands.{meaning}
 use Rattle.dvd_top.specs.Commands.Deep.{IsDeepened}
 use Rattle.dvd_top.specs.Commands.Master.{bytes_of_block, image_bytes}
 use Rattle.dvd_top.specs.Commands.Recover.{IsRecovered}
+use Rattle.dvd_top.specs.Headline.{GoesOver, IsLoop}
 use Rattle.dvd_top.specs.Laws.{BoundIsKept}
 use Rattle.dvd_top.specs.Lines.{closing_line}
 use Rattle.dvd_words.specs.Settings.{IsLayoutOf}
 use Rattle.dvd_words.specs.declared.settings.Command.{Command}
-use Rattle.dvd_words.specs.declared.settings.Command.TheVariants.{Frames, Master, Recover, Info, Survey, Exercise, CdMake, CdRead, Merge, Deep, Assemble}
+use Rattle.dvd_words.specs.declared.settings.Command.TheVariants.{Frames, Master, Recover, Info, Survey, Exercise, CdMake, CdRead, Merge, Deep, Assemble, Convert}
 use Rattle.dvd_words.specs.declared.settings.Settings.{Settings}
+use Rattle.dvd_top.proofs.CapturedBlocks.{begin_blocks, block-whole, blocks_break, blocks_stay}
+use Rattle.dvd_top.proofs.OpenedRuns.{behind_header}
 use Rattle.dvd_top.proofs.PlanBytes.{start-blocks}
 use Rattle.dvd_top.proofs.RecoveredWidths.{IsWide, block_units, deepened-wide, length-first, never_last, recovered-wide}
 use Rattle.dvd_top.proofs.Repaired.{repaired, repaired_deep}
@@ -48,11 +50,6 @@ length-part layout (Image sector) image size =
 length-part layout Zero image size = refl
 length-part layout Reference image size = refl
 length-part layout Control image size = refl
-
--- a block that is whole in the stream has its bytes
-pub length-own : (size k : ℕ) (bytes : List ℕ) → size * (k + 1) ≤ length bytes → length (take size (drop (size * k) bytes)) ≡ size
-length-own size k bytes there =
-    length-take-le size (drop (size * k) bytes) (omega (arith, subst (λ n. size * n ≤ length bytes) (add-one k) there, mul-suc size k, length-drop (size * k) bytes))
 
 -- a part that stands behind so many bytes
 pub part_there : (a n : ℕ) (before part out : List ℕ) → length before ≡ a → length part ≡ n → IsFrontOf (before ++ (part ++ [])) out
@@ -71,7 +68,7 @@ alone : (layout : Layout) (zones : Zones) (form : Form) (bytes cpr image : List 
     → (steps ≡ Write (image_part layout entry image) ∷ []) × (turn ≡ Good)
 alone layout zones form bytes cpr image k entry b steps turn does =
     repaired layout zones form cpr k entry (image_part layout entry image) (block_bytes form bytes k) b.block steps turn b.stands b.is_image b.cpr_size
-    (length-part layout entry.content image b.image_size) b.is_block (length-own (block_size form) k bytes b.whole) b.within does
+    (length-part layout entry.content image b.image_size) b.is_block (block-whole form bytes (k + 1) b.whole k (omega arith)) b.within does
 
 alone_deep : (layout : Layout) (zones : Zones) (form : Form) (bytes cpr image : List ℕ) (k : ℕ) (entry : BlockPlan)
     → IsBorne layout zones form bytes cpr image k entry
@@ -79,7 +76,7 @@ alone_deep : (layout : Layout) (zones : Zones) (form : Form) (bytes cpr image : 
     → (steps ≡ Write (image_part layout entry image) ∷ []) × (turn ≡ Good)
 alone_deep layout zones form bytes cpr image k entry b steps turn does =
     repaired_deep layout zones form cpr k entry (image_part layout entry image) (block_bytes form bytes k) b.block steps turn b.stands b.is_image b.cpr_size
-    (length-part layout entry.content image b.image_size) b.is_block (length-own (block_size form) k bytes b.whole) b.within does
+    (length-part layout entry.content image b.image_size) b.is_block (block-whole form bytes (k + 1) b.whole k (omega arith)) b.within does
 
 -- Units that are the captured blocks of a plan, and write the image bytes that stand in each.
 module _ (layout : Layout) (zones : Zones) (form : Form) (May : ℕ → List ℕ → List Step → Turn → Type 0)
@@ -105,10 +102,12 @@ module _ (layout : Layout) (zones : Zones) (form : Form) (May : ℕ → List ℕ
 
   pub has_turn : (bytes : List ℕ) (a : Outcome) → IsOutcome (block_units layout zones form May) bytes a
       → IsFaultless a.end → (k : ℕ) (entry : BlockPlan) → slice_get (plan_of layout zones) k ≡ Some entry → IsImage entry.content
-      → block_size form * (k + 1) ≤ length bytes → HasTurn bytes a k entry
+      → HasBlocks form bytes (k + 1) → HasTurn bytes a k entry
   has_turn bytes a runs none k entry stands is_image whole =
       let in_plan = slice_get_within (plan_of layout zones) k entry stands in
-      let (steps, turn, t) = takes_unit (block_units layout zones form May) (block_size form) (λ j l. refl) (never_last layout zones form May wide) refl bytes a runs none k in_plan whole in record {
+      let units = block_units layout zones form May in
+      let (steps, turn, t) = takes_unit units (never_last layout zones form May wide) (blocks_stay units form (λ j l. refl)) (blocks_break units form (λ j l. refl)) refl
+      bytes a runs none k in_plan (block_bytes form bytes) (from_block form bytes) (begin_blocks units form (λ j l. refl) bytes (k + 1) whole) in record {
         steps = steps;
         turn = turn;
         does = subst (λ j. May j (block_bytes form bytes k) steps turn) t.number t.unit.does;
@@ -142,52 +141,56 @@ closed closing ReportFault a is none = absurd (subst (λ (o : Outcome). IsFaultl
 closed closing end a does none = told_line (closing end) end a does none
 
 -- a run that no fault ended wrote what its loop wrote, which no fault ended
-pub closed_loop : (command : Command) (units : Units) (within : LoopEnd) (bytes : List ℕ) (outcome : Outcome)
-    (c : IsClosed (closing_line command) units bytes within outcome) → IsFaultless outcome.end
+pub closed_loop : (command : Command) (May : Outcome → Type 0) (within : LoopEnd) (outcome : Outcome)
+    (c : IsClosed (closing_line command) May within outcome) → IsFaultless outcome.end
     → (outcome.out ≡ c.loop.out) × IsFaultless c.loop.end
-closed_loop command units within bytes outcome c none =
+closed_loop command May within outcome c none =
     let line = closed (closing_line command) within c.line c.closes (subst (λ (o : Outcome). IsFaultless o.end) c.all none) in (
       ap (λ (o : Outcome). o.out) c.all ∙ ap (λ l. c.loop.out ++ l) line.0 ∙ append-nil c.loop.out,
       subst IsFaultless (ap (λ (o : Outcome). o.end) c.all ∙ line.1 ∙ sym c.ends) none,
     )
 
 -- the bound is kept by units that write, of a block that is borne, its image sectors alone
-closed_keeps : (settings : Settings) (command : Command) (within : LoopEnd) (bytes : List ℕ) (outcome : Outcome) (layout : Layout) → IsLayoutOf settings layout
+units_keep : (settings : Settings) (command : Command) (bytes : List ℕ) (outcome loop : Outcome) (layout : Layout) → IsLayoutOf settings layout
     → ((k : ℕ) (own : List ℕ) (steps : List Step) (turn : Turn) → IsRescued command layout settings.zones settings.form k own steps turn → IsWide (bytes_of_block layout settings.zones k) steps turn)
     → ((cpr image : List ℕ) (k : ℕ) (entry : BlockPlan) → IsBorne layout settings.zones settings.form bytes cpr image k entry
     → (steps : List Step) (turn : Turn) → IsRescued command layout settings.zones settings.form k (block_bytes settings.form bytes k) steps turn
     → (steps ≡ Write (image_part layout entry image) ∷ []) × (turn ≡ Good))
     → settings.command ≡ command
-    → IsClosed (closing_line command) (block_units layout settings.zones settings.form (IsRescued command layout settings.zones settings.form)) bytes within outcome → IsFaultless outcome.end
+    → IsOutcome (block_units layout settings.zones settings.form (IsRescued command layout settings.zones settings.form)) bytes loop → IsFaultless loop.end
+    → outcome.out ≡ loop.out
     → KeepsBound settings bytes outcome
-closed_keeps settings command within bytes outcome layout is_layout wide alone is c none =
-    let (out, loop_none) = closed_loop command (block_units layout settings.zones settings.form (IsRescued command layout settings.zones settings.form)) within bytes outcome c none in
-    record {
-      layout = layout;
-      is_layout = is_layout;
-      at_place = λ cpr image k entry b.
-          ap (λ l. take (image_bytes layout entry) (drop (2048 * image_from entry.content) l)) out
-          ∙ at_place layout settings.zones settings.form (IsRescued command layout settings.zones settings.form) wide cpr image bytes k entry b (alone cpr image k entry b) c.loop c.runs loop_none;
-      alone = λ cpr image k entry b steps turn does.
-          alone cpr image k entry b steps turn (subst (λ word. IsRescued word layout settings.zones settings.form k (block_bytes settings.form bytes k) steps turn) is does);
-    }
+units_keep settings command bytes outcome loop layout is_layout wide alone is runs none out = record {
+  layout = layout;
+  is_layout = is_layout;
+  at_place = λ cpr image k entry b.
+      ap (λ l. take (image_bytes layout entry) (drop (2048 * image_from entry.content) l)) out
+      ∙ at_place layout settings.zones settings.form (IsRescued command layout settings.zones settings.form) wide cpr image bytes k entry b (alone cpr image k entry b) loop runs none;
+  alone = λ cpr image k entry b steps turn does.
+      alone cpr image k entry b steps turn (subst (λ word. IsRescued word layout settings.zones settings.form k (block_bytes settings.form bytes k) steps turn) is does);
+}
 
-kept_by : (settings : Settings) (command : Command) (within : LoopEnd) (bytes : List ℕ) (outcome : Outcome) → Rescues command → settings.command ≡ command
-    → (meaning command).OfUnits settings (λ units. IsClosed (closing_line command) units bytes within outcome) → IsFaultless outcome.end
+kept_by : (settings : Settings) (command : Command) (bytes : List ℕ) (outcome loop : Outcome) → Rescues command → settings.command ≡ command
+    → (meaning command).OfUnits settings (λ units. IsOutcome units bytes loop) → IsFaultless loop.end → outcome.out ≡ loop.out
     → KeepsBound settings bytes outcome
-kept_by settings Recover within bytes outcome rescues is (layout, is_layout, c) none =
-    closed_keeps settings Recover within bytes outcome layout is_layout (recovered-wide layout settings.zones settings.form) (alone layout settings.zones settings.form bytes) is c none
-kept_by settings Deep within bytes outcome rescues is (layout, is_layout, c) none =
-    closed_keeps settings Deep within bytes outcome layout is_layout (deepened-wide layout settings.zones settings.form) (alone_deep layout settings.zones settings.form bytes) is c none
-kept_by settings Frames within bytes outcome rescues is holds none = absurd rescues
-kept_by settings Master within bytes outcome rescues is holds none = absurd rescues
-kept_by settings Info within bytes outcome rescues is holds none = absurd rescues
-kept_by settings Survey within bytes outcome rescues is holds none = absurd rescues
-kept_by settings Exercise within bytes outcome rescues is holds none = absurd rescues
-kept_by settings CdMake within bytes outcome rescues is holds none = absurd rescues
-kept_by settings CdRead within bytes outcome rescues is holds none = absurd rescues
-kept_by settings Merge within bytes outcome rescues is holds none = absurd rescues
-kept_by settings Assemble within bytes outcome rescues is holds none = absurd rescues
+kept_by settings Recover bytes outcome loop rescues is (layout, is_layout, runs) none out =
+    units_keep settings Recover bytes outcome loop layout is_layout (recovered-wide layout settings.zones settings.form) (alone layout settings.zones settings.form bytes) is runs none out
+kept_by settings Deep bytes outcome loop rescues is (layout, is_layout, runs) none out =
+    units_keep settings Deep bytes outcome loop layout is_layout (deepened-wide layout settings.zones settings.form) (alone_deep layout settings.zones settings.form bytes) is runs none out
+kept_by settings Frames bytes outcome loop rescues is holds none out = absurd rescues
+kept_by settings Master bytes outcome loop rescues is holds none out = absurd rescues
+kept_by settings Info bytes outcome loop rescues is holds none out = absurd rescues
+kept_by settings Survey bytes outcome loop rescues is holds none out = absurd rescues
+kept_by settings Exercise bytes outcome loop rescues is holds none out = absurd rescues
+kept_by settings CdMake bytes outcome loop rescues is holds none out = absurd rescues
+kept_by settings CdRead bytes outcome loop rescues is holds none out = absurd rescues
+kept_by settings Merge bytes outcome loop rescues is holds none out = absurd rescues
+kept_by settings Assemble bytes outcome loop rescues is holds none out = absurd rescues
+kept_by settings Convert bytes outcome loop rescues is holds none out = absurd rescues
 
 pub kept : BoundIsKept
-kept settings within bytes outcome is run none = kept_by settings settings.command within bytes outcome is refl run none
+kept settings within bytes outcome is run none =
+    let (out, loop_none) = closed_loop settings.command (IsLoop settings bytes) within outcome run none in
+    behind_header GoesOver (λ stated left. KeepsBound stated left outcome) run.loop loop_none settings.form settings bytes
+    (λ stated left after same loops faultless so.
+    kept_by stated stated.command left outcome after (subst Rescues (sym same) is) refl loops faultless (out ∙ sym so)) run.runs

@@ -1,5 +1,5 @@
 -- A run of `cdread` gives back the user data of each CD-ROM sector whose damage is borne.
-use Rattle.std.proofs.Common.{◌≡◌, ◌≢◌, ◌∙◌, inl, inr, ℕ, ◌+◌, ◌*◌, List, [], ◌∷◌, ◌++◌, length, take, drop, refl, ap, sym, subst, append-nil, length-append, take-append-drop, arith}
+use Rattle.std.proofs.Common.{◌≡◌, ◌≢◌, ◌∙◌, inl, inr, ℕ, ◌+◌, ◌*◌, ◌≤◌, List, [], ◌∷◌, ◌++◌, length, take, drop, refl, ap, sym, subst, append-nil, length-append, take-append-drop, arith}
 use Rattle.std.specs.Prelude.{replicate}
 use Rattle.std.proofs.lemmas.List.{append_assoc, length-drop, length-replicate, length-take-le, take_at}
 use Rattle.cd_sector.specs.Causes.{IsFaultless as IsRight}
@@ -12,22 +12,22 @@ use Rattle.cd_sector.proofs.GivenBack.{given_back}
 use Rattle.cd_sector.proofs.OneSector.{no_cause}
 use Rattle.cd_sector.proofs.Passes.{length-with_p_words, length-with_q_words}
 use Rattle.dvd_loop.specs.Laws.{IsFaultless, IsFrontOf, first}
-use Rattle.dvd_loop.specs.Machine.{IsClosed, IsOutcome, IsUnit, Outcome, Step}
+use Rattle.dvd_loop.specs.Machine.{IsOutcome, IsUnit, Outcome, Step}
 use Rattle.dvd_loop.specs.Machine.Step.{Write}
 use Rattle.dvd_loop.specs.Turns.{written}
-use Rattle.dvd_loop.specs.declared.ends.LoopEnd.{LoopEnd}
 use Rattle.dvd_loop.specs.declared.ends.LoopEnd.TheVariants.{Done}
 use Rattle.dvd_loop.specs.declared.ends.Turn.{Turn}
 use Rattle.dvd_loop.specs.declared.ends.Turn.TheVariants.{Bad, Good, Last}
-use Rattle.dvd_loop.proofs.Apart.{takes_unit}
+use Rattle.dvd_loop.proofs.Apart.{takes_sized}
 use Rattle.dvd_loop.proofs.Sizes.{sized_whole}
 use Rattle.dvd_top.specs.CdBound.{IsBorneSector, KeepsSectors, cd_sector_bytes}
 use Rattle.dvd_top.specs.Commands.{meaning}
 use Rattle.dvd_top.specs.Commands.CdRead.{IsSectorRead, cdread_units, user_data}
 use Rattle.dvd_top.specs.Laws.{BorneSectorsAreKept}
-use Rattle.dvd_top.specs.Lines.{closing_line}
+use Rattle.dvd_top.specs.Headline.{GoesOver, IsLoop}
 use Rattle.dvd_words.specs.declared.settings.Settings.{Settings}
-use Rattle.dvd_top.proofs.BoundKept.{closed_loop, length-own, part_there}
+use Rattle.dvd_top.proofs.BoundKept.{closed_loop, part_there}
+use Rattle.dvd_top.proofs.OpenedRuns.{behind_header}
 use Rattle.dvd_top.proofs.Pieces.{start-same}
 use Rattle.dvd_top.proofs.Written.{length-written}
 
@@ -57,11 +57,15 @@ borne_given address k user sector read steps turn user_size made size low high d
       | inr refused ↦ absurd (no_cause (repaired read) address refused.cause (subst (λ s. IsRight s address) (sym back) (faultless address user sector user_size made)) refused.is_cause)
     ]
 
+-- a sector that is whole in the input has its bytes
+length-own : (k : ℕ) (bytes : List ℕ) → 2352 * (k + 1) ≤ length bytes → length (cd_sector_bytes bytes k) ≡ 2352
+length-own k bytes there = length-take-le 2352 (drop (2352 * k) bytes) (omega (arith, there, length-drop (2352 * k) bytes))
+
 alone : (settings : Settings) (bytes user : List ℕ) (k : ℕ) → IsBorneSector settings bytes user k
     → (steps : List Step) (turn : Turn) → IsSectorRead (settings.address + k) k (cd_sector_bytes bytes k) steps turn
     → (steps ≡ Write user ∷ []) × (turn ≡ Good)
 alone settings bytes user k b steps turn does =
-    borne_given (settings.address + k) k user b.sector (cd_sector_bytes bytes k) steps turn b.user_size b.is_sector (length-own 2352 k bytes b.whole) b.low b.high does
+    borne_given (settings.address + k) k user b.sector (cd_sector_bytes bytes k) steps turn b.user_size b.is_sector (length-own k bytes b.whole) b.low b.high does
 
 -- ALL SECTORS. Each writes 2,048 bytes.
 length-repaired : (read : List ℕ) → length read ≡ 2352 → length (repaired read) ≡ 2352
@@ -111,8 +115,7 @@ module _ (address sectors : ℕ) where
   length-first : (k : ℕ) (bytes : List ℕ) (a : Outcome) → IsOutcome (first k (cdread_units address sectors)) bytes a → a.end ≡ Done
       → length a.out ≡ 2048 * k
   length-first k bytes a runs done =
-      length-written (first k (cdread_units address sectors)) (λ j. 2352) (λ j. 2048) (record {
-        begins = λ j l. refl;
+      length-written (first k (cdread_units address sectors)) (λ j. 2048) (record {
         opens = refl;
         does = unit-wide k;
         closes = λ before steps none. none;
@@ -124,23 +127,19 @@ at_place : (settings : Settings) (bytes : List ℕ) (a : Outcome) → IsOutcome 
     → (user : List ℕ) (k : ℕ) → IsBorneSector settings bytes user k → take 2048 (drop (2048 * k) a.out) ≡ user
 at_place settings bytes a runs none user k b =
     let units = cdread_units settings.address settings.sectors in
-    let (steps, turn, t) = takes_unit units 2352 (λ j l. refl) (never_last settings.address settings.sectors) refl bytes a runs none k b.asked b.whole in
+    let (steps, turn, t) = takes_sized units 2352 (λ j l. refl) (never_last settings.address settings.sectors) refl bytes a runs none k b.asked b.whole in
     let does = subst (λ j. IsSectorRead (settings.address + j) j (cd_sector_bytes bytes k) steps turn) t.number t.unit.does in
     let back = alone settings bytes user k b steps turn does in
     part_there (2048 * k) 2048 t.alone.out user a.out (length-first settings.address settings.sectors k bytes t.alone t.runs t.ends)
     b.user_size (subst (λ s. IsFrontOf (t.alone.out ++ written s) a.out) back.0 t.out)
 
-closed_keeps : (settings : Settings) (within : LoopEnd) (bytes : List ℕ) (outcome : Outcome)
-    → IsClosed (closing_line settings.command) (cdread_units settings.address settings.sectors) bytes within outcome → IsFaultless outcome.end
-    → KeepsSectors settings bytes outcome
-closed_keeps settings within bytes outcome c none =
-    let (out, loop_none) = closed_loop settings.command (cdread_units settings.address settings.sectors) within bytes outcome c none in
-    record {
-      at_place = λ user k b. ap (λ l. take 2048 (drop (2048 * k) l)) out ∙ at_place settings bytes c.loop c.runs loop_none user k b;
-      alone = alone settings bytes;
-    }
-
 pub kept_sectors : BorneSectorsAreKept
 kept_sectors settings within bytes outcome is run none =
-    closed_keeps settings within bytes outcome
-    (subst (λ command. (meaning command).OfUnits settings (λ units. IsClosed (closing_line settings.command) units bytes within outcome)) is run) none
+    let (out, loop_none) = closed_loop settings.command (IsLoop settings bytes) within outcome run none in
+    behind_header GoesOver (λ stated left. KeepsSectors stated left outcome) run.loop loop_none settings.form settings bytes
+    (λ stated left after same loops faultless so. record {
+      at_place = λ user k b.
+          ap (λ l. take 2048 (drop (2048 * k) l)) (out ∙ sym so)
+          ∙ at_place stated left after (subst (λ command. (meaning command).OfUnits stated (λ units. IsOutcome units left after)) (same ∙ is) loops) faultless user k b;
+      alone = alone stated left;
+    }) run.runs

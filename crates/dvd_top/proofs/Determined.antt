@@ -1,5 +1,5 @@
 -- What each command does for an input is determined.
-use Rattle.std.proofs.Common.{◌≡◌, ◌≢◌, inl, inr, ℕ, ◌+◌, List, ◌∷◌, ◌++◌, [], length, take, Bool, Some, None, refl, ap, sym, subst, ◌∙◌}
+use Rattle.std.proofs.Common.{◌≡◌, inl, inr, ℕ, ◌+◌, List, ◌∷◌, ◌++◌, [], length, take, Bool, Some, None, refl, ap, sym, subst, ◌∙◌}
 use Rattle.std.proofs.lemmas.List.FromFn.{length-map-range_with_len}
 use Rattle.dvd_block.proofs.OneBlock.{one_block_at_most}
 use Rattle.dvd_block.specs.Product.{IsBlockOf, line}
@@ -18,16 +18,16 @@ use Rattle.dvd_layout.proofs.SameLengths.{same_lengths-same}
 use Rattle.dvd_top.proofs.CdSectors.{made_is_one, read_is_one}
 use Rattle.dvd_top.proofs.ExerciseRuns.{exercised_is_one}
 use Rattle.dvd_top.proofs.PlanEntries.{one_entry}
-use Rattle.dvd_loop.specs.Laws.{AreDetermined, IsFaultless, IsUnbroken}
+use Rattle.dvd_top.proofs.CapturedBlocks.{blocks_determined}
+use Rattle.dvd_top.proofs.ConvertedBlocks.{converted_is_one, opening_once}
+use Rattle.dvd_top.proofs.OpenedRuns.{AreSame, opens_once}
+use Rattle.dvd_loop.specs.Laws.{AreDetermined, IsFaultless}
 use Rattle.dvd_loop.specs.Machine.{IsOutcome, Outcome, Step, Units, sized}
 use Rattle.dvd_loop.specs.Machine.Step.{Write, Tell}
-use Rattle.dvd_loop.specs.declared.ends.LoopEnd.{LoopEnd}
-use Rattle.dvd_loop.specs.declared.ends.LoopEnd.TheVariants.{BadMarks, Damaged, Done as EndsDone, Long, NoControl, ReadFault, ReportFault, Short, WriteFault}
 use Rattle.dvd_loop.specs.declared.ends.Turn.{Turn}
 use Rattle.dvd_loop.specs.declared.ends.Turn.TheVariants.{Good}
 use Rattle.dvd_loop.proofs.Determinacy.{agrees}
-use Rattle.dvd_loop.proofs.PlainEnds.{never_bad_marks}
-use Rattle.dvd_loop.proofs.Sizes.{broken_stays, sized_never_broken, whole_stays}
+use Rattle.dvd_loop.proofs.Sizes.{broken_stays, whole_stays}
 use Rattle.dvd_read.proofs.BlockRead.{read-determined}
 use Rattle.dvd_read.specs.Reading.{block_cause}
 use Rattle.dvd_read.specs.Salvage.{block_out, saved_in}
@@ -47,9 +47,12 @@ use Rattle.dvd_top.specs.Commands.Deep.{IsDeepened, IsGivenBack, IsLost, IsReadD
 use Rattle.dvd_top.specs.Commands.Recover.{IsDone, IsGiven, IsRecovered, IsRefused, recover_units}
 use Rattle.dvd_top.specs.Commands.Merge.{merge_units}
 use Rattle.dvd_top.specs.Commands.Assemble.{assemble_units}
+use Rattle.dvd_top.specs.Commands.Convert.{convert_units}
 use Rattle.dvd_top.specs.Commands.Survey.{IsSurveyed, found_in, survey_units, turn_by}
 use Rattle.dvd_top.specs.Inner.Performing.{IsControlDone, IsImageDone, IsImageRead, IsPassedOver, sectors_out}
-use Rattle.dvd_top.specs.Headline.{IsLoop}
+use Rattle.dvd_top.specs.Captured.{captured_part}
+use Rattle.dvd_top.specs.Headline.{GoesOver}
+use Rattle.dvd_top.specs.Laws.{WhatIsDoneIsDetermined}
 use Rattle.dvd_words.specs.Settings.{IsLayoutOf}
 use Rattle.dvd_words.specs.declared.settings.Command.{Command}
 use Rattle.dvd_words.specs.declared.settings.Command.TheVariants as command
@@ -58,17 +61,6 @@ use Rattle.dvd_words.specs.declared.settings.Settings.{Settings}
 -- one thing alone may be done
 abbrev MayOne : (List Step → Turn → Type 0) → Type 0
 MayOne May = (steps others : List Step) (turn other : Turn) → May steps turn → May others other → (steps ≡ others) × (turn ≡ other)
-
-unbroken : (end : LoopEnd) → ((k at : ℕ) → end ≢ BadMarks k at) → IsUnbroken end
-unbroken EndsDone never = tt
-unbroken ReadFault never = tt
-unbroken WriteFault never = tt
-unbroken ReportFault never = tt
-unbroken (Short unit held) never = tt
-unbroken Long never = tt
-unbroken (Damaged bad) never = tt
-unbroken NoControl never = tt
-unbroken (BadMarks unit at) never = absurd (never unit at refl)
 
 -- Units of given sizes: where one thing alone may be done for each and behind all, two runs without a fault are one.
 module _ (units : Units) (size : ℕ → ℕ) (begins : (k : ℕ) (own : List ℕ) → units.begins k own ≡ sized (size k) own)
@@ -83,11 +75,16 @@ module _ (units : Units) (size : ℕ → ℕ) (begins : (k : ℕ) (own : List �
   }
 
   one_run : (bytes : List ℕ) (a b : Outcome) → IsOutcome units bytes a → IsOutcome units bytes b → IsFaultless a.end → IsFaultless b.end
-      → a ≡ b
-  one_run bytes a b p q none other =
-      let same = agrees units are_determined bytes a b p q none other in
-      let taken = same.3 (unbroken a.end (never_bad_marks units bytes a p (λ k at own broken. sized_never_broken (size k) at own (sym (begins k own) ∙ broken)))) in
-      λ i. record { taken = taken i; out = same.0 i; lines = same.1 i; end = same.2 i }
+      → AreSame a b
+  one_run bytes a b p q none other = agrees units are_determined bytes a b p q none other
+
+-- Captured blocks: two runs are one but for what was taken of a block that breaks a rule.
+module _ (units : Units) (form : Form) (begins : (k : ℕ) (own : List ℕ) → units.begins k own ≡ captured_part form own)
+    (one : (before : List (List ℕ)) (own : List ℕ) → MayOne (units.does (length before) before own))
+    (closing : (before : List (List ℕ)) (steps others : List Step) → units.closes before steps → units.closes before others → steps ≡ others) where
+  one_capture : (bytes : List ℕ) (a b : Outcome) → IsOutcome units bytes a → IsOutcome units bytes b → IsFaultless a.end → IsFaultless b.end
+      → AreSame a b
+  one_capture bytes a b p q none other = agrees units (blocks_determined units form begins one closing) bytes a b p q none other
 
 -- one list of steps closes these
 one_closing : {closing : List Step} (steps others : List Step) → steps ≡ closing → others ≡ closing → steps ≡ others
@@ -268,7 +265,7 @@ module _ (settings : Settings) (bytes : List ℕ) (a b : Outcome) (none : IsFaul
   abbrev IsOf : Command → Outcome → Type 0
   IsOf word outcome = (meaning word).OfUnits settings (λ units. IsOutcome units bytes outcome)
 
-  by_command : (word : Command) → IsOf word a → IsOf word b → a ≡ b
+  by_command : (word : Command) → IsOf word a → IsOf word b → AreSame a b
   by_command command.Frames p q =
       one_run (frames_units settings.first settings.sectors) (λ k. 2048) (λ k own. refl) (λ before own. frame_is_one settings.first (length before) own)
       (λ before. one_closing) bytes a b p q none other
@@ -277,14 +274,14 @@ module _ (settings : Settings) (bytes : List ℕ) (a b : Outcome) (none : IsFaul
       (λ before own. mastered_is_one layout settings.zones settings.cpr (length before) own) (λ before. one_closing) bytes a b p
       (subst (λ l. IsOutcome (master_units l settings.zones settings.cpr) bytes b) (one_layout settings same layout so is) q) none other
   by_command command.Recover (layout, is, p) (same, so, q) =
-      one_run (recover_units layout settings.zones settings.form) _ (λ k own. refl)
+      one_capture (recover_units layout settings.zones settings.form) settings.form (λ k own. refl)
       (λ before own. recovered_is_one layout settings.zones settings.form (length before) own) (λ before. one_closing) bytes a b p
       (subst (λ l. IsOutcome (recover_units l settings.zones settings.form) bytes b) (one_layout settings same layout so is) q) none other
   by_command command.Info p q =
-      one_run (info_units settings.initial settings.form) _ (λ k own. refl)
+      one_capture (info_units settings.initial settings.form) settings.form (λ k own. refl)
       (λ before own. sought_is_one settings.initial settings.form (length before) own) (λ before. one_closing) bytes a b p q none other
   by_command command.Survey (layout, is, p) (same, so, q) =
-      one_run (survey_units layout settings.zones settings.form) _ (λ k own. refl)
+      one_capture (survey_units layout settings.zones settings.form) settings.form (λ k own. refl)
       (λ before own. surveyed_is_one layout settings.zones settings.form (length before) before own) (λ before. one_closing) bytes a b p
       (subst (λ l. IsOutcome (survey_units l settings.zones settings.form) bytes b) (one_layout settings same layout so is) q) none other
   by_command command.Exercise p q =
@@ -301,14 +298,24 @@ module _ (settings : Settings) (bytes : List ℕ) (a b : Outcome) (none : IsFaul
       (λ before own steps others turn other x y. (x.0 ∙ sym y.0, x.1 ∙ sym y.1)) (λ before. one_closing) bytes a b p
       (subst (λ l. IsOutcome (merge_units l settings.zones settings.form settings.captures) bytes b) (one_layout settings same layout so is) q) none other
   by_command command.Deep (layout, is, p) (same, so, q) =
-      one_run (deep_units layout settings.zones settings.form) _ (λ k own. refl)
+      one_capture (deep_units layout settings.zones settings.form) settings.form (λ k own. refl)
       (λ before own. deepened_is_one layout settings.zones settings.form (length before) own) (λ before. one_closing) bytes a b p
       (subst (λ l. IsOutcome (deep_units l settings.zones settings.form) bytes b) (one_layout settings same layout so is) q) none other
   by_command command.Assemble (layout, is, p) (same, so, q) =
       one_run (assemble_units layout settings.form settings.frames) _ (λ k own. refl)
       (λ before own steps others turn other x y. (x.0 ∙ sym y.0, x.1 ∙ sym y.1)) (λ before. one_closing) bytes a b p
       (subst (λ l. IsOutcome (assemble_units l settings.form settings.frames) bytes b) (one_layout settings same layout so is) q) none other
+  by_command command.Convert (layout, is, (opening, header, p)) (same, so, (other_opening, other_header, q)) =
+      let units = λ (l : Layout) (bytes : List ℕ). convert_units l settings.zones settings.form bytes in
+      one_capture (units layout opening) settings.form (λ k own. refl)
+      (λ before own. converted_is_one settings.form own) (λ before. one_closing) bytes a b p
+      (subst (λ o. IsOutcome (units layout o) bytes b) (opening_once settings other_opening opening other_header header)
+      (subst (λ l. IsOutcome (units l other_opening) bytes b) (one_layout settings same layout so is) q)) none other
 
-pub determined : (settings : Settings) (bytes : List ℕ) (a b : Outcome) → IsLoop settings bytes a → IsLoop settings bytes b
-    → IsFaultless a.end → IsFaultless b.end → a ≡ b
-determined settings bytes a b p q none other = by_command settings bytes a b none other settings.command p q
+-- over blocks, and behind a header
+goes_once : (settings : Settings) (bytes : List ℕ) (a b : Outcome) → GoesOver settings bytes a → GoesOver settings bytes b → IsFaultless a.end → IsFaultless b.end
+    → AreSame a b
+goes_once settings bytes a b p q none other = by_command settings bytes a b none other settings.command p q
+
+pub determined : WhatIsDoneIsDetermined
+determined settings bytes a b p q none other = opens_once GoesOver goes_once settings bytes a b none other settings.form p q

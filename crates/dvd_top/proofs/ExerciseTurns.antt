@@ -17,8 +17,8 @@ use Rattle.dvd_loop.specs.Machine.Part.{Cut, Whole}
 use Rattle.dvd_loop.specs.Streams.{Comes, Counts as FaultCounts, is_read_fault, no_stream, streams}
 use Rattle.dvd_loop.specs.declared.ends.Behind.TheVariants as behind
 use Rattle.dvd_loop.specs.declared.ends.LoopEnd.{LoopEnd}
-use Rattle.dvd_loop.specs.declared.ends.LoopEnd.TheVariants.{BadMarks, Damaged, Done, Long, NoControl, ReadFault, ReportFault, Short, WriteFault}
-use Rattle.dvd_loop.proofs.PlainEnds.{never_bad_marks, never_damaged, never_long, never_no_control, never_short}
+use Rattle.dvd_loop.specs.declared.ends.LoopEnd.TheVariants.{BadHeader, BadMarks, Damaged, Done, Long, NoControl, ReadFault, ReportFault, Short, ShortHeader, WriteFault}
+use Rattle.dvd_loop.proofs.PlainEnds.{never_bad_header, never_bad_marks, never_damaged, never_long, never_no_control, never_short, never_short_header}
 use Rattle.dvd_loop.proofs.Sizes.{sized_enough, sized_never_broken}
 use Rattle.dvd_ports.specs.Seen.{Seen}
 use Rattle.dvd_read.specs.Reading.{IsReadAs}
@@ -112,3 +112,5 @@ write_end seed blocks bytes outcome runs NoControl is read told =
     absurd (never_no_control (exercise_units seed blocks) bytes outcome runs (λ none. let no : behind.Done ≡ behind.NoControl = none in cc) is)
 write_end seed blocks bytes outcome runs (BadMarks k at) is read told =
     absurd (never_bad_marks (exercise_units seed blocks) bytes outcome runs (λ j place own broken. sized_never_broken 0 place own broken) k at is)
+write_end seed blocks bytes outcome runs (ShortHeader held) is read told = absurd (never_short_header (exercise_units seed blocks) bytes outcome runs held is)
+write_end seed blocks bytes outcome runs (BadHeader at) is read told = absurd (never_bad_header (exercise_units seed blocks) bytes outcome runs at is)

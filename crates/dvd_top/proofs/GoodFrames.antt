@@ -2,7 +2,7 @@
 use Rattle.std.proofs.Common.{◌≡◌, ◌∙◌, ℕ, ◌+◌, ◌*◌, ◌<◌, ◌≤◌, List, ◌++◌, length, length-append, take, drop, ap, sym, subst, arith}
 use Rattle.std.proofs.Math.Seq.{drop-append_seam}
 use Rattle.std.proofs.lemmas.List.{drop-drop, take-append-drop}
-use Rattle.dvd_capture.specs.Captured.{block_size, captured_marks, captured_rows}
+use Rattle.dvd_capture.specs.Captured.{captured_marks, captured_rows}
 use Rattle.dvd_capture.specs.declared.form.Form.{Form}
 use Rattle.dvd_capture.proofs.Fetching.{part-append}
 use Rattle.dvd_layout.specs.Content.{image_from}
@@ -11,19 +11,21 @@ use Rattle.dvd_layout.specs.declared.entry.BlockPlan.{BlockPlan}
 use Rattle.dvd_layout.specs.declared.layout.Layout.{Layout}
 use Rattle.dvd_layout.specs.declared.layout.Zones.{Zones}
 use Rattle.dvd_loop.specs.Laws.{IsFaultless}
-use Rattle.dvd_loop.specs.Machine.{IsClosed, IsOutcome, Outcome}
+use Rattle.dvd_loop.specs.Machine.{IsOutcome, Outcome}
 use Rattle.dvd_loop.specs.Turns.{written}
-use Rattle.dvd_loop.specs.declared.ends.LoopEnd.{LoopEnd}
-use Rattle.dvd_top.specs.Bound.{HasGoodRows, IsBeyond, KeepsGoodFrames, block_bytes, image_part}
+use Rattle.dvd_top.specs.Bound.{HasGoodRows, IsBeyond, KeepsGoodFrames, image_part}
+use Rattle.dvd_top.specs.Captured.{block_bytes}
 use Rattle.dvd_top.specs.Commands.{meaning}
 use Rattle.dvd_top.specs.Commands.Master.{image_bytes}
 use Rattle.dvd_top.specs.Commands.Recover.{IsRecovered, recover_units}
+use Rattle.dvd_top.specs.Headline.{GoesOver, IsLoop}
 use Rattle.dvd_top.specs.Laws.{GoodFramesAreKept}
-use Rattle.dvd_top.specs.Lines.{closing_line}
 use Rattle.dvd_words.specs.Settings.{IsLayoutOf}
 use Rattle.dvd_words.specs.declared.settings.Settings.{Settings}
 use Rattle.dvd_top.proofs.MasterBlocks.{size_is}
-use Rattle.dvd_top.proofs.BoundKept.{closed_loop, has_turn, length-own, length-part}
+use Rattle.dvd_top.proofs.BoundKept.{closed_loop, has_turn, length-part}
+use Rattle.dvd_top.proofs.CapturedBlocks.{block-whole}
+use Rattle.dvd_top.proofs.OpenedRuns.{behind_header}
 use Rattle.dvd_top.proofs.RecoveredWidths.{recovered-wide}
 use Rattle.dvd_top.proofs.Rescues.{given_good}
 
@@ -56,25 +58,26 @@ at_place layout zones form bytes a runs none cpr image k f entry b below good =
     ap (λ n. take 2048 (drop n a.out)) at
     ∙ part-further t.before (written t.steps) t.out.0 a.out (2048 * from) (2048 * f) 2048 t.size (omega (arith, wide)) t.out.1
     ∙ given_good layout zones form cpr k f entry part own b.block b.cause t.steps t.turn b.stands b.is_image b.cpr_size size b.is_block
-    (length-own (block_size form) k bytes b.whole) b.refused below good t.does
+    (block-whole form bytes (k + 1) b.whole k (omega arith)) b.refused below good t.does
     ∙ part-front (drop (2048 * from) image) (image_bytes layout entry) (2048 * f) 2048 (omega (arith, size))
     ∙ ap (take 2048) (drop-drop (2048 * f) (2048 * from) image)
     ∙ ap (λ n. take 2048 (drop n image)) (sym at)
 
-closed_keeps : (settings : Settings) (within : LoopEnd) (bytes : List ℕ) (outcome : Outcome) (layout : Layout) → IsLayoutOf settings layout
-    → IsClosed (closing_line settings.command) (recover_units layout settings.zones settings.form) bytes within outcome → IsFaultless outcome.end
+units_keep : (settings : Settings) (bytes : List ℕ) (outcome loop : Outcome) (layout : Layout) → IsLayoutOf settings layout
+    → IsOutcome (recover_units layout settings.zones settings.form) bytes loop → IsFaultless loop.end → outcome.out ≡ loop.out
     → KeepsGoodFrames settings bytes outcome
-closed_keeps settings within bytes outcome layout is_layout c none =
-    let (out, loop_none) = closed_loop settings.command (recover_units layout settings.zones settings.form) within bytes outcome c none in
-    record {
-      layout = layout;
-      is_layout = is_layout;
-      at_place = λ cpr image k f entry b below good.
-          ap (λ l. take 2048 (drop (2048 * (image_from entry.content + f)) l)) out
-          ∙ at_place layout settings.zones settings.form bytes c.loop c.runs loop_none cpr image k f entry b below good;
-    }
+units_keep settings bytes outcome loop layout is_layout runs none out = record {
+  layout = layout;
+  is_layout = is_layout;
+  at_place = λ cpr image k f entry b below good.
+      ap (λ l. take 2048 (drop (2048 * (image_from entry.content + f)) l)) out
+      ∙ at_place layout settings.zones settings.form bytes loop runs none cpr image k f entry b below good;
+}
 
 pub kept_good : GoodFramesAreKept
 kept_good settings within bytes outcome is run none =
-    let (layout, is_layout, c) = subst (λ command. (meaning command).OfUnits settings (λ units. IsClosed (closing_line settings.command) units bytes within outcome)) is run in
-    closed_keeps settings within bytes outcome layout is_layout c none
+    let (out, loop_none) = closed_loop settings.command (IsLoop settings bytes) within outcome run none in
+    behind_header GoesOver (λ stated left. KeepsGoodFrames stated left outcome) run.loop loop_none settings.form settings bytes
+    (λ stated left after same loops faultless so.
+    let (layout, is_layout, runs) = subst (λ command. (meaning command).OfUnits stated (λ units. IsOutcome units left after)) (same ∙ is) loops in
+    units_keep stated left outcome after layout is_layout runs faultless (out ∙ sym so)) run.runs

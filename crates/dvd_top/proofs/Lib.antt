@@ -1,7 +1,16 @@
 pub mod AssembleFrames
 pub mod BlockFrames
 pub mod BoundKept
+pub mod BrokenFields
+pub mod CaptureEnds
+pub mod CapturedBlocks
 pub mod CapturedFrames
+pub mod CapturedParts
+pub mod CapturedTurns
+pub mod HeaderTaken
+pub mod Headers
+pub mod ConvertedBlocks
+pub mod ConvertedRead
 pub mod CdKept
 pub mod CdSectors
 pub mod Determined
@@ -21,6 +30,8 @@ pub mod MergeCaptures
 pub mod MasterBlocks
 pub mod MasteredStream
 pub mod OnlyThese
+pub mod Opened
+pub mod OpenedRuns
 pub mod Pieces
 pub mod PlanBytes
 pub mod PlanEntries
@@ -37,4 +48,5 @@ pub mod RunLemmas
 pub mod SomethingDone
 pub mod SurveyBlocks
 pub mod ToldThenWritten
+pub mod UnitsOf
 pub mod Written

@@ -24,6 +24,7 @@ use Rattle.dvd_loop.specs.declared.ends.LoopEnd.{LoopEnd}
 use Rattle.dvd_loop.specs.declared.ends.LoopEnd.TheVariants.{Done}
 use Rattle.dvd_loop.specs.declared.ends.Turn.{Turn}
 use Rattle.dvd_loop.specs.declared.ends.Turn.TheVariants.{Good}
+use Rattle.dvd_loop.proofs.Sizes.{sized_whole}
 use Rattle.dvd_loop.proofs.Over.{AreGood, InPieces, over, over_is, start-le, start-suc}
 use Rattle.dvd_top.specs.Commands.Master.{IsMastered, bytes_of_block, filled, frames_of, image_bytes, master_units}
 use Rattle.dvd_top.specs.Commands.Recover.{IsDone, IsRecovered, recover_units}
@@ -88,7 +89,7 @@ block_back layout zones cpr k entry image block steps turn stands cpr_size size 
       | inr back ↦ back
       | inl is_image ↦
           let back = repaired layout zones Plain cpr k entry image (recording block) block steps turn stands is_image cpr_size size is
-          (recording-size block is.product) (recording-within block is.product) does in
+          ((sized_whole 37_856 (recording block)).1 (recording-size block is.product)) (recording-within block is.product) does in
           record { good = back.1; writes = ap written back.0 ∙ append-nil image; silent = ap told back.0 }
     ]
 

@@ -7,7 +7,7 @@ use Rattle.std.proofs.lemmas.List.FromFn.{take-map-range_with_len}
 use Rattle.dvd_frame.specs.Frame.{found_word, main_in}
 use Rattle.dvd_frame.proofs.Masking.{length-masked}
 use Rattle.dvd_block.specs.Product.{IsProduct, line}
-use Rattle.dvd_capture.specs.Captured.{block_size, captured_marks, captured_rows}
+use Rattle.dvd_capture.specs.Captured.{captured_marks, captured_rows}
 use Rattle.dvd_capture.specs.declared.form.Form.{Form}
 use Rattle.dvd_layout.specs.Place.{image_sectors, rule_for}
 use Rattle.dvd_layout.specs.declared.entry.BlockPlan.{BlockPlan}
@@ -16,7 +16,7 @@ use Rattle.dvd_layout.specs.declared.entry.Content.TheVariants.{Zero, Reference,
 use Rattle.dvd_layout.specs.declared.layout.Layout.{Layout}
 use Rattle.dvd_layout.specs.declared.layout.Zones.{Zones}
 use Rattle.dvd_loop.specs.Laws.{first, start}
-use Rattle.dvd_loop.specs.Machine.{IsOutcome, Outcome, Step, Units, plain_units}
+use Rattle.dvd_loop.specs.Machine.{IsOutcome, Outcome, Step, Units}
 use Rattle.dvd_loop.specs.Machine.Step.{Write}
 use Rattle.dvd_loop.specs.Turns.{written}
 use Rattle.dvd_loop.specs.declared.ends.LoopEnd.TheVariants.{Done}
@@ -30,6 +30,7 @@ use Rattle.dvd_capture.specs.TwoPass.{answers_of}
 use Rattle.dvd_read.specs.Frames.{frame_of, main_data}
 use Rattle.dvd_read.specs.Salvage.{block_out}
 use Rattle.dvd_read.proofs.SavedLaws.{sixteen-sectors}
+use Rattle.dvd_top.specs.Captured.{captured_units}
 use Rattle.dvd_top.specs.Commands.Master.{bytes_of_block, image_bytes}
 use Rattle.dvd_top.specs.Commands.Deep.{IsDeepened, IsReadDeep, round_told}
 use Rattle.dvd_top.specs.Commands.Recover.{IsDone, IsRecovered}
@@ -165,7 +166,7 @@ deepened-wide layout zones form k own steps turn r =
 
 -- Units that are the captured blocks of a plan, and write the image bytes that stand in each.
 abbrev pub block_units : Layout → Zones → Form → (ℕ → List ℕ → List Step → Turn → Type 0) → Units
-block_units layout zones form May = plain_units (length (plan_of layout zones)) (λ k. block_size form) May
+block_units layout zones form May = captured_units (length (plan_of layout zones)) form May
 
 module _ (layout : Layout) (zones : Zones) (form : Form) (May : ℕ → List ℕ → List Step → Turn → Type 0)
     (wide : (k : ℕ) (own : List ℕ) (steps : List Step) (turn : Turn) → May k own steps turn → IsWide (bytes_of_block layout zones k) steps turn) where
@@ -177,8 +178,7 @@ module _ (layout : Layout) (zones : Zones) (form : Form) (May : ℕ → List ℕ
   pub length-first : (k : ℕ) (bytes : List ℕ) (a : Outcome) → IsOutcome (first k (block_units layout zones form May)) bytes a → a.end ≡ Done
       → length a.out ≡ start (bytes_of_block layout zones) k
   length-first k bytes a runs done =
-      length-written (first k (block_units layout zones form May)) (λ j. block_size form) (bytes_of_block layout zones) (record {
-        begins = λ j l. refl;
+      length-written (first k (block_units layout zones form May)) (bytes_of_block layout zones) (record {
         opens = refl;
         does = λ before own steps turn unit. wide (length before) own steps turn unit.does;
         closes = λ before steps none. none;

@@ -1,5 +1,5 @@
 -- A data block whose damage is within the bound gives back the image sectors that it was mastered from.
-use Rattle.std.proofs.Common.{◌≡◌, ◌∙◌, ℕ, ◌+◌, ◌*◌, ◌<◌, Bool, false, inl, inr, List, [], ◌∷◌, ◌++◌, length, take, drop, slice_get, Some, None, ap, subst, arith}
+use Rattle.std.proofs.Common.{◌≡◌, ◌∙◌, ℕ, ◌+◌, ◌*◌, ◌<◌, ◌≤◌, Bool, false, inl, inr, List, [], ◌∷◌, ◌++◌, length, take, drop, slice_get, Some, None, ap, subst, arith}
 use Rattle.std.proofs.lemmas.List.{length-take-le, length-drop, length-replicate}
 use Rattle.std.proofs.lemmas.List.Elements.{All-from_get_or}
 use Rattle.std.proofs.lemmas.List.FromFn.{length-map-range_with_len, get_or-map-range_with_len}
@@ -25,6 +25,7 @@ use Rattle.dvd_layout.specs.declared.layout.Zones.{Zones}
 use Rattle.dvd_deep.proofs.Readings.{deep-no_cause, deep-once, read-deep}
 use Rattle.dvd_layout.specs.Place.{image_sectors}
 use Rattle.dvd_loop.specs.Machine.{Step}
+use Rattle.dvd_loop.specs.Machine.Part.{Whole}
 use Rattle.dvd_loop.specs.Machine.Step.{Write}
 use Rattle.dvd_loop.specs.declared.ends.Turn.{Turn}
 use Rattle.dvd_loop.specs.declared.ends.Turn.TheVariants.{Good}
@@ -34,11 +35,13 @@ use Rattle.dvd_read.specs.Reading.{block_sectors}
 use Rattle.dvd_read.proofs.BlockRead.{no_cause-read, read-determined}
 use Rattle.dvd_read.proofs.Outcomes.{agrees-no_cause}
 use Rattle.dvd_read.proofs.Mastered.{within-read}
+use Rattle.dvd_top.specs.Captured.{captured_part}
 use Rattle.dvd_top.specs.Commands.Master.{cpr_in, filled, frames_of, image_bytes}
 use Rattle.dvd_top.specs.Commands.Deep.{IsDeepened, IsReadDeep}
 use Rattle.dvd_top.specs.Commands.Recover.{IsDone}
 use Rattle.dvd_top.specs.Inner.Performing.{IsImageDone, IsImageRead, sectors_out}
 use Rattle.dvd_top.specs.Laws.{DamageWithinTheBoundIsRepaired}
+use Rattle.dvd_top.proofs.CapturedParts.{whole_enough}
 use Rattle.dvd_top.proofs.DeepBlocks.{told_none}
 use Rattle.dvd_top.proofs.PlanEntries.{has_numbers, one_entry}
 use Rattle.dvd_top.proofs.Repairs.{data_block-made, few-sectors, sector, sectors_list, written-image}
@@ -50,7 +53,7 @@ row_in form own i = take 182 (record_of form own (record_at i))
 row_marks_in : Form → List ℕ → ℕ → List Bool
 row_marks_in form own i = record_marks form own (record_at i)
 
-length-row : (form : Form) (own : List ℕ) (m : ℕ) → length own ≡ block_size form → m < 208 → length (take 182 (record_of form own m)) ≡ 182
+length-row : (form : Form) (own : List ℕ) (m : ℕ) → block_size form ≤ length own → m < 208 → length (take 182 (record_of form own m)) ≡ 182
 length-row Plain own m size below =
     length-take-le 182 (record_of Plain own m) (omega (arith, length-take-le 182 (drop (182 * m) own) (omega (arith, length-drop (182 * m) own))))
 length-row Marked own m size below =
@@ -63,14 +66,14 @@ length-row_marks Plain own m = length-replicate {A = Bool} 182 false
 length-row_marks Marked own m = length-marks_of (drop 182 (record_of Marked own m))
 length-row_marks Listed own m = length-map-range_with_len (λ j. marked_by own (run_count own) (182 * m + j)) 0 182
 
-pub captured-received : (form : Form) (own : List ℕ) → length own ≡ block_size form → IsReceived (captured_rows form own) (captured_marks form own)
+pub captured-received : (form : Form) (own : List ℕ) → captured_part form own ≡ Whole (length own) → IsReceived (captured_rows form own) (captured_marks form own)
 unfolding captured_rows captured_marks row_in row_marks_in
-captured-received form own size = record {
+captured-received form own whole = record {
   height = rows_height;
   marks_height = marks_height;
   widths = All-from_get_or (λ (row : List ℕ). length row ≡ 182) (captured_rows form own) [] (λ i within.
       let below : i < 208 = subst (λ (n : ℕ). i < n) rows_height within in
-      ap length (get_or-map-range_with_len (row_in form own) 0 208 i i [] below (omega arith)) ∙ length-row form own (record_at i) size (record_at-lt i below));
+      ap length (get_or-map-range_with_len (row_in form own) 0 208 i i [] below (omega arith)) ∙ length-row form own (record_at i) (whole_enough form own whole) (record_at-lt i below));
   marks_widths = All-from_get_or (λ (row : List Bool). length row ≡ 182) (captured_marks form own) [] (λ i within.
       let below : i < 208 = subst (λ (n : ℕ). i < n) marks_height within in
       ap length (get_or-map-range_with_len (row_marks_in form own) 0 208 i i [] below (omega arith)) ∙ length-row_marks form own (record_at i));
@@ -123,7 +126,7 @@ image_read Control layout k entry rows marks steps turn is done = absurd is
 pub repaired_deep : (layout : Layout) (zones : Zones) (form : Form) (cpr : List ℕ) (k : ℕ) (entry : BlockPlan) (image own : List ℕ) (block : List (List ℕ)) (steps : List Step) (turn : Turn)
     → slice_get (plan_of layout zones) k ≡ Some entry → IsImage entry.content → length cpr ≡ 6 → length image ≡ image_bytes layout entry
     → IsBlockOf (frames_of layout entry cpr (filled image)) block
-    → length own ≡ block_size form → IsWithin block (captured_rows form own) (captured_marks form own)
+    → captured_part form own ≡ Whole (length own) → IsWithin block (captured_rows form own) (captured_marks form own)
     → IsDeepened layout zones form k own steps turn → (steps ≡ Write image ∷ []) × (turn ≡ Good)
 repaired_deep layout zones form cpr k entry image own block steps turn stands is_image cpr_size image_size is_block size within does =
     let few = few-sectors layout entry.content in

@@ -1,29 +1,31 @@
 -- What follows for a run: what a failed read leaves, and that the bound and the good frames are kept.
 use Rattle.std.proofs.Common.{◌≡◌, ◌≢◌, inl, inr, ℕ, List, [], ◌∷◌, ◌++◌, refl, ap, sym, subst, ◌∙◌, append-nil}
 use Rattle.dvd_ports.specs.Causes.{Rose}
+use Rattle.dvd_capture.specs.declared.form.Form.{Form}
+use Rattle.dvd_capture.specs.declared.form.Form.TheVariants.{Plain, Marked, Listed}
 use Rattle.dvd_loop.specs.Laws.{IsFaultless}
-use Rattle.dvd_loop.specs.Machine.{Closes, Does, IsClosed, IsOutcome, Outcome, Units, ended}
+use Rattle.dvd_loop.specs.Machine.{Closes, Does, IsOutcome, Outcome, ended}
 use Rattle.dvd_loop.specs.Machine.Step.{Tell}
 use Rattle.dvd_loop.specs.Streams.{Comes, Counts, HaveCauses, HaveMoved, Streams, is_report_fault}
 use Rattle.dvd_loop.specs.declared.ends.LoopEnd.{LoopEnd}
-use Rattle.dvd_loop.specs.declared.ends.LoopEnd.TheVariants.{BadMarks, Damaged, Done, Long, NoControl, ReadFault, ReportFault, Short, WriteFault}
+use Rattle.dvd_loop.specs.declared.ends.LoopEnd.TheVariants.{BadHeader, BadMarks, Damaged, Done, Long, NoControl, ReadFault, ReportFault, Short, ShortHeader, WriteFault}
 use Rattle.dvd_loop.proofs.Faults.{ends_there}
 use Rattle.dvd_loop.proofs.StepLemmas.{and_then}
 use Rattle.dvd_top.specs.Bound.{KeepsBound, KeepsGoodFrames, Rescues}
 use Rattle.dvd_top.specs.CdBound.{KeepsSectors}
-use Rattle.dvd_top.specs.Commands.{meaning}
-use Rattle.dvd_top.specs.Headline.{EndsThere, HasRun, HaveRisen, IsRun}
+use Rattle.dvd_top.specs.Headline.{EndsThere, GoesOver, HasRun, HaveRisen, IsLoop, IsRun}
+use Rattle.dvd_top.specs.Opening.{Behind}
 use Rattle.dvd_top.specs.Statuses.{status_of}
 use Rattle.dvd_top.specs.Lines.{closing_line}
-use Rattle.dvd_words.specs.declared.settings.Command.{Command}
-use Rattle.dvd_words.specs.declared.settings.Command.TheVariants.{Frames, Master, Recover, Info, Survey, Exercise, CdMake, CdRead, Merge, Deep, Assemble}
+use Rattle.dvd_words.specs.declared.settings.Command.TheVariants.{CdRead, Recover}
 use Rattle.dvd_words.specs.declared.settings.Settings.{Settings}
 use Rattle.dvd_top.specs.declared.status.Status.{Status}
 use Rattle.dvd_top.specs.declared.status.Status.TheVariants as status
 use Rattle.dvd_top.proofs.BoundKept.{kept}
 use Rattle.dvd_top.proofs.CdKept.{kept_sectors}
 use Rattle.dvd_top.proofs.GoodFrames.{kept_good}
-use Rattle.dvd_top.proofs.RunLemmas.{of_units}
+use Rattle.dvd_top.proofs.OpenedRuns.{IsAsEnded, opens_there}
+use Rattle.dvd_top.proofs.UnitsOf.{taken_out, units_as}
 
 -- the line of an end that isn't the report's was told whole, or the report failed within it
 line_is : (closing : LoopEnd → List ℕ) (end : LoopEnd) (line : Outcome) → Does (Tell (closing end) ∷ []) (λ after. after ≡ ended end) line
@@ -48,45 +50,46 @@ closes_is closing Long line does sound = line_is closing Long line does sound
 closes_is closing (Damaged bad) line does sound = line_is closing (Damaged bad) line does sound
 closes_is closing NoControl line does sound = line_is closing NoControl line does sound
 closes_is closing (BadMarks k at) line does sound = line_is closing (BadMarks k at) line does sound
+closes_is closing (ShortHeader held) line does sound = line_is closing (ShortHeader held) line does sound
+closes_is closing (BadHeader at) line does sound = line_is closing (BadHeader at) line does sound
 
--- what a loop over one's own bytes leaves, by an outcome
-abbrev Leaves : (List ℕ → List ℕ → List ℕ → Type 0) → Outcome → Type 0
-Leaves Moved b = IsFaultless b.end × Moved b.taken b.out b.lines
+-- one outcome is as the other, and no fault ended it
+record IsLike (a b : Outcome) : Type 0 where
+  none : IsFaultless b.end
+  taken : b.taken ≡ a.taken
+  out : b.out ≡ a.out
+  lines : b.lines ≡ a.lines
 
-taken_out : (command : Command) (settings : Settings) (Moved : List ℕ → List ℕ → List ℕ → Type 0)
-    → (meaning command).OfUnits settings (λ units. (b : Outcome) × IsOutcome units b.taken b × Leaves Moved b)
-    → (b : Outcome) × (meaning command).OfUnits settings (λ units. IsOutcome units b.taken b) × Leaves Moved b
-taken_out Frames settings Moved holds = (holds.0, holds.1, holds.2)
-taken_out Master settings Moved holds = (holds.2.0, (holds.0, holds.1, holds.2.1), holds.2.2)
-taken_out Recover settings Moved holds = (holds.2.0, (holds.0, holds.1, holds.2.1), holds.2.2)
-taken_out Info settings Moved holds = (holds.0, holds.1, holds.2)
-taken_out Survey settings Moved holds = (holds.2.0, (holds.0, holds.1, holds.2.1), holds.2.2)
-taken_out Exercise settings Moved holds = (holds.0, holds.1, holds.2)
-taken_out CdMake settings Moved holds = (holds.0, holds.1, holds.2)
-taken_out CdRead settings Moved holds = (holds.0, holds.1, holds.2)
-taken_out Merge settings Moved holds = (holds.2.0, (holds.0, holds.1, holds.2.1), holds.2.2)
-taken_out Deep settings Moved holds = (holds.2.0, (holds.0, holds.1, holds.2.1), holds.2.2)
-taken_out Assemble settings Moved holds = (holds.2.0, (holds.0, holds.1, holds.2.1), holds.2.2)
+-- a loop that a failed read ended: over the bytes that it took no fault would have ended it
+goes_there : (settings : Settings) (bytes : List ℕ) (a : Outcome) → GoesOver settings bytes a → a.end ≡ ReadFault → IsAsEnded GoesOver settings a
+goes_there settings bytes a goes failed =
+    let (b, so, like) = taken_out settings.command settings a.taken (IsLike a)
+    (units_as settings.command settings (λ units. IsOutcome units bytes a) (λ units. (b : Outcome) × IsOutcome units a.taken b × IsLike a b)
+    (λ units runs.
+    let (b, so, none, taken, out, lines) = ends_there units bytes a runs failed in
+    (b, so, record { none = none; taken = taken; out = out; lines = lines })) goes) in
+    (b, so, like.none, like.taken, like.out, like.lines)
 
--- a closed loop that a failed read ended: over the bytes that it took no fault would have ended it
-ends_over : (closing : LoopEnd → List ℕ) (units : Units) (bytes : List ℕ) (within : LoopEnd) (outcome : Outcome) (Moved : List ℕ → List ℕ → List ℕ → Type 0)
-    → IsClosed closing units bytes within outcome → outcome.end ≡ ReadFault
-    → Moved outcome.taken outcome.out outcome.lines
-    → (b : Outcome) × IsOutcome units b.taken b × Leaves (λ taken out lines. Moved taken out (lines ++ closing ReadFault)) b
-ends_over closing units bytes within outcome Moved c ends moved =
+-- a closed loop that a failed read ended, and its closing line
+ends_over : (settings : Settings) (bytes : List ℕ) (within : LoopEnd) (outcome : Outcome) (old new : Streams) → IsRun settings within bytes outcome
+    → outcome.end ≡ ReadFault → HaveMoved old new outcome.taken outcome.out outcome.lines → EndsThere settings old new
+ends_over settings bytes within outcome old new c ends moved =
+    let closing = closing_line settings.command in
     let end_is : c.line.end ≡ ReadFault = sym (ap (λ (o : Outcome). o.end) c.all) ∙ ends in
     let line = closes_is closing within c.line c.closes (λ is. let no : ReadFault ≡ ReportFault = sym end_is ∙ is in cc) in
     let within_is : within ≡ ReadFault = sym (ap (λ (o : Outcome). o.end) line) ∙ end_is in
-    let b = ends_there units bytes c.loop c.runs (c.ends ∙ within_is) in
+    let (b, so, none, taken_is, out_is, lines_are) = opens_there GoesOver goes_there settings bytes c.loop (c.ends ∙ within_is) settings.form c.runs in
     let all : outcome ≡ and_then c.loop (record { taken = []; out = []; lines = closing ReadFault; end = ReadFault }) =
     c.all ∙ ap (and_then c.loop) line ∙ ap (λ e. and_then c.loop (record { taken = []; out = []; lines = closing e; end = e })) within_is in
-    let after = subst (λ (o : Outcome). Moved o.taken o.out o.lines) all moved in
-    let taken = subst (λ l. Moved l (c.loop.out ++ []) (c.loop.lines ++ closing ReadFault)) (append-nil c.loop.taken ∙ sym b.3) after in
-    let out = subst (λ l. Moved b.0.taken l (c.loop.lines ++ closing ReadFault)) (append-nil c.loop.out ∙ sym b.4) taken in (
-      b.0,
-      subst (λ l. IsOutcome units l b.0) (sym b.3) b.1,
-      (b.2, subst (λ l. Moved b.0.taken b.0.out (l ++ closing ReadFault)) (sym b.5) out),
-    )
+    let after = subst (λ (o : Outcome). HaveMoved old new o.taken o.out o.lines) all moved in
+    let taken = subst (λ l. HaveMoved old new l (c.loop.out ++ []) (c.loop.lines ++ closing ReadFault)) (append-nil c.loop.taken ∙ sym taken_is) after in
+    let out = subst (λ l. HaveMoved old new b.taken l (c.loop.lines ++ closing ReadFault)) (append-nil c.loop.out ∙ sym out_is) taken in
+    record {
+      outcome = b;
+      is_loop = subst (λ l. IsLoop settings l b) (sym taken_is) so;
+      faultless = none;
+      moved = subst (λ l. HaveMoved old new b.taken b.out (l ++ closing ReadFault)) (sym lines_are) out;
+    }
 
 read_end : (end : LoopEnd) → status.ReadFault ≡ status_of end → end ≡ ReadFault
 read_end ReadFault is = refl
@@ -98,21 +101,15 @@ read_end Long is = cc
 read_end (Damaged bad) is = cc
 read_end NoControl is = cc
 read_end (BadMarks k at) is = cc
+read_end (ShortHeader held) is = cc
+read_end (BadHeader at) is = cc
 
 pub ends_there_run : (settings : Settings) (old new : Streams) (result : Status) → HasRun settings old new result → result ≡ status.ReadFault
     → EndsThere settings old new
 ends_there_run settings old new result run is =
     let comes = run.comes in
     let ends : comes.outcome.end ≡ ReadFault = comes.ends ∙ read_end run.end (sym is ∙ run.is_status) in
-    let over = taken_out settings.command settings (λ taken out lines. HaveMoved old new taken out (lines ++ closing_line settings.command ReadFault))
-    (of_units settings (λ units. IsClosed (closing_line settings.command) units comes.bytes run.within comes.outcome)
-    (λ units. (b : Outcome) × IsOutcome units b.taken b × Leaves (λ taken out lines. HaveMoved old new taken out (lines ++ closing_line settings.command ReadFault)) b)
-    (λ units c. ends_over (closing_line settings.command) units comes.bytes run.within comes.outcome (HaveMoved old new) c ends comes.moved) comes.holds) in record {
-      outcome = over.0;
-      is_loop = over.1;
-      faultless = over.2.0;
-      moved = over.2.1;
-    }
+    ends_over settings comes.bytes run.within comes.outcome old new comes.holds ends comes.moved
 
 -- the statuses of ends that no fault made
 abbrev IsSound : Status → Type 0
@@ -131,6 +128,8 @@ sound_status Long none = tt
 sound_status (Damaged bad) none = tt
 sound_status NoControl none = tt
 sound_status (BadMarks k at) none = tt
+sound_status (ShortHeader held) none = tt
+sound_status (BadHeader at) none = tt
 
 faultless_by : (end : LoopEnd) → IsSound (status_of end) → IsFaultless end
 faultless_by ReadFault sound = sound
@@ -142,13 +141,15 @@ faultless_by Long sound = tt
 faultless_by (Damaged bad) sound = tt
 faultless_by NoControl sound = tt
 faultless_by (BadMarks k at) sound = tt
+faultless_by (ShortHeader held) sound = tt
+faultless_by (BadHeader at) sound = tt
 
 -- what holds of every run of a command that no fault ended holds of this one
-run_keeps : (Is : Command → Type 0) (Keeps : Settings → List ℕ → Outcome → Type 0)
-    → ((settings : Settings) (within : LoopEnd) (bytes : List ℕ) (outcome : Outcome) → Is settings.command → IsRun settings within bytes outcome → IsFaultless outcome.end
+run_keeps : (Is : Settings → Type 0) (Keeps : Settings → List ℕ → Outcome → Type 0)
+    → ((settings : Settings) (within : LoopEnd) (bytes : List ℕ) (outcome : Outcome) → Is settings → IsRun settings within bytes outcome → IsFaultless outcome.end
     → Keeps settings bytes outcome)
     → (settings : Settings) (old new : Streams) (result : Status) → HasRun settings old new result
-    → (some : LoopEnd) → result ≡ status_of some → IsFaultless some → Is settings.command
+    → (some : LoopEnd) → result ≡ status_of some → IsFaultless some → Is settings
     → (end : LoopEnd) × (result ≡ status_of end) × Comes (λ bytes outcome. IsRun settings end bytes outcome × Keeps settings bytes outcome) old new end
 run_keeps Is Keeps law settings old new result run some whole none is =
     let sound : IsFaultless run.end = faultless_by run.end (subst IsSound run.is_status (subst IsSound (sym whole) (sound_status some none))) in
@@ -170,18 +171,28 @@ run_keeps Is Keeps law settings old new result run some whole none is =
 
 pub bound_kept : (settings : Settings) (old new : Streams) (result : Status) → HasRun settings old new result
     → (some : LoopEnd) → result ≡ status_of some → IsFaultless some → Rescues settings.command
-    → (end : LoopEnd) × (result ≡ status_of end) × Comes (λ bytes outcome. IsRun settings end bytes outcome × KeepsBound settings bytes outcome) old new end
-bound_kept = run_keeps Rescues KeepsBound kept
+    → (end : LoopEnd) × (result ≡ status_of end) × Comes (λ bytes outcome. IsRun settings end bytes outcome × Behind settings.form (λ stated left. KeepsBound stated left outcome) settings bytes) old new end
+bound_kept = run_keeps (λ settings. Rescues settings.command) (λ settings bytes outcome. Behind settings.form (λ stated left. KeepsBound stated left outcome) settings bytes) kept
 
 pub good_frames_kept : (settings : Settings) (old new : Streams) (result : Status) → HasRun settings old new result
     → (some : LoopEnd) → result ≡ status_of some → IsFaultless some → settings.command ≡ Recover
-    → (end : LoopEnd) × (result ≡ status_of end) × Comes (λ bytes outcome. IsRun settings end bytes outcome × KeepsGoodFrames settings bytes outcome) old new end
-good_frames_kept = run_keeps (λ command. command ≡ Recover) KeepsGoodFrames kept_good
+    → (end : LoopEnd) × (result ≡ status_of end) × Comes (λ bytes outcome. IsRun settings end bytes outcome × Behind settings.form (λ stated left. KeepsGoodFrames stated left outcome) settings bytes) old new end
+good_frames_kept = run_keeps (λ settings. settings.command ≡ Recover) (λ settings bytes outcome. Behind settings.form (λ stated left. KeepsGoodFrames stated left outcome) settings bytes) kept_good
+
+-- where no listed capture is read nothing stands before the input
+in_words : (form : Form) (Keeps : Settings → List ℕ → Type 0) (settings : Settings) (bytes : List ℕ) → form ≢ Listed → Behind form Keeps settings bytes
+    → Keeps settings bytes
+in_words Plain Keeps settings bytes not keeps = keeps
+in_words Marked Keeps settings bytes not keeps = keeps
+in_words Listed Keeps settings bytes not keeps = absurd (not refl)
 
 pub sectors_kept : (settings : Settings) (old new : Streams) (result : Status) → HasRun settings old new result
-    → (some : LoopEnd) → result ≡ status_of some → IsFaultless some → settings.command ≡ CdRead
+    → (some : LoopEnd) → result ≡ status_of some → IsFaultless some → (settings.command ≡ CdRead) × (settings.form ≢ Listed)
     → (end : LoopEnd) × (result ≡ status_of end) × Comes (λ bytes outcome. IsRun settings end bytes outcome × KeepsSectors settings bytes outcome) old new end
-sectors_kept = run_keeps (λ command. command ≡ CdRead) KeepsSectors kept_sectors
+sectors_kept =
+    run_keeps (λ settings. (settings.command ≡ CdRead) × (settings.form ≢ Listed)) KeepsSectors
+    (λ settings within bytes outcome is run none.
+    in_words settings.form (λ stated left. KeepsSectors stated left outcome) settings bytes is.1 (kept_sectors settings within bytes outcome is.0 run none))
 
 -- the counts by the status of a run that begins
 pub risen : (within end : LoopEnd) (old new : Streams) → (end ≢ ReportFault → end ≡ within) → HaveCauses within end old new
@@ -199,6 +210,8 @@ risen within end old new same causes = risen_by end old new (λ not. subst (λ w
     risen_by (Damaged bad) old new causes report = let c = causes (λ is. cc) in (c.source, c.output, c.report)
     risen_by NoControl old new causes report = let c = causes (λ is. cc) in (c.source, c.output, c.report)
     risen_by (BadMarks k at) old new causes report = let c = causes (λ is. cc) in (c.source, c.output, c.report)
+    risen_by (ShortHeader held) old new causes report = let c = causes (λ is. cc) in (c.source, c.output, c.report)
+    risen_by (BadHeader at) old new causes report = let c = causes (λ is. cc) in (c.source, c.output, c.report)
 
 -- where no count rose, no fault ended it
 pub sound_end : (end : LoopEnd) (old new : Streams) → HaveRisen (status_of end) old new → (Rose old.source.faults new.source.faults → ⊥)
@@ -212,6 +225,8 @@ sound_end Long old new risen source output report = tt
 sound_end (Damaged bad) old new risen source output report = tt
 sound_end NoControl old new risen source output report = tt
 sound_end (BadMarks k at) old new risen source output report = tt
+sound_end (ShortHeader held) old new risen source output report = tt
+sound_end (BadHeader at) old new risen source output report = tt
 
 -- and the run ends as its loop does
 pub complete_run : (settings : Settings) (old new : Streams) (result : Status) → HasRun settings old new result → HaveRisen result old new

@@ -1,47 +1,21 @@
 -- A run by its loop and its closing line.
 use Rattle.std.proofs.Common.{◌≡◌, ◌≢◌, ◌⊎◌, inl, inr, ℕ, Option, Some, refl, ap, sym, subst, ◌∙◌}
 use Rattle.dvd_ports.specs.Seen.{Seen}
-use Rattle.dvd_loop.specs.Machine.{Closes, IsClosed, IsOutcome, Outcome, Units}
+use Rattle.dvd_loop.specs.Machine.{Closes, Outcome}
 use Rattle.dvd_loop.specs.Streams.{Comes, Counts, Streams, is_report_fault, streams}
 use Rattle.dvd_loop.specs.declared.ends.LoopEnd.{LoopEnd}
-use Rattle.dvd_loop.specs.declared.ends.LoopEnd.TheVariants.{BadMarks, Damaged, Done, Long, NoControl, ReadFault, ReportFault, Short, WriteFault}
+use Rattle.dvd_loop.specs.declared.ends.LoopEnd.TheVariants.{BadHeader, BadMarks, Damaged, Done, Long, NoControl, ReadFault, ReportFault, Short, ShortHeader, WriteFault}
 use Rattle.dvd_loop.proofs.ClosedLemmas.{causes_closed, closed, closes_takes}
-use Rattle.dvd_loop.proofs.StepLemmas.{and_then}
 use Rattle.dvd_loop.proofs.StreamLemmas.{comes_then}
-use Rattle.dvd_top.specs.Commands.{meaning}
 use Rattle.dvd_top.specs.Headline.{HasRun, IsLoop, IsRun}
 use Rattle.dvd_top.specs.Statuses.{status_of}
 use Rattle.dvd_top.specs.Lines.{closing_line}
 use Rattle.dvd_top.specs.Inner.Performing.{HasLooped}
-use Rattle.dvd_words.specs.declared.settings.Command.{Command}
-use Rattle.dvd_words.specs.declared.settings.Command.TheVariants.{Frames, Master, Recover, Info, Survey, Exercise, CdMake, CdRead, Merge, Deep, Assemble}
 use Rattle.dvd_words.specs.declared.settings.Settings.{Settings}
 use Rattle.dvd_top.specs.declared.status.Status.{Status}
 
 pub same_settings : (read : Option Settings) (a b : Settings) → read ≡ Some a → read ≡ Some b → a ≡ b
 same_settings read a b p q = cc
-
--- what holds of the units of a command
-abbrev pub OfUnits : Settings → (Units → Type 0) → Type 0
-OfUnits settings P = (meaning settings.command).OfUnits settings P
-
-units_as : (command : Command) (settings : Settings) (P Q : Units → Type 0) → ((units : Units) → P units → Q units)
-    → (meaning command).OfUnits settings P → (meaning command).OfUnits settings Q
-units_as Frames settings P Q to holds = to _ holds
-units_as Master settings P Q to holds = (holds.0, holds.1, to _ holds.2)
-units_as Recover settings P Q to holds = (holds.0, holds.1, to _ holds.2)
-units_as Info settings P Q to holds = to _ holds
-units_as Survey settings P Q to holds = (holds.0, holds.1, to _ holds.2)
-units_as Exercise settings P Q to holds = to _ holds
-units_as CdMake settings P Q to holds = to _ holds
-units_as CdRead settings P Q to holds = to _ holds
-units_as Merge settings P Q to holds = (holds.0, holds.1, to _ holds.2)
-units_as Deep settings P Q to holds = (holds.0, holds.1, to _ holds.2)
-units_as Assemble settings P Q to holds = (holds.0, holds.1, to _ holds.2)
-
--- what holds of the units of a command may be said otherwise
-pub of_units : (settings : Settings) (P Q : Units → Type 0) → ((units : Units) → P units → Q units) → OfUnits settings P → OfUnits settings Q
-of_units settings P Q to holds = units_as settings.command settings P Q to holds
 
 report_or_not : (end : LoopEnd) → (end ≡ ReportFault) ⊎ (end ≢ ReportFault)
 report_or_not ReportFault = inl refl
@@ -53,6 +27,8 @@ report_or_not Long = inr (λ is. cc)
 report_or_not (Damaged bad) = inr (λ is. cc)
 report_or_not NoControl = inr (λ is. cc)
 report_or_not (BadMarks k at) = inr (λ is. cc)
+report_or_not (ShortHeader held) = inr (λ is. cc)
+report_or_not (BadHeader at) = inr (λ is. cc)
 
 stayed : (end : LoopEnd) → end ≢ ReportFault → (old new : ℕ) → Counts (is_report_fault end) old new → new ≡ old
 stayed ReportFault not old new counts = absurd (not refl)
@@ -64,6 +40,8 @@ stayed Long not old new counts = counts
 stayed (Damaged bad) not old new counts = counts
 stayed NoControl not old new counts = counts
 stayed (BadMarks k at) not old new counts = counts
+stayed (ShortHeader held) not old new counts = counts
+stayed (BadHeader at) not old new counts = counts
 
 module _ (settings : Settings) (old : Streams) (source output mid_report new_report : Seen) (within end : LoopEnd) (loop : HasLooped settings old (streams source output mid_report) within)
     (line : Comes (λ bytes. Closes (closing_line settings.command) within) (streams source output mid_report) (streams source output new_report) end)
@@ -89,9 +67,7 @@ module _ (settings : Settings) (old : Streams) (source output mid_report new_rep
     within = within;
     end = end;
     comes = comes_then (IsLoop settings) (Closes (closing_line settings.command) within) (IsRun settings within) old (streams source output mid_report) (streams source output new_report) within end
-        (λ bytes loop line loops ends closes none.
-        of_units settings (λ units. IsOutcome units bytes loop) (λ units. IsClosed (closing_line settings.command) units bytes within (and_then loop line))
-        (λ units runs. closed (closing_line settings.command) units bytes within loop line runs ends closes) loops)
+        (λ bytes loop line loops ends closes none. closed (closing_line settings.command) (IsLoop settings bytes) within loop line loops ends closes)
         (closes_takes (closing_line settings.command) within) loop.comes line;
     same_end = same;
     causes = causes_closed within end old (streams source output mid_report) (streams source output new_report) loop.causes refl refl report_counts;

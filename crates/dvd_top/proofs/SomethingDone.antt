@@ -1,6 +1,6 @@
 -- For every input each command does something.
-use Rattle.std.proofs.Common.{◌≡◌, inl, inr, ℕ, zero, suc, ◌+◌, ◌*◌, ◌<◌, Bool, List, [], ◌∷◌, ◌++◌, length, take, drop, slice_get, All, Option, Some, None, refl, sym, subst, ap, ◌∙◌, append-nil, take-append-drop, arith}
-use Rattle.std.proofs.lemmas.Bool.{cases_lt}
+use Rattle.std.proofs.Common.{◌≡◌, ◌≢◌, ◌≤◌, inl, inr, ℕ, zero, suc, ◌+◌, ◌*◌, ◌<◌, Bool, List, [], ◌∷◌, ◌++◌, length, take, drop, slice_get, All, Option, Some, None, cond, refl, sym, subst, ap, ◌∙◌, append-nil, take-append-drop, arith}
+use Rattle.std.proofs.lemmas.Bool.{cases_lt, lt-leb}
 use Rattle.std.proofs.lemmas.List.{length-take-le}
 use Rattle.std.proofs.lemmas.List.Elements.{All-drop, All-take}
 use Rattle.std.proofs.lemmas.Option.{slice_get_cases}
@@ -10,6 +10,7 @@ use Rattle.dvd_block.specs.Product.{line}
 use Rattle.dvd_block.specs.Recording.{recording}
 use Rattle.dvd_capture.specs.Captured.{block_size, captured_marks, captured_rows}
 use Rattle.dvd_capture.specs.declared.form.Form.{Form}
+use Rattle.dvd_capture.specs.declared.form.Form.TheVariants.{Plain, Marked, Listed}
 use Rattle.dvd_layout.specs.Place.{image_sectors}
 use Rattle.dvd_control.specs.Format.{control_fault, fields_in}
 use Rattle.dvd_control.specs.declared.format.ControlFault.{ControlFault}
@@ -18,8 +19,11 @@ use Rattle.dvd_layout.proofs.LeadIn.{length-lead_in_blocks}
 use Rattle.dvd_layout.specs.declared.entry.BlockPlan.{BlockPlan}
 use Rattle.dvd_layout.specs.declared.entry.Content.{Content}
 use Rattle.dvd_layout.specs.declared.entry.Content.TheVariants.{Zero, Reference, Control, Image}
+use Rattle.dvd_layout.specs.declared.fault.LayoutFault.TheVariants.{InitialTooLong}
 use Rattle.dvd_layout.specs.declared.layout.Layout.{Layout}
 use Rattle.dvd_layout.specs.declared.layout.Zones.{Zones}
+use Rattle.dvd_loop.specs.Laws.{AreTotal}
+use Rattle.dvd_loop.specs.Machine.Part.{Whole}
 use Rattle.dvd_loop.specs.Machine.{EndsBehind, EndsWithin, Goes, GoesOn, IsOutcome, Step, Units, bad_of, ended, sized, taking}
 use Rattle.dvd_loop.specs.Machine.Step.{Write, Tell}
 use Rattle.dvd_loop.specs.declared.ends.LoopEnd.{LoopEnd}
@@ -27,7 +31,7 @@ use Rattle.dvd_loop.specs.declared.ends.LoopEnd.TheVariants.{Short}
 use Rattle.dvd_loop.specs.declared.ends.Turn.{Turn}
 use Rattle.dvd_loop.specs.declared.ends.Turn.TheVariants.{Good, Bad, Last}
 use Rattle.dvd_loop.proofs.Sizes.{sized_fewer, sized_whole}
-use Rattle.dvd_loop.proofs.Totality.{Exists, behind_exists, one_fewer, steps_exist, turns_exist}
+use Rattle.dvd_loop.proofs.Totality.{Exists, behind_exists, exists, one_fewer, steps_exist, turns_exist}
 use Rattle.dvd_read.specs.Reading.{block_cause, block_sectors}
 use Rattle.dvd_read.specs.Salvage.{block_out, saved_in}
 use Rattle.dvd_read.specs.declared.cause.Cause.{Cause}
@@ -41,6 +45,7 @@ use Rattle.dvd_merge.specs.MarkedText.{marked_text}
 use Rattle.dvd_top.specs.Commands.Exercise.{exercise_units}
 use Rattle.dvd_top.specs.Commands.Merge.{merge_units, tables_in}
 use Rattle.dvd_top.specs.Commands.Assemble.{assemble_units}
+use Rattle.dvd_top.specs.Commands.Convert.{IsConverted, convert_units}
 use Rattle.dvd_assemble.specs.Frames.{frame_size}
 use Rattle.dvd_top.specs.Commands.Frames.{frames_units, sector_frame}
 use Rattle.dvd_top.specs.Commands.Info.{IsAsked, IsSought, format_lines, info_units}
@@ -53,17 +58,27 @@ use Rattle.dvd_top.specs.Commands.Deep.{IsDeepened, IsReadDeep, deep_units, roun
 use Rattle.dvd_top.specs.Commands.Recover.{IsDone, IsRecovered, recover_units}
 use Rattle.dvd_top.specs.Commands.Survey.{IsSurveyed, survey_units}
 use Rattle.dvd_top.specs.Inner.Performing.{IsControlDone, IsImageDone, IsImageRead, IsPassedOver, sectors_out}
+use Rattle.dvd_top.specs.Captured.{captured_part}
+use Rattle.dvd_top.specs.Headline.{GoesOver, breaks_in}
 use Rattle.dvd_top.specs.Laws.{SomethingIsDone}
+use Rattle.dvd_top.specs.Opening.{IsHeaderOf, Opens}
+use Rattle.dvd_words.specs.Settings.{broken_rule}
 use Rattle.dvd_words.specs.declared.settings.Command.{Command}
 use Rattle.dvd_words.specs.declared.settings.Command.TheVariants as command
 use Rattle.dvd_words.specs.declared.settings.Settings.{Settings}
 use Rattle.dvd_top.proofs.BlockFrames.{line-frames_of}
+use Rattle.dvd_top.proofs.CapturedBlocks.{blocks_total}
+use Rattle.dvd_top.proofs.CapturedParts.{begins_somehow}
+use Rattle.dvd_top.proofs.ConvertedBlocks.{some_opening}
+use Rattle.dvd_top.proofs.Repaired.{captured-received}
+use Rattle.dvd_capture.proofs.ListedWritten.{some_spelling}
 use Rattle.dvd_top.proofs.CdSectors.{read_some}
 use Rattle.dvd_top.proofs.Determined.{length-captured_marks, length-captured_rows}
 use Rattle.dvd_top.proofs.ExerciseRuns.{exercised_some}
 use Rattle.dvd_top.proofs.FormatBytes.{bytes-cpr, bytes-filled, bytes-main_for}
 use Rattle.dvd_top.proofs.FrameBytes.{HasBytes, IsByte, bytes-frame}
 use Rattle.dvd_top.proofs.Layouts.{layout_for}
+use Rattle.dvd_top.proofs.OpenedRuns.{opened_exists, stated-command}
 
 -- something may be done
 abbrev MaySome : (List Step → Turn → Type 0) → Type 0
@@ -142,6 +157,13 @@ module _ (units : Units) (size : ℕ → ℕ) (begins : (k : ℕ) (own : List �
   runs_exist : (bytes : List ℕ) → All IsByte bytes → Exists (IsOutcome units bytes)
   runs_exist bytes are = steps_exist units.opens (Goes units units.count [] 0 bytes) (goes_exist units.count [] 0 bytes (omega arith) are)
 
+-- Captured blocks: where something may be done for each block and behind all, every input has an outcome without a fault.
+captures_exist : (units : Units) (form : Form) → ((k : ℕ) (own : List ℕ) → units.begins k own ≡ captured_part form own)
+    → ((before : List (List ℕ)) (own : List ℕ) → length before < units.count → MaySome (units.does (length before) before own))
+    → ((before : List (List ℕ)) → length before ≡ units.count → (steps : List Step) × units.closes before steps)
+    → (bytes : List ℕ) → Exists (IsOutcome units bytes)
+captures_exist units form begins may closing bytes = exists units (blocks_total units form begins may closing) bytes
+
 -- nothing closes these
 no_closing : (steps : List Step) × (steps ≡ [])
 no_closing = ([], refl)
@@ -194,9 +216,9 @@ module _ (layout : Layout) (k : ℕ) (entry : BlockPlan) (rows : List (List ℕ)
   done_some Reference = passed_some
   done_some Control = passed_some
 
-recovered_some : (layout : Layout) (zones : Zones) (form : Form)
-    → MayEach (length (plan_of layout zones)) (λ k. block_size form) (IsRecovered layout zones form)
-recovered_some layout zones form k own within are =
+recovered_some : (layout : Layout) (zones : Zones) (form : Form) (k : ℕ) (own : List ℕ) → k < length (plan_of layout zones)
+    → MaySome (IsRecovered layout zones form k own)
+recovered_some layout zones form k own within =
     let some = some_entry (plan_of layout zones) k within in
     let done = done_some layout k some.0 (captured_rows form own) (captured_marks form own) (length-captured_rows form own) (length-captured_marks form own) some.0.content in
     (done.0, done.1, record { entry = some.0; stands = some.1; does = done.2 })
@@ -222,9 +244,9 @@ module _ (layout : Layout) (k : ℕ) (entry : BlockPlan) (rows : List (List ℕ)
   read_deep_some Reference = ([], Good, (refl, refl))
   read_deep_some Control = ([], Good, (refl, refl))
 
-deepened_some : (layout : Layout) (zones : Zones) (form : Form)
-    → MayEach (length (plan_of layout zones)) (λ k. block_size form) (IsDeepened layout zones form)
-deepened_some layout zones form k own within are =
+deepened_some : (layout : Layout) (zones : Zones) (form : Form) (k : ℕ) (own : List ℕ) → k < length (plan_of layout zones)
+    → MaySome (IsDeepened layout zones form k own)
+deepened_some layout zones form k own within =
     let some = some_entry (plan_of layout zones) k within in
     let done = read_deep_some layout k some.0 (captured_rows form own) (captured_marks form own) (length-captured_rows form own) (length-captured_marks form own) some.0.content in
     (done.0, done.1, record { entry = some.0; stands = some.1; does = done.2 })
@@ -254,16 +276,16 @@ module _ (entry : BlockPlan) (rows : List (List ℕ)) (marks : List (List Bool))
   asked_some Reference = ([], Good, (refl, refl))
   asked_some (Image sector) = ([], Good, (refl, refl))
 
-sought_some : (initial : ℕ) (form : Form) → MayEach (initial + 224) (λ k. block_size form) (IsSought initial form)
-sought_some initial form k own within are =
+sought_some : (initial : ℕ) (form : Form) (k : ℕ) (own : List ℕ) → k < initial + 224 → MaySome (IsSought initial form k own)
+sought_some initial form k own within =
     let some = some_entry (lead_in_blocks initial) k (let size = length-lead_in_blocks initial in omega arith) in
     let asked = asked_some some.0 (captured_rows form own) (captured_marks form own) (length-captured_rows form own) (length-captured_marks form own) some.0.content in
     (asked.0, asked.1, record { entry = some.0; stands = some.1; does = asked.2 })
 
 -- SURVEY. Every block has a line.
 surveyed_some : (layout : Layout) (zones : Zones) (form : Form) (before : List (List ℕ)) (own : List ℕ) → length before < length (plan_of layout zones)
-    → HasBytes (block_size form) own → MaySome (IsSurveyed layout zones form (length before) before own)
-surveyed_some layout zones form before own within are =
+    → MaySome (IsSurveyed layout zones form (length before) before own)
+surveyed_some layout zones form before own within =
     let some = some_entry (plan_of layout zones) (length before) within in
     (_, _, record { entry = some.0; stands = some.1; writes = refl; answers = refl })
 
@@ -272,6 +294,27 @@ made_some : (address : ℕ) (user : List ℕ) → address < 450000 → HasBytes 
 made_some address user below are =
     let some = some_sector address user below are.size are.bytes in
     (Write some.0 ∷ [], Good, record { sector = some.0; is_sector = some.1; writes = refl; good = refl })
+
+-- CONVERT. Whole blocks have a unit.
+converted_some : (form : Form) (own : List ℕ) → captured_part form own ≡ Whole (length own) → MaySome (IsConverted form own)
+converted_some form own whole =
+    let received = captured-received form own whole in
+    let unit = some_spelling (captured_rows form own) (captured_marks form own) received.height received.widths received.marks_height received.marks_widths in
+    (Write unit.0 ∷ [], Good, record { unit = unit.0; is_unit = unit.1; writes = refl; good = refl })
+
+convert_total : (units : Units) (form : Form) → ((k : ℕ) (own : List ℕ) → units.begins k own ≡ captured_part form own)
+    → ((k : ℕ) (before : List (List ℕ)) (own : List ℕ) → captured_part form own ≡ Whole (length own) → MaySome (units.does k before own))
+    → ((before : List (List ℕ)) → length before ≡ units.count → (steps : List Step) × units.closes before steps)
+    → AreTotal units
+convert_total units form begins may closing = record {
+  begins = λ k bytes lt. elim (begins_somehow form bytes) [
+    | inl (own, left, front, whole) ↦ inl (own, left, front, begins k own ∙ whole)
+    | inr (inl cut) ↦ inr (inl (begins k bytes ∙ cut))
+    | inr (inr (own, left, at, front, broken)) ↦ inr (inr (own, left, at, front, begins k own ∙ broken))
+  ];
+  does = λ before own lt whole. may (length before) before own (sym (begins (length before) own) ∙ whole);
+  closes = closing;
+}
 
 module _ (settings : Settings) (bytes : List ℕ) (six : HasBytes 6 settings.cpr) (are : All IsByte bytes) where
   by_command : (word : Command) → (meaning word).breaks settings ≡ None → (word ≡ command.CdMake → HasAddresses settings)
@@ -286,16 +329,16 @@ module _ (settings : Settings) (bytes : List ℕ) (six : HasBytes 6 settings.cpr
       (exists.0, (layout.0, layout.1, exists.1), exists.2)
   by_command command.Recover none addresses =
       let layout = layout_for settings none in
-      let exists = runs_exist (recover_units layout.0 settings.zones settings.form) (λ k. block_size settings.form) (λ k own. refl)
-      (λ before own. recovered_some layout.0 settings.zones settings.form (length before) own) (λ before all. no_closing) bytes are in
+      let exists = captures_exist (recover_units layout.0 settings.zones settings.form) settings.form (λ k own. refl)
+      (λ before own. recovered_some layout.0 settings.zones settings.form (length before) own) (λ before all. no_closing) bytes in
       (exists.0, (layout.0, layout.1, exists.1), exists.2)
   by_command command.Info none addresses =
-      runs_exist (info_units settings.initial settings.form) (λ k. block_size settings.form) (λ k own. refl)
-      (λ before own. sought_some settings.initial settings.form (length before) own) (λ before all. no_closing) bytes are
+      captures_exist (info_units settings.initial settings.form) settings.form (λ k own. refl)
+      (λ before own. sought_some settings.initial settings.form (length before) own) (λ before all. no_closing) bytes
   by_command command.Survey none addresses =
       let layout = layout_for settings none in
-      let exists = runs_exist (survey_units layout.0 settings.zones settings.form) (λ k. block_size settings.form) (λ k own. refl)
-      (λ before own. surveyed_some layout.0 settings.zones settings.form before own) (λ before all. (_, refl)) bytes are in
+      let exists = captures_exist (survey_units layout.0 settings.zones settings.form) settings.form (λ k own. refl)
+      (λ before own. surveyed_some layout.0 settings.zones settings.form before own) (λ before all. (_, refl)) bytes in
       (exists.0, (layout.0, layout.1, exists.1), exists.2)
   by_command command.Exercise none addresses =
       runs_exist (exercise_units settings.seed settings.blocks) (λ k. 0) (λ k own. refl) (λ before own lt is. ([], Good, (refl, refl)))
@@ -314,15 +357,63 @@ module _ (settings : Settings) (bytes : List ℕ) (six : HasBytes 6 settings.cpr
       (exists.0, (layout.0, layout.1, exists.1), exists.2)
   by_command command.Deep none addresses =
       let layout = layout_for settings none in
-      let exists = runs_exist (deep_units layout.0 settings.zones settings.form) (λ k. block_size settings.form) (λ k own. refl)
-      (λ before own. deepened_some layout.0 settings.zones settings.form (length before) own) (λ before all. no_closing) bytes are in
+      let exists = captures_exist (deep_units layout.0 settings.zones settings.form) settings.form (λ k own. refl)
+      (λ before own. deepened_some layout.0 settings.zones settings.form (length before) own) (λ before all. no_closing) bytes in
       (exists.0, (layout.0, layout.1, exists.1), exists.2)
   by_command command.Assemble none addresses =
       let layout = layout_for settings none in
       let exists = runs_exist (assemble_units layout.0 settings.form settings.frames) (λ k. frame_size settings.form) (λ k own. refl)
       (λ before own lt is. ([], Good, (refl, refl))) (λ before all. (_, refl)) bytes are in
       (exists.0, (layout.0, layout.1, exists.1), exists.2)
+  by_command command.Convert none addresses =
+      let layout = layout_for settings none in
+      let opening = some_opening settings none in
+      let units = convert_units layout.0 settings.zones settings.form opening.0 in
+      let exists = exists units (convert_total units settings.form (λ k own. refl) (λ k before own whole. converted_some settings.form own whole) (λ before all. no_closing)) bytes in
+      (exists.0, (layout.0, layout.1, (opening.0, opening.1, exists.1)), exists.2)
+
+-- lengths that are those of a layout break no rule of any command
+lawful_for : (word : Command) (settings : Settings) → broken_rule settings ≡ None → (meaning word).breaks settings ≡ None
+lawful_for command.Frames settings none = refl
+lawful_for command.Master settings none = none
+lawful_for command.Recover settings none = none
+lawful_for command.Info settings none =
+    let (layout, is) = layout_for settings none in
+    let fits : settings.initial ≤ 12031 = subst (λ n. n ≤ 12031) is.initial layout.initial_fits in
+    ap (λ b. cond b (Some (InitialTooLong settings.initial)) None) (lt-leb (suc 12031) settings.initial (omega (arith, fits)))
+lawful_for command.Survey settings none = none
+lawful_for command.Exercise settings none = refl
+lawful_for command.CdMake settings none = refl
+lawful_for command.CdRead settings none = refl
+lawful_for command.Merge settings none = none
+lawful_for command.Deep settings none = none
+lawful_for command.Assemble settings none = none
+lawful_for command.Convert settings none = none
+
+-- what a listed capture states is of other commands than that which makes CD-ROM sectors
+not_made : (form : Form) → (word : Command) → form ≡ Listed → (word ≡ command.CdMake → form ≡ Plain) → word ≢ command.CdMake
+not_made form word listed plain is = let no : Plain ≡ Listed = sym (plain is) ∙ listed in cc
+
+goes_some : (settings : Settings) (bytes : List ℕ) → HasBytes 6 settings.cpr → All IsByte bytes → (meaning settings.command).breaks settings ≡ None
+    → (settings.command ≡ command.CdMake → HasAddresses settings) → Exists (GoesOver settings bytes)
+goes_some settings bytes six are none addresses = by_command settings bytes six are settings.command none addresses
+
+module _ (settings : Settings) (bytes : List ℕ) (six : HasBytes 6 settings.cpr) (are : All IsByte bytes)
+    (addresses : settings.command ≡ command.CdMake → HasAddresses settings × (settings.form ≡ Plain)) where
+  -- behind the header of a listed capture
+  stated_some : settings.form ≡ Listed → (stated : Settings) (left : List ℕ) → All IsByte left → (own : List ℕ) → IsHeaderOf settings stated own
+      → broken_rule stated ≡ None → Exists (GoesOver stated left)
+  stated_some listed stated left rest own header none =
+      let same = stated-command settings stated own header in
+      let cpr : stated.cpr ≡ settings.cpr = ap (λ (s : Settings). s.cpr) header.states.all in
+      goes_some stated left (subst (HasBytes 6) (sym cpr) six) rest (lawful_for stated.command stated none)
+      (λ is. absurd (not_made settings.form settings.command listed (λ so. (addresses so).1) (sym same ∙ is)))
+
+  by_form : (form : Form) → settings.form ≡ form → breaks_in form settings ≡ None → Exists (Opens form GoesOver settings bytes)
+  by_form Plain is none = goes_some settings bytes six are none (λ so. (addresses so).0)
+  by_form Marked is none = goes_some settings bytes six are none (λ so. (addresses so).0)
+  by_form Listed is none = opened_exists GoesOver settings bytes are (stated_some is)
 
 pub something : SomethingIsDone
 something settings bytes size cpr_bytes are none addresses =
-    by_command settings bytes (record { size = size; bytes = cpr_bytes }) are settings.command none addresses
+    by_form settings bytes (record { size = size; bytes = cpr_bytes }) are addresses settings.form refl none

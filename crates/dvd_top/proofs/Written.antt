@@ -1,15 +1,18 @@
 -- How much a run writes whose units write so much each.
-use Rattle.std.proofs.Common.{◌≡◌, ◌≢◌, ◌∙◌, inl, inr, ℕ, zero, suc, ◌+◌, List, [], ◌∷◌, ◌++◌, length, length-append, refl, ap, sym, subst, add-one, arith}
+use Rattle.std.proofs.Common.{◌≡◌, ◌≢◌, ◌∙◌, inl, inr, ℕ, zero, suc, ◌+◌, List, [], ◌∷◌, ◌++◌, length, length-append, ap, sym, subst, add-one, arith}
 use Rattle.dvd_loop.specs.Laws.{IsFaultless, start}
-use Rattle.dvd_loop.specs.Machine.{Does, EndsBehind, Goes, IsOutcome, IsUnit, Outcome, Step, Units, bad_of, sized}
-use Rattle.dvd_loop.specs.Turns.{written}
+use Rattle.dvd_loop.specs.Machine.{Does, EndsBehind, EndsWithin, Goes, GoesOn, IsOutcome, IsUnit, IsWithin, Outcome, Step, Units, bad_of, taking}
+use Rattle.dvd_loop.specs.Machine.Part.{Whole, Cut, Broken}
+use Rattle.dvd_loop.specs.Turns.{told, written}
 use Rattle.dvd_loop.specs.declared.ends.Behind.{Behind}
 use Rattle.dvd_loop.specs.declared.ends.Behind.TheVariants as behind
-use Rattle.dvd_loop.specs.declared.ends.LoopEnd.TheVariants.{Done, Short}
+use Rattle.dvd_loop.specs.declared.ends.LoopEnd.TheVariants.{BadMarks, Done, ReadFault, Short}
 use Rattle.dvd_loop.specs.declared.ends.Turn.{Turn}
 use Rattle.dvd_loop.specs.declared.ends.Turn.TheVariants.{Last}
+use Rattle.dvd_loop.proofs.Faultless.{all_done, faultless_behind}
 use Rattle.dvd_loop.proofs.Over.{start-suc, start-zero}
-use Rattle.dvd_loop.proofs.Sizes.{goes_one}
+use Rattle.dvd_loop.proofs.Reached.{goes_further}
+use Rattle.dvd_loop.proofs.StepLemmas.{onto}
 
 -- nothing is written behind the last unit
 none_behind : (stands : Behind) (bad : ℕ) (bytes : List ℕ) (a : Outcome) → EndsBehind stands bad bytes a → a.out ≡ []
@@ -20,15 +23,29 @@ none_behind behind.Asks bad [] a (inr is) = ap (λ (o : Outcome). o.out) is
 none_behind behind.Asks bad (byte ∷ bytes) a (inl is) = ap (λ (o : Outcome). o.out) is
 none_behind behind.Asks bad (byte ∷ bytes) a (inr is) = ap (λ (o : Outcome). o.out) is
 
--- Units of these sizes, none of them the last, each of which writes so many bytes; nothing opens or closes them.
-pub record AreWide (units : Units) (size wide : ℕ → ℕ) : Type 0 where
-  pub begins : (k : ℕ) (bytes : List ℕ) → units.begins k bytes ≡ sized (size k) bytes
+-- a run that is done doesn't end within a unit
+not_within : (units : Units) (k : ℕ) (bytes : List ℕ) (a : Outcome) → IsWithin units k bytes a → a.end ≡ Done → ⊥
+not_within units k bytes a w done = elim (units.begins k w.own) as (λ part. EndsWithin part k (length w.own) w.left a.end → ⊥) [
+  | Whole size ↦ λ ends. ends
+  | Cut ↦ λ ends. elim ends [
+    | inl (short, nothing) ↦ (let no : Done ≡ Short k (length w.own) = sym done ∙ short in cc)
+    | inr fault ↦ (let no : Done ≡ ReadFault = sym done ∙ fault in cc)
+  ]
+  | Broken at ↦ λ ends. elim ends [
+    | inl marks ↦ (let no : Done ≡ BadMarks k at = sym done ∙ marks in cc)
+    | inr fault ↦ (let no : Done ≡ ReadFault = sym done ∙ fault in cc)
+  ]
+] w.ends
+
+-- Units none of which is the last, each of which writes so many bytes; nothing opens or closes them.
+pub record AreWide (units : Units) (wide : ℕ → ℕ) : Type 0 where
   pub opens : units.opens ≡ []
   pub does : (before : List (List ℕ)) (own : List ℕ) (steps : List Step) (turn : Turn) → IsUnit units before own steps turn
       → (length (written steps) ≡ wide (length before)) × (turn ≢ Last)
   pub closes : (before : List (List ℕ)) (steps : List Step) → units.closes before steps → steps ≡ []
 
-module _ (units : Units) (size wide : ℕ → ℕ) (are : AreWide units size wide) where
+module _ (units : Units) (wide : ℕ → ℕ) (are : AreWide units wide) where
+  -- what the units to come write
   goes_wide : (n : ℕ) (before : List (List ℕ)) (bad : ℕ) (bytes : List ℕ) (a : Outcome) → length before + n ≡ units.count
       → Goes units n before bad bytes a → IsFaultless a.end → a.end ≡ Done
       → start wide (length before) + length a.out ≡ start wide units.count
@@ -37,22 +54,28 @@ module _ (units : Units) (size wide : ℕ → ℕ) (are : AreWide units size wid
       let here : length before ≡ units.count = omega arith in
       let nothing = none_behind units.behind bad bytes a (subst (λ l. Does l (EndsBehind units.behind bad bytes) a) (are.closes before steps closes) does) in
       omega (arith, ap length nothing, ap (start wide) here)
-  goes_wide (suc n) before bad bytes a all goes none done =
-      elim (goes_one units size are.begins n before (λ own steps unit. (are.does before own steps Last unit).1 refl) bad bytes a goes none) [
-        | inl short ↦ absurd (let no : Done ≡ Short (length before) (length bytes) = sym done ∙ ap (λ (o : Outcome). o.end) short.is in cc)
-        | inr t ↦
-            let one : length (before ++ t.own ∷ []) ≡ length before + 1 = length-append before (t.own ∷ []) in
-            let further = ap (start wide) (one ∙ add-one (length before)) ∙ start-suc wide (length before) in
-            let rest = goes_wide n (before ++ t.own ∷ []) (bad + bad_of t.turn) t.left t.after (omega arith) t.goes t.faultless (sym (ap (λ (o : Outcome). o.end) t.is) ∙ done) in
-            omega (
-              arith,
-              ap (λ (o : Outcome). length o.out) t.is,
-              length-append (written t.steps) t.after.out,
-              (are.does before t.own t.steps t.turn t.unit).0,
-              further,
-              rest,
-            )
-      ]
+  goes_wide (suc n) before bad bytes a all goes none done = elim goes [
+    | inl w ↦ absurd (not_within units (length before) bytes a w done)
+    | inr t ↦
+        let Next : Outcome → Type 0 = Goes units n (before ++ t.own ∷ []) (bad + bad_of t.turn) t.left in
+        let unit = are.does before t.own t.steps t.turn t.unit in
+        let faultless : IsFaultless t.after.end = subst (λ (o : Outcome). IsFaultless o.end) t.takes none in
+        let all_taken = all_done t.steps (GoesOn t.turn Next) t.after t.does faultless in
+        let goes_next = goes_further t.turn Next all_taken.after unit.1 all_taken.holds in
+        let is : a ≡ onto t.own (written t.steps) (told t.steps) all_taken.after = t.takes ∙ ap (taking t.own) all_taken.is in
+        let one : length (before ++ t.own ∷ []) ≡ length before + 1 = length-append before (t.own ∷ []) in
+        let further = ap (start wide) (one ∙ add-one (length before)) ∙ start-suc wide (length before) in
+        let rest = goes_wide n (before ++ t.own ∷ []) (bad + bad_of t.turn) t.left all_taken.after (omega arith) goes_next
+        (faultless_behind t.steps (GoesOn t.turn Next) t.after all_taken faultless) (sym (ap (λ (o : Outcome). o.end) is) ∙ done) in
+        omega (
+          arith,
+          ap (λ (o : Outcome). length o.out) is,
+          length-append (written t.steps) all_taken.after.out,
+          unit.0,
+          further,
+          rest,
+        )
+  ]
 
   -- A run that ends as done has written what all units write.
   pub length-written : (bytes : List ℕ) (a : Outcome) → IsOutcome units bytes a → a.end ≡ Done → length a.out ≡ start wide units.count

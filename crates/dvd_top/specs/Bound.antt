@@ -1,8 +1,8 @@
 -- The bound of recovery: what a run gives back where the damage of a block is within the bound.
-use Rattle.std.specs.Prelude.{◌≡◌, ℕ, ◌+◌, ◌*◌, ◌<◌, ◌≤◌, ⊤, Bool, List, [], ◌∷◌, length, take, drop, Some, slice_get}
+use Rattle.std.specs.Prelude.{◌≡◌, ℕ, ◌+◌, ◌*◌, ◌<◌, ⊤, Bool, List, [], ◌∷◌, length, take, drop, Some, slice_get}
 use Rattle.dvd_block.specs.Product.{IsBlockOf, line}
 use Rattle.dvd_capture.specs.Answers.{marks_line}
-use Rattle.dvd_capture.specs.Captured.{block_size, captured_marks, captured_rows}
+use Rattle.dvd_capture.specs.Captured.{captured_marks, captured_rows}
 use Rattle.dvd_capture.specs.TwoPass.{answers_of}
 use Rattle.dvd_capture.specs.Within.{IsWithin, row_weight}
 use Rattle.dvd_capture.specs.declared.form.Form.{Form}
@@ -18,6 +18,7 @@ use Rattle.dvd_loop.specs.declared.ends.Turn.{Turn}
 use Rattle.dvd_loop.specs.declared.ends.Turn.TheVariants.{Good}
 use Rattle.dvd_read.specs.Causes.{two_pass_cause}
 use Rattle.dvd_read.specs.declared.cause.Cause.{Cause}
+use Rattle.dvd_top.specs.Captured.{HasBlocks, block_bytes}
 use Rattle.dvd_top.specs.Commands.Master.{filled, frames_of, image_bytes}
 use Rattle.dvd_top.specs.Commands.Deep.{IsDeepened}
 use Rattle.dvd_top.specs.Commands.Recover.{IsRecovered}
@@ -42,10 +43,6 @@ abbrev pub HasGoodRows : List (List ℕ) → List (List ℕ) → List (List Bool
 HasGoodRows block received marks f =
     (q : ℕ) → q < 12 → row_weight (line block (12 * f + q)) (line received (12 * f + q)) (marks_line marks (12 * f + q)) ≡ 0
 
--- the bytes of captured block k
-abbrev pub block_bytes : Form → List ℕ → ℕ → List ℕ
-block_bytes form bytes k = take (block_size form) (drop (block_size form * k) bytes)
-
 -- the bytes of the image that stand in a block
 abbrev pub image_part : Layout → BlockPlan → List ℕ → List ℕ
 image_part layout entry image = take (image_bytes layout entry) (drop (2048 * image_from entry.content) image)
@@ -53,7 +50,7 @@ image_part layout entry image = take (image_bytes layout entry) (drop (2048 * im
 -- Captured block k is whole in the stream, it was mastered for its place of this image and this CPR_MAI, and its damage is
 -- within the bound: twice the bad rows plus the lost rows is at most 16.
 pub record IsBorne (layout : Layout) (zones : Zones) (form : Form) (bytes cpr image : List ℕ) (k : ℕ) (entry : BlockPlan) : Type 0 where
-  pub whole : block_size form * (k + 1) ≤ length bytes
+  pub whole : HasBlocks form bytes (k + 1)
   pub stands : slice_get (plan_of layout zones) k ≡ Some entry
   pub is_image : IsImage entry.content
   pub cpr_size : length cpr ≡ 6
@@ -64,7 +61,7 @@ pub record IsBorne (layout : Layout) (zones : Zones) (form : Form) (bytes cpr im
 
 -- Captured block k is whole in the stream, it was mastered for its place of this image and this CPR_MAI, and two passes refuse it.
 pub record IsBeyond (layout : Layout) (zones : Zones) (form : Form) (bytes cpr image : List ℕ) (k : ℕ) (entry : BlockPlan) : Type 0 where
-  pub whole : block_size form * (k + 1) ≤ length bytes
+  pub whole : HasBlocks form bytes (k + 1)
   pub stands : slice_get (plan_of layout zones) k ≡ Some entry
   pub is_image : IsImage entry.content
   pub cpr_size : length cpr ≡ 6

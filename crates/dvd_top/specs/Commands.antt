@@ -11,6 +11,7 @@ use Rattle.dvd_top.specs.Commands.CdRead.{cdread_meaning}
 use Rattle.dvd_top.specs.Commands.Merge.{merge_meaning}
 use Rattle.dvd_top.specs.Commands.Deep.{deep_meaning}
 use Rattle.dvd_top.specs.Commands.Assemble.{assemble_meaning}
+use Rattle.dvd_top.specs.Commands.Convert.{convert_meaning}
 use Rattle.dvd_words.specs.declared.settings.Command.{Command}
 use Rattle.dvd_words.specs.declared.settings.Command.TheVariants as command
 pub mod Exercise
@@ -24,6 +25,7 @@ pub mod CdRead
 pub mod Merge
 pub mod Deep
 pub mod Assemble
+pub mod Convert
 
 abbrev pub meaning : Command → Meaning
 meaning command.Frames = frames_meaning
@@ -37,3 +39,4 @@ meaning command.CdRead = cdread_meaning
 meaning command.Merge = merge_meaning
 meaning command.Deep = deep_meaning
 meaning command.Assemble = assemble_meaning
+meaning command.Convert = convert_meaning

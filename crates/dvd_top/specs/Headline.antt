@@ -2,6 +2,8 @@
 -- `run` promises the record at the end. How a run goes from unit to unit is said in full by Machine of dvd_loop.
 use Rattle.std.specs.Prelude.{◌≡◌, ◌≢◌, ◌⊎◌, List, ℕ, ◌++◌, Option, Some, None, codes}
 use Rattle.std.specs.Io.KnownBytes.{Appends}
+use Rattle.dvd_capture.specs.declared.form.Form.{Form}
+use Rattle.dvd_capture.specs.declared.form.Form.TheVariants.{Plain, Marked, Listed}
 use Rattle.dvd_layout.specs.declared.fault.LayoutFault.{LayoutFault}
 use Rattle.dvd_loop.specs.Laws.{IsFaultless}
 use Rattle.dvd_loop.specs.Machine.{IsClosed, IsOutcome, Outcome}
@@ -15,6 +17,7 @@ use Rattle.dvd_top.specs.Bound.{KeepsBound, KeepsGoodFrames, Rescues}
 use Rattle.dvd_top.specs.CdBound.{KeepsSectors}
 use Rattle.dvd_top.specs.Commands.{meaning}
 use Rattle.dvd_top.specs.Lines.{closing_line, setting_line}
+use Rattle.dvd_top.specs.Opening.{Behind, Opens}
 use Rattle.dvd_top.specs.Statuses.{status_of}
 use Rattle.dvd_words.specs.Reading.{reading}
 use Rattle.dvd_words.specs.declared.settings.Command.TheVariants.{CdRead, Recover}
@@ -24,9 +27,14 @@ use Rattle.dvd_top.specs.declared.status.Status.TheVariants as status
 
 -- WORDS. `Reads` of dvd_words says what words ask for: the first names the command, and those behind it are its options, each
 -- by its form, with the defaults of the others. Words that aren't read so ask for nothing, and `reading` is None.
--- LAYOUT. The first rule of layouts that the settings break, if any.
+-- LAYOUT. The first rule of layouts that the settings break, if any. A listed capture states its own.
+abbrev pub breaks_in : Form → Settings → Option LayoutFault
+breaks_in Plain settings = (meaning settings.command).breaks settings
+breaks_in Marked settings = (meaning settings.command).breaks settings
+breaks_in Listed settings = None
+
 abbrev pub breaks : Settings → Option LayoutFault
-breaks settings = (meaning settings.command).breaks settings
+breaks settings = breaks_in settings.form settings
 
 -- UNITS. What is done for each unit of the input is said by the command's page in Commands, in short:
 -- frames: sector k is 2,048 bytes, and its scrambled data frame is written.
@@ -49,17 +57,23 @@ breaks settings = (meaning settings.command).breaks settings
 -- these gives it back and its frames are right, a line names the block and the round before its image sectors are written.
 -- assemble: frame k is a recording frame, and nothing is done for it. Behind the last one each data block is written in the marked
 -- form, as the join of all frames whose first rows name it, and then a line tells how many frames have a home and how many don't.
+-- convert: block k is a captured block in the plain or the marked form, and its listed unit is written; before the first the header
+-- of the layout.
 -- OUTCOME. The units are taken in their order, each whole and with all that is done for it. Behind the last one byte more is
 -- asked for, but by info and exercise: the end is Long if it comes, else Done, or Damaged if blocks or sectors have a cause. It is
--- Short where the input ends before, and ReadFault where a read fails; nothing is done of a unit that isn't whole. Where a write or
--- a line fails it is WriteFault or ReportFault: a front of that piece was done, not all, and nothing behind it. After all ends but
--- ReportFault comes the closing line.
+-- Short where the input ends before, BadMarks where a listed block breaks a rule, and ReadFault where a read fails; nothing is done
+-- of a unit that isn't whole. Where a write or a line fails it is WriteFault or ReportFault: a front of that piece was done, not all,
+-- and nothing behind it. After all ends but ReportFault comes the closing line.
+abbrev pub GoesOver : Settings → List ℕ → Outcome → Type 0
+GoesOver settings bytes outcome = (meaning settings.command).OfUnits settings (λ units. IsOutcome units bytes outcome)
+
+-- A listed capture opens with a header of 32 bytes, which is taken first: its layout and its zones are those of the run. The end
+-- is Short where the input ends in it, and BadHeader where it breaks a rule; nothing is done then.
 abbrev pub IsLoop : Settings → List ℕ → Outcome → Type 0
-IsLoop settings bytes outcome = (meaning settings.command).OfUnits settings (λ units. IsOutcome units bytes outcome)
+IsLoop settings bytes outcome = Opens settings.form GoesOver settings bytes outcome
 
 abbrev pub IsRun : Settings → LoopEnd → List ℕ → Outcome → Type 0
-IsRun settings within bytes outcome =
-    (meaning settings.command).OfUnits settings (λ units. IsClosed (closing_line settings.command) units bytes within outcome)
+IsRun settings within bytes outcome = IsClosed (closing_line settings.command) (IsLoop settings bytes) within outcome
 
 -- The streams have come to a run over some bytes, those of the source where it tells them. `within` is how its loop ended, `end`
 -- the same, or ReportFault where the closing line failed; each of these raised the count of its stream, and no other count moved.
@@ -113,9 +127,9 @@ pub record Headline (Untouched : Type 0) (words : List (List ℕ)) (old new : St
       → (end : LoopEnd) × (result ≡ status_of end) × IsFaultless end × Comes (IsRun settings end) old new end
   pub read_fault : result ≡ status.ReadFault → (settings : Settings) → reading words ≡ Some settings → EndsThere settings old new
   pub bound : (some : LoopEnd) → result ≡ status_of some → IsFaultless some → (settings : Settings) → reading words ≡ Some settings → Rescues settings.command
-      → (end : LoopEnd) × (result ≡ status_of end) × Comes (λ bytes outcome. IsRun settings end bytes outcome × KeepsBound settings bytes outcome) old new end
+      → (end : LoopEnd) × (result ≡ status_of end) × Comes (λ bytes outcome. IsRun settings end bytes outcome × Behind settings.form (λ stated left. KeepsBound stated left outcome) settings bytes) old new end
   pub good_frames : (some : LoopEnd) → result ≡ status_of some → IsFaultless some → (settings : Settings) → reading words ≡ Some settings → settings.command ≡ Recover
-      → (end : LoopEnd) × (result ≡ status_of end) × Comes (λ bytes outcome. IsRun settings end bytes outcome × KeepsGoodFrames settings bytes outcome) old new end
+      → (end : LoopEnd) × (result ≡ status_of end) × Comes (λ bytes outcome. IsRun settings end bytes outcome × Behind settings.form (λ stated left. KeepsGoodFrames stated left outcome) settings bytes) old new end
   -- The same for `cdread`: each CD-ROM sector whose damage is borne has given exactly its user data.
   pub sectors : (some : LoopEnd) → result ≡ status_of some → IsFaultless some → (settings : Settings) → reading words ≡ Some settings → settings.command ≡ CdRead
       → (end : LoopEnd) × (result ≡ status_of end) × Comes (λ bytes outcome. IsRun settings end bytes outcome × KeepsSectors settings bytes outcome) old new end

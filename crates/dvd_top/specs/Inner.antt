@@ -1,3 +1,5 @@
 -- What only the private functions of this crate promise. No public contract and no law cites these pages.
 pub mod Exercising
+pub mod Opened
 pub mod Performing
+pub mod Workers

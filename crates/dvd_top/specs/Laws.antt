@@ -1,15 +1,16 @@
 -- What holds of every run of a command.
-use Rattle.std.specs.Prelude.{◌≡◌, ℕ, ◌*◌, ◌<◌, List, [], ◌∷◌, length, replicate, All, Some, None, slice_get, ◌⊎◌, ◌+◌, ◌≤◌, take, drop, slice_index_or}
+use Rattle.std.specs.Prelude.{◌≡◌, ◌↔◌, ℕ, ◌*◌, ◌<◌, List, [], ◌∷◌, ◌++◌, length, replicate, All, Some, None, slice_get, ◌⊎◌, ◌+◌, take, drop, slice_index_or}
 use Rattle.dvd_assemble.specs.Assembled.{assembled}
 use Rattle.dvd_assemble.specs.Frames.{Frame}
 use Rattle.dvd_assemble.specs.Home.{home}
 use Rattle.dvd_assemble.specs.Mastered.{IsCaptureOf, IsCaptured}
 use Rattle.dvd_block.specs.Product.{IsBlockOf}
-use Rattle.dvd_capture.specs.Captured.{block_size, captured_rows, captured_marks}
+use Rattle.dvd_capture.specs.Captured.{HasSize, captured_rows, captured_marks}
+use Rattle.dvd_capture.specs.Listed.{IsBrokenAt, IsUnbroken as BreaksNoRule}
 use Rattle.dvd_capture.specs.TwoPass.{answers_of}
 use Rattle.dvd_capture.specs.Within.{IsWithin}
 use Rattle.dvd_capture.specs.declared.form.Form.{Form}
-use Rattle.dvd_capture.specs.declared.form.Form.TheVariants.{Plain}
+use Rattle.dvd_capture.specs.declared.form.Form.TheVariants.{Plain, Listed}
 use Rattle.dvd_control.specs.Format.{Fields}
 use Rattle.dvd_layout.specs.Content.{IsImage, image_from}
 use Rattle.dvd_layout.specs.Place.{image_sectors, total_sectors}
@@ -19,19 +20,21 @@ use Rattle.dvd_layout.specs.declared.layout.Layout.{Layout}
 use Rattle.dvd_layout.specs.declared.layout.Shape.TheVariants.{Single}
 use Rattle.dvd_layout.specs.declared.layout.Zones.{Zones}
 use Rattle.dvd_layout.specs.declared.layout.Zones.TheVariants.{DataOnly}
-use Rattle.dvd_loop.specs.Laws.{IsFaultless, first}
+use Rattle.dvd_loop.specs.Laws.{IsFaultless, IsFrontOf, IsUnbroken, first}
 use Rattle.dvd_loop.specs.Machine.{IsOutcome, Outcome, Step}
+use Rattle.dvd_loop.specs.Machine.Part.{Whole, Cut, Broken}
 use Rattle.dvd_loop.specs.Machine.Step.{Write}
 use Rattle.dvd_loop.specs.Turns.{written}
 use Rattle.dvd_loop.specs.declared.ends.LoopEnd.{LoopEnd}
-use Rattle.dvd_loop.specs.declared.ends.LoopEnd.TheVariants.{Done, NoControl, Short}
+use Rattle.dvd_loop.specs.declared.ends.LoopEnd.TheVariants.{BadMarks, Done, NoControl, Short}
 use Rattle.dvd_loop.specs.declared.ends.Turn.{Turn}
 use Rattle.dvd_loop.specs.declared.ends.Turn.TheVariants.{Good, Last}
 use Rattle.dvd_merge.specs.Agreeing.{IsOf}
 use Rattle.dvd_merge.specs.Join.{unseen}
 use Rattle.dvd_read.specs.Causes.{two_pass_cause}
 use Rattle.dvd_read.specs.declared.cause.Cause.{Cause}
-use Rattle.dvd_top.specs.Bound.{HasGoodRows, KeepsBound, KeepsGoodFrames, Rescues, block_bytes}
+use Rattle.dvd_top.specs.Bound.{HasGoodRows, KeepsBound, KeepsGoodFrames, Rescues}
+use Rattle.dvd_top.specs.Captured.{HasBlocks, block_bytes, block_start, broken_at, captured_part, from_block}
 use Rattle.dvd_top.specs.CdBound.{KeepsSectors}
 use Rattle.dvd_top.specs.Commands.CdMake.{HasAddresses}
 use Rattle.dvd_top.specs.Commands.Exercise.{drawn_frames}
@@ -39,24 +42,27 @@ use Rattle.dvd_top.specs.Commands.Info.{IsSought, format_lines, info_units}
 use Rattle.dvd_top.specs.Commands.Master.{filled, frames_of, image_bytes, master_units}
 use Rattle.dvd_top.specs.Commands.Recover.{IsRecovered, recover_units}
 use Rattle.dvd_top.specs.Headline.{IsLoop, IsRun, breaks}
-use Rattle.dvd_words.specs.declared.settings.Command.TheVariants.{CdMake, CdRead, Recover}
+use Rattle.dvd_top.specs.Opening.{Behind}
+use Rattle.dvd_words.specs.declared.settings.Command.TheVariants.{CdMake, CdRead, Convert, Recover}
 use Rattle.dvd_words.specs.declared.settings.Settings.{Settings}
 
--- What is done for an input is determined: the same settings and bytes come to one outcome, where no fault ends it.
+-- What is done for an input is determined: the same settings and bytes come to one outcome, where no fault ends it. But how much
+-- of a block that breaks a rule was taken is left open.
 abbrev pub WhatIsDoneIsDetermined : Type 0
 WhatIsDoneIsDetermined =
-    (settings : Settings) (bytes : List ℕ) (a b : Outcome) → IsLoop settings bytes a → IsLoop settings bytes b → IsFaultless a.end → IsFaultless b.end → a ≡ b
+    (settings : Settings) (bytes : List ℕ) (a b : Outcome) → IsLoop settings bytes a → IsLoop settings bytes b → IsFaultless a.end → IsFaultless b.end
+    → (a.out ≡ b.out) × (a.lines ≡ b.lines) × (a.end ≡ b.end) × (IsUnbroken a.end → a.taken ≡ b.taken)
 
 -- numbers that are bytes
 abbrev pub AreBytes : List ℕ → Type 0
 AreBytes numbers = All (λ byte. byte < 256) numbers
 
 -- Something is done for every input: where the settings break no rule of layouts, and each CD-ROM sector that is to be made has
--- an address, there is an outcome that no fault ends.
+-- an address (their settings are of no listed capture), there is an outcome that no fault ends.
 abbrev pub SomethingIsDone : Type 0
 SomethingIsDone =
     (settings : Settings) (bytes : List ℕ) → length settings.cpr ≡ 6 → AreBytes settings.cpr → AreBytes bytes → breaks settings ≡ None
-    → (settings.command ≡ CdMake → HasAddresses settings)
+    → (settings.command ≡ CdMake → HasAddresses settings × (settings.form ≡ Plain))
     → (outcome : Outcome) × IsLoop settings bytes outcome × IsFaultless outcome.end
 
 -- What the blocks before a data block take are the image's bytes before its first sector.
@@ -78,7 +84,7 @@ DamageWithinTheBoundIsRepaired =
     (layout : Layout) (zones : Zones) (form : Form) (cpr : List ℕ) (k : ℕ) (entry : BlockPlan) (image own : List ℕ) (block : List (List ℕ)) (steps : List Step) (turn : Turn)
     → slice_get (plan_of layout zones) k ≡ Some entry → IsImage entry.content → length cpr ≡ 6 → length image ≡ image_bytes layout entry
     → IsBlockOf (frames_of layout entry cpr (filled image)) block
-    → length own ≡ block_size form → IsWithin block (captured_rows form own) (captured_marks form own)
+    → captured_part form own ≡ Whole (length own) → IsWithin block (captured_rows form own) (captured_marks form own)
     → IsRecovered layout zones form k own steps turn → (steps ≡ Write image ∷ []) × (turn ≡ Good)
 
 -- A data block that two passes refuse, and an image sector there whose twelve rows are good against the block that was mastered
@@ -87,7 +93,7 @@ abbrev pub GoodFramesOfARefusedBlockAreGiven : Type 0
 GoodFramesOfARefusedBlockAreGiven =
     (layout : Layout) (zones : Zones) (form : Form) (cpr : List ℕ) (k f : ℕ) (entry : BlockPlan) (image own : List ℕ) (block : List (List ℕ)) (cause : Cause) (steps : List Step) (turn : Turn)
     → slice_get (plan_of layout zones) k ≡ Some entry → IsImage entry.content → length cpr ≡ 6 → length image ≡ image_bytes layout entry
-    → IsBlockOf (frames_of layout entry cpr (filled image)) block → length own ≡ block_size form
+    → IsBlockOf (frames_of layout entry cpr (filled image)) block → captured_part form own ≡ Whole (length own)
     → two_pass_cause (answers_of (captured_rows form own) (captured_marks form own)) ≡ Some cause
     → f < image_sectors layout entry.content → HasGoodRows block (captured_rows form own) (captured_marks form own) f
     → IsRecovered layout zones form k own steps turn → take 2048 (drop (2048 * f) (written steps)) ≡ take 2048 (drop (2048 * f) image)
@@ -102,13 +108,13 @@ DrawnFramesAreMastered =
 abbrev pub BoundIsKept : Type 0
 BoundIsKept =
     (settings : Settings) (within : LoopEnd) (bytes : List ℕ) (outcome : Outcome) → Rescues settings.command → IsRun settings within bytes outcome → IsFaultless outcome.end
-    → KeepsBound settings bytes outcome
+    → Behind settings.form (λ stated left. KeepsBound stated left outcome) settings bytes
 
 -- And of such a run: the good frames of the blocks that two passes refuse are kept.
 abbrev pub GoodFramesAreKept : Type 0
 GoodFramesAreKept =
     (settings : Settings) (within : LoopEnd) (bytes : List ℕ) (outcome : Outcome) → settings.command ≡ Recover → IsRun settings within bytes outcome → IsFaultless outcome.end
-    → KeepsGoodFrames settings bytes outcome
+    → Behind settings.form (λ stated left. KeepsGoodFrames stated left outcome) settings bytes
 
 -- What recovery does for the stream that mastering wrote of a whole image: the image is written, no line names a block, and
 -- the end is Done.
@@ -124,29 +130,42 @@ pub record FindsTheFirst (initial : ℕ) (form : Form) (bytes : List ℕ) (a : O
   pub k : ℕ
   pub format : Fields
   pub sought : k < initial + 224
-  pub whole : block_size form * (k + 1) ≤ length bytes
+  pub whole : HasBlocks form bytes (k + 1)
   pub answers : IsSought initial form k (block_bytes form bytes k) (Write (format_lines format) ∷ []) Last
   pub none_before : (j : ℕ) → j < k → IsSought initial form j (block_bytes form bytes j) [] Good
-  pub is : a ≡ record { taken = take (block_size form * (k + 1)) bytes; out = format_lines format; lines = []; end = Done }
+  pub is : a ≡ record { taken = take (block_start form bytes (k + 1)) bytes; out = format_lines format; lines = []; end = Done }
 
 -- the input has all blocks that are sought, and these are taken
 pub record PassesAll (initial : ℕ) (form : Form) (bytes : List ℕ) (a : Outcome) : Type 0 where
-  pub whole : block_size form * (initial + 224) ≤ length bytes
-  pub is : a ≡ record { taken = take (block_size form * (initial + 224)) bytes; out = []; lines = []; end = NoControl }
+  pub whole : HasBlocks form bytes (initial + 224)
+  pub is : a ≡ record { taken = take (block_start form bytes (initial + 224)) bytes; out = []; lines = []; end = NoControl }
 
 -- the input ends within block k, so many bytes of which it has
 pub record RunsOut (initial : ℕ) (form : Form) (bytes : List ℕ) (a : Outcome) : Type 0 where
   pub k : ℕ
   pub held : ℕ
   pub sought : k < initial + 224
-  pub fewer : held < block_size form
-  pub size : length bytes ≡ block_size form * k + held
+  pub whole : HasBlocks form bytes k
+  pub cut : captured_part form (from_block form bytes k) ≡ Cut
+  pub size : length bytes ≡ block_start form bytes k + held
   pub is : a ≡ record { taken = bytes; out = []; lines = []; end = Short k held }
+
+-- block k breaks a rule of its form, and at least that field of it is taken
+pub record BreaksOff (initial : ℕ) (form : Form) (bytes : List ℕ) (a : Outcome) : Type 0 where
+  pub k : ℕ
+  pub at : ℕ
+  pub sought : k < initial + 224
+  pub whole : HasBlocks form bytes k
+  pub broken : captured_part form (from_block form bytes k) ≡ Broken at
+  pub own : List ℕ
+  pub front : IsFrontOf own (from_block form bytes k)
+  pub taken : captured_part form own ≡ Broken at
+  pub is : a ≡ record { taken = take (block_start form bytes k) bytes ++ own; out = []; lines = []; end = BadMarks k at }
 
 -- No block of the lead-in that is whole in the input answers: nothing is written.
 pub record FindsNone (initial : ℕ) (form : Form) (bytes : List ℕ) (a : Outcome) : Type 0 where
-  pub none : (j : ℕ) → j < initial + 224 → block_size form * (j + 1) ≤ length bytes → IsSought initial form j (block_bytes form bytes j) [] Good
-  pub ends : PassesAll initial form bytes a ⊎ RunsOut initial form bytes a
+  pub none : (j : ℕ) → j < initial + 224 → HasBlocks form bytes (j + 1) → IsSought initial form j (block_bytes form bytes j) [] Good
+  pub ends : PassesAll initial form bytes a ⊎ (RunsOut initial form bytes a ⊎ BreaksOff initial form bytes a)
 
 -- What `info` writes and takes of an input, where no fault ends it, is told by the first block of control data that answers.
 abbrev pub InfoFindsTheFirstAnswer : Type 0
@@ -158,7 +177,7 @@ InfoFindsTheFirstAnswer =
 abbrev pub BorneSectorsAreKept : Type 0
 BorneSectorsAreKept =
     (settings : Settings) (within : LoopEnd) (bytes : List ℕ) (outcome : Outcome) → settings.command ≡ CdRead → IsRun settings within bytes outcome → IsFaultless outcome.end
-    → KeepsSectors settings bytes outcome
+    → Behind settings.form (λ stated left. KeepsSectors stated left outcome) settings bytes
 
 -- The blocks of the Data Zones as they were mastered, each of its part of an image.
 abbrev pub AreMastered : Layout → List ℕ → (ℕ → List ℕ) → (ℕ → List (List ℕ)) → Type 0
@@ -174,3 +193,19 @@ CapturedFramesAreAssembled =
     → ((k f : ℕ) (frame : Frame) → k < length (plan_of layout DataOnly) → f < 16 → IsCaptureOf f (blocks k) frame → home layout frame ≡ Some (16 * k + f))
     × ((frames : List Frame) → All (IsCaptured layout blocks) frames
     → (k : ℕ) → k < length (plan_of layout DataOnly) → IsOf (blocks k) (slice_index_or (assembled layout frames) k unseen))
+
+-- The offset that `broken_at` finds is the least field of a listed block that stands wholly in the bytes and breaks a rule, and it
+-- finds none exactly where none does.
+abbrev pub BrokenFieldIsFound : Type 0
+BrokenFieldIsFound =
+    (bytes : List ℕ) → ((at : ℕ) → (broken_at bytes ≡ Some at) ↔ IsBrokenAt bytes at) × ((broken_at bytes ≡ None) ↔ BreaksNoRule bytes)
+
+-- What `convert` wrote of an input is a listed capture of the same: recovery, whatever else its words say, does for it what it does for
+-- that input where no fault ends it, but for what is taken.
+abbrev pub ConvertedIsRead : Type 0
+ConvertedIsRead =
+    (settings words : Settings) (bytes : List ℕ) (converted read : Outcome)
+    → settings.command ≡ Convert → words.command ≡ Recover → words.form ≡ Listed → HasSize settings.form → breaks settings ≡ None
+    → IsLoop settings bytes converted → converted.end ≡ Done
+    → IsLoop (record settings { command = Recover }) bytes read → IsFaultless read.end
+    → (again : Outcome) × IsLoop words converted.out again × (again.out ≡ read.out) × (again.lines ≡ read.lines) × (again.end ≡ read.end)

@@ -1,10 +1,13 @@
 pub mod Bound
+pub mod Captured
 pub mod Commands
+pub mod HeaderEnds
 pub mod Headline
 pub mod Inner
 pub mod Laws
 pub mod Lines
 pub mod Meaning
+pub mod Opening
 pub mod Statuses
 pub mod CdLines
 pub mod CdBound

@@ -3,7 +3,7 @@ use Rattle.std.specs.Prelude.{List, ℕ, [], ◌++◌, codes, decimal}
 use Rattle.dvd_layout.specs.declared.fault.LayoutFault.{LayoutFault}
 use Rattle.dvd_layout.specs.declared.fault.LayoutFault.TheVariants.{EmptyLayer, OddLayer, SecondLayer, LayerLonger, InitialTooLong, TailTooLong, LayerTooLong}
 use Rattle.dvd_loop.specs.declared.ends.LoopEnd.{LoopEnd}
-use Rattle.dvd_loop.specs.declared.ends.LoopEnd.TheVariants.{Done, ReadFault, WriteFault, ReportFault, Short, Long, Damaged, NoControl, BadMarks}
+use Rattle.dvd_loop.specs.declared.ends.LoopEnd.TheVariants.{Done, ReadFault, WriteFault, ReportFault, Short, Long, Damaged, NoControl, BadMarks, ShortHeader, BadHeader}
 use Rattle.dvd_top.specs.Commands.{meaning}
 use Rattle.dvd_words.specs.declared.settings.Command.{Command}
 
@@ -31,3 +31,5 @@ closing_line command Long = codes "long\n"
 closing_line command (Damaged blocks) = codes "damaged: " ++ decimal blocks ++ codes " " ++ (meaning command).unit_name ++ codes "s\n"
 closing_line command NoControl = codes "no control block\n"
 closing_line command (BadMarks block at) = codes "bad marks: block " ++ decimal block ++ codes ", byte " ++ decimal at ++ codes "\n"
+closing_line command (ShortHeader bytes) = codes "short: header, " ++ decimal bytes ++ codes " bytes\n"
+closing_line command (BadHeader at) = codes "bad header: byte " ++ decimal at ++ codes "\n"

@@ -16,6 +16,8 @@ status_of ends.Long = status.Long
 status_of (ends.Damaged blocks) = status.Damaged
 status_of ends.NoControl = status.NoControl
 status_of (ends.BadMarks block at) = status.BadMarks
+status_of (ends.ShortHeader bytes) = status.Short
+status_of (ends.BadHeader at) = status.BadHeader
 
 -- the numbers that the program ends with
 abbrev pub number_of : Status → ℕ
@@ -30,4 +32,5 @@ number_of status.Damaged = 7
 number_of status.NoMemory = 8
 number_of status.ReportFault = 9
 number_of status.NoControl = 10
+number_of status.BadHeader = 11
 number_of status.BadMarks = 12

@@ -10,6 +10,8 @@ mod master; // the recording frames of each ECC block of a disk
 mod merge; // one stream of captured blocks, joined of several captures
 mod recover; // image sectors from a stream of captured blocks
 mod survey; // a line for each captured block, and a line of totals
+mod workers; // what the workers do for a turn of a command
+mod convert; // captured blocks in the listed form
 mod cd_make; // a CD-ROM sector for each sector of user data
 mod cd_read; // the user data of CD-ROM sectors
 
@@ -18,6 +20,8 @@ pub(crate) use assemble::run_assemble;
 pub use cd_make::cdmake_loop;
 pub(crate) use cd_make::run_cdmake;
 pub use cd_read::cdread_loop;
+pub use convert::convert_loop;
+pub(crate) use convert::run_convert;
 pub use deep::deep_loop;
 pub(crate) use deep::run_deep;
 pub use exercise::exercise_loop;

@@ -1,5 +1,5 @@
 //! What holds of every run of a command: each function's contract is one law, and its body is empty.
-ghost use Rattle.dvd_top.specs.Laws.{WhatIsDoneIsDetermined, SomethingIsDone, ImageIsTakenInOrder, ImageIsTakenWhole, DamageWithinTheBoundIsRepaired, GoodFramesOfARefusedBlockAreGiven, BoundIsKept, GoodFramesAreKept, DrawnFramesAreMastered, MasteredStreamIsRecovered, InfoFindsTheFirstAnswer, BorneSectorsAreKept, CapturedFramesAreAssembled};
+ghost use Rattle.dvd_top.specs.Laws.{WhatIsDoneIsDetermined, SomethingIsDone, ImageIsTakenInOrder, ImageIsTakenWhole, DamageWithinTheBoundIsRepaired, GoodFramesOfARefusedBlockAreGiven, BoundIsKept, GoodFramesAreKept, DrawnFramesAreMastered, MasteredStreamIsRecovered, InfoFindsTheFirstAnswer, BorneSectorsAreKept, CapturedFramesAreAssembled, BrokenFieldIsFound, ConvertedIsRead};
 
 /// What is done for an input is determined.
 pub fn what_is_done_is_determined()
@@ -64,4 +64,14 @@ pub fn borne_sectors_are_kept()
 /// Frames that were captured of mastered ones are put in order as they were mastered, and are nowhere in conflict.
 pub fn captured_frames_are_assembled()
     ensures { CapturedFramesAreAssembled }
+{}
+
+/// Where the bytes of a listed block break a rule is found by going over their fields.
+pub fn the_broken_field_is_found()
+    ensures { BrokenFieldIsFound }
+{}
+
+/// What was converted is read as what it was converted from.
+pub fn what_is_converted_is_read()
+    ensures { ConvertedIsRead }
 {}

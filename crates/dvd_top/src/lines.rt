@@ -43,6 +43,16 @@ pub fn close_line(command: Command, end: LoopEnd) -> Line
             line.put_number(u64::from(at));
             line.put(b"\n");
         }
+        LoopEnd::ShortHeader { bytes } => {
+            line.put(b"short: header, ");
+            line.put_number(u64::from(bytes));
+            line.put(b" bytes\n");
+        }
+        LoopEnd::BadHeader { at } => {
+            line.put(b"bad header: byte ");
+            line.put_number(u64::from(at));
+            line.put(b"\n");
+        }
     }
     line
 }
@@ -102,7 +112,8 @@ fn name_of_unit(command: Command) -> &'static [u8]
         | Command::Survey
         | Command::Exercise
         | Command::Merge
-        | Command::Deep => b"block",
+        | Command::Deep
+        | Command::Convert => b"block",
         Command::CdMake | Command::CdRead => b"sector",
         Command::Assemble => b"frame",
     }

@@ -21,6 +21,7 @@ pub enum Status {
     NoMemory = 8,
     ReportFault = 9,
     NoControl = 10,
+    BadHeader = 11,
     BadMarks = 12,
 }
 
@@ -50,6 +51,8 @@ impl From<LoopEnd> for Status {
             LoopEnd::Damaged { .. } => Status::Damaged,
             LoopEnd::NoControl => Status::NoControl,
             LoopEnd::BadMarks { .. } => Status::BadMarks,
+            LoopEnd::ShortHeader { .. } => Status::Short,
+            LoopEnd::BadHeader { .. } => Status::BadHeader,
         }
     }
 }

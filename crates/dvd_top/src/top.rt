@@ -6,21 +6,24 @@ ghost use Rattle.dvd_top.specs.Inner.Performing.{IsPerformed};
 ghost use Rattle.dvd_words.specs.Reading.{IsLawful};
 
 use crate::commands::{
-    cdread_loop, run_assemble, run_cdmake, run_deep, run_exercise, run_frames, run_info,
-    run_master, run_merge, run_recover, run_survey,
+    cdread_loop, run_assemble, run_cdmake, run_convert, run_deep, run_exercise, run_frames,
+    run_info, run_master, run_merge, run_recover, run_survey,
 };
 use crate::lines::{close_line, refused_line};
 use crate::status::{Refusal, Status};
 use dvd_loop::{LoopEnd, close};
+use dvd_par::Gate;
 use dvd_ports::{Sink, Source, WriteFault, write_whole};
 use dvd_words::{Command, Settings, WordsFault, read};
 use std::alloc::Global;
 use std::thread::Threads;
 
 /// Does what the words ask for: reads `src`, writes to `out`, and writes lines to `report`, the last of which tells
-/// how the run ended. What an input, an output or a report holds is known where these tell theirs.
-pub fn run<S: Source, K: Sink, E: Sink, R: Threads + Sync>(
-    _rt: &R,
+/// how the run ended. Each worker asks the gate before its pieces; nothing that is read, written or told depends on it.
+/// What an input, an output or a report holds is known where these tell theirs.
+pub fn run<S: Source, K: Sink, E: Sink, R: Threads + Sync, G: Gate>(
+    rt: &R,
+    gate: &G,
     alloc: Global,
     words: &[String],
     src: &mut S,
@@ -35,7 +38,7 @@ pub fn run<S: Source, K: Sink, E: Sink, R: Threads + Sync>(
     match read(alloc, words) {
         Err(WordsFault::Usage) => refuse(Status::Usage, b"usage\n", report),
         Err(WordsFault::NoMemory) => refuse(Status::NoMemory, b"no memory\n", report),
-        Ok(settings) => match perform(alloc, &settings, src, out, report) {
+        Ok(settings) => match perform(rt, gate, alloc, &settings, src, out, report) {
             Ok(end) => close(end, close_line(settings.command, end).as_slice(), report).into(),
             Err(Refusal::Setting(fault)) => refuse(
                 Status::Setting,
@@ -48,7 +51,9 @@ pub fn run<S: Source, K: Sink, E: Sink, R: Threads + Sync>(
 }
 
 // The loop of the command, or why it doesn't begin.
-fn perform<S: Source, K: Sink, E: Sink>(
+fn perform<S: Source, K: Sink, E: Sink, R: Threads + Sync, G: Gate>(
+    rt: &R,
+    gate: &G,
     alloc: Global,
     settings: &Settings,
     src: &mut S,
@@ -63,16 +68,17 @@ fn perform<S: Source, K: Sink, E: Sink>(
 {
     match settings.command {
         Command::Frames => Ok(run_frames(settings, src, out, report)),
-        Command::Master => run_master(alloc, settings, src, out, report),
-        Command::Recover => run_recover(alloc, settings, src, out, report),
+        Command::Master => run_master(rt, gate, alloc, settings, src, out, report),
+        Command::Recover => run_recover(rt, gate, alloc, settings, src, out, report),
         Command::Info => run_info(alloc, settings, src, out, report),
-        Command::Survey => run_survey(alloc, settings, src, out, report),
-        Command::Exercise => run_exercise(alloc, settings, src, out, report),
+        Command::Survey => run_survey(rt, gate, alloc, settings, src, out, report),
+        Command::Exercise => run_exercise(rt, gate, alloc, settings, src, out, report),
         Command::CdMake => Ok(run_cdmake(settings, src, out, report)),
         Command::CdRead => Ok(cdread_loop(settings, src, out, report)),
         Command::Merge => run_merge(alloc, settings, src, out, report),
         Command::Deep => run_deep(alloc, settings, src, out, report),
         Command::Assemble => run_assemble(alloc, settings, src, out, report),
+        Command::Convert => run_convert(alloc, settings, src, out, report),
     }
 }
 

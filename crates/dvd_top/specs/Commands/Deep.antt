@@ -3,7 +3,7 @@
 use Rattle.std.specs.Prelude.{◌≡◌, ◌⊎◌, ℕ, Bool, None, Some, List, [], ◌∷◌, ◌++◌, codes, length, take, slice_get}
 use Rattle.std.specs.List.{flat_map}
 use Rattle.std.specs.declared.option.Option.{Option}
-use Rattle.dvd_capture.specs.Captured.{block_size, captured_rows, captured_marks}
+use Rattle.dvd_capture.specs.Captured.{captured_rows, captured_marks}
 use Rattle.dvd_capture.specs.TwoPass.{answers_of}
 use Rattle.dvd_capture.specs.declared.form.Form.{Form}
 use Rattle.dvd_deep.specs.Reading.{IsDeep, deep_cause}
@@ -14,7 +14,7 @@ use Rattle.dvd_layout.specs.declared.entry.Content.{Content}
 use Rattle.dvd_layout.specs.declared.entry.Content.TheVariants.{Zero, Reference, Control, Image}
 use Rattle.dvd_layout.specs.declared.layout.Layout.{Layout}
 use Rattle.dvd_layout.specs.declared.layout.Zones.{Zones}
-use Rattle.dvd_loop.specs.Machine.{Step, Units, plain_units}
+use Rattle.dvd_loop.specs.Machine.{Step, Units}
 use Rattle.dvd_loop.specs.Machine.Step.{Write, Tell}
 use Rattle.dvd_loop.specs.declared.ends.Turn.{Turn}
 use Rattle.dvd_loop.specs.declared.ends.Turn.TheVariants.{Good, Bad}
@@ -22,6 +22,7 @@ use Rattle.dvd_read.specs.Causes.{two_pass_cause}
 use Rattle.dvd_read.specs.Salvage.{block_out, saved_in}
 use Rattle.dvd_read.specs.declared.cause.Cause.{Cause}
 use Rattle.dvd_report.specs.Lines.{damage_line, round_line}
+use Rattle.dvd_top.specs.Captured.{captured_units}
 use Rattle.dvd_top.specs.Meaning.{Meaning}
 use Rattle.dvd_words.specs.Settings.{IsLayoutOf, broken_rule}
 
@@ -60,7 +61,7 @@ pub record IsDeepened (layout : Layout) (zones : Zones) (form : Form) (k : ℕ) 
   pub does : IsReadDeep entry.content layout k entry (captured_rows form own) (captured_marks form own) steps turn
 
 abbrev pub deep_units : Layout → Zones → Form → Units
-deep_units layout zones form = plain_units (length (plan_of layout zones)) (λ k. block_size form) (IsDeepened layout zones form)
+deep_units layout zones form = captured_units (length (plan_of layout zones)) form (IsDeepened layout zones form)
 
 abbrev pub deep_meaning : Meaning
 deep_meaning = record {

@@ -1,7 +1,7 @@
 -- The command `info`: the physical format that the lead-in of a disk tells (ECMA-267, control data).
 use Rattle.std.specs.Prelude.{◌≡◌, ◌⊎◌, ℕ, ◌+◌, Bool, Some, None, List, [], ◌∷◌, ◌++◌, codes, decimal, slice_get, if◌then◌else◌}
 use Rattle.dvd_block.specs.Product.{line}
-use Rattle.dvd_capture.specs.Captured.{block_size, captured_rows, captured_marks}
+use Rattle.dvd_capture.specs.Captured.{captured_rows, captured_marks}
 use Rattle.dvd_capture.specs.declared.form.Form.{Form}
 use Rattle.dvd_control.specs.Format.{Fields, control_fault, fields_in}
 use Rattle.dvd_control.specs.declared.format.ControlFault.{ControlFault}
@@ -10,7 +10,7 @@ use Rattle.dvd_layout.specs.Plan.{lead_in_blocks}
 use Rattle.dvd_layout.specs.declared.entry.BlockPlan.{BlockPlan}
 use Rattle.dvd_layout.specs.declared.entry.Content.{Content}
 use Rattle.dvd_layout.specs.declared.entry.Content.TheVariants.{Zero, Reference, Control, Image}
-use Rattle.dvd_loop.specs.Machine.{Step, Units, plain_units}
+use Rattle.dvd_loop.specs.Machine.{Step, Units}
 use Rattle.dvd_loop.specs.Machine.Step.{Write}
 use Rattle.dvd_loop.specs.declared.ends.Behind.TheVariants.{NoControl}
 use Rattle.dvd_loop.specs.declared.ends.Turn.{Turn}
@@ -18,6 +18,7 @@ use Rattle.dvd_loop.specs.declared.ends.Turn.TheVariants.{Good, Last}
 use Rattle.dvd_read.specs.Reading.{IsReadAs, block_cause}
 use Rattle.dvd_read.specs.declared.cause.Cause.{Cause}
 use Rattle.dvd_report.specs.Lines.{hexadecimal}
+use Rattle.dvd_top.specs.Captured.{captured_units}
 use Rattle.dvd_top.specs.Meaning.{Meaning}
 
 -- a line with a name and a number: in decimal, or a sector number in six hexadecimal digits
@@ -73,7 +74,7 @@ pub record IsSought (initial : ℕ) (form : Form) (k : ℕ) (own : List ℕ) (st
 -- The blocks up to the last of control data: the Initial Zone, 2 of reference code, 30 of a buffer zone, and 192. The first
 -- that answers is the last that is read, and behind all of them no control block has answered.
 abbrev pub info_units : ℕ → Form → Units
-info_units initial form = record (plain_units (initial + 224) (λ k. block_size form) (IsSought initial form)) { behind = NoControl }
+info_units initial form = record (captured_units (initial + 224) form (IsSought initial form)) { behind = NoControl }
 
 abbrev pub info_meaning : Meaning
 info_meaning = record {

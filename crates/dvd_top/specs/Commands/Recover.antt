@@ -2,7 +2,7 @@
 -- it, and the frames of it that are right by themselves are saved.
 use Rattle.std.specs.Prelude.{◌≡◌, ◌⊎◌, ℕ, Bool, Some, List, [], ◌∷◌, codes, length, take, slice_get}
 use Rattle.std.specs.List.{flat_map}
-use Rattle.dvd_capture.specs.Captured.{block_size, captured_rows, captured_marks}
+use Rattle.dvd_capture.specs.Captured.{captured_rows, captured_marks}
 use Rattle.dvd_capture.specs.declared.form.Form.{Form}
 use Rattle.dvd_layout.specs.Place.{image_sectors}
 use Rattle.dvd_layout.specs.Plan.{plan_of}
@@ -11,7 +11,7 @@ use Rattle.dvd_layout.specs.declared.entry.Content.{Content}
 use Rattle.dvd_layout.specs.declared.entry.Content.TheVariants.{Zero, Reference, Control, Image}
 use Rattle.dvd_layout.specs.declared.layout.Layout.{Layout}
 use Rattle.dvd_layout.specs.declared.layout.Zones.{Zones}
-use Rattle.dvd_loop.specs.Machine.{Step, Units, plain_units}
+use Rattle.dvd_loop.specs.Machine.{Step, Units}
 use Rattle.dvd_loop.specs.Machine.Step.{Write, Tell}
 use Rattle.dvd_loop.specs.declared.ends.Turn.{Turn}
 use Rattle.dvd_loop.specs.declared.ends.Turn.TheVariants.{Good, Bad}
@@ -19,6 +19,7 @@ use Rattle.dvd_read.specs.Reading.{IsReadAs, block_cause}
 use Rattle.dvd_read.specs.Salvage.{block_out, saved_in}
 use Rattle.dvd_read.specs.declared.cause.Cause.{Cause}
 use Rattle.dvd_report.specs.Lines.{damage_line}
+use Rattle.dvd_top.specs.Captured.{captured_units}
 use Rattle.dvd_top.specs.Meaning.{Meaning}
 use Rattle.dvd_words.specs.Settings.{IsLayoutOf, broken_rule}
 
@@ -51,7 +52,7 @@ pub record IsRecovered (layout : Layout) (zones : Zones) (form : Form) (k : ℕ)
   pub does : IsDone entry.content layout k entry (captured_rows form own) (captured_marks form own) steps turn
 
 abbrev pub recover_units : Layout → Zones → Form → Units
-recover_units layout zones form = plain_units (length (plan_of layout zones)) (λ k. block_size form) (IsRecovered layout zones form)
+recover_units layout zones form = captured_units (length (plan_of layout zones)) form (IsRecovered layout zones form)
 
 abbrev pub recover_meaning : Meaning
 recover_meaning = record {

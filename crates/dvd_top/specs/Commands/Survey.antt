@@ -1,12 +1,12 @@
 -- The command `survey`: a line for each captured block, which tells how many of its rows have PI errors, and a line of totals.
 use Rattle.std.specs.Prelude.{◌≡◌, ℕ, Some, None, Option, List, [], ◌∷◌, ◌++◌, codes, length, map, zip, slice_get}
-use Rattle.dvd_capture.specs.Captured.{block_size, captured_rows, captured_marks}
+use Rattle.dvd_capture.specs.Captured.{captured_rows, captured_marks}
 use Rattle.dvd_capture.specs.declared.form.Form.{Form}
 use Rattle.dvd_layout.specs.Plan.{plan_of}
 use Rattle.dvd_layout.specs.declared.entry.BlockPlan.{BlockPlan}
 use Rattle.dvd_layout.specs.declared.layout.Layout.{Layout}
 use Rattle.dvd_layout.specs.declared.layout.Zones.{Zones}
-use Rattle.dvd_loop.specs.Machine.{Step, Units, sized}
+use Rattle.dvd_loop.specs.Machine.{Step, Units}
 use Rattle.dvd_loop.specs.Machine.Step.{Write}
 use Rattle.dvd_loop.specs.declared.ends.Behind.TheVariants.{Asks}
 use Rattle.dvd_loop.specs.declared.ends.Turn.{Turn}
@@ -15,6 +15,7 @@ use Rattle.dvd_read.specs.Reading.{block_cause}
 use Rattle.dvd_read.specs.declared.cause.Cause.{Cause}
 use Rattle.dvd_report.specs.Survey.{survey_line, surveyed, totals_line}
 use Rattle.dvd_report.specs.declared.counts.Surveyed.{Surveyed}
+use Rattle.dvd_top.specs.Captured.{captured_part}
 use Rattle.dvd_top.specs.Meaning.{Meaning}
 use Rattle.dvd_words.specs.Settings.{IsLayoutOf, broken_rule}
 
@@ -42,7 +43,7 @@ pub record IsSurveyed (layout : Layout) (zones : Zones) (form : Form) (k : ℕ) 
 abbrev pub survey_units : Layout → Zones → Form → Units
 survey_units layout zones form = record {
   count = length (plan_of layout zones);
-  begins = λ k. sized (block_size form);
+  begins = λ k. captured_part form;
   opens = [];
   does = IsSurveyed layout zones form;
   closes = λ before steps. steps ≡ Write (totals_line (found_in layout zones form before)) ∷ [];

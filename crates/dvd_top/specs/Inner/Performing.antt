@@ -9,13 +9,13 @@ use Rattle.dvd_capture.specs.declared.form.Form.{Form}
 use Rattle.dvd_control.specs.Format.{Fields, control_fault, fields_in}
 use Rattle.dvd_layout.specs.declared.entry.BlockPlan.{BlockPlan}
 use Rattle.dvd_layout.specs.declared.layout.Layout.{Layout}
-use Rattle.dvd_loop.specs.Machine.{Step}
+use Rattle.dvd_loop.specs.Machine.{EndsWithin, Step}
 use Rattle.dvd_loop.specs.Machine.Step.{Tell, Write}
 use Rattle.dvd_loop.specs.declared.ends.Turn.{Turn}
 use Rattle.dvd_loop.specs.declared.ends.Turn.TheVariants.{Bad, Good}
 use Rattle.dvd_top.specs.Commands.Info.{IsAnswer, IsNoAnswer}
 use Rattle.dvd_top.specs.Commands.Recover.{IsGiven, IsRefused}
-use Rattle.dvd_loop.specs.Streams.{Comes, HaveCauses, Streams}
+use Rattle.dvd_loop.specs.Streams.{Comes, HaveCauses, IsTold, Streams}
 use Rattle.dvd_loop.specs.declared.ends.LoopEnd.{LoopEnd}
 use Rattle.dvd_loop.specs.declared.ends.LoopEnd.TheVariants.{ReadFault, Short}
 use Rattle.dvd_merge.specs.Join.{Table, joined}
@@ -33,7 +33,9 @@ use Rattle.dvd_read.specs.Salvage.{block_out, saved_in}
 use Rattle.dvd_read.specs.declared.cause.Cause.{Cause}
 use Rattle.dvd_report.specs.Lines.{damage_line}
 use Rattle.dvd_top.specs.Commands.Survey.{turn_by}
-use Rattle.dvd_top.specs.Headline.{IsLoop, breaks}
+use Rattle.dvd_top.specs.Captured.{captured_part}
+use Rattle.dvd_top.specs.Commands.{meaning}
+use Rattle.dvd_top.specs.Headline.{GoesOver, IsLoop, breaks}
 use Rattle.dvd_words.specs.declared.settings.Settings.{Settings}
 use Rattle.dvd_top.specs.declared.status.Refusal.{Refusal}
 use Rattle.dvd_top.specs.declared.status.Refusal.TheVariants.{Setting, NoMemory}
@@ -52,6 +54,28 @@ IsRefusal settings NoMemory = breaks settings ≡ None
 abbrev pub IsPerformed : Settings → Streams → Streams → Result LoopEnd Refusal → Type 0
 IsPerformed settings old new (Ok end) = HasLooped settings old new end
 IsPerformed settings old new (Err refusal) = IsRefusal settings refusal
+
+-- The same of a command by its words alone, which no header comes before.
+pub record HasGoneOver (settings : Settings) (old new : Streams) (end : LoopEnd) : Type 0 where
+  pub lawful : (meaning settings.command).breaks settings ≡ None
+  pub comes : Comes (GoesOver settings) old new end
+  pub causes : HaveCauses end end old new
+
+abbrev pub IsRefusalOfWords : Settings → Refusal → Type 0
+IsRefusalOfWords settings (Setting fault) = (meaning settings.command).breaks settings ≡ Some fault
+IsRefusalOfWords settings NoMemory = (meaning settings.command).breaks settings ≡ None
+
+abbrev pub IsPerformedByWords : Settings → Streams → Streams → Result LoopEnd Refusal → Type 0
+IsPerformedByWords settings old new (Ok end) = HasGoneOver settings old new end
+IsPerformedByWords settings old new (Err refusal) = IsRefusalOfWords settings refusal
+
+-- A source gave a part of captured block k, and the loop ends so; these are left, where the source tells them.
+pub record EndsCaptured (form : Form) (k : ℕ) (old new : Seen) (end : LoopEnd) : Type 0 where
+  pub own : List ℕ
+  pub left : List ℕ
+  pub reads : Consumes old.bytes new.bytes own
+  pub told : IsTold new.bytes left
+  pub ends : EndsWithin (captured_part form own) k (length own) left end
 
 -- so many sectors, one after the other
 abbrev pub sectors_out : ℕ → List (List ℕ) → List ℕ

@@ -20,7 +20,7 @@ ghost use Rattle.dvd_ports.specs.Causes.{HasCause};
 ghost use Rattle.dvd_ports.specs.Seen.{Seen};
 ghost use Rattle.dvd_ports.specs.Whole.{AppendsPrefix};
 ghost use Rattle.dvd_top.specs.Commands.Assemble.{IsAssembleEnd, IsShelfOf, assemble_units, placed_line, text_of};
-ghost use Rattle.dvd_top.specs.Inner.Performing.{IsPerformed};
+ghost use Rattle.dvd_top.specs.Inner.Performing.{IsPerformedByWords};
 ghost use Rattle.dvd_words.specs.Settings.{IsLayoutOf};
 
 use crate::status::Refusal;
@@ -135,7 +135,7 @@ pub(crate) fn run_assemble<S: Source, K: Sink, E: Sink>(
     requires command { settings.now.command ≡ Command.Assemble }
     requires form { HasSize settings.now.form }
     requires few { settings.now.sectors + settings.now.sectors1 ≤ 16384 }
-    ensures performed { IsPerformed settings.now
+    ensures performed { IsPerformedByWords settings.now
         (streams (S.seen src.old) (K.seen out.old) (E.seen report.old))
         (streams (S.seen src.new) (K.seen out.new) (E.seen report.new)) result }
     ensures untouched { IsErr result → (src.new ≡ src.old) × (out.new ≡ out.old) × (report.new ≡ report.old) }

@@ -1,16 +1,16 @@
 //! Captured blocks, as the commands that read a stream of them take them.
 ghost use Rattle.std.specs.Prelude.{◌≡◌, ◌≤◌, IfErr, OnErr, OnOk};
 ghost use Rattle.std.specs.Io.KnownBytes.{Appends};
-ghost use Rattle.dvd_capture.specs.Captured.{block_size, Captures, HasSize};
+ghost use Rattle.dvd_capture.specs.Captured.{Captures};
 ghost use Rattle.dvd_capture.specs.Rule.{HasAnswers, HasBlock};
 ghost use Rattle.dvd_capture.specs.Works.{rows_of, marks_of_work, sectors_of, stage_of};
 ghost use Rattle.dvd_loop.specs.Streams.{streams};
 ghost use Rattle.dvd_layout.specs.Place.{HasNumbers};
-ghost use Rattle.dvd_loop.specs.Turns.{AreDone, EndsShort, HaveCausesFor};
+ghost use Rattle.dvd_loop.specs.Turns.{AreDone, HaveCausesFor};
 ghost use Rattle.dvd_ports.specs.Causes.{HasCause};
 ghost use Rattle.dvd_ports.specs.Seen.{Seen};
 ghost use Rattle.dvd_ports.specs.Whole.{AppendsPrefix};
-ghost use Rattle.dvd_top.specs.Inner.Performing.{IsRefusedFor, sectors_out};
+ghost use Rattle.dvd_top.specs.Inner.Performing.{EndsCaptured, IsRefusedFor, sectors_out};
 
 use dvd_capture::{FetchAnswer, Form, Work, fetch};
 use dvd_layout::{BlockPlan, Layout};
@@ -26,10 +26,9 @@ pub(crate) fn fetch_block<S: Source>(
     form: Form,
     work: &mut Work,
 ) -> Result<(), LoopEnd>
-    requires { HasSize form }
     ensures full { OnOk result (Captures form (S.seen src.old).bytes (S.seen src.new).bytes (rows_of work.new) (marks_of_work work.new)) }
     ensures stage { OnOk result (HasBlock (stage_of work.new)) }
-    ensures short { IfErr result (EndsShort k (block_size form) (S.seen src.old) (S.seen src.new)) }
+    ensures ended { IfErr result (EndsCaptured form k (S.seen src.old) (S.seen src.new)) }
     ensures causes { (output report : Seen) → HaveCausesFor result
         (streams (S.seen src.old) output report) (streams (S.seen src.new) output report) }
 {

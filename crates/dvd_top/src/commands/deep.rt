@@ -4,25 +4,27 @@ ghost use Rattle.dvd_ports.specs.Seen.{Seen};
 ghost use Rattle.dvd_block.specs.Buffers.{piece_bytes};
 ghost use Rattle.dvd_capture.specs.Rule.{HasBlock};
 ghost use Rattle.dvd_capture.specs.Works.{rows_of, marks_of_work, stage_of};
-ghost use Rattle.dvd_capture.specs.Captured.{HasSize};
 ghost use Rattle.dvd_capture.specs.declared.form.Form.{Form as CaptureForm};
 ghost use Rattle.dvd_deep.specs.Reading.{deep_cause};
 ghost use Rattle.dvd_layout.specs.Place.{HasNumbers};
 ghost use Rattle.dvd_layout.specs.Plan.{plan_of};
 ghost use Rattle.dvd_layout.specs.declared.layout.Layout.{Layout as DiskLayout};
 ghost use Rattle.dvd_layout.specs.declared.layout.Zones.{Zones as WhichZones};
-ghost use Rattle.dvd_loop.specs.Laws.{IsDamageEnd};
 ghost use Rattle.dvd_loop.specs.Machine.{IsOutcome};
 ghost use Rattle.dvd_loop.specs.Streams.{streams, Comes, HaveCauses};
 ghost use Rattle.dvd_loop.specs.Turns.{AreDone, HaveCausesFor};
 ghost use Rattle.dvd_loop.specs.declared.ends.Turn.TheVariants.{Good};
 ghost use Rattle.dvd_read.specs.Reading.{block_cause};
 ghost use Rattle.dvd_report.specs.Lines.{round_line};
+ghost use Rattle.dvd_top.specs.Captured.{IsCaptureEnd};
+ghost use Rattle.dvd_top.specs.Headline.{GoesOver};
+ghost use Rattle.dvd_top.specs.Opening.{IsOpened};
 ghost use Rattle.dvd_top.specs.Commands.Deep.{IsReadDeep, deep_units};
 ghost use Rattle.dvd_top.specs.Inner.Performing.{IsFoundBy, IsImageRead, IsPerformed, TellsAndWrites};
 ghost use Rattle.dvd_words.specs.Settings.{IsLayoutOf};
 
 use crate::commands::captured::{fetch_block, refuse_block, write_sectors};
+use crate::opening::{open_listed, worded_layout};
 use crate::status::Refusal;
 use dvd_block::Piece;
 use dvd_capture::{Form, Work};
@@ -44,7 +46,6 @@ struct Deepening<'a> {
     deep: &'a mut Deep,
     piece: &'a mut Piece,
     work: &'a mut Work,
-    ghost sized: { HasSize form },
 }
 
 impl<'a> LoneTurns for Deepening<'a> {
@@ -94,14 +95,13 @@ pub fn deep_loop<S: Source, K: Sink, E: Sink>(
     report: &mut E,
 ) -> LoopEnd
     requires layout { IsLayoutOf settings.now layout.now }
-    requires form { HasSize settings.now.form }
     ensures follows { Comes (IsOutcome (deep_units layout.now settings.now.zones settings.now.form))
         (streams (S.seen src.old) (K.seen out.old) (E.seen report.old))
         (streams (S.seen src.new) (K.seen out.new) (E.seen report.new)) result }
     ensures causes { HaveCauses result result
         (streams (S.seen src.old) (K.seen out.old) (E.seen report.old))
         (streams (S.seen src.new) (K.seen out.new) (E.seen report.new)) }
-    ensures ends { IsDamageEnd (length (plan_of layout.now settings.now.zones)) result }
+    ensures ends { IsCaptureEnd settings.now.form (length (plan_of layout.now settings.now.zones)) result }
 {
     let turns = Deepening {
         layout: *layout,
@@ -122,20 +122,55 @@ pub(crate) fn run_deep<S: Source, K: Sink, E: Sink>(
     out: &mut K,
     report: &mut E,
 ) -> Result<LoopEnd, Refusal>
-    requires command { settings.now.command ≡ Command.Deep }
-    requires form { HasSize settings.now.form }
+    requires { settings.now.command ≡ Command.Deep }
     ensures performed { IsPerformed settings.now
         (streams (S.seen src.old) (K.seen out.old) (E.seen report.old))
         (streams (S.seen src.new) (K.seen out.new) (E.seen report.new)) result }
     ensures untouched { IsErr result → (src.new ≡ src.old) × (out.new ≡ out.old) × (report.new ≡ report.old) }
 {
-    let layout = settings.layout()?;
+    let worded = worded_layout(settings)?;
     let mut deep = Deep::new(alloc)?;
     let mut piece = Piece::new(alloc)?;
     let mut work = Work::new(alloc)?;
-    Ok(deep_loop(
-        settings, &layout, &mut deep, &mut piece, &mut work, src, out, report,
-    ))
+    match worded {
+        Some(layout) => Ok(deep_loop(
+            settings, &layout, &mut deep, &mut piece, &mut work, src, out, report,
+        )),
+        None => Ok(deep_listed(settings, &mut deep, &mut piece, &mut work, src, out, report)),
+    }
+}
+
+// The same of a listed capture: its header, and then its blocks.
+fn deep_listed<S: Source, K: Sink, E: Sink>(
+    settings: &Settings,
+    deep: &mut Deep,
+    piece: &mut Piece,
+    work: &mut Work,
+    src: &mut S,
+    out: &mut K,
+    report: &mut E,
+) -> LoopEnd
+    requires { settings.now.command ≡ Command.Deep }
+    ensures opens { Comes (IsOpened GoesOver settings.now)
+        (streams (S.seen src.old) (K.seen out.old) (E.seen report.old))
+        (streams (S.seen src.new) (K.seen out.new) (E.seen report.new)) result }
+    ensures causes { HaveCauses result result
+        (streams (S.seen src.old) (K.seen out.old) (E.seen report.old))
+        (streams (S.seen src.new) (K.seen out.new) (E.seen report.new)) }
+{
+    match open_listed(settings, src) {
+        Ok(stated) => deep_loop(
+            &stated.settings,
+            &stated.layout,
+            deep,
+            piece,
+            work,
+            src,
+            out,
+            report,
+        ),
+        Err(end) => end,
+    }
 }
 
 // Reads a block of image sectors and writes them, behind the line of its round where two passes refused it; or tells its cause

@@ -1,4 +1,5 @@
 //! The command `exercise`: blocks that are drawn from a number, damaged within the bound, and read back.
+ghost use Rattle.std.specs.Thread.{IsSync};
 ghost use Rattle.std.specs.Prelude.{◌≡◌, ◌⊎◌, ◌+◌, ◌-◌, ◌*◌, ◌<◌, ◌≤◌, ◌^◌, ℕ, length, None, replicate, false, true, IsErr};
 ghost use Rattle.std.specs.Str.{bytes_eq};
 ghost use Rattle.dvd_block.specs.Buffers.{block_rows, piece_bytes};
@@ -16,20 +17,24 @@ ghost use Rattle.dvd_read.specs.Reading.{block_cause, IsReadAs};
 ghost use Rattle.dvd_top.specs.Commands.Exercise.{IsLeft, drawn_sector, drawn_sectors, exercise_line, exercise_units, no_marks, state_at};
 ghost use Rattle.dvd_top.specs.Commands.Master.{frames_of};
 ghost use Rattle.dvd_top.specs.Inner.Exercising.{CountsOne, IsBehind, IsDiskOf, are_sectors};
-ghost use Rattle.dvd_top.specs.Inner.Performing.{IsPerformed};
+ghost use Rattle.dvd_top.specs.Inner.Performing.{IsPerformedByWords};
+ghost use Rattle.dvd_top.specs.Inner.Workers.{IsAdder, IsBlockRead, IsParityAdded, IsReader};
 
 use crate::commands::master::fill_block;
+use crate::commands::workers::read_by;
 use crate::status::Refusal;
 use dvd_block::{Block, Piece};
 use dvd_capture::{Stage, Work};
 use dvd_exercise::{Rand, fill_piece, hurt};
 use dvd_layout::{BlockPlan, Layout, Shape, Zones};
 use dvd_loop::{Behind, LoopEnd, Turn, Turns, follow};
+use dvd_par::{Gate, add_parity_par, read_block_par};
 use dvd_ports::{NullSink, Sink, SliceSource, Source, write_whole};
-use dvd_read::{Fixed, read_block};
+use dvd_read::{Cause, Fixed};
 use dvd_report::Line;
 use dvd_words::{Command, Settings};
 use std::alloc::Global;
+use std::thread::Threads;
 
 // What was found of the blocks so far.
 #[derive(Drop)]
@@ -60,14 +65,17 @@ impl Counts {
     }
 }
 
-// Its blocks, the state that the next is drawn from, what was found so far, and the memory of one block.
+// Its blocks, the state that the next is drawn from, what was found so far, how a block gets its parity and is read, and the
+// memory of one block.
 #[derive(Drop)]
-struct Exercise<'a> {
+struct Exercise<'a, 'r, A, F> {
     seed: u32,
     blocks: u32,
     layout: Layout,
     rand: Rand,
     counts: Counts,
+    add: &'r A,
+    read: &'r F,
     block: &'a mut Block,
     piece: &'a mut Piece,
     work: &'a mut Work,
@@ -77,7 +85,8 @@ struct Exercise<'a> {
     ghost sectors: { layout.sectors0 ≡ 16 * blocks },
 }
 
-impl<'a> Turns for Exercise<'a> {
+impl<'a, 'r, A: Fn(&mut Block), F: Fn(&mut Work, &BlockPlan) -> Result<Fixed, Cause>> Turns
+    for Exercise<'a, 'r, A, F> {
     ghost Key = { ℕ × ℕ × ℕ };
 
     // The caller finds what the last block left in the work that it lent.
@@ -85,7 +94,8 @@ impl<'a> Turns for Exercise<'a> {
 
     ghost units = { λ key. exercise_units key.0 key.1 };
 
-    ghost ready = { λ e before. IsBehind e.seed (length before) (state_of e.rand) e.counts e.work.now };
+    ghost ready = { λ e before. IsBehind e.seed (length before) (state_of e.rand) e.counts e.work.now
+        × IsAdder A.Fn e.add.now × IsReader F.Fn e.read.now };
 
     ghost left = { λ e _. IsLeft e.seed (e.blocks - 1) e.work.now };
 
@@ -113,11 +123,18 @@ impl<'a> Turns for Exercise<'a> {
             &self.layout,
             &entry,
             &mut self.rand,
+            self.add,
             self.block,
             self.piece,
             self.work,
         );
-        read_back(&entry, self.piece.bytes(), self.work, &mut self.counts);
+        read_back(
+            &entry,
+            self.piece.bytes(),
+            self.read,
+            self.work,
+            &mut self.counts,
+        );
         Ok(Turn::Good)
     }
 
@@ -129,7 +146,9 @@ impl<'a> Turns for Exercise<'a> {
 }
 
 /// Draws, damages and reads back as many blocks as the settings say, from 1 to 4,096. The work then holds the last of them.
-pub fn exercise_loop<K: Sink>(
+pub fn exercise_loop<R: Threads + Sync, G: Gate, K: Sink>(
+    rt: &R,
+    gate: &G,
     settings: &Settings,
     block: &mut Block,
     piece: &mut Piece,
@@ -138,6 +157,7 @@ pub fn exercise_loop<K: Sink>(
 ) -> LoopEnd
     requires some { 1 ≤ settings.now.blocks }
     requires few { settings.now.blocks ≤ 4096 }
+    requires workers { (1 ≤ settings.now.workers) × (settings.now.workers ≤ 16) }
     ensures follows { Comes (IsOutcome (exercise_units settings.now.seed settings.now.blocks))
         (streams no_stream (K.seen out.old) no_stream) (streams no_stream (K.seen out.new) no_stream) result }
     ensures causes { HaveCauses result result
@@ -146,6 +166,8 @@ pub fn exercise_loop<K: Sink>(
     ensures left { IsLeft settings.now.seed (settings.now.blocks - 1) work.new }
 {
     follow_trials(
+        rt,
+        gate,
         settings,
         block,
         piece,
@@ -157,7 +179,9 @@ pub fn exercise_loop<K: Sink>(
 }
 
 // The same beside any source and any report, which stay as they are.
-fn follow_trials<S: Source, K: Sink, E: Sink>(
+fn follow_trials<R: Threads + Sync, G: Gate, S: Source, K: Sink, E: Sink>(
+    rt: &R,
+    gate: &G,
     settings: &Settings,
     block: &mut Block,
     piece: &mut Piece,
@@ -166,6 +190,56 @@ fn follow_trials<S: Source, K: Sink, E: Sink>(
     out: &mut K,
     report: &mut E,
 ) -> LoopEnd
+    requires some { 1 ≤ settings.now.blocks }
+    requires few { settings.now.blocks ≤ 4096 }
+    requires workers { (1 ≤ settings.now.workers) × (settings.now.workers ≤ 16) }
+    ensures follows { Comes (IsOutcome (exercise_units settings.now.seed settings.now.blocks))
+        (streams (S.seen src.old) (K.seen out.old) (E.seen report.old))
+        (streams (S.seen src.new) (K.seen out.new) (E.seen report.new)) result }
+    ensures causes { HaveCauses result result
+        (streams (S.seen src.old) (K.seen out.old) (E.seen report.old))
+        (streams (S.seen src.new) (K.seen out.new) (E.seen report.new)) }
+    ensures left { IsLeft settings.now.seed (settings.now.blocks - 1) work.new }
+{
+    let workers = settings.workers;
+    let add = |block: &mut Block|
+        requires { IsSync R.row × IsSync G.row × (1 ≤ workers) × (workers ≤ 16) }
+        ensures { IsParityAdded block.entry.now block.exit.now }
+    { add_parity_par(rt, workers, gate, block) };
+    let read = |work: &mut Work, plan: &BlockPlan| -> Result<Fixed, Cause>
+        requires { IsSync R.row
+            × IsSync G.row
+            × (1 ≤ workers)
+            × (workers ≤ 16)
+            × HasBlock (stage_of work.now)
+            × HasNumbers plan.now }
+        ensures { IsBlockRead work.entry.now work.exit.now plan.entry.now result }
+    { read_block_par(rt, workers, gate, work, plan) };
+    follow_by(&add, &read, settings, block, piece, work, src, out, report)
+}
+
+// The same with what gives a block its parity, and what reads it.
+fn follow_by<
+    'a,
+    'r,
+    A: Fn(&mut Block),
+    F: Fn(&mut Work, &BlockPlan) -> Result<Fixed, Cause>,
+    S: Source,
+    K: Sink,
+    E: Sink,
+>(
+    add: &'r A,
+    read: &'r F,
+    settings: &Settings,
+    block: &'a mut Block,
+    piece: &'a mut Piece,
+    work: &'a mut Work,
+    src: &mut S,
+    out: &mut K,
+    report: &mut E,
+) -> LoopEnd
+    requires adder { IsAdder A.Fn add.now }
+    requires reader { IsReader F.Fn read.now }
     requires some { 1 ≤ settings.now.blocks }
     requires few { settings.now.blocks ≤ 4096 }
     ensures follows { Comes (IsOutcome (exercise_units settings.now.seed settings.now.blocks))
@@ -186,6 +260,8 @@ fn follow_trials<S: Source, K: Sink, E: Sink>(
             fixed: 0,
             failed: 0,
         },
+        add,
+        read,
         block,
         piece,
         work,
@@ -194,7 +270,9 @@ fn follow_trials<S: Source, K: Sink, E: Sink>(
 }
 
 /// The command with its buffers, or why it doesn't begin.
-pub(crate) fn run_exercise<S: Source, K: Sink, E: Sink>(
+pub(crate) fn run_exercise<R: Threads + Sync, G: Gate, S: Source, K: Sink, E: Sink>(
+    rt: &R,
+    gate: &G,
     alloc: Global,
     settings: &Settings,
     src: &mut S,
@@ -204,7 +282,8 @@ pub(crate) fn run_exercise<S: Source, K: Sink, E: Sink>(
     requires command { settings.now.command ≡ Command.Exercise }
     requires some { 1 ≤ settings.now.blocks }
     requires few { settings.now.blocks ≤ 4096 }
-    ensures performed { IsPerformed settings.now
+    requires workers { (1 ≤ settings.now.workers) × (settings.now.workers ≤ 16) }
+    ensures performed { IsPerformedByWords settings.now
         (streams (S.seen src.old) (K.seen out.old) (E.seen report.old))
         (streams (S.seen src.new) (K.seen out.new) (E.seen report.new)) result }
     ensures untouched { IsErr result → (src.new ≡ src.old) × (out.new ≡ out.old) × (report.new ≡ report.old) }
@@ -213,7 +292,7 @@ pub(crate) fn run_exercise<S: Source, K: Sink, E: Sink>(
     let mut piece = Piece::new(alloc)?;
     let mut work = Work::new(alloc)?;
     Ok(follow_trials(
-        settings, &mut block, &mut piece, &mut work, src, out, report,
+        rt, gate, settings, &mut block, &mut piece, &mut work, src, out, report,
     ))
 }
 
@@ -234,16 +313,18 @@ fn rand_of(seed: u32) -> Rand
 }
 
 // Draws sixteen sectors, makes their block, and loads and damages it.
-fn draw_block(
+fn draw_block<A: Fn(&mut Block)>(
     layout: &Layout,
     entry: &BlockPlan,
     rand: &mut Rand,
+    add: &A,
     block: &mut Block,
     piece: &mut Piece,
     work: &mut Work,
 )
     requires entry { IsEntry layout.now entry.now }
     requires numbers { HasNumbers entry.now }
+    requires adder { IsAdder A.Fn add.now }
     ensures drawn { piece_bytes piece.new ≡ bytes_from (state_of rand.old) 32768 }
     ensures made { IsBlockOf (frames_of layout.now entry.now (replicate 6 0) (piece_bytes piece.new)) (block_rows block.new) }
     ensures hurt { IsHurt (state_after (state_of rand.old) 32768) (block_rows block.new) no_marks (rows_of work.new) (marks_of_work work.new) }
@@ -251,14 +332,21 @@ fn draw_block(
     ensures stage { HasBlock (stage_of work.new) }
 {
     fill_piece(rand, piece);
-    fill_block(layout, entry, &[0; 6], piece.bytes(), block);
+    fill_block(layout, entry, &[0; 6], piece.bytes(), add, block);
     work.load_block(block);
     hurt(rand, work);
 }
 
 // Reads a block and counts what is found of it. Here it has no cause, and its sectors are those that were drawn.
-fn read_back(entry: &BlockPlan, image: &[u8], work: &mut Work, counts: &mut Counts)
+fn read_back<F: Fn(&mut Work, &BlockPlan) -> Result<Fixed, Cause>>(
+    entry: &BlockPlan,
+    image: &[u8],
+    read: &F,
+    work: &mut Work,
+    counts: &mut Counts,
+)
     requires size { length image.now ≡ 32768 }
+    requires reader { IsReader F.Fn read.now }
     requires numbers { HasNumbers entry.now }
     requires stage { HasBlock (stage_of work.old) }
     requires right { block_cause (rows_of work.old) (marks_of_work work.old) entry.now ≡ None }
@@ -273,7 +361,7 @@ fn read_back(entry: &BlockPlan, image: &[u8], work: &mut Work, counts: &mut Coun
     ensures received { work.new.received ≡ work.old.received }
     ensures marks { work.new.marks ≡ work.old.marks }
 {
-    if let Ok(fixed) = read_block(work, entry) {
+    if let Ok(fixed) = read_by(read, work, entry) {
         counts.add(fixed, has_sectors(work, image));
     }
 }

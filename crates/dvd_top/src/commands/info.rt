@@ -3,24 +3,26 @@ ghost use Rattle.std.specs.Prelude.{◌≡◌, ◌≤◌, ◌+◌, ℕ, List, No
 ghost use Rattle.dvd_block.specs.Product.{line};
 ghost use Rattle.dvd_capture.specs.Rule.{HasBlock};
 ghost use Rattle.dvd_capture.specs.Works.{rows_of, marks_of_work, stage_of};
-ghost use Rattle.dvd_capture.specs.Captured.{HasSize};
 ghost use Rattle.dvd_capture.specs.declared.form.Form.{Form as CaptureForm};
 ghost use Rattle.dvd_control.specs.Format.{control_fault, fields_in, fields_of};
 ghost use Rattle.dvd_layout.specs.Place.{HasNumbers};
-ghost use Rattle.dvd_loop.specs.Laws.{IsSearchEnd};
 ghost use Rattle.dvd_loop.specs.Machine.{IsOutcome};
 ghost use Rattle.dvd_loop.specs.Streams.{streams, Comes, HaveCauses, no_stream};
 ghost use Rattle.dvd_loop.specs.Turns.{AreDone, HaveCausesFor};
 ghost use Rattle.dvd_ports.specs.Seen.{Seen};
+ghost use Rattle.dvd_top.specs.Captured.{IsSoughtEnd};
+ghost use Rattle.dvd_top.specs.Headline.{GoesOver};
+ghost use Rattle.dvd_top.specs.Opening.{IsOpened};
 ghost use Rattle.dvd_top.specs.Commands.Info.{IsAsked, info_units};
 ghost use Rattle.dvd_top.specs.Inner.Performing.{AnswersNothing, Tells, IsControlDone, IsPerformed};
 
 use crate::commands::captured::fetch_block;
 use crate::format::format_lines;
+use crate::opening::{open_listed, worded_initial};
 use crate::status::Refusal;
 use dvd_capture::{Form, Work};
 use dvd_control::PhysicalFormat;
-use dvd_layout::{BlockPlan, Content, check_initial, lead_in_block};
+use dvd_layout::{BlockPlan, Content, lead_in_block};
 use dvd_loop::{Behind, LoopEnd, Turn, Turns, follow};
 use dvd_ports::{NullSink, Sink, Source, write_whole};
 use dvd_read::read_block;
@@ -37,7 +39,6 @@ struct Info<'a> {
     form: Form,
     work: &'a mut Work,
     ghost fits: { initial ≤ 12031 },
-    ghost sized: { HasSize form },
 }
 
 impl<'a> Turns for Info<'a> {
@@ -87,13 +88,12 @@ pub fn info_loop<S: Source, K: Sink>(
     src: &mut S,
     out: &mut K,
 ) -> LoopEnd
-    requires initial { settings.now.initial ≤ 12031 }
-    requires form { HasSize settings.now.form }
+    requires { settings.now.initial ≤ 12031 }
     ensures follows { Comes (IsOutcome (info_units settings.now.initial settings.now.form))
         (streams (S.seen src.old) (K.seen out.old) no_stream) (streams (S.seen src.new) (K.seen out.new) no_stream) result }
     ensures causes { HaveCauses result result
         (streams (S.seen src.old) (K.seen out.old) no_stream) (streams (S.seen src.new) (K.seen out.new) no_stream) }
-    ensures ends { IsSearchEnd (settings.now.initial + 224) result }
+    ensures ends { IsSoughtEnd settings.now.form (settings.now.initial + 224) result }
 {
     seek_format(settings, work, src, out, &mut NullSink::new())
 }
@@ -106,8 +106,7 @@ fn seek_format<S: Source, K: Sink, E: Sink>(
     out: &mut K,
     report: &mut E,
 ) -> LoopEnd
-    requires initial { settings.now.initial ≤ 12031 }
-    requires form { HasSize settings.now.form }
+    requires { settings.now.initial ≤ 12031 }
     ensures follows { Comes (IsOutcome (info_units settings.now.initial settings.now.form))
         (streams (S.seen src.old) (K.seen out.old) (E.seen report.old))
         (streams (S.seen src.new) (K.seen out.new) (E.seen report.new)) result }
@@ -131,16 +130,40 @@ pub(crate) fn run_info<S: Source, K: Sink, E: Sink>(
     out: &mut K,
     report: &mut E,
 ) -> Result<LoopEnd, Refusal>
-    requires command { settings.now.command ≡ Command.Info }
-    requires form { HasSize settings.now.form }
+    requires { settings.now.command ≡ Command.Info }
     ensures performed { IsPerformed settings.now
         (streams (S.seen src.old) (K.seen out.old) (E.seen report.old))
         (streams (S.seen src.new) (K.seen out.new) (E.seen report.new)) result }
     ensures untouched { IsErr result → (src.new ≡ src.old) × (out.new ≡ out.old) × (report.new ≡ report.old) }
 {
-    check_initial(settings.initial)?;
+    let worded = worded_initial(settings)?;
     let mut work = Work::new(alloc)?;
-    Ok(seek_format(settings, &mut work, src, out, report))
+    match worded {
+        Some(_) => Ok(seek_format(settings, &mut work, src, out, report)),
+        None => Ok(info_listed(settings, &mut work, src, out, report)),
+    }
+}
+
+// The same of a listed capture: its header, and then its blocks.
+fn info_listed<S: Source, K: Sink, E: Sink>(
+    settings: &Settings,
+    work: &mut Work,
+    src: &mut S,
+    out: &mut K,
+    report: &mut E,
+) -> LoopEnd
+    requires { settings.now.command ≡ Command.Info }
+    ensures opens { Comes (IsOpened GoesOver settings.now)
+        (streams (S.seen src.old) (K.seen out.old) (E.seen report.old))
+        (streams (S.seen src.new) (K.seen out.new) (E.seen report.new)) result }
+    ensures causes { HaveCauses result result
+        (streams (S.seen src.old) (K.seen out.old) (E.seen report.old))
+        (streams (S.seen src.new) (K.seen out.new) (E.seen report.new)) }
+{
+    match open_listed(settings, src) {
+        Ok(stated) => seek_format(&stated.settings, work, src, out, report),
+        Err(end) => end,
+    }
 }
 
 // Asks a block of control data for the physical format. Any other block is passed over.

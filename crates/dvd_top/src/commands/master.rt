@@ -1,4 +1,5 @@
 //! The command `master`: the recording frames of each ECC block of a disk.
+ghost use Rattle.std.specs.Thread.{IsSync};
 ghost use Rattle.std.specs.Prelude.{◌≡◌, ◌-◌, ◌*◌, ◌<◌, ◌≤◌, ℕ, List, length, take, drop, replicate, IfErr, IsErr, OnOk, refl};
 ghost use Rattle.std.specs.Io.KnownBytes.{Consumes};
 ghost use Rattle.dvd_ports.specs.Seen.{Seen};
@@ -13,35 +14,42 @@ ghost use Rattle.dvd_loop.specs.Machine.{IsOutcome};
 ghost use Rattle.dvd_loop.specs.Streams.{streams, Comes, HaveCauses, no_stream};
 ghost use Rattle.dvd_loop.specs.Turns.{EndsShort, HaveCausesFor};
 ghost use Rattle.dvd_top.specs.Commands.Master.{cpr_in, frame_of, frames_of, image_bytes, main_for, master_units};
-ghost use Rattle.dvd_top.specs.Inner.Performing.{IsPerformed};
+ghost use Rattle.dvd_top.specs.Inner.Performing.{IsPerformedByWords};
+ghost use Rattle.dvd_top.specs.Inner.Workers.{IsAdder, IsParityAdded};
 ghost use Rattle.dvd_words.specs.Settings.{IsLayoutOf};
 
+use crate::commands::workers::add_by;
 use crate::status::Refusal;
 use dvd_block::{Block, Piece};
 use dvd_control::main_of;
 use dvd_frame::{Area, make_frame};
 use dvd_layout::{BlockPlan, Content, Layout, Zones, id_of, rule_of};
 use dvd_loop::{LoneTurns, LoopEnd, Turn, follow_lone, read_unit};
+use dvd_par::{Gate, add_parity_par};
 use dvd_ports::{NullSink, Sink, Source};
 use dvd_words::{Command, Settings};
 use std::alloc::Global;
+use std::thread::Threads;
 
-/// Its blocks, in the order of the plan, and the buffers of one block.
+/// Its blocks, in the order of the plan, how they get their parity, and the buffers of one block.
 #[derive(Drop)]
-struct Master<'a> {
+struct Master<'a, 'r, F> {
     layout: Layout,
     zones: Zones,
     cpr: [u8; 6],
+    add: &'r F,
     block: &'a mut Block,
     piece: &'a mut Piece,
 }
 
-impl<'a> LoneTurns for Master<'a> {
+impl<'a, 'r, F: Fn(&mut Block)> LoneTurns for Master<'a, 'r, F> {
     ghost Key = { DiskLayout × WhichZones × List ℕ };
 
     ghost key = { λ m. (m.layout, m.zones, m.cpr) };
 
     ghost units = { λ key. master_units key.0 key.1 key.2 };
+
+    ghost ready = { λ m. IsAdder F.Fn m.add.now };
 
     ghost alone = { λ _. record { opens = refl; closes = λ _. refl; behind = refl } };
 
@@ -64,6 +72,7 @@ impl<'a> LoneTurns for Master<'a> {
             &entry,
             &self.cpr,
             self.piece.bytes(),
+            self.add,
             self.block,
         );
         self.block.write_recording(out)?;
@@ -72,7 +81,9 @@ impl<'a> LoneTurns for Master<'a> {
 }
 
 /// Masters every block of the plan of the layout and the zones that the settings choose.
-pub fn master_loop<S: Source, K: Sink>(
+pub fn master_loop<R: Threads + Sync, G: Gate, S: Source, K: Sink>(
+    rt: &R,
+    gate: &G,
     settings: &Settings,
     layout: &Layout,
     block: &mut Block,
@@ -80,7 +91,8 @@ pub fn master_loop<S: Source, K: Sink>(
     src: &mut S,
     out: &mut K,
 ) -> LoopEnd
-    requires { IsLayoutOf settings.now layout.now }
+    requires layout { IsLayoutOf settings.now layout.now }
+    requires workers { (1 ≤ settings.now.workers) × (settings.now.workers ≤ 16) }
     ensures follows { Comes (IsOutcome (master_units layout.now settings.now.zones settings.now.cpr))
         (streams (S.seen src.old) (K.seen out.old) no_stream) (streams (S.seen src.new) (K.seen out.new) no_stream) result }
     ensures causes { HaveCauses result result
@@ -88,6 +100,8 @@ pub fn master_loop<S: Source, K: Sink>(
     ensures ends { IsPlainEnd (length (plan_of layout.now settings.now.zones)) result }
 {
     follow_blocks(
+        rt,
+        gate,
         settings,
         layout,
         block,
@@ -99,7 +113,9 @@ pub fn master_loop<S: Source, K: Sink>(
 }
 
 // The same beside any report, which stays as it is.
-fn follow_blocks<S: Source, K: Sink, E: Sink>(
+fn follow_blocks<R: Threads + Sync, G: Gate, S: Source, K: Sink, E: Sink>(
+    rt: &R,
+    gate: &G,
     settings: &Settings,
     layout: &Layout,
     block: &mut Block,
@@ -108,6 +124,7 @@ fn follow_blocks<S: Source, K: Sink, E: Sink>(
     out: &mut K,
     report: &mut E,
 ) -> LoopEnd
+    requires { (1 ≤ settings.now.workers) × (settings.now.workers ≤ 16) }
     ensures follows { Comes (IsOutcome (master_units layout.now settings.now.zones settings.now.cpr))
         (streams (S.seen src.old) (K.seen out.old) (E.seen report.old))
         (streams (S.seen src.new) (K.seen out.new) (E.seen report.new)) result }
@@ -115,10 +132,16 @@ fn follow_blocks<S: Source, K: Sink, E: Sink>(
         (streams (S.seen src.old) (K.seen out.old) (E.seen report.old))
         (streams (S.seen src.new) (K.seen out.new) (E.seen report.new)) }
 {
+    let workers = settings.workers;
+    let add = |block: &mut Block|
+        requires { IsSync R.row × IsSync G.row × (1 ≤ workers) × (workers ≤ 16) }
+        ensures { IsParityAdded block.entry.now block.exit.now }
+    { add_parity_par(rt, workers, gate, block) };
     let master = Master {
         layout: *layout,
         zones: settings.zones,
         cpr: settings.cpr,
+        add: &add,
         block,
         piece,
     };
@@ -126,15 +149,18 @@ fn follow_blocks<S: Source, K: Sink, E: Sink>(
 }
 
 /// The command with its buffers, or why it doesn't begin.
-pub(crate) fn run_master<S: Source, K: Sink, E: Sink>(
+pub(crate) fn run_master<R: Threads + Sync, G: Gate, S: Source, K: Sink, E: Sink>(
+    rt: &R,
+    gate: &G,
     alloc: Global,
     settings: &Settings,
     src: &mut S,
     out: &mut K,
     report: &mut E,
 ) -> Result<LoopEnd, Refusal>
-    requires { settings.now.command ≡ Command.Master }
-    ensures performed { IsPerformed settings.now
+    requires command { settings.now.command ≡ Command.Master }
+    requires workers { (1 ≤ settings.now.workers) × (settings.now.workers ≤ 16) }
+    ensures performed { IsPerformedByWords settings.now
         (streams (S.seen src.old) (K.seen out.old) (E.seen report.old))
         (streams (S.seen src.new) (K.seen out.new) (E.seen report.new)) result }
     ensures untouched { IsErr result → (src.new ≡ src.old) × (out.new ≡ out.old) × (report.new ≡ report.old) }
@@ -142,7 +168,9 @@ pub(crate) fn run_master<S: Source, K: Sink, E: Sink>(
     let layout = settings.layout()?;
     let mut block = Block::new(alloc)?;
     let mut piece = Piece::new(alloc)?;
-    Ok(follow_blocks(settings, &layout, &mut block, &mut piece, src, out, report))
+    Ok(follow_blocks(
+        rt, gate, settings, &layout, &mut block, &mut piece, src, out, report,
+    ))
 }
 
 // How many bytes of the image a block takes.
@@ -170,16 +198,18 @@ fn read_image<S: Source>(src: &mut S, k: u32, piece: &mut Piece, size: usize) ->
 }
 
 // Puts the sixteen frames of a block into it, and adds the parity.
-pub(crate) fn fill_block(
+pub(crate) fn fill_block<F: Fn(&mut Block)>(
     layout: &Layout,
     entry: &BlockPlan,
     cpr: &[u8; 6],
     sectors: &[u8],
+    add: &F,
     block: &mut Block,
 )
     requires size { length sectors.now ≡ 32768 }
     requires entry { IsEntry layout.now entry.now }
     requires numbers { HasNumbers entry.now }
+    requires adder { IsAdder F.Fn add.now }
     ensures { IsBlockOf (frames_of layout.now entry.now cpr.now sectors.now) (block_rows block.new) }
 {
     let mut frame = [0; 2064];
@@ -187,7 +217,7 @@ pub(crate) fn fill_block(
         write_frame(layout, entry, cpr, sectors, f, &mut frame);
         block.put_frame(f, &frame);
     }
-    block.add_parity();
+    add_by(add, block);
 }
 
 fn write_frame(

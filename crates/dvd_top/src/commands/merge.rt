@@ -14,7 +14,7 @@ ghost use Rattle.dvd_loop.specs.Turns.{EndsShort, HaveCausesFor};
 ghost use Rattle.dvd_merge.specs.Merges.{table_of};
 ghost use Rattle.dvd_ports.specs.Seen.{Seen};
 ghost use Rattle.dvd_top.specs.Commands.Merge.{merge_units};
-ghost use Rattle.dvd_top.specs.Inner.Performing.{AreTaken, EndsBehind, IsPerformed};
+ghost use Rattle.dvd_top.specs.Inner.Performing.{AreTaken, EndsBehind, IsPerformedByWords};
 ghost use Rattle.dvd_words.specs.Settings.{IsLayoutOf};
 
 use crate::status::Refusal;
@@ -138,7 +138,7 @@ pub(crate) fn run_merge<S: Source, K: Sink, E: Sink>(
     requires command { settings.now.command ≡ Command.Merge }
     requires form { HasSize settings.now.form }
     requires captures { settings.now.captures ≤ 16 }
-    ensures performed { IsPerformed settings.now
+    ensures performed { IsPerformedByWords settings.now
         (streams (S.seen src.old) (K.seen out.old) (E.seen report.old))
         (streams (S.seen src.new) (K.seen out.new) (E.seen report.new)) result }
     ensures untouched { IsErr result → (src.new ≡ src.old) × (out.new ≡ out.old) × (report.new ≡ report.old) }

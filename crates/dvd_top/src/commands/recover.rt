@@ -1,48 +1,58 @@
 //! The command `recover`: image sectors from a stream of captured blocks.
-ghost use Rattle.std.specs.Prelude.{◌≡◌, length, IsErr, refl};
+ghost use Rattle.std.specs.Thread.{IsSync};
+ghost use Rattle.std.specs.Prelude.{◌≡◌, ◌≤◌, length, IsErr, refl};
 ghost use Rattle.dvd_ports.specs.Seen.{Seen};
 ghost use Rattle.dvd_capture.specs.Rule.{HasBlock};
 ghost use Rattle.dvd_capture.specs.Works.{rows_of, marks_of_work, stage_of};
-ghost use Rattle.dvd_capture.specs.Captured.{HasSize};
 ghost use Rattle.dvd_capture.specs.declared.form.Form.{Form as CaptureForm};
 ghost use Rattle.dvd_layout.specs.Place.{HasNumbers};
 ghost use Rattle.dvd_layout.specs.Plan.{plan_of};
 ghost use Rattle.dvd_layout.specs.declared.layout.Layout.{Layout as DiskLayout};
 ghost use Rattle.dvd_layout.specs.declared.layout.Zones.{Zones as WhichZones};
-ghost use Rattle.dvd_loop.specs.Laws.{IsDamageEnd};
 ghost use Rattle.dvd_loop.specs.Machine.{IsOutcome};
 ghost use Rattle.dvd_loop.specs.Streams.{streams, Comes, HaveCauses};
 ghost use Rattle.dvd_loop.specs.Turns.{AreDone, HaveCausesFor};
+ghost use Rattle.dvd_top.specs.Captured.{IsCaptureEnd};
+ghost use Rattle.dvd_top.specs.Headline.{GoesOver};
+ghost use Rattle.dvd_top.specs.Opening.{IsOpened};
 ghost use Rattle.dvd_top.specs.Commands.Recover.{IsDone, recover_units};
 ghost use Rattle.dvd_top.specs.Inner.Performing.{IsPerformed, IsImageDone};
+ghost use Rattle.dvd_top.specs.Inner.Workers.{IsBlockRead, IsReader};
 ghost use Rattle.dvd_words.specs.Settings.{IsLayoutOf};
 
 use crate::commands::captured::{fetch_block, refuse_block, write_sectors};
+use crate::commands::workers::read_by;
+use crate::opening::{open_listed, worded_layout};
 use crate::status::Refusal;
 use dvd_capture::{Form, Work};
 use dvd_layout::{BlockPlan, Content, Layout, Zones};
 use dvd_loop::{LoneTurns, LoopEnd, Turn, follow_lone};
+use dvd_par::{Gate, read_block_par};
 use dvd_ports::{Sink, Source};
-use dvd_read::read_block;
+use dvd_read::{Cause, Fixed};
 use dvd_words::{Command, Settings};
 use std::alloc::Global;
+use std::thread::Threads;
 
-/// Its blocks, in the order of the plan, and the memory of one block.
+/// Its blocks, in the order of the plan, how they are read, and the memory of one block.
 #[derive(Drop)]
-struct Recover<'a> {
+struct Recover<'a, 'r, F> {
     layout: Layout,
     zones: Zones,
     form: Form,
+    read: &'r F,
     work: &'a mut Work,
-    ghost sized: { HasSize form },
 }
 
-impl<'a> LoneTurns for Recover<'a> {
+impl<'a, 'r, F: Fn(&mut Work, &BlockPlan) -> Result<Fixed, Cause>> LoneTurns
+    for Recover<'a, 'r, F> {
     ghost Key = { DiskLayout × WhichZones × CaptureForm };
 
     ghost key = { λ r. (r.layout, r.zones, r.form) };
 
     ghost units = { λ key. recover_units key.0 key.1 key.2 };
+
+    ghost ready = { λ r. IsReader F.Fn r.read.now };
 
     ghost alone = { λ _. record { opens = refl; closes = λ _. refl; behind = refl } };
 
@@ -59,12 +69,14 @@ impl<'a> LoneTurns for Recover<'a> {
     ) -> Result<Turn, LoopEnd> {
         let entry = self.layout.plan(self.zones, u64::from(k));
         fetch_block(src, k, self.form, self.work)?;
-        recover_block(&self.layout, k, &entry, self.work, out, report)
+        recover_block(&self.layout, k, &entry, self.read, self.work, out, report)
     }
 }
 
 /// Reads every block of the plan of the layout and the zones that the settings choose.
-pub fn recover_loop<S: Source, K: Sink, E: Sink>(
+pub fn recover_loop<R: Threads + Sync, G: Gate, S: Source, K: Sink, E: Sink>(
+    rt: &R,
+    gate: &G,
     settings: &Settings,
     layout: &Layout,
     work: &mut Work,
@@ -73,26 +85,39 @@ pub fn recover_loop<S: Source, K: Sink, E: Sink>(
     report: &mut E,
 ) -> LoopEnd
     requires layout { IsLayoutOf settings.now layout.now }
-    requires form { HasSize settings.now.form }
+    requires workers { (1 ≤ settings.now.workers) × (settings.now.workers ≤ 16) }
     ensures follows { Comes (IsOutcome (recover_units layout.now settings.now.zones settings.now.form))
         (streams (S.seen src.old) (K.seen out.old) (E.seen report.old))
         (streams (S.seen src.new) (K.seen out.new) (E.seen report.new)) result }
     ensures causes { HaveCauses result result
         (streams (S.seen src.old) (K.seen out.old) (E.seen report.old))
         (streams (S.seen src.new) (K.seen out.new) (E.seen report.new)) }
-    ensures ends { IsDamageEnd (length (plan_of layout.now settings.now.zones)) result }
+    ensures ends { IsCaptureEnd settings.now.form (length (plan_of layout.now settings.now.zones)) result }
 {
+    let workers = settings.workers;
+    let read = |work: &mut Work, plan: &BlockPlan| -> Result<Fixed, Cause>
+        requires { IsSync R.row
+            × IsSync G.row
+            × (1 ≤ workers)
+            × (workers ≤ 16)
+            × HasBlock (stage_of work.now)
+            × HasNumbers plan.now }
+        ensures { IsBlockRead work.entry.now work.exit.now plan.entry.now result }
+    { read_block_par(rt, workers, gate, work, plan) };
     let recover = Recover {
         layout: *layout,
         zones: settings.zones,
         form: settings.form,
+        read: &read,
         work,
     };
     follow_lone(recover, src, out, report)
 }
 
 /// The command with its buffers, or why it doesn't begin.
-pub(crate) fn run_recover<S: Source, K: Sink, E: Sink>(
+pub(crate) fn run_recover<R: Threads + Sync, G: Gate, S: Source, K: Sink, E: Sink>(
+    rt: &R,
+    gate: &G,
     alloc: Global,
     settings: &Settings,
     src: &mut S,
@@ -100,27 +125,66 @@ pub(crate) fn run_recover<S: Source, K: Sink, E: Sink>(
     report: &mut E,
 ) -> Result<LoopEnd, Refusal>
     requires command { settings.now.command ≡ Command.Recover }
-    requires form { HasSize settings.now.form }
+    requires workers { (1 ≤ settings.now.workers) × (settings.now.workers ≤ 16) }
     ensures performed { IsPerformed settings.now
         (streams (S.seen src.old) (K.seen out.old) (E.seen report.old))
         (streams (S.seen src.new) (K.seen out.new) (E.seen report.new)) result }
     ensures untouched { IsErr result → (src.new ≡ src.old) × (out.new ≡ out.old) × (report.new ≡ report.old) }
 {
-    let layout = settings.layout()?;
+    let worded = worded_layout(settings)?;
     let mut work = Work::new(alloc)?;
-    Ok(recover_loop(settings, &layout, &mut work, src, out, report))
+    match worded {
+        Some(layout) => Ok(recover_loop(rt, gate, settings, &layout, &mut work, src, out, report)),
+        None => Ok(recover_listed(rt, gate, settings, &mut work, src, out, report)),
+    }
+}
+
+// The same of a listed capture: its header, and then its blocks.
+fn recover_listed<R: Threads + Sync, G: Gate, S: Source, K: Sink, E: Sink>(
+    rt: &R,
+    gate: &G,
+    settings: &Settings,
+    work: &mut Work,
+    src: &mut S,
+    out: &mut K,
+    report: &mut E,
+) -> LoopEnd
+    requires command { settings.now.command ≡ Command.Recover }
+    requires workers { (1 ≤ settings.now.workers) × (settings.now.workers ≤ 16) }
+    ensures opens { Comes (IsOpened GoesOver settings.now)
+        (streams (S.seen src.old) (K.seen out.old) (E.seen report.old))
+        (streams (S.seen src.new) (K.seen out.new) (E.seen report.new)) result }
+    ensures causes { HaveCauses result result
+        (streams (S.seen src.old) (K.seen out.old) (E.seen report.old))
+        (streams (S.seen src.new) (K.seen out.new) (E.seen report.new)) }
+{
+    match open_listed(settings, src) {
+        Ok(stated) => recover_loop(
+            rt,
+            gate,
+            &stated.settings,
+            &stated.layout,
+            work,
+            src,
+            out,
+            report,
+        ),
+        Err(end) => end,
+    }
 }
 
 // Decodes a block of image sectors and writes them; or tells its cause and writes those that are saved, and zeros for the
 // others. Any other block is passed over.
-fn recover_block<K: Sink, E: Sink>(
+fn recover_block<F: Fn(&mut Work, &BlockPlan) -> Result<Fixed, Cause>, K: Sink, E: Sink>(
     layout: &Layout,
     k: u32,
     entry: &BlockPlan,
+    read: &F,
     work: &mut Work,
     out: &mut K,
     report: &mut E,
 ) -> Result<Turn, LoopEnd>
+    requires reader { IsReader F.Fn read.now }
     requires numbers { HasNumbers entry.now }
     requires stage { HasBlock (stage_of work.old) }
     ensures done { (source : Seen) → AreDone (IsDone entry.now.content layout.now k entry.now (rows_of work.old) (marks_of_work work.old))
@@ -129,19 +193,21 @@ fn recover_block<K: Sink, E: Sink>(
         (streams source (K.seen out.old) (E.seen report.old)) (streams source (K.seen out.new) (E.seen report.new)) }
 {
     match entry.content {
-        Content::Image(_) => recover_image(layout, k, entry, work, out, report),
+        Content::Image(_) => recover_image(layout, k, entry, read, work, out, report),
         Content::Zero | Content::Reference | Content::Control => Ok(Turn::Good),
     }
 }
 
-fn recover_image<K: Sink, E: Sink>(
+fn recover_image<F: Fn(&mut Work, &BlockPlan) -> Result<Fixed, Cause>, K: Sink, E: Sink>(
     layout: &Layout,
     k: u32,
     entry: &BlockPlan,
+    read: &F,
     work: &mut Work,
     out: &mut K,
     report: &mut E,
 ) -> Result<Turn, LoopEnd>
+    requires reader { IsReader F.Fn read.now }
     requires numbers { HasNumbers entry.now }
     requires stage { HasBlock (stage_of work.old) }
     ensures done { (source : Seen) → AreDone (IsImageDone layout.now k entry.now (rows_of work.old) (marks_of_work work.old))
@@ -150,7 +216,7 @@ fn recover_image<K: Sink, E: Sink>(
         (streams source (K.seen out.old) (E.seen report.old)) (streams source (K.seen out.new) (E.seen report.new)) }
 {
     let count = layout.image_sectors(entry.content);
-    match read_block(work, entry) {
+    match read_by(read, work, entry) {
         Ok(_) => {
             write_sectors(work, count, out)?;
             Ok(Turn::Good)

@@ -1,55 +1,62 @@
 //! The command `survey`: a line for each captured block, and a line of totals.
-ghost use Rattle.std.specs.Prelude.{◌≡◌, ◌++◌, ◌<◌, ◌^◌, ℕ, List, [], ◌∷◌, length, IsErr};
+ghost use Rattle.std.specs.Thread.{IsSync};
+ghost use Rattle.std.specs.Prelude.{◌≡◌, ◌++◌, ◌<◌, ◌≤◌, ◌^◌, ℕ, List, [], ◌∷◌, length, IsErr};
 ghost use Rattle.std.specs.Result.{result_err};
 ghost use Rattle.dvd_capture.specs.Rule.{HasBlock};
 ghost use Rattle.dvd_capture.specs.Works.{rows_of, marks_of_work, stage_of};
-ghost use Rattle.dvd_capture.specs.Captured.{HasSize};
 ghost use Rattle.dvd_capture.specs.declared.form.Form.{Form as CaptureForm};
 ghost use Rattle.dvd_layout.specs.Place.{HasNumbers};
 ghost use Rattle.dvd_layout.specs.Plan.{plan_of};
 ghost use Rattle.dvd_layout.specs.declared.layout.Layout.{Layout as DiskLayout};
 ghost use Rattle.dvd_layout.specs.declared.layout.Zones.{Zones as WhichZones};
-ghost use Rattle.dvd_loop.specs.Laws.{IsDamageEnd};
 ghost use Rattle.dvd_loop.specs.Machine.{IsOutcome};
 ghost use Rattle.dvd_loop.specs.Streams.{streams, Comes, HaveCauses, no_stream};
 ghost use Rattle.dvd_loop.specs.Turns.{AreDone, HaveCausesFor};
 ghost use Rattle.dvd_ports.specs.Seen.{Seen};
 ghost use Rattle.dvd_report.specs.Survey.{StandsFor, surveyed};
 ghost use Rattle.dvd_report.specs.declared.counts.Surveyed.{Surveyed};
+ghost use Rattle.dvd_top.specs.Captured.{IsCaptureEnd};
+ghost use Rattle.dvd_top.specs.Headline.{GoesOver};
+ghost use Rattle.dvd_top.specs.Opening.{IsOpened};
 ghost use Rattle.dvd_top.specs.Commands.Survey.{found_in, survey_units, turn_by};
 ghost use Rattle.dvd_top.specs.Inner.Performing.{IsPerformed, IsLineDone};
+ghost use Rattle.dvd_top.specs.Inner.Workers.{IsBlockRead, IsReader};
 ghost use Rattle.dvd_words.specs.Settings.{IsLayoutOf};
 
 use crate::commands::captured::fetch_block;
+use crate::commands::workers::read_by;
+use crate::opening::{open_listed, worded_layout};
 use crate::status::Refusal;
 use dvd_capture::{Form, Work};
 use dvd_layout::{BlockPlan, Layout, Zones};
 use dvd_loop::{Behind, LoopEnd, Turn, Turns, follow};
+use dvd_par::{Gate, read_block_par};
 use dvd_ports::{NullSink, Sink, Source};
-use dvd_read::{Cause, Fixed, read_block};
+use dvd_read::{Cause, Fixed};
 use dvd_report::Survey;
 use dvd_words::{Command, Settings};
 use std::alloc::Global;
+use std::thread::Threads;
 
-/// Its blocks, in the order of the plan, what was found so far, and the memory of one block.
+/// Its blocks, in the order of the plan, how they are read, what was found so far, and the memory of one block.
 #[derive(Drop)]
-struct Surveying<'a> {
+struct Surveying<'a, 'r, F> {
     layout: Layout,
     zones: Zones,
     form: Form,
+    read: &'r F,
     survey: &'a mut Survey,
     work: &'a mut Work,
-    ghost sized: { HasSize form },
 }
 
-impl<'a> Turns for Surveying<'a> {
+impl<'a, 'r, F: Fn(&mut Work, &BlockPlan) -> Result<Fixed, Cause>> Turns for Surveying<'a, 'r, F> {
     ghost Key = { DiskLayout × WhichZones × CaptureForm };
 
     ghost key = { λ s. (s.layout, s.zones, s.form) };
 
     ghost units = { λ key. survey_units key.0 key.1 key.2 };
 
-    ghost ready = { λ s before. StandsFor s.survey.now (found_in s.layout s.zones s.form before) };
+    ghost ready = { λ s before. StandsFor s.survey.now (found_in s.layout s.zones s.form before) × IsReader F.Fn s.read.now };
 
     ghost left = { λ _ _. Unit {0} };
 
@@ -74,7 +81,7 @@ impl<'a> Turns for Surveying<'a> {
     ) -> Result<Turn, LoopEnd> {
         let entry = self.layout.plan(self.zones, u64::from(k));
         fetch_block(src, k, self.form, self.work)?;
-        survey_block(&entry, self.survey, self.work, out)
+        survey_block(&entry, self.read, self.survey, self.work, out)
     }
 
     fn close<K: Sink, E: Sink>(&self, out: &mut K, _report: &mut E) -> Result<(), LoopEnd> {
@@ -84,7 +91,9 @@ impl<'a> Turns for Surveying<'a> {
 }
 
 /// Surveys every block of the plan of the layout and the zones that the settings choose. The survey has no block before.
-pub fn survey_loop<S: Source, K: Sink>(
+pub fn survey_loop<R: Threads + Sync, G: Gate, S: Source, K: Sink>(
+    rt: &R,
+    gate: &G,
     settings: &Settings,
     layout: &Layout,
     survey: &mut Survey,
@@ -93,15 +102,17 @@ pub fn survey_loop<S: Source, K: Sink>(
     out: &mut K,
 ) -> LoopEnd
     requires layout { IsLayoutOf settings.now layout.now }
-    requires form { HasSize settings.now.form }
+    requires workers { (1 ≤ settings.now.workers) × (settings.now.workers ≤ 16) }
     requires empty { StandsFor survey.old [] }
     ensures follows { Comes (IsOutcome (survey_units layout.now settings.now.zones settings.now.form))
         (streams (S.seen src.old) (K.seen out.old) no_stream) (streams (S.seen src.new) (K.seen out.new) no_stream) result }
     ensures causes { HaveCauses result result
         (streams (S.seen src.old) (K.seen out.old) no_stream) (streams (S.seen src.new) (K.seen out.new) no_stream) }
-    ensures ends { IsDamageEnd (length (plan_of layout.now settings.now.zones)) result }
+    ensures ends { IsCaptureEnd settings.now.form (length (plan_of layout.now settings.now.zones)) result }
 {
     survey_stream(
+        rt,
+        gate,
         settings,
         layout,
         survey,
@@ -113,7 +124,9 @@ pub fn survey_loop<S: Source, K: Sink>(
 }
 
 // The same beside any report, which stays as it is.
-fn survey_stream<S: Source, K: Sink, E: Sink>(
+fn survey_stream<R: Threads + Sync, G: Gate, S: Source, K: Sink, E: Sink>(
+    rt: &R,
+    gate: &G,
     settings: &Settings,
     layout: &Layout,
     survey: &mut Survey,
@@ -123,7 +136,40 @@ fn survey_stream<S: Source, K: Sink, E: Sink>(
     report: &mut E,
 ) -> LoopEnd
     requires layout { IsLayoutOf settings.now layout.now }
-    requires form { HasSize settings.now.form }
+    requires workers { (1 ≤ settings.now.workers) × (settings.now.workers ≤ 16) }
+    requires empty { StandsFor survey.old [] }
+    ensures follows { Comes (IsOutcome (survey_units layout.now settings.now.zones settings.now.form))
+        (streams (S.seen src.old) (K.seen out.old) (E.seen report.old))
+        (streams (S.seen src.new) (K.seen out.new) (E.seen report.new)) result }
+    ensures causes { HaveCauses result result
+        (streams (S.seen src.old) (K.seen out.old) (E.seen report.old))
+        (streams (S.seen src.new) (K.seen out.new) (E.seen report.new)) }
+{
+    let workers = settings.workers;
+    let read = |work: &mut Work, plan: &BlockPlan| -> Result<Fixed, Cause>
+        requires { IsSync R.row
+            × IsSync G.row
+            × (1 ≤ workers)
+            × (workers ≤ 16)
+            × HasBlock (stage_of work.now)
+            × HasNumbers plan.now }
+        ensures { IsBlockRead work.entry.now work.exit.now plan.entry.now result }
+    { read_block_par(rt, workers, gate, work, plan) };
+    survey_by(&read, settings, layout, survey, work, src, out, report)
+}
+
+// The same with what reads a block.
+fn survey_by<'a, F: Fn(&mut Work, &BlockPlan) -> Result<Fixed, Cause>, S: Source, K: Sink, E: Sink>(
+    read: &F,
+    settings: &Settings,
+    layout: &Layout,
+    survey: &'a mut Survey,
+    work: &'a mut Work,
+    src: &mut S,
+    out: &mut K,
+    report: &mut E,
+) -> LoopEnd
+    requires reader { IsReader F.Fn read.now }
     requires empty { StandsFor survey.old [] }
     ensures follows { Comes (IsOutcome (survey_units layout.now settings.now.zones settings.now.form))
         (streams (S.seen src.old) (K.seen out.old) (E.seen report.old))
@@ -136,6 +182,7 @@ fn survey_stream<S: Source, K: Sink, E: Sink>(
         layout: *layout,
         zones: settings.zones,
         form: settings.form,
+        read,
         survey,
         work,
     };
@@ -143,7 +190,9 @@ fn survey_stream<S: Source, K: Sink, E: Sink>(
 }
 
 /// The command with its buffers, or why it doesn't begin.
-pub(crate) fn run_survey<S: Source, K: Sink, E: Sink>(
+pub(crate) fn run_survey<R: Threads + Sync, G: Gate, S: Source, K: Sink, E: Sink>(
+    rt: &R,
+    gate: &G,
     alloc: Global,
     settings: &Settings,
     src: &mut S,
@@ -151,25 +200,77 @@ pub(crate) fn run_survey<S: Source, K: Sink, E: Sink>(
     report: &mut E,
 ) -> Result<LoopEnd, Refusal>
     requires command { settings.now.command ≡ Command.Survey }
-    requires form { HasSize settings.now.form }
+    requires workers { (1 ≤ settings.now.workers) × (settings.now.workers ≤ 16) }
     ensures performed { IsPerformed settings.now
         (streams (S.seen src.old) (K.seen out.old) (E.seen report.old))
         (streams (S.seen src.new) (K.seen out.new) (E.seen report.new)) result }
     ensures untouched { IsErr result → (src.new ≡ src.old) × (out.new ≡ out.old) × (report.new ≡ report.old) }
 {
-    let layout = settings.layout()?;
+    let worded = worded_layout(settings)?;
     let mut survey = Survey::new(alloc)?;
     let mut work = Work::new(alloc)?;
-    Ok(survey_stream(settings, &layout, &mut survey, &mut work, src, out, report))
+    match worded {
+        Some(layout) => Ok(survey_stream(
+            rt,
+            gate,
+            settings,
+            &layout,
+            &mut survey,
+            &mut work,
+            src,
+            out,
+            report,
+        )),
+        None => Ok(survey_listed(rt, gate, settings, &mut survey, &mut work, src, out, report)),
+    }
+}
+
+// The same of a listed capture: its header, and then its blocks.
+fn survey_listed<R: Threads + Sync, G: Gate, S: Source, K: Sink, E: Sink>(
+    rt: &R,
+    gate: &G,
+    settings: &Settings,
+    survey: &mut Survey,
+    work: &mut Work,
+    src: &mut S,
+    out: &mut K,
+    report: &mut E,
+) -> LoopEnd
+    requires command { settings.now.command ≡ Command.Survey }
+    requires workers { (1 ≤ settings.now.workers) × (settings.now.workers ≤ 16) }
+    requires empty { StandsFor survey.old [] }
+    ensures opens { Comes (IsOpened GoesOver settings.now)
+        (streams (S.seen src.old) (K.seen out.old) (E.seen report.old))
+        (streams (S.seen src.new) (K.seen out.new) (E.seen report.new)) result }
+    ensures causes { HaveCauses result result
+        (streams (S.seen src.old) (K.seen out.old) (E.seen report.old))
+        (streams (S.seen src.new) (K.seen out.new) (E.seen report.new)) }
+{
+    match open_listed(settings, src) {
+        Ok(stated) => survey_stream(
+            rt,
+            gate,
+            &stated.settings,
+            &stated.layout,
+            survey,
+            work,
+            src,
+            out,
+            report,
+        ),
+        Err(end) => end,
+    }
 }
 
 // Reads a block, adds it to the survey, and writes its line.
-fn survey_block<K: Sink>(
+fn survey_block<F: Fn(&mut Work, &BlockPlan) -> Result<Fixed, Cause>, K: Sink>(
     entry: &BlockPlan,
+    read: &F,
     survey: &mut Survey,
     work: &mut Work,
     out: &mut K,
 ) -> Result<Turn, LoopEnd>
+    requires reader { IsReader F.Fn read.now }
     requires numbers { HasNumbers entry.now }
     requires stage { HasBlock (stage_of work.old) }
     requires room { survey.old.totals.blocks < 2 ^ 32 }
@@ -181,7 +282,7 @@ fn survey_block<K: Sink>(
     ensures causes { (source report : Seen) → HaveCausesFor result
         (streams source (K.seen out.old) report) (streams source (K.seen out.new) report) }
 {
-    let answer = read_block(work, entry);
+    let answer = read_by(read, work, entry);
     survey.add(work, &answer);
     survey.write_line(entry, out)?;
     Ok(turn_of(&answer))

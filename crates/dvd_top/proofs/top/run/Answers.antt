@@ -1,6 +1,8 @@
-use Rattle.std.proofs.Common.{◌≡◌, inl, None, Some, map, string_bytes, ap, sym, subst, ◌∙◌}
+use Rattle.std.proofs.Common.{◌≡◌, ◌≢◌, true, false, inl, None, Some, map, string_bytes, ap, sym, subst, ◌∙◌}
+use Rattle.dvd_capture.specs.declared.form.Form.TheVariants.{Listed}
 use Rattle.dvd_loop.specs.Streams.{streams}
-use Rattle.dvd_words.specs.Reading.{reading}
+use Rattle.dvd_words.specs.Reading.{IsLawful, reading, takes_listed}
+use Rattle.dvd_words.specs.declared.settings.Command.TheVariants.{CdRead}
 use Rattle.dvd_words.specs.declared.settings.Settings.{Settings}
 use Rattle.dvd_top.specs.Headline.{HasRun, HaveRisen, breaks}
 use Rattle.dvd_top.specs.Lines.{closing_line}
@@ -8,6 +10,11 @@ use Rattle.dvd_top.proofs.RunEnds.{bound_kept, complete_run, ends_there_run, goo
 use Rattle.dvd_top.proofs.RunLemmas.{has_run, same_settings}
 use Rattle.dvd_top.proofs.top.run.Given as given
 use Rattle.dvd_top.proofs.top.run.Goals as goal
+
+-- `cdread` reads no listed capture
+not_listed : (settings : Settings) → IsLawful settings → settings.command ≡ CdRead → settings.form ≢ Listed
+not_listed settings lawful is listed =
+    let no : false ≡ true = ap takes_listed (sym is) ∙ lawful.listed listed in cc
 
 -- the command was begun, and this is its run
 begun : (g : given.Over) (c : goal.After-into g) (settings : Settings) → reading (map string_bytes c.args.words.now) ≡ Some settings
@@ -42,5 +49,7 @@ returns-in-Ok-perform g c =
       read_fault = λ is settings reads. ends_there_run settings old new c.into.result (begun g c settings reads) is;
       bound = λ some whole none settings reads is. bound_kept settings old new c.into.result (begun g c settings reads) some whole none is;
       good_frames = λ some whole none settings reads is. good_frames_kept settings old new c.into.result (begun g c settings reads) some whole none is;
-      sectors = λ some whole none settings reads is. sectors_kept settings old new c.into.result (begun g c settings reads) some whole none is;
+      sectors = λ some whole none settings reads is.
+          sectors_kept settings old new c.into.result (begun g c settings reads) some whole none
+          (is, subst (λ (s : Settings). s.command ≡ CdRead → s.form ≢ Listed) (same_settings _ _ _ read reads) (not_listed c.in-Ok.settings c.in-Ok.ensures.lawful) is);
     }

@@ -3,7 +3,7 @@ use Rattle.dvd_loop.specs.Machine.{IsOutcome}
 use Rattle.dvd_loop.proofs.StreamLemmas.{comes_as}
 use Rattle.dvd_top.specs.Commands.{meaning}
 use Rattle.dvd_top.specs.Commands.Assemble.{assemble_units}
-use Rattle.dvd_top.specs.Headline.{IsLoop}
+use Rattle.dvd_top.specs.Headline.{GoesOver}
 use Rattle.dvd_top.proofs.AssembleFrames.{blocks_few}
 use Rattle.dvd_top.proofs.commands.assemble.run_assemble.Goals as goal
 
@@ -12,7 +12,7 @@ returns-clause-performed g c =
     let settings = c.args.settings.now in
     let layout = c.in_ok-layout.layout in record {
       lawful = subst (λ command. (meaning command).breaks settings ≡ None) (sym c.requires.command) (c.in_ok-layout.ensures.lawful refl);
-      comes = comes_as (IsOutcome (assemble_units layout settings.form settings.frames)) (IsLoop settings) _ _ c.assemble_loop.result
+      comes = comes_as (IsOutcome (assemble_units layout settings.form settings.frames)) (GoesOver settings) _ _ c.assemble_loop.result
           (λ bytes outcome runs. subst (λ command. (meaning command).OfUnits settings (λ units. IsOutcome units bytes outcome)) (sym c.requires.command) (layout, c.in_ok-layout.ensures.lengths, runs))
           c.assemble_loop.ensures.follows;
       causes = c.assemble_loop.ensures.causes;

@@ -1,10 +1,9 @@
 use Rattle.std.proofs.Common.{refl}
-use Rattle.dvd_loop.proofs.LoopEnds.{damage_end}
-use Rattle.dvd_capture.specs.Captured.{block_size}
 use Rattle.dvd_top.specs.Commands.Deep.{deep_units}
+use Rattle.dvd_top.proofs.CaptureEnds.{capture_end}
 use Rattle.dvd_top.proofs.commands.deep.deep_loop.Goals as goal
 
 pub returns-clause-ends : goal.returns-clause-ends
 returns-clause-ends g c =
     let f = c.follow_lone.ensures.follows in
-    damage_end (deep_units c.args.layout.now c.args.settings.now.zones c.args.settings.now.form) (λ k. block_size c.args.settings.now.form) (λ k own. refl) refl f.bytes f.outcome f.holds c.follow_lone.result f.ends
+    capture_end c.args.settings.now.form (deep_units c.args.layout.now c.args.settings.now.zones c.args.settings.now.form) (λ k own. refl) refl f.bytes f.outcome f.holds c.follow_lone.result f.ends

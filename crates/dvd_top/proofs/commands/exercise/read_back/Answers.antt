@@ -7,7 +7,7 @@ use Rattle.dvd_top.proofs.ExerciseTrials.{same_sectors}
 use Rattle.dvd_top.proofs.commands.exercise.read_back.Goals as goal
 
 pub returns-in-Ok-clause-counted : goal.returns-in-Ok-clause-counted
-returns-in-Ok-clause-counted c = λ same.
+returns-in-Ok-clause-counted g c = λ same.
     let whole : c.has_sectors.result ≡ true = c.has_sectors.ensures ∙ ap (λ s. are_sectors s c.args.image.now) same ∙ same_sectors c.args.image.now in record {
       whole = c.add.ensures.whole whole;
       fixed =
@@ -17,7 +17,7 @@ returns-in-Ok-clause-counted c = λ same.
     }
 
 pub returns-in_default-clause-counted : goal.returns-in_default-clause-counted
-returns-in_default-clause-counted c = λ same.
+returns-in_default-clause-counted g c = λ same.
     let cause : block_cause (rows_of c.args.work.now) (marks_of_work c.args.work.now) c.args.entry.now ≡ Some c.in_default.field-0 =
-    subst (λ r. IfErr r (λ cause. block_cause (rows_of c.args.work.now) (marks_of_work c.args.work.now) c.args.entry.now ≡ Some cause)) c.in_default.is c.read_block.ensures.refused in
+    subst (λ r. IfErr r (λ cause. block_cause (rows_of c.args.work.now) (marks_of_work c.args.work.now) c.args.entry.now ≡ Some cause)) c.in_default.is c.read_by.ensures.refused in
     absurd (let no : None ≡ Some c.in_default.field-0 = sym c.requires.right ∙ cause in cc)

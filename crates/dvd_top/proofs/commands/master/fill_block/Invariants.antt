@@ -5,4 +5,4 @@ use Rattle.dvd_top.specs.Commands.Master.{frame_of}
 use Rattle.dvd_top.proofs.commands.master.fill_block.Given as goal
 
 abbrev pub invariant-loop-f : goal.invariant-loop-f
-invariant-loop-f l = (g : ℕ) → g < l.f → HoldsFrame g (frame_of l.layout l.entry l.cpr l.sectors g) (block_rows l.block)
+invariant-loop-f g l = (f : ℕ) → f < l.f → HoldsFrame f (frame_of l.layout l.entry l.cpr l.sectors f) (block_rows l.block)

@@ -3,16 +3,16 @@ use Rattle.dvd_loop.specs.Machine.{IsOutcome}
 use Rattle.dvd_loop.proofs.StreamLemmas.{comes_as}
 use Rattle.dvd_top.specs.Commands.{meaning}
 use Rattle.dvd_top.specs.Commands.Master.{master_units}
-use Rattle.dvd_top.specs.Headline.{IsLoop}
+use Rattle.dvd_top.specs.Headline.{GoesOver}
 use Rattle.dvd_top.proofs.commands.master.run_master.Goals as goal
 
 pub returns-clause-performed : goal.returns-clause-performed
 returns-clause-performed g c =
     let settings = c.args.settings.now in
     let layout = c.in_ok-layout.layout in record {
-      lawful = subst (λ command. (meaning command).breaks settings ≡ None) (sym c.requires) (c.in_ok-layout.ensures.lawful refl);
-      comes = comes_as (IsOutcome (master_units layout settings.zones settings.cpr)) (IsLoop settings) _ _ c.follow_blocks.result
-          (λ bytes outcome runs. subst (λ command. (meaning command).OfUnits settings (λ units. IsOutcome units bytes outcome)) (sym c.requires) (layout, c.in_ok-layout.ensures.lengths, runs))
+      lawful = subst (λ command. (meaning command).breaks settings ≡ None) (sym c.requires.command) (c.in_ok-layout.ensures.lawful refl);
+      comes = comes_as (IsOutcome (master_units layout settings.zones settings.cpr)) (GoesOver settings) _ _ c.follow_blocks.result
+          (λ bytes outcome runs. subst (λ command. (meaning command).OfUnits settings (λ units. IsOutcome units bytes outcome)) (sym c.requires.command) (layout, c.in_ok-layout.ensures.lengths, runs))
           c.follow_blocks.ensures.follows;
       causes = c.follow_blocks.ensures.causes;
     }

@@ -3,7 +3,7 @@ use Rattle.dvd_loop.specs.Machine.{IsOutcome}
 use Rattle.dvd_loop.proofs.StreamLemmas.{comes_as}
 use Rattle.dvd_top.specs.Commands.{meaning}
 use Rattle.dvd_top.specs.Commands.Merge.{merge_units}
-use Rattle.dvd_top.specs.Headline.{IsLoop}
+use Rattle.dvd_top.specs.Headline.{GoesOver}
 use Rattle.dvd_top.proofs.commands.merge.run_merge.Goals as goal
 
 pub returns-clause-performed : goal.returns-clause-performed
@@ -11,7 +11,7 @@ returns-clause-performed g c =
     let settings = c.args.settings.now in
     let layout = c.in_ok-layout.layout in record {
       lawful = subst (λ command. (meaning command).breaks settings ≡ None) (sym c.requires.command) (c.in_ok-layout.ensures.lawful refl);
-      comes = comes_as (IsOutcome (merge_units layout settings.zones settings.form settings.captures)) (IsLoop settings) _ _ c.merge_stream.result
+      comes = comes_as (IsOutcome (merge_units layout settings.zones settings.form settings.captures)) (GoesOver settings) _ _ c.merge_stream.result
           (λ bytes outcome runs. subst (λ command. (meaning command).OfUnits settings (λ units. IsOutcome units bytes outcome)) (sym c.requires.command) (layout, c.in_ok-layout.ensures.lengths, runs))
           c.merge_stream.ensures.follows;
       causes = c.merge_stream.ensures.causes;

@@ -12,12 +12,12 @@ use Rattle.dvd_top.proofs.commands.survey.survey_block.Goals as goal
 
 pub returns-in_err-write_line-clause-survey : goal.returns-in_err-write_line-clause-survey
 returns-in_err-write_line-clause-survey g c = λ blocks stands.
-    let r = c.read_block-answer in
+    let r = c.read_by-answer in
     stands_more c.add.new.self c.args.work.now r.new.work c.args.entry.now r.result blocks (c.add.ensures.added blocks stands) r.ensures.received r.ensures.marks r.ensures.right r.ensures.refused
 
 pub returns-in_err-write_line-clause-done : goal.returns-in_err-write_line-clause-done
 returns-in_err-write_line-clause-done g c = λ source report blocks stands.
-    let r = c.read_block-answer in
+    let r = c.read_by-answer in
     let entry = c.args.entry.now in
     let rows = rows_of c.args.work.now in
     let marks = marks_of_work c.args.work.now in
@@ -33,12 +33,12 @@ returns-in_err-write_line-clause-done g c = λ source report blocks stands.
 
 pub returns-clause-survey : goal.returns-clause-survey
 returns-clause-survey g c = λ blocks stands.
-    let r = c.read_block-answer in
+    let r = c.read_by-answer in
     stands_more c.add.new.self c.args.work.now r.new.work c.args.entry.now r.result blocks (c.add.ensures.added blocks stands) r.ensures.received r.ensures.marks r.ensures.right r.ensures.refused
 
 pub returns-clause-done : goal.returns-clause-done
 returns-clause-done g c = λ source report blocks stands.
-    let r = c.read_block-answer in
+    let r = c.read_by-answer in
     let entry = c.args.entry.now in
     let rows = rows_of c.args.work.now in
     let marks = marks_of_work c.args.work.now in

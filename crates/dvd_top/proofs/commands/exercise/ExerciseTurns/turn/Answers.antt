@@ -51,7 +51,7 @@ returns-clause-turn g c = λ before number ready.
     let new_state = state_of c.draw_block.new.rand in
     let counts = c.read_back.new.counts in
     let new_work = c.read_back.new.work in
-    let behind = subst (λ n. IsBehind e.seed n x e.counts e.work.now) number ready in
+    let behind = subst (λ n. IsBehind e.seed n x e.counts e.work.now) number ready.0 in
     let next : IsBehind e.seed (k + 1) new_state counts new_work =
     turn_behind e.blocks k x e.layout e.shape c.requires.unit e.few entry stands piece block work made.drawn made.made made.hurt
     e.seed c.bytes.result.now c.bytes.ensures.bytes e.counts counts e.work.now new_work new_state behind made.state
@@ -60,5 +60,5 @@ returns-clause-turn g c = λ before number ready.
       steps = [];
       unit = record { whole = refl; does = (refl, refl) };
       moved = stays _;
-      next = subst (λ n. IsBehind e.seed n new_state counts new_work) (sym (length-append before ([] ∷ []) ∙ ap (λ n. n + 1) number)) next;
+      next = (subst (λ n. IsBehind e.seed n new_state counts new_work) (sym (length-append before ([] ∷ []) ∙ ap (λ n. n + 1) number)) next, ready.1, ready.2);
     }

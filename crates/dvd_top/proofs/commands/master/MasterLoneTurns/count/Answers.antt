@@ -3,4 +3,4 @@ use Rattle.dvd_top.proofs.Lengths.{plan-few}
 use Rattle.dvd_top.proofs.commands.master.MasterLoneTurns.count.Goals as goal
 
 pub overflow_cast-result : goal.overflow_cast-result
-overflow_cast-result c = omega (arith, c.blocks-2.ensures, plan-few c.args.self.now.layout c.args.self.now.zones)
+overflow_cast-result g c = omega (arith, c.blocks-2.ensures, plan-few c.args.self.now.layout c.args.self.now.zones)

@@ -19,5 +19,5 @@ returns-in_err-write_totals-clause-closes g c = λ source before number ready.
       Write line ∷ [],
       refl,
       subst (AreSteps (Write line ∷ []) (streams source output report) (streams source new_output report)) (sym (err_is answer WriteFault c.from_residual.ensures.1))
-          (step_begun source output new_output report line [] (c.in_err-write_totals.ensures.begun (found_in m.layout m.zones m.form before) ready)),
+          (step_begun source output new_output report line [] (c.in_err-write_totals.ensures.begun (found_in m.layout m.zones m.form before) ready.0)),
     )

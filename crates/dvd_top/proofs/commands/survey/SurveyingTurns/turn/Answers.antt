@@ -1,11 +1,11 @@
 use Rattle.std.proofs.Common.{◌≡◌, ◌≤◌, ◌<◌, length, slice_get, Some, refl, ap, sym, ◌∙◌, arith}
-use Rattle.dvd_capture.proofs.Fetching.{sized-block}
 use Rattle.dvd_capture.specs.Works.{marks_of_work, rows_of}
 use Rattle.dvd_layout.specs.Plan.{plan_of}
 use Rattle.dvd_loop.specs.Streams.{streams}
-use Rattle.dvd_loop.proofs.TurnLemmas.{causes_after, err_is, sized_done, sized_short}
+use Rattle.dvd_loop.proofs.TurnLemmas.{causes_after, err_is}
 use Rattle.dvd_report.proofs.Answered.{blocks-counted}
 use Rattle.dvd_top.specs.Commands.Survey.{found_in}
+use Rattle.dvd_top.proofs.CapturedTurns.{captured_done, captured_short}
 use Rattle.dvd_top.proofs.Lengths.{plan-few}
 use Rattle.dvd_top.proofs.PlanEntries.{has_numbers}
 use Rattle.dvd_top.proofs.SurveyBlocks.{length-found, line_done, next_stands}
@@ -14,8 +14,8 @@ use Rattle.dvd_top.proofs.commands.survey.SurveyingTurns.turn.Goals as goal
 pub returns-in_err-fetch_block-clause-turn : goal.returns-in_err-fetch_block-clause-turn
 returns-in_err-fetch_block-clause-turn g c = λ before number ready.
     let end = c.in_err-fetch_block.field-0.0 in
-    sized_short _ _ (λ k own. refl) c.args.k before number _ (g.S.Source.seen c.args.src.now) (g.S.Source.seen c.fetch_block.new.src) (g.K.Sink.seen c.args.out.now) (g.E.Sink.seen c.args._report.now)
-    c.from_residual.result end (err_is c.from_residual.result end c.from_residual.ensures.1) c.in_err-fetch_block.ensures.short
+    captured_short _ c.args.self.now.form (λ k own. refl) c.args.k before number _ (g.S.Source.seen c.args.src.now) (g.S.Source.seen c.fetch_block.new.src) (g.K.Sink.seen c.args.out.now) (g.E.Sink.seen c.args._report.now)
+    c.from_residual.result end (err_is c.from_residual.result end c.from_residual.ensures.1) c.in_err-fetch_block.ensures.ended
 
 pub survey_block-requires-clause-numbers : goal.survey_block-requires-clause-numbers
 survey_block-requires-clause-numbers g c =
@@ -30,7 +30,7 @@ survey_block-requires-clause-room g c =
     let number = c.requires.ready.1 in
     let within : c.args.k < length (plan_of m.layout m.zones) = c.requires.unit in
     let few : length before ≤ length (plan_of m.layout m.zones) = omega (arith, number, within) in
-    let counted = blocks-counted m.survey.now (found_in m.layout m.zones m.form before) c.requires.ready.2 in
+    let counted = blocks-counted m.survey.now (found_in m.layout m.zones m.form before) c.requires.ready.2.0 in
     let size = length-found m.layout m.zones m.form before few in
     let most = plan-few m.layout m.zones in
     omega (arith, counted, size, number, within, most)
@@ -47,11 +47,13 @@ returns-clause-turn g c = λ before number ready.
     let report = g.E.Sink.seen c.args._report.now in
     let new_output = g.K.Sink.seen c.survey_block.new.out in
     let found = found_in m.layout m.zones m.form before in
-    sized_done _ _ (λ k own. refl) c.args.k before number _ (g.S.Source.seen c.args.src.now) read output report fetched.bytes (fetched.size ∙ sized-block m.form m.sized fetched.bytes) fetched.taken new_output report c.survey_block.result
+    captured_done _ m.form (λ k own. refl) c.args.k before number _ (g.S.Source.seen c.args.src.now) read output report _ _ fetched new_output report c.survey_block.result
     (line_done m.layout m.zones m.form c.args.k before number fetched.bytes c.plan-entry.result stands rows marks fetched.rows_are fetched.marks_are c.requires.unit
-    (streams read output report) (streams read new_output report) c.survey_block.result (c.survey_block.ensures.done read report found ready))
-    (next_stands m.layout m.zones m.form c.args.k before number fetched.bytes c.plan-entry.result stands rows marks fetched.rows_are fetched.marks_are
-    c.survey_block.new.survey (c.survey_block.ensures.survey found ready))
+    (streams read output report) (streams read new_output report) c.survey_block.result (c.survey_block.ensures.done read report found ready.0)) (
+      next_stands m.layout m.zones m.form c.args.k before number fetched.bytes c.plan-entry.result stands rows marks fetched.rows_are fetched.marks_are
+          c.survey_block.new.survey (c.survey_block.ensures.survey found ready.0),
+      ready.1,
+    )
 
 pub returns-clause-causes : goal.returns-clause-causes
 returns-clause-causes g c =

@@ -1,10 +1,10 @@
 use Rattle.std.proofs.Common.{◌≡◌, ◌-◌, rules, refl, ap, subst}
 use Rattle.dvd_top.specs.Commands.Exercise.{IsLeft}
 use Rattle.dvd_top.proofs.ExerciseTrials.{none_behind}
-use Rattle.dvd_top.proofs.commands.exercise.follow_trials.Goals as goal
+use Rattle.dvd_top.proofs.commands.exercise.follow_by.Goals as goal
 
 pub follow-requires : goal.follow-requires
-follow-requires g c = none_behind _ _ _ _ c.rand_of.ensures refl refl refl
+follow-requires g c = (none_behind _ _ _ _ c.rand_of.ensures refl refl refl, c.requires.adder, c.requires.reader)
 
 pub returns-clause-left : goal.returns-clause-left
 returns-clause-left g c =

@@ -1,0 +1,235 @@
+-- What `convert` wrote is read as that which it was converted from.
+use Rattle.std.proofs.Common.{◌≡◌, ◌≢◌, ◌∙◌, inl, inr, ℕ, zero, suc, ◌+◌, Bool, List, [], ◌∷◌, ◌++◌, length, take, drop, slice_get, Some, None, refl, ap, sym, subst, arith, length-append, append-nil}
+use Rattle.std.proofs.Math.Seq.{drop-append_seam, take-append_seam}
+use Rattle.dvd_capture.specs.Captured.{HasSize, block_size, captured_marks, captured_rows}
+use Rattle.dvd_capture.specs.declared.form.Form.{Form}
+use Rattle.dvd_capture.specs.declared.form.Form.TheVariants.{Listed}
+use Rattle.dvd_layout.specs.Plan.{plan_of}
+use Rattle.dvd_layout.specs.declared.entry.BlockPlan.{BlockPlan}
+use Rattle.dvd_layout.specs.declared.entry.Content.{Content}
+use Rattle.dvd_layout.specs.declared.entry.Content.TheVariants.{Zero, Reference, Control, Image}
+use Rattle.dvd_layout.specs.declared.layout.Layout.{Layout}
+use Rattle.dvd_layout.specs.declared.layout.Zones.{Zones}
+use Rattle.dvd_layout.proofs.SameLengths.{same_lengths-same}
+use Rattle.dvd_loop.specs.Laws.{IsFaultless}
+use Rattle.dvd_loop.specs.Machine.{Does, EndsBehind, Goes, GoesOn, IsOutcome, IsUnit, Outcome, Step, Units, bad_of, taking}
+use Rattle.dvd_loop.specs.Machine.Step.{Write}
+use Rattle.dvd_loop.specs.Turns.{told, written}
+use Rattle.dvd_loop.specs.declared.ends.Behind.TheVariants.{Asks}
+use Rattle.dvd_loop.specs.declared.ends.LoopEnd.TheVariants.{Done, Long, ReadFault, Short}
+use Rattle.dvd_loop.specs.declared.ends.Turn.{Turn}
+use Rattle.dvd_loop.specs.declared.ends.Turn.TheVariants.{Good, Bad, Last}
+use Rattle.dvd_loop.proofs.Faultless.{all_done}
+use Rattle.dvd_loop.proofs.Sizes.{TakesOne, goes_one}
+use Rattle.dvd_loop.proofs.StepLemmas.{does_all, onto}
+use Rattle.dvd_top.specs.Commands.{meaning}
+use Rattle.dvd_top.specs.Commands.Convert.{convert_units}
+use Rattle.dvd_top.specs.Commands.Recover.{IsDone, IsRecovered, recover_units}
+use Rattle.dvd_top.specs.Headline.{GoesOver}
+use Rattle.dvd_top.specs.Laws.{ConvertedIsRead}
+use Rattle.dvd_top.specs.Opening.{IsHeaderOf, IsOpened, Opens}
+use Rattle.dvd_top.proofs.CapturedTurns.{captured_whole}
+use Rattle.dvd_top.proofs.ConvertedBlocks.{sized_part}
+use Rattle.dvd_top.proofs.HeaderTaken.{breaks_by_words, words_of}
+use Rattle.dvd_top.proofs.Opened.{header-size}
+use Rattle.dvd_words.specs.Settings.{IsLayoutOf, broken_rule}
+use Rattle.dvd_words.specs.declared.settings.Command.TheVariants.{Recover}
+use Rattle.dvd_words.specs.declared.settings.Settings.{Settings}
+
+-- no block that is recovered is the last
+done_not_last : (content : Content) (layout : Layout) (k : ℕ) (entry : BlockPlan) (rows : List (List ℕ)) (marks : List (List Bool)) (steps : List Step)
+    → IsDone content layout k entry rows marks steps Last → ⊥
+done_not_last (Image sector) layout k entry rows marks steps does = elim does [
+  | inl given ↦ (let no : Last ≡ Good = given.good in cc)
+  | inr refused ↦ (let no : Last ≡ Bad = refused.bad in cc)
+]
+done_not_last Zero layout k entry rows marks steps does = let no : Last ≡ Good = does.1 in cc
+done_not_last Reference layout k entry rows marks steps does = let no : Last ≡ Good = does.1 in cc
+done_not_last Control layout k entry rows marks steps does = let no : Last ≡ Good = does.1 in cc
+
+on_from : (turn : Turn) → turn ≢ Last → (A : Outcome → Type 0) (after : Outcome) → A after → GoesOn turn A after
+on_from Good not A after holds = holds
+on_from Bad not A after holds = holds
+on_from Last not A after holds = absurd (not refl)
+
+-- where a conversion is done nothing is left of the input
+behind_both : (bad others : ℕ) (left : List ℕ) (c a : Outcome) → EndsBehind Asks others left c → c.end ≡ Done → EndsBehind Asks bad left a
+    → (c.out ≡ []) × EndsBehind Asks bad [] a
+behind_both bad others [] c a ends done rest = elim ends [
+  | inl is ↦ (ap (λ (o : Outcome). o.out) is, rest)
+  | inr is ↦ (ap (λ (o : Outcome). o.out) is, rest)
+]
+behind_both bad others (byte ∷ left) c a ends done rest = elim ends [
+  | inl is ↦ absurd (let no : Long ≡ Done = sym (ap (λ (o : Outcome). o.end) is) ∙ done in cc)
+  | inr is ↦ absurd (let no : ReadFault ≡ Done = sym (ap (λ (o : Outcome). o.end) is) ∙ done in cc)
+]
+
+-- units of these bytes go so again, but for what is taken
+pub record GoesAgain (units : Units) (n : ℕ) (before : List (List ℕ)) (bad : ℕ) (bytes : List ℕ) (a : Outcome) : Type 0 where
+  pub again : Outcome
+  pub goes : Goes units n before bad bytes again
+  pub out : again.out ≡ a.out
+  pub lines : again.lines ≡ a.lines
+  pub ends : again.end ≡ a.end
+
+module _ (layout : Layout) (zones : Zones) (form : Form) (has : HasSize form) (opening : List ℕ) where
+  abbrev converting : Units
+  converting = convert_units layout zones form opening
+
+  abbrev reading : Units
+  reading = recover_units layout zones form
+
+  abbrev listing : Units
+  listing = recover_units layout zones Listed
+
+  convert_last : (before : List (List ℕ)) (own : List ℕ) (steps : List Step) → IsUnit converting before own steps Last → ⊥
+  convert_last before own steps unit = let no : Last ≡ Good = unit.does.good in cc
+
+  recover_last : (before : List (List ℕ)) (own : List ℕ) (steps : List Step) → IsUnit reading before own steps Last → ⊥
+  recover_last before own steps unit =
+      done_not_last unit.does.entry.content layout (length before) unit.does.entry (captured_rows form own) (captured_marks form own) steps unit.does.does
+
+  -- one block, of which the unit was written and that was recovered
+  module _ (n : ℕ) (cb rb lb : List (List ℕ)) (bad others : ℕ) (left : List ℕ) (c a : Outcome) (same : length rb ≡ length lb)
+      (t : TakesOne converting (λ k. block_size form) (λ k own. sized_part form has own) n cb others left c)
+      (o : TakesOne reading (λ k. block_size form) (λ k own. sized_part form has own) n rb bad left a) where
+    same_own : o.own ≡ t.own
+    same_own =
+        sym (take-append_seam o.own o.left) ∙ ap (λ m. take m (o.own ++ o.left)) (o.size_is ∙ sym t.size_is)
+        ∙ ap (take (length t.own)) (sym o.front ∙ t.front) ∙ take-append_seam t.own t.left
+
+    same_left : o.left ≡ t.left
+    same_left =
+        sym (drop-append_seam o.own o.left) ∙ ap (λ m. drop m (o.own ++ o.left)) (o.size_is ∙ sym t.size_is)
+        ∙ ap (drop (length t.own)) (sym o.front ∙ t.front) ∙ drop-append_seam t.own t.left
+
+    unit : List ℕ
+    unit = t.unit.does.unit
+
+    out_is : c.out ≡ unit ++ t.after.out
+    unfolding unit
+    out_is =
+        ap (λ (x : Outcome). x.out) t.is ∙ ap (λ s. written s ++ t.after.out) t.unit.does.writes ∙ ap (λ l. l ++ t.after.out) (append-nil t.unit.does.unit)
+
+    listed_does : IsRecovered layout zones Listed (length lb) unit o.steps o.turn
+    unfolding unit
+    listed_does =
+        let is = t.unit.does.is_unit in
+        let rows : captured_rows form o.own ≡ captured_rows Listed t.unit.does.unit = ap (captured_rows form) same_own ∙ sym is.rows_are in
+        let marks : captured_marks form o.own ≡ captured_marks Listed t.unit.does.unit = ap (captured_marks form) same_own ∙ sym is.marks_are in
+        let entry = o.unit.does.entry in record {
+          entry = entry;
+          stands = subst (λ k. slice_get (plan_of layout zones) k ≡ Some entry) same o.unit.does.stands;
+          does = subst (λ k. IsDone entry.content layout k entry (captured_rows Listed t.unit.does.unit) (captured_marks Listed t.unit.does.unit) o.steps o.turn) same
+              (subst (λ m. IsDone entry.content layout (length rb) entry (captured_rows Listed t.unit.does.unit) m o.steps o.turn) marks
+              (subst (λ r. IsDone entry.content layout (length rb) entry r (captured_marks form o.own) o.steps o.turn) rows o.unit.does.does));
+        }
+
+    one_more : GoesAgain listing n (lb ++ unit ∷ []) (bad + bad_of o.turn) t.after.out o.after → GoesAgain listing (suc n) lb bad c.out a
+    unfolding Goes unit
+    one_more r =
+        let is = t.unit.does.is_unit in
+        let Next = Goes listing n (lb ++ unit ∷ []) (bad + bad_of o.turn) t.after.out in
+        let behind = onto [] (written o.steps) (told o.steps) r.again in record {
+          again = taking unit behind;
+          goes = subst (λ l. Goes listing (suc n) lb bad l (taking unit behind)) (sym out_is) (inr (record {
+            own = unit;
+            left = t.after.out;
+            steps = o.steps;
+            turn = o.turn;
+            front = refl;
+            unit = record { whole = captured_whole Listed unit is.size is.lawful; does = listed_does };
+            after = behind;
+            does = does_all o.steps (GoesOn o.turn Next) r.again
+                (on_from o.turn (λ last. recover_last rb o.own o.steps (subst (IsUnit reading rb o.own o.steps) last o.unit)) Next r.again r.goes);
+            takes = refl;
+          }));
+          out = ap (λ l. written o.steps ++ l) r.out ∙ sym (ap (λ (x : Outcome). x.out) o.is);
+          lines = ap (λ l. told o.steps ++ l) r.lines ∙ sym (ap (λ (x : Outcome). x.lines) o.is);
+          ends = r.ends ∙ sym (ap (λ (x : Outcome). x.end) o.is);
+        }
+
+  longer : (xs ys : List (List ℕ)) (x y : List ℕ) → length xs ≡ length ys → length (xs ++ x ∷ []) ≡ length (ys ++ y ∷ [])
+  longer xs ys x y same = omega (arith, same, length-append xs (x ∷ []), length-append ys (y ∷ []))
+
+  -- the units to come
+  goes_again : (n : ℕ) (cb rb lb : List (List ℕ)) (bad others : ℕ) (left : List ℕ) (c a : Outcome) → length rb ≡ length lb
+      → Goes converting n cb others left c → c.end ≡ Done → Goes reading n rb bad left a → IsFaultless a.end → GoesAgain listing n lb bad c.out a
+  unfolding Goes unit
+  goes_again zero cb rb lb bad others left c a same (csteps, cnone, cdoes) done (rsteps, rnone, rdoes) none =
+      let ends : EndsBehind Asks others left c = subst (λ s. Does s (EndsBehind Asks others left) c) cnone cdoes in
+      let rest : EndsBehind Asks bad left a = subst (λ s. Does s (EndsBehind Asks bad left) a) rnone rdoes in
+      let both = behind_both bad others left c a ends done rest in record {
+        again = a;
+        goes = ([], refl, subst (λ l. EndsBehind Asks bad l a) (sym both.0) both.1);
+        out = refl;
+        lines = refl;
+        ends = refl;
+      }
+  goes_again (suc n) cb rb lb bad others left c a same conv done rec none =
+      elim (goes_one converting (λ k. block_size form) (λ k own. sized_part form has own) n cb (convert_last cb) others left c conv (subst IsFaultless (sym done) tt)) [
+        | inl short ↦ absurd (let no : Short (length cb) (length left) ≡ Done = sym (ap (λ (x : Outcome). x.end) short.is) ∙ done in cc)
+        | inr t ↦ elim (goes_one reading (λ k. block_size form) (λ k own. sized_part form has own) n rb (recover_last rb) bad left a rec none) [
+          | inl short ↦ absurd (let all = ap length t.front in let sum = length-append t.own t.left in let fewer = short.fewer in omega (arith, all, sum, fewer, t.size_is))
+          | inr o ↦
+              one_more n cb rb lb bad others left c a same t o
+              (goes_again n (cb ++ t.own ∷ []) (rb ++ o.own ∷ []) (lb ++ t.unit.does.unit ∷ []) (bad + bad_of o.turn) (others + bad_of t.turn) t.left t.after o.after
+              (longer rb lb o.own t.unit.does.unit same) t.goes (sym (ap (λ (x : Outcome). x.end) t.is) ∙ done)
+              (subst (λ l. Goes reading n (rb ++ o.own ∷ []) (bad + bad_of o.turn) l o.after) (same_left n cb rb lb bad others left c a same t o) o.goes) o.faultless)
+        ]
+      ]
+
+-- THE LAW.
+pub converted_read : ConvertedIsRead
+converted_read settings words bytes c a is_convert is_recover listed has lawful conv done rec none =
+    let form = settings.form in
+    let rule : broken_rule settings ≡ None =
+    subst (λ command. (meaning command).breaks settings ≡ None) is_convert (sym (breaks_by_words form has settings) ∙ lawful) in
+    let (layout, is, (opening, header, runs)) =
+    subst (λ command. (meaning command).OfUnits settings (λ units. IsOutcome units bytes c)) is_convert (words_of form has GoesOver settings bytes c conv) in
+    let (other, so, read) = words_of form has GoesOver (record settings { command = Recover }) bytes a rec in
+    let same : other ≡ layout =
+    same_lengths-same other layout (so.shape ∙ sym is.shape) (so.sectors0 ∙ sym is.sectors0) (so.sectors1 ∙ sym is.sectors1) (so.initial ∙ sym is.initial) (so.tail ∙ sym is.tail) in
+    let count = length (plan_of layout settings.zones) in
+    let opened = all_done (Write opening ∷ []) (Goes (convert_units layout settings.zones form opening) count [] 0 bytes) c runs (subst IsFaultless (sym done) tt) in
+    let front : c.out ≡ opening ++ opened.after.out = ap (λ (x : Outcome). x.out) opened.is ∙ ap (λ l. l ++ opened.after.out) (append-nil opening) in
+    let r = goes_again layout settings.zones form has opening count [] [] [] 0 0 bytes opened.after a refl opened.holds (sym (ap (λ (x : Outcome). x.end) opened.is) ∙ done)
+    (subst (λ l. IsOutcome (recover_units l settings.zones form) bytes a) same read) none in
+    let sectors : settings.sectors ≡ header.header.sectors0 = ap (λ (s : Settings). s.sectors) header.states.all in
+    let sectors1 : settings.sectors1 ≡ header.header.sectors1 = ap (λ (s : Settings). s.sectors1) header.states.all in
+    let initial : settings.initial ≡ header.header.initial = ap (λ (s : Settings). s.initial) header.states.all in
+    let tail : settings.tail ≡ header.header.tail = ap (λ (s : Settings). s.tail) header.states.all in
+    let stated : Settings = record words {
+      shape = settings.shape;
+      zones = settings.zones;
+      sectors = header.header.sectors0;
+      sectors1 = header.header.sectors1;
+      initial = header.header.initial;
+      tail = header.header.tail;
+    } in
+    let states : IsHeaderOf words stated opening = record {
+      header = header.header;
+      numbers = header.numbers;
+      bytes = header.bytes;
+      states = record { shape = header.states.shape; zones = header.states.zones; all = refl };
+    } in
+    let lengths : IsLayoutOf stated layout = record {
+      shape = is.shape;
+      sectors0 = is.sectors0 ∙ sectors;
+      sectors1 = is.sectors1 ∙ sectors1;
+      initial = is.initial ∙ initial;
+      tail = is.tail ∙ tail;
+    } in
+    let kept : broken_rule stated ≡ None = rw (sym sectors, sym sectors1, sym initial, sym tail) rule in
+    let goes : GoesOver stated opened.after.out r.again =
+    subst (λ command. (meaning command).OfUnits stated (λ units. IsOutcome units opened.after.out r.again)) (sym is_recover)
+    (layout, lengths, subst (λ f. IsOutcome (recover_units layout settings.zones f) opened.after.out r.again) (sym listed) r.goes) in
+    let run : IsOpened GoesOver words c.out (taking opening r.again) = record {
+      own = opening;
+      left = opened.after.out;
+      front = front;
+      after = r.again;
+      comes = inr (header-size settings settings opening header, inr (stated, states, kept, goes));
+      takes = refl;
+    } in
+    (taking opening r.again, subst (λ f. Opens f GoesOver words c.out (taking opening r.again)) (sym listed) run, r.out, r.lines, r.ends)

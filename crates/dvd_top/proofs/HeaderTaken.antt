@@ -1,0 +1,100 @@
+-- A run over a capture that opens with a header, and one over bytes that open with none.
+use Rattle.std.proofs.Common.{◌≡◌, ◌∙◌, inl, inr, ℕ, List, [], ◌++◌, refl, sym, ap, subst, append-nil}
+use Rattle.std.specs.Io.KnownBytes.{Consumes}
+use Rattle.dvd_capture.specs.Captured.{HasSize}
+use Rattle.dvd_capture.specs.declared.form.Form.{Form}
+use Rattle.dvd_capture.specs.declared.form.Form.TheVariants.{Plain, Marked, Listed}
+use Rattle.dvd_layout.specs.declared.layout.Layout.{Layout}
+use Rattle.dvd_loop.specs.Machine.{Outcome, ended, taking}
+use Rattle.dvd_loop.specs.Streams.{Comes, HaveCauses, Streams, streams}
+use Rattle.dvd_loop.specs.declared.ends.LoopEnd.{LoopEnd}
+use Rattle.dvd_loop.proofs.StreamLemmas.{comes_after, comes_as, told_before}
+use Rattle.dvd_ports.specs.Seen.{Seen}
+use Rattle.dvd_ports.proofs.KnownLemmas.{Appends-none}
+use Rattle.dvd_top.specs.Commands.{meaning}
+use Rattle.dvd_top.specs.Headline.{GoesOver, IsLoop, breaks_in}
+use Rattle.dvd_top.specs.Inner.Opened.{EndsInHeader, HasOpened, NoLoop}
+use Rattle.dvd_top.specs.Inner.Performing.{HasGoneOver, HasLooped}
+use Rattle.dvd_top.specs.Opening.{ComesBehind, IsOpened, Opens}
+use Rattle.dvd_words.specs.declared.settings.Settings.{Settings}
+
+-- WORDS. What holds of a command by its words alone holds of its run, where no header comes first.
+pub opens_by_words : (form : Form) → HasSize form → (Loops : Settings → List ℕ → Outcome → Type 0) (settings : Settings) (bytes : List ℕ) (outcome : Outcome)
+    → Loops settings bytes outcome → Opens form Loops settings bytes outcome
+opens_by_words Plain sized Loops settings bytes outcome loop = loop
+opens_by_words Marked sized Loops settings bytes outcome loop = loop
+opens_by_words Listed sized Loops settings bytes outcome loop = absurd (sized refl)
+
+pub words_of : (form : Form) → HasSize form → (Loops : Settings → List ℕ → Outcome → Type 0) (settings : Settings) (bytes : List ℕ) (outcome : Outcome)
+    → Opens form Loops settings bytes outcome → Loops settings bytes outcome
+words_of Plain sized Loops settings bytes outcome loop = loop
+words_of Marked sized Loops settings bytes outcome loop = loop
+words_of Listed sized Loops settings bytes outcome loop = absurd (sized refl)
+
+pub breaks_by_words : (form : Form) → HasSize form → (settings : Settings) → breaks_in form settings ≡ (meaning settings.command).breaks settings
+breaks_by_words Plain sized settings = refl
+breaks_by_words Marked sized settings = refl
+breaks_by_words Listed sized settings = absurd (sized refl)
+
+pub looped_by_words : (settings : Settings) → HasSize settings.form → (old new : Streams) (end : LoopEnd) → HasGoneOver settings old new end
+    → HasLooped settings old new end
+looped_by_words settings sized old new end gone = record {
+  lawful = breaks_by_words settings.form sized settings ∙ gone.lawful;
+  comes = comes_as (GoesOver settings) (IsLoop settings) old new end (opens_by_words settings.form sized GoesOver settings) gone.comes;
+  causes = gone.causes;
+}
+
+-- A HEADER was taken, and a loop came behind it.
+pub opened_on : (Loops : Settings → List ℕ → Outcome → Type 0) (settings stated : Settings) (layout : Layout) (old read output report : Seen) (new : Streams) (end : LoopEnd)
+    → HasOpened settings old read stated layout → Comes (Loops stated) (streams read output report) new end
+    → Comes (IsOpened Loops settings) (streams old output report) new end
+opened_on Loops settings stated layout old read output report new end opened comes =
+    comes_after (Loops stated) (IsOpened Loops settings) (streams old output report) (streams read output report) new end opened.own [] []
+    (record { reads = opened.reads; writes = Appends-none output.bytes; tells = Appends-none report.bytes })
+    (λ left after holds. record {
+      own = opened.own;
+      left = left;
+      front = refl;
+      after = after;
+      comes = inr (opened.whole, inr (stated, opened.header, opened.lawful, holds));
+      takes = refl;
+    })
+    comes
+
+-- no loop comes behind one in which the run ends
+behind_none : (Loops : Settings → List ℕ → Outcome → Type 0) (settings : Settings) (own left : List ℕ) (after : Outcome)
+    → ComesBehind NoLoop settings own left after → ComesBehind Loops settings own left after
+behind_none Loops settings own left after (inl early) = inl early
+behind_none Loops settings own left after (inr (whole, inl broken)) = inr (whole, inl broken)
+behind_none Loops settings own left after (inr (whole, inr (stated, header, lawful, none))) = absurd none
+
+pub opened_ended : (Loops : Settings → List ℕ → Outcome → Type 0) (settings : Settings) (old read output report : Seen) (end : LoopEnd)
+    → EndsInHeader settings old read end → Comes (IsOpened Loops settings) (streams old output report) (streams read output report) end
+opened_ended Loops settings old read output report end ended_in = record {
+  bytes = ended_in.own ++ ended_in.left;
+  told = told_before old.bytes read.bytes ended_in.own ended_in.left ended_in.reads ended_in.told;
+  outcome = taking ended_in.own (ended end);
+  holds = record {
+    own = ended_in.own;
+    left = ended_in.left;
+    front = refl;
+    after = ended end;
+    comes = behind_none Loops settings ended_in.own ended_in.left (ended end) ended_in.ends;
+    takes = refl;
+  };
+  ends = refl;
+  moved = record {
+    reads = subst (Consumes old.bytes read.bytes) (sym (append-nil ended_in.own)) ended_in.reads;
+    writes = Appends-none output.bytes;
+    tells = Appends-none report.bytes;
+  };
+}
+
+-- so a listed capture has run
+pub looped_listed : (settings : Settings) → settings.form ≡ Listed → (old new : Streams) (end : LoopEnd) → Comes (IsOpened GoesOver settings) old new end
+    → HaveCauses end end old new → HasLooped settings old new end
+looped_listed settings is old new end comes causes = record {
+  lawful = ap (λ form. breaks_in form settings) is;
+  comes = subst (λ form. Comes (Opens form GoesOver settings) old new end) (sym is) comes;
+  causes = causes;
+}

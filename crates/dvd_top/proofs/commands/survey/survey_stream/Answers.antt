@@ -1,6 +1,0 @@
-use Rattle.dvd_top.specs.Commands.Survey.{found_in}
-use Rattle.dvd_top.proofs.commands.survey.survey_stream.Goals as goal
-
-pub follow-requires : goal.follow-requires
-unfolding found_in
-follow-requires g c = c.requires.empty

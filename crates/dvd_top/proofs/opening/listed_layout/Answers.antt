@@ -1,0 +1,38 @@
+use Rattle.std.proofs.Common.{◌≡◌, length, subst, refl, [], rules, arith}
+use Rattle.std.specs.Io.KnownBytes.{Consumes}
+use Rattle.std.proofs.lemmas.List.{take_all}
+use Rattle.dvd_loop.proofs.StreamLemmas.{left_of}
+use Rattle.dvd_top.proofs.Headers.{sound_causes}
+use Rattle.dvd_top.proofs.opening.listed_layout.Goals as goal
+
+pub returns-in-Ok-2-clause-header : goal.returns-in-Ok-2-clause-header
+returns-in-Ok-2-clause-header g c =
+    let old = g.S.Source.seen c.args.src.now in
+    let new = g.S.Source.seen c.read_whole.new.src in
+    let bytes = c.read_whole.new.buf in
+    let size : length bytes ≡ 32 = search rules in
+    let enough = c.if-count-lt32.false in record {
+      own = bytes;
+      left = (left_of new.bytes).0;
+      reads = subst (Consumes old.bytes new.bytes) (take_all c.in-Ok.count bytes (omega (arith, size, enough))) c.in-Ok.ensures.taken;
+      told = (left_of new.bytes).1;
+      answers = c.layout_in.ensures (left_of new.bytes).0;
+    }
+
+pub returns-in-Ok-2-clause-causes : goal.returns-in-Ok-2-clause-causes
+returns-in-Ok-2-clause-causes g c = λ output report.
+    let bytes = c.read_whole.new.buf in
+    let size : length bytes ≡ 32 = search rules in
+    sound_causes c.layout_in.result bytes [] size (c.layout_in.ensures []) _ _ (record { source = c.in-Ok.ensures.cause.steady; output = refl; report = refl })
+
+pub returns-in-Err-clause-header : goal.returns-in-Err-clause-header
+returns-in-Err-clause-header g c =
+    let new = g.S.Source.seen c.read_whole.new.src in
+    let begun = c.in-Err.ensures.begun in
+    let size : length c.read_whole.new.buf ≡ 32 = search rules in record {
+      own = begun.taken;
+      left = (left_of new.bytes).0;
+      reads = begun.loses;
+      told = (left_of new.bytes).1;
+      answers = let fewer = begun.fewer in omega (arith, fewer, size);
+    }

@@ -1,0 +1,84 @@
+-- Ours: captured blocks in a stream, as units of a command: how the bytes of one begin, and where each stands.
+use Rattle.std.specs.Prelude.{◌≡◌, ℕ, zero, suc, ◌+◌, ◌*◌, ◌-◌, ◌<◌, nat_le, nat_lt, ◌==◌, ◌&&◌, ◌||◌, if◌then◌else◌, List, [], length, take, drop, Option, Some, None}
+use Rattle.dvd_capture.specs.Captured.{block_size, unit_size}
+use Rattle.dvd_capture.specs.Listed.{end_of, length_of, listed_size, run_count, start_of}
+use Rattle.dvd_capture.specs.declared.form.Form.{Form}
+use Rattle.dvd_capture.specs.declared.form.Form.TheVariants.{Plain, Marked, Listed}
+use Rattle.dvd_loop.specs.Machine.{Part, Step, Units, sized}
+use Rattle.dvd_loop.specs.Machine.Part.{Whole, Broken}
+use Rattle.dvd_loop.specs.declared.ends.Behind.TheVariants.{Asks}
+use Rattle.dvd_loop.specs.Laws.{IsDamageEnd, IsSearchEnd}
+use Rattle.dvd_loop.specs.declared.ends.LoopEnd.{LoopEnd}
+use Rattle.dvd_loop.specs.declared.ends.LoopEnd.TheVariants.{BadMarks}
+use Rattle.dvd_loop.specs.declared.ends.Turn.{Turn}
+
+-- the first of two places, where there are such
+abbrev pub or_later : Option ℕ → Option ℕ → Option ℕ
+or_later (Some at) later = Some at
+or_later None later = later
+
+-- the field of run i that stands wholly in these bytes and breaks a rule: its start, or else its length
+abbrev pub broken_in_run : List ℕ → ℕ → Option ℕ
+broken_in_run bytes i =
+    if nat_le (37_860 + 4 * i) (length bytes) && (nat_le 37_856 (start_of bytes i) || (nat_lt 0 i && nat_le (start_of bytes i) (end_of bytes (i - 1))))
+    then Some (37_858 + 4 * i)
+    else if nat_le (37_862 + 4 * i) (length bytes) && (length_of bytes i == 0 || nat_lt 37_856 (end_of bytes i)) then Some (37_860 + 4 * i) else None
+
+-- the first such field of the number and of the first n runs
+unfoldable pub broken_among : List ℕ → ℕ → Option ℕ
+broken_among bytes zero = if nat_le 37_858 (length bytes) && nat_lt 18_928 (run_count bytes) then Some 37_856 else None
+broken_among bytes (suc n) = or_later (broken_among bytes n) (broken_in_run bytes n)
+
+-- The offset at which the bytes of a listed block break a rule. By a law it is that of `IsBrokenAt`, the least, and there is none
+-- exactly where they are `IsUnbroken`.
+abbrev pub broken_at : List ℕ → Option ℕ
+broken_at bytes = broken_among bytes (run_count bytes)
+
+-- how bytes begin, from the first of a captured block on
+abbrev pub listed_part : Option ℕ → List ℕ → Part
+listed_part (Some at) bytes = Broken at
+listed_part None bytes = sized (listed_size bytes) bytes
+
+abbrev pub captured_part : Form → List ℕ → Part
+captured_part Plain bytes = sized (block_size Plain) bytes
+captured_part Marked bytes = sized (block_size Marked) bytes
+captured_part Listed bytes = listed_part (broken_at bytes) bytes
+
+-- so many captured blocks, for each of which something may be done by its number and its bytes; nothing opens or closes them,
+-- and the input has to end behind the last
+abbrev pub captured_units : ℕ → Form → (ℕ → List ℕ → List Step → Turn → Type 0) → Units
+captured_units count form does = record {
+  count = count;
+  begins = λ k. captured_part form;
+  opens = [];
+  does = λ k before. does k;
+  closes = λ before steps. steps ≡ [];
+  behind = Asks;
+}
+
+-- where captured block k begins
+unfoldable pub block_start : Form → List ℕ → ℕ → ℕ
+block_start form bytes zero = 0
+block_start form bytes (suc k) = block_start form bytes k + unit_size form (drop (block_start form bytes k) bytes)
+
+-- all bytes from there on
+abbrev pub from_block : Form → List ℕ → ℕ → List ℕ
+from_block form bytes k = drop (block_start form bytes k) bytes
+
+-- the bytes of captured block k
+abbrev pub block_bytes : Form → List ℕ → ℕ → List ℕ
+block_bytes form bytes k = take (unit_size form (from_block form bytes k)) (from_block form bytes k)
+
+-- the bytes have the first n captured blocks, each whole and breaking no rule
+abbrev pub HasBlocks : Form → List ℕ → ℕ → Type 0
+HasBlocks form bytes n = (j : ℕ) → j < n → captured_part form (from_block form bytes j) ≡ Whole (unit_size form (from_block form bytes j))
+
+-- The ends of a loop over so many captured blocks of this form, and of one that looks for a first block: a listed block may break
+-- a rule.
+abbrev pub IsCaptureEnd : Form → ℕ → LoopEnd → Type 0
+IsCaptureEnd Listed count (BadMarks block at) = block < count
+IsCaptureEnd form count end = IsDamageEnd count end
+
+abbrev pub IsSoughtEnd : Form → ℕ → LoopEnd → Type 0
+IsSoughtEnd Listed count (BadMarks block at) = block < count
+IsSoughtEnd form count end = IsSearchEnd count end

@@ -1,0 +1,55 @@
+-- What the private calls of the opening promise.
+use Rattle.std.specs.Prelude.{◌≡◌, ℕ, List, length, Option, Some, None}
+use Rattle.std.specs.Io.KnownBytes.{Consumes}
+use Rattle.dvd_capture.specs.Captured.{HasSize}
+use Rattle.dvd_capture.specs.declared.form.Form.TheVariants.{Listed}
+use Rattle.dvd_layout.specs.Lengths.{initial_fault}
+use Rattle.dvd_layout.specs.declared.layout.Layout.{Layout}
+use Rattle.dvd_loop.specs.Machine.{Outcome, ended}
+use Rattle.dvd_loop.specs.Streams.{IsTold}
+use Rattle.dvd_loop.specs.declared.ends.LoopEnd.{LoopEnd}
+use Rattle.dvd_loop.specs.declared.ends.LoopEnd.TheVariants as ends
+use Rattle.dvd_ports.specs.Seen.{Seen}
+use Rattle.dvd_top.specs.Opening.{ComesBehind, IsHeaderOf}
+use Rattle.dvd_top.specs.declared.opening.HeaderEnd.{HeaderEnd}
+use Rattle.dvd_top.specs.declared.opening.HeaderEnd.TheVariants as header
+use Rattle.dvd_words.specs.Settings.{IsLayoutOf, broken_rule}
+use Rattle.dvd_words.specs.declared.settings.Settings.{Settings}
+
+-- the layout that the words ask for, or none where a listed capture states its own
+abbrev pub IsWorded : Settings → Option Layout → Type 0
+IsWorded settings (Some layout) = HasSize settings.form × IsLayoutOf settings layout × (broken_rule settings ≡ None)
+IsWorded settings None = settings.form ≡ Listed
+
+-- the same of the Initial Zone alone
+abbrev pub IsWordedInitial : Settings → Option ℕ → Type 0
+IsWordedInitial settings (Some initial) = HasSize settings.form × (initial ≡ settings.initial) × (initial_fault settings.initial ≡ None)
+IsWordedInitial settings None = settings.form ≡ Listed
+
+-- how a loop ends by what is answered of its header, where that isn't found
+abbrev pub end_in : HeaderEnd → LoopEnd
+end_in (header.Found layout zones) = ends.Done
+end_in (header.BadHeader at) = ends.BadHeader at
+end_in (header.Short bytes) = ends.ShortHeader bytes
+end_in header.ReadFault = ends.ReadFault
+
+-- The header of a listed capture was taken: it states these settings, which have this layout.
+pub record HasOpened (settings : Settings) (old new : Seen) (stated : Settings) (layout : Layout) : Type 0 where
+  pub own : List ℕ
+  pub reads : Consumes old.bytes new.bytes own
+  pub whole : length own ≡ 32
+  pub header : IsHeaderOf settings stated own
+  pub lawful : broken_rule stated ≡ None
+  pub lengths : IsLayoutOf stated layout
+
+-- no loop comes behind a header
+abbrev pub NoLoop : Settings → List ℕ → Outcome → Type 0
+NoLoop stated left after = ⊥
+
+-- Or the run ends in it.
+pub record EndsInHeader (settings : Settings) (old new : Seen) (end : LoopEnd) : Type 0 where
+  pub own : List ℕ
+  pub left : List ℕ
+  pub reads : Consumes old.bytes new.bytes own
+  pub told : IsTold new.bytes left
+  pub ends : ComesBehind NoLoop settings own left (ended end)

@@ -1,0 +1,98 @@
+-- Ours: the header that a listed capture opens with, and the settings that it states.
+use Rattle.std.specs.Prelude.{◌≡◌, ◌⊎◌, ◌<◌, ℕ, zero, suc, List, [], ◌++◌, length, Some, None}
+use Rattle.dvd_capture.specs.Header.{IsFirstWrong, header_bytes}
+use Rattle.dvd_capture.specs.Laws.{HasNumbers}
+use Rattle.dvd_capture.specs.declared.form.Form.{Form}
+use Rattle.dvd_capture.specs.declared.form.Form.TheVariants.{Plain, Marked, Listed}
+use Rattle.dvd_capture.specs.declared.header.Header.{Header}
+use Rattle.dvd_layout.specs.declared.fault.LayoutFault.{LayoutFault}
+use Rattle.dvd_layout.specs.declared.fault.LayoutFault.TheVariants.{EmptyLayer, OddLayer, SecondLayer, LayerLonger, InitialTooLong, TailTooLong, LayerTooLong}
+use Rattle.dvd_layout.specs.declared.layout.Shape.{Shape}
+use Rattle.dvd_layout.specs.declared.layout.Shape.TheVariants.{Single, Parallel, Opposite}
+use Rattle.dvd_layout.specs.declared.layout.Zones.{Zones}
+use Rattle.dvd_layout.specs.declared.layout.Zones.TheVariants.{DataOnly, All}
+use Rattle.dvd_loop.specs.Machine.{Outcome, ended, taking}
+use Rattle.dvd_loop.specs.declared.ends.LoopEnd.TheVariants.{BadHeader, ReadFault, ShortHeader}
+use Rattle.dvd_words.specs.Settings.{broken_rule}
+use Rattle.dvd_words.specs.declared.settings.Settings.{Settings}
+
+-- the numbers of the shapes and of the zones in a header
+abbrev pub shape_number : Shape → ℕ
+shape_number Single = 0
+shape_number Parallel = 1
+shape_number Opposite = 2
+
+abbrev pub zones_number : Zones → ℕ
+zones_number DataOnly = 0
+zones_number All = 1
+
+-- these settings have the layout and the zones that a header states, and all else of the words' settings
+pub record IsStated (settings : Settings) (header : Header) (stated : Settings) : Type 0 where
+  pub shape : shape_number stated.shape ≡ header.shape
+  pub zones : zones_number stated.zones ≡ header.zones
+  pub all : stated ≡ record settings {
+    shape = stated.shape;
+    zones = stated.zones;
+    sectors = header.sectors0;
+    sectors1 = header.sectors1;
+    initial = header.initial;
+    tail = header.tail;
+  }
+
+-- the first byte of the field that a broken rule of layouts names
+abbrev pub place_of_layer : ℕ → ℕ
+place_of_layer zero = 12
+place_of_layer (suc layer) = 16
+
+abbrev pub place_of : LayoutFault → ℕ
+place_of (EmptyLayer layer) = place_of_layer layer
+place_of (OddLayer sectors) = 12
+place_of (SecondLayer sectors) = 16
+place_of (LayerLonger sectors) = 16
+place_of (InitialTooLong blocks) = 20
+place_of (TailTooLong blocks) = 24
+place_of (LayerTooLong layer end) = place_of_layer layer
+
+-- These 32 bytes are a header that states these settings.
+pub record IsHeaderOf (settings stated : Settings) (own : List ℕ) : Type 0 where
+  pub header : Header
+  pub numbers : HasNumbers header
+  pub bytes : own ≡ header_bytes header
+  pub states : IsStated settings header stated
+
+-- They break a rule at that place: a byte can't stand there, or else the layout that they state breaks a rule.
+abbrev pub BreaksHeader : Settings → List ℕ → ℕ → Type 0
+BreaksHeader settings own at =
+    IsFirstWrong own at
+    ⊎ ((stated : Settings) × (fault : LayoutFault) × IsHeaderOf settings stated own × (broken_rule stated ≡ Some fault) × (at ≡ place_of fault))
+
+-- What comes behind so many bytes that were taken for the header: the input ended within it, or a read failed there; or they are
+-- a header that breaks a rule; or they state settings, and the loop runs by these.
+abbrev pub ComesBehind : (Settings → List ℕ → Outcome → Type 0) → Settings → List ℕ → List ℕ → Outcome → Type 0
+ComesBehind Loops settings own left after =
+    ((length own < 32) × (((left ≡ []) × (after ≡ ended (ShortHeader (length own)))) ⊎ (after ≡ ended ReadFault)))
+    ⊎ ((length own ≡ 32) × (((at : ℕ) × BreaksHeader settings own at × (after ≡ ended (BadHeader at)))
+    ⊎ ((stated : Settings) × IsHeaderOf settings stated own × (broken_rule stated ≡ None) × Loops stated left after)))
+
+-- A run over bytes that begin with a header.
+pub record IsOpened (Loops : Settings → List ℕ → Outcome → Type 0) (settings : Settings) (bytes : List ℕ) (outcome : Outcome) : Type 0 where
+  pub own : List ℕ
+  pub left : List ℕ
+  pub front : bytes ≡ own ++ left
+  pub after : Outcome
+  pub comes : ComesBehind Loops settings own left after
+  pub takes : outcome ≡ taking own after
+
+-- the captures of this form open with a header
+abbrev pub Opens : Form → (Settings → List ℕ → Outcome → Type 0) → Settings → List ℕ → Outcome → Type 0
+Opens Listed Loops = IsOpened Loops
+Opens Plain Loops = Loops
+Opens Marked Loops = Loops
+
+-- What is promised of settings and bytes is promised of those that the header states, where it breaks no rule, and of the bytes
+-- behind it.
+abbrev pub Behind : Form → (Settings → List ℕ → Type 0) → Settings → List ℕ → Type 0
+Behind Plain Keeps settings bytes = Keeps settings bytes
+Behind Marked Keeps settings bytes = Keeps settings bytes
+Behind Listed Keeps settings bytes =
+    (own left : List ℕ) (stated : Settings) → bytes ≡ own ++ left → IsHeaderOf settings stated own → broken_rule stated ≡ None → Keeps stated left
