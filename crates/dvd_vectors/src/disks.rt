@@ -1,16 +1,18 @@
 //! Disks of every shape with all of their zones, mastered and read back. The digests and the first bytes were computed
 //! by another program from the standard.
-ghost use Rattle.dvd_capture.specs.Captured.{HasSize};
+ghost use Rattle.std.specs.Prelude.{◌≤◌};
 
 use crate::fixture::{BLOCK, NEVER, image, sink, zeros};
 use dvd_block::{Block, Piece};
 use dvd_capture::{Form, Work};
 use dvd_layout::{Shape, Zones};
+use dvd_par::OpenGate;
 use dvd_ports::{MemSink, SliceSource};
 use dvd_top::{Command, LoopEnd, Settings, master_loop, recover_loop};
 use sha2::{Digest, Sha256};
 use std::alloc::{AllocError, Global};
 use std::test::Fail;
+use std::thread::Threads;
 
 // A disk: its shape, the image sectors of each layer, and the blocks of all zones.
 type Disk = (Shape, u32, u32, usize);
@@ -64,7 +66,7 @@ static HEADS: [(usize, u128); 9] = [
 
 // The settings of all zones, with CPR_MAI 01 02 03 04 05 AB.
 fn settings(command: Command, disk: Disk) -> Settings
-    ensures { HasSize result.form }
+    ensures { (1 ≤ result.workers) × (result.workers ≤ 16) }
 {
     let (shape, sectors, sectors1, _) = disk;
     Settings {
@@ -94,25 +96,31 @@ fn image_of(alloc: Global, disk: Disk) -> Result<Vec<u8>, AllocError> {
 }
 
 // Masters the image of these settings.
-fn master(
-    alloc: Global,
+fn master<R: AllocGlobal + Threads + Sync>(
+    rt: &R,
     settings: &Settings,
     image: &[u8],
     out: &mut MemSink,
-) -> Result<LoopEnd, Fail> {
+) -> Result<LoopEnd, Fail>
+    requires { (1 ≤ settings.now.workers) × (settings.now.workers ≤ 16) }
+{
+    let alloc = rt.alloc();
     let layout = settings.layout()?;
     let mut block = Block::new(alloc)?;
     let mut piece = Piece::new(alloc)?;
     let mut src = SliceSource::new(image);
-    Ok(master_loop(settings, &layout, &mut block, &mut piece, &mut src, out))
+    Ok(master_loop(
+        rt, &OpenGate, settings, &layout, &mut block, &mut piece, &mut src, out,
+    ))
 }
 
 // The stream of a disk.
-fn recorded(alloc: Global, disk: Disk) -> Result<Vec<u8>, Fail> {
+fn recorded<R: AllocGlobal + Threads + Sync>(rt: &R, disk: Disk) -> Result<Vec<u8>, Fail> {
+    let alloc = rt.alloc();
     let length = disk.3.saturating_mul(BLOCK);
     let image = image_of(alloc, disk)?;
     let mut out = sink(alloc, (BLOCK, NEVER, length))?;
-    let end = master(alloc, &settings(Command::Master, disk), &image, &mut out)?;
+    let end = master(rt, &settings(Command::Master, disk), &image, &mut out)?;
     if end != LoopEnd::Done || out.held().len() != length {
         Err(end)?;
     }
@@ -120,41 +128,48 @@ fn recorded(alloc: Global, disk: Disk) -> Result<Vec<u8>, Fail> {
 }
 
 // Reads back the stream of these settings.
-fn recover(
-    alloc: Global,
+fn recover<R: AllocGlobal + Threads + Sync>(
+    rt: &R,
     settings: &Settings,
     stream: &[u8],
     out: &mut MemSink,
     report: &mut MemSink,
 ) -> Result<LoopEnd, Fail>
-    requires { HasSize settings.now.form }
+    requires { (1 ≤ settings.now.workers) × (settings.now.workers ≤ 16) }
 {
     let layout = settings.layout()?;
-    let mut work = Work::new(alloc)?;
+    let mut work = Work::new(rt.alloc())?;
     let mut src = SliceSource::new(stream);
-    Ok(recover_loop(settings, &layout, &mut work, &mut src, out, report))
+    Ok(recover_loop(
+        rt, &OpenGate, settings, &layout, &mut work, &mut src, out, report,
+    ))
 }
 
 // What is read back of a stream, without a line.
-fn read_back(alloc: Global, disk: Disk, stream: &[u8]) -> Result<Vec<u8>, Fail> {
+fn read_back<R: AllocGlobal + Threads + Sync>(
+    rt: &R,
+    disk: Disk,
+    stream: &[u8],
+) -> Result<Vec<u8>, Fail> {
+    let alloc = rt.alloc();
     let settings = settings(Command::Recover, disk);
     let mut out = sink(alloc, (2048, NEVER, 100_352))?;
     let mut report = sink(alloc, (64, NEVER, 64))?;
-    let end = recover(alloc, &settings, stream, &mut out, &mut report)?;
+    let end = recover(rt, &settings, stream, &mut out, &mut report)?;
     if end != LoopEnd::Done || !report.held().is_empty() {
         Err(end)?;
     }
     Ok(out.held().to_vec(alloc)?)
 }
 
-fn digest_of(alloc: Global, disk: Disk) -> Result<[u8; 32], Fail> {
-    Ok(Sha256::digest(&recorded(alloc, disk)?))
+fn digest_of<R: AllocGlobal + Threads + Sync>(rt: &R, disk: Disk) -> Result<[u8; 32], Fail> {
+    Ok(Sha256::digest(&recorded(rt, disk)?))
 }
 
 #[test]
 fn every_zone_of_every_shape_is_mastered(rt: HostRuntime) -> Result<(), Fail> {
     for (disk, digest) in &DIGESTS {
-        assert!(rt; digest_of(rt.alloc(), *disk)? == *digest);
+        assert!(rt; digest_of(&rt, *disk)? == *digest);
     }
     Ok(())
 }
@@ -169,7 +184,7 @@ fn begins_with(stream: &[u8], at: usize, head: u128) -> bool {
 
 #[test]
 fn every_zone_begins_as_it_should(rt: HostRuntime) -> Result<(), Fail> {
-    let stream = recorded(rt.alloc(), OPPOSITE)?;
+    let stream = recorded(&rt, OPPOSITE)?;
     for (at, head) in &HEADS {
         assert!(rt; begins_with(&stream, *at, *head), "at {at}");
     }
@@ -177,9 +192,9 @@ fn every_zone_begins_as_it_should(rt: HostRuntime) -> Result<(), Fail> {
 }
 
 // The stream of a disk, of whose first block nothing could be read.
-fn captured(alloc: Global, disk: Disk) -> Result<Vec<u8>, Fail> {
-    let stream = recorded(alloc, disk)?;
-    let mut bytes = zeros(alloc, BLOCK)?;
+fn captured<R: AllocGlobal + Threads + Sync>(rt: &R, disk: Disk) -> Result<Vec<u8>, Fail> {
+    let stream = recorded(rt, disk)?;
+    let mut bytes = zeros(rt.alloc(), BLOCK)?;
     if let Some(rest) = stream.get(BLOCK..) {
         bytes.extend_from_slice(rest)?;
     }
@@ -187,16 +202,16 @@ fn captured(alloc: Global, disk: Disk) -> Result<Vec<u8>, Fail> {
 }
 
 // Whether the image is read back of it.
-fn is_read_back(alloc: Global, disk: Disk) -> Result<bool, Fail> {
-    let stream = captured(alloc, disk)?;
-    let bytes = read_back(alloc, disk, &stream)?;
-    Ok(bytes == image_of(alloc, disk)?)
+fn is_read_back<R: AllocGlobal + Threads + Sync>(rt: &R, disk: Disk) -> Result<bool, Fail> {
+    let stream = captured(rt, disk)?;
+    let bytes = read_back(rt, disk, &stream)?;
+    Ok(bytes == image_of(rt.alloc(), disk)?)
 }
 
 #[test]
 fn every_zone_of_every_shape_is_read_back(rt: HostRuntime) -> Result<(), Fail> {
     for (disk, _) in &DIGESTS {
-        assert!(rt; is_read_back(rt.alloc(), *disk)?);
+        assert!(rt; is_read_back(&rt, *disk)?);
     }
     Ok(())
 }

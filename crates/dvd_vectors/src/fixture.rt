@@ -1,5 +1,6 @@
 //! What the tests share: images and mastered streams, ports that fail, and the end that a run has to come to.
 use crate::words;
+use dvd_par::{Gate, OpenGate};
 use dvd_ports::{MemSink, MemSource};
 use dvd_top::{Status, run};
 use std::alloc::{AllocError, Global};
@@ -35,12 +36,23 @@ pub fn ran<R: AllocGlobal + Threads + Sync>(
     bytes: &[u8],
     ports: Ports,
 ) -> Result<(Status, MemSink, MemSink), Fail> {
+    ran_through(rt, &OpenGate, text, bytes, ports)
+}
+
+/// The same, where the workers ask this gate.
+pub fn ran_through<R: AllocGlobal + Threads + Sync, G: Gate>(
+    rt: &R,
+    gate: &G,
+    text: &str,
+    bytes: &[u8],
+    ports: Ports,
+) -> Result<(Status, MemSink, MemSink), Fail> {
     let alloc = rt.alloc();
     let words = words(alloc, text)?;
     let mut src = source(alloc, bytes, ports.0)?;
     let mut out = sink(alloc, ports.1)?;
     let mut told = sink(alloc, ports.2)?;
-    let status = run(rt, alloc, &words, &mut src, &mut out, &mut told);
+    let status = run(rt, gate, alloc, &words, &mut src, &mut out, &mut told);
     Ok((status, out, told))
 }
 

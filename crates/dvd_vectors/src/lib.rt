@@ -24,6 +24,8 @@ mod info; // the physical format of a disk
 #[cfg(test)]
 mod largest; // the largest disk of each command
 #[cfg(test)]
+mod listed; // captures that state their layout
+#[cfg(test)]
 mod master; // recordings
 #[cfg(test)]
 mod merge; // captures of one disk joined
@@ -41,6 +43,8 @@ mod usage; // words that ask for nothing
 mod values; // derived equality
 #[cfg(test)]
 mod cd_sectors; // CD-ROM sectors
+#[cfg(test)]
+mod workers; // several workers on one run
 
 use std::alloc::{AllocError, Global};
 

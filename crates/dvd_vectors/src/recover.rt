@@ -3,6 +3,7 @@ use crate::fixture::{
     ALL_SOUND, BLOCK, End, Input, SOUND, bytes_of, image, mastered, run_to, sink,
 };
 use crate::words;
+use dvd_par::OpenGate;
 use dvd_ports::{NullSink, SliceSource};
 use dvd_top::{Status, run};
 use std::test::Fail;
@@ -137,6 +138,7 @@ fn an_output_may_keep_nothing(rt: HostRuntime) -> Result<(), Fail> {
     let mut src = SliceSource::new(&stream);
     let status = run(
         &rt,
+        &OpenGate,
         alloc,
         &words,
         &mut src,

@@ -3,7 +3,7 @@ use crate::fixture::{Case, NEVER, SOUND, leave_fronts, zeros};
 use dvd_top::Status;
 use std::test::Fail;
 
-static TEXTS: [&str; 20] = [
+static TEXTS: [&str; 24] = [
     "",
     "Frames --first 030000 --sectors 1",
     "--help",
@@ -24,6 +24,10 @@ static TEXTS: [&str; 20] = [
     "merge --sectors 16 --captures 17",
     "assemble --sectors 16385 --frames 1",
     "assemble --sectors 16 --frames 0",
+    "recover --form listed --sectors 16",
+    "survey --form marked",
+    "convert --sectors 16 --form listed",
+    "merge --sectors 16 --captures 2 --form listed",
 ];
 
 // Where the report has no room for the line, the status tells it.

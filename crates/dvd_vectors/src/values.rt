@@ -7,12 +7,12 @@ use dvd_layout::{BlockPlan, Content, Layout, LayoutFault, Shape, Zone, Zones};
 use dvd_loop::{Behind, Turn};
 use dvd_read::{Cause, Fixed};
 use dvd_report::{Surveyed, Totals};
-use dvd_top::{Command, LoopEnd, Settings, Status};
+use dvd_top::{Command, HeaderEnd, LoopEnd, Settings, Status};
 use dvd_words::WordsFault;
 use rs_decode::{Fix, shortest};
 use std::test::Fail;
 
-static COMMANDS: [Command; 11] = [
+static COMMANDS: [Command; 12] = [
     Command::Frames,
     Command::Master,
     Command::Recover,
@@ -24,9 +24,10 @@ static COMMANDS: [Command; 11] = [
     Command::Merge,
     Command::Deep,
     Command::Assemble,
+    Command::Convert,
 ];
 
-static STATUSES: [Status; 12] = [
+static STATUSES: [Status; 13] = [
     Status::Done,
     Status::Usage,
     Status::Setting,
@@ -38,10 +39,11 @@ static STATUSES: [Status; 12] = [
     Status::NoMemory,
     Status::ReportFault,
     Status::NoControl,
+    Status::BadHeader,
     Status::BadMarks,
 ];
 
-static ENDS: [LoopEnd; 14] = [
+static ENDS: [LoopEnd; 18] = [
     LoopEnd::Done,
     LoopEnd::ReadFault,
     LoopEnd::WriteFault,
@@ -56,6 +58,10 @@ static ENDS: [LoopEnd; 14] = [
     LoopEnd::BadMarks { block: 1, at: 1 },
     LoopEnd::BadMarks { block: 1, at: 2 },
     LoopEnd::BadMarks { block: 2, at: 1 },
+    LoopEnd::ShortHeader { bytes: 1 },
+    LoopEnd::ShortHeader { bytes: 2 },
+    LoopEnd::BadHeader { at: 1 },
+    LoopEnd::BadHeader { at: 2 },
 ];
 
 const PLAIN: Settings = Settings {
@@ -476,6 +482,31 @@ fn each_layout_is_like_itself_alone(rt: HostRuntime) -> Result<(), Fail> {
     for layout in layouts {
         assert!(rt; layout.is_ok());
     }
+    Ok(())
+}
+
+#[test]
+fn each_end_of_a_header_is_like_itself_alone(rt: HostRuntime) -> Result<(), Fail> {
+    let layout = Layout::new(Shape::Single, 16, 0, 0, 16)?;
+    let other = Layout::new(Shape::Single, 17, 0, 0, 16)?;
+    let zones = Zones::DataOnly;
+    let ends = [
+        HeaderEnd::Found { layout, zones },
+        HeaderEnd::Found {
+            layout: other,
+            zones,
+        },
+        HeaderEnd::Found {
+            layout,
+            zones: Zones::All,
+        },
+        HeaderEnd::Short { bytes: 1 },
+        HeaderEnd::Short { bytes: 2 },
+        HeaderEnd::BadHeader { at: 1 },
+        HeaderEnd::BadHeader { at: 2 },
+        HeaderEnd::ReadFault,
+    ];
+    assert!(rt; are_unlike(&ends));
     Ok(())
 }
 
