@@ -6,9 +6,13 @@ use std::test::Fail;
 // A source that fails at once.
 const NO_SOURCE: Ports = ((1, 0, 0), SOUND, SOUND);
 
-static LINES: [(&str, &str); 3] = [
+static LINES: [(&str, &str); 4] = [
     (
         "exercise --seed 1 --blocks 3",
+        "exercise seed 1 blocks 3 whole 3 fixed 5242 failed 21\n",
+    ),
+    (
+        "exercise --seed 1 --blocks 3 --workers 8",
         "exercise seed 1 blocks 3 whole 3 fixed 5242 failed 21\n",
     ),
     (

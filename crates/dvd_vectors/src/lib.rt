@@ -32,6 +32,8 @@ mod merge; // captures of one disk joined
 #[cfg(test)]
 mod options; // what the options of `master` change
 #[cfg(test)]
+mod passes; // both passes with several workers
+#[cfg(test)]
 mod recover; // streams that aren't those that are asked for
 #[cfg(test)]
 mod scratched; // a disk with a burst and scattered errors

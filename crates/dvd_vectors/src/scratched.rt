@@ -65,9 +65,13 @@ fn run_over<R: AllocGlobal + Threads + Sync>(
 #[test]
 fn a_scratched_disk_is_read_back(rt: HostRuntime) -> Result<(), Fail> {
     let image = image(rt.alloc(), SECTORS)?;
-    let text = "recover --sectors 4096 --zones all --form marked";
-    let sectors = run_over(&rt, &image, text, image.len())?;
-    assert!(rt; sectors == image);
+    for text in &[
+        "recover --sectors 4096 --zones all --form marked",
+        "recover --sectors 4096 --zones all --form marked --workers 8",
+    ] {
+        let sectors = run_over(&rt, &image, text, image.len())?;
+        assert!(rt; sectors == image);
+    }
     Ok(())
 }
 

@@ -1,0 +1,166 @@
+//! Both passes with several workers, over blocks whose answers were worked out from the standard.
+use dvd_block::Block;
+use dvd_capture::{Stage, Work};
+use dvd_par::{OpenGate, two_pass_par};
+use dvd_read::{Cause, Fixed};
+use std::alloc::Global;
+use std::test::Fail;
+use std::thread::Threads;
+
+static WORKERS: [u8; 3] = [1, 3, 16];
+
+// The row codeword of the generator polynomial: it stands at the last eleven places.
+const GENERATOR: [u8; 11] = [
+    0x01, 0xD8, 0xC2, 0x9F, 0x6F, 0xC7, 0x5E, 0x5F, 0x71, 0x9D, 0xC1,
+];
+
+// Multiples of it, one for each of rows 191 to 198, whose last places are the first coefficients of a codeword of columns.
+static MULTIPLES: [[u8; 11]; 8] = [
+    [
+        0xC1, 0xD4, 0x81, 0xA3, 0x34, 0x63, 0x7C, 0xBD, 0x42, 0x3C, 0xDF,
+    ],
+    [
+        0x91, 0xD1, 0xF7, 0xB2, 0x48, 0x18, 0xEB, 0x7A, 0x10, 0x8D, 0x59,
+    ],
+    [
+        0xA4, 0x4D, 0xC3, 0x64, 0x59, 0xCD, 0x56, 0xF2, 0x7D, 0x31, 0x32,
+    ],
+    [
+        0x49, 0x52, 0x56, 0x07, 0xF2, 0x26, 0x8A, 0xC3, 0xCF, 0x95, 0x8D,
+    ],
+    [
+        0x39, 0x55, 0x45, 0x1C, 0xEF, 0x98, 0x12, 0x2B, 0x1B, 0x6E, 0x0E,
+    ],
+    [
+        0x29, 0x54, 0xF9, 0x19, 0x51, 0x74, 0x9B, 0xB2, 0x58, 0x4B, 0x82,
+    ],
+    [
+        0x53, 0x70, 0x2D, 0xAD, 0xCD, 0x2F, 0x75, 0x26, 0xC1, 0x0B, 0xD8,
+    ],
+    [
+        0x76, 0xED, 0xA5, 0x7E, 0x62, 0x16, 0x41, 0x37, 0xEF, 0x92, 0x3F,
+    ],
+];
+
+// The multiple in row 199, which begins ten places earlier.
+const LAST: [u8; 11] = [
+    0x08, 0x8E, 0x5E, 0x8C, 0x5F, 0x76, 0xCA, 0xC2, 0xAF, 0x9C, 0x46,
+];
+
+// A received block of zeros.
+fn zero_block(alloc: Global) -> Result<Work, Fail> {
+    let mut work = Work::new(alloc)?;
+    work.load_block(&Block::new(alloc)?);
+    Ok(work)
+}
+
+fn put(work: &mut Work, i: usize, j: usize, byte: u8, mark: bool) {
+    if work.stage() == Stage::Fetched && i < 208 && j < 182 {
+        work.damage(i, j, byte, mark);
+    }
+}
+
+// Puts these bytes into row `i` from place `j` on.
+fn put_bytes(work: &mut Work, i: usize, j: usize, bytes: &[u8; 11]) {
+    for (k, byte) in bytes.iter().enumerate() {
+        if j <= 181 {
+            put(work, i, j + k, *byte, false);
+        }
+    }
+}
+
+// Marks all places of a row.
+fn lose_row(work: &mut Work, i: usize) {
+    for j in 0..182usize {
+        put(work, i, j, 0, true);
+    }
+}
+
+// So many rows are lost, every twelfth.
+fn lost_rows(alloc: Global, count: usize) -> Result<Work, Fail> {
+    let mut work = zero_block(alloc)?;
+    for t in 0..17usize {
+        if t < count {
+            lose_row(&mut work, 12 * t);
+        }
+    }
+    Ok(work)
+}
+
+// Eight rows are those of another codeword.
+fn eight_rows(alloc: Global) -> Result<Work, Fail> {
+    let mut work = zero_block(alloc)?;
+    for t in 0..8usize {
+        put_bytes(&mut work, 20 * t, 171, &GENERATOR);
+    }
+    Ok(work)
+}
+
+// Every row is a codeword, and the columns make one of them no codeword.
+fn wrong_row(alloc: Global) -> Result<Work, Fail> {
+    let mut work = zero_block(alloc)?;
+    for (t, bytes) in MULTIPLES.iter().enumerate() {
+        if t < 8 {
+            put_bytes(&mut work, 191 + t, 171, bytes);
+        }
+    }
+    put_bytes(&mut work, 199, 161, &LAST);
+    Ok(work)
+}
+
+// Both passes, where a block was received.
+fn decode<R: Threads + Sync>(rt: &R, workers: u8, work: &mut Work) -> Option<Result<Fixed, Cause>> {
+    if work.stage() != Stage::Fetched || workers == 0 || workers > 16 {
+        return None;
+    }
+    Some(two_pass_par(rt, workers, &OpenGate, work))
+}
+
+#[test]
+fn sixteen_lost_rows_are_filled_and_seventeen_are_not(rt: HostRuntime) -> Result<(), Fail> {
+    let fixed = Fixed {
+        bytes: 0,
+        failed_rows: 16,
+    };
+    for workers in WORKERS {
+        let mut work = lost_rows(rt.alloc(), 16)?;
+        assert_eq!(rt; decode(&rt, workers, &mut work), Some(Ok(fixed)));
+        let mut work = lost_rows(rt.alloc(), 17)?;
+        assert_eq!(rt;
+            decode(&rt, workers, &mut work),
+            Some(Err(Cause::Rows { failed: 17 }))
+        );
+    }
+    Ok(())
+}
+
+#[test]
+fn eight_rows_of_another_codeword_are_fixed(rt: HostRuntime) -> Result<(), Fail> {
+    let fixed = Fixed {
+        bytes: 88,
+        failed_rows: 0,
+    };
+    for workers in WORKERS {
+        let mut work = eight_rows(rt.alloc())?;
+        assert_eq!(rt; decode(&rt, workers, &mut work), Some(Ok(fixed)));
+        let mut work = eight_rows(rt.alloc())?;
+        lose_row(&mut work, 207);
+        assert_eq!(rt;
+            decode(&rt, workers, &mut work),
+            Some(Err(Cause::Column { j: 171 }))
+        );
+    }
+    Ok(())
+}
+
+#[test]
+fn a_row_that_is_no_codeword_refuses_the_block(rt: HostRuntime) -> Result<(), Fail> {
+    for workers in WORKERS {
+        let mut work = wrong_row(rt.alloc())?;
+        assert_eq!(rt;
+            decode(&rt, workers, &mut work),
+            Some(Err(Cause::Row { i: 191 }))
+        );
+    }
+    Ok(())
+}
