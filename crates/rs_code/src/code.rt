@@ -64,62 +64,6 @@ impl<const N: usize, const R: usize> Code<N, R> {
         evaluation::is_zero(&self.remainder(word))
     }
 
-    /// Whether each of two words is a codeword. It takes less than to ask for one after the other.
-    pub fn are_codewords(&self, first: &[u8; N], second: &[u8; N]) -> (bool, bool)
-        ensures first { IsTrue result.0 ↔ IsCodeword N R first.now }
-        ensures second { IsTrue result.1 ↔ IsCodeword N R second.now }
-    {
-        let (one, other) = self.remainders(first, second);
-        (evaluation::is_zero(&one), evaluation::is_zero(&other))
-    }
-
-    // The remainders of two words.
-    fn remainders(&self, first: &[u8; N], second: &[u8; N]) -> ([u8; R], [u8; R])
-        ensures first { (k : ℕ) → k < R → value result.0 (power alpha k) ≡ value first.now (power alpha k) }
-        ensures second { (k : ℕ) → k < R → value result.1 (power alpha k) ≡ value second.now (power alpha k) }
-        ensures first_bytes { All IsByte result.0 }
-        ensures second_bytes { All IsByte result.1 }
-        ensures first_word { All IsByte first.now }
-        ensures second_word { All IsByte second.now }
-    {
-        let (first_message, first_parity) = first.split_at(N - R);
-        let (second_message, second_parity) = second.split_at(N - R);
-        let mut one = [0; R];
-        let mut other = [0; R];
-        self.divide_both(first_message, second_message, &mut one, &mut other);
-        division::add_word(&mut one, first_parity);
-        division::add_word(&mut other, second_parity);
-        (one, other)
-    }
-
-    // Sets the parities so that they make codewords with the messages.
-    fn divide_both(
-        &self,
-        first: &[u8],
-        second: &[u8],
-        first_parity: &mut [u8],
-        second_parity: &mut [u8],
-    )
-        requires same { length second.now ≡ length first.now }
-        requires first_fits { length first_parity.old ≡ R }
-        requires second_fits { length second_parity.old ≡ R }
-        ensures first { IsCodeword (length first.now + R) R (first.now ++ first_parity.new) }
-        ensures second { IsCodeword (length second.now + R) R (second.now ++ second_parity.new) }
-        ensures first_bytes { All IsByte first.now }
-        ensures second_bytes { All IsByte second.now }
-        ensures first_parity_bytes { All IsByte first_parity.new }
-        ensures second_parity_bytes { All IsByte second_parity.new }
-    {
-        if R == 10 {
-            register::divide_both(&PI_TABLES, first, second, first_parity, second_parity);
-        } else if R == 16 {
-            register::divide_both(&PO_TABLES, first, second, first_parity, second_parity);
-        } else {
-            self.divide(first, first_parity);
-            self.divide(second, second_parity);
-        }
-    }
-
     // The remainder of a whole word, which has the word's values at the roots of the generator.
     // That the word is bytes is told too, since a word of constant length doesn't tell it.
     fn remainder(&self, word: &[u8; N]) -> [u8; R]

@@ -22,31 +22,6 @@ pub fn divide(tables: &[[u128; 256]; 4], message: &[u8], parity: &mut [u8])
     );
 }
 
-/// The same of two messages of one length, side by side: the look-ups of neither wait for those of the other.
-#[inline]
-pub fn divide_both(
-    tables: &[[u128; 256]; 4],
-    first: &[u8],
-    second: &[u8],
-    first_parity: &mut [u8],
-    second_parity: &mut [u8],
-)
-    requires same { length second.now ≡ length first.now }
-    requires some_parity { 0 < length first_parity.old }
-    requires fits { length first_parity.old ≤ 16 }
-    requires same_parity { length second_parity.old ≡ length first_parity.old }
-    ensures first { (generator : List ℕ) → length generator ≡ length first_parity.old → AreTables generator tables.now → IsRemainder generator first.now first_parity.new }
-    ensures second { (generator : List ℕ) → length generator ≡ length first_parity.old → AreTables generator tables.now → IsRemainder generator second.now second_parity.new }
-    ensures first_bytes { All IsByte first.now }
-    ensures second_bytes { All IsByte second.now }
-{
-    let (first_words, first_others) = first.as_chunks::<4>();
-    let (second_words, second_others) = second.as_chunks::<4>();
-    let (one, other) = with_words_of_both(tables, first_words, second_words);
-    put_register(with_bytes(tables, one, first_others), first_parity);
-    put_register(with_bytes(tables, other, second_others), second_parity);
-}
-
 /// Writes the first bytes of a register.
 #[inline]
 fn put_register(register: u128, parity: &mut [u8])
@@ -55,28 +30,6 @@ fn put_register(register: u128, parity: &mut [u8])
 {
     let size = parity.len();
     parity.copy_from_slice(&register.to_be_bytes()[..size]);
-}
-
-/// The registers after these words of two messages.
-#[inline]
-fn with_words_of_both(
-    tables: &[[u128; 256]; 4],
-    first: &[[u8; 4]],
-    second: &[[u8; 4]],
-) -> (u128, u128)
-    requires { length second.now ≡ length first.now }
-    ensures one { (generator : List ℕ) → AreTables generator tables.now → (rest : List ℕ)
-        → after_bytes (slice_index_or tables.now 0 []) result.0 rest ≡ after_bytes (slice_index_or tables.now 0 []) 0 (concat first.now ++ rest) }
-    ensures other { (generator : List ℕ) → AreTables generator tables.now → (rest : List ℕ)
-        → after_bytes (slice_index_or tables.now 0 []) result.1 rest ≡ after_bytes (slice_index_or tables.now 0 []) 0 (concat second.now ++ rest) }
-{
-    let mut one = 0;
-    let mut other = 0;
-    for i in 0..first.len() {
-        one = with_word(tables, one, first[i]);
-        other = with_word(tables, other, second[i]);
-    }
-    (one, other)
 }
 
 /// The register after these words of four bytes.
