@@ -7,12 +7,10 @@ use Rattle.dvd_block.specs.Product.{place, column}
 
 -- a column has a byte of each row
 pub length-column : (block : List (List ℕ)) (j : ℕ) → length (column block j) ≡ length block
-unfolding column
 length-column block j = length-map block (λ (row : List ℕ). get_or row j 0)
 
 -- byte i of a column stands in row i
 pub get_or-column : (block : List (List ℕ)) (j i : ℕ) → i < length block → get_or (column block j) i 0 ≡ place block i j
-unfolding column
 get_or-column block j i below = get_or-map (λ (row : List ℕ). get_or row j 0) block i [] 0 below
 
 -- bytes that agree with a column place by place are its upper end

@@ -35,7 +35,6 @@ module _ (old upper cells block : List (List ℕ)) (filled : IsFilled old upper 
       ∙ get_or-take 172 (line old i) j 0 within
 
   upper_column : (j : ℕ) → take 192 (column block j) ≡ take 192 (column upper j)
-  unfolding column
   upper_column j =
       take-map (λ (row : List ℕ). get_or row j 0) 192 block
       ∙ ap (λ (b : List (List ℕ)). map (λ (row : List ℕ). get_or row j 0) b) filled.kept

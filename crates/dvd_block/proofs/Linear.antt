@@ -58,7 +58,7 @@ IsWide-tails width ((byte ∷ row) ∷ block) wide = (omega (arith, wide.0), IsW
 
 -- a column of what is left is the next one of the rows
 column-tails : (block : List (List ℕ)) (j : ℕ) → column (tails block) j ≡ column block (suc j)
-unfolding column tails
+unfolding tails
 column-tails [] j = refl
 column-tails ([] ∷ block) j = ap (λ (l : List ℕ). 0 ∷ l) (column-tails block j)
 column-tails ((byte ∷ row) ∷ block) j = ap (λ (l : List ℕ). get_or row j 0 ∷ l) (column-tails block j)
@@ -66,7 +66,7 @@ column-tails ((byte ∷ row) ∷ block) j = ap (λ (l : List ℕ). get_or row j 
 -- the first column counts with the highest power
 values-split : (width x : ℕ) (block : List (List ℕ)) → IsWide (suc width) block
     → values x block ≡ sum_of (scaled (power x width) (column block 0)) (values x (tails block))
-unfolding IsWide values tails column sum_of scaled
+unfolding IsWide values tails sum_of scaled
 values-split width x [] wide = refl
 values-split width x ([] ∷ block) wide = absurd (omega (arith, wide.0))
 values-split width x ((byte ∷ row) ∷ block) wide =

@@ -1,18 +1,7 @@
 -- ECC blocks (ECMA-267, 18): 208 rows of 182 bytes, a product code. A block is the list of its rows.
-use Rattle.std.specs.Prelude.{◌≡◌, ℕ, ◌+◌, ◌*◌, ◌<◌, List, [], length, map, All, slice_index, slice_index_or}
+use Rattle.std.specs.Prelude.{◌≡◌, ℕ, ◌+◌, ◌*◌, ◌<◌, List, length, All, slice_index}
 use Rattle.gf_field.specs.Words.{IsCodeword}
-
--- row i
-abbrev pub line : List (List ℕ) → ℕ → List ℕ
-line block i = slice_index_or block i []
-
--- the byte in row i at place j
-abbrev pub place : List (List ℕ) → ℕ → ℕ → ℕ
-place block i j = slice_index (line block i) j
-
--- column j, from the top
-unfoldable pub column : List (List ℕ) → ℕ → List ℕ
-column block j = map (λ row. slice_index row j) block
+pub use Rattle.rs_lanes.specs.Rows.{line, place, column}
 
 -- Each row is a codeword with ten bytes of inner parity (PI), and each column one with sixteen of outer parity (PO),
 -- the columns of PI bytes and the rows of PO bytes too. The code sets one after the other.

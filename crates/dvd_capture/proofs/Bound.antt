@@ -92,7 +92,7 @@ column_bound j (word ∷ block) (row ∷ received) (mark ∷ marks) codewords wi
 -- Within the bound, the recorded block agrees with the answers.
 pub within_agrees : (block received : List (List ℕ)) (marks : List (List Bool)) → IsProduct block → HasWidth 182 received → HasWidth 182 marks
     → IsWithin block received marks → IsTwoPass received marks block
-unfolding column answer_column
+unfolding answer_column
 within_agrees block received marks product widths marks_widths within = record {
   product = product;
   columns = λ j below. let bound = column_bound j block received marks product.rows widths marks_widths in omega arith;

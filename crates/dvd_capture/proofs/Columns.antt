@@ -35,7 +35,6 @@ column-answered answers block j size agrees below =
 
 -- byte i of column j stands in row i at place j
 column-at : (block : List (List ℕ)) (i j : ℕ) → i < length block → slice_index (column block j) i ≡ place block i j
-unfolding column
 column-at block i j within = get_or-map (λ row. slice_index row j) block i [] 0 within
 
 -- two product blocks with the same columns are the same
@@ -112,7 +111,6 @@ from_columns-product block columns product size same =
 -- The columns of a block by its columns are these columns, if they have 208 bytes each.
 pub column-from_columns : (columns : List (List ℕ)) (j : ℕ) → j < length columns → length (get_or columns j []) ≡ 208
     → column (from_columns columns) j ≡ get_or columns j []
-unfolding column
 column-from_columns columns j within size =
     same_number_lists (map (λ row. slice_index row j) (from_columns columns)) (get_or columns j [])
     (length-map (from_columns columns) (λ row. slice_index row j) ∙ length-from_columns columns ∙ sym size)

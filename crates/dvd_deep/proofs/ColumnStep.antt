@@ -36,11 +36,9 @@ pub record AreStepped (failed : List Bool) (state : State) (rows : List (List �
 
 -- the byte of column j in row i
 pub column-byte : (rows : List (List ℕ)) (i j : ℕ) → i < length rows → slice_index (column rows j) i ≡ place rows i j
-unfolding column
 column-byte rows i j within = get_or-map (λ row. slice_index row j) rows i [] 0 within
 
 pub length-column : (rows : List (List ℕ)) (j : ℕ) → length (column rows j) ≡ length rows
-unfolding column
 length-column rows j = length-map rows (λ row. slice_index row j)
 
 -- columns of the same bytes are the same

@@ -141,7 +141,7 @@ length-bytes_of answers = length-map answers bytes
 -- a column of the answers is one of their bytes
 pub whole-column : (answers : List AnswerRow) (j : ℕ) → marked (failed_of (map answer_word answers)) ≡ 0
     → answer_column (map answer_word answers) j ≡ column (bytes_of answers) j
-unfolding answer_column column
+unfolding answer_column
 whole-column answers j none =
     let words : List (Option (List ℕ)) = map answer_word answers in
     same_number_lists (map (byte_at j) words) (map (λ row. slice_index row j) (bytes_of answers))
@@ -173,7 +173,6 @@ whole-answer answers j word size none is =
 pub column-copied : (answers : List AnswerRow) (j : ℕ) (word : List ℕ) → length answers ≡ 208 → length word ≡ 208
     → ((k : ℕ) → k < 208 → get_or word k 0 ≡ get_or (line (bytes_of answers) k) j 0)
     → word ≡ column (bytes_of answers) j
-unfolding column
 column-copied answers j word size word_size copied =
     same_number_lists word (map (λ row. slice_index row j) (bytes_of answers))
     (word_size ∙ sym (length-map (bytes_of answers) (λ row. slice_index row j) ∙ length-bytes_of answers ∙ size))
@@ -194,7 +193,6 @@ whole-codewords answers i size below codewords none =
 -- where no row failed and each column is its own answer, the block stands as its rows were answered
 pub stands : (answers : List AnswerRow) (columns : List ColumnAnswer) → length answers ≡ 208 → length columns ≡ 182 → AreCodewords answers
     → marked (failed_of (map answer_word answers)) ≡ 0 → AreOwnColumns answers columns → from_columns (words_of columns) ≡ bytes_of answers
-unfolding column
 stands answers columns size columns_size codewords none own =
     let word : ColumnAnswer → List ℕ = λ column. column.bytes in
     let words : List (List ℕ) = words_of columns in

@@ -97,7 +97,6 @@ fn put_lanes(lanes: u8x32, at: usize, word: &mut [u8; 208])
 }
 
 // Notes which columns of the rows' answers are codewords.
-#[tactic(auto, unfolding(dvd_block::specs::Product::column))]
 fn find_codewords(answers: &[AnswerRow], whole: &mut [bool; 182])
     requires { length answers.now ≡ 208 }
     ensures { (j : ℕ) → j < 182 → slice_index_or whole.new j false ≡ true → IsCodeword 208 16 (column (bytes_of answers.now) j) }

@@ -16,7 +16,6 @@ module _ (c : goal.After-rows-2-1) where
   lower = c.outer_parity.new.parity
 
   filled : IsFilled old upper (cells_of lower) (upper ++ lower)
-  unfolding column
   filled =
       let was : List (List ℕ) = c.split_at_mut-upper.result.0.now in
       let row_is : (i : ℕ) → i < 192 → line was i ≡ line old i =
