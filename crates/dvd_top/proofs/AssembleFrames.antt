@@ -40,10 +40,12 @@ use Rattle.dvd_top.specs.Commands.Assemble.{IsAssembleEnd, IsShelfOf, assemble_u
 abbrev pub counts : Layout → Frame → ℕ
 counts layout frame = option_map_or (λ n. 1) (home layout frame) 0
 
+-- one unit more is one frame more
 frames-more : (form : Form) (units : List (List ℕ)) (own : List ℕ) → frames_in form (units ++ own ∷ []) ≡ frames_in form units ++ frame_in form own ∷ []
 unfolding frames_in
 frames-more form units own = map-append (frame_in form) units (own ∷ [])
 
+-- one frame more adds what it counts to those that have a home
 placed-more : (layout : Layout) (frames : List Frame) (frame : Frame) → placed_of layout (frames ++ frame ∷ []) ≡ placed_of layout frames + counts layout frame
 unfolding placed_of
 placed-more layout frames frame = sum_by-append (counts layout) frames (frame ∷ []) ∙ omega arith
@@ -86,6 +88,7 @@ counts-le : (place : Option ℕ) → option_map_or (λ n. 1) place 0 ≤ 1
 counts-le None = omega arith
 counts-le (Some n) = omega arith
 
+-- so no more of all frames have a home than there are
 placed-le : (layout : Layout) (frames : List Frame) → placed_of layout frames ≤ length frames
 unfolding placed_of
 placed-le layout [] = omega arith
@@ -95,6 +98,7 @@ placed-le layout (frame ∷ frames) =
     let split = sum_by-append (counts layout) (frame ∷ []) frames in
     omega (arith, rest, one, split)
 
+-- a shelf counts no more frames than units were taken
 pub placed-few : (layout : Layout) (form : Form) (units : List (List ℕ)) (tables : List Table) (placed : ℕ) → IsShelfOf layout form units tables placed
     → placed ≤ length units
 unfolding frames_in
@@ -102,6 +106,7 @@ placed-few layout form units tables placed shelf =
     let few = placed-le layout (frames_in form units) in
     omega (arith, shelf.count, few, length-map units (frame_in form))
 
+-- there is a frame for each unit
 pub length-frames : (form : Form) (units : List (List ℕ)) → length (frames_in form units) ≡ length units
 unfolding frames_in
 length-frames form units = length-map units (frame_in form)
@@ -114,10 +119,12 @@ text-more tables k within =
     ∙ flat_map-append marked_text (take k tables) (get_or tables k unseen ∷ [])
     ∙ ap (λ l. flat_map marked_text (take k tables) ++ l) (append-nil (marked_text (get_or tables k unseen)))
 
+-- the text of the blocks is that of the first k, and then that of the others
 text-split : (tables : List Table) (k : ℕ) → text_of tables ≡ text_of (take k tables) ++ text_of (drop k tables)
 unfolding text_of
 text-split tables k = ap (flat_map marked_text) (sym (take-append-drop k tables)) ∙ flat_map-append marked_text (take k tables) (drop k tables)
 
+-- no block has no text
 pub no_text : (tables : List Table) → text_of (take 0 tables) ≡ []
 unfolding text_of
 no_text tables = refl
@@ -167,6 +174,7 @@ frame_read old = record { steps = []; turn = Good; may = (refl, refl); done = st
 abbrev pub closing_of : List Table → ℕ → ℕ → List Step
 closing_of tables placed frames = Write (text_of tables) ∷ Tell (placed_line placed (frames - placed)) ∷ []
 
+-- what closes a shelf of all frames are the steps of the blocks that they make
 pub closing_is : (layout : Layout) (form : Form) (units : List (List ℕ)) (tables : List Table) (placed frames : ℕ) → IsShelfOf layout form units tables placed
     → length units ≡ frames → closing_of tables placed frames ≡ assembled_steps layout (frames_in form units)
 closing_is layout form units tables placed frames shelf all =
@@ -174,6 +182,7 @@ closing_is layout form units tables placed frames shelf all =
     ∙ ap (λ n. closing_of (assembled layout (frames_in form units)) n frames) shelf.count
     ∙ ap (λ n. closing_of (assembled layout (frames_in form units)) (placed_of layout (frames_in form units)) n) (sym all ∙ sym (length-frames form units))
 
+-- a frame counts one at most
 pub counts-few : (layout : Layout) (frame : Frame) → counts layout frame ≤ 1
 counts-few layout frame = counts-le (home layout frame)
 

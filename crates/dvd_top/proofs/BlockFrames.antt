@@ -19,6 +19,7 @@ pub holds_kept : (g : ℕ) (frame : List ℕ) (old new : List (List ℕ)) → g 
 unfolding HoldsFrame
 holds_kept g frame old new lt kept holds q p few within = kept (12 * g + q) p (omega arith) within ∙ holds q p few within
 
+-- frame f of those of a block
 pub line-frames_of : (layout : Layout) (entry : BlockPlan) (cpr sectors : List ℕ) (f : ℕ) → f < 16
     → line (frames_of layout entry cpr sectors) f ≡ frame_of layout entry cpr sectors f
 unfolding frames_of

@@ -70,6 +70,7 @@ alone layout zones form bytes cpr image k entry b steps turn does =
     repaired layout zones form cpr k entry (image_part layout entry image) (block_bytes form bytes k) b.block steps turn b.stands b.is_image b.cpr_size
     (length-part layout entry.content image b.image_size) b.is_block (block-whole form bytes (k + 1) b.whole k (omega arith)) b.within does
 
+-- the same where the block is read by rounds
 alone_deep : (layout : Layout) (zones : Zones) (form : Form) (bytes cpr image : List ℕ) (k : ℕ) (entry : BlockPlan)
     → IsBorne layout zones form bytes cpr image k entry
     → (steps : List Step) (turn : Turn) → IsDeepened layout zones form k (block_bytes form bytes k) steps turn
@@ -136,6 +137,7 @@ told_line line end a does none =
       ap (λ (o : Outcome). o.end) done.is ∙ ap (λ (o : Outcome). o.end) done.holds,
     )
 
+-- what closes a run that no fault ended writes nothing, and ends as its loop
 closed : (closing : LoopEnd → List ℕ) (end : LoopEnd) (a : Outcome) → Closes closing end a → IsFaultless a.end → (a.out ≡ []) × (a.end ≡ end)
 closed closing ReportFault a is none = absurd (subst (λ (o : Outcome). IsFaultless o.end) is none)
 closed closing end a does none = told_line (closing end) end a does none
@@ -170,6 +172,7 @@ units_keep settings command bytes outcome loop layout is_layout wide alone is ru
       alone cpr image k entry b steps turn (subst (λ word. IsRescued word layout settings.zones settings.form k (block_bytes settings.form bytes k) steps turn) is does);
 }
 
+-- so each command that rescues keeps the bound
 kept_by : (settings : Settings) (command : Command) (bytes : List ℕ) (outcome loop : Outcome) → Rescues command → settings.command ≡ command
     → (meaning command).OfUnits settings (λ units. IsOutcome units bytes loop) → IsFaultless loop.end → outcome.out ≡ loop.out
     → KeepsBound settings bytes outcome
@@ -188,6 +191,7 @@ kept_by settings Merge bytes outcome loop rescues is holds none out = absurd res
 kept_by settings Assemble bytes outcome loop rescues is holds none out = absurd rescues
 kept_by settings Convert bytes outcome loop rescues is holds none out = absurd rescues
 
+-- the law: a run that no fault ended gives back the image sectors of each block that is borne
 pub kept : BoundIsKept
 kept settings within bytes outcome is run none =
     let (out, loop_none) = closed_loop settings.command (IsLoop settings bytes) within outcome run none in

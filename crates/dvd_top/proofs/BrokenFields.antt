@@ -63,6 +63,7 @@ least_none P None least none = refl
 decides_le : (a b : ℕ) → Decides (nat_le a b) (a ≤ b)
 decides_le a b = (leb-true a b, le-leb a b)
 
+-- that two numbers are the same
 decides_eq : (a b : ℕ) → Decides (a == b) (a ≡ b)
 decides_eq a b = (eqb-true a b, eq-eqb a b)
 

@@ -74,6 +74,7 @@ names layout cpr sectors k entry block stands is = record { product = is.product
         subst (λ w. take 6 (line block (12 * f)) ≡ word_bytes w ++ ied_of w) (sym (word_is f below))
         (begins_so (word_of layout entry f) _ _ _ (line block (12 * f)) codeword.size (first_row f block _ (holds f below)))
 
+-- the law: frames captured of mastered blocks come home, and each place that is seen has its byte
 pub assembled_so : CapturedFramesAreAssembled
 assembled_so layout cpr parts blocks mastered = (
   λ k f frame within below captured. come_home layout k f (blocks k) frame within below (named k within) captured,

@@ -34,6 +34,7 @@ listed_failed : (o : Option ℕ) (bytes left : List ℕ) (k : ℕ) → length by
 listed_failed (Some at) bytes left k fewer = inr refl
 listed_failed None bytes left k fewer = subst (λ part. EndsWithin part k (length bytes) left ReadFault) (sym (sized_fewer (listed_size bytes) bytes fewer)) (inr refl)
 
+-- so in each form
 pub captured_failed : (form : Form) (bytes left : List ℕ) (k : ℕ) → length bytes < unit_size form bytes
     → EndsWithin (captured_part form bytes) k (length bytes) left ReadFault
 captured_failed Plain bytes left k fewer = subst (λ part. EndsWithin part k (length bytes) left ReadFault) (sym (sized_fewer 37_856 bytes fewer)) (inr refl)

@@ -36,6 +36,7 @@ data_of : (address : ℕ) (user rest : List ℕ) → length user ≡ 2048 → us
 unfolding covered
 data_of address user rest size = take_at user rest 2048 size
 
+-- and are what the sector was made of
 made_data : (address : ℕ) (user sector : List ℕ) → length user ≡ 2048 → IsSector address user sector → user_data sector ≡ user
 unfolding data_part
 made_data address user sector size made =
@@ -61,6 +62,7 @@ borne_given address k user sector read steps turn user_size made size low high d
 length-own : (k : ℕ) (bytes : List ℕ) → 2352 * (k + 1) ≤ length bytes → length (cd_sector_bytes bytes k) ≡ 2352
 length-own k bytes there = length-take-le 2352 (drop (2352 * k) bytes) (omega (arith, there, length-drop (2352 * k) bytes))
 
+-- for a sector whose damage is borne its user data are written, and nothing else
 alone : (settings : Settings) (bytes user : List ℕ) (k : ℕ) → IsBorneSector settings bytes user k
     → (steps : List Step) (turn : Turn) → IsSectorRead (settings.address + k) k (cd_sector_bytes bytes k) steps turn
     → (steps ≡ Write user ∷ []) × (turn ≡ Good)
@@ -79,12 +81,15 @@ length-repaired read size =
       length-with_p_words read 86,
     )
 
+-- the user data of a repaired sector are 2,048 bytes
 length-user : (read : List ℕ) → length read ≡ 2352 → length (user_data (repaired read)) ≡ 2048
 length-user read size = length-take-le 2048 (drop 16 (repaired read)) (omega (arith, length-drop 16 (repaired read), length-repaired read size))
 
+-- one write of some bytes writes as many
 write-wide : (bytes : List ℕ) (steps : List Step) → steps ≡ Write bytes ∷ [] → length (written steps) ≡ length bytes
 write-wide bytes steps is = ap (λ s. length (written s)) is ∙ ap length (append-nil bytes)
 
+-- a sector writes 2,048 bytes, whether it is given or refused, and isn't the last
 read-wide : (address k : ℕ) (read : List ℕ) (steps : List Step) (turn : Turn) → length read ≡ 2352 → IsSectorRead address k read steps turn
     → (length (written steps) ≡ 2048) × (turn ≢ Last)
 read-wide address k read steps turn size does = elim does [
@@ -122,6 +127,7 @@ module _ (address sectors : ℕ) where
       }) bytes a runs done
       ∙ start-same 2048 k
 
+-- in a run whose loop ended without a fault the user data of a borne sector stand at its place
 at_place : (settings : Settings) (bytes : List ℕ) (a : Outcome) → IsOutcome (cdread_units settings.address settings.sectors) bytes a
     → IsFaultless a.end
     → (user : List ℕ) (k : ℕ) → IsBorneSector settings bytes user k → take 2048 (drop (2048 * k) a.out) ≡ user
@@ -133,6 +139,7 @@ at_place settings bytes a runs none user k b =
     part_there (2048 * k) 2048 t.alone.out user a.out (length-first settings.address settings.sectors k bytes t.alone t.runs t.ends)
     b.user_size (subst (λ s. IsFrontOf (t.alone.out ++ written s) a.out) back.0 t.out)
 
+-- the law: a run that no fault ended gives back the user data of each sector that is borne
 pub kept_sectors : BorneSectorsAreKept
 kept_sectors settings within bytes outcome is run none =
     let (out, loop_none) = closed_loop settings.command (IsLoop settings bytes) within outcome run none in

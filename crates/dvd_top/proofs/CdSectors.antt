@@ -59,6 +59,7 @@ one_cause sector address Edc (Mode byte) p q = absurd (q.2 (sym q.1 ∙ p.1))
 one_cause sector address Edc (Address found) p q = absurd (q.3 p.2)
 one_cause sector address Edc Edc p q = refl
 
+-- what is done for a sector that is read is one thing
 pub read_is_one : (address k : ℕ) (read : List ℕ) (steps others : List Step) (turn other : Turn) → IsSectorRead address k read steps turn
     → IsSectorRead address k read others other → (steps ≡ others) × (turn ≡ other)
 read_is_one address k read steps others turn other p q = elim p [
@@ -89,6 +90,7 @@ same_or_not (x ∷ xs) (y ∷ ys) = elim (cases_eq x y) [
   | inr not ↦ inr (λ is. not (let both : (x ∷ xs) ≡ (y ∷ ys) = is in cc))
 ]
 
+-- numbers are all bytes, or they aren't
 bytes_or_not : (xs : List ℕ) → All IsByte xs ⊎ (All IsByte xs → ⊥)
 bytes_or_not [] = inl (All-nil IsByte)
 bytes_or_not (x ∷ xs) = elim (cases_lt x 256) [
@@ -99,6 +101,7 @@ bytes_or_not (x ∷ xs) = elim (cases_lt x 256) [
   | inr large ↦ inr (λ all. let byte : x < 256 = all 0 0 (omega arith) in omega arith)
 ]
 
+-- a word is a codeword with two parity bytes, or it isn't
 codeword_or_not : (n : ℕ) (word : List ℕ) → length word ≡ n → IsCodeword n 2 word ⊎ (IsCodeword n 2 word → ⊥)
 codeword_or_not n word size = elim (bytes_or_not word) [
   | inr not ↦ inr (λ is. not is.bytes)
@@ -116,6 +119,7 @@ codeword_or_not n word size = elim (bytes_or_not word) [
     both first second (suc zero) below = second
     both first second (suc (suc k)) below = absurd (omega arith)
 
+-- a word of a sector is right, or it isn't
 right_or_not : (sector : List ℕ) (word : ℕ) → IsRight sector word ⊎ (IsRight sector word → ⊥)
 unfolding IsRight
 right_or_not sector word = codeword_or_not (word_size word) (word_in sector word) (length-word_in sector word)
@@ -151,6 +155,7 @@ faultless_or_cause sector address = elim (least_wrong sector 138) [
   ]
 ]
 
+-- something is done for every sector that is read
 pub read_some : (address k : ℕ) (read : List ℕ) → (steps : List Step) × (turn : Turn) × IsSectorRead address k read steps turn
 read_some address k read = elim (faultless_or_cause (repaired read) address) [
   | inl right ↦ (Write (user_data (repaired read)) ∷ [], Good, inl (record { faultless = right; writes = refl; good = refl }))
@@ -162,6 +167,7 @@ pub given : (address k : ℕ) (read sector : List ℕ) → sector ≡ repaired r
     → IsSectorRead address k read (Write (user_data sector) ∷ []) Good
 given address k read sector is right = inl (record { faultless = right; writes = ap (λ s. Write (user_data s) ∷ []) is; good = refl })
 
+-- a line and zeros are what is done for a sector with a cause
 pub refused : (address k : ℕ) (read : List ℕ) (cause : CdCause) → IsCause (repaired read) address cause
     → IsSectorRead address k read (Tell (damaged_sector_line k cause) ∷ Write (replicate 2048 0) ∷ []) Bad
 refused address k read cause is = inr (record { cause = cause; is_cause = is; tells = refl; bad = refl })

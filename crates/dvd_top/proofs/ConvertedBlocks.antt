@@ -70,10 +70,12 @@ shape_below Single = omega arith
 shape_below Parallel = omega arith
 shape_below Opposite = omega arith
 
+-- there are two numbers of zones
 zones_below : (zones : Zones) → zones_number zones < 2
 zones_below DataOnly = omega arith
 zones_below AllZones = omega arith
 
+-- settings whose layout breaks no rule have the header that states them
 pub some_opening : (settings : Settings) → broken_rule settings ≡ None → (opening : List ℕ) × IsHeaderOf settings settings opening
 some_opening settings none =
     let (layout, is) = layout_for settings none in

@@ -47,6 +47,7 @@ done_not_last Zero layout k entry rows marks steps does = let no : Last ≡ Good
 done_not_last Reference layout k entry rows marks steps does = let no : Last ≡ Good = does.1 in cc
 done_not_last Control layout k entry rows marks steps does = let no : Last ≡ Good = does.1 in cc
 
+-- where a turn isn't the last, what holds of the rest holds behind it
 on_from : (turn : Turn) → turn ≢ Last → (A : Outcome → Type 0) (after : Outcome) → A after → GoesOn turn A after
 on_from Good not A after holds = holds
 on_from Bad not A after holds = holds
@@ -93,24 +94,29 @@ module _ (layout : Layout) (zones : Zones) (form : Form) (has : HasSize form) (o
   module _ (n : ℕ) (cb rb lb : List (List ℕ)) (bad others : ℕ) (left : List ℕ) (c a : Outcome) (same : length rb ≡ length lb)
       (t : TakesOne converting (λ k. block_size form) (λ k own. sized_part form has own) n cb others left c)
       (o : TakesOne reading (λ k. block_size form) (λ k own. sized_part form has own) n rb bad left a) where
+    -- both took the same bytes of the input
     same_own : o.own ≡ t.own
     same_own =
         sym (take-append_seam o.own o.left) ∙ ap (λ m. take m (o.own ++ o.left)) (o.size_is ∙ sym t.size_is)
         ∙ ap (take (length t.own)) (sym o.front ∙ t.front) ∙ take-append_seam t.own t.left
 
+    -- and left the same
     same_left : o.left ≡ t.left
     same_left =
         sym (drop-append_seam o.own o.left) ∙ ap (λ m. drop m (o.own ++ o.left)) (o.size_is ∙ sym t.size_is)
         ∙ ap (drop (length t.own)) (sym o.front ∙ t.front) ∙ drop-append_seam t.own t.left
 
+    -- the listed unit that was written
     unit : List ℕ
     unit = t.unit.does.unit
 
+    -- it stands before what is written of the blocks to come
     out_is : c.out ≡ unit ++ t.after.out
     unfolding unit
     out_is =
         ap (λ (x : Outcome). x.out) t.is ∙ ap (λ s. written s ++ t.after.out) t.unit.does.writes ∙ ap (λ l. l ++ t.after.out) (append-nil t.unit.does.unit)
 
+    -- what is done for the captured block is done for its listed unit
     listed_does : IsRecovered layout zones Listed (length lb) unit o.steps o.turn
     unfolding unit
     listed_does =
@@ -125,6 +131,7 @@ module _ (layout : Layout) (zones : Zones) (form : Form) (has : HasSize form) (o
               (subst (λ r. IsDone entry.content layout (length rb) entry r (captured_marks form o.own) o.steps o.turn) rows o.unit.does.does));
         }
 
+    -- so where the blocks to come are read again, this one is too
     one_more : GoesAgain listing n (lb ++ unit ∷ []) (bad + bad_of o.turn) t.after.out o.after → GoesAgain listing (suc n) lb bad c.out a
     unfolding Goes unit
     one_more r =

@@ -42,6 +42,7 @@ use Rattle.dvd_top.proofs.Recovered.{sectors_front}
 use Rattle.dvd_top.proofs.RecoveredWidths.{length-sectors_out}
 use Rattle.dvd_top.proofs.Repairs.{few-sectors}
 
+-- a block that holds no image is passed over
 pub passed_by : (content : Content) → (content ≡ Zero) ⊎ ((content ≡ Reference) ⊎ (content ≡ Control))
     → (layout : Layout) (k : ℕ) (entry : BlockPlan) (rows : List (List ℕ)) (marks : List (List Bool)) (old : Streams)
     → AreDone (IsReadDeep content layout k entry rows marks) old old (Ok Good)
@@ -75,6 +76,7 @@ deepened layout zones form k entry stands own rows marks rows_are marks_are old 
 pub told_none : (k : ℕ) (entry : BlockPlan) (round : ℕ) (cause : Option Cause) → cause ≡ None → round_told cause k entry round ≡ []
 told_none k entry round cause is = ap (λ c. round_told c k entry round) is
 
+-- and it is told where they have one
 pub told_some : (k : ℕ) (entry : BlockPlan) (round : ℕ) (cause : Option Cause) → is_some cause ≡ true → round_told cause k entry round ≡ Tell (round_line k entry round) ∷ []
 told_some k entry round (Some cause) is = refl
 told_some k entry round None is = cc
@@ -108,6 +110,7 @@ module _ (layout : Layout) (k : ℕ) (entry : BlockPlan) (rows : List (List ℕ)
     good = done.1;
   })
 
+  -- a block that rounds have a cause for is lost
   pub lost : (cause : Cause) → deep_cause rows marks entry ≡ Some cause → (steps : List Step) (turn : Turn) → IsRefusedFor layout k entry rows marks cause steps turn
       → IsImageRead layout k entry rows marks steps turn
   lost cause first steps turn is = inr (record { cause = cause; first = first; tells = is.0; bad = is.1 })
@@ -127,6 +130,7 @@ first_sectors block entry count bytes product few is =
     ∙ sym (ap (λ n. sectors_out n sectors) all) ∙ sym (sectors_front sectors count (16 - count)))
     ∙ take_at (sectors_out count sectors) rest (2048 * count) (length-sectors_out block entry count product few)
 
+-- a refused block that a round gives back, and whose frames are right, is found by that round
 pub found_by : (layout : Layout) (entry : BlockPlan) (rows : List (List ℕ)) (marks : List (List Bool)) (block : List (List ℕ)) (bytes : List ℕ) (round : ℕ) (cause : Cause)
     → length rows ≡ 208 → length marks ≡ 208 → block_cause rows marks entry ≡ Some cause → deep_round rows marks ≡ Some round → deep_block rows marks ≡ Some block
     → frames_cause block entry ≡ None → bytes ≡ flat_map (λ sector. sector) (main_data block entry) → IsFoundBy layout entry rows marks bytes round

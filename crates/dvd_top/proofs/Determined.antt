@@ -107,6 +107,7 @@ pub length-captured_rows : (form : Form) (own : List ℕ) → length (captured_r
 unfolding captured_rows
 length-captured_rows form own = length-map-range_with_len (λ i. take 182 (record_of form own (record_at i))) 0 208
 
+-- and marks for each of them
 pub length-captured_marks : (form : Form) (own : List ℕ) → length (captured_marks form own) ≡ 208
 unfolding captured_marks
 length-captured_marks form own = length-map-range_with_len (λ i. record_marks form own (record_at i)) 0 208
@@ -149,6 +150,7 @@ module _ (layout : Layout) (k : ℕ) (entry : BlockPlan) (rows : List (List ℕ)
   done_is_one Reference = passed_is_one
   done_is_one Control = passed_is_one
 
+-- so what `recover` does for a block is one thing
 recovered_is_one : (layout : Layout) (zones : Zones) (form : Form) (k : ℕ) (own : List ℕ) → MayOne (IsRecovered layout zones form k own)
 recovered_is_one layout zones form k own steps others turn other p q =
     let rows = captured_rows form own in
@@ -195,6 +197,7 @@ module _ (layout : Layout) (k : ℕ) (entry : BlockPlan) (rows : List (List ℕ)
   read_deep_is_one Reference = λ steps others turn other p q. (p.0 ∙ sym q.0, p.1 ∙ sym q.1)
   read_deep_is_one Control = λ steps others turn other p q. (p.0 ∙ sym q.0, p.1 ∙ sym q.1)
 
+-- so what `deep` does for a block is one thing
 deepened_is_one : (layout : Layout) (zones : Zones) (form : Form) (k : ℕ) (own : List ℕ) → MayOne (IsDeepened layout zones form k own)
 deepened_is_one layout zones form k own steps others turn other p q =
     let rows = captured_rows form own in
@@ -239,6 +242,7 @@ module _ (entry : BlockPlan) (rows : List (List ℕ)) (marks : List (List Bool))
   asked_is_one Reference = λ steps others turn other p q. (p.0 ∙ sym q.0, p.1 ∙ sym q.1)
   asked_is_one (Image sector) = λ steps others turn other p q. (p.0 ∙ sym q.0, p.1 ∙ sym q.1)
 
+-- so what `info` does for a block is one thing
 sought_is_one : (initial : ℕ) (form : Form) (k : ℕ) (own : List ℕ) → MayOne (IsSought initial form k own)
 sought_is_one initial form k own steps others turn other p q =
     let rows = captured_rows form own in
@@ -317,5 +321,6 @@ goes_once : (settings : Settings) (bytes : List ℕ) (a b : Outcome) → GoesOve
     → AreSame a b
 goes_once settings bytes a b p q none other = by_command settings bytes a b none other settings.command p q
 
+-- the law: runs over the same bytes that no fault ended do the same
 pub determined : WhatIsDoneIsDetermined
 determined settings bytes a b p q none other = opens_once GoesOver goes_once settings bytes a b none other settings.form p q

@@ -94,6 +94,7 @@ lawful_disk blocks some few (Err fault) refused = absurd (let no : None ≡ Some
 pub drawn_numbers : (k : ℕ) → k < 4096 → HasNumbers (drawn_entry k)
 drawn_numbers k below = record { numbers = omega arith; layers = omega arith }
 
+-- each of the sixteen sectors that are drawn has 2,048 bytes
 length-drawn_sector : (image : List ℕ) (f : ℕ) → length image ≡ 32768 → f < 16 → length (drawn_sector image f) ≡ 2048
 length-drawn_sector image f size below = length-take-le 2048 (drop (2048 * f) image) (omega (arith, length-drop (2048 * f) image))
 

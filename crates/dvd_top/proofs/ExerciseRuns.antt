@@ -30,6 +30,7 @@ trial_is_one k x a b p q =
     (subst (λ l. IsHurt (state_after x 32768) l no_marks a.rows a.marks) block p.hurt) q.hurt in
     λ i. record { block = block i; rows = hurt.0 i; marks = hurt.1 i }
 
+-- and one seed makes one list of blocks
 trials_are_one : (seed : ℕ) (a b : List Trial) → length a ≡ length b → AreTrials seed a → AreTrials seed b → a ≡ b
 trials_are_one seed a b size p q =
     ext_get_or no_trial a b size (λ k below. trial_is_one k (state_at seed k) (get_or a k no_trial) (get_or b k no_trial) (p k no_trial below) (q k no_trial (omega (arith, size))))
@@ -44,6 +45,7 @@ exercised_is_one seed blocks steps others p q =
 abbrev IsState : ℕ → Type 0
 IsState x = x < 2 ^ 64
 
+-- a step of the generator leaves such a number
 step-lt : (x : ℕ) → IsState x → IsState (step x)
 unfolding step
 step-lt x below =
@@ -53,11 +55,13 @@ step-lt x below =
     let z_below : IsState z = xor_lt 64 y (y / 2 ^ 7) y_below (omega (arith, y_below)) in
     xor_lt 64 z (z * 2 ^ 17 % 2 ^ 64) z_below (mod-lt (z * 2 ^ 17) (omega arith))
 
+-- and so do several steps
 state_after-lt : (x n : ℕ) → IsState x → IsState (state_after x n)
 unfolding state_after
 state_after-lt x zero below = below
 state_after-lt x (suc n) below = step-lt (state_after x n) (state_after-lt x n below)
 
+-- the states that the rows of a block begin with are such numbers
 row_state-lt : (start n y row : ℕ) → IsState y → IsState (row_state start n y row)
 unfolding row_state
 row_state-lt start n y zero below = below
@@ -69,6 +73,7 @@ row_state-lt start n y (suc row) below =
       | false ↦ state_after-lt (row_state start n y row) words before
     ]
 
+-- and those that the blocks begin with
 state_at-lt : (seed k : ℕ) → IsState (state_at seed k)
 unfolding state_at
 state_at-lt seed zero = mod-lt (seed + 1) (omega arith)
@@ -80,6 +85,7 @@ byte_at-lt : (x k : ℕ) → IsState x → byte_at x k < 256
 unfolding byte_at
 byte_at-lt x k below = let drawn = state_after-lt x (k + 1) below in omega (arith, drawn)
 
+-- a list that is drawn has so many bytes
 bytes-drawn : (x n : ℕ) → IsState x → HasBytes n (bytes_from x n)
 bytes-drawn x n below = record {
   size = length-bytes_from x n;
@@ -103,6 +109,7 @@ some_trial k x below =
     let hurt = some_hurt (state_after x 32768) made.0 no_marks product.height (length-replicate 208 (replicate 182 false)) (λ i default inside. (product.rows i default inside).size) in
     (record { block = made.0; rows = hurt.0; marks = hurt.1 }, record { made = made.1; hurt = hurt.2 })
 
+-- and so there are any number of blocks
 some_trials : (seed n : ℕ) → (trials : List Trial) × (length trials ≡ n) × AreTrials seed trials
 some_trials seed zero = ([], refl, λ k default below. absurd (omega arith))
 some_trials seed (suc n) =

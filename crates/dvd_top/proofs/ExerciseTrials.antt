@@ -25,6 +25,7 @@ pub state_first : (seed : ℕ) → seed < 2 ^ 32 → seed + 1 ≡ state_at seed 
 unfolding state_at
 state_first seed below = omega arith
 
+-- the state behind block k is the one that the next block begins with
 pub state_next : (seed k : ℕ) → hurt_state (state_after (state_at seed k) 32768) ≡ state_at seed (k + 1)
 unfolding state_at
 state_next seed k = ap (state_at seed) (sym (add-one k))

@@ -57,6 +57,7 @@ module _ (blocks k x : ℕ) (layout : Layout) (single : layout.shape ≡ Single)
     sectors_are : sectors_of new_work ≡ drawn_sectors (bytes_from x 32768)
     sectors_are = found_block.sectors (sectors_of new_work) (subst (λ e. IsReadAs (rows_of work) (marks_of_work work) e (sectors_of new_work)) entry_is read)
 
+    -- the work holds block k as it was read back
     block_left : IsLeft seed k new_work
     block_left = record {
       stage = stage;
@@ -67,6 +68,7 @@ module _ (blocks k x : ℕ) (layout : Layout) (single : layout.shape ≡ Single)
       sectors = sectors_are ∙ ap (λ y. drawn_sectors (bytes_from y 32768)) before.state_is;
     }
 
+    -- so the turn has come behind block k
     pub turn_behind : IsBehind seed (k + 1) new_state new new_work
     turn_behind =
         one_more seed k x new_state old new old_work new_work before

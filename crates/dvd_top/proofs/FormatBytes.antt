@@ -26,6 +26,7 @@ last_by shape layout layer =
     if is_opposite shape then 0xFD0000 - padded layout.sectors0 + padded layout.sectors1 - 1
     else 0x30000 + padded (if layer == 0 then layout.sectors0 else layout.sectors1) - 1
 
+-- it has 24 bits
 last_number : (layout : Layout) (shape : Shape) (layer : ℕ) → layout.shape ≡ shape → last_by shape layout layer < 2 ^ 24
 last_number layout Single layer is = layer_number layout (layer == 0)
 last_number layout Parallel layer is = layer_number layout (layer == 0)
@@ -38,6 +39,7 @@ cond-le : (b : Bool) (n : ℕ) → cond b n 0 ≤ n
 cond-le true n = omega arith
 cond-le false n = omega arith
 
+-- a sector number is written in four bytes, the first of them 0
 bytes-number : (number : ℕ) → number < 2 ^ 24 → HasBytes 4 (0 ∷ three_bytes number)
 bytes-number number below =
     bytes-append 2 2 4 (0 ∷ number / 65536 ∷ []) (number / 256 % 256 ∷ number % 256 ∷ []) (omega arith)
@@ -61,18 +63,22 @@ bytes-head layout layer =
     (bytes-number _ (omega (arith, layout.end0))))
     (bytes-replicate 1 0 (omega arith))
 
+-- the physical format sector of a layer is 2,048 bytes
 bytes-format : (layout : Layout) (layer : ℕ) → HasBytes 2048 (format_bytes (fields_for layout layer))
 unfolding format_bytes
 bytes-format layout layer =
     bytes-append 17 2031 2048 (head_bytes (fields_for layout layer)) (replicate 2031 0) (omega arith) (bytes-head layout layer) (bytes-replicate 2031 0 (omega arith))
 
+-- so are 2,048 zeros
 zeros : HasBytes 2048 (replicate 2048 0)
 zeros = bytes-replicate 2048 0 (omega arith)
 
+-- and each sector of a control block, the first of which has the physical format
 bytes-control : (layout : Layout) (layer : ℕ) (first : Bool) → HasBytes 2048 (cond first (format_bytes (fields_for layout layer)) (replicate 2048 0))
 bytes-control layout layer true = bytes-format layout layer
 bytes-control layout layer false = zeros
 
+-- the Main Data of a frame are 2,048 bytes for each content
 bytes-main : (content : Content) (layout : Layout) (entry : BlockPlan) (f : ℕ) → entry.content ≡ content → HasBytes 2048 (main_bytes layout entry f)
 unfolding main_bytes
 bytes-main Zero layout entry f is = rw is zeros
@@ -88,6 +94,7 @@ bytes-main_for Zero layout entry sectors f below all = bytes-main entry.content 
 bytes-main_for Reference layout entry sectors f below all = bytes-main entry.content layout entry f refl
 bytes-main_for Control layout entry sectors f below all = bytes-main entry.content layout entry f refl
 
+-- CPR_MAI is six bytes in each area
 pub bytes-cpr : (area : Area) (cpr : List ℕ) → HasBytes 6 cpr → HasBytes 6 (cpr_in area cpr)
 bytes-cpr DataZone cpr six = six
 bytes-cpr LeadIn cpr six = bytes-replicate 6 0 (omega arith)

@@ -15,6 +15,7 @@ use Rattle.dvd_frame.proofs.IdChecks.{bytes-ied_of, length-ied_of}
 use Rattle.dvd_frame.proofs.Masking.{get_or-masked, length-masked}
 use Rattle.dvd_frame.proofs.Sequences.{byte_shown, shifted_window}
 
+-- a byte is a number below 256
 abbrev pub IsByte : ℕ → Type 0
 IsByte b = b < 256
 
@@ -23,30 +24,36 @@ pub record HasBytes (n : ℕ) (xs : List ℕ) : Type 0 where
   pub size : length xs ≡ n
   pub bytes : All IsByte xs
 
+-- one byte, so many times, is so many bytes
 pub bytes-replicate : (n b : ℕ) → b < 256 → HasBytes n (replicate n b)
 bytes-replicate n b is = record { size = length-replicate {A = ℕ} n b; bytes = All-replicate IsByte n b is }
 
+-- bytes behind others are as many as both together
 pub bytes-append : (m n k : ℕ) (xs ys : List ℕ) → m + n ≡ k → HasBytes m xs → HasBytes n ys → HasBytes k (xs ++ ys)
 bytes-append m n k xs ys is front back = record {
   size = omega (arith, length-append xs ys, front.size, back.size);
   bytes = All-append IsByte xs ys front.bytes back.bytes;
 }
 
+-- a part of some bytes is as many as it takes
 pub bytes-part : (a m n : ℕ) (xs : List ℕ) → a + m ≤ n → HasBytes n xs → HasBytes m (take m (drop a xs))
 bytes-part a m n xs within all = record {
   size = length-take-le m (drop a xs) (omega (arith, length-drop a xs, all.size));
   bytes = All-take IsByte m (drop a xs) (All-drop IsByte a xs all.bytes);
 }
 
+-- two numbers below 256 are two bytes
 pub two_bytes : (first second : ℕ) → first < 256 → second < 256 → HasBytes 2 (first ∷ second ∷ [])
 two_bytes first second p q = record { size = refl; bytes = All-cons IsByte first (second ∷ []) p (All-cons IsByte second [] q (All-nil IsByte)) }
 
+-- an ID word is four bytes
 bytes-word : (word : ℕ) → HasBytes 4 (word_bytes word)
 bytes-word word =
     bytes-append 2 2 4 (word / 16777216 % 256 ∷ word / 65536 % 256 ∷ []) (word / 256 % 256 ∷ word % 256 ∷ []) (omega arith)
     (two_bytes (word / 16777216 % 256) (word / 65536 % 256) (omega arith) (omega arith))
     (two_bytes (word / 256 % 256) (word % 256) (omega arith) (omega arith))
 
+-- its IED is two
 bytes-ied : (word : ℕ) → HasBytes 2 (ied_of word)
 bytes-ied word = record { size = length-ied_of word; bytes = bytes-ied_of word }
 
@@ -59,11 +66,13 @@ register_shown preset (suc k) =
     let next = before.0 % 2 ^ 7 * 256 + bit_xor (before.0 / 2 ^ 7) (before.0 / 2 ^ 3) % 2 ^ 8 in
     (next, subst (λ n. bits 15 next ≡ window preset n) (let is : k + 1 ≡ suc k = omega arith in is) (shifted_window preset k before.0 next refl before.1))
 
+-- so what it scrambles with is a byte
 scrambling_byte-lt : (preset k : ℕ) → scrambling_byte preset k < 256
 scrambling_byte-lt preset k =
     let shown = register_shown preset k in
     subst (λ b. b < 256) (byte_shown preset k shown.0 shown.1) (omega arith)
 
+-- and what masks a byte of Main Data is one
 mask-lt : (word : ℕ) (rule : Rule) (k : ℕ) → mask word rule k < 256
 unfolding mask
 mask-lt word rule k = elim (nat_lt k (scrambled_count rule)) as (λ within. cond within (scrambling_byte (preset_of word) k) 0 < 256) [
@@ -83,6 +92,7 @@ bytes-masked n word rule main whole =
           (xor_lt 8 (get_or main k 0) (mask word rule k) (whole.bytes k 0 below) (mask-lt word rule k)));
     }
 
+-- an EDC is four bytes
 bytes-edc : (bytes : List ℕ) → HasBytes 4 (edc_of bytes)
 unfolding edc_of
 bytes-edc bytes = bytes-word _

@@ -63,6 +63,7 @@ at_place layout zones form bytes a runs none cpr image k f entry b below good =
     ∙ ap (take 2048) (drop-drop (2048 * f) (2048 * from) image)
     ∙ ap (λ n. take 2048 (drop n image)) (sym at)
 
+-- so the units of `recover` keep the good frames
 units_keep : (settings : Settings) (bytes : List ℕ) (outcome loop : Outcome) (layout : Layout) → IsLayoutOf settings layout
     → IsOutcome (recover_units layout settings.zones settings.form) bytes loop → IsFaultless loop.end → outcome.out ≡ loop.out
     → KeepsGoodFrames settings bytes outcome
@@ -74,6 +75,7 @@ units_keep settings bytes outcome loop layout is_layout runs none out = record {
       ∙ at_place layout settings.zones settings.form bytes loop runs none cpr image k f entry b below good;
 }
 
+-- the law: a run of recovery that no fault ended gives the good frames of each refused block
 pub kept_good : GoodFramesAreKept
 kept_good settings within bytes outcome is run none =
     let (out, loop_none) = closed_loop settings.command (IsLoop settings bytes) within outcome run none in

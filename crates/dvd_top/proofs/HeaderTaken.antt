@@ -25,17 +25,20 @@ opens_by_words Plain sized Loops settings bytes outcome loop = loop
 opens_by_words Marked sized Loops settings bytes outcome loop = loop
 opens_by_words Listed sized Loops settings bytes outcome loop = absurd (sized refl)
 
+-- and what holds of its run holds of the command by its words
 pub words_of : (form : Form) → HasSize form → (Loops : Settings → List ℕ → Outcome → Type 0) (settings : Settings) (bytes : List ℕ) (outcome : Outcome)
     → Opens form Loops settings bytes outcome → Loops settings bytes outcome
 words_of Plain sized Loops settings bytes outcome loop = loop
 words_of Marked sized Loops settings bytes outcome loop = loop
 words_of Listed sized Loops settings bytes outcome loop = absurd (sized refl)
 
+-- the rules that its run breaks are those that the command breaks by its words
 pub breaks_by_words : (form : Form) → HasSize form → (settings : Settings) → breaks_in form settings ≡ (meaning settings.command).breaks settings
 breaks_by_words Plain sized settings = refl
 breaks_by_words Marked sized settings = refl
 breaks_by_words Listed sized settings = absurd (sized refl)
 
+-- so a command that has gone over its units has run
 pub looped_by_words : (settings : Settings) → HasSize settings.form → (old new : Streams) (end : LoopEnd) → HasGoneOver settings old new end
     → HasLooped settings old new end
 looped_by_words settings sized old new end gone = record {
@@ -68,6 +71,7 @@ behind_none Loops settings own left after (inl early) = inl early
 behind_none Loops settings own left after (inr (whole, inl broken)) = inr (whole, inl broken)
 behind_none Loops settings own left after (inr (whole, inr (stated, header, lawful, none))) = absurd none
 
+-- a run that ended in its header is one of a listed capture
 pub opened_ended : (Loops : Settings → List ℕ → Outcome → Type 0) (settings : Settings) (old read output report : Seen) (end : LoopEnd)
     → EndsInHeader settings old read end → Comes (IsOpened Loops settings) (streams old output report) (streams read output report) end
 opened_ended Loops settings old read output report end ended_in = record {

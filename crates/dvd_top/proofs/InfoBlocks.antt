@@ -26,6 +26,7 @@ pub not_ok : {A B : Type 0} (r : Result A B) (P : B → Type 0) → result_ok r 
 not_ok (Ok value) P none holds = absurd (let no : Some value ≡ None = none in cc)
 not_ok (Err e) P none holds = (e, holds)
 
+-- what holds where a result is right holds of one that is some
 pub on_ok : {A B : Type 0} (r : Result A B) (P : Type 0) (value : A) → result_ok r ≡ Some value → OnOk r P → P
 on_ok (Ok own) P value some holds = holds
 on_ok (Err e) P value some holds = absurd (let no : None ≡ Some value = some in cc)
@@ -72,6 +73,7 @@ sought initial form k entry stands own rows marks rows_are marks_are old new ans
   is = done.is;
 }
 
+-- no block that `info` asks counts as damaged
 asked_never_bad : (content : Content) (entry : BlockPlan) (rows : List (List ℕ)) (marks : List (List Bool)) (steps : List Step)
     → IsAsked content entry rows marks steps Bad → ⊥
 asked_never_bad Control entry rows marks steps does = elim does [

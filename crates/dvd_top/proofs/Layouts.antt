@@ -13,20 +13,25 @@ kept : (test : Bool) (fault : LayoutFault) (rest : Option LayoutFault) → cond 
 kept true fault rest is = absurd (let no : Some fault ≡ None = is in cc)
 kept false fault rest is = (refl, is)
 
+-- where two tests don't pass together and the first does, the second doesn't
 second_false : (first second : Bool) → (first && second) ≡ false → first ≡ true → second ≡ false
 second_false true second both is = both
 second_false false second both is = absurd (let no : false ≡ true = is in cc)
 
+-- a test whose opposite fails passes
 not_false : (test : Bool) → not test ≡ false → test ≡ true
 not_false true is = refl
 not_false false is = absurd (let no : true ≡ false = is in cc)
 
+-- a number that isn't 0 is above it
 some-by : (n : ℕ) → (n == 0) ≡ false → 0 < n
 some-by n is = grind (arith, nat_tests)
 
+-- a number that isn't below another is at least that one
 most-by : (m n : ℕ) → nat_lt m n ≡ false → n ≤ m
 most-by m n is = grind (arith, nat_tests)
 
+-- settings that break no rule have a layout
 pub layout_for : (settings : Settings) → broken_rule settings ≡ None → (layout : Layout) × IsLayoutOf settings layout
 unfolding first_fault
 layout_for settings none =

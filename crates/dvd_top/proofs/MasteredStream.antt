@@ -41,6 +41,7 @@ use Rattle.dvd_top.proofs.Repaired.{repaired}
 widths-of : (block : List (List ℕ)) → IsProduct block → All (λ row. length row ≡ 182) block
 widths-of block is i d within = (is.rows i d within).size
 
+-- the recording of a block is 37,856 bytes
 recording-size : (block : List (List ℕ)) → IsProduct block → length (recording block) ≡ 37_856
 recording-size block is = length-recorded block is.height (widths-of block is) 208 (omega arith)
 
@@ -101,6 +102,7 @@ record IsRecorded (layout : Layout) (zones : Zones) (cpr : List ℕ) (k : ℕ) (
   is_block : IsBlockOf (frames_of layout entry cpr (filled own)) block
   writes : out ≡ recording block
 
+-- what mastering does for a block records it
 recorded : (layout : Layout) (zones : Zones) (cpr : List ℕ) (k : ℕ) (own : List ℕ) (steps : List Step) (turn : Turn)
     → IsMastered layout zones cpr k own steps turn
     → IsRecorded layout zones cpr k own (written steps)
@@ -112,6 +114,7 @@ recorded layout zones cpr k own steps turn m = record {
   writes = ap written m.writes ∙ append-nil (recording m.block);
 }
 
+-- the units of mastering are good ones: each takes its image bytes and records its block
 masters_good : (layout : Layout) (zones : Zones) (cpr : List ℕ)
     → AreGood (master_units layout zones cpr) (bytes_of_block layout zones) (λ k own out lines. IsRecorded layout zones cpr k own out)
 masters_good layout zones cpr = record {
@@ -160,9 +163,11 @@ module _ (layout : Layout) (zones : Zones) (cpr image : List ℕ) (cpr_size : le
     recorded-at : (k : ℕ) → k < count → IsRecorded layout zones cpr k (part k) (pieces.outs k)
     recorded-at k lt = pieces.each k (omega arith) (omega arith)
 
+    -- each block that was mastered is 37,856 bytes of the stream
     out_size : (k : ℕ) → k < count → length (pieces.outs k) ≡ 37_856
     out_size k lt = let r = recorded-at k lt in ap length r.writes ∙ recording-size r.block r.is_block.product
 
+    -- so the stream has so many for each block
     stream-size : length mastered.out ≡ start (λ k. 37_856) count
     stream-size = ap length pieces.out_is ∙ length-pieces pieces.outs (λ k. 37_856) count out_size
 
@@ -172,6 +177,7 @@ module _ (layout : Layout) (zones : Zones) (cpr image : List ℕ) (cpr_size : le
     captured k own lt is =
         is ∙ ap (λ l. take 37_856 (drop (start (λ k. 37_856) k) l)) pieces.out_is ∙ piece-at pieces.outs (λ k. 37_856) count k out_size lt ∙ (recorded-at k lt).writes
 
+    -- what is recovered of such a block is the part of the image that it was mastered from
     back-at : (k : ℕ) (own : List ℕ) (steps : List Step) (turn : Turn) → k < count → own ≡ take 37_856 (drop (start (λ k. 37_856) k) mastered.out)
         → IsRecovered layout zones Plain k own steps turn → IsBack (part k) steps turn
     back-at k own steps turn lt is does =
@@ -179,6 +185,7 @@ module _ (layout : Layout) (zones : Zones) (cpr image : List ℕ) (cpr_size : le
         block_back layout zones cpr k r.entry (part k) r.block steps turn r.stands cpr_size (length-part k r.entry lt r.stands) r.is_block
         (subst (λ l. IsRecovered layout zones Plain k l steps turn) (captured k own lt is) does)
 
+    -- the units of recovery over the stream are good ones, and give the parts of the image back
     recovers_good : AreGood (only_these (recover_units layout zones Plain) (λ k. 37_856) (λ k bytes. refl) mastered.out) (λ k. 37_856) (λ k own out lines. (out ≡ part k) × (lines ≡ []))
     recovers_good = record {
       begins = λ k bytes. refl;
@@ -189,6 +196,7 @@ module _ (layout : Layout) (zones : Zones) (cpr image : List ℕ) (cpr_size : le
       asks = refl;
     }
 
+    -- so a recovery of the whole stream gives the image back, and ends as Done
     stream_back : (recovered : Outcome) → IsOutcome (recover_units layout zones Plain) mastered.out recovered → IsFaultless recovered.end
         → recovered ≡ record { taken = mastered.out; out = image; lines = []; end = Done }
     stream_back recovered runs none =
@@ -199,6 +207,7 @@ module _ (layout : Layout) (zones : Zones) (cpr image : List ℕ) (cpr_size : le
         let lines : recovered.lines ≡ [] = all.1 ∙ none_told (range_with_len 0 count) in
         outcome_is recovered mastered.out image [] Done all.3 out lines all.2
 
+-- the law: from a mastered stream recovery gives the image back
 pub stream_recovered : MasteredStreamIsRecovered
 stream_recovered layout zones cpr image mastered recovered cpr_size image_size masters none recovers no_fault =
     let pieces = over (master_units layout zones cpr) (bytes_of_block layout zones) (λ k own out lines. IsRecorded layout zones cpr k own out) (masters_good layout zones cpr)

@@ -66,6 +66,7 @@ module _ (form : Form) (n : ℕ) (bytes own : List ℕ) (size : length bytes ≡
             ∙ sym (get_or_push before (table_in form own) [] q (omega (arith, last, length_before)))
       ])
 
+-- one capture more is joined to the join of those before it
 joined-push : (tables : List Table) (table : Table) → joined (tables ++ table ∷ []) ≡ join_tables (joined tables) table
 unfolding joined
 joined-push tables table = fold_push join_tables unseen tables table

@@ -9,6 +9,7 @@ use Rattle.dvd_loop.proofs.Over.{start-suc, start-zero}
 use Rattle.dvd_loop.proofs.Sizes.{unit_size}
 use Rattle.dvd_loop.proofs.StepLemmas.{does_as}
 
+-- what follows from a thing that holds behind a turn holds there too
 goes_on_as : (turn : Turn) (A B : Outcome → Type 0) → ((after : Outcome) → A after → B after) → (after : Outcome) → GoesOn turn A after
     → GoesOn turn B after
 goes_on_as Good A B to after goes = to after goes

@@ -19,6 +19,7 @@ pub start-same : (size n : ℕ) → start (λ k. size) n ≡ size * n
 start-same size zero = start-zero (λ k. size) ∙ sym (mul-zero size)
 start-same size (suc n) = omega (arith, start-suc (λ k. size) n, start-same size n, mul-suc size n)
 
+-- n pieces have as many elements as their sizes together
 pub length-pieces : (f : ℕ → List ℕ) (size : ℕ → ℕ) (n : ℕ) → ((k : ℕ) → k < n → length (f k) ≡ size k)
     → length (flat_map f (range_with_len 0 n)) ≡ start size n
 length-pieces f size zero each = sym (start-zero size)

@@ -8,6 +8,7 @@ use Rattle.dvd_layout.specs.declared.layout.Layout.{Layout}
 use Rattle.dvd_layout.specs.declared.layout.Zones.{Zones}
 use Rattle.dvd_layout.proofs.Ranges.{lead_in_blocks-numbers, plan_of-numbers}
 
+-- each entry of a list has numbers of 24 bits, where all of them have
 numbers_in : (entries : List BlockPlan) → All HasNumbers entries → (k : ℕ) (entry : BlockPlan) → slice_get entries k ≡ Some entry → HasNumbers entry
 numbers_in entries are k entry stands = subst HasNumbers (get_or_from_slice_get entries k entry entry stands) (are k entry (slice_get_within entries k entry stands))
 

@@ -34,6 +34,7 @@ pub line_same : (k number : ℕ) (entry : BlockPlan) (cause : Cause) (saved fram
     → damage_line number entry cause saved ≡ damage_line k entry cause frames
 line_same k number entry cause saved frames is saved_is = ap (λ n. damage_line n entry cause saved) is ∙ ap (damage_line k entry cause) saved_is
 
+-- the same number of the same sectors is written as the same bytes
 pub sectors_same : (count number : ℕ) (sectors others : List (List ℕ)) → count ≡ number → sectors ≡ others → sectors_out count sectors ≡ sectors_out number others
 sectors_same count number sectors others is sectors_are = ap (λ n. sectors_out n sectors) is ∙ ap (sectors_out number) sectors_are
 
@@ -52,6 +53,7 @@ few_saved work entry =
 pub passed_over : (old : Streams) → AreDone IsPassedOver old old (Ok Good)
 passed_over old = record { steps = []; turn = Good; may = (refl, refl); done = stays old; is = λ value is. cc }
 
+-- a block that holds no image is passed over
 pub passed_by : (content : Content) → (content ≡ Zero) ⊎ ((content ≡ Reference) ⊎ (content ≡ Control))
     → (layout : Layout) (k : ℕ) (entry : BlockPlan) (rows : List (List ℕ)) (marks : List (List Bool)) (old : Streams)
     → AreDone (IsDone content layout k entry rows marks) old old (Ok Good)

@@ -65,6 +65,7 @@ length-main block entry f is below =
     length-masked (found_word frame) (rule_for entry.content f) (take 2048 (drop 12 frame))
     ∙ length-take-le 2048 (drop 12 frame) (omega (arith, length-drop 12 frame))
 
+-- so many sectors of a block are 2,048 bytes each
 pub length-sectors_out : (block : List (List ℕ)) (entry : BlockPlan) (count : ℕ) → IsProduct block → count ≤ 16
     → length (sectors_out count (main_data block entry)) ≡ 2048 * count
 unfolding main_data
@@ -119,6 +120,7 @@ module _ (layout : Layout) (k : ℕ) (entry : BlockPlan) (rows : List (List ℕ)
   done-wide Reference is done = passed-wide (ap (λ c. 2048 * image_sectors layout c) is) done
   done-wide Control is done = passed-wide (ap (λ c. 2048 * image_sectors layout c) is) done
 
+-- what `recover` writes for a block is as long as its image sectors
 pub recovered-wide : (layout : Layout) (zones : Zones) (form : Form) (k : ℕ) (own : List ℕ) (steps : List Step) (turn : Turn) → IsRecovered layout zones form k own steps turn
     → IsWide (bytes_of_block layout zones k) steps turn
 recovered-wide layout zones form k own steps turn r =
@@ -158,6 +160,7 @@ module _ (layout : Layout) (k : ℕ) (entry : BlockPlan) (rows : List (List ℕ)
   deep-wide Reference is done = passed-wide layout k entry rows marks size marks_size steps turn (ap (λ c. 2048 * image_sectors layout c) is) done
   deep-wide Control is done = passed-wide layout k entry rows marks size marks_size steps turn (ap (λ c. 2048 * image_sectors layout c) is) done
 
+-- and what `deep` writes is
 pub deepened-wide : (layout : Layout) (zones : Zones) (form : Form) (k : ℕ) (own : List ℕ) (steps : List Step) (turn : Turn) → IsDeepened layout zones form k own steps turn
     → IsWide (bytes_of_block layout zones k) steps turn
 deepened-wide layout zones form k own steps turn r =

@@ -50,9 +50,11 @@ use Rattle.dvd_top.proofs.Repairs.{data_block-made, few-sectors, sector, sectors
 row_in : Form → List ℕ → ℕ → List ℕ
 row_in form own i = take 182 (record_of form own (record_at i))
 
+-- the marks of row i
 row_marks_in : Form → List ℕ → ℕ → List Bool
 row_marks_in form own i = record_marks form own (record_at i)
 
+-- each row has 182 bytes
 length-row : (form : Form) (own : List ℕ) (m : ℕ) → block_size form ≤ length own → m < 208 → length (take 182 (record_of form own m)) ≡ 182
 length-row Plain own m size below =
     length-take-le 182 (record_of Plain own m) (omega (arith, length-take-le 182 (drop (182 * m) own) (omega (arith, length-drop (182 * m) own))))
@@ -61,11 +63,13 @@ length-row Marked own m size below =
 length-row Listed own m size below =
     length-take-le 182 (record_of Listed own m) (omega (arith, length-take-le 182 (drop (182 * m) own) (omega (arith, length-drop (182 * m) own))))
 
+-- and 182 marks
 length-row_marks : (form : Form) (own : List ℕ) (m : ℕ) → length (record_marks form own m) ≡ 182
 length-row_marks Plain own m = length-replicate {A = Bool} 182 false
 length-row_marks Marked own m = length-marks_of (drop 182 (record_of Marked own m))
 length-row_marks Listed own m = length-map-range_with_len (λ j. marked_by own (run_count own) (182 * m + j)) 0 182
 
+-- whole captured bytes have 208 rows of bytes and of marks
 pub captured-received : (form : Form) (own : List ℕ) → captured_part form own ≡ Whole (length own) → IsReceived (captured_rows form own) (captured_marks form own)
 unfolding captured_rows captured_marks row_in row_marks_in
 captured-received form own whole = record {
@@ -93,6 +97,7 @@ image_done Zero layout k entry rows marks steps turn is done = absurd is
 image_done Reference layout k entry rows marks steps turn is done = absurd is
 image_done Control layout k entry rows marks steps turn is done = absurd is
 
+-- the law: of damage within the bound recovery gives back the image sectors of the block
 pub repaired : DamageWithinTheBoundIsRepaired
 repaired layout zones form cpr k entry image own block steps turn stands is_image cpr_size image_size is_block size within does =
     let few = few-sectors layout entry.content in

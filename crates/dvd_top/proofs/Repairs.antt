@@ -26,9 +26,11 @@ use Rattle.dvd_top.proofs.Recovered.{sectors_more}
 abbrev pub sector : List ℕ → ℕ → List ℕ
 sector sectors f = take 2048 (drop (2048 * f) sectors)
 
+-- the sixteen of them
 abbrev pub sectors_list : List ℕ → List (List ℕ)
 sectors_list sectors = map (sector sectors) (range_with_len 0 16)
 
+-- each has 2,048 bytes
 length-sector : (sectors : List ℕ) (f : ℕ) → length sectors ≡ 32768 → f < 16 → length (sector sectors f) ≡ 2048
 length-sector sectors f size below = length-take-le 2048 (drop (2048 * f) sectors) (omega (arith, length-drop (2048 * f) sectors))
 
@@ -57,18 +59,21 @@ written-image layout content image few size =
     sectors-joined (filled image) (image_sectors layout content) few
     ∙ take_at image (replicate (32768 - length image) 0) (2048 * image_sectors layout content) size
 
+-- a block has sixteen image sectors at most
 pub few-sectors : (layout : Layout) (content : Content) → image_sectors layout content ≤ 16
 few-sectors layout (Image sector) = omega arith
 few-sectors layout Zero = omega arith
 few-sectors layout Reference = omega arith
 few-sectors layout Control = omega arith
 
+-- CPR_MAI has six bytes in each area
 cpr-size : (area : Area) (cpr : List ℕ) → length cpr ≡ 6 → length (cpr_in area cpr) ≡ 6
 cpr-size DataZone cpr size = size
 cpr-size LeadIn cpr size = length-replicate {A = ℕ} 6 0
 cpr-size LeadOut cpr size = length-replicate {A = ℕ} 6 0
 cpr-size Middle cpr size = length-replicate {A = ℕ} 6 0
 
+-- the Main Data of frame f in a block of image are image sector f
 main-image : (content : Content) (layout : Layout) (entry : BlockPlan) (sectors : List ℕ) (f : ℕ) → IsImage content
     → main_for content layout entry sectors f ≡ sector sectors f
 main-image (Image a) layout entry sectors f is = refl

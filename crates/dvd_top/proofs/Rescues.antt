@@ -68,6 +68,7 @@ refused-written : (layout : Layout) (k : ℕ) (entry : BlockPlan) (rows : List (
 refused-written layout k entry rows marks steps turn refused =
     ap written refused.tells ∙ append-nil (sectors_out (image_sectors layout entry.content) (block_out rows marks entry))
 
+-- the law: each good frame of a refused block is given with the image sector that it was mastered from
 pub given_good : GoodFramesOfARefusedBlockAreGiven
 given_good layout zones form cpr k f entry image own block cause steps turn stands is_image cpr_size image_size is_block size first below good does =
     let rows = captured_rows form own in

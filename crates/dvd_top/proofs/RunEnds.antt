@@ -91,6 +91,7 @@ ends_over settings bytes within outcome old new c ends moved =
       moved = subst (λ l. HaveMoved old new b.taken b.out (l ++ closing ReadFault)) (sym lines_are) out;
     }
 
+-- only the end of a failed read has its status
 read_end : (end : LoopEnd) → status.ReadFault ≡ status_of end → end ≡ ReadFault
 read_end ReadFault is = refl
 read_end Done is = cc
@@ -104,6 +105,7 @@ read_end (BadMarks k at) is = cc
 read_end (ShortHeader held) is = cc
 read_end (BadHeader at) is = cc
 
+-- a run of that status did what one whose input ended there does, but for the closing line
 pub ends_there_run : (settings : Settings) (old new : Streams) (result : Status) → HasRun settings old new result → result ≡ status.ReadFault
     → EndsThere settings old new
 ends_there_run settings old new result run is =
@@ -118,6 +120,7 @@ IsSound status.WriteFault = ⊥
 IsSound status.ReportFault = ⊥
 IsSound other = Unit {0}
 
+-- an end without a fault has such a status
 sound_status : (end : LoopEnd) → IsFaultless end → IsSound (status_of end)
 sound_status ReadFault none = none
 sound_status WriteFault none = none
@@ -131,6 +134,7 @@ sound_status (BadMarks k at) none = tt
 sound_status (ShortHeader held) none = tt
 sound_status (BadHeader at) none = tt
 
+-- and an end of such a status has no fault
 faultless_by : (end : LoopEnd) → IsSound (status_of end) → IsFaultless end
 faultless_by ReadFault sound = sound
 faultless_by WriteFault sound = sound
@@ -169,11 +173,13 @@ run_keeps Is Keeps law settings old new result run some whole none is =
       },
     )
 
+-- so the bound is kept
 pub bound_kept : (settings : Settings) (old new : Streams) (result : Status) → HasRun settings old new result
     → (some : LoopEnd) → result ≡ status_of some → IsFaultless some → Rescues settings.command
     → (end : LoopEnd) × (result ≡ status_of end) × Comes (λ bytes outcome. IsRun settings end bytes outcome × Behind settings.form (λ stated left. KeepsBound stated left outcome) settings bytes) old new end
 bound_kept = run_keeps (λ settings. Rescues settings.command) (λ settings bytes outcome. Behind settings.form (λ stated left. KeepsBound stated left outcome) settings bytes) kept
 
+-- and so are the good frames
 pub good_frames_kept : (settings : Settings) (old new : Streams) (result : Status) → HasRun settings old new result
     → (some : LoopEnd) → result ≡ status_of some → IsFaultless some → settings.command ≡ Recover
     → (end : LoopEnd) × (result ≡ status_of end) × Comes (λ bytes outcome. IsRun settings end bytes outcome × Behind settings.form (λ stated left. KeepsGoodFrames stated left outcome) settings bytes) old new end
@@ -186,6 +192,7 @@ in_words Plain Keeps settings bytes not keeps = keeps
 in_words Marked Keeps settings bytes not keeps = keeps
 in_words Listed Keeps settings bytes not keeps = absurd (not refl)
 
+-- and so the user data of sectors whose damage is borne
 pub sectors_kept : (settings : Settings) (old new : Streams) (result : Status) → HasRun settings old new result
     → (some : LoopEnd) → result ≡ status_of some → IsFaultless some → (settings.command ≡ CdRead) × (settings.form ≢ Listed)
     → (end : LoopEnd) × (result ≡ status_of end) × Comes (λ bytes outcome. IsRun settings end bytes outcome × KeepsSectors settings bytes outcome) old new end

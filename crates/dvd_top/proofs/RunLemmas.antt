@@ -14,9 +14,11 @@ use Rattle.dvd_top.specs.Inner.Performing.{HasLooped}
 use Rattle.dvd_words.specs.declared.settings.Settings.{Settings}
 use Rattle.dvd_top.specs.declared.status.Status.{Status}
 
+-- there is one reading of words at most
 pub same_settings : (read : Option Settings) (a b : Settings) → read ≡ Some a → read ≡ Some b → a ≡ b
 same_settings read a b p q = cc
 
+-- an end is that of a failed line, or it isn't
 report_or_not : (end : LoopEnd) → (end ≡ ReportFault) ⊎ (end ≢ ReportFault)
 report_or_not ReportFault = inl refl
 report_or_not Done = inr (λ is. cc)
@@ -30,6 +32,7 @@ report_or_not (BadMarks k at) = inr (λ is. cc)
 report_or_not (ShortHeader held) = inr (λ is. cc)
 report_or_not (BadHeader at) = inr (λ is. cc)
 
+-- where no line failed the faults of the report stay as many
 stayed : (end : LoopEnd) → end ≢ ReportFault → (old new : ℕ) → Counts (is_report_fault end) old new → new ≡ old
 stayed ReportFault not old new counts = absurd (not refl)
 stayed Done not old new counts = counts

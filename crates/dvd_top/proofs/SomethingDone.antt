@@ -84,6 +84,7 @@ use Rattle.dvd_top.proofs.OpenedRuns.{opened_exists, stated-command}
 abbrev MaySome : (List Step → Turn → Type 0) → Type 0
 MaySome May = (steps : List Step) × (turn : Turn) × May steps turn
 
+-- something may be done for each of so many units of given sizes
 abbrev MayEach : ℕ → (ℕ → ℕ) → (ℕ → List ℕ → List Step → Turn → Type 0) → Type 0
 MayEach count size does = (k : ℕ) (own : List ℕ) → k < count → HasBytes (size k) own → MaySome (does k own)
 
@@ -216,6 +217,7 @@ module _ (layout : Layout) (k : ℕ) (entry : BlockPlan) (rows : List (List ℕ)
   done_some Reference = passed_some
   done_some Control = passed_some
 
+-- so something is done for each block that `recover` reads
 recovered_some : (layout : Layout) (zones : Zones) (form : Form) (k : ℕ) (own : List ℕ) → k < length (plan_of layout zones)
     → MaySome (IsRecovered layout zones form k own)
 recovered_some layout zones form k own within =
@@ -244,6 +246,7 @@ module _ (layout : Layout) (k : ℕ) (entry : BlockPlan) (rows : List (List ℕ)
   read_deep_some Reference = ([], Good, (refl, refl))
   read_deep_some Control = ([], Good, (refl, refl))
 
+-- so something is done for each block that `deep` reads
 deepened_some : (layout : Layout) (zones : Zones) (form : Form) (k : ℕ) (own : List ℕ) → k < length (plan_of layout zones)
     → MaySome (IsDeepened layout zones form k own)
 deepened_some layout zones form k own within =
@@ -276,6 +279,7 @@ module _ (entry : BlockPlan) (rows : List (List ℕ)) (marks : List (List Bool))
   asked_some Reference = ([], Good, (refl, refl))
   asked_some (Image sector) = ([], Good, (refl, refl))
 
+-- so something is done for each block that `info` asks
 sought_some : (initial : ℕ) (form : Form) (k : ℕ) (own : List ℕ) → k < initial + 224 → MaySome (IsSought initial form k own)
 sought_some initial form k own within =
     let some = some_entry (lead_in_blocks initial) k (let size = length-lead_in_blocks initial in omega arith) in
@@ -302,6 +306,7 @@ converted_some form own whole =
     let unit = some_spelling (captured_rows form own) (captured_marks form own) received.height received.widths received.marks_height received.marks_widths in
     (Write unit.0 ∷ [], Good, record { unit = unit.0; is_unit = unit.1; writes = refl; good = refl })
 
+-- units that are captured blocks have an outcome for every input, where something may be done for each whole one
 convert_total : (units : Units) (form : Form) → ((k : ℕ) (own : List ℕ) → units.begins k own ≡ captured_part form own)
     → ((k : ℕ) (before : List (List ℕ)) (own : List ℕ) → captured_part form own ≡ Whole (length own) → MaySome (units.does k before own))
     → ((before : List (List ℕ)) → length before ≡ units.count → (steps : List Step) × units.closes before steps)
@@ -394,6 +399,7 @@ lawful_for command.Convert settings none = none
 not_made : (form : Form) → (word : Command) → form ≡ Listed → (word ≡ command.CdMake → form ≡ Plain) → word ≢ command.CdMake
 not_made form word listed plain is = let no : Plain ≡ Listed = sym (plain is) ∙ listed in cc
 
+-- so each command whose words break no rule has an outcome for every input of bytes
 goes_some : (settings : Settings) (bytes : List ℕ) → HasBytes 6 settings.cpr → All IsByte bytes → (meaning settings.command).breaks settings ≡ None
     → (settings.command ≡ command.CdMake → HasAddresses settings) → Exists (GoesOver settings bytes)
 goes_some settings bytes six are none addresses = by_command settings bytes six are settings.command none addresses
@@ -414,6 +420,7 @@ module _ (settings : Settings) (bytes : List ℕ) (six : HasBytes 6 settings.cpr
   by_form Marked is none = goes_some settings bytes six are none (λ so. (addresses so).0)
   by_form Listed is none = opened_exists GoesOver settings bytes are (stated_some is)
 
+-- the law: for every input each command does something
 pub something : SomethingIsDone
 something settings bytes size cpr_bytes are none addresses =
     by_form settings bytes (record { size = size; bytes = cpr_bytes }) are addresses settings.form refl none

@@ -59,6 +59,7 @@ pub cause_is : (answer : Result Fixed Cause) (cause : Option Cause) → OnOk ans
 cause_is (Ok fixed) cause right refused = sym right
 cause_is (Err own) cause right refused = sym refused
 
+-- a block is surveyed by its cause
 surveyed_is : (rows : List (List ℕ)) (marks : List (List Bool)) (entry : BlockPlan) (cause : Option Cause) → cause ≡ block_cause rows marks entry
     → surveyed_with rows marks cause ≡ surveyed rows marks entry
 unfolding surveyed

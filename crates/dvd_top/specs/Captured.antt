@@ -39,6 +39,7 @@ abbrev pub listed_part : Option ℕ → List ℕ → Part
 listed_part (Some at) bytes = Broken at
 listed_part None bytes = sized (listed_size bytes) bytes
 
+-- so in each form: a whole block, too few bytes, or a rule that a listed block breaks
 abbrev pub captured_part : Form → List ℕ → Part
 captured_part Plain bytes = sized (block_size Plain) bytes
 captured_part Marked bytes = sized (block_size Marked) bytes
@@ -79,6 +80,7 @@ abbrev pub IsCaptureEnd : Form → ℕ → LoopEnd → Type 0
 IsCaptureEnd Listed count (BadMarks block at) = block < count
 IsCaptureEnd form count end = IsDamageEnd count end
 
+-- that of a loop that looks for a first block
 abbrev pub IsSoughtEnd : Form → ℕ → LoopEnd → Type 0
 IsSoughtEnd Listed count (BadMarks block at) = block < count
 IsSoughtEnd form count end = IsSearchEnd count end

@@ -27,6 +27,7 @@ pub mod Deep
 pub mod Assemble
 pub mod Convert
 
+-- what each command does
 abbrev pub meaning : Command → Meaning
 meaning command.Frames = frames_meaning
 meaning command.Master = master_meaning

@@ -33,6 +33,7 @@ breaks_in Plain settings = (meaning settings.command).breaks settings
 breaks_in Marked settings = (meaning settings.command).breaks settings
 breaks_in Listed settings = None
 
+-- those of the form that the settings name
 abbrev pub breaks : Settings → Option LayoutFault
 breaks settings = breaks_in settings.form settings
 
@@ -72,6 +73,7 @@ GoesOver settings bytes outcome = (meaning settings.command).OfUnits settings (�
 abbrev pub IsLoop : Settings → List ℕ → Outcome → Type 0
 IsLoop settings bytes outcome = Opens settings.form GoesOver settings bytes outcome
 
+-- Behind the loop comes the closing line of its end.
 abbrev pub IsRun : Settings → LoopEnd → List ℕ → Outcome → Type 0
 IsRun settings within bytes outcome = IsClosed (closing_line settings.command) (IsLoop settings bytes) within outcome
 

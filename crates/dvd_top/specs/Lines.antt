@@ -17,6 +17,7 @@ fault_text (InitialTooLong blocks) = codes "initial too long " ++ decimal blocks
 fault_text (TailTooLong blocks) = codes "tail too long " ++ decimal blocks
 fault_text (LayerTooLong layer end) = codes "layer " ++ decimal layer ++ codes " too long " ++ decimal end
 
+-- the line of a refused layout
 abbrev pub setting_line : LayoutFault → List ℕ
 setting_line fault = codes "setting: " ++ fault_text fault ++ codes "\n"
 

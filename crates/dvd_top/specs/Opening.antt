@@ -22,6 +22,7 @@ shape_number Single = 0
 shape_number Parallel = 1
 shape_number Opposite = 2
 
+-- the numbers of the zones
 abbrev pub zones_number : Zones → ℕ
 zones_number DataOnly = 0
 zones_number All = 1
@@ -44,6 +45,7 @@ abbrev pub place_of_layer : ℕ → ℕ
 place_of_layer zero = 12
 place_of_layer (suc layer) = 16
 
+-- so for each rule of layouts
 abbrev pub place_of : LayoutFault → ℕ
 place_of (EmptyLayer layer) = place_of_layer layer
 place_of (OddLayer sectors) = 12

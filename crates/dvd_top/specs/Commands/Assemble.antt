@@ -53,6 +53,7 @@ assemble_units layout form frames = record {
   behind = Asks;
 }
 
+-- the meaning of `assemble`: its units are frames, and its layout has to break no rule
 abbrev pub assemble_meaning : Meaning
 assemble_meaning = record {
   unit_name = codes "frame";

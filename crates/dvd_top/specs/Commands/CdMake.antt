@@ -23,6 +23,7 @@ cdmake_units first sectors = plain_units sectors (λ k. 2048) (λ k. IsMade (fir
 abbrev pub HasAddresses : Settings → Type 0
 HasAddresses settings = settings.address + settings.sectors ≤ 450000
 
+-- the meaning of `cdmake`: its units are sectors, and it has no layout
 abbrev pub cdmake_meaning : Meaning
 cdmake_meaning = record {
   unit_name = codes "sector";

@@ -35,6 +35,7 @@ IsSectorRead address k read steps turn = IsSectorGiven address read steps turn �
 abbrev pub cdread_units : ℕ → ℕ → Units
 cdread_units first sectors = plain_units sectors (λ k. 2352) (λ k. IsSectorRead (first + k) k)
 
+-- the meaning of `cdread`: its units are sectors, and it has no layout
 abbrev pub cdread_meaning : Meaning
 cdread_meaning = record {
   unit_name = codes "sector";

@@ -32,6 +32,7 @@ abbrev pub OfConverted : Settings → Layout → (Units → Type 0) → Type 0
 OfConverted settings layout P =
     (opening : List ℕ) × IsHeaderOf settings settings opening × P (convert_units layout settings.zones settings.form opening)
 
+-- the meaning of `convert`: its units are blocks, and its layout has to break no rule
 abbrev pub convert_meaning : Meaning
 convert_meaning = record {
   unit_name = codes "block";

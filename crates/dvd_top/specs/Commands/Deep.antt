@@ -60,9 +60,11 @@ pub record IsDeepened (layout : Layout) (zones : Zones) (form : Form) (k : ℕ) 
   pub stands : slice_get (plan_of layout zones) k ≡ Some entry
   pub does : IsReadDeep entry.content layout k entry (captured_rows form own) (captured_marks form own) steps turn
 
+-- the units are the captured blocks of the plan
 abbrev pub deep_units : Layout → Zones → Form → Units
 deep_units layout zones form = captured_units (length (plan_of layout zones)) form (IsDeepened layout zones form)
 
+-- the meaning of `deep`: its layout has to break no rule
 abbrev pub deep_meaning : Meaning
 deep_meaning = record {
   unit_name = codes "block";

@@ -25,6 +25,7 @@ use Rattle.dvd_top.specs.Meaning.{Meaning}
 abbrev pub drawn_sector : List ℕ → ℕ → List ℕ
 drawn_sector image f = take 2048 (drop (2048 * f) image)
 
+-- all sixteen, in order
 unfoldable pub drawn_sectors : List ℕ → List (List ℕ)
 drawn_sectors image = map (drawn_sector image) (range_with_len 0 16)
 
@@ -32,6 +33,7 @@ drawn_sectors image = map (drawn_sector image) (range_with_len 0 16)
 abbrev pub drawn_frame : ℕ → List ℕ → ℕ → List ℕ
 drawn_frame k image f = data_frame (id_word DataZone 0 false (0x30000 + 16 * k + f)) (replicate 6 0) Whole (drawn_sector image f)
 
+-- the sixteen frames of block k
 unfoldable pub drawn_frames : ℕ → List ℕ → List (List ℕ)
 drawn_frames k image = map (drawn_frame k image) (range_with_len 0 16)
 
@@ -100,6 +102,7 @@ exercise_units seed blocks = record {
   behind = Done;
 }
 
+-- the meaning of `exercise`: its units are blocks, and it has no layout
 abbrev pub exercise_meaning : Meaning
 exercise_meaning = record {
   unit_name = codes "block";

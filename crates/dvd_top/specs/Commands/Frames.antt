@@ -18,6 +18,7 @@ sector_frame number sector = data_frame (id_word DataZone 0 false number) (repli
 abbrev pub frames_units : ℕ → ℕ → Units
 frames_units first sectors = plain_units sectors (λ k. 2048) (λ k sector steps turn. (steps ≡ Write (sector_frame (first + k) sector) ∷ []) × (turn ≡ Good))
 
+-- the meaning of `frames`: its units are sectors, and it has no layout
 abbrev pub frames_meaning : Meaning
 frames_meaning = record {
   unit_name = codes "sector";

@@ -25,6 +25,7 @@ use Rattle.dvd_top.specs.Meaning.{Meaning}
 abbrev pub number_line : List ℕ → ℕ → List ℕ
 number_line name number = name ++ decimal number ++ codes "\n"
 
+-- the line with a sector number
 abbrev pub sector_line : List ℕ → ℕ → List ℕ
 sector_line name number = name ++ hexadecimal 6 number ++ codes "\n"
 
@@ -76,6 +77,7 @@ pub record IsSought (initial : ℕ) (form : Form) (k : ℕ) (own : List ℕ) (st
 abbrev pub info_units : ℕ → Form → Units
 info_units initial form = record (captured_units (initial + 224) form (IsSought initial form)) { behind = NoControl }
 
+-- the meaning of `info`: its units are blocks, and of a layout it has the Initial Zone alone
 abbrev pub info_meaning : Meaning
 info_meaning = record {
   unit_name = codes "block";

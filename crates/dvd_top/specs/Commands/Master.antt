@@ -64,6 +64,7 @@ pub record IsMastered (layout : Layout) (zones : Zones) (cpr : List ℕ) (k : �
   pub writes : steps ≡ Write (recording block) ∷ []
   pub good : turn ≡ Good
 
+-- how many bytes of the image an entry of the plan takes, and none where there is no entry
 abbrev pub bytes_of_entry : Layout → Option BlockPlan → ℕ
 bytes_of_entry layout None = 0
 bytes_of_entry layout (Some entry) = image_bytes layout entry
@@ -72,9 +73,11 @@ bytes_of_entry layout (Some entry) = image_bytes layout entry
 abbrev pub bytes_of_block : Layout → Zones → ℕ → ℕ
 bytes_of_block layout zones k = bytes_of_entry layout (slice_get (plan_of layout zones) k)
 
+-- the units are the blocks of the plan, each of its image bytes
 abbrev pub master_units : Layout → Zones → List ℕ → Units
 master_units layout zones cpr = plain_units (length (plan_of layout zones)) (bytes_of_block layout zones) (IsMastered layout zones cpr)
 
+-- the meaning of `master`: its layout has to break no rule
 abbrev pub master_meaning : Meaning
 master_meaning = record {
   unit_name = codes "block";

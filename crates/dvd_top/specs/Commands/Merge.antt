@@ -19,6 +19,7 @@ use Rattle.dvd_words.specs.Settings.{IsLayoutOf, broken_rule}
 abbrev pub capture_in : Form → List ℕ → ℕ → List ℕ
 capture_in form own c = take (block_size form) (drop (block_size form * c) own)
 
+-- what a capture of these bytes knows of its block
 abbrev pub table_in : Form → List ℕ → Table
 table_in form bytes = seen_table (captured_rows form bytes) (captured_marks form bytes)
 
@@ -32,6 +33,7 @@ merge_units layout zones form captures =
     plain_units (length (plan_of layout zones)) (λ k. captures * block_size form)
     (λ k own steps turn. (steps ≡ Write (marked_text (joined (tables_in captures form own))) ∷ []) × (turn ≡ Good))
 
+-- the meaning of `merge`: its units are blocks, and its layout has to break no rule
 abbrev pub merge_meaning : Meaning
 merge_meaning = record {
   unit_name = codes "block";

@@ -51,9 +51,11 @@ pub record IsRecovered (layout : Layout) (zones : Zones) (form : Form) (k : ℕ)
   pub stands : slice_get (plan_of layout zones) k ≡ Some entry
   pub does : IsDone entry.content layout k entry (captured_rows form own) (captured_marks form own) steps turn
 
+-- the units are the captured blocks of the plan
 abbrev pub recover_units : Layout → Zones → Form → Units
 recover_units layout zones form = captured_units (length (plan_of layout zones)) form (IsRecovered layout zones form)
 
+-- the meaning of `recover`: its layout has to break no rule
 abbrev pub recover_meaning : Meaning
 recover_meaning = record {
   unit_name = codes "block";

@@ -50,6 +50,7 @@ survey_units layout zones form = record {
   behind = Asks;
 }
 
+-- the meaning of `survey`: its units are blocks, and its layout has to break no rule
 abbrev pub survey_meaning : Meaning
 survey_meaning = record {
   unit_name = codes "block";

@@ -51,6 +51,7 @@ abbrev pub IsRefusal : Settings → Refusal → Type 0
 IsRefusal settings (Setting fault) = breaks settings ≡ Some fault
 IsRefusal settings NoMemory = breaks settings ≡ None
 
+-- what a command did: its loop ended so, or it didn't begin
 abbrev pub IsPerformed : Settings → Streams → Streams → Result LoopEnd Refusal → Type 0
 IsPerformed settings old new (Ok end) = HasLooped settings old new end
 IsPerformed settings old new (Err refusal) = IsRefusal settings refusal
@@ -61,10 +62,12 @@ pub record HasGoneOver (settings : Settings) (old new : Streams) (end : LoopEnd)
   pub comes : Comes (GoesOver settings) old new end
   pub causes : HaveCauses end end old new
 
+-- why it doesn't begin, by the rules of its command alone
 abbrev pub IsRefusalOfWords : Settings → Refusal → Type 0
 IsRefusalOfWords settings (Setting fault) = (meaning settings.command).breaks settings ≡ Some fault
 IsRefusalOfWords settings NoMemory = (meaning settings.command).breaks settings ≡ None
 
+-- what it did
 abbrev pub IsPerformedByWords : Settings → Streams → Streams → Result LoopEnd Refusal → Type 0
 IsPerformedByWords settings old new (Ok end) = HasGoneOver settings old new end
 IsPerformedByWords settings old new (Err refusal) = IsRefusalOfWords settings refusal
@@ -125,6 +128,7 @@ pub record IsLineDone (entry : BlockPlan) (blocks : List Surveyed) (rows : List 
   pub writes : steps ≡ Write (survey_line (length blocks) entry (blocks ++ surveyed rows marks entry ∷ [])) ∷ []
   pub answers : turn ≡ turn_by (block_cause rows marks entry)
 
+-- nothing is done for a block that is passed over
 abbrev pub IsPassedOver : List Step → Turn → Type 0
 IsPassedOver steps turn = (steps ≡ []) × (turn ≡ Good)
 
