@@ -5,6 +5,7 @@ use Rattle.cd_sector.specs.Edc.{plus_front, remainder, edc_of}
 use Rattle.cd_sector.specs.Sector.{header}
 use Rattle.cd_sector.specs.Words.{place}
 
+-- the check bytes of one byte 80, the least significant first
 edc-80 : edc_of (0x80 ∷ []) ≡ 0x01 ∷ 0x80 ∷ 0x01 ∷ 0xD8 ∷ []
 unfolding edc_of remainder plus_front bits_of bits number_of
 edc-80 = refl
@@ -13,6 +14,7 @@ edc-80 = refl
 header-150 : header 150 ≡ 0x00 ∷ 0x02 ∷ 0x00 ∷ []
 header-150 = refl
 
+-- minute 99, second 59, sector 74
 header-last : header 449999 ≡ 0x99 ∷ 0x59 ∷ 0x74 ∷ []
 header-last = refl
 
