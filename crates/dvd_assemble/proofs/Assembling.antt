@@ -17,6 +17,7 @@ use Rattle.dvd_assemble.specs.Frames.{Frame}
 use Rattle.dvd_assemble.specs.Home.{home}
 use Rattle.dvd_assemble.proofs.Tables.{IsShaped, by_table, join_none, joined-more, joined-shaped, length-frame_table, length-unseen}
 
+-- whether two numbers are equal, and what the test of them says
 abbrev Tells : ℕ → ℕ → Type 0
 Tells a b = ((((a == b) ≡ true) × (a ≡ b)) ⊎ (((a == b) ≡ false) × (a ≢ b)))
 
@@ -24,10 +25,12 @@ Tells a b = ((((a == b) ≡ true) × (a ≡ b)) ⊎ (((a == b) ≡ false) × (a 
 abbrev pub block_at : Layout → List Frame → ℕ → Table
 block_at layout frames k = joined (map (told_of layout k) frames)
 
+-- there is a block for each of the plan
 pub length-assembled : (layout : Layout) (frames : List Frame) → length (assembled layout frames) ≡ length (plan_of layout DataOnly)
 unfolding assembled
 length-assembled layout frames = length-map-range_with_len (block_at layout frames) 0 (length (plan_of layout DataOnly))
 
+-- and block k is the join of what all frames tell of it
 pub assembled-at : (layout : Layout) (frames : List Frame) (k : ℕ) (d : Table) → k < length (plan_of layout DataOnly)
     → get_or (assembled layout frames) k d ≡ block_at layout frames k
 unfolding assembled
@@ -37,17 +40,21 @@ assembled-at layout frames k d within = get_or-map-range_with_len (block_at layo
 abbrev told_by : ℕ → Frame → Option ℕ → Table
 told_by k frame place = option_map_or (table_for k frame) place unseen
 
+-- what a frame tells of a block depends on the frame's home alone
 told-by : (layout : Layout) (k : ℕ) (frame : Frame) → told_of layout k frame ≡ told_by k frame (home layout frame)
 unfolding told_of
 told-by layout k frame = refl
 
+-- the blocks with one frame more, by the home that it has
 abbrev settled_by : List Table → Frame → Option ℕ → List Table
 settled_by tables frame place = option_map_or (λ n. set tables (n / 16) (with_frame (n % 16) frame (get_or tables (n / 16) unseen))) place tables
 
+-- what a frame changes depends on its home alone
 settled-by : (layout : Layout) (tables : List Table) (frame : Frame) → settled layout tables frame ≡ settled_by tables frame (home layout frame)
 unfolding settled
 settled-by layout tables frame = refl
 
+-- what a frame tells of a block has 208 rows, by the home
 length-told_by : (k : ℕ) (frame : Frame) (place : Option ℕ) → length (told_by k frame place) ≡ 208
 length-told_by k frame None = length-unseen
 length-told_by k frame (Some n) = by_block (eqb_tells (n / 16) k)
@@ -56,12 +63,15 @@ length-told_by k frame (Some n) = by_block (eqb_tells (n / 16) k)
     by_block (inl here) = rw here.0 (length-frame_table (n % 16) frame)
     by_block (inr elsewhere) = rw elsewhere.0 length-unseen
 
+-- and so for each frame
 pub length-told_of : (layout : Layout) (k : ℕ) (frame : Frame) → length (told_of layout k frame) ≡ 208
 length-told_of layout k frame = ap length (told-by layout k frame) ∙ length-told_by k frame (home layout frame)
 
+-- a block of frames has 208 rows of at most 182 places
 shaped : (layout : Layout) (frames : List Frame) (k : ℕ) → IsShaped (block_at layout frames k)
 shaped layout frames k = joined-shaped (told_of layout k) (length-told_of layout k) frames
 
+-- a frame that is joined leaves as many blocks as there were
 length-settled_by : (tables : List Table) (frame : Frame) (place : Option ℕ) → length (settled_by tables frame place) ≡ length tables
 length-settled_by tables frame None = refl
 length-settled_by tables frame (Some n) = length-set tables (n / 16) (with_frame (n % 16) frame (get_or tables (n / 16) unseen))
@@ -84,6 +94,7 @@ settled-at tables frame (Some n) k within shape = by_block (eqb_tells (n / 16) k
     by_block (inr elsewhere) =
         rw elsewhere.0 (get_or-set_other tables (n / 16) k other unseen (λ same. elsewhere.1 (sym same)) ∙ sym (join_none (get_or tables k unseen) shape))
 
+-- blocks that some frames make, with one frame more settled, are those that all of them make
 pub one_more : (layout : Layout) (frames : List Frame) (frame : Frame) → settled layout (assembled layout frames) frame ≡ assembled layout (frames ++ frame ∷ [])
 one_more layout frames frame =
     settled-by layout (assembled layout frames) frame
@@ -117,10 +128,12 @@ told_member f (x ∷ xs) ys same y (k, within, is) =
     let there = same source (Contains-get_or (x ∷ xs) k x inside) in
     (there.0, omega (arith, there.1, length-map ys f), get_or-map f ys there.0 source y there.1 ∙ ap f there.2 ∙ image)
 
+-- functions that have the same values map a list to the same one
 map_same : {B : Type 0} (f g : ℕ → B) → ((k : ℕ) → f k ≡ g k) → (xs : List ℕ) → map f xs ≡ map g xs
 map_same f g same [] = refl
 map_same f g same (x ∷ xs) = ap (λ y. y ∷ map f xs) (same x) ∙ ap (λ ys. g x ∷ ys) (map_same f g same xs)
 
+-- neither the order of the frames nor their repetition changes the blocks
 pub same_set : (layout : Layout) (a b : List Frame) → ((frame : Frame) → Contains a frame ↔ Contains b frame) → assembled layout a ≡ assembled layout b
 unfolding assembled joined
 same_set layout a b same =

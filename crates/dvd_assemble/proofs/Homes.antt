@@ -35,16 +35,19 @@ use Rattle.dvd_assemble.specs.Home.{block_and_frame, block_words, home_in, words
 no_entries : (layout : Layout) → layout.sectors1 ≡ 0 → entries_of (second_data layout) ≡ []
 no_entries layout none = rw none refl
 
+-- the data blocks of a disk of each shape are those of its first Data Zone, and behind them those of its second
 plan_by : (layout : Layout) (shape : Shape) → layout.shape ≡ shape
     → flat_map entries_of (filter (λ zone. is_data zone.area) (zones_by layout shape)) ≡ entries_of (first_data layout) ++ entries_of (second_data layout)
 plan_by layout Single is = ap (λ l. entries_of (first_data layout) ++ l) (sym (no_entries layout (layout.one_layer (ap has_two_layers is))))
 plan_by layout Parallel is = ap (λ l. entries_of (first_data layout) ++ l) (append-nil (entries_of (second_data layout)))
 plan_by layout Opposite is = ap (λ l. entries_of (first_data layout) ++ l) (append-nil (entries_of (second_data layout)))
 
+-- so are those of the plan of a layout
 data_plan : (layout : Layout) → plan_of layout DataOnly ≡ entries_of (first_data layout) ++ entries_of (second_data layout)
 unfolding plan_of
 data_plan layout = plan_by layout layout.shape refl
 
+-- there are as many as the sectors of both layers fill
 pub length-plan : (layout : Layout) → length (plan_of layout DataOnly) ≡ blocks_of layout.sectors0 + blocks_of layout.sectors1
 length-plan layout =
     ap length (data_plan layout) ∙ length-append (entries_of (first_data layout)) (entries_of (second_data layout))
@@ -56,6 +59,7 @@ StandsAt layout k entry =
     ((entry.layer ≡ 0) × (k < blocks_of layout.sectors0) × (entry.first ≡ 0x30000 + 16 * k))
     ⊎ ((entry.layer ≡ 1) × (blocks_of layout.sectors0 ≤ k) × (entry.first ≡ second_first layout + 16 * (k - blocks_of layout.sectors0)))
 
+-- each block of the plan stands in the Data Zone of its layer, at the sector number that its place tells
 pub stands_at : (layout : Layout) (k : ℕ) (d : BlockPlan) → k < length (plan_of layout DataOnly) → StandsAt layout k (get_or (plan_of layout DataOnly) k d)
 stands_at layout k d within = by_side (cases_lt k (blocks_of layout.sectors0))
   where
@@ -106,13 +110,16 @@ module _ {X A : Type 0} (f : X → List A) (sixteen : (x : X) → length (f x) �
 abbrev pub word_of : Layout → BlockPlan → ℕ → ℕ
 word_of layout entry f = id_word entry.area entry.layer (has_two_layers layout.shape) (entry.first + f)
 
+-- a block has sixteen ID words
 sixteen_words : (layout : Layout) (entry : BlockPlan) → length (block_words layout entry) ≡ 16
 sixteen_words layout entry = length-map-range_with_len (word_of layout entry) 0 16
 
+-- a plan has sixteen for each block
 pub length-words : (layout : Layout) → length (words_of layout) ≡ 16 * length (plan_of layout DataOnly)
 unfolding words_of
 length-words layout = length-pieces (block_words layout) (sixteen_words layout) (plan_of layout DataOnly)
 
+-- word 16k + f is that of frame f of block k
 pub word-at : (layout : Layout) (k f : ℕ) (e : BlockPlan) → k < length (plan_of layout DataOnly) → f < 16
     → get_or (words_of layout) (16 * k + f) 0 ≡ word_of layout (get_or (plan_of layout DataOnly) k e) f
 unfolding words_of
@@ -128,6 +135,7 @@ same_number a b same =
     masked : (n : ℕ) → bit_and n 0x0DFFFFFF % 2 ^ 24 ≡ n % 2 ^ 24
     masked n = and_mod n 0x0DFFFFFF 24 ∙ and_mask (n % 2 ^ 24) 24 ∙ omega arith
 
+-- and one layer
 same_layer : (a b : ℕ) → IsSamePlace a b → a / 2 ^ 24 % 2 ≡ b / 2 ^ 24 % 2
 same_layer a b same = sym (masked a) ∙ ap (λ n. bit_at n 24) same ∙ masked b
   where
@@ -139,13 +147,16 @@ word_number : (area : Area) (layer number : ℕ) (dim : Bool) → layer < 2 → 
 word_number area layer number true two low = omega arith
 word_number area layer number false two low = omega arith
 
+-- an ID word tells the layer that it was made for
 word_layer : (area : Area) (layer number : ℕ) (dim : Bool) → layer < 2 → number < 2 ^ 24 → id_word area layer dim number / 2 ^ 24 % 2 ≡ layer
 word_layer area layer number true two low = omega arith
 word_layer area layer number false two low = omega arith
 
+-- a block of zeros, for a place behind the plan
 pub some_entry : BlockPlan
 some_entry = record { first = 0; area = DataZone; layer = 0; content = Zero }
 
+-- the numbers and the layer of each block of the plan fit in an ID
 pub has_numbers : (layout : Layout) (k : ℕ) (entry : BlockPlan) → slice_get (plan_of layout DataOnly) k ≡ Some entry → HasNumbers entry
 has_numbers layout k entry stands =
     subst HasNumbers (get_or_from_slice_get (plan_of layout DataOnly) k entry entry stands)
@@ -165,6 +176,7 @@ Sides layout word n =
     ((word / 2 ^ 24 % 2 ≡ 0) × (word % 2 ^ 24 ≡ 0x30000 + n))
     ⊎ ((word / 2 ^ 24 % 2 ≡ 1) × (16 * blocks_of layout.sectors0 ≤ n) × (word % 2 ^ 24 ≡ second_first layout + (n - 16 * blocks_of layout.sectors0)))
 
+-- a frame with the place of a word is in the Data Zone of the word's layer, as far behind its first as the word says
 pub sides : (layout : Layout) (word n : ℕ) → IsAt layout word n → Sides layout word n
 sides layout word n at = by_zone (stands_at layout k some_entry within)
   where
@@ -255,6 +267,7 @@ home_none layout word none = by_answer (position (is_same_place word) (words_of 
         let found = position-Some (is_same_place word) (words_of layout) n 0 is in
         absurd (none n (found.0, found.1))
 
+-- where one element alone passes a test, its place is the first that passes
 first_place : {X : Type 0} (p : X → Bool) (xs : List X) (n : ℕ) (d : X) → n < length xs → p (get_or xs n d) ≡ true
     → ((m : ℕ) → m < length xs → p (get_or xs m d) ≡ true → m ≡ n) → position p xs ≡ Some n
 first_place p xs n d within passes only =
@@ -267,6 +280,7 @@ first_place p xs n d within passes only =
     fails k less false is = is
     fails k less true is = let same = only k (omega (arith, less, within)) is in absurd (omega (arith, less, same))
 
+-- where one frame alone has the place of a word, it is the word's home
 pub home_some : (layout : Layout) (word n : ℕ) → IsAt layout word n → ((m : ℕ) → IsAt layout word m → m ≡ n) → home_in layout word ≡ Some n
 unfolding home_in
 home_some layout word n at only = first_place (is_same_place word) (words_of layout) n 0 at.0 at.1 (λ m within passes. only m (within, passes))
@@ -287,15 +301,18 @@ pub before_is : (layout : Layout) (word layer before : ℕ) → before ≡ (if l
     → layer ≡ word / 2 ^ 24 % 2 → before ≡ first_block layout word
 before_is layout word layer before is layer_is = is ∙ ap (λ (l : ℕ). if l == 0 then 0 else blocks_of layout.sectors0) layer_is
 
+-- a word has no home where the plan ends before the first block that may have it
 pub none_behind : (layout : Layout) (word before : ℕ) → before ≡ first_block layout word → length (plan_of layout DataOnly) ≤ before
     → home_in layout word ≡ None
 none_behind layout word before is least =
     home_none layout word (λ n at. omega (arith, behind_first layout word n at, is, at.0, length-words layout, least))
 
+-- the block that the search begins with is the first that may have the place
 entry_stands : (layout : Layout) (word before : ℕ) (entry : BlockPlan) → before ≡ first_block layout word
     → slice_get (plan_of layout DataOnly) before ≡ Some entry → slice_get (plan_of layout DataOnly) (first_block layout word) ≡ Some entry
 entry_stands layout word before entry is stands = ap (slice_get (plan_of layout DataOnly)) (sym is) ∙ stands
 
+-- a word has no home where its sector number is below that of the first block that may have it
 pub none_below : (layout : Layout) (word before : ℕ) (entry : BlockPlan) → before ≡ first_block layout word
     → slice_get (plan_of layout DataOnly) before ≡ Some entry → (entry.first ≤ word % 2 ^ 24 → ⊥) → home_in layout word ≡ None
 none_below layout word before entry is stands below =
@@ -312,6 +329,7 @@ only_there layout word before behind entry is stands least behind_is n at =
     let far = behind_first layout word n at in
     omega (arith, number, far, is, least, behind_is)
 
+-- the one frame that may have the place is the home, where the test of its ID word passes
 pub home_there : (layout : Layout) (word k f : ℕ) → k < length (plan_of layout DataOnly) → f < 16
     → is_same_place word (get_or (words_of layout) (16 * k + f) 0) ≡ true → ((n : ℕ) → IsAt layout word n → n ≡ 16 * k + f)
     → option_map block_and_frame (home_in layout word) ≡ Some (k, f)
@@ -322,6 +340,7 @@ home_there layout word k f within below passes only =
     ap (option_map block_and_frame) (home_some layout word (16 * k + f) at only)
     ∙ ap (λ b. Some (b, (16 * k + f) % 16)) block ∙ ap (λ g. Some (k, g)) frame
 
+-- and where the test fails or the plan ends before it, there is none
 pub none_there : (layout : Layout) (word k f : ℕ) → ((n : ℕ) → IsAt layout word n → n ≡ 16 * k + f)
     → (k < length (plan_of layout DataOnly) → is_same_place word (get_or (words_of layout) (16 * k + f) 0) ≡ false) → f < 16
     → home_in layout word ≡ None

@@ -17,9 +17,11 @@ pub record IsPartlyJoined (f : ℕ) (frame : Frame) (old now : Table) (q : ℕ) 
   pub taken : (i : ℕ) → i < 208 → record_at i / 13 ≡ f → record_at i % 13 < q → row_of now i ≡ join_rows (row_of old i) (frame_row frame (record_at i % 13))
   pub rest : (i : ℕ) → i < 208 → (record_at i / 13 ≢ f) ⊎ (q ≤ record_at i % 13) → row_of now i ≡ row_of old i
 
+-- before the first row the block is as it was
 pub none_joined : (f : ℕ) (frame : Frame) (old : Table) → length old ≡ 208 → IsPartlyJoined f frame old old 0
 none_joined f frame old size = record { size = size; taken = λ i below here few. absurd (omega arith); rest = λ i below other. refl }
 
+-- whether two numbers are equal, and what the test of them says
 abbrev Tells : ℕ → ℕ → Type 0
 Tells a b = ((((a == b) ≡ true) × (a ≡ b)) ⊎ (((a == b) ≡ false) × (a ≢ b)))
 

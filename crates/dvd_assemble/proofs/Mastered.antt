@@ -56,6 +56,7 @@ id_word-lt LeadOut layer number false two low = omega arith
 id_word-lt Middle layer number true two low = omega arith
 id_word-lt Middle layer number false two low = omega arith
 
+-- the ID word of each frame of the data zone has 32 bits
 word_for-lt : (layout : Layout) (k f : ℕ) → k < length (plan_of layout DataOnly) → f < 16 → word_for layout k f < 2 ^ 32
 word_for-lt layout k f within below =
     let entry : BlockPlan = get_or (plan_of layout DataOnly) k some_entry in
@@ -98,6 +99,7 @@ word_checked word row fits begins =
 first_is : (f : ℕ) → f < 16 → row_at (13 * f + 0) ≡ 12 * f
 first_is f below = grind (arith, nat_tests)
 
+-- the law: a frame that was captured of a mastered one has its home there
 pub come_home : CapturedFramesComeHome
 unfolding home word_in
 come_home layout k f block frame within below names captured =
@@ -125,6 +127,7 @@ row_tells (byte ∷ bytes) (false ∷ marks) right agrees zero = inr (ap Value (
 row_tells (byte ∷ bytes) (mark ∷ marks) right agrees (suc j) =
     row_tells bytes marks (λ i. right (suc i)) (λ i within free. agrees (suc i) (omega (arith, within)) free) j
 
+-- each place of a row that isn't seen is unseen, also behind its end
 unseen_place : (n j : ℕ) → get_or (replicate n Unseen) j Unseen ≡ Unseen
 unseen_place zero j = refl
 unseen_place (suc n) zero = refl
@@ -195,6 +198,7 @@ block_has layout blocks frames k named captured =
     blank : Frame
     blank = record { rows = []; marks = [] }
 
+-- the law: each place of such frames that is seen has the byte of its block
 pub agree : CapturedFramesAgree
 agree layout blocks frames named captured k within =
     subst (IsOf (blocks k)) (sym (assembled-at layout frames k unseen within)) (block_has layout blocks frames k named captured)

@@ -17,6 +17,7 @@ pub record IsPartlyPut (form : Form) (bytes : List ℕ) (rows : List (List ℕ))
   pub rows_set : (k : ℕ) → k < q → line rows k ≡ take 182 (record_of form bytes k)
   pub marks_set : (k : ℕ) → k < q → marks_line marks k ≡ marks_in form (record_of form bytes k)
 
+-- whether two numbers are equal, and what the test of them says
 abbrev Tells : ℕ → ℕ → Type 0
 Tells a b = ((((a == b) ≡ true) × (a ≡ b)) ⊎ (((a == b) ≡ false) × (a ≢ b)))
 
@@ -29,6 +30,7 @@ set_more xs q k d x is within before last below = by_place (eqb_tells k q)
     by_place (inl same) = rw same.1 (get_or-set_same xs q x d within ∙ last)
     by_place (inr apart) = get_or-set_other xs q k x d apart.1 ∙ before k (omega (arith, below, apart.1))
 
+-- one row and its marks more
 pub row_put : (form : Form) (bytes row : List ℕ) (bits : List Bool) (rows : List (List ℕ)) (marks : List (List Bool)) (q : ℕ) → q < 13
     → IsPartlyPut form bytes rows marks q → row ≡ take 182 (record_of form bytes q) → bits ≡ marks_in form (record_of form bytes q)
     → IsPartlyPut form bytes (set rows q row) (set marks q bits) (q + 1)
@@ -39,12 +41,14 @@ row_put form bytes row bits rows marks q below part row_is bits_are = record {
   marks_set = λ k less. set_more marks q k [] bits (λ n. marks_in form (record_of form bytes n)) (omega (arith, part.marks_size)) part.marks_set bits_are less;
 }
 
+-- a list of thirteen elements, each of which is known by its place
 mapped : {A : Type 0} (xs : List A) (d : A) (is : ℕ → A) → length xs ≡ 13 → ((k : ℕ) → k < 13 → get_or xs k d ≡ is k) → xs ≡ map is (range_with_len 0 13)
 mapped xs d is size each =
     ext_get_or d xs (map is (range_with_len 0 13)) (size ∙ sym (length-map-range_with_len is 0 13))
     (λ k within. let below : k < 13 = omega (arith, size, within) in
     each k below ∙ sym (get_or-map-range_with_len is 0 13 k k d below (omega arith)))
 
+-- with thirteen rows put it is the frame in these bytes
 pub all_put : (form : Form) (bytes : List ℕ) (rows : List (List ℕ)) (marks : List (List Bool)) → IsPartlyPut form bytes rows marks 13
     → record { rows = rows; marks = marks } ≡ frame_in form bytes
 unfolding frame_in

@@ -20,19 +20,23 @@ pub record IsShaped (table : Table) : Type 0 where
   pub height : length table ≡ 208
   pub widths : (i : ℕ) → length (row_of table i) ≤ 182
 
+-- a row joined with unseen places stays as it is
 unseen_row : (row : List Place) (n : ℕ) → length row ≤ n → join_rows row (replicate n Unseen) ≡ row
 unseen_row [] n fits = refl
 unseen_row (p ∷ row) zero fits = absurd (omega (arith, fits))
 unseen_row (p ∷ row) (suc n) fits = ap (λ q. q ∷ join_rows row (replicate n Unseen)) (join-unseen p) ∙ ap (λ r. p ∷ r) (unseen_row row n (omega (arith, fits)))
 
+-- the table in which nothing is seen has 208 rows
 pub length-unseen : length unseen ≡ 208
 unfolding unseen
 length-unseen = length-replicate 208 (replicate 182 Unseen)
 
+-- each of 182 unseen places
 pub row-unseen : (i : ℕ) → i < 208 → row_of unseen i ≡ replicate 182 Unseen
 unfolding unseen
 row-unseen i below = get_or-replicate 208 i (replicate 182 Unseen) [] below
 
+-- the join of tables of one height has that height
 length-join : (a b : Table) → length a ≡ length b → length (join_tables a b) ≡ length a
 unfolding join_tables
 length-join a b same = length-zip2 join_rows a b same
@@ -47,20 +51,24 @@ join_none table shaped =
     heights : length (join_tables table unseen) ≡ length table
     heights = length-join table unseen (shaped.height ∙ sym length-unseen)
 
+-- no row of an unseen table has more than 182 places
 rows-unseen : (n i : ℕ) → length (get_or (replicate n (replicate 182 Unseen)) i []) ≤ 182
 rows-unseen zero i = omega arith
 rows-unseen (suc n) zero = omega (arith, length-replicate 182 Unseen)
 rows-unseen (suc n) (suc i) = rows-unseen n i
 
+-- the table in which nothing is seen has the shape of a block
 unseen-shaped : IsShaped unseen
 unfolding unseen
 unseen-shaped = record { height = length-unseen; widths = rows-unseen 208 }
 
+-- the join of two rows is no longer than the first
 zip_short : (a b : List Place) → length (zip2 join a b) ≤ length a
 zip_short [] b = omega arith
 zip_short (p ∷ a) [] = omega arith
 zip_short (p ∷ a) (q ∷ b) = let less = zip_short a b in omega (arith, less)
 
+-- a table that is joined with one of 208 rows keeps its shape
 join-shaped : (a b : Table) → IsShaped a → length b ≡ 208 → IsShaped (join_tables a b)
 unfolding join_tables
 join-shaped a b shaped height = record {
@@ -70,28 +78,34 @@ join-shaped a b shaped height = record {
       omega (arith, ap length row, zip_short (row_of a i) (row_of b i), shaped.widths i);
 }
 
+-- so does one that is joined with several of 208 rows, one after the other
 fold-shaped : {A : Type 0} (tell : A → Table) → ((x : A) → length (tell x) ≡ 208) → (start : Table) (xs : List A) → IsShaped start
     → IsShaped (fold join_tables start (map tell xs))
 fold-shaped tell high start [] shaped = shaped
 fold-shaped tell high start (x ∷ xs) shaped = fold-shaped tell high (join_tables start (tell x)) xs (join-shaped start (tell x) shaped (high x))
 
+-- the join of such tables has the shape of a block
 pub joined-shaped : {A : Type 0} (tell : A → Table) → ((x : A) → length (tell x) ≡ 208) → (xs : List A) → IsShaped (joined (map tell xs))
 unfolding joined
 joined-shaped tell high xs = fold-shaped tell high unseen xs unseen-shaped
 
+-- a list with one element more is mapped with one image more
 map-more : {A B : Type 0} (f : A → B) (xs : List A) (x : A) → map f (xs ++ x ∷ []) ≡ map f xs ++ f x ∷ []
 map-more f [] x = refl
 map-more f (y ∷ xs) x = ap (λ ys. f y ∷ ys) (map-more f xs x)
 
+-- one table more is joined to the join of those before it
 pub joined-more : {A : Type 0} (tell : A → Table) (xs : List A) (x : A) → joined (map tell (xs ++ x ∷ [])) ≡ join_tables (joined (map tell xs)) (tell x)
 unfolding joined
 joined-more tell xs x = ap (fold join_tables unseen) (map-more tell xs x) ∙ fold-append join_tables unseen (map tell xs) (tell x ∷ [])
 
+-- what a frame tells of its block has 208 rows
 pub length-frame_table : (f : ℕ) (frame : Frame) → length (frame_table f frame) ≡ 208
 unfolding frame_table
 length-frame_table f frame =
     length-map-range_with_len (λ i. if record_at i / 13 == f then frame_row frame (record_at i % 13) else replicate 182 Unseen) 0 208
 
+-- whether two numbers are equal, and what the test of them says
 abbrev Tells : ℕ → ℕ → Type 0
 Tells a b = ((((a == b) ≡ true) × (a ≡ b)) ⊎ (((a == b) ≡ false) × (a ≢ b)))
 

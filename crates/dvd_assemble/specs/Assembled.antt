@@ -28,6 +28,7 @@ frame_table f frame =
 abbrev pub table_for : ℕ → Frame → ℕ → Table
 table_for k frame n = if n / 16 == k then frame_table (n % 16) frame else unseen
 
+-- Ours: the same, by the home of the frame
 unfoldable pub told_of : Layout → ℕ → Frame → Table
 told_of layout k frame = option_map_or (table_for k frame) (home layout frame) unseen
 
