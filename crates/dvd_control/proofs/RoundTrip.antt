@@ -78,4 +78,5 @@ written-lawful format =
     let layers = layers-few format.two_layers format.opposite format.kind format.small_kind in
     grind (arith, nat_tests)
 
+-- what is written of a physical format is read back, and breaks no rule
 pub ruleset written_laws = (fields-read_back, written-lawful)

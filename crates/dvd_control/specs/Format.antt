@@ -31,6 +31,7 @@ pub record Fields : Type 0 where
   -- whether there is a burst cutting area, a bar code inside of the lead-in
   pub bca : Bool
 
+-- the numbers of a physical format
 abbrev pub fields_of : PhysicalFormat → Fields
 fields_of format = record {
   version = format.version;
@@ -50,6 +51,7 @@ fields_of format = record {
 abbrev pub three_bytes : ℕ → List ℕ
 three_bytes number = number / 65536 ∷ number / 256 % 256 ∷ number % 256 ∷ []
 
+-- the sector number in the three bytes from i on
 abbrev pub number_at : List ℕ → ℕ → ℕ
 number_at bytes i = 65536 * slice_index bytes i + 256 * slice_index bytes (i + 1) + slice_index bytes (i + 2)
 
