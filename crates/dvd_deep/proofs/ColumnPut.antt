@@ -21,6 +21,7 @@ set-same : {X : Type 0} (rows : List (List X)) (i j : ℕ) (x d : X) → i < len
 set-same rows i j x d within inside =
     ap (λ row. get_or row j d) (get_or-set_same rows i (set (get_or rows i []) j x) [] within) ∙ get_or-set_same (get_or rows i []) j x d inside
 
+-- a byte that is put at place j of a row leaves the other places of all rows
 set-other : {X : Type 0} (rows : List (List X)) (i j k p : ℕ) (x d : X) → i < length rows → p ≢ j
     → get_or (get_or (set rows i (set (get_or rows i []) j x)) k []) p d ≡ get_or (get_or rows k []) p d
 set-other rows i j k p x d within other = elim (cases_eq k i) [
@@ -31,6 +32,7 @@ set-other rows i j k p x d within other = elim (cases_eq k i) [
   | inr apart ↦ ap (λ row. get_or row p d) (get_or-set_other rows i k (set (get_or rows i []) j x) [] apart)
 ]
 
+-- and all places of the other rows
 set-elsewhere : {X : Type 0} (rows : List (List X)) (i j k p : ℕ) (x d : X) → k ≢ i
     → get_or (get_or (set rows i (set (get_or rows i []) j x)) k []) p d ≡ get_or (get_or rows k []) p d
 set-elsewhere rows i j k p x d apart = ap (λ row. get_or row p d) (get_or-set_other rows i k (set (get_or rows i []) j x) [] apart)
@@ -74,6 +76,7 @@ pub column-put : (j : ℕ) (word : List ℕ) (old now : List (List ℕ)) (marks_
     → IsColumnPut j word old now
 column-put j word old now marks_old marks_now part = record { here = λ i below. part.put i below; others = part.others }
 
+-- with all 208 rows passed, the marks of column j are taken away and the others stay
 pub marks-taken : (j : ℕ) (word : List ℕ) (old now : List (List ℕ)) (marks_old marks_now : List (List Bool)) → IsPutBefore j word old now marks_old marks_now 208
     → AreMarksTaken j marks_old marks_now
 marks-taken j word old now marks_old marks_now part = record { here = λ i below. part.taken i below; others = part.marks_others }

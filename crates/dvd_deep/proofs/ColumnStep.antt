@@ -23,6 +23,7 @@ use Rattle.dvd_deep.specs.Inner.Steps.{AreMarksTaken, AreWide, IsColumnPut}
 abbrev pub column_then : List Bool → State → ℕ → List ℕ
 column_then failed state j = unwrap_or (column_near failed state j) (column state.rows j)
 
+-- what becomes of the mark of column j in row i
 abbrev pub mark_then : List Bool → State → ℕ → ℕ → Bool
 mark_then failed state i j = cond (is_some (column_near failed state j)) false (mark_in state.marks i j)
 
@@ -38,6 +39,7 @@ pub record AreStepped (failed : List Bool) (state : State) (rows : List (List �
 pub column-byte : (rows : List (List ℕ)) (i j : ℕ) → i < length rows → slice_index (column rows j) i ≡ place rows i j
 column-byte rows i j within = get_or-map (λ row. slice_index row j) rows i [] 0 within
 
+-- a column has a byte for each row
 pub length-column : (rows : List (List ℕ)) (j : ℕ) → length (column rows j) ≡ length rows
 length-column rows j = length-map rows (λ row. slice_index row j)
 
@@ -94,6 +96,7 @@ mark-here : (found : Option (List ℕ)) (answered : Bool) (marks marks_new : Lis
 mark-here None answered marks marks_new i j below is taken same = ap (λ l. mark_in l i j) (same is)
 mark-here (Some word) answered marks marks_new i j below is taken same = (taken is).here i below
 
+-- the marks of another column stay, whether this one is answered or not
 mark-there : (answered : Bool) (marks marks_new : List (List Bool)) (i j k : ℕ) → i < 208 → k < 182 → k ≢ j
     → (answered ≡ true → AreMarksTaken j marks marks_new) → (answered ≡ false → marks_new ≡ marks) → mark_in marks_new i k ≡ mark_in marks i k
 mark-there true marks marks_new i j k below inside other taken same = (taken refl).others i k below inside other

@@ -21,6 +21,7 @@ use Rattle.dvd_deep.proofs.Searches.{after-next, finishes-by}
 
 -- ---- tests of lists
 
+-- where two tests pass together, each passes
 both : (a b : Bool) → (a && b) ≡ true → (a ≡ true) × (b ≡ true)
 both true b is = (refl, is)
 both false b is = absurd (true≢false (sym is))
@@ -34,14 +35,17 @@ tested-at test n k below passes =
 
 -- ---- the sizes of a state after a row step
 
+-- a row step leaves 208 rows
 pub row_step-height : (state : State) → length (row_step state).rows ≡ 208
 unfolding row_step
 row_step-height state = length-map-range_with_len (row_then state) 0 208
 
+-- each row has failed or not
 pub length-failed : (state : State) → length (failed_rows state) ≡ 208
 unfolding failed_rows
 length-failed state = length-map-range_with_len (λ i. is_none (row_near state i)) 0 208
 
+-- a column has 208 marks
 pub length-column_marks : (marks : List (List Bool)) (j : ℕ) → length (column_marks marks j) ≡ 208
 unfolding column_marks
 length-column_marks marks j = length-map-range_with_len (λ i. mark_in marks i j) 0 208
@@ -54,6 +58,7 @@ try-codeword : (first second : Option (List ℕ)) → ((word : List ℕ) → fir
 try-codeword None second one other word is = other word is
 try-codeword (Some found) second one other word is = one word is
 
+-- the codeword near a column is a codeword of 208 bytes
 pub near-codeword : (failed : List Bool) (state : State) (j : ℕ) (word : List ℕ) → length state.rows ≡ 208 → length failed ≡ 208
     → column_near failed state j ≡ Some word → IsCodeword 208 16 word
 near-codeword failed state j word height size is =
@@ -63,6 +68,7 @@ near-codeword failed state j word height size is =
     (λ found second. (near_of-is_near 208 16 (column state.rows j) found (column_marks state.marks j) width (length-column_marks state.marks j) second).codeword)
     word is
 
+-- so is what becomes of an answered column
 found-codeword : (failed : List Bool) (state : State) (j : ℕ) (found : Option (List ℕ)) → length state.rows ≡ 208 → length failed ≡ 208
     → column_near failed state j ≡ found → is_some found ≡ true → IsCodeword 208 16 (unwrap_or found (column state.rows j))
 found-codeword failed state j None height size is answered = absurd (true≢false (sym answered))
@@ -79,10 +85,12 @@ then-codeword failed state j height size below answered =
 abbrev pub words_then : List Bool → State → List (List ℕ)
 words_then failed state = map (column_then failed state) (range_with_len 0 182)
 
+-- the rows that a column step leaves are those of the new columns
 pub column_step-rows : (failed : List Bool) (state : State) → (column_step failed state).rows ≡ from_columns (words_then failed state)
 unfolding column_step
 column_step-rows failed state = refl
 
+-- new column j is what becomes of column j
 pub word-then : (failed : List Bool) (state : State) (j : ℕ) → j < 182 → get_or (words_then failed state) j [] ≡ column_then failed state j
 word-then failed state j below = get_or-map-range_with_len (column_then failed state) 0 182 j j [] below (omega arith)
 
@@ -142,6 +150,7 @@ found-step : (test : ℕ → Bool) (a t : ℕ) (rest : Option ℕ) (b : Bool) �
 found-step test a t rest true passes later is = let same : a ≡ t = cc in (omega (arith, same), subst (λ k. test k ≡ true) same passes)
 found-step test a t rest false fails later is = let past = later is in (omega (arith, past.0), past.1)
 
+-- a number that is found among those from a on isn't below a, and passes
 found-in : (test : ℕ → Bool) (a n t : ℕ) → find test (range_with_len a n) ≡ Some t → (a ≤ t) × (test t ≡ true)
 found-in test a zero t is = cc
 found-in test a (suc n) t is = found-step test a t (find test (range_with_len (a + 1) n)) (test a) refl (found-in test (a + 1) n t) is
@@ -152,6 +161,7 @@ pub record IsLastRound (state : State) (block : List (List ℕ)) : Type 0 where
   pub done : finishes (after rounds state) ≡ true
   pub gives : (round (after rounds state)).rows ≡ block
 
+-- where a round finishes with a block, the state before it is the last
 last-of : (state : State) (block : List (List ℕ)) (found : Option ℕ) → first_round state ≡ found → option_map (λ t. (after t state).rows) found ≡ Some block
     → IsLastRound state block
 unfolding first_round
@@ -161,6 +171,7 @@ last-of state block (Some t) is gives =
     let rows_are : (after t state).rows ≡ block = cc in
     record { rounds = t - 1; done = passes.1; gives = ap (λ (s : State). s.rows) (sym (after-next state t passes.0)) ∙ rows_are }
 
+-- a block that rounds give back has such a state
 pub last_round : (received : List (List ℕ)) (marks : List (List Bool)) (block : List (List ℕ)) → deep_block received marks ≡ Some block
     → IsLastRound (state_in received marks) block
 last_round received marks block is = last-of (state_in received marks) block (first_round (state_in received marks)) refl is

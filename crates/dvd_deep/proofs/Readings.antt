@@ -27,6 +27,7 @@ pub cause-none : (received : List (List ℕ)) (marks : List (List Bool)) (entry 
 unfolding deep_cause
 cause-none received marks entry is = ap (cause_by received marks entry) is
 
+-- where no round finishes, the cause is that of two passes
 pub cause-unfound : (received : List (List ℕ)) (marks : List (List Bool)) (entry : BlockPlan) → deep_round received marks ≡ None
     → deep_cause received marks entry ≡ block_cause received marks entry
 cause-unfound received marks entry is =
@@ -85,6 +86,7 @@ some-by received marks entry None height marks_height is none =
     let read = no_cause-read received marks entry height marks_height (sym (cause-none received marks entry gives) ∙ none) in
     (1, block_sectors received marks entry, read-deep received marks entry (block_sectors received marks entry) height marks_height read)
 
+-- a block that rounds have no cause for is read, by a round and with sectors
 pub deep-some : (received : List (List ℕ)) (marks : List (List Bool)) (entry : BlockPlan) → length received ≡ 208 → length marks ≡ 208
     → deep_cause received marks entry ≡ None → (t : ℕ) × (sectors : List (List ℕ)) × IsDeep received marks entry t sectors
 deep-some received marks entry height marks_height none = some-by received marks entry (deep_round received marks) height marks_height refl none

@@ -22,6 +22,7 @@ use Rattle.dvd_deep.proofs.Searches.{after-next, finishes-by, first-found, nothi
 
 -- ---- costs
 
+-- one place more costs the same against bytes that agree where it isn't marked
 same-cost : (mark : Bool) (x y z c d : ℕ) → (mark ≡ false → y ≡ z) → c ≡ d
     → (if mark then 1 else if x == y then 0 else 2) + c ≡ (if mark then 1 else if x == z then 0 else 2) + d
 same-cost true x y z c d same rest = ap (λ n. 1 + n) rest
@@ -57,6 +58,7 @@ failed-same received marks height marks_height =
     (λ i below.
     get_or-map is_none (answers_of received marks) i None false (omega (arith, size)) ∙ ap is_none (answer-near received marks i height marks_height below)))
 
+-- row i of a row step is what becomes of row i
 pub row_step-line : (state : State) (i : ℕ) → i < 208 → line (row_step state).rows i ≡ row_then state i
 unfolding row_step
 row_step-line state i below = get_or-map-range_with_len (row_then state) 0 208 i i [] below (omega arith)
@@ -83,6 +85,7 @@ column-agrees received marks j k height marks_height below clear =
 
 -- ---- the columns of a block that two passes determine
 
+-- each column of the block that two passes determine is near the column that the row step leaves
 column-near-block : (received : List (List ℕ)) (marks : List (List Bool)) (block : List (List ℕ)) (j : ℕ) → length received ≡ 208 → length marks ≡ 208
     → IsTwoPass received marks block → j < 182
     → IsNear 208 16 (column (row_step (state_in received marks)).rows j) (failed_rows (state_in received marks)) (column block j)
@@ -115,6 +118,7 @@ column-is received marks block j height marks_height agrees below =
 
 -- ---- round 1
 
+-- a test that passes for all numbers below n passes on their list
 tests-all : (test : ℕ → Bool) (n : ℕ) → ((k : ℕ) → k < n → test k ≡ true) → list_all test (range_with_len 0 n) ≡ true
 tests-all test n each =
     list_all-from_AllPass test (range_with_len 0 n)
@@ -123,6 +127,7 @@ tests-all test n each =
     let same : 0 + k ≡ k = omega arith in
     subst (λ m. test m ≡ true) (sym (get_or-range_with_len 0 n k d below ∙ same)) (each k below))
 
+-- where two passes determine a block, round 1 answers every column
 all-answered : (received : List (List ℕ)) (marks : List (List Bool)) (block : List (List ℕ)) → length received ≡ 208 → length marks ≡ 208
     → IsTwoPass received marks block → are_answered (failed_rows (state_in received marks)) (row_step (state_in received marks)) ≡ true
 unfolding are_answered
@@ -141,10 +146,12 @@ round-gives received marks block height marks_height agrees =
     word-then (failed_rows state) (row_step state) j below
     ∙ ap (λ (found : Option (List ℕ)). unwrap_or found (column (row_step state).rows j)) (column-is received marks block j height marks_height agrees below))
 
+-- each row of a product codeword vanishes at the ten powers of alpha
 product-passes : (block : List (List ℕ)) → IsProduct block → list_all (vanishes_at_all 10) block ≡ true
 product-passes block product =
     list_all-from_AllPass (vanishes_at_all 10) block (λ k d within. codeword-vanishes 182 10 (get_or block k d) (product.rows k d within))
 
+-- where two passes determine a block, round 1 finishes
 round-finishes : (received : List (List ℕ)) (marks : List (List Bool)) (block : List (List ℕ)) → length received ≡ 208 → length marks ≡ 208
     → IsTwoPass received marks block → finishes (state_in received marks) ≡ true
 round-finishes received marks block height marks_height agrees =

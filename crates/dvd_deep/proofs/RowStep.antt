@@ -14,6 +14,7 @@ use Rattle.dvd_deep.specs.Rounds.{State, failed_rows, row_near, row_step, state_
 abbrev pub row_then : State → ℕ → List ℕ
 row_then state i = unwrap_or (row_near state i) (line state.rows i)
 
+-- what becomes of the marks of row i
 abbrev pub marks_then : State → ℕ → List Bool
 marks_then state i = cond (is_some (row_near state i)) (replicate 182 false) (marks_line state.marks i)
 
@@ -38,6 +39,7 @@ taken-here None answered marks marks_new i within is made = ap (λ l. marks_line
 taken-here (Some word) answered marks marks_new i within is made =
     ap (λ l. marks_line l i) (made ∙ ap (λ b. cond b (set marks i (replicate 182 false)) marks) is) ∙ get_or-set_same marks i (replicate 182 false) [] within
 
+-- the marks of the other rows stay, whether row i is answered or not
 taken-there : (answered : Bool) (marks marks_new : List (List Bool)) (i k : ℕ) → k ≢ i
     → marks_new ≡ cond answered (set marks i (replicate 182 false)) marks → marks_line marks_new k ≡ marks_line marks k
 taken-there false marks marks_new i k other made = ap (λ l. marks_line l k) made

@@ -28,16 +28,19 @@ first_none test a (suc n) none =
 abbrev pub NoneFinishesBefore : State → ℕ → Type 0
 NoneFinishesBefore state t = (k : ℕ) → 1 ≤ k → k < t → finishes (after (k - 1) state) ≡ false
 
+-- where round t doesn't finish either, none before round t + 1 does
 pub none-next : (state : State) (t : ℕ) → 1 ≤ t → NoneFinishesBefore state t → finishes (after (t - 1) state) ≡ false → NoneFinishesBefore state (t + 1)
 none-next state t from before here k k_from below = elim (cases_eq k t) [
   | inl same ↦ ap (λ n. finishes (after (n - 1) state)) same ∙ here
   | inr other ↦ before k k_from (omega arith)
 ]
 
+-- the first of four rounds that finishes is the round that is looked for
 pub first-found : (state : State) (t : ℕ) → 1 ≤ t → t ≤ 4 → NoneFinishesBefore state t → finishes (after (t - 1) state) ≡ true → first_round state ≡ Some t
 unfolding first_round
 first-found state t from most before here = first_at (λ t. finishes (after (t - 1) state)) 1 4 t from (omega arith) before here
 
+-- where none of the four finishes there is no such round
 pub none-found : (state : State) → NoneFinishesBefore state 5 → first_round state ≡ None
 unfolding first_round
 none-found state before = first_none (λ t. finishes (after (t - 1) state)) 1 4 (λ k from below. before k from (omega arith))
@@ -56,12 +59,14 @@ nothing-played state = refl
 
 -- ---- the steps of a round
 
+-- the row step and then the column step with the failed rows are a round
 pub round-left : (before stepped left : State) (failed : List Bool) → failed ≡ failed_rows before → stepped ≡ row_step before → left ≡ column_step failed stepped
     → left ≡ round before
 unfolding round
 round-left before stepped left failed failed_is stepped_is left_is =
     left_is ∙ ap (λ flags. column_step flags stepped) failed_is ∙ ap (column_step (failed_rows before)) stepped_is
 
+-- whether the code's rows answer all columns is whether those of the round do
 pub answered-as : (before stepped : State) (failed : List Bool) (answered : Bool) → failed ≡ failed_rows before → stepped ≡ row_step before
     → answered ≡ are_answered failed stepped → answered ≡ are_answered (failed_rows before) (row_step before)
 answered-as before stepped failed answered failed_is stepped_is is =

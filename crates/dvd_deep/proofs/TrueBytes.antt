@@ -40,6 +40,7 @@ near-true n r received word truth marks short codeword near agree =
 
 -- ---- rows
 
+-- the codeword that is found near a row is the row of the block
 row-true : (block : List (List ℕ)) (state : State) (i : ℕ) (word : List ℕ) → IsProduct block → IsTrueTo block state → i < 208 → row_near state i ≡ Some word
     → word ≡ line block i
 row-true block state i word product are below is =
@@ -56,6 +57,7 @@ RowIs block state i found =
     × ((j : ℕ) → j < 182 → get_or (cond (is_some found) (replicate 182 false) (marks_line state.marks i)) j false ≡ false
     → slice_index (unwrap_or found (line state.rows i)) j ≡ place block i j)
 
+-- a row that is answered becomes that of the block, and all bytes that are unmarked then are the block's
 row-by : (block : List (List ℕ)) (state : State) (i : ℕ) (found : Option (List ℕ)) → IsProduct block → IsTrueTo block state → i < 208 → row_near state i ≡ found
     → RowIs block state i found
 row-by block state i None product are below is =
@@ -64,14 +66,17 @@ row-by block state i (Some word) product are below is =
     let same : word ≡ line block i = row-true block state i word product are below is in
     (ap length same ∙ (product.rows i [] (omega (arith, product.height))).size, length-replicate 182 false, λ answered. same, λ j inside clear. ap (λ row. slice_index row j) same)
 
+-- the marks that a row step leaves in row i
 row_step-marks : (state : State) (i : ℕ) → i < 208 → marks_line (row_step state).marks i ≡ marks_then state i
 unfolding row_step
 row_step-marks state i below = get_or-map-range_with_len (marks_then state) 0 208 i i [] below (omega arith)
 
+-- row i has failed where no codeword is near it
 failed-at : (state : State) (i : ℕ) → i < 208 → get_or (failed_rows state) i false ≡ is_none (row_near state i)
 unfolding failed_rows
 failed-at state i below = get_or-map-range_with_len (λ k. is_none (row_near state k)) 0 208 i i false below (omega arith)
 
+-- a row step keeps the unmarked bytes those of the block
 rows-true : (block : List (List ℕ)) (state : State) → IsProduct block → IsTrueTo block state → IsTrueTo block (row_step state)
 rows-true block state product are = record {
   wide = λ i below. ap length (row_step-line state i below) ∙ (row-by block state i (row_near state i) product are below refl).0;
@@ -95,10 +100,12 @@ either : (first second : Option (List ℕ)) (truth : List ℕ) → ((word : List
 either None second truth one other word is = other word is
 either (Some found) second truth one other word is = one word is
 
+-- mark i of a column is the mark of row i at its place
 column_marks-at : (marks : List (List Bool)) (j i : ℕ) → i < 208 → get_or (column_marks marks j) i false ≡ mark_in marks i j
 unfolding column_marks
 column_marks-at marks j i below = get_or-map-range_with_len (λ k. mark_in marks k j) 0 208 i i false below (omega arith)
 
+-- the codeword that is found near a column is the column of the block
 column-true : (block : List (List ℕ)) (state : State) (j : ℕ) (word : List ℕ) → IsProduct block → IsTrueTo block state → j < 182
     → column_near (failed_rows state) (row_step state) j ≡ Some word → word ≡ column block j
 column-true block state j word product are inside is =
@@ -138,17 +145,21 @@ place-by block state i j None product are below inside is clear =
 place-by block state i j (Some word) product are below inside is clear =
     ap (λ word. slice_index word i) (column-true block state j word product are inside is) ∙ column-byte block i j (omega (arith, product.height))
 
+-- the marks that a column step leaves in row i
 column_step-marks : (failed : List Bool) (state : State) (i : ℕ) → i < 208 → marks_line (column_step failed state).marks i ≡ map (mark_then failed state i) (range_with_len 0 182)
 unfolding column_step
 column_step-marks failed state i below = get_or-map-range_with_len (λ k. map (mark_then failed state k) (range_with_len 0 182)) 0 208 i i [] below (omega arith)
 
+-- and those that a round leaves there
 round-marks : (state : State) (i : ℕ) → i < 208 → marks_line (round state).marks i ≡ map (mark_then (failed_rows state) (row_step state) i) (range_with_len 0 182)
 unfolding round
 round-marks state i below = column_step-marks (failed_rows state) (row_step state) i below
 
+-- row i of a round is made of byte i of each new column
 round-line : (state : State) (i : ℕ) → i < 208 → line (round state).rows i ≡ map (λ word. slice_index word i) (words_then (failed_rows state) (row_step state))
 round-line state i below = ap (λ rows. line rows i) (round-rows state) ∙ from_columns-line (words_then (failed_rows state) (row_step state)) i below
 
+-- a round keeps the unmarked bytes those of the block
 round-true : (block : List (List ℕ)) (state : State) → IsProduct block → IsTrueTo block state → IsTrueTo block (round state)
 round-true block state product are = record {
   wide = λ i below.
@@ -166,6 +177,7 @@ round-true block state product are = record {
   words : List (List ℕ)
   words = words_then (failed_rows state) (row_step state)
 
+-- so does any number of rounds
 after-true : (block : List (List ℕ)) (state : State) (n : ℕ) → IsProduct block → IsTrueTo block state → IsTrueTo block (after n state)
 unfolding after
 after-true block state zero product are = are
@@ -173,11 +185,13 @@ after-true block state (suc n) product are = round-true block (after n state) pr
 
 -- ---- the block that is given back
 
+-- what becomes of an answered column is the column of the block
 column-given : (block : List (List ℕ)) (state : State) (j : ℕ) (found : Option (List ℕ)) → IsProduct block → IsTrueTo block state → j < 182
     → column_near (failed_rows state) (row_step state) j ≡ found → is_some found ≡ true → unwrap_or found (column (row_step state).rows j) ≡ column block j
 column-given block state j None product are inside is answered = absurd (true≢false (sym answered))
 column-given block state j (Some word) product are inside is answered = column-true block state j word product are inside is
 
+-- a round that finishes gives the block back
 round-given : (block : List (List ℕ)) (state : State) → IsProduct block → IsTrueTo block state → finishes state ≡ true → (round state).rows ≡ block
 unfolding are_answered
 round-given block state product are done =

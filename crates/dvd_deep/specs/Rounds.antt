@@ -9,10 +9,12 @@ use Rattle.dvd_block.specs.Product.{column, line}
 use Rattle.dvd_capture.specs.Answers.{marks_line, row_answer}
 use Rattle.dvd_capture.specs.TwoPass.{from_columns}
 
+-- the rows of a block, and the marks of each
 pub record State : Type 0 where
   pub rows : List (List ℕ)
   pub marks : List (List Bool)
 
+-- the state of these rows and marks
 abbrev pub state_in : List (List ℕ) → List (List Bool) → State
 state_in rows marks = record { rows = rows; marks = marks }
 
@@ -76,5 +78,6 @@ first_round state = find (λ t. finishes (after (t - 1) state)) (range_with_len 
 abbrev pub deep_round : List (List ℕ) → List (List Bool) → Option ℕ
 deep_round received marks = first_round (state_in received marks)
 
+-- the rows that this round leaves
 abbrev pub deep_block : List (List ℕ) → List (List Bool) → Option (List (List ℕ))
 deep_block received marks = option_map (λ t. (after t (state_in received marks)).rows) (deep_round received marks)
