@@ -13,6 +13,7 @@ use Rattle.dvd_exercise.proofs.damage.hurt_row.Goals as goal
 counted : (y word : ℕ) → word ≡ step y → word % 6 ≡ error_count y
 counted y word is = ap (λ (w : ℕ). w % 6) (is ∙ state_one y)
 
+-- the second word of a row is the state after two steps
 second : (y state word : ℕ) → state ≡ step y → word ≡ step state → word ≡ state_after y 2
 second y state word first is = is ∙ ap step first ∙ two_words y
 
