@@ -14,11 +14,13 @@ blocks_of sectors = (sectors + 15) / 16
 abbrev pub padded : ℕ → ℕ
 padded sectors = 16 * blocks_of sectors
 
+-- whether a disk of this shape has a layer 1
 abbrev pub has_two_layers : Shape → Bool
 has_two_layers Single = false
 has_two_layers Parallel = true
 has_two_layers Opposite = true
 
+-- whether its layer 1 goes on where layer 0 ends, towards the inside
 abbrev pub is_opposite : Shape → Bool
 is_opposite Single = false
 is_opposite Parallel = false

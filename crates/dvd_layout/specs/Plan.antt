@@ -24,6 +24,7 @@ entry_of zone b = record { first = zone.first + 16 * b; area = zone.area; layer 
 abbrev pub entries_of : Zone → List BlockPlan
 entries_of zone = map (entry_of zone) (range_with_len 0 zone.blocks)
 
+-- the zone of these numbers, area and content
 abbrev pub zone_of : ℕ → ℕ → Area → ℕ → Content → Zone
 zone_of first blocks area layer content = record { first = first; blocks = blocks; area = area; layer = layer; content = content }
 
@@ -76,6 +77,7 @@ zones_by layout Single = inside_out layout (first_data layout)
 zones_by layout Parallel = inside_out layout (first_data layout) ++ inside_out layout (second_data layout)
 zones_by layout Opposite = out_and_in layout
 
+-- whether this is a Data Zone
 abbrev pub is_data : Area → Bool
 is_data DataZone = true
 is_data LeadIn = false
