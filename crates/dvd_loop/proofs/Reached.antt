@@ -109,6 +109,7 @@ module _ (units : Units) where
       | suc n ↦ λ all. (n, refl)
     ] r.all
 
+    -- the outcome of all where the loop goes on with that unit
     reaches_next : (n : ℕ) → r.to_come ≡ suc n → (left : List ℕ) (after : Outcome) → Goes units (suc n) before bad left after
         → IsOutcome units (r.taken ++ left) (onto r.taken r.out r.lines after)
     reaches_next n is left after goes = r.reaches left after (subst (λ m. Goes units m before bad left after) (sym is) goes)

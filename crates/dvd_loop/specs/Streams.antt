@@ -7,11 +7,13 @@ use Rattle.dvd_loop.specs.Machine.{Outcome}
 use Rattle.dvd_loop.specs.declared.ends.LoopEnd.{LoopEnd}
 use Rattle.dvd_loop.specs.declared.ends.LoopEnd.TheVariants.{ReadFault, WriteFault, ReportFault}
 
+-- what is seen of the source, of the output and of the report
 pub record Streams : Type 0 where
   pub source : Seen
   pub output : Seen
   pub report : Seen
 
+-- these three
 abbrev pub streams : Seen → Seen → Seen → Streams
 streams source output report = record { source = source; output = output; report = report }
 
@@ -40,14 +42,17 @@ pub record Comes (P : List ℕ → Outcome → Type 0) (old new : Streams) (end 
   pub ends : outcome.end ≡ end
   pub moved : HaveMoved old new outcome.taken outcome.out outcome.lines
 
+-- whether a loop ended because a read failed
 abbrev pub is_read_fault : LoopEnd → Bool
 is_read_fault ReadFault = true
 is_read_fault end = false
 
+-- because a write failed
 abbrev pub is_write_fault : LoopEnd → Bool
 is_write_fault WriteFault = true
 is_write_fault end = false
 
+-- because a line of the report failed
 abbrev pub is_report_fault : LoopEnd → Bool
 is_report_fault ReportFault = true
 is_report_fault end = false

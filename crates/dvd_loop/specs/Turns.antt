@@ -16,6 +16,7 @@ written [] = []
 written (Write bytes ∷ steps) = bytes ++ written steps
 written (Tell line ∷ steps) = written steps
 
+-- the lines that these steps tell
 abbrev pub told : List Step → List ℕ
 told [] = []
 told (Write bytes ∷ steps) = told steps

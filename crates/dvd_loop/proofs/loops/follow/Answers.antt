@@ -53,6 +53,7 @@ returns-in-Err-turn-clause-follows g c =
     turn_ends (g.C.Turns.units (g.C.Turns.key c.args.command.now)) c.loop-k.k i.before old now c.loop-k.bad i.reached new c.in-Err-turn.end (omega (arith, i.last))
     (subst (λ key. IsTurn (g.C.Turns.units key) i.before (g.C.Turns.ready c.turn.new.self) now new (Err c.in-Err-turn.end)) i.same (c.in-Err-turn.ensures.turn i.before i.reached.number i.ready))
 
+-- a unit raises the number of damaged ones by one at most
 bad-le : (turn : Turn) → bad_of turn ≤ 1
 bad-le Good = omega arith
 bad-le Bad = omega arith

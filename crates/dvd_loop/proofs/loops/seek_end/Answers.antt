@@ -23,6 +23,7 @@ returns-in-Ok-eq0-clause-comes g c = λ output report.
     (asked_end c.args.bad source new output report (take c.in-Ok-eq0.field-0 c.read_whole.new.buf) c.in-Ok-eq0.ensures.taken Done (omega (arith, c.in-Ok-eq0.ensures.bound))
     (c.in-Ok-eq0.ensures.end (omega (arith, c.read_whole.auto.buf))) (ap end_by (sym c.if-bad-eq0.true)))
 
+-- a loop that found damaged units ends as Damaged with their number
 damaged : (bad : ℕ) → bad ≢ 0 → Damaged bad ≡ end_by bad
 damaged zero some = absurd (some refl)
 damaged (suc bad) some = refl
