@@ -17,6 +17,7 @@ use Rattle.dvd_merge.proofs.Places.{join-apart, join-same, join-unseen, place-jo
 abbrev Has : ℕ → Place → Type 0
 Has byte p = (p ≡ Unseen) ⊎ (p ≡ Value byte)
 
+-- the join of two such places is one
 has-join : (byte : ℕ) (p q : Place) → Has byte p → Has byte q → Has byte (join p q)
 has-join byte p q (inl a) other = subst (Has byte) (sym (ap (λ s. join s q) a ∙ unseen-join q)) other
 has-join byte p q (inr a) (inl b) = inr (ap (join p) b ∙ join-unseen p ∙ a)
@@ -28,15 +29,18 @@ same_row zero i row none j = refl
 same_row (suc n) zero row none j = none j
 same_row (suc n) (suc i) row none j = same_row n i row none j
 
+-- each place of a row that isn't seen is unseen, also behind its end
 same_place : (n j : ℕ) → get_or (replicate n Unseen) j Unseen ≡ Unseen
 same_place zero j = refl
 same_place (suc n) zero = refl
 same_place (suc n) (suc j) = same_place n j
 
+-- a table in which nothing is seen is of every block
 pub is_of-unseen : (block : List (List ℕ)) → IsOf block unseen
 unfolding unseen
 is_of-unseen block i j = inl (same_row 208 i (replicate 182 Unseen) (same_place 182) j)
 
+-- the join of two tables of a block is of that block
 is_of-join : (block : List (List ℕ)) (a b : Table) → IsOf block a → IsOf block b → IsOf block (join_tables a b)
 is_of-join block a b of_a of_b i j = from (place-join (row_of a i) (row_of b i) j)
   where
@@ -60,9 +64,11 @@ is_of-fold block start (table ∷ tables) of_start each =
 abbrev place_weight : ℕ → ℕ → Bool → ℕ
 place_weight byte got mark = if mark then 1 else if byte == got then 0 else 2
 
+-- whether two numbers are equal, and what the test of them says
 abbrev Tells : ℕ → ℕ → Type 0
 Tells a b = ((((a == b) ≡ true) × (a ≡ b)) ⊎ (((a == b) ≡ false) × (a ≢ b)))
 
+-- an unmarked place with the byte of the block weighs nothing
 no_weight : (byte : ℕ) → place_weight byte byte false ≡ 0
 no_weight byte = by_cases (eqb_tells byte byte)
   where
@@ -70,6 +76,7 @@ no_weight byte = by_cases (eqb_tells byte byte)
     by_cases (inl is) = rw is.0 refl
     by_cases (inr is) = absurd (is.1 refl)
 
+-- and one with another byte two
 full_weight : (byte got : ℕ) → byte ≢ got → place_weight byte got false ≡ 2
 full_weight byte got apart = by_cases (eqb_tells byte got)
   where
@@ -77,6 +84,7 @@ full_weight byte got apart = by_cases (eqb_tells byte got)
     by_cases (inl is) = absurd (apart is.1)
     by_cases (inr is) = rw is.0 refl
 
+-- what a place of a table weighs
 abbrev weight_of : ℕ → Place → ℕ
 weight_of byte p = place_weight byte (byte_of p) (mark_of p)
 
@@ -115,10 +123,12 @@ line-map f [] i = refl
 line-map f (row ∷ rows) zero = refl
 line-map f (row ∷ rows) (suc i) = line-map f rows i
 
+-- row i of the bytes of a table has the bytes of its row i
 pub bytes-row : (table : Table) (i : ℕ) → line (joined_rows table) i ≡ map byte_of (row_of table i)
 unfolding joined_rows
 bytes-row = line-map byte_of
 
+-- row i of the marks of a table has the marks of its row i
 pub marks-row : (table : Table) (i : ℕ) → marks_line (joined_marks table) i ≡ map mark_of (row_of table i)
 unfolding joined_marks
 marks-row = line-map mark_of

@@ -14,6 +14,7 @@ pub same_places : (n : ℕ) (xs ys : List Place) → length xs ≡ n → AllZipB
 same_places n xs ys size clones =
     ext_get_or Unseen ys xs (clones.long ∙ sym size) (λ k within. clones.at k Unseen Unseen (omega (arith, clones.long, within)))
 
+-- whether two numbers are equal, and what the test of them says
 abbrev Tells : ℕ → ℕ → Type 0
 Tells a b = ((((a == b) ≡ true) × (a ≡ b)) ⊎ (((a == b) ≡ false) × (a ≢ b)))
 
@@ -26,6 +27,7 @@ join-same a = by_cases (eqb_tells a a)
     by_cases (inl is) = rw is.0 refl
     by_cases (inr is) = absurd (is.1 refl)
 
+-- two different values make a conflict
 pub join-apart : (a b : ℕ) → a ≢ b → join (Value a) (Value b) ≡ Conflict
 unfolding join
 join-apart a b apart = by_cases (eqb_tells a b)
@@ -34,31 +36,37 @@ join-apart a b apart = by_cases (eqb_tells a b)
     by_cases (inl is) = absurd (apart is.1)
     by_cases (inr is) = rw is.0 refl
 
+-- an unseen place changes nothing, whether it comes second
 pub join-unseen : (p : Place) → join p Unseen ≡ p
 unfolding join
 join-unseen Unseen = refl
 join-unseen (Value a) = refl
 join-unseen Conflict = refl
 
+-- or first
 pub unseen-join : (p : Place) → join Unseen p ≡ p
 unfolding join
 unseen-join p = refl
 
+-- a conflict stays, whether it comes first
 conflict-join : (p : Place) → join Conflict p ≡ Conflict
 unfolding join
 conflict-join p = refl
 
+-- or second
 join-conflict : (p : Place) → join p Conflict ≡ Conflict
 unfolding join
 join-conflict Unseen = refl
 join-conflict (Value a) = refl
 join-conflict Conflict = refl
 
+-- a place joined with itself stays as it is
 pub join-idem : (p : Place) → join p p ≡ p
 join-idem Unseen = unseen-join Unseen
 join-idem (Value a) = join-same a
 join-idem Conflict = conflict-join Conflict
 
+-- the order of two places doesn't matter
 pub join-comm : (p q : Place) → join p q ≡ join q p
 join-comm Unseen q = unseen-join q ∙ sym (join-unseen q)
 join-comm Conflict q = conflict-join q ∙ sym (join-conflict q)
@@ -70,6 +78,7 @@ join-comm (Value a) (Value b) = by_cases (eqb_tells a b)
     by_cases (inl is) = rw is.1 refl
     by_cases (inr is) = join-apart a b is.1 ∙ sym (join-apart b a (λ e. is.1 (sym e)))
 
+-- nor which two of three are joined first
 pub join-assoc : (p q r : Place) → join (join p q) r ≡ join p (join q r)
 join-assoc Unseen q r = ap (λ s. join s r) (unseen-join q) ∙ sym (unseen-join (join q r))
 join-assoc Conflict q r = ap (λ s. join s r) (conflict-join q) ∙ conflict-join r ∙ sym (conflict-join (join q r))
@@ -97,14 +106,17 @@ join-assoc (Value a) (Value b) (Value c) = by_cases (eqb_tells a b) (eqb_tells b
         ap (λ s. join s (Value c)) (join-apart a b ab.1) ∙ conflict-join (Value c)
         ∙ sym (ap (join (Value a)) (join-apart b c bc.1) ∙ join-conflict (Value a))
 
+-- the order of two tables doesn't matter
 pub tables-comm : (a b : Table) → join_tables a b ≡ join_tables b a
 unfolding join_tables
 tables-comm = zip2-comm join_rows (zip2-comm join join-comm)
 
+-- nor which two of three are joined first
 pub tables-assoc : (a b c : Table) → join_tables (join_tables a b) c ≡ join_tables a (join_tables b c)
 unfolding join_tables
 tables-assoc = zip2-assoc join_rows (zip2-assoc join join-assoc)
 
+-- a table joined with itself stays as it is
 pub tables-idem : (a : Table) → join_tables a a ≡ a
 unfolding join_tables
 tables-idem = zip2-idem join_rows (zip2-idem join join-idem)
@@ -114,6 +126,7 @@ pub row-join : (a b : Table) (i : ℕ) → row_of (join_tables a b) i ≡ join_r
 unfolding join_tables
 row-join = zip2-row join
 
+-- row i of the table of a captured block is what its bytes and marks tell
 pub row-seen : (rows : List (List ℕ)) (marks : List (List Bool)) (i : ℕ) → row_of (seen_table rows marks) i ≡ seen_row (get_or rows i []) (get_or marks i [])
 unfolding seen_table
 row-seen = zip2-row seen

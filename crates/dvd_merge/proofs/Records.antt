@@ -17,10 +17,12 @@ use Rattle.dvd_merge.specs.declared.place.Place.TheVariants.{Unseen}
 abbrev pub first_number : List Bool → ℕ → ℕ
 first_number marks k = number_of_marks (take k marks)
 
+-- no marks make the number 0
 pub first_number-none : (marks : List Bool) → first_number marks 0 ≡ 0
 unfolding number_of_marks
 first_number-none marks = refl
 
+-- one mark more doubles the number, and adds 1 if it is set
 pub first_number-more : (marks : List Bool) (k : ℕ) (mark : Bool) → k < length marks → get_or marks k false ≡ mark
     → first_number marks (k + 1) ≡ 2 * first_number marks k + (if mark then 1 else 0)
 unfolding number_of_marks

@@ -20,14 +20,17 @@ use Rattle.dvd_merge.specs.MarkedText.{mark_byte, mark_bytes, marked_row, marked
 use Rattle.dvd_merge.proofs.Costs.{bytes-row, marks-row}
 use Rattle.dvd_merge.proofs.Records.{first_number, first_number-more}
 
+-- the binary digit of a mark
 digit : Bool → ℕ
 digit mark = if mark then 1 else 0
 
+-- it is 1 where the mark is set
 digit_is : (mark : Bool) → (digit mark == 1) ≡ mark
 unfolding digit
 digit_is true = refl
 digit_is false = refl
 
+-- it is 0 or 1
 digit-lt : (mark : Bool) → digit mark < 2
 unfolding digit
 digit-lt true = omega arith
@@ -37,6 +40,7 @@ digit-lt false = omega arith
 lowest : (n d : ℕ) → d < 2 → bit_at (2 * n + d) 0 ≡ d
 lowest n d few = bit_at_lowest (2 * n + d) ∙ omega (arith, few)
 
+-- the other bits are those of the number, one place higher
 higher : (n d k : ℕ) → d < 2 → bit_at (2 * n + d) (suc k) ≡ bit_at n k
 higher n d k few = let half : (2 * n + d) / 2 ≡ n = omega (arith, few) in bit_at-suc (2 * n + d) k ∙ ap (λ m. bit_at m k) half
 
@@ -97,6 +101,7 @@ mark-back marks j size below =
     whole : 8 * (j / 8) + j % 8 ≡ j
     whole = omega arith
 
+-- the mark bytes of a row are read back as its 182 marks
 marks-back : (marks : List Bool) → length marks ≡ 182 → marks_of (mark_bytes marks) ≡ marks
 marks-back marks size =
     ext_get_or false (marks_of (mark_bytes marks)) marks (length-marks_of (mark_bytes marks) ∙ sym size)

@@ -6,6 +6,7 @@ use Rattle.std.specs.Simd.Lanes.{zip2}
 use Rattle.dvd_merge.specs.declared.place.Place.{Place}
 use Rattle.dvd_merge.specs.declared.place.Place.TheVariants.{Unseen, Value, Conflict}
 
+-- what is known of each place, row by row
 abbrev pub Table : Type 0
 Table = List (List Place)
 
@@ -25,6 +26,7 @@ seen byte mark = if mark then Unseen else Value byte
 abbrev pub seen_row : List ℕ → List Bool → List Place
 seen_row bytes marks = zip2 seen bytes marks
 
+-- Ours: its rows, one after the other
 unfoldable pub seen_table : List (List ℕ) → List (List Bool) → Table
 seen_table rows marks = zip2 seen_row rows marks
 
@@ -32,6 +34,7 @@ seen_table rows marks = zip2 seen_row rows marks
 abbrev pub join_rows : List Place → List Place → List Place
 join_rows a b = zip2 join a b
 
+-- Ours: row by row
 unfoldable pub join_tables : Table → Table → Table
 join_tables a b = zip2 join_rows a b
 
@@ -47,6 +50,7 @@ joined tables = fold join_tables unseen tables
 abbrev pub row_of : Table → ℕ → List Place
 row_of table i = slice_index_or table i []
 
+-- what is known of the place in row i at j, unseen behind the end
 abbrev pub place_of : Table → ℕ → ℕ → Place
 place_of table i j = slice_index_or (row_of table i) j Unseen
 
@@ -56,6 +60,7 @@ byte_of (Value byte) = byte
 byte_of Unseen = 0
 byte_of Conflict = 0
 
+-- Ours: whether no one byte is known of a place
 abbrev pub mark_of : Place → Bool
 mark_of (Value byte) = false
 mark_of Unseen = true
@@ -65,5 +70,6 @@ mark_of Conflict = true
 unfoldable pub joined_rows : Table → List (List ℕ)
 joined_rows table = map (map byte_of) table
 
+-- Ours: its rows as marks
 unfoldable pub joined_marks : Table → List (List Bool)
 joined_marks table = map (map mark_of) table

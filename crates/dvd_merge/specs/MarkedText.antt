@@ -10,6 +10,7 @@ use Rattle.dvd_merge.specs.declared.place.Place.{Place}
 abbrev pub with_digit : ℕ → Bool → ℕ
 with_digit number mark = 2 * number + (if mark then 1 else 0)
 
+-- Ours: the number of all these digits
 unfoldable pub number_of_marks : List Bool → ℕ
 number_of_marks marks = fold with_digit 0 marks
 
@@ -17,6 +18,7 @@ number_of_marks marks = fold with_digit 0 marks
 abbrev pub mark_byte : List Bool → ℕ → ℕ
 mark_byte marks k = number_of_marks (take 8 (drop (8 * k) (marks ++ false ∷ false ∷ [])))
 
+-- Ours: the 23 mark bytes of a row
 unfoldable pub mark_bytes : List Bool → List ℕ
 mark_bytes marks = map (mark_byte marks) (range_with_len 0 23)
 
