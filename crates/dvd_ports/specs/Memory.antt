@@ -24,6 +24,7 @@ pub record SinkState : Type 0 where
 abbrev pub source_seen : SourceState → Seen
 source_seen s = record { bytes = Some s.left; faults = s.faults }
 
+-- what is seen of a sink: all bytes that it holds
 abbrev pub sink_seen : SinkState → Seen
 sink_seen s = record { bytes = Some s.held; faults = s.faults }
 
