@@ -110,6 +110,7 @@ pub fault-first : (block : List (List ℕ)) (entry : BlockPlan) (f : ℕ) (cause
 unfolding frames_cause
 fault-first block entry f cause below before here = first_at (fault_at block entry) 0 16 f cause (omega arith) (omega arith) before here
 
+-- where all frames before have none, the cause of this frame is that of the sixteen
 pub fault-here : (block : List (List ℕ)) (entry : BlockPlan) (f : ℕ) (frame : List ℕ) (cause : FrameCause) → f < 16 → NoFaultBefore block entry f → frame ≡ frame_of block f
     → frame_cause frame (wanted_word entry f) (rule_for entry.content f) ≡ Some cause → frames_cause block entry ≡ Some (cause_in f cause)
 fault-here block entry f frame cause below before is caused =

@@ -93,16 +93,19 @@ module _ (answers : List (Option (List ℕ))) (f : ℕ) where
     by_lacks false = refl
 
   module _ (entry : BlockPlan) where
+    -- a candidate without a cause is rescued, as its Main Data
     pub rescued-right : (frame : List ℕ) → candidate answers f ≡ Some frame → frame_cause frame (wanted_word entry f) (rule_for entry.content f) ≡ None
         → rescued answers entry f ≡ Some (main_in frame (rule_for entry.content f))
     unfolding rescued
     rescued-right frame is right = rw is (rw right refl)
 
+    -- a candidate with a cause isn't
     pub rescued-wrong : (frame : List ℕ) (cause : FrameCause) → candidate answers f ≡ Some frame
         → frame_cause frame (wanted_word entry f) (rule_for entry.content f) ≡ Some cause → rescued answers entry f ≡ None
     unfolding rescued
     rescued-wrong frame cause is wrong = rw is (rw wrong refl)
 
+    -- a frame without a candidate isn't either
     pub rescued-none : is_some (candidate answers f) ≡ false → is_some (rescued answers entry f) ≡ false
     unfolding rescued
     rescued-none = by_candidate (candidate answers f) where
@@ -120,6 +123,7 @@ module _ (answers : List (Option (List ℕ))) (f : ℕ) where
     read-has (Err cause) frame want rule is same_word same_rule refused right =
         sym (ap is_some (rescued-wrong frame cause is (cause_as frame want _ rule _ (Some cause) same_word same_rule refused)))
 
+    -- and what is read of a candidate that is right is what is rescued
     pub read-main : {T : Type 0} (r : Result T FrameCause) (frame main : List ℕ) (want : ℕ) (rule : Rule) → candidate answers f ≡ Some frame
         → want ≡ wanted_word entry f → rule ≡ rule_for entry.content f → is_ok r ≡ true
         → OnOk r (frame_cause frame want rule ≡ None) → OnOk r (main ≡ main_in frame rule) → rescued answers entry f ≡ Some main

@@ -17,6 +17,7 @@ unfoldable pub differences : List ℕ → List ℕ → ℕ
 differences (x ∷ xs) (y ∷ ys) = (if x == y then 0 else 1) + differences xs ys
 differences xs ys = 0
 
+-- those of all rows together
 unfoldable pub block_differences : List (List ℕ) → List (List ℕ) → ℕ
 block_differences (row ∷ rows) (other ∷ others) = differences row other + block_differences rows others
 block_differences rows others = 0

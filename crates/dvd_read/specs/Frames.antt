@@ -21,6 +21,7 @@ frame_of block f = flat_map (λ q. take 172 (line block (12 * f + q))) (range_wi
 abbrev pub wanted_word : BlockPlan → ℕ → ℕ
 wanted_word entry f = id_word entry.area entry.layer false (entry.first + f)
 
+-- the cause of a block whose frame f has this cause
 abbrev pub cause_in : ℕ → FrameCause → Cause
 cause_in f frames.Ied = Ied f
 cause_in f (frames.Address found) = Address f found
@@ -38,5 +39,6 @@ frames_cause block entry = slice_get (filter_map (fault_at block entry) (range_w
 abbrev pub main_at : List (List ℕ) → BlockPlan → ℕ → List ℕ
 main_at block entry f = main_in (frame_of block f) (rule_for entry.content f)
 
+-- the sixteen sectors of a block
 unfoldable pub main_data : List (List ℕ) → BlockPlan → List (List ℕ)
 main_data block entry = map (main_at block entry) (range_with_len 0 16)

@@ -14,6 +14,7 @@ abbrev pub answer_by : Option Fix → List ℕ → Option (List ℕ)
 answer_by None bytes = None
 answer_by (Some fix) bytes = Some bytes
 
+-- the word that a row's buffer holds, where it is answered
 abbrev pub answer_word : AnswerRow → Option (List ℕ)
 answer_word row = answer_by row.fix row.bytes
 

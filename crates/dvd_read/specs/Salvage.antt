@@ -49,5 +49,6 @@ frames_saved answers entry = count_by (λ f. is_some (rescued answers entry f)) 
 unfoldable pub block_out : List (List ℕ) → List (List Bool) → BlockPlan → List (List ℕ)
 block_out rows marks entry = sectors_saved (answers_of rows marks) entry
 
+-- how many frames are saved of what was received
 unfoldable pub saved_in : List (List ℕ) → List (List Bool) → BlockPlan → ℕ
 saved_in rows marks entry = frames_saved (answers_of rows marks) entry

@@ -16,12 +16,15 @@ use Rattle.dvd_read.proofs.RowAnswers.{block_answers}
 use Rattle.dvd_read.proofs.SavedLaws.{fixed-found, fixed-told}
 use Rattle.dvd_read.proofs.rescue.salvage.Goals as goal
 
+-- the rows of a captured block are 208
 rows_size : (work : Work) → length (rows_of work) ≡ 208
 rows_size work = omega (arith, work.received.size, work.received.rows.ok.0)
 
+-- so are their marks
 marks_size : (work : Work) → length (marks_of_work work) ≡ 208
 marks_size work = length-map work.marks.rows.items marks_of ∙ omega (arith, work.marks.size, work.marks.rows.ok.0)
 
+-- and their answers
 answers_size : (work : Work) → length (answers_of_work work) ≡ 208
 answers_size work = omega (arith, work.answers.size, work.answers.rows.ok.0)
 
