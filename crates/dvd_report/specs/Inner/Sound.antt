@@ -12,6 +12,7 @@ pub record IsBounded (totals : Totals) : Type 0 where
   pub damaged : totals.damaged ≤ totals.blocks
   pub over : totals.over ≤ totals.blocks
 
+-- sums within their bounds, a window of at most eight blocks, and a last block where any is counted
 pub record IsSound (totals : Totals) (window : Buffer ℕ) (last : Option Surveyed) : Type 0 where
   pub bounded : IsBounded totals
   pub eight : window.capacity ≡ 8
