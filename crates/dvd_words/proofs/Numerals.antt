@@ -36,6 +36,7 @@ numeral text some few digits = grind (arith, digits)
 number_below : (text : List ℕ) → is_numeral text ≡ true → digits_value 10 text < 2 ^ 32 → number_of text ≡ Some (digits_value 10 text)
 number_below text is below = rw (is, lt-ltb (digits_value 10 text) (2 ^ 32) below) refl
 
+-- from 2 ^ 32 on it isn't read
 number_above : (text : List ℕ) → is_numeral text ≡ true → 2 ^ 32 ≤ digits_value 10 text → number_of text ≡ None
 number_above text is above = rw (is, le-ltb (digits_value 10 text) (2 ^ 32) above) refl
 

@@ -23,6 +23,7 @@ free Deep = refl
 free Assemble = refl
 free Convert = refl
 
+-- and the words give the matches of each
 pub simple : (command : Command) → is_simple (app_for command) ≡ true
 simple Frames = refl
 simple Master = refl

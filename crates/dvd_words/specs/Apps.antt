@@ -30,6 +30,7 @@ layout_options = disk_options ++ codes "workers" ∷ []
 abbrev pub cd_options : List Text
 cd_options = codes "address" ∷ codes "sectors" ∷ []
 
+-- the options that each command needs, and those that it may have
 abbrev pub app_for : Command → App
 app_for Frames = app_named (codes "frames") (codes "first" ∷ codes "sectors" ∷ []) []
 app_for Master = app_named (codes "master") (codes "sectors" ∷ []) (layout_options ++ codes "cpr" ∷ [])

@@ -13,10 +13,12 @@ use Rattle.dvd_words.specs.declared.settings.Command.{Command}
 use Rattle.dvd_words.specs.declared.settings.Command.TheVariants.{Frames, Master, Recover, Info, Survey, Exercise, CdMake, CdRead, Merge, Deep, Assemble, Convert}
 use Rattle.dvd_words.specs.declared.settings.Settings.{Settings}
 
+-- what follows from a value, where there is one
 infixl 10 ◌>>=◌
 abbrev pub ◌>>=◌ : {A B : Type 0} → Option A → (A → Option B) → Option B
 o >>= f = option_and_then f o
 
+-- the command that a word names
 abbrev pub command_of : Text → Option Command
 command_of word =
     if bytes_eq word (codes "frames") then Some Frames
@@ -138,6 +140,7 @@ reading (word ∷ words) = do
   rows ← rows_for command (word ∷ words)
   settings_of command rows
 
+-- these words ask for these settings
 abbrev pub Reads : List Text → Settings → Type 0
 Reads words settings = reading words ≡ Some settings
 

@@ -46,14 +46,17 @@ bytes_of n text = result_ok (decode_sized text n)
 abbrev pub sector_number_of : List ℕ → Option ℕ
 sector_number_of text = option_map (λ bytes. from_be_bytes w32 (0 ∷ bytes)) (bytes_of 3 text)
 
+-- the shape of a disk by its name
 abbrev pub shape_of : List ℕ → Option Shape
 shape_of text =
     if bytes_eq text (codes "single") then Some Single
     else (if bytes_eq text (codes "parallel") then Some Parallel else (if bytes_eq text (codes "opposite") then Some Opposite else None))
 
+-- the zones of a stream by their name
 abbrev pub zones_of : List ℕ → Option Zones
 zones_of text = if bytes_eq text (codes "data") then Some DataOnly else (if bytes_eq text (codes "all") then Some All else None)
 
+-- the form of captured blocks by its name
 abbrev pub form_of : List ℕ → Option Form
 form_of text =
     if bytes_eq text (codes "plain") then Some Plain
