@@ -506,4 +506,5 @@ has_inverse a byte_a nonzero = (inverse a, inverse-byte a, product-inverse_of a 
 pub is_power_of_alpha : (a : ℕ) → a < 256 → a ≢ 0 → IsPowerOfAlpha a
 is_power_of_alpha a byte_a nonzero = (logarithm a, (power-alpha-logarithm a byte_a nonzero).0, (power-alpha-logarithm a byte_a nonzero).1)
 
+-- the laws of the field under one name
 pub ruleset laws = (field, plus-byte, product-byte, product-one, product-zero_factor, power-alpha-differ, power-alpha-255, has_inverse, is_power_of_alpha)

@@ -25,6 +25,7 @@ LOGARITHMS-reach (suc a) byte_a nonzero = power-alpha-shifted (get_or LOGARITHMS
 pub product_by_powers : (a b i j : ℕ) → power alpha i ≡ a → power alpha j ≡ b → power alpha (i + j) ≡ product a b
 product_by_powers a b i j is_a is_b = power-add alpha i j ∙ ap (λ x. product x (power alpha j)) is_a ∙ ap (product a) is_b
 
+-- what a product is by its exponents, and with a factor 0
 pub ruleset products = (product_by_powers, product-zero, zero-product)
 
 -- an exponent and what it lacks to 255 make 01
@@ -40,6 +41,7 @@ quotient_by_powers a b i j byte_a below is_a is_b =
     ap (product (power alpha (i + 255 - j))) (sym is_b) ∙ sym (power-add alpha (i + 255 - j) j) ∙ ap (power alpha) whole ∙ power-add alpha i 255
     ∙ ap (product (power alpha i)) power-alpha-255 ∙ product-one (power alpha i) (power-byte alpha i) ∙ is_a
 
+-- what a quotient is by its exponents, and of 0
 pub ruleset quotients = (quotient_by_powers, zero-product)
 
 -- exponents count by their rest alone

@@ -8,10 +8,12 @@ product-80-02 : product 0x80 0x02 ≡ 0x1D
 unfolding product partial_product shifted shift
 product-80-02 = refl
 
+-- the byte F4 is the inverse of 03
 product-03-f4 : product 0x03 0xF4 ≡ 0x01
 unfolding product partial_product shifted shift
 product-03-f4 = refl
 
+-- the powers of alpha come round to 01 after 255
 power-alpha-255 : power alpha 255 ≡ 0x01
 unfolding power product partial_product shifted shift
 power-alpha-255 = refl
@@ -21,6 +23,7 @@ value-at-one : value (0x00 ∷ 0x03 ∷ 0x00 ∷ 0x00 ∷ 0x11 ∷ 0x12 ∷ []) 
 unfolding value power product partial_product shifted shift
 value-at-one = refl
 
+-- and at alpha
 value-at-alpha : value (0x00 ∷ 0x03 ∷ 0x00 ∷ 0x00 ∷ 0x11 ∷ 0x12 ∷ []) alpha ≡ 0
 unfolding value power product partial_product shifted shift
 value-at-alpha = refl

@@ -3,6 +3,7 @@
 use Rattle.std.specs.Prelude.{◌≡◌, ℕ, ◌+◌, ◌-◌, ◌<◌, ◌≤◌, Bool, List, [], ◌∷◌, length, take, All, ◌==◌, if◌then◌else◌}
 use Rattle.gf_field.specs.Field.{alpha, plus, product, power}
 
+-- a byte is a number below 256
 abbrev pub IsByte : ℕ → Type 0
 IsByte b = b < 256
 
