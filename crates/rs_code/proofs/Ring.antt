@@ -11,4 +11,5 @@ plus-left_comm a b c = sym (plus-assoc a b c) ∙ ap (λ s. plus s c) (plus-comm
 pub product-left_comm : (a b c : ℕ) → product a (product b c) ≡ product b (product a c)
 product-left_comm a b c = sym (product-assoc a b c) ∙ ap (λ s. product s c) (product-comm a b) ∙ product-assoc b a c
 
+-- the rules that bring a sum of products to one form
 pub ruleset ring = (product-plus, plus-product, product-assoc, plus-assoc, product-zero, zero-product, plus-zero, zero-plus, plus-self, plus-again, product-comm, product-left_comm, plus-comm, plus-left_comm)

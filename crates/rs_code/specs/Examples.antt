@@ -12,6 +12,7 @@ generator-ied : times_root (times_root [] 0x01) 0x02 ≡ 0x03 ∷ 0x02 ∷ []
 unfolding times_root sum_of scaled product partial_product shifted shift
 generator-ied = refl
 
+-- the values of six bytes at 01 and at alpha
 syndromes-two : syndromes_of 2 (1 ∷ 2 ∷ 3 ∷ 4 ∷ 5 ∷ 6 ∷ []) ≡ 0x07 ∷ 0x04 ∷ []
 unfolding syndromes_of value power product partial_product shifted shift
 syndromes-two = refl
@@ -21,10 +22,12 @@ power-sum-one : power_sum (1 ∷ 2 ∷ 3 ∷ 4 ∷ 5 ∷ 6 ∷ []) (points_of 6)
 unfolding power_sum points_of power product partial_product shifted shift
 power-sum-one = refl
 
+-- two bytes of four aren't 0
 weight-two : weight (0 ∷ 7 ∷ 0 ∷ 9 ∷ []) ≡ 2
 unfolding weight
 weight-two = refl
 
+-- two words of three bytes differ at one place
 distance-one : distance (1 ∷ 2 ∷ 3 ∷ []) (1 ∷ 5 ∷ 3 ∷ []) ≡ 1
 unfolding distance
 distance-one = refl
