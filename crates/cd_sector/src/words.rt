@@ -8,6 +8,7 @@ use rs_code::Code;
 /// P words are numbered before Q words.
 pub(crate) const P_WORDS: usize = 86;
 
+/// How many words there are: 86 P words and 52 Q words.
 pub(crate) const WORDS: usize = 138;
 
 /// The code of a P word.
