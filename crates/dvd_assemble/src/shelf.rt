@@ -20,6 +20,7 @@ use std::alloc::Global;
 #[derive(Drop)]
 pub struct Shelf {
     blocks: Vec<Merge>,
+    /// There are no more than 1,024 of them.
     pub ghost few: { vec_len blocks ≤ 1024 },
 }
 
