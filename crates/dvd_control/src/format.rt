@@ -10,25 +10,45 @@ use thiserror::Error;
 /// last one of layer 0 on the opposite track path, and whether there is a burst cutting area.
 #[derive(Clone, Copy, Debug, PartialEq, Eq)]
 pub struct PhysicalFormat {
+    /// The version of the format, below 16; 1 is the first.
     pub version: u8,
+    /// The maximum rate of the channel by its number, below 16: 0 is 2.52 Mbit/s, 1 is 5.04, 2 is 10.08.
     pub rate: u8,
+    /// Whether the disk has two layers.
     pub two_layers: bool,
+    /// Whether layer 1 goes on where layer 0 ends.
     pub opposite: bool,
+    /// The kind of the layers, below 16, a bit for each: 1 has embossed data, 2 a recordable and 4 a rewritable area.
     pub kind: u8,
+    /// The length of a channel bit by its number, below 16: 0 is 0.133 micrometres, 1 is 0.147.
     pub density: u8,
+    /// The distance of two tracks by its number, below 16: 0 is 0.74 micrometres.
     pub pitch: u8,
+    /// The first sector of the Data Zone, 030000.
     pub first: u32,
+    /// The last sector of the Data Zone, a number of 24 bits.
     pub last: u32,
+    /// The last sector of layer 0 on the opposite track path, or 0.
     pub layer0_last: u32,
+    /// Whether there is a burst cutting area.
     pub bca: bool,
+    /// The version has four bits.
     pub ghost small_version: { version < 16 },
+    /// The rate has four bits.
     pub ghost small_rate: { rate < 16 },
+    /// The kind has four bits.
     pub ghost small_kind: { kind < 16 },
+    /// The number of the channel bit length has four bits.
     pub ghost small_density: { density < 16 },
+    /// The number of the track pitch has four bits.
     pub ghost small_pitch: { pitch < 16 },
+    /// The Data Zone begins at 030000.
     pub ghost begins: { first ≡ 0x30000 },
+    /// It ends no earlier than it begins.
     pub ghost ends: { first ≤ last },
+    /// Its last sector number has 24 bits.
     pub ghost last_number: { last < 2 ^ 24 },
+    /// So has the last one of layer 0.
     pub ghost layer0_number: { layer0_last < 2 ^ 24 },
 }
 

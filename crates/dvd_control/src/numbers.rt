@@ -19,6 +19,7 @@ fn padded(sectors: u32) -> u32
     16 * sectors.div_ceil(16)
 }
 
+// The last sector of the data of layer 0.
 pub(crate) fn last_of_layer_0(layout: &Layout) -> u32
     ensures { result ≡ 0x30000 + padded layout.now.sectors0 - 1 }
 {
