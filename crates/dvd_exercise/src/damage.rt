@@ -42,7 +42,9 @@ struct Plan {
     lost: usize,
     start: usize,
 
+    // The bad and the lost rows are within the bound of a column.
     pub ghost bound: { 2 * bad + lost ≤ 16 },
+    // The first of them is a row of the block.
     pub ghost within: { start < 208 },
 }
 
