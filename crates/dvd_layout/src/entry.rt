@@ -35,9 +35,13 @@ impl Content {
 /// One ECC block of a plan: its first sector number, its area, its layer and its content.
 #[derive(Clone, Copy, Debug, PartialEq, Eq)]
 pub struct BlockPlan {
+    /// Its first sector number.
     pub first: u32,
+    /// The area that it stands in.
     pub area: Area,
+    /// Its layer, 0 or 1.
     pub layer: u8,
+    /// What its Main Data is.
     pub content: Content,
 }
 

@@ -71,19 +71,33 @@ pub enum Zones {
 /// of each zone behind the data.
 #[derive(Clone, Copy, Debug, PartialEq, Eq)]
 pub struct Layout {
+    /// The shape of the disk.
     pub shape: Shape,
+    /// The image sectors of layer 0, at least one.
     pub sectors0: u32,
+    /// The image sectors of layer 1, 0 where there is none.
     pub sectors1: u32,
+    /// The ECC blocks of the Initial Zone, at most 12,031.
     pub initial: u32,
+    /// The ECC blocks of each zone behind the data, at most 12,288.
     pub tail: u32,
+    /// Layer 0 has data.
     pub ghost first_layer: { 0 < sectors0 },
+    /// So has layer 1, where there are two.
     pub ghost second_layer: { has_two_layers shape ≡ true → 0 < sectors1 },
+    /// Layer 0 is whole ECC blocks then.
     pub ghost whole_blocks: { has_two_layers shape ≡ true → sectors0 % 16 ≡ 0 },
+    /// Where there is one layer the other has no sectors.
     pub ghost one_layer: { has_two_layers shape ≡ false → sectors1 ≡ 0 },
+    /// On the opposite track path layer 1 is no longer than layer 0.
     pub ghost no_longer: { is_opposite shape ≡ true → padded sectors1 ≤ padded sectors0 },
+    /// The Initial Zone stands before the data.
     pub ghost initial_fits: { initial ≤ 12031 },
+    /// The zones behind the data are within their bound.
     pub ghost tail_fits: { tail ≤ 12288 },
+    /// Layer 0 ends before sector number 800000.
     pub ghost end0: { layer_end sectors0 tail ≤ 0x800000 },
+    /// So does layer 1.
     pub ghost end1: { layer_end sectors1 tail ≤ 0x800000 },
 }
 
