@@ -54,6 +54,7 @@ impl From<WriteFault> for LoopEnd {
 /// What a unit that was read and done is.
 #[derive(Clone, Copy, Debug, PartialEq, Eq)]
 pub enum Turn {
+    /// Nothing of it is damaged, and the loop goes on.
     Good,
     /// It counts among the damaged units.
     Bad,

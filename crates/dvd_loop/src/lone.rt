@@ -12,6 +12,7 @@ pub trait LoneTurns {
     /// What its units depend on, and the names of what it borrows. No turn changes it.
     ghost Key: { Type 0 };
 
+    /// The key of this command.
     ghost key: { Self → Key };
 
     /// Its units.

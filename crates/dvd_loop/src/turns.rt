@@ -14,6 +14,7 @@ pub trait Turns {
     /// What its units depend on, and the names of what it borrows. No turn changes it.
     ghost Key: { Type 0 };
 
+    /// The key of this command.
     ghost key: { Self → Key };
 
     /// Its units.
