@@ -21,6 +21,7 @@ use std::alloc::Global;
 #[derive(Drop)]
 pub struct Merge {
     rows: Vec<[Place; 182]>,
+    /// There are 208 rows.
     pub ghost size: { vec_len rows ≡ 208 },
 }
 
