@@ -185,7 +185,9 @@ pub(crate) fn worded_initial(settings: &Settings) -> Result<Option<u32>, LayoutF
 /// The settings of a run with the layout and the zones that a listed capture states, and that layout.
 #[derive(Drop)]
 pub(crate) struct Stated {
+    /// The settings of the run, as the header states them.
     pub settings: Settings,
+    /// The layout of its disk.
     pub layout: Layout,
 }
 

@@ -62,6 +62,7 @@ impl From<LoopEnd> for Status {
 pub enum Refusal {
     /// The layout that the settings ask for is not lawful.
     Setting(LayoutFault),
+    /// There is no memory for its buffers.
     NoMemory,
 }
 
