@@ -19,8 +19,10 @@ pub type Port = (usize, u64, usize);
 /// The source, the output and the report of a run.
 pub type Ports = (Port, Port, Port);
 
+/// A port that never fails: 40,000 bytes a call, and room for 80,000.
 pub const SOUND: Port = (40_000, NEVER, 80_000);
 
+/// Three of them.
 pub const ALL_SOUND: Ports = (SOUND, SOUND, SOUND);
 
 /// The end of a run: its status, how many bytes it wrote, and its report.
@@ -163,8 +165,10 @@ pub fn leave_fronts<R: AllocGlobal + Threads + Sync>(
 /// A disk: the sectors of its image, the words that master it, and those that read it back.
 pub type Disk = (usize, &'static str, &'static str);
 
+/// A disk of one ECC block of image.
 pub static SIXTEEN: Disk = (16, "master --sectors 16", "recover --sectors 16");
 
+/// A disk of two.
 pub static THIRTY_TWO: Disk = (32, "master --sectors 32", "recover --sectors 32");
 
 /// Leaves fronts of the image where its recording is read back, cut to this length or followed by zeros.
