@@ -24,6 +24,7 @@ pub type Ied = Code<6, 2>;
 pub struct Code<const N: usize, const R: usize> {
     /// The generator polynomial without its leading 1, the highest power first.
     generator: ArrayVec<u8, 32>,
+    /// A word has 1 to 32 parity bytes, at least one byte more, and at most 255 in all.
     pub ghost bounds: { (1 ≤ R) × (R < N) × (N ≤ 255) × (R ≤ 32) },
     ghost degree: { array_vec_len generator ≡ R },
     ghost roots: { HasRoots R generator.items },
