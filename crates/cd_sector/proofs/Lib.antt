@@ -1,3 +1,4 @@
+-- Why the contracts hold: lemmas on a CD-ROM sector, what is wrong with one, and how it is repaired.
 pub mod Bits
 pub mod Steps
 pub mod Division

@@ -1,3 +1,4 @@
+-- What the contracts speak of: a CD-ROM sector, what is wrong with one, and how it is repaired.
 pub mod Bits
 pub mod Causes
 pub mod Edc

@@ -1,3 +1,4 @@
+-- Why the contracts hold: lemmas on scattered recording frames, the blocks that they name, and what they tell of these.
 pub mod Assembling
 pub mod Homes
 pub mod Joining

@@ -1,3 +1,4 @@
+-- Why the contracts hold: lemmas on the rounds of iterated reading, and what a block is read as by them.
 pub mod RowStep
 pub mod ColumnStep
 pub mod ColumnPut

@@ -1,3 +1,4 @@
+-- Why the contracts hold: lemmas on sectors drawn from a seed, and damage that two-pass decoding bears.
 pub mod Bound
 pub mod Changed
 pub mod Burdens

@@ -1,3 +1,4 @@
+-- What the contracts speak of: the layout of a disk, its zones, and the plan of its blocks.
 pub mod Content
 pub mod Inner
 pub mod Laws

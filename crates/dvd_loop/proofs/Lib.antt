@@ -1,3 +1,4 @@
+-- Why the contracts hold: lemmas on the units of an input, the outcome of a loop over them, and how it ends.
 pub mod Apart
 pub mod ClosedLemmas
 pub mod Determinacy

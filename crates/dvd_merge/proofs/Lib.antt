@@ -1,3 +1,4 @@
+-- Why the contracts hold: lemmas on what captures know of the places of a block, and their join.
 pub mod Costs
 pub mod Lattice
 pub mod Places

@@ -1,3 +1,4 @@
+-- What the contracts speak of: what captures know of the places of a block, and their join.
 pub mod Agreeing
 pub mod Join
 pub mod Laws

@@ -1,0 +1,1 @@
+-- No lemmas of its own: the answers stand on those of the crates below.

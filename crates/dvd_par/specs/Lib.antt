@@ -1,0 +1,1 @@
+-- No definitions of its own: what several workers do of a block is said by the crates below.

@@ -1,3 +1,4 @@
+-- What the contracts speak of: what is seen of sources and sinks, and what a call moves.
 pub mod Adapters
 pub mod Calls
 pub mod Causes

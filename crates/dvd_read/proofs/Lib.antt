@@ -1,3 +1,4 @@
+-- Why the contracts hold: lemmas on what two passes find of a captured block, and the checks of its frames.
 pub mod RowAnswers
 pub mod Positions
 pub mod ColumnAnswers

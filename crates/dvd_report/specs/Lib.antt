@@ -1,3 +1,4 @@
+-- What the contracts speak of: the lines of a report, and the survey of a disk.
 pub mod Examples
 pub mod Inner
 pub mod Lines

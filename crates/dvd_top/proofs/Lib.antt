@@ -1,3 +1,4 @@
+-- Why the contracts hold: lemmas on the commands, the streams that they are handed, and what a run does.
 pub mod AssembleFrames
 pub mod BlockFrames
 pub mod BoundKept

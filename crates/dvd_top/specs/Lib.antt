@@ -1,3 +1,4 @@
+-- What the contracts speak of: the commands, the streams that they are handed, and what a run does.
 pub mod Bound
 pub mod Captured
 pub mod Commands

@@ -1,3 +1,4 @@
+-- What the contracts speak of: the words of a command line, and the settings that they ask for.
 pub mod Apps
 pub mod Reading
 pub mod Settings

@@ -1,3 +1,4 @@
+-- What the contracts speak of: the field of 256 elements, its words and their codes.
 pub mod Examples
 pub mod Field
 pub mod Laws

@@ -1,3 +1,4 @@
+-- Why the contracts hold: lemmas on Reed-Solomon codes, their generators, syndromes and distances.
 pub mod Codewords
 pub mod Distance
 pub mod Generator
