@@ -1,52 +1,71 @@
--- What the operations on vectors of 32 bytes hold in each lane: HasLanes-zip2 of two vectors, HasLanes-splat of a vector and one
--- byte, HasLanes-look_up of a table of sixteen at positions below sixteen, and either-zero of one lane of a test.
-use Rattle.std.proofs.Common.{◌≡◌, ◌↔◌, ℕ, ◌+◌, ◌*◌, ◌/◌, ◌%◌, ◌<◌, List, length, get_or, replicate, sym, ap, ◌∙◌, arith, w8, bit_or}
+-- What the operations on vectors of bytes hold in each lane: HoldsLanes-zip2 of two vectors, HoldsLanes-splat of a vector and one
+-- byte, HoldsLanes-low_nibbles and high_nibble-small of the two nibbles, HoldsLanes-look_up of a table of sixteen at positions
+-- below sixteen, whole_table of a table in one vector, and either-zero of one lane of a test.
+use Rattle.std.proofs.Common.{◌≡◌, ◌↔◌, ℕ, ◌+◌, ◌*◌, ◌/◌, ◌%◌, ◌<◌, List, length, get_or, replicate, take, get_or-take, length-take-le, sym, ap, ◌∙◌, arith, w8, Fits, bit_and, bit_or}
 use Rattle.std.specs.Int.Bits.{or_zero_r}
-use Rattle.std.specs.Simd.Lanes.{zip2}
-use Rattle.std.proofs.lemmas.Nat.{le_or_l, le_or_r}
-use Rattle.std.proofs.lemmas.Simd.{length-zip2, get_or-zip2, get_or-replicate, length-replicate, length-swz_l, get_or-swz_l_below, swz_l, SwzOk, SwzOk-from_below, Each1-from_get_or}
+use Rattle.std.specs.Simd.Lanes.{Each1, zip2}
+use Rattle.std.proofs.lemmas.Nat.{and_mask, le_or_l, le_or_r}
+use Rattle.std.proofs.lemmas.Simd.{length-zip2, get_or-zip2, get_or-replicate, length-replicate, length-swz_l, get_or-swz_l_below, swz_l, SwzOk, SwzOk-from_below, Each1-from_get_or, Each1-get_or}
 use Rattle.gf_field.specs.Field.{plus}
 use Rattle.gf_field.proofs.FieldLaws.{plus-self, plus-zero_same}
-use Rattle.rs_lanes.specs.Inner.Lanes.{HasLanes}
+use Rattle.rs_lanes.specs.Inner.Lanes.{HoldsLanes}
 
 -- an operator on two vectors
-pub HasLanes-zip2 : (f : ℕ → ℕ → ℕ) (a b : List ℕ) → length a ≡ 32 → length b ≡ 32 → HasLanes (zip2 f a b) (λ k. f (get_or a k 0) (get_or b k 0))
-HasLanes-zip2 f a b size_a size_b = record {
+pub HoldsLanes-zip2 : (count : ℕ) (f : ℕ → ℕ → ℕ) (a b : List ℕ) → length a ≡ count → length b ≡ count
+    → HoldsLanes count (zip2 f a b) (λ k. f (get_or a k 0) (get_or b k 0))
+HoldsLanes-zip2 count f a b size_a size_b = record {
   size = length-zip2 f a b (size_a ∙ sym size_b) ∙ size_a;
   each = λ k below. get_or-zip2 f a b k 0 0 0 (omega arith) (omega arith);
 }
 
 -- an operator on a vector and one byte
-pub HasLanes-splat : (f : ℕ → ℕ → ℕ) (a : List ℕ) (x : ℕ) → length a ≡ 32 → HasLanes (zip2 f a (replicate 32 x)) (λ k. f (get_or a k 0) x)
-HasLanes-splat f a x size_a =
-    let both = HasLanes-zip2 f a (replicate 32 x) size_a (length-replicate 32 x) in
+pub HoldsLanes-splat : (count : ℕ) (f : ℕ → ℕ → ℕ) (a : List ℕ) (x : ℕ) → length a ≡ count → HoldsLanes count (zip2 f a (replicate count x)) (λ k. f (get_or a k 0) x)
+HoldsLanes-splat count f a x size_a =
+    let both = HoldsLanes-zip2 count f a (replicate count x) size_a (length-replicate count x) in
     record {
       size = both.size;
-      each = λ k below. both.each k below ∙ ap (f (get_or a k 0)) (get_or-replicate 32 k x 0 below);
+      each = λ k below. both.each k below ∙ ap (f (get_or a k 0)) (get_or-replicate count k x 0 below);
     }
 
-module _ (positions : List ℕ) (f : ℕ → ℕ) (are : HasLanes positions f) (small : (k : ℕ) → k < 32 → f k < 16) where
+-- the low nibbles of a vector
+pub HoldsLanes-low_nibbles : (count : ℕ) (lanes : List ℕ) → length lanes ≡ count → HoldsLanes count (zip2 bit_and lanes (replicate count 15)) (λ k. get_or lanes k 0 % 16)
+HoldsLanes-low_nibbles count lanes size =
+    let masked = HoldsLanes-splat count bit_and lanes 15 size in
+    record { size = masked.size; each = λ k below. masked.each k below ∙ and_mask (get_or lanes k 0) 4 }
+
+-- the high nibble of a byte is below sixteen
+pub high_nibble-small : (count : ℕ) (lanes : List ℕ) → length lanes ≡ count → Each1 (Fits w8) lanes → (k : ℕ) → k < count → get_or lanes k 0 / 16 < 16
+high_nibble-small count lanes size fits k below = omega (arith, (Each1-get_or (Fits w8) lanes k 0 (omega arith) fits).fits)
+
+module _ (halves : ℕ) (positions : List ℕ) (f : ℕ → ℕ) (are : HoldsLanes (16 * halves) positions f) (small : (k : ℕ) → k < 16 * halves → f k < 16) where
   -- positions below sixteen may be looked up
-  pub SwzOk-nibbles : SwzOk w8 16 32 0 positions
+  pub SwzOk-nibbles : SwzOk w8 16 (16 * halves) 0 positions
   SwzOk-nibbles =
       let size = are.size in
-      SwzOk-from_below w8 16 2 32 0 positions (omega arith) (omega arith)
+      SwzOk-from_below w8 16 halves (16 * halves) 0 positions (omega arith) (omega arith)
       (Each1-from_get_or (λ j. j < 16) positions 0 (λ i inside. omega (arith, are.each i (omega arith), small i (omega arith))))
 
-  -- what is found in a vector that holds the table twice
-  pub HasLanes-look_up : (table twice : List ℕ) → HasLanes twice (λ k. get_or table (k % 16) 0)
-      → HasLanes (swz_l w8 16 twice 0 positions) (λ k. get_or table (f k) 0)
-  HasLanes-look_up table twice is =
+  -- what is found in a vector that holds the table in each sixteen of its lanes
+  pub HoldsLanes-look_up : (table all : List ℕ) → HoldsLanes (16 * halves) all (λ k. get_or table (k % 16) 0)
+      → HoldsLanes (16 * halves) (swz_l w8 16 all 0 positions) (λ k. get_or table (f k) 0)
+  HoldsLanes-look_up table all is =
       let size = are.size in
       record {
-        size = length-swz_l w8 16 twice 0 positions ∙ size;
+        size = length-swz_l w8 16 all 0 positions ∙ size;
         each = λ k below.
             let at = are.each k below in
             let few = small k below in
-            get_or-swz_l_below w8 16 twice 0 positions k (omega arith) (omega arith)
+            get_or-swz_l_below w8 16 all 0 positions k (omega arith) (omega arith)
             ∙ is.each (16 * ((0 + k) / 16) + get_or positions k 0) (omega arith)
             ∙ ap (λ j. get_or table j 0) (omega arith);
       }
+
+-- a vector of a whole table, for positions in sixteen lanes
+pub whole_table : (table : List ℕ) → length table ≡ 16 → HoldsLanes 16 (take 16 table) (λ k. get_or table (k % 16) 0)
+whole_table table size = record {
+  size = length-take-le 16 table (omega arith);
+  each = λ k below. get_or-take 16 table k 0 below ∙ ap (λ j. get_or table j 0) (omega arith);
+}
 
 -- a lane that joins what differed so far with one more sum
 pub either-zero : (d a b : ℕ) → (bit_or d (plus a b) ≡ 0) ↔ ((d ≡ 0) × (a ≡ b))

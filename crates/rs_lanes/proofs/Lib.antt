@@ -1,5 +1,6 @@
 pub mod CodewordLemmas
 pub mod ColumnLemmas
+pub mod FactorLemmas
 pub mod LaneLemmas
 pub mod Nibbles
 pub mod RowLemmas

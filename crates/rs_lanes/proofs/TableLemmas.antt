@@ -10,11 +10,11 @@ use Rattle.rs_lanes.specs.declared.tables.TheConstants.{PI, PO}
 use Rattle.rs_lanes.specs.Inner.Tables.{IsTable, AreTables}
 
 -- the products of a factor with the low nibbles, and with the high ones
-unfoldable table_of : ℕ → List (List ℕ)
+unfoldable pub table_of : ℕ → List (List ℕ)
 table_of factor = map (λ n. product n factor) (range_with_len 0 16) ∷ map (λ n. product (16 * n) factor) (range_with_len 0 16) ∷ []
 
 -- they are a table of the factor
-IsTable-table_of : (factor : ℕ) → IsTable factor (table_of factor)
+pub IsTable-table_of : (factor : ℕ) → IsTable factor (table_of factor)
 unfolding table_of
 IsTable-table_of factor = record {
   low = λ n below. get_or-map-range_with_len (λ m. product m factor) 0 16 n n 0 below (omega arith);

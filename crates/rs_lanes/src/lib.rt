@@ -4,14 +4,18 @@
 //! - [`rows`]: the inner parity of 32 rows, and their test.
 //! - [`row`]: what has the bytes of a row.
 //! - [`turning`]: 32 rows as vectors, one for each place.
+//! - [`points`]: products and powers of sixteen bytes at once.
 //! - `division`: the division by a generator, in each lane.
 //! - `lanes`: sums, products, loads and stores of vectors.
 //! - `tables`: the multiples of the coefficients of both generators.
+//! - `factors`: the products of each byte with each nibble, and the powers of each power of alpha.
 #![tactic(auto)]
 
 pub mod columns;
 mod division;
+mod factors;
 mod lanes;
+pub mod points;
 pub mod row;
 pub mod rows;
 mod tables;
@@ -21,6 +25,7 @@ pub mod turning;
 
 pub use columns::{outer_parity, wrong_columns};
 pub use lanes::store;
+pub use points::{powers, scaled};
 pub use row::Row;
 pub use rows::{inner_parity, wrong_rows};
 pub use turning::turn;

@@ -2,10 +2,11 @@
 //! generator, and as the encoder of one word has it.
 ghost use Rattle.std.specs.Prelude.{◌≡◌, ◌<◌, ◌≤◌, vec_len, IfOk};
 
-use crate::{inner_parity, outer_parity, wrong_columns, wrong_rows};
+use crate::{inner_parity, outer_parity, powers, scaled, wrong_columns, wrong_rows};
 use rs_code::{Pi, Po};
 use sha2::{Digest, Sha256};
 use std::alloc::{AllocError, Global};
+use std::simd::prelude::*;
 use std::test::Fail;
 
 /// A generator of drawn words: three shifts of 64 bits a word, of which a byte is the top eight bits.
@@ -144,5 +145,42 @@ fn wrong_columns_are_told(rt: HostRuntime) -> Result<(), Fail> {
     for (j, byte) in wrong.iter().enumerate() {
         assert!(rt; (*byte != 0) == (j == 77 || j == 181));
     }
+    Ok(())
+}
+
+#[test]
+fn lanes_are_multiplied(rt: HostRuntime) -> Result<(), Fail> {
+    let lanes = u8x16::from_array([
+        0x00, 0x01, 0x02, 0x03, 0x0F, 0x10, 0x1D, 0x53, 0x7F, 0x80, 0x8E, 0xA5, 0xCA, 0xF0, 0xF4,
+        0xFF,
+    ]);
+    assert!(rt; scaled(lanes, 0x00) == u8x16::splat(0));
+    assert!(rt; scaled(lanes, 0x01) == lanes);
+    // 80 times 02 is 1D, and 8E times 02 is 01.
+    let doubled = scaled(lanes, 0x02);
+    assert_eq!(rt;
+        (doubled[1], doubled[8], doubled[9], doubled[10]),
+        (0x02, 0xFE, 0x1D, 0x01)
+    );
+    // 03 times F4 is 01.
+    let thrice = scaled(lanes, 0x03);
+    assert_eq!(rt; (thrice[1], thrice[3], thrice[14]), (0x03, 0x05, 0x01));
+    Ok(())
+}
+
+#[test]
+fn lanes_are_powers(rt: HostRuntime) -> Result<(), Fail> {
+    assert!(rt; powers(0) == u8x16::splat(1));
+    let first = powers(1);
+    assert_eq!(rt;
+        (first[0], first[1], first[7], first[8], first[15]),
+        (0x01, 0x02, 0x80, 0x1D, 0x26)
+    );
+    // Alpha^254 is the inverse of alpha.
+    let last = powers(254);
+    assert_eq!(rt;
+        (last[0], last[1], scaled(last, 0x02)[1]),
+        (0x01, 0x8E, 0x01)
+    );
     Ok(())
 }

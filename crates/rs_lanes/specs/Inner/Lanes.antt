@@ -1,7 +1,11 @@
--- Ours: vectors of 32 bytes, lane by lane.
+-- Ours: vectors of bytes, lane by lane.
 use Rattle.std.specs.Prelude.{◌≡◌, ℕ, ◌<◌, List, length, slice_index}
 
--- a vector has 32 lanes, and lane k holds f k
-pub record HasLanes (lanes : List ℕ) (f : ℕ → ℕ) : Type 0 where
-  pub size : length lanes ≡ 32
-  pub each : (k : ℕ) → k < 32 → slice_index lanes k ≡ f k
+-- a vector has this many lanes, and lane k holds f k
+pub record HoldsLanes (count : ℕ) (lanes : List ℕ) (f : ℕ → ℕ) : Type 0 where
+  pub size : length lanes ≡ count
+  pub each : (k : ℕ) → k < count → slice_index lanes k ≡ f k
+
+-- the same of 32 lanes
+abbrev pub HasLanes : List ℕ → (ℕ → ℕ) → Type 0
+HasLanes lanes f = HoldsLanes 32 lanes f

@@ -1,6 +1,6 @@
 use Rattle.gf_field.specs.Field.{plus}
-use Rattle.rs_lanes.proofs.LaneLemmas.{HasLanes-zip2}
+use Rattle.rs_lanes.proofs.LaneLemmas.{HoldsLanes-zip2}
 use Rattle.rs_lanes.proofs.lanes.mixed.Goals as goal
 
 pub returns : goal.returns
-returns c = HasLanes-zip2 plus c.args.a c.args.b c.fits-a.0 c.fits-b.0
+returns c = HoldsLanes-zip2 32 plus c.args.a c.args.b c.fits-a.0 c.fits-b.0
