@@ -4,7 +4,7 @@ use Rattle.std.specs.List.{range_with_len}
 use Rattle.std.proofs.lemmas.List.FromFn.{get_or-map-range_with_len}
 use Rattle.gf_field.specs.Field.{alpha, shift, shifted, partial_product, product, power}
 use Rattle.gf_field.specs.declared.powers.TheConstants.{POWERS as powers_of_alpha}
-use Rattle.gf_field.proofs.FieldLaws.{power-alpha-mod}
+use Rattle.gf_field.proofs.FieldLaws.{power-byte, power-alpha-mod}
 use Rattle.gf_field.proofs.Logarithms.{POWERS_at}
 use Rattle.rs_lanes.specs.declared.factors.TheConstants.{POWERS, PRODUCTS}
 use Rattle.rs_lanes.specs.Inner.Tables.{IsTable}
@@ -40,3 +40,10 @@ POWERS-power e k row lane =
     ∙ get_or-map-range_with_len (λ j. get_or powers_of_alpha (e * j % 255) 0) 0 16 k k 0 lane (omega arith)
     ∙ POWERS_at (e * k % 255) (omega arith)
     ∙ power-alpha-mod (e * k)
+
+-- so the table at a power of alpha is right for it
+pub POWERS-tables : (e k x : ℕ) → e < 255 → k < 16 → power alpha (e * k) ≡ x → IsTable x (get_or PRODUCTS (place POWERS e k) [])
+POWERS-tables e k x row lane is =
+    let entry : place POWERS e k ≡ power alpha (e * k) = POWERS-power e k row lane in
+    subst (λ factor. IsTable factor (get_or PRODUCTS (place POWERS e k) [])) (entry ∙ is)
+    (PRODUCTS-tables (place POWERS e k) (subst (λ b. b < 256) (sym entry) (power-byte alpha (e * k))))

@@ -1,13 +1,11 @@
 -- What the operations on vectors of bytes hold in each lane: HoldsLanes-zip2 of two vectors, HoldsLanes-splat of a vector and one
 -- byte, HoldsLanes-low_nibbles and high_nibble-small of the two nibbles, HoldsLanes-look_up of a table of sixteen at positions
--- below sixteen, whole_table of a table in one vector, and either-zero of one lane of a test.
+-- below sixteen, whole_table of a table in one vector, and either-zero of two lanes joined.
 use Rattle.std.proofs.Common.{◌≡◌, ◌↔◌, ℕ, ◌+◌, ◌*◌, ◌/◌, ◌%◌, ◌<◌, List, length, get_or, replicate, take, get_or-take, length-take-le, sym, ap, ◌∙◌, arith, w8, Fits, bit_and, bit_or}
 use Rattle.std.specs.Int.Bits.{or_zero_r}
 use Rattle.std.specs.Simd.Lanes.{Each1, zip2}
 use Rattle.std.proofs.lemmas.Nat.{and_mask, le_or_l, le_or_r}
 use Rattle.std.proofs.lemmas.Simd.{length-zip2, get_or-zip2, get_or-replicate, length-replicate, length-swz_l, get_or-swz_l_below, swz_l, SwzOk, SwzOk-from_below, Each1-from_get_or, Each1-get_or}
-use Rattle.gf_field.specs.Field.{plus}
-use Rattle.gf_field.proofs.FieldLaws.{plus-self, plus-zero_same}
 use Rattle.rs_lanes.specs.Inner.Lanes.{HoldsLanes}
 
 -- an operator on two vectors
@@ -67,9 +65,6 @@ whole_table table size = record {
   each = λ k below. get_or-take 16 table k 0 below ∙ ap (λ j. get_or table j 0) (omega arith);
 }
 
--- a lane that joins what differed so far with one more sum
-pub either-zero : (d a b : ℕ) → (bit_or d (plus a b) ≡ 0) ↔ ((d ≡ 0) × (a ≡ b))
-either-zero d a b = (
-  (λ zero_is. (omega (arith, le_or_l d (plus a b)), plus-zero_same a b (omega (arith, le_or_r d (plus a b))))),
-  (λ both. rw (both.0, both.1, plus-self) (or_zero_r 0)),
-)
+-- two lanes joined are zero where both are
+pub either-zero : (a b : ℕ) → (bit_or a b ≡ 0) ↔ ((a ≡ 0) × (b ≡ 0))
+either-zero a b = ((λ zero_is. (omega (arith, le_or_l a b), omega (arith, le_or_r a b))), (λ both. rw (both.0, both.1) (or_zero_r 0)))

@@ -5,4 +5,5 @@ pub mod LaneLemmas
 pub mod Nibbles
 pub mod RowLemmas
 pub mod TableLemmas
+pub mod ThirdLemmas
 pub mod Tiles

@@ -5,11 +5,13 @@ ghost use Rattle.rs_code.specs.Inner.Polynomials.{IsRemainder};
 ghost use Rattle.rs_lanes.specs.Rows.{line, place, column};
 ghost use Rattle.rs_lanes.specs.Inner.Lanes.{HasLanes};
 ghost use Rattle.rs_lanes.specs.Inner.Tables.{AreTables};
+ghost use Rattle.rs_lanes.specs.Inner.Thirds.{behind_zeros, third, IsThird};
 
 use crate::division::read_bytes;
-use crate::lanes::{also, load, store};
+use crate::lanes::{load, store};
 use crate::row::Row;
 use crate::tables::PO;
+use crate::thirds::{thirds_of, wrong_lanes};
 use std::simd::prelude::*;
 
 /// Sets sixteen rows to the outer parity of 192 rows: each column is then followed by its parity.
@@ -98,25 +100,42 @@ fn put_wrong<T: Row>(rows: &[T], at: usize, wrong: &mut [u8; 182])
     ensures below { (k : ℕ) → k < at → slice_index wrong.new k ≡ slice_index wrong.old k }
     ensures above { (k : ℕ) → at + 32 ≤ k → slice_index wrong.new k ≡ slice_index wrong.old k }
 {
-    let (message, parity) = rows.split_at(192);
-    let register = divide_columns(&PO, message, at);
-    put_lanes(unlike_rows(&register, parity, at), wrong, at);
+    put_lanes(wrong_lanes(&column_thirds(rows, at), 16), wrong, at);
 }
 
-// Zero in each lane where the register and the rows from place `at` on are equal.
+// The thirds of the 32 columns from `at` on. That the columns are bytes is told too.
 #[inline(always)]
-fn unlike_rows<T: Row>(register: &[u8x32; 16], rows: &[T], at: usize) -> u8x32
+fn column_thirds<T: Row>(rows: &[T], at: usize) -> [[u8x32; 3]; 85]
     requires at { at + 32 ≤ 182 }
-    requires rows { length rows.now ≡ 16 }
-    ensures size { length result ≡ 32 }
-    ensures zeros { (j : ℕ) → j < 32
-        → (slice_index result j ≡ 0) ↔ ((k : ℕ) → k < 16 → place register.now k j ≡ place (map T.word rows.now) k (at + j)) }
+    requires rows { length rows.now ≡ 208 }
+    ensures bytes { (j : ℕ) → j < 32 → All IsByte (column (map T.word rows.now) (at + j)) }
+    ensures thirds { (i j : ℕ) → i < 3 → j < 32 → IsThird i (column (map T.word rows.now) (at + j)) (third result i j) }
 {
-    let mut differs = u8x32::splat(0);
-    for k in 0..16 {
-        differs = also(differs, register[k], lanes_at(rows[k].row(), at));
+    let mut thirds = [[u8x32::splat(0); 3]; 85];
+    for place in 0..85 {
+        thirds[place] = thirds_of(
+            padded(rows, at, place),
+            padded(rows, at, 85 + place),
+            padded(rows, at, 170 + place),
+        );
     }
-    differs
+    thirds
+}
+
+// A place of the 32 columns from `at` on with 47 zeros put in front.
+#[inline(always)]
+fn padded<T: Row>(rows: &[T], at: usize, place: usize) -> u8x32
+    requires at { at + 32 ≤ 182 }
+    requires rows { length rows.now ≡ 208 }
+    requires place { place < 255 }
+    ensures { (j : ℕ) → j < 32
+        → slice_index result j ≡ slice_index (behind_zeros 47 (column (map T.word rows.now) (at + j))) place }
+{
+    if place < 47 {
+        u8x32::splat(0)
+    } else {
+        lanes_at(rows[place - 47].row(), at)
+    }
 }
 
 // The remainders of 32 columns from `at` on. That the columns are bytes is told too.

@@ -14,13 +14,13 @@ pub fn mixed(a: u8x32, b: u8x32) -> u8x32
     a ^ b
 }
 
-/// Lanes that are zero exactly where those of `differs` are and the other two are equal.
+/// Lanes that are zero exactly where those of both are.
 #[inline(always)]
-pub fn also(differs: u8x32, a: u8x32, b: u8x32) -> u8x32
+pub fn either(a: u8x32, b: u8x32) -> u8x32
     ensures size { length result ≡ 32 }
-    ensures zeros { (k : ℕ) → k < 32 → (slice_index result k ≡ 0) ↔ ((slice_index differs k ≡ 0) × (slice_index a k ≡ slice_index b k)) }
+    ensures zeros { (k : ℕ) → k < 32 → (slice_index result k ≡ 0) ↔ ((slice_index a k ≡ 0) × (slice_index b k ≡ 0)) }
 {
-    differs | (a ^ b)
+    a | b
 }
 
 /// The 32 bytes from place `at` on.

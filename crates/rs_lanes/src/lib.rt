@@ -8,6 +8,7 @@
 //! - `division`: the division by a generator, in each lane.
 //! - `lanes`: sums, products, loads and stores of vectors.
 //! - `tables`: the multiples of the coefficients of both generators.
+//! - `thirds`: the values of words, in each lane.
 //! - `factors`: the products of each byte with each nibble, and the powers of each power of alpha.
 #![tactic(auto)]
 
@@ -21,6 +22,7 @@ pub mod rows;
 mod tables;
 #[cfg(test)]
 mod tests;
+mod thirds;
 pub mod turning;
 
 pub use columns::{outer_parity, wrong_columns};

@@ -4,10 +4,11 @@ ghost use Rattle.gf_field.specs.Words.{IsByte, IsCodeword, IsEncoded};
 ghost use Rattle.rs_code.specs.Inner.Polynomials.{IsRemainder};
 ghost use Rattle.rs_lanes.specs.Rows.{line, place, column};
 ghost use Rattle.rs_lanes.specs.Inner.Tables.{AreTables};
+ghost use Rattle.rs_lanes.specs.Inner.Thirds.{behind_zeros, third, IsThird};
 
 use crate::division::read_bytes;
-use crate::lanes::also;
 use crate::tables::PI;
+use crate::thirds::{thirds_of, wrong_lanes};
 use crate::turning::turn;
 use std::simd::prelude::*;
 
@@ -35,7 +36,7 @@ pub fn wrong_rows(rows: &[[u8; 182]], top: usize) -> u8x32
 {
     let mut turned = [u8x32::splat(0); 182];
     turn(rows, top, &mut turned);
-    unlike_ends(&divide_rows(&PI, &turned), &turned)
+    wrong_lanes(&row_thirds(&turned), 10)
 }
 
 // Sets the last ten bytes of a row to lane `n` of these vectors.
@@ -50,18 +51,34 @@ fn put_end(parity: &[u8x32; 10], n: usize, row: &mut [u8; 182])
     }
 }
 
-// Zero in each lane where the register and the last ten vectors are equal.
+// The thirds of words of 182 bytes. That these are bytes is told too.
 #[inline(always)]
-fn unlike_ends(register: &[u8x32; 10], turned: &[u8x32; 182]) -> u8x32
-    ensures size { length result ≡ 32 }
-    ensures zeros { (n : ℕ) → n < 32
-        → (slice_index result n ≡ 0) ↔ ((k : ℕ) → k < 10 → place register.now k n ≡ place turned.now (172 + k) n) }
+fn row_thirds(turned: &[u8x32; 182]) -> [[u8x32; 3]; 85]
+    ensures bytes { (n : ℕ) → n < 32 → All IsByte (column turned.now n) }
+    ensures thirds { (i n : ℕ) → i < 3 → n < 32 → IsThird i (column turned.now n) (third result i n) }
 {
-    let mut differs = u8x32::splat(0);
-    for k in 0..10 {
-        differs = also(differs, register[k], turned[172 + k]);
+    let mut thirds = [[u8x32::splat(0); 3]; 85];
+    for place in 0..85 {
+        thirds[place] = thirds_of(
+            padded(turned, place),
+            padded(turned, 85 + place),
+            padded(turned, 170 + place),
+        );
     }
-    differs
+    thirds
+}
+
+// A place of words of 182 bytes with 73 zeros put in front.
+#[inline(always)]
+fn padded(turned: &[u8x32; 182], at: usize) -> u8x32
+    requires { at < 255 }
+    ensures { (n : ℕ) → n < 32 → slice_index result n ≡ slice_index (behind_zeros 73 (column turned.now n)) at }
+{
+    if at < 73 {
+        u8x32::splat(0)
+    } else {
+        turned[at - 73]
+    }
 }
 
 // The remainders of the first 172 places in each lane. That all places are bytes is told too.

@@ -184,3 +184,23 @@ fn lanes_are_powers(rt: HostRuntime) -> Result<(), Fail> {
     );
     Ok(())
 }
+
+#[test]
+fn a_byte_at_any_place_is_told(rt: HostRuntime) -> Result<(), Fail> {
+    let mut rows = empty_rows(rt.alloc(), 208)?;
+    for place in 0..208 {
+        let j = place % 182;
+        rows[place][j] = 0x80;
+        let top = place.min(176);
+        let wrong = wrong_rows(&rows, top);
+        let columns = wrong_columns(&rows);
+        for n in 0..32 {
+            assert!(rt; (wrong[n] != 0) == (top + n == place));
+        }
+        for (i, byte) in columns.iter().enumerate() {
+            assert!(rt; (*byte != 0) == (i == j));
+        }
+        rows[place][j] = 0;
+    }
+    Ok(())
+}

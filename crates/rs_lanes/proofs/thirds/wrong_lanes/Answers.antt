@@ -1,9 +1,9 @@
 use Rattle.std.proofs.Common.{refl, arith}
 use Rattle.std.proofs.lemmas.Simd.{get_or-replicate}
-use Rattle.rs_lanes.proofs.columns.unlike_rows.Goals as goal
+use Rattle.rs_lanes.proofs.thirds.wrong_lanes.Goals as goal
 
 pub loop-k-init : goal.loop-k-init
-loop-k-init g c = record {
+loop-k-init c = record {
   size = refl;
   zeros = λ j below. ((λ _ k under. absurd (omega arith)), (λ _. get_or-replicate 32 j 0 0 below));
 }

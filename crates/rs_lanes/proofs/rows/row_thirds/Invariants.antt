@@ -1,0 +1,7 @@
+use Rattle.rs_lanes.specs.Rows.{column}
+use Rattle.rs_lanes.proofs.ThirdLemmas.{HasThirds}
+use Rattle.rs_lanes.proofs.rows.row_thirds.Given as goal
+
+-- the places before this one are added up
+abbrev pub invariant-loop-place : goal.invariant-loop-place
+invariant-loop-place l = HasThirds 73 (λ n. column l.turned n) l.place l.thirds

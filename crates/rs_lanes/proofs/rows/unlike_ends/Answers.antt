@@ -1,9 +1,0 @@
-use Rattle.std.proofs.Common.{refl, arith}
-use Rattle.std.proofs.lemmas.Simd.{get_or-replicate}
-use Rattle.rs_lanes.proofs.rows.unlike_ends.Goals as goal
-
-pub loop-k-init : goal.loop-k-init
-loop-k-init c = record {
-  size = refl;
-  zeros = λ j below. ((λ _ k under. absurd (omega arith)), (λ _. get_or-replicate 32 j 0 0 below));
-}

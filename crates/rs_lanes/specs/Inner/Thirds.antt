@@ -1,0 +1,29 @@
+-- Ours: the values of a word by its thirds. A word of at most 255 bytes is, zeros put in front, three pieces of 85 bytes. Since
+-- alpha^255 is 1, the power of alpha^k by 85 goes by k mod 3 alone: so for each of these three the pieces can be added up to one.
+use Rattle.std.specs.Prelude.{◌≡◌, ℕ, zero, suc, ◌*◌, ◌%◌, List, ◌++◌, map, length, take, drop, replicate}
+use Rattle.gf_field.specs.Field.{alpha, plus, product, power}
+use Rattle.gf_field.specs.Words.{value}
+use Rattle.rs_code.specs.Inner.Polynomials.{sum_of, scaled}
+use Rattle.rs_lanes.specs.Rows.{place}
+
+-- a word with this many zeros put in front
+unfoldable pub behind_zeros : ℕ → List ℕ → List ℕ
+behind_zeros count word = replicate count 0 ++ word
+
+-- the pieces 0 to i of a word, each of this size, added up to one by Horner's rule in the factor
+unfoldable pub folded : ℕ → ℕ → List ℕ → ℕ → List ℕ
+folded size factor word zero = take size word
+folded size factor word (suc i) = sum_of (scaled factor (folded size factor word i)) (take size (drop (size * suc i) word))
+
+-- a byte of the third with number i, by the three pieces' bytes: Horner's rule in alpha^(85 i)
+abbrev pub third_byte : ℕ → ℕ → ℕ → ℕ → ℕ
+third_byte i a b c = plus (product (power alpha (85 * i)) (plus (product (power alpha (85 * i)) a) b)) c
+
+-- the third with number i in lane j
+abbrev pub third : List (List (List ℕ)) → ℕ → ℕ → List ℕ
+third thirds i j = map (λ vectors. place vectors i j) thirds
+
+-- the third with number i has the word's values at the powers of alpha whose exponents are i mod 3
+pub record IsThird (i : ℕ) (word third : List ℕ) : Type 0 where
+  pub size : length third ≡ 85
+  pub values : (k : ℕ) → k % 3 ≡ i → value third (power alpha k) ≡ value word (power alpha k)
