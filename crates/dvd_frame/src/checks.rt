@@ -53,8 +53,8 @@ fn divide_parts(front: &[u8], back: &[u8]) -> u32
     with_bytes(with_bytes(0, front), back)
 }
 
-// The remainder of at most 2,080 bytes, as many as 65 chunks of 32: zeros in front of them change nothing. Three folds by
-// vectors leave the last 256 bytes to divide.
+// The remainder of at most 2,080 bytes, as many as 65 chunks of 32: zeros in front of them change nothing. Four folds by
+// vectors leave the last 128 bytes to divide.
 fn folded(front: &[u8], back: &[u8]) -> u32
     requires { length front.now + length back.now ≤ 2080 }
     ensures { divided_from result [] ≡ divided_from 0 (front.now ++ back.now) }
@@ -66,7 +66,8 @@ fn folded(front: &[u8], back: &[u8]) -> u32
     fold::<32>(&mut bytes, 0, 33);
     fold::<16>(&mut bytes, 1056, 32);
     fold::<8>(&mut bytes, 1568, 32);
-    with_bytes(0, &bytes[1824..])
+    fold::<4>(&mut bytes, 1824, 32);
+    with_bytes(0, &bytes[1952..])
 }
 
 // The remainder of what was read so far, with these bytes more.

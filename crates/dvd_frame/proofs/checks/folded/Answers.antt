@@ -22,8 +22,8 @@ returns c =
     ∙ ap (λ (n : ℕ). take n first ++ back) (sym joint)
     ∙ ap (λ (l : List ℕ). l ++ back) (c.put.ensures ∙ ap (λ (l : List ℕ). l ++ front) (take-replicate start 2080 0 (omega arith)))
     ∙ append_assoc (replicate start 0) front back in
-    let last : List ℕ = drop 1824 c.fold-3.new.bytes in
+    let last : List ℕ = drop 1952 c.fold-4.new.bytes in
     c.with_bytes.ensures []
-    ∙ ap (divided_from 0) (append-nil (take 256 last) ∙ take_all 256 last (omega (arith, length-drop 1824 c.fold-3.new.bytes)))
-    ∙ c.fold-3.ensures.same 3 refl ∙ c.fold-2.ensures.same 4 refl ∙ c.fold.ensures.same 5 refl
+    ∙ ap (divided_from 0) (append-nil (take 128 last) ∙ take_all 128 last (omega (arith, length-drop 1952 c.fold-4.new.bytes)))
+    ∙ c.fold-4.ensures.same 2 refl ∙ c.fold-3.ensures.same 3 refl ∙ c.fold-2.ensures.same 4 refl ∙ c.fold.ensures.same 5 refl
     ∙ ap (divided_from 0) whole ∙ zeros_divided start (front ++ back)
