@@ -1,29 +1,25 @@
--- Words of eight scrambling bytes.
-use Rattle.std.proofs.Common.{◌≡◌, ℕ, zero, suc, ◌+◌, ◌*◌, ◌/◌, ◌%◌, ◌^◌, ◌<◌, ◌≤◌, List, [], ◌∷◌, ◌++◌, length, get_or, take, drop, sym, ◌∙◌, ap, ap₂, zero-add, arith}
+-- Words of eight scrambling bytes, and vectors of 32.
+use Rattle.std.proofs.Common.{◌≡◌, ℕ, zero, suc, ◌+◌, ◌-◌, ◌*◌, ◌/◌, ◌%◌, ◌^◌, ◌<◌, ◌≤◌, List, [], ◌∷◌, ◌++◌, length, get_or, take, drop, sym, ◌∙◌, ap, ap₂, zero-add, arith}
 use Rattle.std.specs.Prelude.{bit_xor}
 use Rattle.std.specs.Int.{from_be_bytes, to_be_bytes, w64}
 use Rattle.std.specs.Int.Bits.{xor_shr, xor_mod}
 use Rattle.std.proofs.lemmas.Nat.{be_bytes_8}
-use Rattle.std.proofs.lemmas.List.{get_or-drop, get_or-take, length-drop, length-take-le}
+use Rattle.std.proofs.lemmas.List.{get_or-drop, get_or-take, length-drop, length-take-le, take_all, take-take, drop-take}
 use Rattle.std.proofs.lemmas.Grind.{same_number_lists}
 use Rattle.dvd_frame.specs.Edc.{plus_front}
 use Rattle.dvd_frame.specs.Inner.Registers.{keys_from}
 use Rattle.dvd_frame.specs.Scrambling.{scrambling_byte}
-use Rattle.dvd_frame.proofs.Recurrence.{terms, length-terms, get_or-terms, terms_sum, byte_fits, bytes_recur}
+use Rattle.dvd_frame.proofs.Recurrence.{Recurs, terms, length-terms, get_or-terms, terms_sum, byte_fits, bytes_recur, bytes_recur_by_vectors}
 
 -- n keys are n bytes
 length-keys : (preset k n : ℕ) → length (keys_from preset k n) ≡ n
 unfolding keys_from terms
 length-keys preset k n = length-terms (scrambling_byte preset) k n
 
--- each key is the sum of those fifteen and eleven places before it
-keys_sum : (preset k n : ℕ) → keys_from preset (k + 16) n ≡ plus_front (keys_from preset (k + 1) n) (keys_from preset (k + 5) n)
+-- keys are sums of others, at the distances of any rule that scrambling bytes follow
+keys_sum : (preset a b k n : ℕ) → Recurs (scrambling_byte preset) a b → keys_from preset (k + a) n ≡ plus_front (keys_from preset k n) (keys_from preset (k + b) n)
 unfolding keys_from terms
-keys_sum preset k n =
-    let far : k + 16 ≡ k + 1 + 15 = omega arith in
-    let near : k + 1 + 4 ≡ k + 5 = omega arith in
-    ap (λ (j : ℕ). keys_from preset j n) far ∙ terms_sum (scrambling_byte preset) 15 4 (k + 1) n (bytes_recur preset)
-    ∙ ap (λ (j : ℕ). plus_front (keys_from preset (k + 1) n) (keys_from preset j n)) near
+keys_sum preset a b k n recurs = terms_sum (scrambling_byte preset) a b k n recurs
 
 -- keys that go on where others end
 keys_append : (preset k m n : ℕ) → keys_from preset k m ++ keys_from preset (k + m) n ≡ keys_from preset k (m + n)
@@ -38,19 +34,19 @@ keys_append preset k (suc m) n =
     ap (λ (l : List ℕ). scrambling_byte preset k ∷ l) (ap (λ (j : ℕ). keys_from preset (k + 1) m ++ keys_from preset j n) place ∙ keys_append preset (k + 1) m n)
     ∙ ap (keys_from preset k) (sym more)
 
--- of sixteen keys eight, from any on
-keys_part : (preset k a : ℕ) → a ≤ 8 → take 8 (drop a (keys_from preset k 16)) ≡ keys_from preset (k + a) 8
+-- of m keys n, from any on
+keys_part : (preset k m a n : ℕ) → a + n ≤ m → take n (drop a (keys_from preset k m)) ≡ keys_from preset (k + a) n
 unfolding keys_from terms
-keys_part preset k a within =
+keys_part preset k m a n within =
     let f : ℕ → ℕ = scrambling_byte preset in
-    let all : List ℕ = terms f k 16 in
-    let size : length (drop a all) + a ≡ 16 = omega (arith, length-drop a all, length-terms f k 16) in
-    let eight : length (take 8 (drop a all)) ≡ 8 = length-take-le 8 (drop a all) (omega arith) in
-    same_number_lists (take 8 (drop a all)) (terms f (k + a) 8) (eight ∙ sym (length-terms f (k + a) 8))
+    let all : List ℕ = terms f k m in
+    let size : length (drop a all) + a ≡ m = omega (arith, length-drop a all, length-terms f k m) in
+    let part : length (take n (drop a all)) ≡ n = length-take-le n (drop a all) (omega arith) in
+    same_number_lists (take n (drop a all)) (terms f (k + a) n) (part ∙ sym (length-terms f (k + a) n))
     (λ i below.
     let place : k + (a + i) ≡ k + a + i = omega arith in
-    get_or-take 8 (drop a all) i 0 (omega arith) ∙ get_or-drop a all i 0 ∙ get_or-terms f k 16 (a + i) (omega arith)
-    ∙ ap f place ∙ sym (get_or-terms f (k + a) 8 i (omega arith)))
+    get_or-take n (drop a all) i 0 (omega arith) ∙ get_or-drop a all i 0 ∙ get_or-terms f k m (a + i) (omega arith)
+    ∙ ap f place ∙ sym (get_or-terms f (k + a) n i (omega arith)))
 
 -- a byte inside a sum of words is the sum of their bytes there
 byte_sum : (j a b p q : ℕ) → a / 2 ^ j % 2 ^ 8 ≡ p → b / 2 ^ j % 2 ^ 8 ≡ q → bit_xor a b / 2 ^ j % 2 ^ 8 ≡ bit_xor p q
@@ -85,11 +81,14 @@ pub word_follows : (preset k word next near far : ℕ) → word < 2 ^ 64 → nex
     → to_be_bytes w64 word ≡ keys_from preset k 8 → to_be_bytes w64 next ≡ keys_from preset (k + 8) 8
     → to_be_bytes w64 (bit_xor near far) ≡ keys_from preset (k + 16) 8
 word_follows preset k word next near far fits_word fits_next is_near is_far is_word is_next =
+    let far_on : k + 16 ≡ k + 1 + 15 = omega arith in
+    let near_on : k + 1 + 4 ≡ k + 5 = omega arith in
     bytes_summed word next near far fits_word fits_next is_near is_far
     ∙ ap₂ (λ (a b : List ℕ). plus_front (take 8 (drop 1 (a ++ b))) (take 8 (drop 5 (a ++ b)))) is_word is_next
     ∙ ap (λ (l : List ℕ). plus_front (take 8 (drop 1 l)) (take 8 (drop 5 l))) (keys_append preset k 8 8)
-    ∙ ap₂ plus_front (keys_part preset k 1 (omega arith)) (keys_part preset k 5 (omega arith))
-    ∙ sym (keys_sum preset k 8)
+    ∙ ap₂ plus_front (keys_part preset k 16 1 8 (omega arith)) (keys_part preset k 16 5 8 (omega arith))
+    ∙ ap (λ (j : ℕ). plus_front (keys_from preset (k + 1) 8) (keys_from preset j 8)) (sym near_on)
+    ∙ sym (keys_sum preset 15 4 (k + 1) 8 (bytes_recur preset)) ∙ ap (λ (j : ℕ). keys_from preset j 8) (sym far_on)
 
 -- a list of eight that has the keys
 keys_read : (preset k : ℕ) (bytes : List ℕ) → length bytes ≡ 8
@@ -113,18 +112,40 @@ keys_joined preset k word bytes size each is =
     let same : bytes ≡ keys_from preset k 8 = keys_read preset k bytes size each in
     be_bytes_8 (keys_from preset k 8) word (sym (ap length same) ∙ size) (key_fits preset k 8) (is ∙ ap (from_be_bytes w64) same)
 
--- eight keys written behind those that stand there
-pub keys_written : (preset place after : ℕ) (old new part : List ℕ) → place + length part ≡ after → take (place + length part) new ≡ take place old ++ part
-    → take place old ≡ keys_from preset 0 place → part ≡ keys_from preset place 8 → take after new ≡ keys_from preset 0 after
-keys_written preset place after old new part is put was more =
-    let size : place + 8 ≡ after = ap (λ (n : ℕ). place + n) (sym (ap length more ∙ length-keys preset place 8)) ∙ is in
-    ap (λ (n : ℕ). take n new) (sym is) ∙ put ∙ ap₂ ◌++◌ was more
-    ∙ ap (λ (k : ℕ). keys_from preset 0 place ++ keys_from preset k 8) (sym (zero-add place))
-    ∙ keys_append preset 0 place 8 ∙ ap (keys_from preset 0) size
+-- n keys written behind those that stand there
+pub keys_written : (preset place n : ℕ) (old new part : List ℕ) → take (place + length part) new ≡ take place old ++ part
+    → take place old ≡ keys_from preset 0 place → part ≡ keys_from preset place n → take (place + n) new ≡ keys_from preset 0 (place + n)
+keys_written preset place n old new part put was more =
+    let size : length part ≡ n = ap length more ∙ length-keys preset place n in
+    ap (λ (m : ℕ). take (place + m) new) (sym size) ∙ put ∙ ap₂ ◌++◌ was more
+    ∙ ap (λ (k : ℕ). keys_from preset 0 place ++ keys_from preset k n) (sym (zero-add place))
+    ∙ keys_append preset 0 place n
 
--- a key of those that were made
-pub key_made : (preset count i : ℕ) (keys : List ℕ) → take count keys ≡ keys_from preset 0 count → i < count → get_or keys i 0 ≡ scrambling_byte preset i
+-- all the keys, once as many as the list has are made
+pub keys_whole : (preset place count : ℕ) (keys : List ℕ) → length keys ≡ count → place ≡ count → take place keys ≡ keys_from preset 0 place → keys ≡ keys_from preset 0 count
+keys_whole preset place count keys size all made =
+    sym (take_all count keys (omega (arith, size))) ∙ ap (λ (n : ℕ). take n keys) (sym all) ∙ made ∙ ap (keys_from preset 0) all
+
+-- one key of the list
+pub key_made : (preset count i : ℕ) (keys : List ℕ) → keys ≡ keys_from preset 0 count → i < count → get_or keys i 0 ≡ scrambling_byte preset i
 unfolding keys_from terms
 key_made preset count i keys made below =
-    sym (get_or-take count keys i 0 below) ∙ ap (λ (l : List ℕ). get_or l i 0) made
-    ∙ get_or-terms (scrambling_byte preset) 0 count i below ∙ ap (scrambling_byte preset) (zero-add i)
+    ap (λ (l : List ℕ). get_or l i 0) made ∙ get_or-terms (scrambling_byte preset) 0 count i below ∙ ap (scrambling_byte preset) (zero-add i)
+
+-- n of the keys that were made, from any on
+keys_within : (preset at a n : ℕ) (keys : List ℕ) → take at keys ≡ keys_from preset 0 at → a + n ≤ at → take n (drop a keys) ≡ keys_from preset a n
+keys_within preset at a n keys made within =
+    let rest : ℕ = at - a in
+    let whole : a + rest ≡ at = omega arith in
+    sym (take-take n rest (drop a keys) (omega arith)) ∙ ap (take n) (sym (drop-take a rest keys))
+    ∙ ap (λ (m : ℕ). take n (drop a (take m keys))) whole ∙ ap (λ (l : List ℕ). take n (drop a l)) made
+    ∙ keys_part preset 0 at a n within ∙ ap (λ (k : ℕ). keys_from preset k n) (zero-add a)
+
+-- the vector behind the keys that were made, of two that stand among them
+pub vector_follows : (preset at far near : ℕ) (keys : List ℕ) → far + 120 ≡ at → near + 88 ≡ at → take at keys ≡ keys_from preset 0 at
+    → plus_front (take 32 (drop far keys)) (take 32 (drop near keys)) ≡ keys_from preset at 32
+vector_follows preset at far near keys is_far is_near made =
+    let between : near ≡ far + 32 = omega arith in
+    ap₂ plus_front (keys_within preset at far 32 keys made (omega arith)) (keys_within preset at near 32 keys made (omega arith))
+    ∙ ap (λ (j : ℕ). plus_front (keys_from preset far 32) (keys_from preset j 32)) between
+    ∙ sym (keys_sum preset 120 32 far 32 (bytes_recur_by_vectors preset)) ∙ ap (λ (j : ℕ). keys_from preset j 32) is_far

@@ -39,7 +39,7 @@ bit_anywhere preset n i within =
     sym (bit_stays preset n i i within) ∙ ap (λ (k : ℕ). get_or (sequence preset k) i 0) order ∙ bit_stays preset i n i (omega arith)
 
 -- each term is the sum of the one a places and the one a - b places before it
-abbrev Recurs : (ℕ → ℕ) → ℕ → ℕ → Type 0
+abbrev pub Recurs : (ℕ → ℕ) → ℕ → ℕ → Type 0
 Recurs f a b = (i : ℕ) → f (i + a) ≡ bit_xor (f i) (f (i + b))
 
 -- the standard's rule
@@ -70,10 +70,13 @@ recurs_doubled f a b recurs i =
     ∙ ap (bit_xor (bit_xor (f i) (f (i + b)))) (ap f between ∙ recurs (i + b))
     ∙ xor_middle (f i) (f (i + b)) (f (i + b + b)) ∙ ap (λ (k : ℕ). bit_xor (f i) (f k)) near
 
--- so the standard's rule, doubled three times, holds of bits 120 and 32 places apart
+-- and of distances eight times as long
+recurs_eightfold : (f : ℕ → ℕ) (a b : ℕ) → Recurs f a b → Recurs f (2 * (2 * (2 * a))) (2 * (2 * (2 * b)))
+recurs_eightfold f a b recurs = recurs_doubled f (2 * (2 * a)) (2 * (2 * b)) (recurs_doubled f (2 * a) (2 * b) (recurs_doubled f a b recurs))
+
+-- so the standard's rule holds of bits 120 and 32 places apart
 bits_recur_by_bytes : (preset : ℕ) → Recurs (bit_of preset) 120 32
-bits_recur_by_bytes preset =
-    recurs_doubled (bit_of preset) 60 16 (recurs_doubled (bit_of preset) 30 8 (recurs_doubled (bit_of preset) 15 4 (bits_recur preset)))
+bits_recur_by_bytes preset = recurs_eightfold (bit_of preset) 15 4 (bits_recur preset)
 
 -- n terms from place j on
 unfoldable pub terms : (ℕ → ℕ) → ℕ → ℕ → List ℕ
@@ -155,3 +158,7 @@ bytes_recur preset k =
     ∙ ap (plus_front (bits 8 a)) (sym (byte_bits preset (k + 4)))
     ∙ plus_front-bits 8 a b)
     ∙ number_of-bits 8 (bit_xor a b) ∙ mod-eq_of_lt fits
+
+-- and bytes, like bits, at distances eight times as long
+pub bytes_recur_by_vectors : (preset : ℕ) → Recurs (scrambling_byte preset) 120 32
+bytes_recur_by_vectors preset = recurs_eightfold (scrambling_byte preset) 15 4 (bytes_recur preset)

@@ -3,10 +3,11 @@
 //! The square of a sum of polynomials over the two bits is the sum of their squares. So with x^32 + x^31 + x^4 + 1,
 //! x^(32 n) + x^(31 n) + x^(4 n) + 1 is a multiple of the divisor for each power of two n, and a chunk of n bits may be added
 //! to those that stand 1, 28 and 32 chunks behind it and then left out.
-ghost use Rattle.std.specs.Prelude.{◌≡◌, ℕ, ◌+◌, ◌*◌, ◌^◌, ◌≤◌, ◌++◌, length, drop, take, replicate};
+ghost use Rattle.std.specs.Prelude.{◌≡◌, ℕ, ◌+◌, ◌*◌, ◌^◌, ◌≤◌, ◌++◌, length, drop, replicate};
 ghost use Rattle.dvd_frame.specs.Edc.{plus_front};
 ghost use Rattle.dvd_frame.specs.Inner.Registers.{divided_from};
 
+use crate::parts::load;
 use std::simd::prelude::*;
 
 /// Folds away as many chunks of W bytes, from a place on: what division leaves of the bytes behind them is then what it left of
@@ -38,15 +39,6 @@ fn push<const W: usize>(bytes: &mut [u8], at: usize, carried: Simd<u8, W>) -> Si
     add(bytes, at + 28 * W, taken);
     add(bytes, at + 32 * W, taken);
     taken
-}
-
-// The W bytes from a place on.
-#[inline(always)]
-fn load<const W: usize>(bytes: &[u8], at: usize) -> Simd<u8, W>
-    requires { at + W ≤ length bytes.now }
-    ensures { result ≡ take W (drop at bytes.now) }
-{
-    Simd::from_slice(&bytes[at..])
 }
 
 // Adds W bytes to those from a place on.

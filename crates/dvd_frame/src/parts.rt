@@ -1,5 +1,7 @@
-//! Lists of bytes whose parts are written one behind the other.
-ghost use Rattle.std.specs.Prelude.{◌≡◌, ◌+◌, ◌≤◌, ◌++◌, length, take};
+//! Parts of lists of bytes: written one behind the other, and read as vectors.
+ghost use Rattle.std.specs.Prelude.{◌≡◌, ◌+◌, ◌≤◌, ◌++◌, length, drop, take};
+
+use std::simd::prelude::*;
 
 // Writes a part behind what stands before it.
 pub(crate) fn put(out: &mut [u8], at: usize, part: &[u8])
@@ -7,4 +9,13 @@ pub(crate) fn put(out: &mut [u8], at: usize, part: &[u8])
     ensures { take (at + length part.now) out.new ≡ take at out.old ++ part.now }
 {
     out[at..at + part.len()].copy_from_slice(part);
+}
+
+// The W bytes from a place on.
+#[inline(always)]
+pub(crate) fn load<const W: usize>(bytes: &[u8], at: usize) -> Simd<u8, W>
+    requires { at + W ≤ length bytes.now }
+    ensures { result ≡ take W (drop at bytes.now) }
+{
+    Simd::from_slice(&bytes[at..])
 }

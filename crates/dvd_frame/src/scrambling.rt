@@ -1,5 +1,5 @@
 //! Scrambling of Main Data (ECMA-267, 17): each byte is combined with a byte of a sequence that the ID selects.
-ghost use Rattle.std.specs.Prelude.{◌≡◌, ℕ, ◌+◌, ◌%◌, ◌^◌, ◌<◌, ◌≤◌, List, bit_xor, slice_index, length, take};
+ghost use Rattle.std.specs.Prelude.{◌≡◌, ℕ, ◌+◌, ◌^◌, ◌<◌, ◌≤◌, List, bit_xor, slice_index, length, take};
 ghost use Rattle.std.specs.Int.{to_be_bytes, w64};
 ghost use Rattle.dvd_frame.specs.Bits.{bits};
 ghost use Rattle.dvd_frame.specs.Inner.Registers.{keys_from};
@@ -7,8 +7,9 @@ ghost use Rattle.dvd_frame.specs.Scrambling.{window};
 ghost use Rattle.dvd_frame.specs.Scrambling.{presets, scrambled_count, scrambling_byte, masked};
 
 use crate::id::Id;
-use crate::parts::put;
+use crate::parts::{load, put};
 use std::marker::Model;
+use std::simd::prelude::*;
 
 /// The initial values of the register by bits b7 to b4 of the ID.
 static PRESETS: [u16; 16] = [
@@ -32,7 +33,6 @@ impl Rule {
     fn count(self) -> usize
         ensures value { result ≡ scrambled_count self }
         ensures within { result ≤ 2048 }
-        ensures words { result % 8 ≡ 0 }
     {
         match self {
             Rule::Whole => 2048,
@@ -111,7 +111,7 @@ pub(crate) fn scramble_slice(rule: Rule, id: Id, main: &mut [u8])
 {
     let index = (id.word() >> 4 & 15) as u8;
     let count = rule.count();
-    combine(&mut main[..count], &keys(preset(index), count));
+    combine(&mut main[..count], &keys(preset(index)));
 }
 
 // Combines each byte with the key at its place.
@@ -124,18 +124,30 @@ fn combine(bytes: &mut [u8], keys: &[u8])
     }
 }
 
-// The first scrambling bytes of a preset, so many of them, made eight at a time.
-fn keys(preset: u16, count: usize) -> [u8; 2048]
-    requires preset { preset < 2 ^ 15 }
-    requires within { count ≤ 2048 }
-    requires words { count % 8 ≡ 0 }
-    ensures { take count result ≡ keys_from preset 0 count }
+// The scrambling bytes of a preset, as many as a frame has Main Data bytes. Behind the first 128 they are made 32 at a time.
+fn keys(preset: u16) -> [u8; 2048]
+    requires { preset < 2 ^ 15 }
+    ensures { result ≡ keys_from preset 0 2048 }
+{
+    let mut keys = [0; 2048];
+    put(&mut keys, 0, &first_keys(preset));
+    for step in 4..64 {
+        let vector = vector_behind(&keys, 32 * step);
+        put(&mut keys, 32 * step, &vector.to_array());
+    }
+    keys
+}
+
+// The first 128 scrambling bytes of a preset, made eight at a time.
+fn first_keys(preset: u16) -> [u8; 128]
+    requires { preset < 2 ^ 15 }
+    ensures { result ≡ keys_from preset 0 128 }
 {
     let mut stream = Keystream::new(preset);
     let mut word = next_word(&mut stream);
     let mut next = next_word(&mut stream);
-    let mut keys = [0; 2048];
-    for place in 0..count / 8 {
+    let mut keys = [0; 128];
+    for place in 0..16 {
         put(&mut keys, 8 * place, &word.to_be_bytes());
         (word, next) = (next, word_behind(word, next));
     }
@@ -161,4 +173,14 @@ fn word_behind(word: u64, next: u64) -> u64
 {
     let both = (u128::from(word) << 64) + u128::from(next);
     (both << 8 >> 64) as u64 ^ (both << 40 >> 64) as u64
+}
+
+// The 32 bytes behind the scrambling bytes up to a place: each is the sum of those 120 and 88 places before it.
+#[inline(always)]
+fn vector_behind(keys: &[u8], at: usize) -> u8x32
+    requires distance { 120 ≤ at }
+    requires within { at ≤ length keys.now }
+    ensures { (preset : ℕ) → take at keys.now ≡ keys_from preset 0 at → result ≡ keys_from preset at 32 }
+{
+    load(keys, at - 120) ^ load(keys, at - 88)
 }

@@ -1,27 +1,29 @@
-use Rattle.std.proofs.Common.{◌≡◌, ℕ, ◌+◌, ◌*◌, refl, ◌∙◌, ap, arith}
+use Rattle.std.proofs.Common.{◌≡◌, ℕ, ◌+◌, ◌*◌, take, refl, sym, ◌∙◌, ap, arith}
+use Rattle.std.specs.Prelude.{replicate}
 use Rattle.dvd_frame.specs.Inner.Registers.{keys_from}
-use Rattle.dvd_frame.proofs.KeyWords.{keys_written}
+use Rattle.dvd_frame.proofs.KeyWords.{keys_written, keys_whole}
 use Rattle.dvd_frame.proofs.scrambling.keys.Goals as goal
 
-pub loop-place-init : goal.loop-place-init
+pub loop-step-init : goal.loop-step-init
 unfolding keys_from
-loop-place-init c =
+loop-step-init c = record {
+  size = omega arith;
+  written = keys_written c.args.preset 0 128 (replicate 2048 0) c.put.new.out c.first_keys.result c.put.ensures refl c.first_keys.ensures;
+}
+
+pub loop-step-preserved : goal.loop-step-preserved
+loop-step-preserved c =
     let preset : ℕ = c.args.preset in
+    let place : ℕ = 32 * c.loop-step.step in
+    let behind : place + 32 ≡ 32 * (c.loop-step.step + 1) = omega arith in
+    let keys : _ = c.put-in-loop-step.new.out in
     record {
-      written = refl;
-      word = c.next_word-word.ensures.word preset 0 c.new-stream.ensures;
-      next = c.next_word-next.ensures.word preset 8 (c.next_word-word.ensures.after preset 0 c.new-stream.ensures);
+      size = omega arith;
+      written = ap (λ (m : ℕ). take m keys) (sym behind)
+          ∙ keys_written preset place 32 c.loop-step.keys keys c.vector_behind-vector.result c.put-in-loop-step.ensures c.loop-step.invariant.written
+          (c.vector_behind-vector.ensures preset c.loop-step.invariant.written)
+          ∙ ap (keys_from preset 0) behind;
     }
 
-pub loop-place-preserved : goal.loop-place-preserved
-loop-place-preserved c =
-    let preset : ℕ = c.args.preset in
-    let place : ℕ = 8 * c.loop-place.place in
-    let behind : place + 8 ≡ 8 * (c.loop-place.place + 1) = omega arith in
-    let further : place + 16 ≡ 8 * (c.loop-place.place + 1) + 8 = omega arith in
-    record {
-      written = keys_written preset place (8 * (c.loop-place.place + 1)) c.loop-place.keys c.put.new.out c.to_be_bytes.result (omega arith)
-          c.put.ensures c.loop-place.invariant.written (c.to_be_bytes.ensures ∙ c.loop-place.invariant.word);
-      word = c.loop-place.invariant.next ∙ ap (λ (k : ℕ). keys_from preset k 8) behind;
-      next = c.word_behind.ensures preset place c.loop-place.invariant.word c.loop-place.invariant.next ∙ ap (λ (k : ℕ). keys_from preset k 8) further;
-    }
+pub returns : goal.returns
+returns c = keys_whole c.args.preset (32 * c.loop-step.step) 2048 c.loop-step.keys c.loop-step.invariant.size (omega arith) c.loop-step.invariant.written
