@@ -142,10 +142,10 @@ keys_within preset at a n keys made within =
     ∙ keys_part preset 0 at a n within ∙ ap (λ (k : ℕ). keys_from preset k n) (zero-add a)
 
 -- the vector behind the keys that were made, of two that stand among them
-pub vector_follows : (preset at far near : ℕ) (keys : List ℕ) → far + 120 ≡ at → near + 88 ≡ at → take at keys ≡ keys_from preset 0 at
+pub vector_follows : (preset at far near : ℕ) (keys : List ℕ) → far + 240 ≡ at → near + 176 ≡ at → take at keys ≡ keys_from preset 0 at
     → plus_front (take 32 (drop far keys)) (take 32 (drop near keys)) ≡ keys_from preset at 32
 vector_follows preset at far near keys is_far is_near made =
-    let between : near ≡ far + 32 = omega arith in
+    let between : near ≡ far + 64 = omega arith in
     ap₂ plus_front (keys_within preset at far 32 keys made (omega arith)) (keys_within preset at near 32 keys made (omega arith))
     ∙ ap (λ (j : ℕ). plus_front (keys_from preset far 32) (keys_from preset j 32)) between
-    ∙ sym (keys_sum preset 120 32 far 32 (bytes_recur_by_vectors preset)) ∙ ap (λ (j : ℕ). keys_from preset j 32) is_far
+    ∙ sym (keys_sum preset 240 64 far 32 (bytes_recur_by_vectors preset)) ∙ ap (λ (j : ℕ). keys_from preset j 32) is_far

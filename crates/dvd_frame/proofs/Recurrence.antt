@@ -159,6 +159,6 @@ bytes_recur preset k =
     ∙ plus_front-bits 8 a b)
     ∙ number_of-bits 8 (bit_xor a b) ∙ mod-eq_of_lt fits
 
--- and bytes, like bits, at distances eight times as long
-pub bytes_recur_by_vectors : (preset : ℕ) → Recurs (scrambling_byte preset) 120 32
-bytes_recur_by_vectors preset = recurs_eightfold (scrambling_byte preset) 15 4 (bytes_recur preset)
+-- and bytes, like bits, at distances sixteen times as long
+pub bytes_recur_by_vectors : (preset : ℕ) → Recurs (scrambling_byte preset) 240 64
+bytes_recur_by_vectors preset = recurs_doubled (scrambling_byte preset) 120 32 (recurs_eightfold (scrambling_byte preset) 15 4 (bytes_recur preset))

@@ -124,30 +124,30 @@ fn combine(bytes: &mut [u8], keys: &[u8])
     }
 }
 
-// The scrambling bytes of a preset, as many as a frame has Main Data bytes. Behind the first 128 they are made 32 at a time.
+// The scrambling bytes of a preset, as many as a frame has Main Data bytes. Behind the first 256 they are made 32 at a time.
 fn keys(preset: u16) -> [u8; 2048]
     requires { preset < 2 ^ 15 }
     ensures { result ≡ keys_from preset 0 2048 }
 {
     let mut keys = [0; 2048];
     put(&mut keys, 0, &first_keys(preset));
-    for step in 4..64 {
+    for step in 8..64 {
         let vector = vector_behind(&keys, 32 * step);
         put(&mut keys, 32 * step, &vector.to_array());
     }
     keys
 }
 
-// The first 128 scrambling bytes of a preset, made eight at a time.
-fn first_keys(preset: u16) -> [u8; 128]
+// The first 256 scrambling bytes of a preset, made eight at a time.
+fn first_keys(preset: u16) -> [u8; 256]
     requires { preset < 2 ^ 15 }
-    ensures { result ≡ keys_from preset 0 128 }
+    ensures { result ≡ keys_from preset 0 256 }
 {
     let mut stream = Keystream::new(preset);
     let mut word = next_word(&mut stream);
     let mut next = next_word(&mut stream);
-    let mut keys = [0; 128];
-    for place in 0..16 {
+    let mut keys = [0; 256];
+    for place in 0..32 {
         put(&mut keys, 8 * place, &word.to_be_bytes());
         (word, next) = (next, word_behind(word, next));
     }
@@ -175,12 +175,12 @@ fn word_behind(word: u64, next: u64) -> u64
     (both << 8 >> 64) as u64 ^ (both << 40 >> 64) as u64
 }
 
-// The 32 bytes behind the scrambling bytes up to a place: each is the sum of those 120 and 88 places before it.
+// The 32 bytes behind the scrambling bytes up to a place: each is the sum of those 240 and 176 places before it.
 #[inline(always)]
 fn vector_behind(keys: &[u8], at: usize) -> u8x32
-    requires distance { 120 ≤ at }
+    requires distance { 240 ≤ at }
     requires within { at ≤ length keys.now }
     ensures { (preset : ℕ) → take at keys.now ≡ keys_from preset 0 at → result ≡ keys_from preset at 32 }
 {
-    load(keys, at - 120) ^ load(keys, at - 88)
+    load(keys, at - 240) ^ load(keys, at - 176)
 }

@@ -31,4 +31,4 @@ loop-place-preserved c =
     }
 
 pub returns : goal.returns
-returns c = keys_whole c.args.preset (8 * c.loop-place.place) 128 c.loop-place.keys c.loop-place.invariant.size (omega arith) c.loop-place.invariant.written
+returns c = keys_whole c.args.preset (8 * c.loop-place.place) 256 c.loop-place.keys c.loop-place.invariant.size (omega arith) c.loop-place.invariant.written

@@ -8,7 +8,7 @@ pub loop-step-init : goal.loop-step-init
 unfolding keys_from
 loop-step-init c = record {
   size = omega arith;
-  written = keys_written c.args.preset 0 128 (replicate 2048 0) c.put.new.out c.first_keys.result c.put.ensures refl c.first_keys.ensures;
+  written = keys_written c.args.preset 0 256 (replicate 2048 0) c.put.new.out c.first_keys.result c.put.ensures refl c.first_keys.ensures;
 }
 
 pub loop-step-preserved : goal.loop-step-preserved

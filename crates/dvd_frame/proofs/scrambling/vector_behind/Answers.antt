@@ -9,8 +9,8 @@ pub returns : goal.returns
 returns c = λ preset made.
     let keys : List ℕ = c.args.keys.now in
     let at : ℕ = c.args.at in
-    let far_size : length (take 32 (drop (at - 120) keys)) ≡ 32 = length-chunk (at - 120) 32 keys (omega arith) in
-    let near_size : length (take 32 (drop (at - 88) keys)) ≡ 32 = length-chunk (at - 88) 32 keys (omega arith) in
+    let far_size : length (take 32 (drop (at - 240) keys)) ≡ 32 = length-chunk (at - 240) 32 keys (omega arith) in
+    let near_size : length (take 32 (drop (at - 176) keys)) ≡ 32 = length-chunk (at - 176) 32 keys (omega arith) in
     let long : length c.load.result ≡ length c.load-2.result = ap length c.load.ensures ∙ far_size ∙ sym (ap length c.load-2.ensures ∙ near_size) in
     plus_front-zip2 c.load.result c.load-2.result long ∙ ap₂ plus_front c.load.ensures c.load-2.ensures
-    ∙ vector_follows preset at (at - 120) (at - 88) keys (omega arith) (omega arith) made
+    ∙ vector_follows preset at (at - 240) (at - 176) keys (omega arith) (omega arith) made
