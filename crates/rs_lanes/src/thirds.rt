@@ -21,11 +21,11 @@ pub fn thirds_of(a: u8x32, b: u8x32, c: u8x32) -> [u8x32; 3]
 {
     // alpha^85 is D6, and alpha^170 is D6 + 1: one product serves both.
     let sum = mixed(a, b);
-    let turned = times(&PRODUCTS[0xD6], sum);
+    let shared = times(&PRODUCTS[0xD6], sum);
     [
         mixed(sum, c),
-        mixed(turned, mixed(a, c)),
-        mixed(turned, mixed(b, c)),
+        mixed(shared, mixed(a, c)),
+        mixed(shared, mixed(b, c)),
     ]
 }
 

@@ -15,7 +15,7 @@ returns-clause-thirds c =
     let b = c.args.b in
     let d = c.args.c in
     let sum = c.mixed-sum.ensures in
-    let turned = c.times-turned.ensures 0xD6 (PRODUCTS-tables 0xD6 (omega arith)) in
+    let shared = c.times-shared.ensures 0xD6 (PRODUCTS-tables 0xD6 (omega arith)) in
     let byte_a : (j : ℕ) → j < 32 → get_or a j 0 < 256 = λ j below. (Each1-get_or (Fits w8) a j 0 (omega (arith, c.fits-a.0)) c.fits-a.1).fits in
     let byte_b : (j : ℕ) → j < 32 → get_or b j 0 < 256 = λ j below. (Each1-get_or (Fits w8) b j 0 (omega (arith, c.fits-b.0)) c.fits-b.1).fits in
     let is : (i : ℕ) → Type 0 = λ i. HasLanes (line (c.mixed.result ∷ c.mixed-3.result ∷ c.mixed-5.result ∷ []) i) (λ j. third_byte i (get_or a j 0) (get_or b j 0) (get_or d j 0)) in
@@ -29,13 +29,13 @@ returns-clause-thirds c =
       size = c.mixed-3.ensures.size;
       each = λ j below.
           c.mixed-3.ensures.each j below
-          ∙ rw (turned.each j below, sum.each j below, c.mixed-2.ensures.each j below) (third-one (get_or a j 0) (get_or b j 0) (get_or d j 0) (byte_a j below) (byte_b j below));
+          ∙ rw (shared.each j below, sum.each j below, c.mixed-2.ensures.each j below) (third-one (get_or a j 0) (get_or b j 0) (get_or d j 0) (byte_a j below) (byte_b j below));
     } in
     let second : is 2 = record {
       size = c.mixed-5.ensures.size;
       each = λ j below.
           c.mixed-5.ensures.each j below
-          ∙ rw (turned.each j below, sum.each j below, c.mixed-4.ensures.each j below) (third-two (get_or a j 0) (get_or b j 0) (get_or d j 0) (byte_a j below) (byte_b j below));
+          ∙ rw (shared.each j below, sum.each j below, c.mixed-4.ensures.each j below) (third-two (get_or a j 0) (get_or b j 0) (get_or d j 0) (byte_a j below) (byte_b j below));
     } in
     λ i below.
     elim (cases_eq i 0) [
