@@ -12,7 +12,7 @@ use Rattle.dvd_frame.specs.Scrambling.{scrambling_byte}
 use Rattle.dvd_frame.proofs.Recurrence.{Recurs, terms, length-terms, get_or-terms, terms_sum, byte_fits, bytes_recur, bytes_recur_by_vectors}
 
 -- n keys are n bytes
-length-keys : (preset k n : ℕ) → length (keys_from preset k n) ≡ n
+pub length-keys : (preset k n : ℕ) → length (keys_from preset k n) ≡ n
 unfolding keys_from terms
 length-keys preset k n = length-terms (scrambling_byte preset) k n
 

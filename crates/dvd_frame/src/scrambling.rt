@@ -111,7 +111,9 @@ pub(crate) fn scramble_slice(rule: Rule, id: Id, main: &mut [u8])
 {
     let index = (id.word() >> 4 & 15) as u8;
     let count = rule.count();
-    combine(&mut main[..count], &keys(preset(index)));
+    let mut keys = [0; 2048];
+    set_keys(preset(index), &mut keys);
+    combine(&mut main[..count], &keys);
 }
 
 // Combines each byte with the key at its place.
@@ -124,34 +126,30 @@ fn combine(bytes: &mut [u8], keys: &[u8])
     }
 }
 
-// The scrambling bytes of a preset, as many as a frame has Main Data bytes. Behind the first 256 they are made 32 at a time.
-fn keys(preset: u16) -> [u8; 2048]
+// Sets the scrambling bytes of a preset, as many as a frame has Main Data bytes: eight at a time, and behind the first 256
+// by vectors.
+fn set_keys(preset: u16, keys: &mut [u8; 2048])
     requires { preset < 2 ^ 15 }
-    ensures { result ≡ keys_from preset 0 2048 }
+    ensures { keys.new ≡ keys_from preset 0 2048 }
 {
-    let mut keys = [0; 2048];
-    put(&mut keys, 0, &first_keys(preset));
+    set_first_keys(preset, keys);
     for step in 8..64 {
-        let vector = vector_behind(&keys, 32 * step);
-        put(&mut keys, 32 * step, &vector.to_array());
+        set_vector(keys, 32 * step);
     }
-    keys
 }
 
-// The first 256 scrambling bytes of a preset, made eight at a time.
-fn first_keys(preset: u16) -> [u8; 256]
+// Sets the first 256 scrambling bytes of a preset.
+fn set_first_keys(preset: u16, keys: &mut [u8; 2048])
     requires { preset < 2 ^ 15 }
-    ensures { result ≡ keys_from preset 0 256 }
+    ensures { take 256 keys.new ≡ keys_from preset 0 256 }
 {
     let mut stream = Keystream::new(preset);
     let mut word = next_word(&mut stream);
     let mut next = next_word(&mut stream);
-    let mut keys = [0; 256];
     for place in 0..32 {
-        put(&mut keys, 8 * place, &word.to_be_bytes());
+        put(keys, 8 * place, &word.to_be_bytes());
         (word, next) = (next, word_behind(word, next));
     }
-    keys
 }
 
 // The next eight bytes of the stream.
@@ -175,12 +173,13 @@ fn word_behind(word: u64, next: u64) -> u64
     (both << 8 >> 64) as u64 ^ (both << 40 >> 64) as u64
 }
 
-// The 32 bytes behind the scrambling bytes up to a place: each is the sum of those 240 and 176 places before it.
+// Sets the 32 bytes behind the scrambling bytes up to a place: each is the sum of those 240 and 176 places before it.
 #[inline(always)]
-fn vector_behind(keys: &[u8], at: usize) -> u8x32
+fn set_vector(keys: &mut [u8], at: usize)
     requires distance { 240 ≤ at }
-    requires within { at ≤ length keys.now }
-    ensures { (preset : ℕ) → take at keys.now ≡ keys_from preset 0 at → result ≡ keys_from preset at 32 }
+    requires within { at + 32 ≤ length keys.old }
+    ensures { (preset : ℕ) → take at keys.old ≡ keys_from preset 0 at → take (at + 32) keys.new ≡ keys_from preset 0 (at + 32) }
 {
-    load(keys, at - 240) ^ load(keys, at - 176)
+    let vector: u8x32 = load(keys, at - 240) ^ load(keys, at - 176);
+    vector.copy_to_slice(&mut keys[at..]);
 }

@@ -16,6 +16,6 @@ returns c =
     let selected : c.preset.result ≡ preset_of c.args.id =
     c.preset.ensures.value ∙ ap (λ (w : ℕ). slice_index presets (bit_and (w / 16) 15)) c.word.ensures
     ∙ ap (slice_index presets) (and_mask (c.args.id / 16) 4) in
-    let made : c.keys.result ≡ keys_from (preset_of c.args.id) 0 2048 = c.keys.ensures ∙ ap (λ (p : ℕ). keys_from p 0 2048) selected in
+    let made : c.set_keys.new.keys ≡ keys_from (preset_of c.args.id) 0 2048 = c.set_keys.ensures ∙ ap (λ (p : ℕ). keys_from p 0 2048) selected in
     masked_parts c.args.id c.args.rule main c.combine.new.bytes count c.count-count.ensures.value (omega arith) (omega arith)
-    (λ k below. c.combine.ensures k (omega arith) ∙ ap (bit_xor (get_or (take count main) k 0)) (key_made (preset_of c.args.id) 2048 k c.keys.result made (omega arith)))
+    (λ k below. c.combine.ensures k (omega arith) ∙ ap (bit_xor (get_or (take count main) k 0)) (key_made (preset_of c.args.id) 2048 k c.set_keys.new.keys made (omega arith)))

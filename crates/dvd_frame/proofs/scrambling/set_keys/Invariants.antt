@@ -1,6 +1,6 @@
 use Rattle.std.proofs.Common.{◌≡◌, ◌*◌, length, take}
 use Rattle.dvd_frame.specs.Inner.Registers.{keys_from}
-use Rattle.dvd_frame.proofs.scrambling.keys.Given as goal
+use Rattle.dvd_frame.proofs.scrambling.set_keys.Given as goal
 
 abbrev pub invariant-loop-step : goal.invariant-loop-step
 invariant-loop-step l = record {

@@ -1,14 +1,13 @@
 use Rattle.std.proofs.Common.{◌≡◌, ℕ, ◌+◌, ◌*◌, take, refl, sym, ◌∙◌, ap, arith}
 use Rattle.dvd_frame.specs.Inner.Registers.{keys_from}
-use Rattle.dvd_frame.proofs.KeyWords.{keys_written, keys_whole}
-use Rattle.dvd_frame.proofs.scrambling.first_keys.Goals as goal
+use Rattle.dvd_frame.proofs.KeyWords.{keys_written}
+use Rattle.dvd_frame.proofs.scrambling.set_first_keys.Goals as goal
 
 pub loop-place-init : goal.loop-place-init
 unfolding keys_from
 loop-place-init c =
     let preset : ℕ = c.args.preset in
     record {
-      size = refl;
       written = refl;
       word = c.next_word-word.ensures.word preset 0 c.new-stream.ensures;
       next = c.next_word-next.ensures.word preset 8 (c.next_word-word.ensures.after preset 0 c.new-stream.ensures);
@@ -21,7 +20,6 @@ loop-place-preserved c =
     let behind : place + 8 ≡ 8 * (c.loop-place.place + 1) = omega arith in
     let further : place + 16 ≡ 8 * (c.loop-place.place + 1) + 8 = omega arith in
     record {
-      size = omega arith;
       written = ap (λ (m : ℕ). take m c.put.new.out) (sym behind)
           ∙ keys_written preset place 8 c.loop-place.keys c.put.new.out c.to_be_bytes.result
           c.put.ensures c.loop-place.invariant.written (c.to_be_bytes.ensures ∙ c.loop-place.invariant.word)
@@ -29,6 +27,3 @@ loop-place-preserved c =
       word = c.loop-place.invariant.next ∙ ap (λ (k : ℕ). keys_from preset k 8) behind;
       next = c.word_behind.ensures preset place c.loop-place.invariant.word c.loop-place.invariant.next ∙ ap (λ (k : ℕ). keys_from preset k 8) further;
     }
-
-pub returns : goal.returns
-returns c = keys_whole c.args.preset (8 * c.loop-place.place) 256 c.loop-place.keys c.loop-place.invariant.size (omega arith) c.loop-place.invariant.written
