@@ -47,7 +47,8 @@ pub fn read_frame(
     if !id.same_place(want) {
         return Err(FrameCause::Address { found: id.word() });
     }
-    let main = unscrambled(frame, id, rule);
+    let mut main = [0; 2048];
+    unscramble(frame, id, rule, &mut main);
     if !has_right_edc(frame, &main) {
         return Err(FrameCause::Edc);
     }
@@ -71,14 +72,12 @@ fn has_right_ied(frame: &[u8; 2064]) -> bool
     Ied::new().is_codeword(&word)
 }
 
-// The Main Data, with the scrambling bytes of this ID taken away.
-fn unscrambled(frame: &[u8; 2064], id: Id, rule: Rule) -> [u8; 2048]
-    ensures { result ≡ masked id rule (take 2048 (drop 12 frame.now)) }
+// Sets Main Data to the frame's, with the scrambling bytes of this ID taken away.
+fn unscramble(frame: &[u8; 2064], id: Id, rule: Rule, main: &mut [u8; 2048])
+    ensures { main.new ≡ masked id rule (take 2048 (drop 12 frame.now)) }
 {
-    let mut main = [0; 2048];
     main.copy_from_slice(&frame[12..2060]);
-    scramble(rule, id, &mut main);
-    main
+    scramble(rule, id, main);
 }
 
 // Whether the last four bytes are the EDC of the first twelve and of the unscrambled Main Data.
