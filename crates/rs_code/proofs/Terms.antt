@@ -7,7 +7,7 @@ use Rattle.gf_field.proofs.FieldLaws.{plus-comm, power-add, power-suc, zero-plus
 use Rattle.rs_code.proofs.Values.{value-cons}
 
 -- one term more
-value-term : (polynomial : List ℕ) (i x : ℕ) → i < length polynomial
+pub value-term : (polynomial : List ℕ) (i x : ℕ) → i < length polynomial
     → value (drop i polynomial) x ≡ plus (product (get_or polynomial i 0) (power x (length polynomial - suc i))) (value (drop (suc i) polynomial) x)
 value-term polynomial i x inside =
     ap (λ p. value p x) (drop-cons polynomial i 0 inside) ∙ value-cons (get_or polynomial i 0) (drop (suc i) polynomial) x

@@ -3,6 +3,7 @@ pub mod Connections
 pub mod Counting
 pub mod FewZeros
 pub mod Fillings
+pub mod LaneSums
 pub mod Locators
 pub mod Marks
 pub mod Masking

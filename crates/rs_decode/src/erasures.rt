@@ -5,6 +5,7 @@ ghost use Rattle.rs_decode.specs.Filling.{IsFilling, HasNoFilling, marked};
 
 use crate::places::{marked_points, patch};
 use crate::sums::solve;
+use crate::syndromes::syndromes;
 use arrayvec::ArrayVec;
 use rs_code::Code;
 use thiserror::Error;
@@ -25,7 +26,7 @@ pub fn fill<const N: usize, const R: usize>(
     ensures err { OnErr result (HasNoFilling N R word.old marks.now) }
     ensures same { OnErr result (word.new ≡ word.old) }
 {
-    fill_from(code, code.syndromes(word), word, marks)
+    fill_from(code, syndromes(code, word), word, marks)
 }
 
 /// The same, by the word's syndromes.

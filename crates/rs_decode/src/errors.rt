@@ -8,7 +8,7 @@ use crate::erasures::fill_from;
 use crate::locating::{count_errors, mark_zeros, sums_without, tell_bytes};
 use crate::places::marked_points;
 use crate::register::shortest;
-use crate::sums::plain_sum;
+use crate::syndromes::{are_zeros, syndromes};
 use rs_code::Code;
 use thiserror::Error;
 
@@ -44,14 +44,13 @@ pub fn decode<const N: usize, const R: usize>(
     let Some(points) = marked_points(marks, R) else {
         return Err(Beyond);
     };
-    // The bytes of a codeword have the sum 0. So a word with errors is divided once only, but for a few.
-    if points.is_empty() && plain_sum(word) == 0 && code.is_codeword(word) {
+    let syndromes = syndromes(code, word);
+    if points.is_empty() && are_zeros(&syndromes) {
         return Ok(Fix {
             errors: 0,
             erased: 0,
         });
     }
-    let syndromes = code.syndromes(word);
     let sums = sums_without(&points, &syndromes);
     let locator = shortest(&sums);
     let mut doubtful = *marks;

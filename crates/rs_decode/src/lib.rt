@@ -8,6 +8,7 @@
 //! - [`register`]: `shortest` finds the shortest linear feedback register that generates a list.
 //! - `combining`: multiples of lists.
 //! - `sums`: the bytes at given points that have given power sums.
+//! - `syndromes`: the syndromes of a word, as vectors of sixteen.
 //! - [`laws`]: what holds of every word, as contracts alone.
 #![tactic(auto)]
 
@@ -20,6 +21,7 @@ mod locating;
 mod places;
 pub mod register;
 mod sums;
+mod syndromes;
 #[cfg(test)]
 mod tests;
 

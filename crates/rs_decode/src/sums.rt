@@ -1,22 +1,10 @@
 //! Bytes at points, from their power sums: the k-th is the sum of each byte times its point to the power k.
 ghost use Rattle.std.specs.Prelude.{◌≡◌, ◌≢◌, ℕ, ◌<◌, ◌∷◌, length, All, EachIndex, slice_index};
 ghost use Rattle.gf_field.specs.Field.{plus, product};
-ghost use Rattle.gf_field.specs.Words.{value};
 ghost use Rattle.rs_code.specs.Inner.PowerSums.{AreDistinct, power_sum, shifted_by};
 ghost use Rattle.rs_decode.specs.Inner.Sums.{HasSums};
 
 use gf_field::{div, mul};
-
-/// The sum of a word's bytes, which is its value at 1.
-pub fn plain_sum(word: &[u8]) -> u8
-    ensures { result ≡ value word.now 1 }
-{
-    let mut sum = 0;
-    for byte in word {
-        sum ^= *byte;
-    }
-    sum
-}
 
 /// Takes the power sums of bytes at the points, the lowest first, and leaves the bytes.
 /// Each step takes a point out of the sums that are left: with each byte multiplied by its distance to that point,

@@ -1,0 +1,57 @@
+//! The syndromes of a word: sixteen at once, a lane for each, where the code has no more parity bytes.
+ghost use Rattle.std.specs.Prelude.{◌≡◌, ◌↔◌, ℕ, ◌<◌, ◌≤◌, take, length, slice_index, IsTrue};
+ghost use Rattle.gf_field.specs.Field.{alpha, power};
+ghost use Rattle.gf_field.specs.Words.{value};
+ghost use Rattle.rs_code.specs.Syndromes.{syndromes_of};
+ghost use Rattle.rs_lanes.specs.Inner.Lanes.{HoldsLanes};
+
+use arrayvec::ArrayVec;
+use rs_code::Code;
+use rs_lanes::{powers, scaled};
+use std::simd::prelude::*;
+
+/// The values of `word` at alpha^0 to alpha^(R-1), in this order.
+pub fn syndromes<const N: usize, const R: usize>(
+    code: &Code<N, R>,
+    word: &[u8; N],
+) -> ArrayVec<u8, 32>
+    ensures { result.items ≡ syndromes_of R word.now }
+{
+    if R <= 16 {
+        return front(values(word), R);
+    }
+    code.syndromes(word)
+}
+
+/// Whether all numbers are 0.
+pub fn are_zeros(numbers: &[u8]) -> bool
+    ensures { IsTrue result ↔ ((k : ℕ) → k < length numbers.now → slice_index numbers.now k ≡ 0) }
+{
+    for number in numbers {
+        if *number != 0 {
+            return false;
+        }
+    }
+    true
+}
+
+/// The first lanes of a vector.
+pub fn front(lanes: u8x16, count: usize) -> ArrayVec<u8, 32>
+    requires lanes { length lanes ≡ 16 }
+    requires few { count ≤ 16 }
+    ensures { result.items ≡ take count lanes }
+{
+    ArrayVec::try_from(&lanes.to_array()[..count]).unwrap()
+}
+
+// The values of a word at alpha^0 to alpha^15: each byte counts as often as its power of alpha, to the power of the lane.
+fn values(word: &[u8]) -> u8x16
+    requires short { length word.now ≤ 255 }
+    ensures { HoldsLanes 16 result (λ k. value word.now (power alpha k)) }
+{
+    let mut sums = u8x16::splat(0);
+    for place in (0..word.len()).rev() {
+        sums = sums ^ scaled(powers(word.len() - 1 - place), word[place]);
+    }
+    sums
+}
