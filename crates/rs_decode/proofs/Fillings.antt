@@ -99,6 +99,16 @@ value-patched (byte ∷ word) (true ∷ marks) (first ∷ rest) k size few =
     ∙ ap (λ v. plus v (plus (product first place) others)) (sym (value-cons byte word (power alpha k)))
     ∙ ap (λ p. plus (value (byte ∷ word) (power alpha k)) (plus (product first p) others)) (power-swap alpha k (length word))
 
+-- so a filled word's values are its syndromes before and these power sums
+pub value-filled : (r : ℕ) (word filled syndromes bytes points : List ℕ) (marks : List Bool) → length word ≡ length marks → length bytes ≡ length points
+    → points ≡ picked marks (points_of (length marks)) → syndromes ≡ syndromes_of r word → filled ≡ patched word marks bytes
+    → (k : ℕ) → k < r → value filled (power alpha k) ≡ plus (get_or syndromes k 0) (power_sum bytes points k)
+value-filled r word filled syndromes bytes points marks alike fits points_are syndromes_are filled_is k below =
+    ap (λ w. value w (power alpha k)) filled_is ∙ value-patched word marks bytes k alike (fits ∙ points-few marks points points_are)
+    ∙ ap (λ n. plus (value word (power alpha k)) (power_sum bytes (picked marks (points_of n)) k)) alike
+    ∙ ap (λ xs. plus (value word (power alpha k)) (power_sum bytes xs k)) (sym points_are)
+    ∙ ap (λ v. plus v (power_sum bytes points k)) (sym (get_or-syndromes_of r word k below) ∙ ap (λ xs. get_or xs k 0) (sym syndromes_are))
+
 -- with the bytes whose sums are the first syndromes, it vanishes at as many powers of alpha as places are marked
 pub filled-codeword : (n r count : ℕ) (word : List ℕ) (marks : List Bool) (points bytes sums : List ℕ)
     → length word ≡ n

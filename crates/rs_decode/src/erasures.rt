@@ -1,11 +1,14 @@
 //! Erasures: bytes that are known to be lost, at marked places.
-ghost use Rattle.std.specs.Prelude.{◌≡◌, IfOk, OnErr};
+ghost use Rattle.std.specs.Prelude.{◌≡◌, ◌≢◌, ◌↔◌, ℕ, ◌<◌, length, slice_index, All, IsTrue, IfOk, OnErr};
+ghost use Rattle.gf_field.specs.Field.{alpha, plus, power};
+ghost use Rattle.gf_field.specs.Words.{IsByte, IsCodeword, value};
+ghost use Rattle.rs_code.specs.Inner.PowerSums.{power_sum};
 ghost use Rattle.rs_code.specs.Syndromes.{syndromes_of};
 ghost use Rattle.rs_decode.specs.Filling.{IsFilling, HasNoFilling, marked};
 
 use crate::places::{marked_points, patch};
 use crate::sums::solve;
-use crate::syndromes::syndromes;
+use crate::syndromes::{front, power_sums, syndromes};
 use arrayvec::ArrayVec;
 use rs_code::Code;
 use thiserror::Error;
@@ -44,14 +47,36 @@ pub fn fill_from<const N: usize, const R: usize>(
     let Some(points) = marked_points(marks, R) else {
         return Err(NoCodeword);
     };
-    let mut sums = syndromes;
-    let corrections = &mut sums[..points.len()];
-    solve(&points, corrections);
+    let mut corrections: ArrayVec<u8, 32> = ArrayVec::try_from(&syndromes[..points.len()]).unwrap();
+    solve(&points, &mut corrections);
     let mut filled = *word;
-    patch(&mut filled, &points, corrections);
-    if !code.is_codeword(&filled) {
+    patch(&mut filled, &points, &corrections);
+    if !completes(code, &filled, &syndromes, &points, &corrections) {
         return Err(NoCodeword);
     }
     *word = filled;
     Ok(points.len() as u16)
+}
+
+// Whether a word that was filled with bytes at points is a codeword. Its values are the syndromes plus the power sums of these
+// bytes, so that it need not be divided again where both are vectors of sixteen.
+fn completes<const N: usize, const R: usize>(
+    code: &Code<N, R>,
+    filled: &[u8; N],
+    syndromes: &[u8],
+    points: &[u8],
+    bytes: &[u8],
+) -> bool
+    requires word_bytes { All IsByte filled.now }
+    requires nonzero { All (λ point. point ≢ 0) points.now }
+    requires fits { length bytes.now ≡ length points.now }
+    requires size { length syndromes.now ≡ R }
+    requires values { (k : ℕ) → k < R → value filled.now (power alpha k) ≡ plus (slice_index syndromes.now k) (power_sum bytes.now points.now k) }
+    ensures { IsTrue result ↔ IsCodeword N R filled.now }
+{
+    if R <= 16 {
+        let sums = front(power_sums(points, bytes), R);
+        return sums[..] == syndromes[..];
+    }
+    code.is_codeword(filled)
 }

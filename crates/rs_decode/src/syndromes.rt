@@ -1,11 +1,14 @@
-//! The syndromes of a word: sixteen at once, a lane for each, where the code has no more parity bytes.
-ghost use Rattle.std.specs.Prelude.{◌≡◌, ◌↔◌, ℕ, ◌<◌, ◌≤◌, take, length, slice_index, IsTrue};
+//! The syndromes of a word, and power sums of bytes at points: sixteen at once, a lane for each, where the code has no more
+//! parity bytes.
+ghost use Rattle.std.specs.Prelude.{◌≡◌, ◌≢◌, ◌↔◌, ℕ, ◌<◌, ◌≤◌, take, length, slice_index, All, IsTrue};
 ghost use Rattle.gf_field.specs.Field.{alpha, power};
 ghost use Rattle.gf_field.specs.Words.{value};
+ghost use Rattle.rs_code.specs.Inner.PowerSums.{power_sum};
 ghost use Rattle.rs_code.specs.Syndromes.{syndromes_of};
 ghost use Rattle.rs_lanes.specs.Inner.Lanes.{HoldsLanes};
 
 use arrayvec::ArrayVec;
+use gf_field::log;
 use rs_code::Code;
 use rs_lanes::{powers, scaled};
 use std::simd::prelude::*;
@@ -42,6 +45,19 @@ pub fn front(lanes: u8x16, count: usize) -> ArrayVec<u8, 32>
     ensures { result.items ≡ take count lanes }
 {
     ArrayVec::try_from(&lanes.to_array()[..count]).unwrap()
+}
+
+/// The first sixteen power sums of bytes at points.
+pub fn power_sums(points: &[u8], bytes: &[u8]) -> u8x16
+    requires nonzero { All (λ point. point ≢ 0) points.now }
+    requires fits { length bytes.now ≡ length points.now }
+    ensures { HoldsLanes 16 result (λ k. power_sum bytes.now points.now k) }
+{
+    let mut sums = u8x16::splat(0);
+    for i in (0..points.len()).rev() {
+        sums = sums ^ scaled(powers(log(points[i]) as usize), bytes[i]);
+    }
+    sums
 }
 
 // The values of a word at alpha^0 to alpha^15: each byte counts as often as its power of alpha, to the power of the lane.

@@ -1,58 +1,105 @@
 -- The filled word vanishes at as many powers of alpha as places are marked, whether it is a codeword or not.
 -- So a codeword that agrees is the filled word.
-use Rattle.std.proofs.Common.{◌≡◌, ◌≤◌, length, take, All, arith, ap, sym, subst, ◌∙◌}
+use Rattle.std.proofs.Common.{◌≡◌, ◌≢◌, ◌≤◌, length, take, All, rules, refl, arith, ap, sym, subst, ◌∙◌}
+use Rattle.std.proofs.lemmas.List.Elements.{All-from_get_or}
 use Rattle.gf_field.specs.Words.{IsByte, IsCodeword}
 use Rattle.rs_code.specs.Syndromes.{syndromes_of}
+use Rattle.rs_code.proofs.Generator.{refill-same}
+use Rattle.rs_code.proofs.Syndromes.{length-syndromes_of}
 use Rattle.rs_decode.specs.Inner.Places.{patched}
+use Rattle.rs_decode.specs.Inner.Sums.{HasSums}
 use Rattle.rs_decode.specs.Filling.{AgreeUnmarked, marked}
-use Rattle.rs_decode.proofs.Fillings.{marked_points-distinct, points-few, length-first_syndromes, filled-codeword, AgreeUnmarked-patched, no_filling}
+use Rattle.rs_decode.proofs.Fillings.{marked_points-distinct, points-few, length-first_syndromes, filled-codeword, value-filled, AgreeUnmarked-patched, no_filling}
+use Rattle.rs_decode.proofs.Marks.{point-nonzero}
 use Rattle.rs_decode.proofs.erasures.fill_from.Goals as goal
-use Rattle.rs_decode.proofs.erasures.fill_from.Goals.{After-is_codeword}
+use Rattle.rs_decode.proofs.erasures.fill_from.Goals.{After-deref_mut, After-deref-4, After-patch}
 
-pub slice_bounds-corrections-end : goal.slice_bounds-corrections-end
-slice_bounds-corrections-end g c =
+pub slice_bounds-try_from-end : goal.slice_bounds-try_from-end
+slice_bounds-try_from-end g c =
     let few : c.len.result ≤ g.row.R = omega (arith, points-few c.args.marks.now c.in-Some.points.items c.in-Some.ensures.1, c.len.ensures.value, c.in-Some.ensures.0) in
-    sym (length-first_syndromes g.row.R c.len.result c.args.word.now c.deref_mut.result.now (c.deref_mut.ensures.value ∙ c.requires) few)
+    sym (length-first_syndromes g.row.R c.len.result c.args.word.now c.deref.result.now (c.deref.ensures.0 ∙ c.requires) few)
+
+-- the sums to solve are the first syndromes
+first_sums : (g : _) (c : After-deref_mut g) → c.deref_mut.result.now ≡ take c.len.result (syndromes_of g.row.R c.args.word.now)
+first_sums g c =
+    let copied : c.unwrap-corrections.result.items ≡ take c.len.result c.deref.result.now = (rw c.unwrap-corrections.ensures at c.try_from.ensures).0 in
+    c.deref_mut.ensures.value ∙ copied ∙ ap (take c.len.result) (c.deref.ensures.0 ∙ c.requires)
 
 pub solve-requires-clause-distinct : goal.solve-requires-clause-distinct
 solve-requires-clause-distinct g c =
-    marked_points-distinct c.args.marks.now c.deref.result.now (omega (arith, c.args.code.now.bounds)) (c.deref.ensures.0 ∙ c.in-Some.ensures.1)
+    marked_points-distinct c.args.marks.now c.deref-2.result.now (omega (arith, c.args.code.now.bounds)) (c.deref-2.ensures.0 ∙ c.in-Some.ensures.1)
+
+-- as many as points
+sums-fit : (g : _) (c : After-deref_mut g) → length c.deref_mut.result.now ≡ length c.in-Some.points.items
+sums-fit g c =
+    let few : c.len.result ≤ g.row.R = omega (arith, points-few c.args.marks.now c.in-Some.points.items c.in-Some.ensures.1, c.len.ensures.value, c.in-Some.ensures.0) in
+    ap length (first_sums g c) ∙ length-first_syndromes g.row.R c.len.result c.args.word.now (syndromes_of g.row.R c.args.word.now) refl few ∙ c.len.ensures.value
 
 pub solve-requires-clause-fits : goal.solve-requires-clause-fits
-solve-requires-clause-fits g c =
-    let few : c.len.result ≤ g.row.R = omega (arith, points-few c.args.marks.now c.in-Some.points.items c.in-Some.ensures.1, c.len.ensures.value, c.in-Some.ensures.0) in
-    length-first_syndromes g.row.R c.len.result c.args.word.now c.deref_mut.result.now (c.deref_mut.ensures.value ∙ c.requires) few
-    ∙ c.len.ensures.value ∙ ap length (sym c.deref.ensures.0)
+solve-requires-clause-fits g c = sums-fit g c ∙ ap length (sym c.deref-2.ensures.0)
+
+-- what was solved stands in the corrections
+corrected : (g : _) (c : After-deref-4 g) → c.deref-4.result.now ≡ c.solve.new.sums
+corrected g c =
+    let items = c.unwrap-corrections.result.items in
+    c.deref-4.ensures.0 ∙ refill-same (length items) items c.solve.new.sums (c.solve.ensures.size ∙ ap length c.deref_mut.ensures.value)
 
 pub patch-requires-clause-fits : goal.patch-requires-clause-fits
 patch-requires-clause-fits g c =
-    let few : c.len.result ≤ g.row.R = omega (arith, points-few c.args.marks.now c.in-Some.points.items c.in-Some.ensures.1, c.len.ensures.value, c.in-Some.ensures.0) in
-    c.solve.ensures.size ∙ length-first_syndromes g.row.R c.len.result c.args.word.now c.deref_mut.result.now (c.deref_mut.ensures.value ∙ c.requires) few
-    ∙ c.len.ensures.value ∙ ap length (sym c.deref-2.ensures.0)
+    ap length (corrected g (goal.at.patch-requires-clause-fits g c).After-deref-4) ∙ c.solve.ensures.size ∙ sums-fit g (goal.at.patch-requires-clause-fits g c).After-deref_mut ∙ ap length (sym c.deref-3.ensures.0)
 
 -- the points are those of the marked places
-patched_word : (g : _) (c : After-is_codeword g) → c.patch.new.word ≡ patched c.args.word.now c.args.marks.now c.solve.new.sums
-patched_word g c = c.patch.ensures.patched c.args.marks.now (c.told-marks ∙ sym c.told-word) (c.deref-2.ensures.0 ∙ c.in-Some.ensures.1)
+patched_word : (g : _) (c : After-patch g) → c.patch.new.word ≡ patched c.args.word.now c.args.marks.now c.deref-4.result.now
+patched_word g c = c.patch.ensures.patched c.args.marks.now (c.told-marks ∙ sym c.told-word) (c.deref-3.ensures.0 ∙ c.in-Some.ensures.1)
 
-pub returns-then-not-is_codeword-clause-err : goal.returns-then-not-is_codeword-clause-err
-returns-then-not-is_codeword-clause-err g c =
-    let written = patched_word g (goal.at.returns-then-not-is_codeword-clause-err g c).After-is_codeword in
+pub completes-requires : goal.completes-requires
+completes-requires g c =
+    let marks = c.args.marks.now in
+    let points_are = c.deref-6.ensures.0 ∙ c.in-Some.ensures.1 in
+    let same = c.deref-7.ensures.0 ∙ sym c.deref-4.ensures.0 in
+    let fits : length c.deref-7.result.now ≡ length c.deref-6.result.now =
+    ap length (same ∙ corrected g (goal.at.completes-requires g c).After-deref-4) ∙ c.solve.ensures.size ∙ sums-fit g (goal.at.completes-requires g c).After-deref_mut ∙ ap length (sym c.deref-6.ensures.0) in
+    let syndromes_are = c.deref-5.ensures.0 ∙ c.requires in (
+      search rules,
+      (
+        search rules,
+        (
+          c.patch.ensures.bytes,
+          (
+            All-from_get_or (λ point. point ≢ 0) c.deref-6.result.now 0 (λ i. point-nonzero marks c.deref-6.result.now i points_are),
+            (
+              fits,
+              (
+                ap length syndromes_are ∙ length-syndromes_of g.row.R c.args.word.now,
+                value-filled g.row.R c.args.word.now c.patch.new.word c.deref-5.result.now c.deref-7.result.now c.deref-6.result.now marks (c.told-word ∙ sym c.told-marks) fits points_are syndromes_are
+                    (patched_word g (goal.at.completes-requires g c).After-patch ∙ ap (patched c.args.word.now marks) (sym same)),
+              ),
+            ),
+          ),
+        ),
+      ),
+    )
+
+pub returns-then-not-completes-clause-err : goal.returns-then-not-completes-clause-err
+returns-then-not-completes-clause-err g c =
+    let written = patched_word g (goal.at.returns-then-not-completes-clause-err g c).After-patch in
+    let first = first_sums g (goal.at.returns-then-not-completes-clause-err g c).After-deref_mut in
     let alike : length c.args.word.now ≡ length c.args.marks.now = c.told-word ∙ sym c.told-marks in
     let count : c.len.result ≡ marked c.args.marks.now = c.len.ensures.value ∙ points-few c.args.marks.now c.in-Some.points.items c.in-Some.ensures.1 in
     let few : c.len.result ≤ g.row.R = omega (arith, c.in-Some.ensures.0) in
     let patched_bytes = subst (All IsByte) written c.patch.ensures.bytes in
-    let sums : take c.len.result c.deref_mut.result.now ≡ take c.len.result (syndromes_of g.row.R c.args.word.now) = ap (take c.len.result) (c.deref_mut.ensures.value ∙ c.requires) in
+    let solved : HasSums c.deref-2.result.now c.deref-4.result.now c.deref_mut.result.now = subst (λ xs. HasSums c.deref-2.result.now xs c.deref_mut.result.now) (sym (corrected g (goal.at.returns-then-not-completes-clause-err g c).After-deref-4)) c.solve.ensures in
     no_filling g.row.N g.row.R c.args.word.now c.patch.new.word c.args.marks.now (omega (arith, c.args.code.now.bounds)) c.told-marks
-    (subst (AgreeUnmarked c.args.marks.now c.args.word.now) (sym written) (AgreeUnmarked-patched c.args.word.now c.args.marks.now c.solve.new.sums alike))
+    (subst (AgreeUnmarked c.args.marks.now c.args.word.now) (sym written) (AgreeUnmarked-patched c.args.word.now c.args.marks.now c.deref-4.result.now alike))
     (subst (IsCodeword g.row.N (marked c.args.marks.now)) (sym written)
-    (filled-codeword g.row.N g.row.R c.len.result c.args.word.now c.args.marks.now c.deref.result.now c.solve.new.sums (take c.len.result c.deref_mut.result.now) c.told-word c.told-marks count few (c.deref.ensures.0 ∙ c.in-Some.ensures.1) sums c.solve.ensures patched_bytes))
-    (λ codeword. absurd (cc (c.is_codeword.ensures.1 codeword)))
+    (filled-codeword g.row.N g.row.R c.len.result c.args.word.now c.args.marks.now c.deref-2.result.now c.deref-4.result.now c.deref_mut.result.now c.told-word c.told-marks count few (c.deref-2.ensures.0 ∙ c.in-Some.ensures.1) first solved patched_bytes))
+    (λ codeword. absurd (cc (c.completes.ensures.1 codeword)))
 
 pub returns-clause-ok : goal.returns-clause-ok
 returns-clause-ok g c = (
   record {
-    codeword = c.is_codeword.ensures.0 c.if-not-is_codeword.false;
-    agrees = subst (AgreeUnmarked c.args.marks.now c.args.word.now) (sym (patched_word g (goal.at.returns-clause-ok g c).After-is_codeword)) (AgreeUnmarked-patched c.args.word.now c.args.marks.now c.solve.new.sums (c.told-word ∙ sym c.told-marks));
+    codeword = c.completes.ensures.0 c.if-not-completes.false;
+    agrees = subst (AgreeUnmarked c.args.marks.now c.args.word.now) (sym (patched_word g (goal.at.returns-clause-ok g c).After-patch)) (AgreeUnmarked-patched c.args.word.now c.args.marks.now c.deref-4.result.now (c.told-word ∙ sym c.told-marks));
     within = c.in-Some.ensures.0;
   },
   c.len-2.ensures.value ∙ points-few c.args.marks.now c.in-Some.points.items c.in-Some.ensures.1,
