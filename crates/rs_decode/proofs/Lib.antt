@@ -1,7 +1,6 @@
 pub mod Combinations
 pub mod Connections
 pub mod Counting
-pub mod FewZeros
 pub mod Fillings
 pub mod LaneSums
 pub mod Locators
@@ -11,10 +10,9 @@ pub mod Near
 pub mod Nearest
 pub mod Nearness
 pub mod OnlyRegister
-pub mod Quotients
+pub mod Powers
 pub mod Registers
 pub mod Roots
 pub mod Solving
-pub mod ThirdDegree
 pub mod Totals
 pub mod Zeros

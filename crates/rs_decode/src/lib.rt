@@ -2,20 +2,19 @@
 //!
 //! - [`erasures`]: `fill` finds the codeword that agrees with a word at all places that aren't marked.
 //! - [`errors`]: `decode` finds the codeword that is near a word with marks.
-//! - `few_zeros`: zeros of polynomials of degree 1 to 3.
 //! - `locating`: the places where errors may be, from power sums and a locator.
 //! - `places`: the marked places of a word.
 //! - [`register`]: `shortest` finds the shortest linear feedback register that generates a list.
 //! - `combining`: multiples of lists.
 //! - `sums`: the bytes at given points that have given power sums.
 //! - `syndromes`: the syndromes of a word, as vectors of sixteen.
+//! - `values`: the values of a polynomial at the powers of alpha.
 //! - [`laws`]: what holds of every word, as contracts alone.
 #![tactic(auto)]
 
 mod combining;
 pub mod erasures;
 pub mod errors;
-mod few_zeros;
 pub mod laws;
 mod locating;
 mod places;
@@ -24,6 +23,7 @@ mod sums;
 mod syndromes;
 #[cfg(test)]
 mod tests;
+mod values;
 
 pub use erasures::{NoCodeword, fill};
 pub use errors::{Beyond, Fix, decode};

@@ -8,10 +8,9 @@ ghost use Rattle.rs_decode.specs.Errors.{error_count};
 ghost use Rattle.rs_decode.specs.Inner.Locator.{at_points, distances, with_zeros};
 ghost use Rattle.rs_decode.specs.Inner.Sums.{AreSums};
 
-use crate::few_zeros::mark_few;
+use crate::values::values_at_powers;
 use arrayvec::ArrayVec;
-use gf_field::{alpha_pow, mul};
-use rs_code::value_at;
+use gf_field::mul;
 
 /// The power sums with points taken out, one after the other, which leaves as many sums less.
 /// The sums that are left are those of the bytes multiplied by their points' distances to those that were taken out.
@@ -43,46 +42,20 @@ fn take_out_point(sums: &mut [u8], point: u8)
 }
 
 /// Marks each place whose point is a zero of the locator, whose highest coefficient is 1.
-/// A zero that was found is divided out, and the last three follow by a formula, so that few places are looked at.
 pub fn mark_zeros(locator: ArrayVec<u8, 33>, marks: &mut [bool])
     requires led { slice_index locator.items 0 ≡ 1 }
     requires short { length marks.now ≤ 255 }
     ensures { marks.new ≡ with_zeros locator.items marks.old (points_of (length marks.old)) }
 {
-    let mut rest = locator;
-    for place in (0..marks.len()).rev() {
-        if mark_few(&rest, marks) {
-            return;
-        }
-        let exponent = (marks.len() - 1 - place) as u32;
-        if !marks[place] && value_at(&rest, exponent) == 0 {
-            marks[place] = true;
-            divide(&mut rest, alpha_pow(exponent));
-        }
+    // A locator of degree 0 is 1 and has no zero.
+    if locator.len() == 1 {
+        return;
     }
-}
-
-/// Divides a polynomial by (x + zero).
-fn divide(polynomial: &mut ArrayVec<u8, 33>, zero: u8)
-    requires led { slice_index polynomial.old.items 0 ≡ 1 }
-    requires vanishes { value polynomial.old.items zero ≡ 0 }
-    ensures led { slice_index polynomial.new.items 0 ≡ 1 }
-    ensures factor { (x : ℕ) → value polynomial.old.items x ≡ product (plus x zero) (value polynomial.new.items x) }
-{
-    set_values(polynomial, zero);
-    polynomial.pop();
-}
-
-/// Sets each coefficient to the value at the point of the polynomial down to it, by Horner's rule.
-/// These are the coefficients of the quotient by (x + point), and at last the remainder. That they were bytes is told too.
-fn set_values(polynomial: &mut [u8], point: u8)
-    ensures len { length polynomial.new ≡ length polynomial.old }
-    ensures bytes { All IsByte polynomial.old }
-    ensures first { slice_index polynomial.new 0 ≡ slice_index polynomial.old 0 }
-    ensures others { (k : ℕ) → k + 1 < length polynomial.old → slice_index polynomial.new (k + 1) ≡ plus (slice_index polynomial.old (k + 1)) (product point (slice_index polynomial.new k)) }
-{
-    for k in 1..polynomial.len() {
-        polynomial[k] ^= mul(point, polynomial[k - 1]);
+    let size = marks.len();
+    let values = values_at_powers(&locator, size);
+    for place in 0..size {
+        // Without a branch, so that many places are taken at once.
+        marks[place] |= values[size - 1 - place] == 0;
     }
 }
 

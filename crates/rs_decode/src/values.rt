@@ -1,0 +1,51 @@
+//! The values of a polynomial at the powers of alpha, sixteen at once. The highest power stands first.
+ghost use Rattle.std.specs.Prelude.{◌≡◌, ℕ, ◌+◌, ◌*◌, ◌<◌, ◌≤◌, length, slice_index};
+ghost use Rattle.gf_field.specs.Field.{alpha, plus, product, power};
+ghost use Rattle.gf_field.specs.Words.{value};
+
+use gf_field::alpha_pow;
+use rs_lanes::{powers, scaled};
+use std::simd::prelude::*;
+
+/// The polynomial's values at alpha^0, alpha^1, .. : byte `k` is that at alpha^k, for each `k` below `count`.
+pub fn values_at_powers(polynomial: &[u8], count: usize) -> [u8; 256]
+    requires room { count ≤ 256 }
+    requires short { length polynomial.now ≤ 255 }
+    ensures { (k : ℕ) → k < count → slice_index result k ≡ value polynomial.now (power alpha k) }
+{
+    let mut values = [0; 256];
+    for exponent in 0..polynomial.len() {
+        let coefficient = polynomial[polynomial.len() - 1 - exponent];
+        add_term(&mut values, count.div_ceil(16), coefficient, exponent);
+    }
+    values
+}
+
+// Adds the values of `coefficient` x^`exponent` to as many groups of sixteen.
+fn add_term(values: &mut [u8], groups: usize, coefficient: u8, exponent: usize)
+    requires room { 16 * groups ≤ length values.old }
+    requires short { exponent < 255 }
+    ensures size { length values.new ≡ length values.old }
+    ensures added { (k : ℕ) → k < 16 * groups
+        → slice_index values.new k ≡ plus (slice_index values.old k) (product coefficient (power alpha (exponent * k))) }
+{
+    let mut term = scaled(powers(exponent), coefficient);
+    let step = alpha_pow(16 * exponent as u32);
+    for group in 0..groups {
+        add_lanes(values, 16 * group, term);
+        term = scaled(term, step);
+    }
+}
+
+// Adds lanes to the sixteen bytes from place `at` on. All others stay.
+#[inline(always)]
+fn add_lanes(bytes: &mut [u8], at: usize, lanes: u8x16)
+    requires { at + 16 ≤ length bytes.old }
+    ensures size { length bytes.new ≡ length bytes.old }
+    ensures added { (k : ℕ) → k < 16 → slice_index bytes.new (at + k) ≡ plus (slice_index bytes.old (at + k)) (slice_index lanes k) }
+    ensures below { (k : ℕ) → k < at → slice_index bytes.new k ≡ slice_index bytes.old k }
+    ensures above { (k : ℕ) → at + 16 ≤ k → slice_index bytes.new k ≡ slice_index bytes.old k }
+{
+    let sum = u8x16::from_slice(&bytes[at..]) ^ lanes;
+    sum.copy_to_slice(&mut bytes[at..]);
+}
