@@ -1,11 +1,10 @@
 -- Rows in the order of recording, one behind the other.
-use Rattle.std.proofs.Common.{◌≡◌, ◌≢◌, ℕ, zero, suc, ◌+◌, ◌-◌, ◌*◌, ◌≤◌, List, [], ◌∷◌, ◌++◌, Result, Ok, Err, OnErr, Option, refl, sym, ◌∙◌, ap, subst, append_assoc, arith}
+use Rattle.std.proofs.Common.{◌≡◌, ℕ, zero, suc, ◌+◌, List, [], ◌++◌, Result, Ok, Err, OnErr, Option, refl, sym, ◌∙◌, ap, subst, append_assoc, arith}
 use Rattle.std.specs.Io.KnownBytes.{Appends}
-use Rattle.dvd_ports.specs.Whole.{AppendsPrefix}
-use Rattle.dvd_ports.proofs.KnownLemmas.{Appends-none, Appends-then}
+use Rattle.dvd_ports.proofs.KnownLemmas.{Appends-none}
 use Rattle.std.proofs.lemmas.List.{append-nil}
 use Rattle.dvd_block.specs.Product.{line}
-use Rattle.dvd_block.specs.Recording.{row_at, recorded, recording}
+use Rattle.dvd_block.specs.Recording.{row_at, recorded}
 
 -- no rows are no bytes
 pub recorded-none : (m : ℕ) (block : List (List ℕ)) → recorded m 0 block ≡ []
@@ -42,49 +41,9 @@ recorded-more m n block =
     ∙ ap (λ (l : List ℕ). recorded m n block ++ l)
     (recorded-first (m + n) 0 block ∙ ap (λ (l : List ℕ). line block (row_at (m + n)) ++ l) (recorded-none (m + n + 1) block) ∙ append-nil (line block (row_at (m + n))))
 
--- what was known of a sink before the first frame
+-- what was known of a sink before the first row
 pub none_written : (seen : Option (List ℕ)) (block : List (List ℕ)) → Appends seen seen (recorded 0 0 block)
 none_written seen block = subst (Appends seen seen) (sym (recorded-none 0 block)) (Appends-none seen)
-
--- one frame more
-pub frame_written : (old mid new : Option (List ℕ)) (f : ℕ) (frame : List ℕ) (block : List (List ℕ)) → Appends old mid (recorded 0 (13 * f) block)
-    → frame ≡ recorded (13 * f) 13 block → Appends mid new frame → Appends old new (recorded 0 (13 * (f + 1)) block)
-frame_written old mid new f frame block before is now =
-    let count : 13 * f + 13 ≡ 13 * (f + 1) = omega arith in
-    let from : 0 + 13 * f ≡ 13 * f = omega arith in
-    subst (Appends old new)
-    (ap (λ (l : List ℕ). recorded 0 (13 * f) block ++ l) (is ∙ ap (λ (m : ℕ). recorded m 13 block) (sym from))
-    ∙ sym (recorded-add 0 (13 * f) 13 block) ∙ ap (λ (c : ℕ). recorded 0 c block) count)
-    (Appends-then old mid new (recorded 0 (13 * f) block) frame before now)
-
--- what begins with something isn't empty
-begins_more : (xs ys : List ℕ) → xs ≢ [] → xs ++ ys ≢ []
-begins_more [] ys some none = some refl
-begins_more (x ∷ xs) ys some none = cc
-
--- a part of a frame
-pub frame_begun : (old mid new : Option (List ℕ)) (f : ℕ) (frame : List ℕ) (block : List (List ℕ)) → f + 1 ≤ 16 → Appends old mid (recorded 0 (13 * f) block)
-    → frame ≡ recorded (13 * f) 13 block → AppendsPrefix mid new frame → AppendsPrefix old new (recording block)
-frame_begun old mid new f frame block inside before is begun =
-    let done : List ℕ = recorded 0 (13 * f) block in
-    let left : ℕ = 195 - 13 * f in
-    let behind : List ℕ = recorded (13 * f + 13) left block in
-    let from : 0 + 13 * f ≡ 13 * f = omega arith in
-    let count : 13 * f + (13 + left) ≡ 208 = omega arith in
-    record {
-      taken = done ++ begun.taken;
-      rest = begun.rest ++ behind;
-      grows = Appends-then old mid new done begun.taken before begun.grows;
-      whole =
-          append_assoc done begun.taken (begun.rest ++ behind)
-          ∙ ap (λ (l : List ℕ). done ++ l) (sym (append_assoc begun.taken begun.rest behind)
-          ∙ ap (λ (l : List ℕ). l ++ behind) (begun.whole ∙ is)
-          ∙ sym (recorded-add (13 * f) 13 left block)
-          ∙ ap (λ (m : ℕ). recorded m (13 + left) block) (sym from))
-          ∙ sym (recorded-add 0 (13 * f) (13 + left) block)
-          ∙ ap (λ (c : ℕ). recorded 0 c block) count;
-      more = begins_more begun.rest behind begun.more;
-    }
 
 -- a fact about a failed call that doesn't depend on its error
 pub on_err : {T E : Type 0} (r : Result T E) (P : Type 0) → P → OnErr r P

@@ -4,7 +4,7 @@ ghost use Rattle.std.specs.Io.KnownBytes.{Appends};
 ghost use Rattle.dvd_ports.specs.Causes.{HasCause};
 ghost use Rattle.dvd_ports.specs.Whole.{AppendsPrefix};
 ghost use Rattle.dvd_block.specs.Product.{line, place};
-ghost use Rattle.dvd_block.specs.Recording.{recorded};
+ghost use Rattle.dvd_block.specs.Recording.{recording};
 
 use crate::buffers::{Cells, Lines};
 use crate::order::row_of_record;
@@ -12,8 +12,8 @@ use crate::parity::{columns_are_codewords, fill_parity, place_cells, rows_are_co
 use dvd_ports::{NoMemory, Sink, WriteFault, write_whole};
 use std::alloc::Global;
 
-/// The bytes of a recording frame: thirteen rows.
-const FRAME: usize = 2366;
+/// The bytes of a recorded block: 208 rows of 182 (ECMA-267, 19).
+const RECORDING: usize = 37_856;
 
 /// The rows of a block, with cells for its outer parity. Both are lent apart from each other.
 #[derive(Drop)]
@@ -86,12 +86,9 @@ impl Block {
         ensures begun { OnErr result (AppendsPrefix (K.seen out.old).bytes (K.seen out.new).bytes (recording (block_rows self.now))) }
         ensures cause { HasCause (K.seen out.old).faults (K.seen out.new).faults result }
     {
-        let mut frame = [0; FRAME];
-        for f in 0..16 {
-            recording_frame(self.lines.rows(), f, &mut frame);
-            write_whole(out, &frame)?;
-        }
-        Ok(())
+        let mut bytes = [0; RECORDING];
+        record_rows(self.lines.rows(), &mut bytes);
+        write_whole(out, &bytes)
     }
 
     /// Sets place j of row 192+t to byte t of cell j, for all t below 16 and j below 182. All else stays.
@@ -115,15 +112,14 @@ fn get_rows(rows: &[[u8; 182]], frame: &mut [u8; 2064])
     }
 }
 
-// Writes recording frame `f`: thirteen rows in the order of recording.
-fn recording_frame(rows: &[[u8; 182]], f: usize, frame: &mut [u8; FRAME])
-    requires rows { length rows.now ≡ 208 }
-    requires frame { f < 16 }
-    ensures { frame.new ≡ recorded (13 * f) 13 rows.now }
+// Writes the rows in the order of recording.
+fn record_rows(rows: &[[u8; 182]], bytes: &mut [u8; RECORDING])
+    requires { length rows.now ≡ 208 }
+    ensures { bytes.new ≡ recording rows.now }
 {
-    for k in 0..13 {
-        let row = &rows[row_of_record(13 * f + k)];
-        frame[182 * k..182 * k + 182].copy_from_slice(row);
+    for m in 0..208 {
+        let row = &rows[row_of_record(m)];
+        bytes[182 * m..182 * m + 182].copy_from_slice(row);
     }
 }
 

@@ -1,4 +1,4 @@
-use Rattle.std.proofs.Common.{◌≡◌, ℕ, ◌+◌, ◌*◌, ◌<◌, List, take, subst, sym, ap, ◌∙◌, arith}
+use Rattle.std.proofs.Common.{ℕ, ◌+◌, ◌*◌, List, take, subst, sym, ◌∙◌, arith}
 use Rattle.gf_field.specs.Words.{IsEncoded}
 use Rattle.rs_lanes.proofs.ColumnLemmas.{group_more}
 use Rattle.dvd_block.specs.Product.{line}

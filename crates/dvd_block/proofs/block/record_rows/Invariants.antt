@@ -1,0 +1,9 @@
+use Rattle.std.proofs.Common.{◌≡◌, ◌*◌, length, take}
+use Rattle.dvd_block.specs.Recording.{recorded}
+use Rattle.dvd_block.proofs.block.record_rows.Given as goal
+
+abbrev pub invariant-loop-m : goal.invariant-loop-m
+invariant-loop-m l = record {
+  size : length l.bytes ≡ 37_856;
+  front : take (182 * l.m) l.bytes ≡ recorded 0 l.m l.rows;
+}
