@@ -1,7 +1,5 @@
 -- Rows in the order of recording, one behind the other.
-use Rattle.std.proofs.Common.{◌≡◌, ℕ, zero, suc, ◌+◌, List, [], ◌++◌, Result, Ok, Err, OnErr, Option, refl, sym, ◌∙◌, ap, subst, append_assoc, arith}
-use Rattle.std.specs.Io.KnownBytes.{Appends}
-use Rattle.dvd_ports.proofs.KnownLemmas.{Appends-none}
+use Rattle.std.proofs.Common.{◌≡◌, ℕ, zero, suc, ◌+◌, List, [], ◌++◌, Result, Ok, Err, OnErr, refl, sym, ◌∙◌, ap, append_assoc, arith}
 use Rattle.std.proofs.lemmas.List.{append-nil}
 use Rattle.dvd_block.specs.Product.{line}
 use Rattle.dvd_block.specs.Recording.{row_at, recorded}
@@ -40,10 +38,6 @@ recorded-more m n block =
     recorded-add m n 1 block
     ∙ ap (λ (l : List ℕ). recorded m n block ++ l)
     (recorded-first (m + n) 0 block ∙ ap (λ (l : List ℕ). line block (row_at (m + n)) ++ l) (recorded-none (m + n + 1) block) ∙ append-nil (line block (row_at (m + n))))
-
--- what was known of a sink before the first row
-pub none_written : (seen : Option (List ℕ)) (block : List (List ℕ)) → Appends seen seen (recorded 0 0 block)
-none_written seen block = subst (Appends seen seen) (sym (recorded-none 0 block)) (Appends-none seen)
 
 -- a fact about a failed call that doesn't depend on its error
 pub on_err : {T E : Type 0} (r : Result T E) (P : Type 0) → P → OnErr r P

@@ -86,9 +86,7 @@ impl Block {
         ensures begun { OnErr result (AppendsPrefix (K.seen out.old).bytes (K.seen out.new).bytes (recording (block_rows self.now))) }
         ensures cause { HasCause (K.seen out.old).faults (K.seen out.new).faults result }
     {
-        let mut bytes = [0; RECORDING];
-        record_rows(self.lines.rows(), &mut bytes);
-        write_whole(out, &bytes)
+        write_rows(self.lines.rows(), out)
     }
 
     /// Sets place j of row 192+t to byte t of cell j, for all t below 16 and j below 182. All else stays.
@@ -100,6 +98,19 @@ impl Block {
     {
         place_cells(self.cells.all(), &mut self.lines.rows_mut()[192..]);
     }
+}
+
+/// Writes 208 rows as the sixteen recording frames in order, 37,856 bytes in one piece. After a fault a prefix of them was
+/// taken.
+pub fn write_rows<K: Sink>(rows: &[[u8; 182]], out: &mut K) -> Result<(), WriteFault>
+    requires { length rows.now ≡ 208 }
+    ensures written { OnOk result (Appends (K.seen out.old).bytes (K.seen out.new).bytes (recording rows.now)) }
+    ensures begun { OnErr result (AppendsPrefix (K.seen out.old).bytes (K.seen out.new).bytes (recording rows.now)) }
+    ensures cause { HasCause (K.seen out.old).faults (K.seen out.new).faults result }
+{
+    let mut bytes = [0; RECORDING];
+    record_rows(rows, &mut bytes);
+    write_whole(out, &bytes)
 }
 
 // Writes the first 172 bytes of twelve rows behind each other.

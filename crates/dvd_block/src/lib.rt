@@ -10,7 +10,7 @@ mod parity; // the parity of rows and columns
 pub mod parts; // the buffers and the parity of one row and one column, for work on several at once
 mod piece; // a buffer for the sectors of a block
 
-pub use block::Block;
+pub use block::{Block, write_rows};
 pub use order::{record_of_row, row_of_record};
 pub use piece::Piece;
 

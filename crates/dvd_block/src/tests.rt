@@ -72,6 +72,17 @@ fn a_fault_leaves_a_prefix(rt: HostRuntime) -> Result<(), Fail> {
 }
 
 #[test]
+fn a_block_is_one_call_of_a_sink_that_takes_it_whole(rt: HostRuntime) -> Result<(), Fail> {
+    let alloc = rt.alloc();
+    let block = Block::new(alloc)?;
+    let mut sink = MemSink::new(alloc, 100_000, 100_000, vec![in alloc; 1; 1]?)?;
+    block.write_recording(&mut sink)?;
+    assert_eq!(rt; block.write_recording(&mut sink), Err(WriteFault));
+    assert_eq!(rt; sink.held().len(), 37856);
+    Ok(())
+}
+
+#[test]
 fn a_piece_has_room_for_sixteen_sectors(rt: HostRuntime) -> Result<(), Fail> {
     let mut piece = Piece::new(rt.alloc())?;
     assert_eq!(rt; piece.bytes()[32767], 0);

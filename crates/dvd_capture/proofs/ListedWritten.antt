@@ -10,8 +10,7 @@ use Rattle.std.proofs.lemmas.Nat.{from_be_bytes-to_be_bytes_2}
 use Rattle.dvd_ports.specs.Whole.{AppendsPrefix}
 use Rattle.dvd_ports.proofs.KnownLemmas.{Appends-none, Appends-then}
 use Rattle.dvd_block.specs.Product.{line}
-use Rattle.dvd_block.specs.Recording.{recorded, recording, row_at}
-use Rattle.dvd_block.proofs.Recorded.{recorded-more}
+use Rattle.dvd_block.specs.Recording.{recording}
 use Rattle.dvd_capture.specs.Answers.{marks_line}
 use Rattle.dvd_capture.specs.Captured.{IsUnitOf}
 use Rattle.dvd_capture.specs.Laws.{MarksHaveASpelling}
@@ -19,7 +18,7 @@ use Rattle.dvd_capture.specs.Listed.{field_at, mark_of, marked_by, run_count}
 use Rattle.dvd_capture.specs.Listing.{AppendsPart, AppendsUnit}
 use Rattle.dvd_capture.specs.Inner.Listing.{AppendsAll, AppendsSome, AreMarked, HasRuns, starts_below}
 use Rattle.dvd_capture.proofs.ListedUnit.{marks-listed, rows-listed}
-use Rattle.dvd_capture.proofs.RecordedRows.{length-recorded, recording_captured, split}
+use Rattle.dvd_capture.proofs.RecordedRows.{length-recorded, recording_captured}
 use Rattle.dvd_capture.proofs.ListedFields.{field_at-behind, number-unbroken, one-run-more}
 use Rattle.dvd_capture.proofs.ListedTaken.{field-read, first-field, second-field}
 use Rattle.dvd_capture.proofs.RunStarts.{none_left, start-first, start_at, starts-few, starts-marked, starts-next, starts-none, starts-unmarked}
@@ -397,21 +396,6 @@ module _ (rows : List (List ℕ)) (height : length rows ≡ 208) (widths : (i : 
 
   pub recording_size : length (recording rows) ≡ 37_856
   recording_size = length-recorded rows height wide 208 (omega arith) ∙ refl
-
-  -- one recorded row more
-  pub row-written : (old mid new : Option (List ℕ)) (m : ℕ) (row : List ℕ) → row ≡ line rows (row_at m) → Appends old mid (recorded 0 m rows) → Appends mid new row
-      → Appends old new (recorded 0 (m + 1) rows)
-  row-written old mid new m row is before grows =
-      let same : 0 + m ≡ m = omega arith in
-      subst (Appends old new) (ap (λ r. recorded 0 m rows ++ r) is ∙ ap (λ k. recorded 0 m rows ++ line rows (row_at k)) (sym same) ∙ sym (recorded-more 0 m rows))
-      (Appends-then old mid new (recorded 0 m rows) row before grows)
-
-  -- or a front of it
-  pub row-begun : (old mid new : Option (List ℕ)) (m : ℕ) (row : List ℕ) → m < 208 → row ≡ line rows (row_at m) → Appends old mid (recorded 0 m rows) → AppendsPrefix mid new row
-      → AppendsPrefix old new (recording rows)
-  row-begun old mid new m row below_all is before part =
-      subst (AppendsPrefix old new) (sym (append_assoc (recorded 0 m rows) (line rows (row_at m)) (recorded (0 + (m + 1)) (207 - m) rows)) ∙ sym (split rows height wide m below_all))
-      (prefix-behind old mid new (recorded 0 m rows) (line rows (row_at m)) (recorded (0 + (m + 1)) (207 - m) rows) before (subst (AppendsPrefix mid new) is part))
 
   module _ (marks : List (List Bool)) (marks_height : length marks ≡ 208) (marks_widths : (i : ℕ) → i < 208 → length (marks_line marks i) ≡ 182) where
     pub unit-of : (own : List ℕ) → ((k : ℕ) → slice_index own k < 256) → (count end : ℕ) → HasRuns (recording rows ++ own) count count end (mark_of marks)

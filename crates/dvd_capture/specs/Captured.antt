@@ -1,5 +1,5 @@
 -- Captured blocks in a stream of bytes. A block has 208 recorded rows (ECMA-267, 19), one after the other. The definitions
--- go by index; the code reads a recorded row at a time, and each in any pieces.
+-- go by index; the code reads all rows of a block as one piece.
 use Rattle.std.specs.Prelude.{◌≡◌, ◌≢◌, ℕ, ◌*◌, ◌<◌, ◌≤◌, Bool, false, List, length, map, take, drop, replicate, slice_index, ⊤}
 use Rattle.std.specs.List.{range_with_len}
 use Rattle.std.specs.Io.KnownBytes.{Consumes, IsAtEnd}

@@ -1,5 +1,5 @@
 //! Captured blocks are read from a source.
-ghost use Rattle.std.specs.Prelude.{◌≡◌, ◌≢◌, ℕ, ◌+◌, ◌*◌, ◌<◌, ◌≤◌, ◌==◌, if◌then◌else◌, List, ◌++◌, length, take, slice_set};
+ghost use Rattle.std.specs.Prelude.{◌≡◌, ◌≢◌, ℕ, ◌*◌, ◌<◌, ◌≤◌, ◌==◌, if◌then◌else◌, length, take, slice_set};
 ghost use Rattle.dvd_block.specs.Recording.{row_at};
 ghost use Rattle.dvd_ports.specs.Causes.{Rose};
 ghost use Rattle.dvd_capture.specs.Captured.{BreaksAt, Captures, EndsAfter, FailsWithin, HasSize, marks_in, record_size};
@@ -17,8 +17,8 @@ use crate::work::Work;
 use dvd_block::row_of_record;
 use dvd_ports::{Failed, Source, read_whole};
 
-// The bytes of a recording frame in the form that has most.
-const MOST_FRAME: usize = 13 * 205;
+// The bytes of a block in the form that has most, of those that give each block as many.
+const MOST_BLOCK: usize = 208 * 205;
 
 /// What a source gave for one block.
 #[derive(Clone, Copy, Debug, PartialEq, Eq)]
@@ -81,7 +81,7 @@ fn fetch_parts<S: Source>(
     }
 }
 
-// Reads the sixteen recording frames of a block, each of thirteen recorded rows.
+// Reads the 208 recorded rows of a block.
 pub(crate) fn fetch_rows<S: Source>(
     src: &mut S,
     form: Form,
@@ -98,17 +98,17 @@ pub(crate) fn fetch_rows<S: Source>(
     ensures steady { result ≢ ReadFault → (S.seen src.new).faults ≡ (S.seen src.old).faults }
     ensures later { (S.seen src.old).faults ≤ (S.seen src.new).faults }
 {
-    let size = form.frame_size();
-    let mut buffer = [0; MOST_FRAME];
-    for f in 0..16 {
-        let bytes = &mut buffer[..size];
-        match read_whole(src, bytes) {
-            Ok(count) if count < size => return cut_off(size * f + count),
-            Ok(_) => put_frame(received, marks, f, form, bytes),
-            Err(Failed) => return FetchAnswer::ReadFault,
+    let size = form.size();
+    let mut buffer = [0; MOST_BLOCK];
+    let bytes = &mut buffer[..size];
+    match read_whole(src, bytes) {
+        Ok(count) if count < size => cut_off(count),
+        Ok(_) => {
+            put_rows(received, marks, form, bytes);
+            FetchAnswer::Full
         }
+        Err(Failed) => FetchAnswer::ReadFault,
     }
-    FetchAnswer::Full
 }
 
 // What is answered where a source ended after so many bytes of a block.
@@ -125,17 +125,15 @@ fn cut_off(bytes: usize) -> FetchAnswer
     }
 }
 
-// Sets the rows that stand in recording frame `f`, and their marks.
-fn put_frame(received: &mut Received, marks: &mut Marks, f: usize, form: Form, bytes: &[u8])
-    requires frame { f < 16 }
-    requires size { length bytes.now ≡ record_size form * 13 }
-    ensures { (before : List ℕ) → ArePut form before (received_rows received.old) (marks_rows marks.old) (13 * f)
-        → ArePut form (before ++ bytes.now) (received_rows received.new) (marks_rows marks.new) (13 * f + 13) }
+// Sets all rows and their marks to those in these bytes.
+fn put_rows(received: &mut Received, marks: &mut Marks, form: Form, bytes: &[u8])
+    requires { length bytes.now ≡ record_size form * 208 }
+    ensures { ArePut form bytes.now (received_rows received.new) (marks_rows marks.new) 208 }
 {
     let size = form.record_size();
-    for k in 0..13 {
-        let record = &bytes[size * k..size * k + size];
-        put_record(received, marks, 13 * f + k, form, record);
+    for m in 0..208 {
+        let record = &bytes[size * m..size * m + size];
+        put_record(received, marks, m, form, record);
     }
 }
 

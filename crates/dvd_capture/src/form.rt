@@ -1,5 +1,5 @@
 //! The forms in which a captured block is stored.
-ghost use Rattle.std.specs.Prelude.{◌≡◌, ◌*◌};
+ghost use Rattle.std.specs.Prelude.{◌≡◌};
 ghost use Rattle.dvd_capture.specs.Captured.{HasSize, block_size, record_size};
 
 /// How the bytes of a captured block stand in a stream: its 208 recorded rows in order.
@@ -20,13 +20,6 @@ impl Form {
         ensures { result ≡ block_size self }
     {
         208 * self.record_size()
-    }
-
-    /// The bytes of a recording frame: thirteen recorded rows.
-    pub(crate) fn frame_size(self) -> usize
-        ensures { result ≡ record_size self * 13 }
-    {
-        13 * self.record_size()
     }
 
     /// The bytes of a recorded row.

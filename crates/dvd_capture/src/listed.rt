@@ -4,7 +4,6 @@ ghost use Rattle.std.specs.Prelude.{◌≡◌, ◌≢◌, ℕ, ◌+◌, ◌*◌,
 ghost use Rattle.std.specs.Io.KnownBytes.{Appends, Consumes};
 ghost use Rattle.std.specs.Int.{to_be_bytes, w16};
 ghost use Rattle.dvd_block.specs.Product.{line};
-ghost use Rattle.dvd_block.specs.Recording.{recording};
 ghost use Rattle.dvd_ports.specs.Causes.{HasCause, Rose};
 ghost use Rattle.dvd_ports.specs.Whole.{AppendsPrefix};
 ghost use Rattle.dvd_capture.specs.Captured.{BreaksAt, Captures, EndsAfter, FailsWithin};
@@ -22,7 +21,7 @@ use crate::form::Form;
 use crate::parts::{Marks, Received};
 use crate::places::{PLACES, count_runs, mark_places, next_place};
 use crate::work::Work;
-use dvd_block::row_of_record;
+use dvd_block::write_rows;
 use dvd_ports::{Failed, Sink, Source, WriteFault, read_whole, write_whole};
 
 // The most runs that a block has: every other place is marked.
@@ -36,7 +35,7 @@ pub fn write_listed<K: Sink>(work: &Work, out: &mut K) -> Result<(), WriteFault>
     ensures cause { HasCause (K.seen out.old).faults (K.seen out.new).faults result }
 {
     see_rows(&work.received);
-    write_rows(&work.received, out)?;
+    write_rows(work.received.rows(), out)?;
     write_runs(&work.marks, out)
 }
 
@@ -47,19 +46,6 @@ fn see_rows(received: &Received)
     for i in 0..208 {
         let _first = received.row(i)[0];
     }
-}
-
-// Writes the 208 recorded rows.
-fn write_rows<K: Sink>(received: &Received, out: &mut K) -> Result<(), WriteFault>
-    requires { (i : ℕ) → i < 208 → length (line (received_rows received.now) i) ≡ 182 }
-    ensures written { OnOk result (Appends (K.seen out.old).bytes (K.seen out.new).bytes (recording (received_rows received.now))) }
-    ensures begun { OnErr result (AppendsPrefix (K.seen out.old).bytes (K.seen out.new).bytes (recording (received_rows received.now))) }
-    ensures cause { HasCause (K.seen out.old).faults (K.seen out.new).faults result }
-{
-    for m in 0..208 {
-        write_whole(out, received.row(row_of_record(m)))?;
-    }
-    Ok(())
 }
 
 // Writes the number of runs and then each run, behind the bytes of the rows.

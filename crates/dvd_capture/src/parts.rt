@@ -1,5 +1,6 @@
 //! The buffers of a captured block. Whoever decodes several rows or columns at once lends them one by one.
-ghost use Rattle.std.specs.Prelude.{◌≡◌, ◌↔◌, ℕ, ◌<◌, ◌≢◌, ◌==◌, Bool, false, List, [], length, vec_len, IfOk, IsTrue, replicate, slice_index_or, slice_set, map};
+ghost use Rattle.std.specs.Prelude.{◌≡◌, ◌↔◌, ℕ, ◌<◌, ◌≤◌, ◌≢◌, ◌==◌, Bool, false, List, [], length, take, vec_len, IfOk, IsTrue, replicate, slice_index_or, slice_set, map};
+ghost use Rattle.std.specs.List.{flat_map};
 ghost use Rattle.std.specs.declared.option.Option.TheVariants.{None, Some};
 ghost use Rattle.std.specs.Int.{bit_at};
 ghost use Rattle.dvd_block.specs.Product.{line};
@@ -359,6 +360,14 @@ impl Sectors {
         ensures { result.now ≡ line (sector_bytes self.now) f }
     {
         &self.all[f]
+    }
+
+    /// The first `count` sectors, one behind the other.
+    pub fn first(&self, count: usize) -> &[u8]
+        requires { count ≤ 16 }
+        ensures { result.now ≡ flat_map (λ sector. sector) (take count (sector_bytes self.now)) }
+    {
+        self.all[..count].as_flattened()
     }
 
     /// Sets all sectors to zeros.

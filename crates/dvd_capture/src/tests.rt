@@ -109,13 +109,22 @@ fn a_stream_ends_or_fails_within_a_block(rt: HostRuntime) -> Result<(), Fail> {
     for (count, fails, plain, marked) in CUT {
         assert!(rt; count <= 100_000);
         for (form, answer) in [(Form::Plain, plain), (Form::Marked, marked)] {
-            let mut source = MemSource::new(
-                stream(alloc, count, 182)?,
-                40000,
-                fails.to_vec(alloc)?,
-            );
+            let mut source = MemSource::new(stream(alloc, count, 182)?, 4000, fails.to_vec(alloc)?);
             assert_eq!(rt; fetch(&mut source, form, &mut work), answer);
         }
+    }
+    Ok(())
+}
+
+#[test]
+fn a_block_is_one_call_of_a_source_that_gives_it_whole(rt: HostRuntime) -> Result<(), Fail> {
+    let alloc = rt.alloc();
+    let mut work = Work::new(alloc)?;
+    for form in [Form::Plain, Form::Marked] {
+        let bytes = stream(alloc, 85280, 205)?;
+        let mut source = MemSource::new(bytes, 100_000, vec![in alloc; 1; 1]?);
+        assert_eq!(rt; fetch(&mut source, form, &mut work), FetchAnswer::Full);
+        assert_eq!(rt; fetch(&mut source, form, &mut work), FetchAnswer::ReadFault);
     }
     Ok(())
 }

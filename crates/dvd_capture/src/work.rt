@@ -1,6 +1,7 @@
 //! A captured block: what was received, and what was found of it.
 ghost use Rattle.std.proofs.Props.{props};
-ghost use Rattle.std.specs.Prelude.{◌≡◌, ℕ, ◌<◌, ◌≢◌, ◌↔◌, Bool, false, List, length, replicate, slice_index, slice_index_or, slice_set, IfOk, IfSome, IfNone, OnSome};
+ghost use Rattle.std.specs.Prelude.{◌≡◌, ℕ, ◌<◌, ◌≤◌, ◌≢◌, ◌↔◌, Bool, false, List, length, take, replicate, slice_index, slice_index_or, slice_set, IfOk, IfSome, IfNone, OnSome};
+ghost use Rattle.std.specs.List.{flat_map};
 ghost use Rattle.std.specs.declared.option.Option.TheVariants.{None, Some};
 ghost use Rattle.dvd_block.specs.Product.{line, place};
 ghost use Rattle.dvd_capture.specs.Answers.{AreAnswers, IsFix, marks_line, row_answer};
@@ -175,6 +176,14 @@ impl Work {
         ensures size { length result.now ≡ 2048 }
     {
         self.sectors.sector(f)
+    }
+
+    /// The bytes of the first `count` sectors, one behind the other.
+    pub fn first_sectors(&self, count: usize) -> &[u8]
+        requires { count ≤ 16 }
+        ensures { result.now ≡ flat_map (λ sector. sector) (take count (sectors_of self.now)) }
+    {
+        self.sectors.first(count)
     }
 
     /// Sets the sixteen sectors to zeros. All else stays.

@@ -1,5 +1,8 @@
-use Rattle.std.proofs.Common.{◌∙◌, Result, Ok, Err, sym}
+use Rattle.std.proofs.Common.{◌∙◌, Result, Ok, Err, subst, sym}
 use Rattle.std.specs.Result.{OnErr, OnOk}
+use Rattle.std.specs.Io.KnownBytes.{Appends}
+use Rattle.dvd_ports.specs.Whole.{AppendsPrefix}
+use Rattle.dvd_block.specs.Recording.{recording}
 use Rattle.dvd_block.proofs.Recorded.{on_err}
 use Rattle.dvd_capture.specs.Works.{marks_of_work, rows_of}
 use Rattle.dvd_capture.proofs.ListedWritten.{recording_size, rows-begun, runs-begun, unit-written}
@@ -22,7 +25,8 @@ returns-clause-written g c =
     let height = sym work.received.rows.ok.0 ∙ work.received.size in
     let widths = c.see_rows.ensures in
     on_ok-map c.write_runs.result _ _
-    (unit-written (rows_of work) height widths (marks_of_work work) (marks-height work.marks) (marks-width work.marks) _ _ _ c.in_ok-write_rows.ensures.written)
+    (unit-written (rows_of work) height widths (marks_of_work work) (marks-height work.marks) (marks-width work.marks) _ _ _
+    (subst (λ rows. Appends (g.K.Sink.seen c.args.out.now).bytes (g.K.Sink.seen c.write_rows.new.out).bytes (recording rows)) c.rows.ensures.rows c.in_ok-write_rows.ensures.written))
     (c.write_runs.ensures.written _ (recording_size (rows_of work) height widths))
 
 pub returns-clause-begun : goal.returns-clause-begun
@@ -31,11 +35,13 @@ returns-clause-begun g c =
     let height = sym work.received.rows.ok.0 ∙ work.received.size in
     let widths = c.see_rows.ensures in
     on_err-map c.write_runs.result _ _
-    (runs-begun (rows_of work) height widths (marks_of_work work) (marks-height work.marks) (marks-width work.marks) _ _ _ c.in_ok-write_rows.ensures.written)
+    (runs-begun (rows_of work) height widths (marks_of_work work) (marks-height work.marks) (marks-width work.marks) _ _ _
+    (subst (λ rows. Appends (g.K.Sink.seen c.args.out.now).bytes (g.K.Sink.seen c.write_rows.new.out).bytes (recording rows)) c.rows.ensures.rows c.in_ok-write_rows.ensures.written))
     (c.write_runs.ensures.begun _ (recording_size (rows_of work) height widths))
 
 pub returns-in_err-write_rows-clause-begun : goal.returns-in_err-write_rows-clause-begun
 returns-in_err-write_rows-clause-begun g c =
     let work = c.args.work.now in
     on_err c.from_residual.result _
-    (rows-begun (rows_of work) (sym work.received.rows.ok.0 ∙ work.received.size) c.see_rows.ensures (marks_of_work work) (marks-height work.marks) (marks-width work.marks) _ _ c.in_err-write_rows.ensures.begun)
+    (rows-begun (rows_of work) (sym work.received.rows.ok.0 ∙ work.received.size) c.see_rows.ensures (marks_of_work work) (marks-height work.marks) (marks-width work.marks) _ _
+    (subst (λ rows. AppendsPrefix (g.K.Sink.seen c.args.out.now).bytes (g.K.Sink.seen c.write_rows.new.out).bytes (recording rows)) c.rows.ensures.rows c.in_err-write_rows.ensures.begun))
