@@ -5,7 +5,7 @@
 pub mod laws; // what holds of every join, as contracts alone
 mod merge; // what is known of each place of a block
 mod place; // what is known of a place
-mod record; // a row in the marked form
+mod record; // rows in the marked form
 
 pub use merge::Merge;
 pub use place::Place;

@@ -11,8 +11,7 @@ ghost use Rattle.dvd_merge.specs.MarkedText.{marked_text};
 ghost use Rattle.dvd_merge.specs.declared.place.Place.TheVariants.{Value};
 
 use crate::place::Place;
-use crate::record::{RECORD, fill_record};
-use dvd_block::row_of_record;
+use crate::record::{TEXT, fill_text};
 use dvd_capture::Work;
 use dvd_ports::{NoMemory, Sink, WriteFault, write_whole};
 use std::alloc::Global;
@@ -82,12 +81,9 @@ impl Merge {
         ensures begun { OnErr result (AppendsPrefix (K.seen out.old).bytes (K.seen out.new).bytes (marked_text (table_of self.now))) }
         ensures cause { HasCause (K.seen out.old).faults (K.seen out.new).faults result }
     {
-        let mut record = [0; RECORD];
-        for m in 0..208 {
-            fill_record(&self.rows[row_of_record(m)], &mut record);
-            write_whole(out, &record)?;
-        }
-        Ok(())
+        let mut text = [0; TEXT];
+        fill_text(&self.rows, &mut text);
+        write_whole(out, &text)
     }
 
     /// Joins each place of a received row into row `i`: its byte, or nothing where it is marked. All else stays.

@@ -1,16 +1,32 @@
-//! A row in the marked form.
+//! Rows in the marked form.
 ghost use Rattle.std.specs.Prelude.{◌≡◌, ◌*◌, ◌++◌, length, map, take, drop};
 ghost use Rattle.std.specs.List.{range_with_len};
 ghost use Rattle.dvd_merge.specs.Join.{byte_of, mark_of};
-ghost use Rattle.dvd_merge.specs.MarkedText.{marked_row, number_of_marks};
+ghost use Rattle.dvd_merge.specs.MarkedText.{marked_row, marked_text, number_of_marks};
 
 use crate::place::Place;
+use dvd_block::row_of_record;
 
-/// The bytes of a recorded row in the marked form: 182 and 23 of mark bits.
-pub(crate) const RECORD: usize = 205;
+// The bytes of a recorded row in the marked form: 182 and 23 of mark bits.
+const RECORD: usize = 205;
 
-/// Writes a row in the marked form.
-pub(crate) fn fill_record(places: &[Place; 182], bytes: &mut [u8; RECORD])
+/// The bytes of a block in the marked form: 208 recorded rows.
+pub(crate) const TEXT: usize = 208 * RECORD;
+
+/// Writes a block in the marked form, its rows in the order of recording.
+pub(crate) fn fill_text(table: &[[Place; 182]], text: &mut [u8; TEXT])
+    requires { length table.now ≡ 208 }
+    ensures { text.new ≡ marked_text table.now }
+{
+    let mut record = [0; RECORD];
+    for m in 0..208 {
+        fill_record(&table[row_of_record(m)], &mut record);
+        text[RECORD * m..RECORD * m + RECORD].copy_from_slice(&record);
+    }
+}
+
+// Writes a row in the marked form.
+fn fill_record(places: &[Place; 182], bytes: &mut [u8; RECORD])
     ensures { bytes.new ≡ marked_row places.now }
 {
     let mut marks = [false; 184];

@@ -1,0 +1,30 @@
+use Rattle.std.proofs.Common.{◌≡◌, ℕ, ◌+◌, ◌-◌, ◌*◌, List, ◌++◌, length, map, sym, ◌∙◌, ap, arith}
+use Rattle.std.proofs.lemmas.Slice.{take-put_mid}
+use Rattle.dvd_block.specs.Product.{line}
+use Rattle.dvd_block.specs.Recording.{row_at}
+use Rattle.dvd_block.proofs.RowParts.{length-part_written}
+use Rattle.dvd_block.proofs.Recorded.{recorded-none}
+use Rattle.dvd_merge.specs.MarkedText.{marked_row}
+use Rattle.dvd_merge.proofs.Texts.{record_is, record_more}
+use Rattle.dvd_merge.proofs.record.fill_text.Goals as goal
+
+pub loop-m-init : goal.loop-m-init
+loop-m-init c = record { record_size = omega arith; size = omega arith; front = sym (recorded-none 0 (map marked_row c.args.table.now)) }
+
+pub loop-m-preserved : goal.loop-m-preserved
+loop-m-preserved c =
+    let m : ℕ = c.loop-m.m in
+    let width : ℕ = 205 * m + 205 - 205 * m in
+    let text : List ℕ = c.loop-m.text in
+    let part : List ℕ = c.copy_from_slice.new.self in
+    let rows : List (List ℕ) = map marked_row c.args.table.now in
+    let is : part ≡ line rows (row_at m) =
+    record_is c.args.table.now m c.row_of_record.result part c.requires c.row_of_record.ensures.within c.row_of_record.ensures.value (c.copy_from_slice.ensures.after ∙ c.fill_record.ensures) in
+    let size : length part ≡ 205 = ap length c.copy_from_slice.ensures.after ∙ c.fill_record.array_long in
+    record {
+      record_size = c.fill_record.array_long;
+      size = length-part_written (205 * m) width text part (omega (arith, c.loop-m.invariant.size)) (omega arith) ∙ c.loop-m.invariant.size;
+      front = take-put_mid (205 * m) width text part (205 * (m + 1)) (omega arith) (omega (arith, c.loop-m.invariant.size))
+          ∙ ap (λ (l : List ℕ). l ++ part) c.loop-m.invariant.front
+          ∙ record_more rows m part is;
+    }

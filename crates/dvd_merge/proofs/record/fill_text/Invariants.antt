@@ -1,0 +1,11 @@
+use Rattle.std.proofs.Common.{◌≡◌, ◌*◌, length, map, take}
+use Rattle.dvd_block.specs.Recording.{recorded}
+use Rattle.dvd_merge.specs.MarkedText.{marked_row}
+use Rattle.dvd_merge.proofs.record.fill_text.Given as goal
+
+abbrev pub invariant-loop-m : goal.invariant-loop-m
+invariant-loop-m l = record {
+  record_size : length l.record ≡ 205;
+  size : length l.text ≡ 42_640;
+  front : take (205 * l.m) l.text ≡ recorded 0 l.m (map marked_row l.table);
+}
