@@ -67,7 +67,7 @@ pub(crate) fn refuse_block<K: Sink, E: Sink>(
     Ok(Turn::Bad)
 }
 
-/// Writes the first sectors, each as one piece.
+/// Writes the first sectors as one piece.
 pub(crate) fn write_sectors<K: Sink>(
     work: &Work,
     count: usize,
@@ -78,8 +78,5 @@ pub(crate) fn write_sectors<K: Sink>(
     ensures begun { OnErr result (AppendsPrefix (K.seen out.old).bytes (K.seen out.new).bytes (sectors_out count (sectors_of work.now))) }
     ensures cause { HasCause (K.seen out.old).faults (K.seen out.new).faults result }
 {
-    for f in 0..count {
-        write_whole(out, work.sector(f))?;
-    }
-    Ok(())
+    write_whole(out, work.first_sectors(count))
 }
