@@ -42,7 +42,7 @@ static COMMANDS: [Command; 13] = [
         words: "master --sectors 17",
         input: (17, "", 0, 0, 34_816, 0),
         source: (5000, 1, 9),
-        output: (5000, 1, 32),
+        output: (5000, 1, 16),
         report: (7, 1, 1),
         end: (Status::Done, 2 * BLOCK, "done\n"),
         closing: "done\n",
@@ -55,8 +55,8 @@ static COMMANDS: [Command; 13] = [
     Command {
         words: "recover --sectors 17",
         input: (17, "master --sectors 17", 2, 0, 2 * BLOCK, 0),
-        source: (5000, 1, 33),
-        output: (5000, 1, 17),
+        source: (5000, 1, 17),
+        output: (5000, 1, 8),
         report: (7, 1, 1),
         end: (Status::Done, 34_816, "done\n"),
         closing: "done\n",
@@ -70,8 +70,8 @@ static COMMANDS: [Command; 13] = [
     Command {
         words: "recover --sectors 32",
         input: (32, "master --sectors 32", 2, BLOCK, 2 * BLOCK, 0),
-        source: (5000, 1, 33),
-        output: (5000, 1, 32),
+        source: (5000, 1, 17),
+        output: (5000, 1, 14),
         report: (7, 1, 23),
         end: (
             Status::Damaged,
@@ -85,11 +85,11 @@ static COMMANDS: [Command; 13] = [
             0x9C, 0xA9, 0xCC, 0x31,
         ],
     },
-    // The first control block stands behind 32 others, and nothing behind it is read: 33 times 16 recording frames.
+    // The first control block stands behind 32 others, and nothing behind it is read: 33 blocks of eight calls.
     Command {
         words: "info",
         input: (16, "master --sectors 16 --zones all", 273, 0, 34 * BLOCK, 0),
-        source: (5000, 11, 48),
+        source: (5000, 11, 24),
         output: (50, 1, 3),
         report: (2, 1, 3),
         end: (Status::Done, 110, "done\n"),
@@ -103,7 +103,7 @@ static COMMANDS: [Command; 13] = [
     Command {
         words: "survey --sectors 16",
         input: (16, "master --sectors 16", 1, 0, BLOCK, 0),
-        source: (5000, 1, 17),
+        source: (5000, 1, 9),
         output: (50, 1, 4),
         report: (2, 1, 3),
         end: (Status::Done, 110, "done\n"),
@@ -162,12 +162,12 @@ static COMMANDS: [Command; 13] = [
             0x48, 0x89, 0x2C, 0xA7,
         ],
     },
-    // Two blocks that differ nearly everywhere, taken for two captures of one. The output has 208 calls.
+    // Two blocks that differ nearly everywhere, taken for two captures of one.
     Command {
         words: "merge --sectors 16 --captures 2",
         input: (17, "master --sectors 17", 2, 0, 2 * BLOCK, 0),
-        source: (5000, 1, 33),
-        output: (5000, 13, 16),
+        source: (5000, 1, 17),
+        output: (5000, 1, 9),
         report: (7, 1, 1),
         end: (Status::Done, 42_640, "done\n"),
         closing: "done\n",
@@ -180,8 +180,8 @@ static COMMANDS: [Command; 13] = [
     Command {
         words: "deep --sectors 17",
         input: (17, "master --sectors 17", 2, 0, 2 * BLOCK, 0),
-        source: (5000, 1, 33),
-        output: (5000, 1, 17),
+        source: (5000, 1, 17),
+        output: (5000, 1, 8),
         report: (7, 1, 1),
         end: (Status::Done, 34_816, "done\n"),
         closing: "done\n",
@@ -191,13 +191,12 @@ static COMMANDS: [Command; 13] = [
             0x05, 0x9A, 0x61, 0x62,
         ],
     },
-    // The frames of two blocks from the ninth on, those before it behind them; the disk has the first block alone. The output has
-    // 208 calls.
+    // The frames of two blocks from the ninth on, those before it behind them; the disk has the first block alone.
     Command {
         words: "assemble --sectors 16 --frames 32",
         input: (17, "master --sectors 17", 2, BLOCK / 2, 2 * BLOCK, 0),
         source: (5000, 1, 33),
-        output: (5000, 13, 16),
+        output: (5000, 1, 9),
         report: (7, 1, 4),
         end: (Status::Done, 42_640, "placed 16 strays 16\ndone\n"),
         closing: "done\n",
@@ -207,12 +206,12 @@ static COMMANDS: [Command; 13] = [
             0x72, 0x39, 0x65, 0xA4,
         ],
     },
-    // The header, and of each block 208 rows and the number of its runs, none.
+    // The header, and of each block its rows and the number of its runs, none.
     Command {
         words: "convert --sectors 17",
         input: (17, "master --sectors 17", 2, 0, 2 * BLOCK, 0),
-        source: (5000, 1, 33),
-        output: (5000, 1, 419),
+        source: (5000, 1, 17),
+        output: (5000, 1, 19),
         report: (7, 1, 1),
         end: (Status::Done, 75_748, "done\n"),
         closing: "done\n",
