@@ -1,6 +1,7 @@
 -- Bytes at points from their power sums: one point is taken out of the sums, and put back.
-use Rattle.std.proofs.Common.{◌≡◌, ◌≢◌, ℕ, zero, suc, ◌+◌, ◌<◌, ◌≤◌, List, [], ◌∷◌, length, take, get_or, set, get_or-set_other, get_or-set_same, below_more, All, refl, sym, ap, subst, ◌∙◌, arith}
+use Rattle.std.proofs.Common.{◌≡◌, ◌≢◌, ℕ, zero, suc, ◌+◌, ◌<◌, ◌≤◌, List, [], ◌∷◌, length, take, drop, get_or, get_or-take, length-take-le, set, get_or-set_other, get_or-set_same, below_more, All, refl, sym, ap, subst, ◌∙◌, arith}
 use Rattle.std.proofs.lemmas.Grind.{common_steps}
+use Rattle.std.proofs.lemmas.List.{length-drop, get_or-drop}
 use Rattle.gf_field.specs.Field.{plus, product}
 use Rattle.gf_field.specs.Words.{value}
 use Rattle.gf_field.proofs.FieldLaws.{plus-byte, one-product, plus-assoc, plus-self, plus-zero, zero-plus, plus-cancel_right, product-one, product-zero, zero-product, power-zero, one-power}
@@ -139,3 +140,37 @@ HasSums-solved points sums point others first total divided solved rest taken po
       size = omega arith;
       sums_are = λ k below. solved_sum point others first total divided solved rest taken is_byte size is_divided is_total has_sums taken_size taken_out k below;
     }))
+
+-- the first of several lanes, and the others
+take-first : (m : ℕ) (lanes : List ℕ) → 0 < length lanes → take (suc m) lanes ≡ get_or lanes 0 0 ∷ take m (drop 1 lanes)
+take-first m [] some = absurd (omega arith)
+take-first m (lane ∷ lanes) some = refl
+
+-- the same where the sums stand in lanes
+pub HasSums-solved_lanes : (points lanes next : List ℕ) (point : ℕ) (others : List ℕ) (total : ℕ) (divided solved : List ℕ)
+    → points ≡ point ∷ others
+    → length points ≤ 16
+    → length lanes ≡ 16
+    → length next ≡ 16
+    → get_or lanes 0 0 < 256
+    → length divided ≡ length others
+    → shifted_by point divided others ≡ solved
+    → total ≡ power_sum divided others 0
+    → HasSums others solved (take (length others) next)
+    → ((k : ℕ) → k < 15 → get_or next k 0 ≡ plus (get_or lanes (k + 1) 0) (product point (get_or lanes k 0)))
+    → HasSums points (plus (get_or lanes 0 0) total ∷ divided) (take (length points) lanes)
+HasSums-solved_lanes points lanes next point others total divided solved points_are few size next_size is_byte same is_divided is_total has_sums taken_out =
+    let m = length others in
+    let count : length points ≡ suc m = ap length points_are in
+    let first = get_or lanes 0 0 in
+    let rest = take m (drop 1 lanes) in
+    let taken = take m next in
+    let split : take (length points) lanes ≡ first ∷ rest = ap (λ n. take n lanes) count ∙ take-first m lanes (omega arith) in
+    let rest_size : length rest ≡ m = length-take-le m (drop 1 lanes) (omega (arith, length-drop 1 lanes)) in
+    let taken_size : length taken ≡ m = length-take-le m next (omega arith) in
+    HasSums-solved points (take (length points) lanes) point others first total divided solved rest taken points_are split is_byte same is_divided is_total has_sums (omega arith) rest_size
+    (λ k below.
+    let inside : k < m = omega arith in
+    let at_rest : get_or rest k 0 ≡ get_or lanes (k + 1) 0 = get_or-take m (drop 1 lanes) k 0 inside ∙ get_or-drop 1 lanes k 0 ∙ ap (λ i. get_or lanes i 0) (omega arith) in
+    let at_all : get_or (first ∷ rest) k 0 ≡ get_or lanes k 0 = ap (λ xs. get_or xs k 0) (sym split) ∙ get_or-take (length points) lanes k 0 (omega arith) in
+    get_or-take m next k 0 inside ∙ taken_out k (omega arith) ∙ rw (at_rest, at_all) refl)

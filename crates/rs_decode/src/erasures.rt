@@ -59,7 +59,7 @@ pub fn fill_from<const N: usize, const R: usize>(
 }
 
 // Whether a word that was filled with bytes at points is a codeword. Its values are the syndromes plus the power sums of these
-// bytes, so that it need not be divided again where both are vectors of sixteen.
+// bytes, so that it isn't divided again where there are at most sixteen.
 fn completes<const N: usize, const R: usize>(
     code: &Code<N, R>,
     filled: &[u8; N],

@@ -59,26 +59,13 @@ completes-requires g c =
     let same = c.deref-7.ensures.0 ∙ sym c.deref-4.ensures.0 in
     let fits : length c.deref-7.result.now ≡ length c.deref-6.result.now =
     ap length (same ∙ corrected g (goal.at.completes-requires g c).After-deref-4) ∙ c.solve.ensures.size ∙ sums-fit g (goal.at.completes-requires g c).After-deref_mut ∙ ap length (sym c.deref-6.ensures.0) in
-    let syndromes_are = c.deref-5.ensures.0 ∙ c.requires in (
-      search rules,
-      (
-        search rules,
-        (
-          c.patch.ensures.bytes,
-          (
-            All-from_get_or (λ point. point ≢ 0) c.deref-6.result.now 0 (λ i. point-nonzero marks c.deref-6.result.now i points_are),
-            (
-              fits,
-              (
-                ap length syndromes_are ∙ length-syndromes_of g.row.R c.args.word.now,
-                value-filled g.row.R c.args.word.now c.patch.new.word c.deref-5.result.now c.deref-7.result.now c.deref-6.result.now marks (c.told-word ∙ sym c.told-marks) fits points_are syndromes_are
-                    (patched_word g (goal.at.completes-requires g c).After-patch ∙ ap (patched c.args.word.now marks) (sym same)),
-              ),
-            ),
-          ),
-        ),
-      ),
-    )
+    let syndromes_are = c.deref-5.ensures.0 ∙ c.requires in
+    let nonzero = All-from_get_or (λ point. point ≢ 0) c.deref-6.result.now 0 (λ i. point-nonzero marks c.deref-6.result.now i points_are) in
+    let long = ap length syndromes_are ∙ length-syndromes_of g.row.R c.args.word.now in
+    let filled_is = patched_word g (goal.at.completes-requires g c).After-patch ∙ ap (patched c.args.word.now marks) (sym same) in
+    let values =
+    value-filled g.row.R c.args.word.now c.patch.new.word c.deref-5.result.now c.deref-7.result.now c.deref-6.result.now marks (c.told-word ∙ sym c.told-marks) fits points_are syndromes_are filled_is in
+    (search rules, (search rules, (c.patch.ensures.bytes, (nonzero, (fits, (long, values))))))
 
 pub returns-then-not-completes-clause-err : goal.returns-then-not-completes-clause-err
 returns-then-not-completes-clause-err g c =

@@ -1,0 +1,5 @@
+use Rattle.std.proofs.Common.{length}
+use Rattle.rs_decode.proofs.sums.+solve_lanes.Given as goal
+
+abbrev pub decreases-solve_lanes : goal.decreases-solve_lanes
+decreases-solve_lanes l = length l.points.now
