@@ -1,6 +1,6 @@
 -- The marked places taken out: each byte is multiplied by the distances of its point to the marked points.
 -- At a marked place that is 0, and elsewhere a byte that isn't 0 stays so.
-use Rattle.std.proofs.Common.{◌≡◌, ◌≢◌, ℕ, zero, suc, ◌+◌, ◌<◌, ◌≤◌, Bool, true, false, List, [], ◌∷◌, ◌++◌, length, ◌-◌, get_or, take, All, refl, sym, ap, subst, ◌∙◌, arith, add-one, length-take, get_or-take, inl, inr, ◌==◌, if◌then◌else◌}
+use Rattle.std.proofs.Common.{◌≡◌, ◌≢◌, ℕ, zero, suc, ◌+◌, ◌<◌, ◌≤◌, Bool, true, false, List, [], ◌∷◌, ◌++◌, length, ◌-◌, get_or, take, All, refl, sym, ap, subst, ◌∙◌, arith, add-one, length-take, length-take-le, get_or-take, inl, inr, ◌==◌, if◌then◌else◌}
 use Rattle.std.proofs.lemmas.Bool.{cases_eq, false≢true}
 use Rattle.std.proofs.lemmas.Bool.Decides.{nat_tests}
 use Rattle.std.proofs.lemmas.List.{take_more}
@@ -84,6 +84,30 @@ AreSums-next points bytes sums shifted after others i inside some same are_shift
     subst (λ xs. AreSums points xs after) (sym longer)
     (AreSums-shifted_by (get_or others i 0) points (at_points (distances (take i others)) bytes points) sums after size
     (λ k below. ap (λ xs. get_or xs k 0) after_is ∙ get_or-take (length shifted - 1) shifted k 0 (omega arith) ∙ are_shifted k (omega arith)) are)
+
+-- as a loop over lanes has it, of which the first have the sums
+pub AreSums-next_lanes : (points bytes lanes next others : List ℕ) (n i : ℕ)
+    → i < length others
+    → length others ≤ n
+    → n ≤ 16
+    → length lanes ≡ 16
+    → length next ≡ 16
+    → ((k : ℕ) → k < 15 → get_or next k 0 ≡ plus (get_or lanes (k + 1) 0) (product (get_or others i 0) (get_or lanes k 0)))
+    → AreSums points (at_points (distances (take i others)) bytes points) (take (n - i) lanes)
+    → AreSums points (at_points (distances (take (i + 1) others)) bytes points) (take (n - (i + 1)) next)
+AreSums-next_lanes points bytes lanes next others n i inside enough few size next_size taken_out are =
+    let longer : at_points (distances (take (i + 1) others)) bytes points ≡ shifted_by (get_or others i 0) (at_points (distances (take i others)) bytes points) points =
+    ap (λ xs. at_points (distances xs) bytes points) (take_more others i 0 inside) ∙ at_points-push (take i others) (get_or others i 0) bytes points in
+    let sums = take (n - i) lanes in
+    let after = take (n - (i + 1)) next in
+    let sums_size : length sums ≡ n - i = length-take-le (n - i) lanes (omega arith) in
+    let after_size : length after ≡ n - (i + 1) = length-take-le (n - (i + 1)) next (omega arith) in
+    subst (λ xs. AreSums points xs after) (sym longer)
+    (AreSums-shifted_by (get_or others i 0) points (at_points (distances (take i others)) bytes points) sums after (omega arith)
+    (λ k below.
+    let here : get_or sums k 0 ≡ get_or lanes k 0 = get_or-take (n - i) lanes k 0 (omega arith) in
+    let above : get_or sums (k + 1) 0 ≡ get_or lanes (k + 1) 0 = get_or-take (n - i) lanes (k + 1) 0 (omega arith) in
+    get_or-take (n - (i + 1)) next k 0 (omega arith) ∙ taken_out k (omega arith) ∙ rw (here, above) refl) are)
 
 -- the product of distances from a point to others, none of which it is, isn't 0
 pub distances-apart : (others : List ℕ) (x : ℕ) → IsByte x → All IsByte others → All (λ a. x ≢ a) others → distances others x ≢ 0

@@ -8,6 +8,8 @@ ghost use Rattle.rs_decode.specs.Errors.{error_count};
 ghost use Rattle.rs_decode.specs.Inner.Locator.{at_points, distances, with_zeros};
 ghost use Rattle.rs_decode.specs.Inner.Sums.{AreSums};
 
+use crate::sums::without_points;
+use crate::syndromes::front;
 use crate::values::values_at_powers;
 use arrayvec::ArrayVec;
 use gf_field::mul;
@@ -23,6 +25,9 @@ pub fn sums_without(points: &[u8], sums: &[u8]) -> ArrayVec<u8, 32>
     // No sum is left.
     if points.len() == sums.len() {
         return ArrayVec::new();
+    }
+    if sums.len() <= 16 {
+        return front(without_points(points, sums), sums.len() - points.len());
     }
     let mut left: ArrayVec<u8, 32> = ArrayVec::try_from(sums).unwrap();
     for point in points {

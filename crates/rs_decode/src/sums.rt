@@ -1,8 +1,9 @@
 //! Bytes at points, from their power sums: the k-th is the sum of each byte times its point to the power k.
-ghost use Rattle.std.specs.Prelude.{◌≡◌, ◌≢◌, ℕ, ◌+◌, ◌<◌, ◌≤◌, ◌∷◌, length, take, All, EachIndex, slice_index};
+ghost use Rattle.std.specs.Prelude.{◌≡◌, ◌≢◌, ℕ, ◌+◌, ◌-◌, ◌<◌, ◌≤◌, List, ◌∷◌, length, take, All, EachIndex, slice_index};
 ghost use Rattle.gf_field.specs.Field.{plus, product};
 ghost use Rattle.rs_code.specs.Inner.PowerSums.{AreDistinct, power_sum, shifted_by};
-ghost use Rattle.rs_decode.specs.Inner.Sums.{HasSums};
+ghost use Rattle.rs_decode.specs.Inner.Locator.{at_points, distances};
+ghost use Rattle.rs_decode.specs.Inner.Sums.{AreSums, HasSums};
 
 use gf_field::{div, mul};
 use rs_lanes::scaled;
@@ -48,6 +49,21 @@ fn solve_lanes(points: &[u8], sums: u8x16, bytes: &mut [u8])
     *first = sums[0];
     solve_lanes(others, without(sums, *point), rest);
     *first ^= put_back(*point, others, rest);
+}
+
+/// Takes points out of power sums, of which the first lanes then have as many less.
+pub fn without_points(points: &[u8], sums: &[u8]) -> u8x16
+    requires enough { length points.now ≤ length sums.now }
+    requires few { length sums.now ≤ 16 }
+    ensures size { length result ≡ 16 }
+    ensures are { (places bytes : List ℕ) → AreSums places bytes sums.now
+        → AreSums places (at_points (distances points.now) bytes places) (take (length sums.now - length points.now) result) }
+{
+    let mut left = in_front(sums);
+    for point in points {
+        left = without(left, *point);
+    }
+    left
 }
 
 /// Takes a point out of sums in lanes. The last lane has no sum then.

@@ -1,0 +1,25 @@
+use Rattle.std.proofs.Common.{◌≡◌, ◌-◌, ◌∙◌, ap, sym, subst, length, take, arith}
+use Rattle.rs_decode.specs.Inner.Sums.{AreSums}
+use Rattle.rs_decode.proofs.Masking.{AreSums-all, AreSums-next_lanes}
+use Rattle.rs_decode.proofs.sums.without_points.Goals as goal
+
+pub loop-point-init : goal.loop-point-init
+loop-point-init c =
+    let sums = c.args.sums.now in
+    let left = c.in_front-left.result in
+    let none : length sums - 0 ≡ length sums = omega arith in
+    let all : take (length sums - 0) left ≡ sums = ap (λ n. take n left) none ∙ c.in_front-left.ensures.numbers in
+    record {
+      size = c.in_front-left.ensures.size;
+      are = λ places bytes are. AreSums-all places bytes (take (length sums - 0) left) (subst (AreSums places bytes) (sym all) are);
+    }
+
+pub loop-point-preserved : goal.loop-point-preserved
+loop-point-preserved c =
+    let before = c.loop-point.invariant in
+    record {
+      size = c.without-left.ensures.size;
+      are = λ places bytes are.
+          AreSums-next_lanes places bytes c.loop-point.left c.without-left.result c.args.points.now (length c.args.sums.now) c.loop-point.point-index (omega arith) c.requires.enough c.requires.few before.size
+          c.without-left.ensures.size c.without-left.ensures.each (before.are places bytes are);
+    }
