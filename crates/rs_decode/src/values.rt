@@ -1,11 +1,11 @@
 //! The values of a polynomial at the powers of alpha, sixteen at once. The highest power stands first.
-ghost use Rattle.std.specs.Prelude.{◌≡◌, ℕ, ◌+◌, ◌*◌, ◌<◌, ◌≤◌, length, slice_index};
+ghost use Rattle.std.specs.Prelude.{◌≡◌, ℕ, ◌*◌, ◌<◌, ◌≤◌, length, slice_index};
 ghost use Rattle.gf_field.specs.Field.{alpha, plus, product, power};
 ghost use Rattle.gf_field.specs.Words.{value};
 
+use crate::combining::add_lanes;
 use gf_field::alpha_pow;
 use rs_lanes::{powers, scaled};
-use std::simd::prelude::*;
 
 /// The polynomial's values at alpha^0, alpha^1, .. : byte `k` is that at alpha^k, for each `k` below `count`.
 pub fn values_at_powers(polynomial: &[u8], count: usize) -> [u8; 256]
@@ -35,17 +35,4 @@ fn add_term(values: &mut [u8], groups: usize, coefficient: u8, exponent: usize)
         add_lanes(values, 16 * group, term);
         term = scaled(term, step);
     }
-}
-
-// Adds lanes to the sixteen bytes from place `at` on. All others stay.
-#[inline(always)]
-fn add_lanes(bytes: &mut [u8], at: usize, lanes: u8x16)
-    requires { at + 16 ≤ length bytes.old }
-    ensures size { length bytes.new ≡ length bytes.old }
-    ensures added { (k : ℕ) → k < 16 → slice_index bytes.new (at + k) ≡ plus (slice_index bytes.old (at + k)) (slice_index lanes k) }
-    ensures below { (k : ℕ) → k < at → slice_index bytes.new k ≡ slice_index bytes.old k }
-    ensures above { (k : ℕ) → at + 16 ≤ k → slice_index bytes.new k ≡ slice_index bytes.old k }
-{
-    let sum = u8x16::from_slice(&bytes[at..]) ^ lanes;
-    sum.copy_to_slice(&mut bytes[at..]);
 }

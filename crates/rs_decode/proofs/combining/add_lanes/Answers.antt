@@ -4,7 +4,7 @@ use Rattle.std.proofs.lemmas.Simd.{length-chunk, get_or-chunk, get_or-put_chunk_
 use Rattle.gf_field.specs.Field.{plus}
 use Rattle.rs_lanes.specs.Inner.Lanes.{HoldsLanes}
 use Rattle.rs_lanes.proofs.LaneLemmas.{HoldsLanes-zip2}
-use Rattle.rs_decode.proofs.values.add_lanes.Goals as goal
+use Rattle.rs_decode.proofs.combining.add_lanes.Goals as goal
 
 -- the sums that are written
 sums : (bytes lanes : List ℕ) (at : ℕ) → at + 16 ≤ length bytes → length lanes ≡ 16
