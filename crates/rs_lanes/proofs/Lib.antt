@@ -1,6 +1,7 @@
 pub mod CodewordLemmas
 pub mod ColumnLemmas
 pub mod FactorLemmas
+pub mod FifthLemmas
 pub mod LaneLemmas
 pub mod Nibbles
 pub mod RowLemmas

@@ -10,11 +10,13 @@
 //! - `tables`: the multiples of the coefficients of both generators.
 //! - `thirds`: the values of words, in each lane.
 //! - `factors`: the products of each byte with each nibble, and the powers of each power of alpha.
+//! - `fifths`: words of five bytes at all fifth roots of one.
 #![tactic(auto)]
 
 pub mod columns;
 mod division;
 mod factors;
+mod fifths;
 mod lanes;
 pub mod points;
 pub mod row;
