@@ -1,11 +1,18 @@
 -- Words of five bytes at the fifth roots of one: value-five, the roots (root-one to root-four), and the sums by which `fifths` has
--- the five values (fifth-zero to fifth-four).
-use Rattle.std.proofs.Common.{◌≡◌, ℕ, zero, suc, ◌*◌, ◌<◌, [], ◌∷◌, refl, sym, ap, ◌∙◌, arith}
+-- the five values (fifth-zero to fifth-four); value-turned of words whose bytes were multiplied first, and folded-exponent of the five
+-- pieces of a third.
+use Rattle.std.proofs.Common.{◌≡◌, ℕ, zero, suc, ◌+◌, ◌*◌, ◌/◌, ◌%◌, ◌<◌, List, [], ◌∷◌, length, get_or, replicate, refl, sym, ap, subst, ◌∙◌, inl, inr, arith}
+use Rattle.std.proofs.lemmas.Bool.{cases_eq}
+use Rattle.std.proofs.lemmas.Simd.{get_or-replicate}
 use Rattle.gf_field.specs.Field.{alpha, plus, shift, shifted, partial_product, product, power}
 use Rattle.gf_field.specs.Words.{value}
-use Rattle.gf_field.proofs.FieldLaws.{product-plus, product-one, plus-zero, power-zero, power-alpha-shifted, one-power}
+use Rattle.gf_field.proofs.FieldLaws.{product-plus, product-one, product-assoc, product-power, plus-zero, power-zero, power-suc, power-one, power-byte, power-add, power-mul, power-alpha-mod, power-alpha-shifted, one-power}
 use Rattle.rs_code.proofs.Ring.{ring}
 use Rattle.rs_code.proofs.Values.{value-nil, value-cons}
+use Rattle.rs_lanes.specs.Rows.{line}
+use Rattle.rs_lanes.specs.Inner.Lanes.{HasLanes}
+use Rattle.rs_lanes.specs.Inner.Thirds.{exponent_at, folded}
+use Rattle.rs_lanes.proofs.ThirdLemmas.{get_or-folded_zero, folded_more}
 
 -- the value of five bytes, term by term
 value-five : (a0 a1 a2 a3 a4 x : ℕ) → a0 < 256
@@ -108,3 +115,108 @@ each_of_five P p0 p1 p2 p3 p4 (suc (suc zero)) below = p2
 each_of_five P p0 p1 p2 p3 p4 (suc (suc (suc zero))) below = p3
 each_of_five P p0 p1 p2 p3 p4 (suc (suc (suc (suc zero)))) below = p4
 each_of_five P p0 p1 p2 p3 p4 (suc (suc (suc (suc (suc m))))) below = absurd (omega arith)
+
+-- ---- the five pieces of a third
+
+-- a byte multiplied by a power first
+turned-term : (a l x n : ℕ) → product (product a (power l n)) (power x n) ≡ product a (power (product l x) n)
+turned-term a l x n = product-assoc a (power l n) (power x n) ∙ ap (product a) (sym (product-power l x n))
+
+-- bytes multiplied by the powers of a factor have the word's value at the product
+value-turned : (a0 a1 a2 a3 a4 l x : ℕ)
+    → value (product a4 (power l 4) ∷ product a3 (power l 3) ∷ product a2 (power l 2) ∷ product a1 (power l 1) ∷ product a0 (power l 0) ∷ []) x
+    ≡ value (a4 ∷ a3 ∷ a2 ∷ a1 ∷ a0 ∷ []) (product l x)
+value-turned a0 a1 a2 a3 a4 l x = simp (value-cons, turned-term, value-nil)
+
+-- Horner's rule on five bytes
+horner-five : (a0 a1 a2 a3 a4 x : ℕ) → a0 < 256 → x < 256
+    → value (a4 ∷ a3 ∷ a2 ∷ a1 ∷ a0 ∷ []) x
+    ≡ plus (product x (plus (product x (plus (product x (plus (product x a4) a3)) a2)) a1)) a0
+horner-five a0 a1 a2 a3 a4 x byte0 byte =
+    let one : power x 1 ≡ x = power-one x byte in
+    let two : power x 2 ≡ product x x = power-suc x 1 ∙ ap (λ p. product p x) one in
+    let three : power x 3 ≡ product (product x x) x = power-suc x 2 ∙ ap (λ p. product p x) two in
+    let four : power x 4 ≡ product (product (product x x) x) x = power-suc x 3 ∙ ap (λ p. product p x) three in
+    value-five a0 a1 a2 a3 a4 x byte0 ∙ rw (four, three, two, one) (simp ring)
+
+-- a place of the five pieces added up is the value of their bytes
+folded-five : (factor : ℕ) (word : List ℕ) (q : ℕ) → length word ≡ 85 → q < 17 → factor < 256 → get_or word (68 + q) 0 < 256
+    → value (get_or word q 0 ∷ get_or word (17 + q) 0 ∷ get_or word (34 + q) 0 ∷ get_or word (51 + q) 0 ∷ get_or word (68 + q) 0 ∷ []) factor
+    ≡ get_or (folded 17 factor word 4) q 0
+folded-five factor word q long below byte last =
+    horner-five _ _ _ _ _ factor last byte
+    ∙ folded_more 17 factor word 3 q _ _ below (omega arith)
+    (folded_more 17 factor word 2 q _ _ below (omega arith)
+    (folded_more 17 factor word 1 q _ _ below (omega arith)
+    (folded_more 17 factor word 0 q _ _ below (omega arith) (sym (get_or-folded_zero 17 factor word q below)) refl) refl) refl) refl
+
+-- exponents of alpha that are equal mod 255 have one power
+pub power-alpha-same : (e f : ℕ) → e % 255 ≡ f % 255 → power alpha e ≡ power alpha f
+power-alpha-same e f same = sym (power-alpha-mod e) ∙ ap (power alpha) same ∙ power-alpha-mod f
+
+-- the 17th powers of alpha for the exponents of a third
+power-exponent : (i m : ℕ) → product (power alpha (170 * i)) (power alpha (51 * m)) ≡ power (power alpha (exponent_at i m)) 17
+power-exponent i m =
+    let same : (170 * i + 51 * m) % 255 ≡ (10 * i + 3 * m) % 15 * 17 % 255 = omega arith in
+    sym (power-add alpha (170 * i) (51 * m)) ∙ power-alpha-same (170 * i + 51 * m) (exponent_at i m * 17) same ∙ power-mul alpha (exponent_at i m) 17
+
+-- that of alpha^15 is the one of the first exponent of the first third
+pub power-last : power (power alpha (exponent_at 0 0)) 17 ≡ power (power alpha 15) 17
+power-last = sym (power-mul alpha 0 17) ∙ power-alpha-same 0 255 refl ∙ power-mul alpha 15 17
+
+-- the place for the exponent with number m
+pub folded-exponent : (i m : ℕ) (word : List ℕ) (q a0 a1 a2 a3 a4 : ℕ) → length word ≡ 85 → q < 17 → get_or word (68 + q) 0 < 256
+    → a0 ≡ product (get_or word (68 + q) 0) (power alpha (85 * 0))
+    → a1 ≡ product (get_or word (51 + q) 0) (power alpha (85 * (2 * i)))
+    → a2 ≡ product (get_or word (34 + q) 0) (power alpha (85 * (4 * i)))
+    → a3 ≡ product (get_or word (17 + q) 0) (power alpha (85 * (6 * i)))
+    → a4 ≡ product (get_or word q 0) (power alpha (85 * (8 * i)))
+    → value (a4 ∷ a3 ∷ a2 ∷ a1 ∷ a0 ∷ []) (power alpha (51 * m)) ≡ get_or (folded 17 (power (power alpha (exponent_at i m)) 17) word 4) q 0
+folded-exponent i m word q a0 a1 a2 a3 a4 long below last is0 is1 is2 is3 is4 =
+    let l = power alpha (170 * i) in
+    let turns : (n e : ℕ) → e ≡ 170 * i * n → power alpha e ≡ power l n = λ n e is. ap (power alpha) is ∙ power-mul alpha (170 * i) n in
+    rw (
+      is4 ∙ ap (product (get_or word q 0)) (turns 4 _ (omega arith)),
+      is3 ∙ ap (product (get_or word (17 + q) 0)) (turns 3 _ (omega arith)),
+      is2 ∙ ap (product (get_or word (34 + q) 0)) (turns 2 _ (omega arith)),
+      is1 ∙ ap (product (get_or word (51 + q) 0)) (turns 1 _ (omega arith)),
+      is0 ∙ ap (product (get_or word (68 + q) 0)) (turns 0 _ (omega arith)),
+      value-turned _ _ _ _ _ l (power alpha (51 * m)),
+      power-exponent i m,
+    )
+    (folded-five (power (power alpha (exponent_at i m)) 17) word q long below (power-byte _ 17) last)
+
+-- ---- the exponents below 15
+
+-- what holds of each exponent of the three thirds holds of all exponents below 15
+pub all_exponents : (P : ℕ → ℕ → Type 0) (count : ℕ)
+    → ((m : ℕ) → m < 5 → exponent_at 0 m < count → P 0 (exponent_at 0 m))
+    → ((m : ℕ) → m < 5 → exponent_at 1 m < count → P 1 (exponent_at 1 m))
+    → ((m : ℕ) → m < 5 → exponent_at 2 m < count → P 2 (exponent_at 2 m))
+    → (k : ℕ) → k < 15 → k < count → P (k % 3) k
+all_exponents P count p0 p1 p2 k below inside =
+    let told : (i m : ℕ) → k % 3 ≡ i → exponent_at i m ≡ k → (exponent_at i m < count → P i (exponent_at i m)) → P (k % 3) k = λ i m rest is p.
+    subst (λ r. P r k) (sym rest) (subst (P i) is (p (subst (λ e. e < count) (sym is) inside))) in
+    elim (cases_eq (k % 3) 0) [
+      | inl none ↦ told 0 (k / 3) none (omega arith) (p0 (k / 3) (omega arith))
+      | inr some ↦
+          elim (cases_eq (k % 3) 1) [
+            | inl one ↦ told 1 ((k + 5) / 3 % 5) one (omega arith) (p1 ((k + 5) / 3 % 5) (omega arith))
+            | inr more ↦
+                let two : k % 3 ≡ 2 = omega arith in
+                told 2 ((k + 10) / 3 % 5) two (omega arith) (p2 ((k + 10) / 3 % 5) (omega arith))
+          ]
+    ]
+
+-- and the other way round
+pub each_exponent : (P : ℕ → ℕ → Type 0) (count : ℕ) → ((k : ℕ) → k < 15 → k < count → P (k % 3) k)
+    → (i : ℕ) → i < 3 → (m : ℕ) → m < 5 → exponent_at i m < count → P i (exponent_at i m)
+each_exponent P count all i few m number wanted =
+    let rest : exponent_at i m % 3 ≡ i = omega arith in
+    subst (λ r. P r (exponent_at i m)) rest (all (exponent_at i m) (omega arith) wanted)
+
+-- each of five vectors of zeros has zeros
+pub HasLanes-zeros : (m : ℕ) → m < 5 → HasLanes (line (replicate 5 (replicate {A = ℕ} 32 0)) m) (λ j. 0)
+HasLanes-zeros m few =
+    subst (λ row. HasLanes row (λ j. 0)) (sym (get_or-replicate 5 m (replicate {A = ℕ} 32 0) [] few))
+    (record { size = refl; each = λ j below. get_or-replicate {A = ℕ} 32 j 0 0 below })

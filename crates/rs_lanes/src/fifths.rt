@@ -1,17 +1,52 @@
-//! Words of five bytes in 32 lanes at all five fifth roots of one, with six products for the sixteen that one at a time takes.
+//! The five pieces of a third, added up for its five exponents at once: the 17th powers of alpha with these exponents are one
+//! of them times the fifth roots of one, so the sums are values of words of five bytes at these roots.
 ghost use Rattle.std.specs.Prelude.{ℕ, ◌*◌, ◌<◌, [], ◌∷◌, slice_index};
 ghost use Rattle.gf_field.specs.Field.{alpha, plus, product, power};
 ghost use Rattle.gf_field.specs.Words.{value};
 ghost use Rattle.rs_lanes.specs.Rows.{line};
 ghost use Rattle.rs_lanes.specs.Inner.Lanes.{HasLanes};
+ghost use Rattle.rs_lanes.specs.Inner.Thirds.{exponent_at, folded, third};
 
-use crate::factors::PRODUCTS;
+use crate::factors::{POWERS, PRODUCTS};
 use crate::lanes::{mixed, times};
 use std::simd::prelude::*;
 
-/// The values of each lane's word `y4 y3 y2 y1 y0` at the fifth roots of one: result `m` has those at alpha^(51 `m`).
+/// One place of the five pieces of the third with number `i`, added up to one by Horner's rule in the 17th power of alpha^k: result
+/// `m` for the exponent k with number `m`.
 #[inline(always)]
-pub fn fifths(y0: u8x32, y1: u8x32, y2: u8x32, y3: u8x32, y4: u8x32) -> [u8x32; 5]
+pub fn folded_places(thirds: &[[u8x32; 3]; 85], i: usize, place: usize) -> [u8x32; 5]
+    requires third { i < 3 }
+    requires place { place < 17 }
+    ensures { (m : ℕ) → m < 5
+        → HasLanes (line result m) (λ j. slice_index (folded 17 (power (power alpha (exponent_at i m)) 17) (third thirds.now i j) 4) place) }
+{
+    fifths(
+        turned(thirds[68 + place][i], 0),
+        turned(thirds[51 + place][i], 2 * i),
+        turned(thirds[34 + place][i], 4 * i),
+        turned(thirds[17 + place][i], 6 * i),
+        turned(thirds[place][i], 8 * i),
+    )
+}
+
+// Each lane times alpha^(85 `turns`). That the lanes are bytes is told too.
+#[inline(always)]
+fn turned(lanes: u8x32, turns: usize) -> u8x32
+    ensures turned { HasLanes result (λ j. product (slice_index lanes j) (power alpha (85 * turns))) }
+    ensures bytes { (j : ℕ) → j < 32 → slice_index lanes j < 256 }
+{
+    // alpha^255 is 1, so a product is spared where it can be.
+    let rest = turns % 3;
+    if rest == 0 {
+        lanes
+    } else {
+        times(&PRODUCTS[POWERS[85][rest] as usize], lanes)
+    }
+}
+
+// The values of each lane's word `y4 y3 y2 y1 y0` at the fifth roots of one: result `m` has those at alpha^(51 `m`).
+#[inline(always)]
+fn fifths(y0: u8x32, y1: u8x32, y2: u8x32, y3: u8x32, y4: u8x32) -> [u8x32; 5]
     ensures { (m : ℕ) → m < 5 → HasLanes (line result m) (λ j.
         value (slice_index y4 j ∷ slice_index y3 j ∷ slice_index y2 j ∷ slice_index y1 j ∷ slice_index y0 j ∷ []) (power alpha (51 * m))) }
 {

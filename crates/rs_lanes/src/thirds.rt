@@ -1,15 +1,16 @@
 //! The values of words in 32 lanes at the first powers of alpha. A word of at most 255 bytes is, zeros put in front, three
 //! pieces of 85 bytes. Since alpha^255 is 1, the 85th power of alpha^k goes by k mod 3 alone: so for each of these three the
-//! pieces are added up to one first, which is a third here.
+//! pieces are added up to one first, which is a third here. A third serves five exponents below 15, and its own five pieces are
+//! added up for all of them at once (`fifths`). So what is left for each exponent is Horner's rule on 17 bytes.
 ghost use Rattle.std.specs.Prelude.{◌≡◌, ◌↔◌, ℕ, ◌%◌, ◌<◌, ◌≤◌, length, slice_index};
 ghost use Rattle.gf_field.specs.Field.{alpha, plus, product, power};
 ghost use Rattle.gf_field.specs.Words.{value};
-ghost use Rattle.rs_lanes.specs.Rows.{line};
+ghost use Rattle.rs_lanes.specs.Rows.{line, place};
 ghost use Rattle.rs_lanes.specs.Inner.Lanes.{HasLanes};
-ghost use Rattle.rs_lanes.specs.Inner.Tables.{IsTable};
-ghost use Rattle.rs_lanes.specs.Inner.Thirds.{folded, third, third_byte};
+ghost use Rattle.rs_lanes.specs.Inner.Thirds.{exponent_at, third, third_byte};
 
 use crate::factors::{POWERS, PRODUCTS};
+use crate::fifths::folded_places;
 use crate::lanes::{either, mixed, times};
 use std::simd::prelude::*;
 
@@ -37,58 +38,95 @@ pub fn wrong_lanes(thirds: &[[u8x32; 3]; 85], count: usize) -> u8x32
     ensures zeros { (j : ℕ) → j < 32
         → (slice_index result j ≡ 0) ↔ ((k : ℕ) → k < count → value (third thirds.now (k % 3) j) (power alpha k) ≡ 0) }
 {
-    let mut wrong = u8x32::splat(0);
-    for k in 0..count {
-        wrong = either(wrong, values_at(thirds, k));
+    let wrong = either(
+        either(wrong_third(thirds, 0, count), wrong_third(thirds, 1, count)),
+        wrong_third(thirds, 2, count),
+    );
+    if count < 16 {
+        wrong
+    } else {
+        either(wrong, last_value(thirds))
     }
-    wrong
 }
 
-// The value of each lane's word at alpha^`k`.
+// Zero in each lane whose third with number `i` vanishes at its powers of alpha below alpha^15 and alpha^`count`.
 #[inline(always)]
-fn values_at(thirds: &[[u8x32; 3]; 85], k: usize) -> u8x32
-    requires { k < 16 }
-    ensures { HasLanes result (λ j. value (third thirds.now (k % 3) j) (power alpha k)) }
-{
-    let step = &PRODUCTS[POWERS[1][k] as usize];
-    let fold = &PRODUCTS[POWERS[17][k] as usize];
-    values(thirds, k % 3, step, fold)
-}
-
-// The value of each lane of a third, at the factor of the table `step`. Five pieces of 17 places are added up to one on the way.
-#[inline(always)]
-fn values(thirds: &[[u8x32; 3]; 85], i: usize, step: &[[u8; 16]; 2], fold: &[[u8; 16]; 2]) -> u8x32
+fn wrong_third(thirds: &[[u8x32; 3]; 85], i: usize, count: usize) -> u8x32
     requires { i < 3 }
-    ensures { (x : ℕ) → IsTable x step.now → IsTable (power x 17) fold.now → HasLanes result (λ j. value (third thirds.now i j) x) }
+    ensures size { length result ≡ 32 }
+    ensures zeros { (j : ℕ) → j < 32
+        → (slice_index result j ≡ 0)
+        ↔ ((m : ℕ) → m < 5 → exponent_at i m < count → value (third thirds.now i j) (power alpha (exponent_at i m)) ≡ 0) }
+{
+    let values = values(thirds, i, count);
+    either(
+        either(either(values[0], values[1]), either(values[2], values[3])),
+        values[4],
+    )
+}
+
+// The values of each lane's third with number `i` at its powers of alpha. Where they aren't below alpha^`count` the lanes are zero.
+#[inline(always)]
+fn values(thirds: &[[u8x32; 3]; 85], i: usize, count: usize) -> [u8x32; 5]
+    requires { i < 3 }
+    ensures values { (m : ℕ) → m < 5 → exponent_at i m < count
+        → HasLanes (line result m) (λ j. value (third thirds.now i j) (power alpha (exponent_at i m))) }
+    ensures others { (m : ℕ) → m < 5 → count ≤ exponent_at i m → HasLanes (line result m) (λ j. 0) }
+{
+    let mut values = [u8x32::splat(0); 5];
+    for place in 0..17 {
+        read_places(&mut values, &folded_places(thirds, i, place), i, count);
+    }
+    values
+}
+
+// The value of each lane's word at alpha^15. As the 17th power of alpha^15 is 1, the five pieces are added up as for alpha^0.
+#[inline(always)]
+fn last_value(thirds: &[[u8x32; 3]; 85]) -> u8x32
+    ensures { HasLanes result (λ j. value (third thirds.now 0 j) (power alpha 15)) }
 {
     let mut value = u8x32::splat(0);
     for place in 0..17 {
-        value = stepped(step, value, folded_place(thirds, i, fold, place));
+        value = next_value(15, 16, value, folded_places(thirds, 0, place)[0]);
     }
     value
 }
 
-// One place of the five pieces of a third, added up to one.
+// A step of Horner's rule at each power of alpha of a third. That the next lanes are bytes is told too.
 #[inline(always)]
-fn folded_place(thirds: &[[u8x32; 3]; 85], i: usize, fold: &[[u8; 16]; 2], place: usize) -> u8x32
-    requires third { i < 3 }
-    requires place { place < 17 }
-    ensures { (factor : ℕ) → IsTable factor fold.now
-        → HasLanes result (λ j. slice_index (folded 17 factor (third thirds.now i j) 4) place) }
+fn read_places(values: &mut [u8x32; 5], next: &[u8x32; 5], i: usize, count: usize)
+    requires { i < 3 }
+    ensures steps { (m : ℕ) → m < 5 → exponent_at i m < count
+        → HasLanes (line values.new m) (λ j. plus (product (power alpha (exponent_at i m)) (place values.old m j)) (place next.now m j)) }
+    ensures others { (m : ℕ) → m < 5 → count ≤ exponent_at i m → line values.new m ≡ line values.old m }
+    ensures bytes { (m j : ℕ) → m < 5 → j < 32 → place next.now m j < 256 }
 {
-    let mut sum = thirds[place][i];
-    sum = stepped(fold, sum, thirds[17 + place][i]);
-    sum = stepped(fold, sum, thirds[34 + place][i]);
-    sum = stepped(fold, sum, thirds[51 + place][i]);
-    stepped(fold, sum, thirds[68 + place][i])
+    for m in 0..5 {
+        values[m] = next_value(exponent(i, m), count, values[m], next[m]);
+    }
 }
 
-// A step of Horner's rule in the factor of the table. That the next lanes are bytes is told too.
+// A step of Horner's rule at alpha^`k`, unless `k` isn't below `count`. That the next lanes are bytes is told too.
 #[inline(always)]
-fn stepped(table: &[[u8; 16]; 2], sum: u8x32, next: u8x32) -> u8x32
-    ensures step { (factor : ℕ) → IsTable factor table.now
-        → HasLanes result (λ j. plus (product factor (slice_index sum j)) (slice_index next j)) }
+fn next_value(k: usize, count: usize, value: u8x32, next: u8x32) -> u8x32
+    requires { k < 16 }
+    ensures step { k < count → HasLanes result (λ j. plus (product (power alpha k) (slice_index value j)) (slice_index next j)) }
+    ensures other { count ≤ k → result ≡ value }
     ensures bytes { (j : ℕ) → j < 32 → slice_index next j < 256 }
 {
-    mixed(times(table, sum), next)
+    if k < count {
+        mixed(times(&PRODUCTS[POWERS[1][k] as usize], value), next)
+    } else {
+        value
+    }
+}
+
+// The exponent with number `m` of a third.
+#[inline(always)]
+fn exponent(i: usize, m: usize) -> usize
+    requires third { i < 3 }
+    requires number { m < 5 }
+    ensures { result ≡ exponent_at i m }
+{
+    (10 * i + 3 * m) % 15
 }

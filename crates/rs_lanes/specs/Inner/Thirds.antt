@@ -1,6 +1,6 @@
 -- Ours: the values of a word by its thirds. A word of at most 255 bytes is, zeros put in front, three pieces of 85 bytes. Since
 -- alpha^255 is 1, the power of alpha^k by 85 goes by k mod 3 alone: so for each of these three the pieces can be added up to one.
-use Rattle.std.specs.Prelude.{◌≡◌, ℕ, zero, suc, ◌*◌, ◌%◌, List, ◌++◌, map, length, take, drop, replicate}
+use Rattle.std.specs.Prelude.{◌≡◌, ℕ, zero, suc, ◌+◌, ◌*◌, ◌%◌, List, ◌++◌, map, length, take, drop, replicate}
 use Rattle.gf_field.specs.Field.{alpha, plus, product, power}
 use Rattle.gf_field.specs.Words.{value}
 use Rattle.rs_code.specs.Inner.Polynomials.{sum_of, scaled}
@@ -27,3 +27,7 @@ third thirds i j = map (λ vectors. place vectors i j) thirds
 pub record IsThird (i : ℕ) (word third : List ℕ) : Type 0 where
   pub size : length third ≡ 85
   pub values : (k : ℕ) → k % 3 ≡ i → value third (power alpha k) ≡ value word (power alpha k)
+
+-- the five exponents below 15 that are i mod 3: their 17th powers of alpha are alpha^(170 i) times the fifth roots of one, in order
+abbrev pub exponent_at : ℕ → ℕ → ℕ
+exponent_at i m = (10 * i + 3 * m) % 15

@@ -1,12 +1,16 @@
-use Rattle.std.proofs.Common.{ℕ, take}
-use Rattle.gf_field.specs.Field.{power}
+use Rattle.std.proofs.Common.{ℕ, ◌<◌, ◌≤◌, take}
+use Rattle.gf_field.specs.Field.{alpha, power}
 use Rattle.gf_field.specs.Words.{value}
+use Rattle.rs_lanes.specs.Rows.{line}
 use Rattle.rs_lanes.specs.Inner.Lanes.{HasLanes}
-use Rattle.rs_lanes.specs.Inner.Tables.{IsTable}
-use Rattle.rs_lanes.specs.Inner.Thirds.{folded, third}
+use Rattle.rs_lanes.specs.Inner.Thirds.{exponent_at, folded, third}
 use Rattle.rs_lanes.proofs.thirds.values.Given as goal
 
--- the value of the places that were read
+-- the values of the places that were read
 abbrev pub invariant-loop-place : goal.invariant-loop-place
-invariant-loop-place l = (x : ℕ) → IsTable x l.step → IsTable (power x 17) l.fold
-    → HasLanes l.value (λ j. value (take l.place (folded 17 (power x 17) (third l.thirds l.i j) 4)) x)
+invariant-loop-place l = record {
+  values : (m : ℕ) → m < 5 → exponent_at l.i m < l.count
+      → HasLanes (line l.values m)
+      (λ j. value (take l.place (folded 17 (power (power alpha (exponent_at l.i m)) 17) (third l.thirds l.i j) 4)) (power alpha (exponent_at l.i m)));
+  others : (m : ℕ) → m < 5 → l.count ≤ exponent_at l.i m → HasLanes (line l.values m) (λ j. 0);
+}
