@@ -1,6 +1,6 @@
 -- Words of eight scrambling bytes, and vectors of 32.
-use Rattle.std.proofs.Common.{◌≡◌, ℕ, zero, suc, ◌+◌, ◌-◌, ◌*◌, ◌/◌, ◌%◌, ◌^◌, ◌<◌, ◌≤◌, List, [], ◌∷◌, ◌++◌, length, get_or, take, drop, sym, ◌∙◌, ap, ap₂, zero-add, arith}
-use Rattle.std.specs.Prelude.{bit_xor}
+use Rattle.std.proofs.Common.{◌≡◌, ℕ, zero, suc, ◌+◌, ◌-◌, ◌*◌, ◌/◌, ◌%◌, ◌^◌, ◌<◌, ◌≤◌, List, [], ◌∷◌, ◌++◌, length, get_or, take, drop, refl, sym, ◌∙◌, ap, ap₂, zero-add, arith}
+use Rattle.std.specs.Prelude.{bit_xor, replicate}
 use Rattle.std.specs.Int.{from_be_bytes, to_be_bytes, w64}
 use Rattle.std.specs.Int.Bits.{xor_shr, xor_mod}
 use Rattle.std.proofs.lemmas.Nat.{be_bytes_8}
@@ -8,7 +8,9 @@ use Rattle.std.proofs.lemmas.List.{get_or-drop, get_or-take, length-drop, length
 use Rattle.std.proofs.lemmas.Grind.{same_number_lists}
 use Rattle.dvd_frame.specs.Edc.{plus_front}
 use Rattle.dvd_frame.specs.Inner.Registers.{keys_from}
-use Rattle.dvd_frame.specs.Scrambling.{scrambling_byte}
+use Rattle.dvd_frame.specs.Bits.{bits}
+use Rattle.dvd_frame.specs.Scrambling.{scrambling_byte, sequence, window}
+use Rattle.dvd_frame.proofs.Sequences.{shifted_window, byte_shown}
 use Rattle.dvd_frame.proofs.Recurrence.{Recurs, terms, length-terms, get_or-terms, terms_sum, byte_fits, bytes_recur, bytes_recur_by_vectors}
 
 -- n keys are n bytes
@@ -131,6 +133,24 @@ pub key_made : (preset count i : ℕ) (keys : List ℕ) → keys ≡ keys_from p
 unfolding keys_from terms
 key_made preset count i keys made below =
     ap (λ (l : List ℕ). get_or l i 0) made ∙ get_or-terms (scrambling_byte preset) 0 count i below ∙ ap (scrambling_byte preset) (zero-add i)
+
+-- a register of zeros shows zeros at byte 0
+blank_start : bits 15 0 ≡ window 0 0
+unfolding window sequence
+blank_start = refl
+
+-- and at each byte
+blank_window : (k : ℕ) → bits 15 0 ≡ window 0 k
+blank_window zero = blank_start
+blank_window (suc k) =
+    let next : k + 1 ≡ suc k = omega arith in
+    shifted_window 0 k 0 0 (omega arith) (blank_window k) ∙ ap (window 0) next
+
+-- its keys are zeros
+pub blank_keys : (k n : ℕ) → replicate n 0 ≡ keys_from 0 k n
+unfolding keys_from
+blank_keys k zero = refl
+blank_keys k (suc n) = ap₂ ◌∷◌ (byte_shown 0 k 0 (blank_window k)) (blank_keys (k + 1) n)
 
 -- n of the keys that were made, from any on
 keys_within : (preset at a n : ℕ) (keys : List ℕ) → take at keys ≡ keys_from preset 0 at → a + n ≤ at → take n (drop a keys) ≡ keys_from preset a n

@@ -5,11 +5,25 @@ ghost use Rattle.dvd_frame.specs.Frame.{data_frame};
 use crate::checks::{edc, ied};
 use crate::id::Id;
 use crate::parts::put;
-use crate::scrambling::{Rule, scramble_slice};
+use crate::scrambling::{Rule, Scrambler, scramble_slice};
 
 /// Writes the frame of a sector: ID, IED, six bytes CPR_MAI, Main Data scrambled as the rule says, and the EDC
 /// of all of these before scrambling.
 pub fn make_frame(id: Id, cpr: &[u8; 6], rule: Rule, main: &[u8; 2048], out: &mut [u8; 2064])
+    ensures { out.new ≡ data_frame id cpr.now rule main.now }
+{
+    make_frame_with(&mut Scrambler::new(), id, cpr, rule, main, out);
+}
+
+/// Writes a frame as `make_frame` does, with scrambling bytes that are kept from one frame to the next.
+pub fn make_frame_with(
+    scrambler: &mut Scrambler,
+    id: Id,
+    cpr: &[u8; 6],
+    rule: Rule,
+    main: &[u8; 2048],
+    out: &mut [u8; 2064],
+)
     ensures { out.new ≡ data_frame id cpr.now rule main.now }
 {
     put(out, 0, &id.bytes());
@@ -18,5 +32,5 @@ pub fn make_frame(id: Id, cpr: &[u8; 6], rule: Rule, main: &[u8; 2048], out: &mu
     put(out, 12, main);
     let check = edc(&out[..2060]);
     put(out, 2060, &check);
-    scramble_slice(rule, id, &mut out[12..2060]);
+    scramble_slice(scrambler, rule, id, &mut out[12..2060]);
 }

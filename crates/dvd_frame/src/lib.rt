@@ -13,10 +13,10 @@ mod remainders; // what dividing each byte leaves, for the EDC
 mod scrambling; // which Main Data bytes are combined with which bytes
 
 pub use checks::{edc, ied};
-pub use frame::make_frame;
+pub use frame::{make_frame, make_frame_with};
 pub use id::{Area, Id};
-pub use reading::{FrameCause, read_frame};
-pub use scrambling::{Keystream, Rule, preset, scramble};
+pub use reading::{FrameCause, read_frame, read_frame_with};
+pub use scrambling::{Keystream, Rule, Scrambler, preset, scramble};
 
 #[cfg(test)]
 mod tests;

@@ -8,7 +8,7 @@ ghost use Rattle.dvd_frame.specs.Id.{has_check};
 
 use crate::checks::edc_of_parts;
 use crate::id::Id;
-use crate::scrambling::{Rule, scramble};
+use crate::scrambling::{Rule, Scrambler, scramble_slice};
 use rs_code::Ied;
 use thiserror::Error;
 
@@ -28,8 +28,24 @@ pub enum FrameCause {
 
 /// Checks a frame, and writes its unscrambled Main Data to `out`. The frame has to have a right IED, the area, the layer
 /// and the sector number of `want`, and a right EDC; the first that it lacks is answered, and `out` is then unchanged.
-#[tactic(auto, using(std::proofs::lemmas::Bool::Decides::nat_tests), unfolding(crate::specs::Frame::frame_cause))]
 pub fn read_frame(
+    frame: &[u8; 2064],
+    want: Id,
+    rule: Rule,
+    out: &mut [u8; 2048],
+) -> Result<(), FrameCause>
+    ensures refused { IfErr result (λ cause. frame_cause frame.now want rule ≡ Some cause) }
+    ensures right { OnOk result (frame_cause frame.now want rule ≡ None) }
+    ensures main { OnOk result (out.new ≡ main_in frame.now rule) }
+    ensures same { OnErr result (out.new ≡ out.old) }
+{
+    read_frame_with(&mut Scrambler::new(), frame, want, rule, out)
+}
+
+/// Reads a frame as `read_frame` does, with scrambling bytes that are kept from one frame to the next.
+#[tactic(auto, using(std::proofs::lemmas::Bool::Decides::nat_tests), unfolding(crate::specs::Frame::frame_cause))]
+pub fn read_frame_with(
+    scrambler: &mut Scrambler,
     frame: &[u8; 2064],
     want: Id,
     rule: Rule,
@@ -48,7 +64,7 @@ pub fn read_frame(
         return Err(FrameCause::Address { found: id.word() });
     }
     let mut main = [0; 2048];
-    unscramble(frame, id, rule, &mut main);
+    unscramble(scrambler, frame, id, rule, &mut main);
     if !has_right_edc(frame, &main) {
         return Err(FrameCause::Edc);
     }
@@ -73,11 +89,17 @@ fn has_right_ied(frame: &[u8; 2064]) -> bool
 }
 
 // Sets Main Data to the frame's, with the scrambling bytes of this ID taken away.
-fn unscramble(frame: &[u8; 2064], id: Id, rule: Rule, main: &mut [u8; 2048])
+fn unscramble(
+    scrambler: &mut Scrambler,
+    frame: &[u8; 2064],
+    id: Id,
+    rule: Rule,
+    main: &mut [u8; 2048],
+)
     ensures { main.new ≡ masked id rule (take 2048 (drop 12 frame.now)) }
 {
     main.copy_from_slice(&frame[12..2060]);
-    scramble(rule, id, main);
+    scramble_slice(scrambler, rule, id, main);
 }
 
 // Whether the last four bytes are the EDC of the first twelve and of the unscrambled Main Data.

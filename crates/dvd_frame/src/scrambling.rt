@@ -4,7 +4,7 @@ ghost use Rattle.std.specs.Int.{to_be_bytes, w64};
 ghost use Rattle.dvd_frame.specs.Bits.{bits};
 ghost use Rattle.dvd_frame.specs.Inner.Registers.{keys_from};
 ghost use Rattle.dvd_frame.specs.Scrambling.{window};
-ghost use Rattle.dvd_frame.specs.Scrambling.{presets, scrambled_count, scrambling_byte, masked};
+ghost use Rattle.dvd_frame.specs.Scrambling.{presets, preset_of, scrambled_count, scrambling_byte, masked};
 
 use crate::id::Id;
 use crate::parts::{load, put};
@@ -96,24 +96,60 @@ fn shifted_by_byte(register: u16) -> u16
     (register & 0x7F) * 256 + sums
 }
 
+/// The scrambling bytes of one preset, as many as a frame has Main Data bytes. They are made when an ID first asks for them,
+/// and kept until an ID of another preset does: the frames of a block have one preset.
+#[derive(Drop)]
+pub struct Scrambler {
+    preset: u16,
+    bytes: [u8; 2048],
+    ghost made: { bytes ≡ keys_from preset 0 2048 },
+}
+
+impl Scrambler {
+    /// None are made yet.
+    pub fn new() -> Scrambler {
+        // A register of zeros shows zeros at each byte. No ID selects it.
+        Scrambler {
+            preset: 0,
+            bytes: [0; 2048],
+        }
+    }
+
+    // Makes the scrambling bytes of an ID, where they aren't those that are kept.
+    fn select(&mut self, id: Id)
+        ensures { self.new.preset ≡ preset_of id }
+    {
+        let preset = preset_for(id);
+        if preset != self.preset {
+            set_keys(preset, &mut self.bytes);
+            self.preset = preset;
+        }
+    }
+}
+
+// The initial value of the register that an ID selects.
+fn preset_for(id: Id) -> u16
+    ensures value { result ≡ preset_of id }
+    ensures within { result < 2 ^ 15 }
+{
+    preset((id.word() >> 4 & 15) as u8)
+}
+
 /// Combines Main Data with the scrambling bytes of the ID, as far as the rule says. Twice is once undone.
 pub fn scramble(rule: Rule, id: Id, main: &mut [u8; 2048])
     ensures masked { main.new ≡ masked id rule main.old }
     ensures undone { masked id rule main.new ≡ main.old }
 {
-    scramble_slice(rule, id, main);
+    scramble_slice(&mut Scrambler::new(), rule, id, main);
 }
 
 // The same where Main Data stand within a frame.
-pub(crate) fn scramble_slice(rule: Rule, id: Id, main: &mut [u8])
+pub(crate) fn scramble_slice(scrambler: &mut Scrambler, rule: Rule, id: Id, main: &mut [u8])
     requires { length main.old ≡ 2048 }
     ensures { main.new ≡ masked id rule main.old }
 {
-    let index = (id.word() >> 4 & 15) as u8;
-    let count = rule.count();
-    let mut keys = [0; 2048];
-    set_keys(preset(index), &mut keys);
-    combine(&mut main[..count], &keys);
+    scrambler.select(id);
+    combine(&mut main[..rule.count()], &scrambler.bytes);
 }
 
 // Combines each byte with the key at its place.

@@ -1,6 +1,7 @@
 //! Worked values from outside the program.
 use crate::{
-    Area, FrameCause, Id, Keystream, Rule, edc, ied, make_frame, preset, read_frame, scramble,
+    Area, FrameCause, Id, Keystream, Rule, Scrambler, edc, ied, make_frame, make_frame_with,
+    preset, read_frame, read_frame_with, scramble,
 };
 use std::test::Fail;
 
@@ -193,4 +194,23 @@ fn a_frame_is_read_back_or_refused(rt: HostRuntime) {
         Err(FrameCause::Ied)
     );
     assert_eq!(rt; out, main);
+}
+
+// Numbers 03000F and 030010 are of two presets, and 03010F is of the first again.
+#[test]
+fn frames_of_two_presets_by_one_scrambler(rt: HostRuntime) {
+    let main = [0xA5; 2048];
+    let mut scrambler = Scrambler::new();
+    for number in [0x03_000F, 0x03_0010, 0x03_010F] {
+        let id = Id::new(Area::DataZone, 0, false, number);
+        let mut frame = [0; 2064];
+        make_frame(id, &[0; 6], Rule::Whole, &main, &mut frame);
+        let mut again = [0; 2064];
+        make_frame_with(&mut scrambler, id, &[0; 6], Rule::Whole, &main, &mut again);
+        assert!(rt; again == frame);
+        let mut out = [0; 2048];
+        let read = read_frame_with(&mut scrambler, &frame, id, Rule::Whole, &mut out);
+        assert_eq!(rt; read, Ok(()));
+        assert!(rt; out == main);
+    }
 }

@@ -13,7 +13,7 @@ use crate::rows::count_failed;
 use dvd_capture::parts::{AnswerRow, ColumnAnswer};
 use rs_code::{Pi, Po};
 use rs_decode::decode;
-use rs_lanes::{store, turn, wrong_columns};
+use rs_lanes::{load_turned, store, wrong_columns};
 use std::simd::prelude::*;
 
 /// Answers the columns from `start` on, one for each place of a piece of the columns. Answers whether each is as its rows
@@ -58,11 +58,26 @@ fn answer_whole_columns(
     answer_copied(code, &whole, start, piece)
 }
 
-// Writes columns of the rows' answers, of which none failed.
+// Writes columns of the rows' answers, of which none failed: sixteen at a time, so that their bytes lie near each other.
 fn copy_columns(answers: &[AnswerRow], start: usize, piece: &mut [ColumnAnswer])
     requires rows { length answers.now ≡ 208 }
     requires columns { start + length piece.old ≤ 182 }
     ensures { AreOwnFrom answers.now start piece.new }
+{
+    for tile in 0..piece.len().div_ceil(16) {
+        let at = 16 * tile;
+        let end = piece.len().min(at + 16);
+        copy_tile(answers, start + at, &mut piece[at..end]);
+    }
+}
+
+// Writes at most sixteen columns.
+fn copy_tile(answers: &[AnswerRow], start: usize, piece: &mut [ColumnAnswer])
+    requires rows { length answers.now ≡ 208 }
+    requires few { length piece.old ≤ 16 }
+    requires columns { start + length piece.old ≤ 182 }
+    ensures size { length piece.new ≡ length piece.old }
+    ensures own { AreOwnFrom answers.now start piece.new }
 {
     for group in 0..6 {
         copy_rows(answers, 32 * group, start, piece);
@@ -70,19 +85,21 @@ fn copy_columns(answers: &[AnswerRow], start: usize, piece: &mut [ColumnAnswer])
     copy_rows(answers, 176, start, piece);
 }
 
-// Writes into each column the bytes of the 32 rows' answers from `top` on.
+// Writes into each of at most sixteen columns the bytes of the 32 rows' answers from `top` on.
 fn copy_rows(answers: &[AnswerRow], top: usize, start: usize, piece: &mut [ColumnAnswer])
     requires rows { length answers.now ≡ 208 }
     requires top { top + 32 ≤ 208 }
+    requires few { length piece.old ≤ 16 }
     requires columns { start + length piece.old ≤ 182 }
     ensures size { length piece.new ≡ length piece.old }
     ensures wide { (j : ℕ) (default : ColumnAnswer) → j < length piece.new → length (slice_index_or piece.new j default).bytes ≡ 208 }
     ensures copied { AreCopied answers.now start piece.old top → AreCopied answers.now start piece.new (top + 32) }
 {
-    let mut turned = [u8x32::splat(0); 182];
-    turn(answers, top, &mut turned);
+    // Sixteen places are turned even where fewer follow.
+    let at = start.min(166);
+    let turned = load_turned(answers, top, at);
     for (j, column) in piece.iter_mut().enumerate() {
-        put_lanes(turned[start + j], top, &mut column.bytes);
+        put_lanes(turned[start - at + j], top, &mut column.bytes);
     }
 }
 

@@ -13,7 +13,7 @@ use crate::cause::Cause;
 use crate::columns::read_row;
 use dvd_capture::parts::{ColumnAnswer, Received, Sectors};
 use dvd_capture::{Stage, Work};
-use dvd_frame::{FrameCause, read_frame};
+use dvd_frame::{FrameCause, Scrambler, read_frame, read_frame_with};
 use dvd_layout::{BlockPlan, id_of, rule_of};
 
 /// Checks the sixteen data frames of a block that two passes fixed, as those of an entry of a plan, and sets the sectors to
@@ -86,12 +86,15 @@ fn read_frames(
     ensures right { OnOk result (frames_cause (from_columns (words_of columns.now)) plan.now ≡ None) }
     ensures main { OnOk result (sector_bytes sectors.new ≡ main_data (from_columns (words_of columns.now)) plan.now) }
 {
+    // The frames of a block have one preset.
+    let mut scrambler = Scrambler::new();
     let mut frame = [0; 2064];
     let mut main = [0; 2048];
     for f in 0..16usize {
         get_frame(received, columns, as_received, f, &mut frame);
+        let want = id_of(plan, false, f);
         let rule = rule_of(plan.content, f);
-        if let Err(cause) = read_frame(&frame, id_of(plan, false, f), rule, &mut main) {
+        if let Err(cause) = read_frame_with(&mut scrambler, &frame, want, rule, &mut main) {
             return Err(cause_of(f as u8, cause));
         }
         sectors.set(f, &main);

@@ -32,4 +32,4 @@ pub use lanes::store;
 pub use points::{powers, scaled};
 pub use row::Row;
 pub use rows::{inner_parity, wrong_rows};
-pub use turning::turn;
+pub use turning::load_turned;

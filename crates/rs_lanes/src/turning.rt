@@ -6,8 +6,8 @@ ghost use Rattle.rs_lanes.specs.Inner.Turning.{IsRiffled, IsTurned};
 use crate::row::Row;
 use std::simd::prelude::*;
 
-/// Sets the vectors to the places of the 32 rows from `top` on. That these rows have 182 places is told too.
-pub fn turn<T: Row>(rows: &[T], top: usize, turned: &mut [u8x32; 182])
+// Sets the vectors to the places of the 32 rows from `top` on. That these rows have 182 places is told too.
+pub(crate) fn turn<T: Row>(rows: &[T], top: usize, turned: &mut [u8x32; 182])
     requires { top + 32 ≤ length rows.now }
     ensures sizes { (n : ℕ) → n < 32 → length (line (map T.word rows.now) (top + n)) ≡ 182 }
     ensures lanes { (k : ℕ) → k < 182 → length (line turned.new k) ≡ 32 }
@@ -33,9 +33,9 @@ fn put_tile(tile: &[u8x32; 16], at: usize, turned: &mut [u8x32; 182])
     }
 }
 
-// Sixteen places of 32 rows as vectors by places.
+/// Sixteen places, from `at` on, of the 32 rows from `top` on, as vectors by places. That these rows have 182 places is told too.
 #[inline(always)]
-fn load_turned<T: Row>(rows: &[T], top: usize, at: usize) -> [u8x32; 16]
+pub fn load_turned<T: Row>(rows: &[T], top: usize, at: usize) -> [u8x32; 16]
     requires top { top + 32 ≤ length rows.now }
     requires at { at + 16 ≤ 182 }
     ensures sizes { (n : ℕ) → n < 32 → length (line (map T.word rows.now) (top + n)) ≡ 182 }

@@ -8,7 +8,7 @@ use Rattle.dvd_read.proofs.frames.read_frames.Goals as goal
 
 pub returns-in-Err-clause-refused : goal.returns-in-Err-clause-refused
 returns-in-Err-clause-refused c =
-    let caused = cause_as c.get_frame.new.frame _ _ _ _ (Some c.in-Err.cause) c.id_of.ensures c.rule_of-rule.ensures c.in-Err.ensures.refused in
+    let caused = cause_as c.get_frame.new.frame _ _ _ _ (Some c.in-Err.cause) c.id_of-want.ensures c.rule_of-rule.ensures c.in-Err.ensures.refused in
     fault-here (from_columns (words_of c.args.columns.now)) c.args.plan.now c.loop-f.f c.get_frame.new.frame c.in-Err.cause (omega arith)
     c.loop-f.invariant.right c.get_frame.ensures caused
     ∙ ap Some (sym c.cause_of.ensures)
@@ -19,11 +19,11 @@ loop-f-preserved c =
     let f = c.loop-f.f in
     let sectors = sector_bytes c.loop-f.sectors in
     let size : length sectors ≡ 16 = omega (arith, c.loop-f.sectors.size, c.loop-f.sectors.all.ok.0) in
-    let right = cause_as c.get_frame.new.frame _ _ _ _ None c.id_of.ensures c.rule_of-rule.ensures c.in_default.ensures.right in
+    let right = cause_as c.get_frame.new.frame _ _ _ _ None c.id_of-want.ensures c.rule_of-rule.ensures c.in_default.ensures.right in
     record {
       right = fault-next block c.args.plan.now f c.get_frame.new.frame c.loop-f.invariant.right c.get_frame.ensures right;
       mains = subst (λ (l : List (List ℕ)). AreMainsBefore block c.args.plan.now l (f + 1)) (sym c.set.ensures)
-          (mains-next block c.args.plan.now sectors f c.get_frame.new.frame c.read_frame.new.out (omega arith) c.loop-f.invariant.mains c.get_frame.ensures
+          (mains-next block c.args.plan.now sectors f c.get_frame.new.frame c.read_frame_with.new.out (omega arith) c.loop-f.invariant.mains c.get_frame.ensures
           (c.in_default.ensures.main ∙ ap (main_in c.get_frame.new.frame) c.rule_of-rule.ensures));
     }
 

@@ -1,6 +1,6 @@
 use Rattle.std.proofs.Common.{◌+◌, get_or, arith}
 use Rattle.dvd_read.proofs.Standing.{column-copied}
-use Rattle.dvd_read.proofs.columns.copy_columns.Goals as goal
+use Rattle.dvd_read.proofs.columns.copy_tile.Goals as goal
 
 pub loop-group-preserved : goal.loop-group-preserved
 loop-group-preserved c = record {
@@ -8,8 +8,8 @@ loop-group-preserved c = record {
   copied = λ j i d within above. c.copy_rows.ensures.copied c.loop-group.invariant.copied j i d within (omega arith);
 }
 
-pub returns : goal.returns
-returns c = record {
+pub returns-clause-own : goal.returns-clause-own
+returns-clause-own c = record {
   are = λ j d below.
       let copied = c.copy_rows-2.ensures.copied (λ k i e within above. c.loop-group.invariant.copied k i e within (omega arith)) in
       column-copied c.args.answers.now (c.args.start + j) (get_or c.copy_rows-2.new.piece j d).bytes c.requires.rows (c.copy_rows-2.ensures.wide j d below)

@@ -1,7 +1,7 @@
 use Rattle.std.proofs.Common.{◌≡◌, ℕ, ◌+◌, ◌++◌, List, length, take, ap, sym, ◌∙◌, arith}
 use Rattle.dvd_frame.specs.Id.{word_bytes}
 use Rattle.dvd_frame.proofs.FrameParts.{frame_written}
-use Rattle.dvd_frame.proofs.frame.make_frame.Goals as goal
+use Rattle.dvd_frame.proofs.frame.make_frame_with.Goals as goal
 
 pub returns : goal.returns
 returns c =
