@@ -22,7 +22,7 @@ use crate::commands::workers::add_by;
 use crate::status::Refusal;
 use dvd_block::{Block, Piece};
 use dvd_control::main_of;
-use dvd_frame::{Area, make_frame};
+use dvd_frame::{Area, Scrambler, make_frame_with};
 use dvd_layout::{BlockPlan, Content, Layout, Zones, id_of, rule_of};
 use dvd_loop::{LoneTurns, LoopEnd, Turn, follow_lone, read_unit};
 use dvd_par::{Gate, add_parity_par};
@@ -212,15 +212,17 @@ pub(crate) fn fill_block<F: Fn(&mut Block)>(
     requires adder { IsAdder F.Fn add.now }
     ensures { IsBlockOf (frames_of layout.now entry.now cpr.now sectors.now) (block_rows block.new) }
 {
+    let mut scrambler = Scrambler::new();
     let mut frame = [0; 2064];
     for f in 0..16 {
-        write_frame(layout, entry, cpr, sectors, f, &mut frame);
+        write_frame(&mut scrambler, layout, entry, cpr, sectors, f, &mut frame);
         block.put_frame(f, &frame);
     }
     add_by(add, block);
 }
 
 fn write_frame(
+    scrambler: &mut Scrambler,
     layout: &Layout,
     entry: &BlockPlan,
     cpr: &[u8; 6],
@@ -237,7 +239,8 @@ fn write_frame(
     let mut main = [0; 2048];
     write_main(layout, entry, sectors, f, &mut main);
     let id = id_of(entry, layout.dim(), f);
-    make_frame(
+    make_frame_with(
+        scrambler,
         id,
         &cpr_of(entry.area, cpr),
         rule_of(entry.content, f),
