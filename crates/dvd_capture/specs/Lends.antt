@@ -1,13 +1,15 @@
 -- What the buffers of a captured block are after they were lent for writing.
-use Rattle.std.specs.Prelude.{List}
-use Rattle.std.specs.Borrow.{Lends, MutBor, Fml, Array}
-use Rattle.std.specs.Vec.{with_items}
+use Rattle.std.specs.Prelude.{ℕ, List}
+use Rattle.std.specs.Borrow.{Lends, MutBor, Fml, Array, u8}
+use Rattle.std.specs.Vec.{with_item, with_items}
 use Rattle.dvd_capture.specs.declared.parts.AnswerRow.{AnswerRow}
 use Rattle.dvd_capture.specs.declared.parts.Answers.{Answers}
 use Rattle.dvd_capture.specs.declared.parts.ColumnAnswer.{ColumnAnswer}
 use Rattle.dvd_capture.specs.declared.parts.Columns.{Columns}
+use Rattle.dvd_capture.specs.declared.parts.Sectors.{Sectors}
 use Rattle.dvd_capture.specs.contracts.parts.Answers.{the_row as answers_row}
 use Rattle.dvd_capture.specs.contracts.parts.Columns.{the_row as columns_row}
+use Rattle.dvd_capture.specs.contracts.parts.Sectors.{the_row as sectors_row}
 use Rattle.dvd_capture.specs.contracts.parts.AnswerRow.{the_row as answer_row}
 use Rattle.dvd_capture.specs.contracts.parts.ColumnAnswer.{the_row as column_row}
 
@@ -19,8 +21,15 @@ with_answers answers rows = record { rows = with_items answers.rows rows; size =
 abbrev pub with_columns : Columns → List ColumnAnswer → Columns
 with_columns columns all = record { all = with_items columns.all all; size = columns.size }
 
+-- another sector f
+abbrev pub with_sector : Sectors → ℕ → List ℕ → Sectors
+with_sector sectors f main = record { all = with_item sectors.all f main; size = sectors.size }
+
 abbrev pub LendsAnswers : MutBor Answers → MutBor (List AnswerRow) → Fml
 LendsAnswers answers rows = Lends answers_row (Array answer_row 0) answers rows (with_answers answers.now)
 
 abbrev pub LendsColumns : MutBor Columns → MutBor (List ColumnAnswer) → Fml
 LendsColumns columns all = Lends columns_row (Array column_row 0) columns all (with_columns columns.now)
+
+abbrev pub LendsSector : MutBor Sectors → ℕ → MutBor (List ℕ) → Fml
+LendsSector sectors f main = Lends sectors_row (Array u8 2048) sectors main (with_sector sectors.now f)

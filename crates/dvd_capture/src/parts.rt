@@ -337,6 +337,8 @@ impl Columns {
 
 impl Sectors {
     ghost use Rattle.dvd_capture.specs.Parts.{sector_bytes};
+    ghost use Rattle.dvd_capture.specs.Lends.{LendsSector};
+    ghost use Rattle.std.specs.Borrow.{sem};
 
     /// Zeros. `NoMemory` may come at any time, and nothing is taken then.
     pub(crate) fn new(alloc: Global) -> Result<Sectors, NoMemory>
@@ -352,6 +354,15 @@ impl Sectors {
         ensures { sector_bytes self.new ≡ slice_set (sector_bytes self.old) f main.now }
     {
         self.all[f] = *main;
+    }
+
+    /// Sector `f`, lent for writing. The others stay.
+    pub fn sector_mut(&mut self, f: usize) -> &mut [u8; 2048]
+        requires { f < 16 }
+        ensures* writes_back { sem 𝓛 (LendsSector self.entry f result) }
+        ensures sector { result.now ≡ line (sector_bytes self.old) f }
+    {
+        &mut self.all[f]
     }
 
     /// Sector `f`.

@@ -89,15 +89,14 @@ fn read_frames(
     // The frames of a block have one preset.
     let mut scrambler = Scrambler::new();
     let mut frame = [0; 2064];
-    let mut main = [0; 2048];
     for f in 0..16usize {
         get_frame(received, columns, as_received, f, &mut frame);
         let want = id_of(plan, false, f);
         let rule = rule_of(plan.content, f);
-        if let Err(cause) = read_frame_with(&mut scrambler, &frame, want, rule, &mut main) {
+        let main = sectors.sector_mut(f);
+        if let Err(cause) = read_frame_with(&mut scrambler, &frame, want, rule, main) {
             return Err(cause_of(f as u8, cause));
         }
-        sectors.set(f, &main);
     }
     Ok(())
 }

@@ -1,9 +1,9 @@
-use Rattle.std.proofs.Common.{◌≡◌, ◌∙◌, ◌+◌, ℕ, List, length, Some, None, sym, ap, subst, arith}
+use Rattle.std.proofs.Common.{◌≡◌, ◌∙◌, length, Some, None, sym, ap, arith}
 use Rattle.dvd_capture.specs.Parts.{sector_bytes}
 use Rattle.dvd_capture.specs.TwoPass.{from_columns}
 use Rattle.dvd_frame.specs.Frame.{main_in}
 use Rattle.dvd_read.specs.Inner.Found.{words_of}
-use Rattle.dvd_read.proofs.FrameFaults.{AreMainsBefore, cause_as, fault-here, fault-next, fault-none, mains-all, mains-next}
+use Rattle.dvd_read.proofs.FrameFaults.{cause_as, fault-here, fault-next, fault-none, mains-all, mains-next}
 use Rattle.dvd_read.proofs.frames.read_frames.Goals as goal
 
 pub returns-in-Err-clause-refused : goal.returns-in-Err-clause-refused
@@ -22,9 +22,8 @@ loop-f-preserved c =
     let right = cause_as c.get_frame.new.frame _ _ _ _ None c.id_of-want.ensures c.rule_of-rule.ensures c.in_default.ensures.right in
     record {
       right = fault-next block c.args.plan.now f c.get_frame.new.frame c.loop-f.invariant.right c.get_frame.ensures right;
-      mains = subst (λ (l : List (List ℕ)). AreMainsBefore block c.args.plan.now l (f + 1)) (sym c.set.ensures)
-          (mains-next block c.args.plan.now sectors f c.get_frame.new.frame c.read_frame_with.new.out (omega arith) c.loop-f.invariant.mains c.get_frame.ensures
-          (c.in_default.ensures.main ∙ ap (main_in c.get_frame.new.frame) c.rule_of-rule.ensures));
+      mains = mains-next block c.args.plan.now sectors f c.get_frame.new.frame c.read_frame_with.new.out (omega arith) c.loop-f.invariant.mains c.get_frame.ensures
+          (c.in_default.ensures.main ∙ ap (main_in c.get_frame.new.frame) c.rule_of-rule.ensures);
     }
 
 pub returns-clause-right : goal.returns-clause-right
