@@ -212,6 +212,7 @@ pub(crate) fn fill_block<F: Fn(&mut Block)>(
     requires adder { IsAdder F.Fn add.now }
     ensures { IsBlockOf (frames_of layout.now entry.now cpr.now sectors.now) (block_rows block.new) }
 {
+    // The frames of a block have one preset.
     let mut scrambler = Scrambler::new();
     let mut frame = [0; 2064];
     for f in 0..16 {
