@@ -1,5 +1,5 @@
 -- The tables for sixteen points, found right by computing them.
-use Rattle.std.proofs.Common.{◌≡◌, ℕ, ◌*◌, ◌%◌, ◌<◌, List, [], get_or, map, refl, sym, ap, subst, ◌∙◌, arith}
+use Rattle.std.proofs.Common.{◌≡◌, ℕ, ◌*◌, ◌%◌, ◌<◌, List, [], ◌∷◌, get_or, map, refl, sym, ap, subst, ◌∙◌, arith}
 use Rattle.std.specs.List.{range_with_len}
 use Rattle.std.proofs.lemmas.List.FromFn.{get_or-map-range_with_len}
 use Rattle.gf_field.specs.Field.{alpha, shift, shifted, partial_product, product, power}
@@ -9,7 +9,18 @@ use Rattle.gf_field.proofs.Logarithms.{POWERS_at}
 use Rattle.rs_lanes.specs.declared.factors.TheConstants.{POWERS, PRODUCTS}
 use Rattle.rs_lanes.specs.Inner.Tables.{IsTable}
 use Rattle.rs_lanes.specs.Rows.{place}
-use Rattle.rs_lanes.proofs.TableLemmas.{table_of, IsTable-table_of}
+
+-- the products of a factor with the low nibbles, and with the high ones
+unfoldable table_of : ℕ → List (List ℕ)
+table_of factor = map (λ n. product n factor) (range_with_len 0 16) ∷ map (λ n. product (16 * n) factor) (range_with_len 0 16) ∷ []
+
+-- they are a table of the factor
+IsTable-table_of : (factor : ℕ) → IsTable factor (table_of factor)
+unfolding table_of
+IsTable-table_of factor = record {
+  low = λ n below. get_or-map-range_with_len (λ m. product m factor) 0 16 n n 0 below (omega arith);
+  high = λ n below. get_or-map-range_with_len (λ m. product (16 * m) factor) 0 16 n n 0 below (omega arith);
+}
 
 -- the products of each byte, entry by entry
 PRODUCTS-made : PRODUCTS ≡ map table_of (range_with_len 0 256)

@@ -1,16 +1,13 @@
 -- Words of five bytes at the fifth roots of one: value-five, the roots (root-one to root-four), and the sums by which `fifths` has
--- the five values (fifth-zero to fifth-four); value-turned of words whose bytes were multiplied first, and folded-exponent of the five
--- pieces of a third.
-use Rattle.std.proofs.Common.{◌≡◌, ℕ, zero, suc, ◌+◌, ◌*◌, ◌/◌, ◌%◌, ◌<◌, List, [], ◌∷◌, length, get_or, replicate, refl, sym, ap, subst, ◌∙◌, inl, inr, arith}
+-- the five values (fifth-zero to fifth-four, each_of_five). The five pieces of a third: value-turned of bytes multiplied by powers
+-- first, folded-five, folded-exponent. The exponents below 15: all_exponents.
+use Rattle.std.proofs.Common.{◌≡◌, ℕ, zero, suc, ◌+◌, ◌*◌, ◌/◌, ◌%◌, ◌<◌, List, [], ◌∷◌, length, get_or, refl, sym, ap, subst, ◌∙◌, inl, inr, arith}
 use Rattle.std.proofs.lemmas.Bool.{cases_eq}
-use Rattle.std.proofs.lemmas.Simd.{get_or-replicate}
 use Rattle.gf_field.specs.Field.{alpha, plus, shift, shifted, partial_product, product, power}
 use Rattle.gf_field.specs.Words.{value}
 use Rattle.gf_field.proofs.FieldLaws.{product-plus, product-one, product-assoc, product-power, plus-zero, power-zero, power-suc, power-one, power-byte, power-add, power-mul, power-alpha-mod, power-alpha-shifted, one-power}
 use Rattle.rs_code.proofs.Ring.{ring}
 use Rattle.rs_code.proofs.Values.{value-nil, value-cons}
-use Rattle.rs_lanes.specs.Rows.{line}
-use Rattle.rs_lanes.specs.Inner.Lanes.{HasLanes}
 use Rattle.rs_lanes.specs.Inner.Thirds.{exponent_at, folded}
 use Rattle.rs_lanes.proofs.ThirdLemmas.{get_or-folded_zero, folded_more}
 
@@ -207,16 +204,3 @@ all_exponents P count p0 p1 p2 k below inside =
                 told 2 ((k + 10) / 3 % 5) two (omega arith) (p2 ((k + 10) / 3 % 5) (omega arith))
           ]
     ]
-
--- and the other way round
-pub each_exponent : (P : ℕ → ℕ → Type 0) (count : ℕ) → ((k : ℕ) → k < 15 → k < count → P (k % 3) k)
-    → (i : ℕ) → i < 3 → (m : ℕ) → m < 5 → exponent_at i m < count → P i (exponent_at i m)
-each_exponent P count all i few m number wanted =
-    let rest : exponent_at i m % 3 ≡ i = omega arith in
-    subst (λ r. P r (exponent_at i m)) rest (all (exponent_at i m) (omega arith) wanted)
-
--- each of five vectors of zeros has zeros
-pub HasLanes-zeros : (m : ℕ) → m < 5 → HasLanes (line (replicate 5 (replicate {A = ℕ} 32 0)) m) (λ j. 0)
-HasLanes-zeros m few =
-    subst (λ row. HasLanes row (λ j. 0)) (sym (get_or-replicate 5 m (replicate {A = ℕ} 32 0) [] few))
-    (record { size = refl; each = λ j below. get_or-replicate {A = ℕ} 32 j 0 0 below })

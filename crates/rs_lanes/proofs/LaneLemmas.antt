@@ -1,12 +1,13 @@
 -- What the operations on vectors of bytes hold in each lane: HoldsLanes-zip2 of two vectors, HoldsLanes-splat of a vector and one
 -- byte, HoldsLanes-low_nibbles and high_nibble-small of the two nibbles, HoldsLanes-look_up of a table of sixteen at positions
--- below sixteen, whole_table of a table in one vector, and either-zero of two lanes joined.
-use Rattle.std.proofs.Common.{◌≡◌, ◌↔◌, ℕ, ◌+◌, ◌*◌, ◌/◌, ◌%◌, ◌<◌, List, length, get_or, replicate, take, get_or-take, length-take-le, sym, ap, ◌∙◌, arith, w8, Fits, bit_and, bit_or}
+-- below sixteen, whole_table of a table in one vector, HasLanes-zeros of vectors of zeros, and either-zero of two lanes joined.
+use Rattle.std.proofs.Common.{◌≡◌, ◌↔◌, ℕ, ◌+◌, ◌*◌, ◌/◌, ◌%◌, ◌<◌, List, [], length, get_or, replicate, take, get_or-take, length-take-le, sym, ap, subst, ◌∙◌, arith, w8, Fits, bit_and, bit_or}
 use Rattle.std.specs.Int.Bits.{or_zero_r}
 use Rattle.std.specs.Simd.Lanes.{Each1, zip2}
 use Rattle.std.proofs.lemmas.Nat.{and_mask, le_or_l, le_or_r}
 use Rattle.std.proofs.lemmas.Simd.{length-zip2, get_or-zip2, get_or-replicate, length-replicate, length-swz_l, get_or-swz_l_below, swz_l, SwzOk, SwzOk-from_below, Each1-from_get_or, Each1-get_or}
-use Rattle.rs_lanes.specs.Inner.Lanes.{HoldsLanes}
+use Rattle.rs_lanes.specs.Rows.{line}
+use Rattle.rs_lanes.specs.Inner.Lanes.{HoldsLanes, HasLanes}
 
 -- an operator on two vectors
 pub HoldsLanes-zip2 : (count : ℕ) (f : ℕ → ℕ → ℕ) (a b : List ℕ) → length a ≡ count → length b ≡ count
@@ -64,6 +65,12 @@ whole_table table size = record {
   size = length-take-le 16 table (omega arith);
   each = λ k below. get_or-take 16 table k 0 below ∙ ap (λ j. get_or table j 0) (omega arith);
 }
+
+-- each of several vectors of zeros has zeros
+pub HasLanes-zeros : (count m : ℕ) → m < count → HasLanes (line (replicate count (replicate {A = ℕ} 32 0)) m) (λ j. 0)
+HasLanes-zeros count m inside =
+    subst (λ row. HasLanes row (λ j. 0)) (sym (get_or-replicate count m (replicate {A = ℕ} 32 0) [] inside))
+    (record { size = length-replicate {A = ℕ} 32 0; each = λ j below. get_or-replicate {A = ℕ} 32 j 0 0 below })
 
 -- two lanes joined are zero where both are
 pub either-zero : (a b : ℕ) → (bit_or a b ≡ 0) ↔ ((a ≡ 0) × (b ≡ 0))

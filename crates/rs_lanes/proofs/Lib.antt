@@ -1,10 +1,10 @@
-pub mod CodewordLemmas
 pub mod ColumnLemmas
 pub mod FactorLemmas
 pub mod FifthLemmas
 pub mod LaneLemmas
+pub mod MatrixLemmas
 pub mod Nibbles
+pub mod ParityLemmas
 pub mod RowLemmas
-pub mod TableLemmas
 pub mod ThirdLemmas
 pub mod Tiles

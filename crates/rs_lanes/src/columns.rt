@@ -1,17 +1,16 @@
 //! The columns of an ECC block, 32 at once.
 ghost use Rattle.std.specs.Prelude.{◌≡◌, ◌↔◌, ℕ, ◌+◌, ◌<◌, ◌≤◌, List, ◌++◌, length, map, slice_index, EachIndex, All};
 ghost use Rattle.gf_field.specs.Words.{IsByte, IsCodeword, IsEncoded};
-ghost use Rattle.rs_code.specs.Inner.Polynomials.{IsRemainder};
 ghost use Rattle.rs_lanes.specs.Rows.{line, place, column};
 ghost use Rattle.rs_lanes.specs.Inner.Lanes.{HasLanes};
-ghost use Rattle.rs_lanes.specs.Inner.Tables.{AreTables};
+ghost use Rattle.rs_lanes.specs.Inner.Parity.{filled};
 ghost use Rattle.rs_lanes.specs.Inner.Thirds.{behind_zeros, third, IsThird};
 
-use crate::division::read_bytes;
 use crate::lanes::{load, store};
+use crate::matrices::PO_MATRIX;
+use crate::parity::parity_of;
 use crate::row::Row;
-use crate::tables::PO;
-use crate::thirds::{thirds_of, wrong_lanes};
+use crate::thirds::{thirds_of, values_of, wrong_lanes};
 use std::simd::prelude::*;
 
 /// Sets sixteen rows to the outer parity of 192 rows: each column is then followed by its parity.
@@ -52,22 +51,23 @@ fn put_parity(rows: &[[u8; 182]], at: usize, parity: &mut [[u8; 182]])
     ensures below { (k j : ℕ) → j < at → place parity.new k j ≡ place parity.old k j }
     ensures above { (k j : ℕ) → at + 32 ≤ j → place parity.new k j ≡ place parity.old k j }
 {
-    put_register(&divide_columns(&PO, rows, at), at, parity);
+    let values = values_of(&column_thirds(rows, at));
+    put_vectors(&parity_of(&PO_MATRIX, &values), at, parity);
 }
 
-// Sets the bytes of 32 columns to those of a register. All others stay.
+// Sets the bytes of 32 columns to those of the vectors. All others stay.
 #[inline(always)]
-fn put_register(register: &[u8x32; 16], at: usize, parity: &mut [[u8; 182]])
+fn put_vectors(vectors: &[u8x32; 16], at: usize, parity: &mut [[u8; 182]])
     requires at { at + 32 ≤ 182 }
     requires parity { length parity.old ≡ 16 }
     ensures size { length parity.new ≡ 16 }
     ensures sizes { (k : ℕ) → k < 16 → length (line parity.new k) ≡ 182 }
-    ensures set { (k j : ℕ) → k < 16 → j < 32 → place parity.new k (at + j) ≡ place register.now k j }
+    ensures set { (k j : ℕ) → k < 16 → j < 32 → place parity.new k (at + j) ≡ place vectors.now k j }
     ensures below { (k j : ℕ) → j < at → place parity.new k j ≡ place parity.old k j }
     ensures above { (k j : ℕ) → at + 32 ≤ j → place parity.new k j ≡ place parity.old k j }
 {
     for k in 0..16 {
-        put_lanes(register[k], &mut parity[k], at);
+        put_lanes(vectors[k], &mut parity[k], at);
     }
 }
 
@@ -100,16 +100,16 @@ fn put_wrong<T: Row>(rows: &[T], at: usize, wrong: &mut [u8; 182])
     ensures below { (k : ℕ) → k < at → slice_index wrong.new k ≡ slice_index wrong.old k }
     ensures above { (k : ℕ) → at + 32 ≤ k → slice_index wrong.new k ≡ slice_index wrong.old k }
 {
-    put_lanes(wrong_lanes(&column_thirds(rows, at), 16), wrong, at);
+    put_lanes(wrong_lanes::<16>(&column_thirds(rows, at)), wrong, at);
 }
 
-// The thirds of the 32 columns from `at` on. That the columns are bytes is told too.
+// The thirds of the 32 columns from `at` on, of 208 rows or of fewer with zeros below. That the columns are bytes is told too.
 #[inline(always)]
 fn column_thirds<T: Row>(rows: &[T], at: usize) -> [[u8x32; 3]; 85]
     requires at { at + 32 ≤ 182 }
-    requires rows { length rows.now ≡ 208 }
+    requires rows { length rows.now ≤ 208 }
     ensures bytes { (j : ℕ) → j < 32 → All IsByte (column (map T.word rows.now) (at + j)) }
-    ensures thirds { (i j : ℕ) → i < 3 → j < 32 → IsThird i (column (map T.word rows.now) (at + j)) (third result i j) }
+    ensures thirds { (i j : ℕ) → i < 3 → j < 32 → IsThird i (filled 208 (column (map T.word rows.now) (at + j))) (third result i j) }
 {
     let mut thirds = [[u8x32::splat(0); 3]; 85];
     for place in 0..85 {
@@ -122,34 +122,30 @@ fn column_thirds<T: Row>(rows: &[T], at: usize) -> [[u8x32; 3]; 85]
     thirds
 }
 
-// A place of the 32 columns from `at` on with 47 zeros put in front.
+// A place of these columns with 47 zeros put in front.
 #[inline(always)]
 fn padded<T: Row>(rows: &[T], at: usize, place: usize) -> u8x32
     requires at { at + 32 ≤ 182 }
-    requires rows { length rows.now ≡ 208 }
     requires place { place < 255 }
     ensures { (j : ℕ) → j < 32
-        → slice_index result j ≡ slice_index (behind_zeros 47 (column (map T.word rows.now) (at + j))) place }
+        → slice_index result j ≡ slice_index (behind_zeros 47 (filled 208 (column (map T.word rows.now) (at + j)))) place }
 {
     if place < 47 {
         u8x32::splat(0)
     } else {
-        lanes_at(rows[place - 47].row(), at)
+        lanes_or_zeros(rows, place - 47, at)
     }
 }
 
-// The remainders of 32 columns from `at` on. That the columns are bytes is told too.
+// The 32 bytes of row `i` from place `at` on, or zeros below the last row.
 #[inline(always)]
-fn divide_columns<T: Row>(tables: &[[[u8; 16]; 2]; 16], rows: &[T], at: usize) -> [u8x32; 16]
+fn lanes_or_zeros<T: Row>(rows: &[T], i: usize, at: usize) -> u8x32
     requires { at + 32 ≤ 182 }
-    ensures lanes { EachIndex result (λ k. length (line result k) ≡ 32) }
-    ensures bytes { (j : ℕ) → j < 32 → All IsByte (column (map T.word rows.now) (at + j)) }
-    ensures remainders { (generator : List ℕ) → AreTables generator tables.now → (j : ℕ) → j < 32
-        → IsRemainder generator (column (map T.word rows.now) (at + j)) (column result j) }
+    ensures { (j : ℕ) → j < 32 → slice_index result j ≡ place (map T.word rows.now) i (at + j) }
 {
-    let mut register = [u8x32::splat(0); 16];
-    for row in rows {
-        read_bytes(tables, &mut register, lanes_at(row.row(), at));
+    if i < rows.len() {
+        lanes_at(rows[i].row(), at)
+    } else {
+        u8x32::splat(0)
     }
-    register
 }

@@ -5,23 +5,23 @@
 //! - [`row`]: what has the bytes of a row.
 //! - [`turning`]: 32 rows as vectors, one for each place.
 //! - [`points`]: products and powers of sixteen bytes at once.
-//! - `division`: the division by a generator, in each lane.
 //! - `lanes`: sums, products, loads and stores of vectors.
-//! - `tables`: the multiples of the coefficients of both generators.
 //! - `thirds`: the values of words, in each lane.
+//! - `fifths`: the pieces of a third, added up for five values at once.
+//! - `parity`: the parity of words by their values, in each lane.
+//! - `matrices`: what parity is of each value, for both codes.
 //! - `factors`: the products of each byte with each nibble, and the powers of each power of alpha.
-//! - `fifths`: words of five bytes at all fifth roots of one.
 #![tactic(auto)]
 
 pub mod columns;
-mod division;
 mod factors;
 mod fifths;
 mod lanes;
+mod matrices;
+mod parity;
 pub mod points;
 pub mod row;
 pub mod rows;
-mod tables;
 #[cfg(test)]
 mod tests;
 mod thirds;

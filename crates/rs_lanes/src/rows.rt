@@ -1,14 +1,13 @@
 //! The rows of an ECC block, 32 at once.
 ghost use Rattle.std.specs.Prelude.{◌≡◌, ◌↔◌, ℕ, ◌+◌, ◌<◌, ◌≤◌, List, ◌++◌, length, take, slice_index, EachIndex, All};
 ghost use Rattle.gf_field.specs.Words.{IsByte, IsCodeword, IsEncoded};
-ghost use Rattle.rs_code.specs.Inner.Polynomials.{IsRemainder};
 ghost use Rattle.rs_lanes.specs.Rows.{line, place, column};
-ghost use Rattle.rs_lanes.specs.Inner.Tables.{AreTables};
+ghost use Rattle.rs_lanes.specs.Inner.Parity.{filled};
 ghost use Rattle.rs_lanes.specs.Inner.Thirds.{behind_zeros, third, IsThird};
 
-use crate::division::read_bytes;
-use crate::tables::PI;
-use crate::thirds::{thirds_of, wrong_lanes};
+use crate::matrices::PI_MATRIX;
+use crate::parity::parity_of;
+use crate::thirds::{thirds_of, values_of, wrong_lanes};
 use crate::turning::turn;
 use std::simd::prelude::*;
 
@@ -22,7 +21,7 @@ pub fn inner_parity(rows: &mut [[u8; 182]], top: usize)
 {
     let mut turned = [u8x32::splat(0); 182];
     turn(rows, top, &mut turned);
-    let parity = divide_rows(&PI, &turned);
+    let parity = parity_of(&PI_MATRIX, &values_of(&row_thirds(&turned, 172)));
     for n in 0..32 {
         put_end(&parity, n, &mut rows[top + n]);
     }
@@ -36,7 +35,7 @@ pub fn wrong_rows(rows: &[[u8; 182]], top: usize) -> u8x32
 {
     let mut turned = [u8x32::splat(0); 182];
     turn(rows, top, &mut turned);
-    wrong_lanes(&row_thirds(&turned), 10)
+    wrong_lanes::<10>(&row_thirds(&turned, 182))
 }
 
 // Sets the last ten bytes of a row to lane `n` of these vectors.
@@ -51,47 +50,48 @@ fn put_end(parity: &[u8x32; 10], n: usize, row: &mut [u8; 182])
     }
 }
 
-// The thirds of words of 182 bytes. That these are bytes is told too.
+// The thirds of words of 182 bytes, of which places from `count` on are zeros. That the others are bytes is told too.
 #[inline(always)]
-fn row_thirds(turned: &[u8x32; 182]) -> [[u8x32; 3]; 85]
-    ensures bytes { (n : ℕ) → n < 32 → All IsByte (column turned.now n) }
-    ensures thirds { (i n : ℕ) → i < 3 → n < 32 → IsThird i (column turned.now n) (third result i n) }
+fn row_thirds(turned: &[u8x32; 182], count: usize) -> [[u8x32; 3]; 85]
+    requires { count ≤ 182 }
+    ensures bytes { (n : ℕ) → n < 32 → All IsByte (take count (column turned.now n)) }
+    ensures thirds { (i n : ℕ) → i < 3 → n < 32 → IsThird i (filled 182 (take count (column turned.now n))) (third result i n) }
 {
     let mut thirds = [[u8x32::splat(0); 3]; 85];
     for place in 0..85 {
         thirds[place] = thirds_of(
-            padded(turned, place),
-            padded(turned, 85 + place),
-            padded(turned, 170 + place),
+            padded(turned, count, place),
+            padded(turned, count, 85 + place),
+            padded(turned, count, 170 + place),
         );
     }
     thirds
 }
 
-// A place of words of 182 bytes with 73 zeros put in front.
+// A place of these words with 73 zeros put in front.
 #[inline(always)]
-fn padded(turned: &[u8x32; 182], at: usize) -> u8x32
-    requires { at < 255 }
-    ensures { (n : ℕ) → n < 32 → slice_index result n ≡ slice_index (behind_zeros 73 (column turned.now n)) at }
+fn padded(turned: &[u8x32; 182], count: usize, at: usize) -> u8x32
+    requires count { count ≤ 182 }
+    requires at { at < 255 }
+    ensures { (n : ℕ) → n < 32
+        → slice_index result n ≡ slice_index (behind_zeros 73 (filled 182 (take count (column turned.now n)))) at }
 {
     if at < 73 {
         u8x32::splat(0)
     } else {
-        turned[at - 73]
+        lanes_or_zeros(turned, count, at - 73)
     }
 }
 
-// The remainders of the first 172 places in each lane. That all places are bytes is told too.
+// The vector of a place below `count`, or zeros.
 #[inline(always)]
-fn divide_rows(tables: &[[[u8; 16]; 2]; 10], turned: &[u8x32; 182]) -> [u8x32; 10]
-    ensures lanes { EachIndex result (λ k. length (line result k) ≡ 32) }
-    ensures bytes { (n : ℕ) → n < 32 → All IsByte (take 172 (column turned.now n)) }
-    ensures remainders { (generator : List ℕ) → AreTables generator tables.now → (n : ℕ) → n < 32
-        → IsRemainder generator (take 172 (column turned.now n)) (column result n) }
+fn lanes_or_zeros(turned: &[u8x32; 182], count: usize, at: usize) -> u8x32
+    requires { count ≤ 182 }
+    ensures { (n : ℕ) → n < 32 → slice_index result n ≡ slice_index (take count (column turned.now n)) at }
 {
-    let mut register = [u8x32::splat(0); 10];
-    for k in 0..172 {
-        read_bytes(tables, &mut register, turned[k]);
+    if at < count {
+        turned[at]
+    } else {
+        u8x32::splat(0)
     }
-    register
 }

@@ -2,7 +2,7 @@
 //! pieces of 85 bytes. Since alpha^255 is 1, the 85th power of alpha^k goes by k mod 3 alone: so for each of these three the
 //! pieces are added up to one first, which is a third here. A third serves five exponents below 15, and its own five pieces are
 //! added up for all of them at once (`fifths`). So what is left for each exponent is Horner's rule on 17 bytes.
-ghost use Rattle.std.specs.Prelude.{◌≡◌, ◌↔◌, ℕ, ◌%◌, ◌<◌, ◌≤◌, length, slice_index};
+ghost use Rattle.std.specs.Prelude.{◌≡◌, ◌≢◌, ◌↔◌, ℕ, ◌%◌, ◌<◌, ◌≤◌, length, slice_index};
 ghost use Rattle.gf_field.specs.Field.{alpha, plus, product, power};
 ghost use Rattle.gf_field.specs.Words.{value};
 ghost use Rattle.rs_lanes.specs.Rows.{line, place};
@@ -30,39 +30,61 @@ pub fn thirds_of(a: u8x32, b: u8x32, c: u8x32) -> [u8x32; 3]
     ]
 }
 
-/// Zero in each lane whose word vanishes at alpha^0 to alpha^(`count` - 1), and not in any other.
+/// The values of each lane's word at alpha^0 to alpha^(`R` - 1).
 #[inline(always)]
-pub fn wrong_lanes(thirds: &[[u8x32; 3]; 85], count: usize) -> u8x32
-    requires { count ≤ 16 }
+pub fn values_of<const R: usize>(thirds: &[[u8x32; 3]; 85]) -> [u8x32; R]
+    requires { R ≤ 16 }
+    ensures { (k j : ℕ) → k < R → j < 32 → place result k j ≡ value (third thirds.now (k % 3) j) (power alpha k) }
+{
+    // Each third is named, so that its exponents are constants where this is inlined.
+    let mut all = [u8x32::splat(0); R];
+    put_values(&values(thirds, 0, R), 0, &mut all);
+    put_values(&values(thirds, 1, R), 1, &mut all);
+    put_values(&values(thirds, 2, R), 2, &mut all);
+    put_last_value(thirds, &mut all);
+    all
+}
+
+/// Zero in each lane whose word vanishes at alpha^0 to alpha^(`R` - 1), and not in any other.
+#[inline(always)]
+pub fn wrong_lanes<const R: usize>(thirds: &[[u8x32; 3]; 85]) -> u8x32
+    requires { R ≤ 16 }
     ensures size { length result ≡ 32 }
     ensures zeros { (j : ℕ) → j < 32
-        → (slice_index result j ≡ 0) ↔ ((k : ℕ) → k < count → value (third thirds.now (k % 3) j) (power alpha k) ≡ 0) }
+        → (slice_index result j ≡ 0) ↔ ((k : ℕ) → k < R → value (third thirds.now (k % 3) j) (power alpha k) ≡ 0) }
 {
-    let wrong = either(
-        either(wrong_third(thirds, 0, count), wrong_third(thirds, 1, count)),
-        wrong_third(thirds, 2, count),
-    );
-    if count < 16 {
-        wrong
-    } else {
-        either(wrong, last_value(thirds))
+    let values = values_of::<R>(thirds);
+    let mut wrong = u8x32::splat(0);
+    for k in 0..R {
+        wrong = either(wrong, values[k]);
+    }
+    wrong
+}
+
+// Puts the five values of the third with number `i` where their exponents are, as far as these are below `R`.
+#[inline(always)]
+fn put_values<const R: usize>(values: &[u8x32; 5], i: usize, all: &mut [u8x32; R])
+    requires { i < 3 }
+    ensures set { (m : ℕ) → m < 5 → exponent_at i m < R → line all.new (exponent_at i m) ≡ line values.now m }
+    ensures others { (k : ℕ) → k % 3 ≢ i → line all.new k ≡ line all.old k }
+{
+    for m in 0..5 {
+        let k = exponent(i, m);
+        if k < R {
+            all[k] = values[m];
+        }
     }
 }
 
-// Zero in each lane whose third with number `i` vanishes at its powers of alpha below alpha^15 and alpha^`count`.
+// Puts the value at alpha^15 last, if there are sixteen values. All others stay.
 #[inline(always)]
-fn wrong_third(thirds: &[[u8x32; 3]; 85], i: usize, count: usize) -> u8x32
-    requires { i < 3 }
-    ensures size { length result ≡ 32 }
-    ensures zeros { (j : ℕ) → j < 32
-        → (slice_index result j ≡ 0)
-        ↔ ((m : ℕ) → m < 5 → exponent_at i m < count → value (third thirds.now i j) (power alpha (exponent_at i m)) ≡ 0) }
+fn put_last_value<const R: usize>(thirds: &[[u8x32; 3]; 85], all: &mut [u8x32; R])
+    ensures set { R ≡ 16 → HasLanes (line all.new 15) (λ j. value (third thirds.now 0 j) (power alpha 15)) }
+    ensures others { (k : ℕ) → k ≢ 15 → line all.new k ≡ line all.old k }
 {
-    let values = values(thirds, i, count);
-    either(
-        either(either(values[0], values[1]), either(values[2], values[3])),
-        values[4],
-    )
+    if R == 16 {
+        all[15] = last_value(thirds);
+    }
 }
 
 // The values of each lane's third with number `i` at its powers of alpha. Where they aren't below alpha^`count` the lanes are zero.

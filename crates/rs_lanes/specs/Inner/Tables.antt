@@ -1,5 +1,5 @@
--- Ours: the products of a coefficient with each low and each high nibble, of which the product with a byte is the sum.
-use Rattle.std.specs.Prelude.{◌≡◌, ℕ, ◌*◌, ◌<◌, List, [], length, slice_index, slice_index_or}
+-- Ours: the products of a factor with each low and each high nibble, of which the product with a byte is the sum.
+use Rattle.std.specs.Prelude.{◌≡◌, ℕ, ◌*◌, ◌<◌, List}
 use Rattle.gf_field.specs.Field.{product}
 use Rattle.rs_lanes.specs.Rows.{place}
 
@@ -7,8 +7,3 @@ use Rattle.rs_lanes.specs.Rows.{place}
 pub record IsTable (factor : ℕ) (table : List (List ℕ)) : Type 0 where
   pub low : (n : ℕ) → n < 16 → place table 0 n ≡ product n factor
   pub high : (n : ℕ) → n < 16 → place table 1 n ≡ product (16 * n) factor
-
--- a table for each coefficient of a generator
-pub record AreTables (generator : List ℕ) (tables : List (List (List ℕ))) : Type 0 where
-  pub size : length tables ≡ length generator
-  pub each : (k : ℕ) → k < length generator → IsTable (slice_index generator k) (slice_index_or tables k [])

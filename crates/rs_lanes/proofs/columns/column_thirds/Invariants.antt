@@ -1,8 +1,9 @@
 use Rattle.std.proofs.Common.{◌+◌, map}
 use Rattle.rs_lanes.specs.Rows.{column}
+use Rattle.rs_lanes.specs.Inner.Parity.{filled}
 use Rattle.rs_lanes.proofs.ThirdLemmas.{HasThirds}
 use Rattle.rs_lanes.proofs.columns.column_thirds.Given as goal
 
 -- the places before this one are added up
 abbrev pub invariant-loop-place : goal.invariant-loop-place
-invariant-loop-place g l = HasThirds 47 (λ j. column (map g.T.Row.word l.rows) (l.at + j)) l.place l.thirds
+invariant-loop-place g l = HasThirds 47 (λ j. filled 208 (column (map g.T.Row.word l.rows) (l.at + j))) l.place l.thirds

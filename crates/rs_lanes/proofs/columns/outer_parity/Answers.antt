@@ -2,7 +2,7 @@ use Rattle.std.proofs.Common.{◌*◌, ◌++◌, arith}
 use Rattle.gf_field.specs.Words.{IsEncoded}
 use Rattle.rs_lanes.specs.Rows.{column}
 use Rattle.rs_lanes.proofs.ColumnLemmas.{group_more}
-use Rattle.rs_lanes.proofs.CodewordLemmas.{encoded_kept}
+use Rattle.rs_lanes.proofs.ParityLemmas.{encoded_kept}
 use Rattle.rs_lanes.proofs.columns.outer_parity.Goals as goal
 
 pub loop-group-preserved : goal.loop-group-preserved

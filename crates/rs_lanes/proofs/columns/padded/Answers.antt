@@ -1,9 +1,10 @@
 use Rattle.std.proofs.Common.{◌+◌, ◌-◌, get_or, map, ap, sym, ◌∙◌, arith}
 use Rattle.std.proofs.lemmas.Simd.{get_or-replicate}
 use Rattle.rs_lanes.specs.Rows.{column}
+use Rattle.rs_lanes.specs.Inner.Parity.{filled}
 use Rattle.rs_lanes.proofs.ColumnLemmas.{get_or-column}
-use Rattle.rs_lanes.proofs.RowLemmas.{row_taken}
-use Rattle.rs_lanes.proofs.ThirdLemmas.{get_or-behind_zeros_front, get_or-behind_zeros_back}
+use Rattle.rs_lanes.proofs.ParityLemmas.{get_or-filled_back}
+use Rattle.rs_lanes.proofs.ThirdLemmas.{get_or-behind_zeros_front}
 use Rattle.rs_lanes.proofs.columns.padded.Goals as goal
 use Rattle.rs_lanes.proofs.columns.padded.Goals.{then-place-lt47, else-place-lt47}
 
@@ -14,10 +15,9 @@ returns g c = λ j below.
     let word = column rows at in
     elim c.if-place-lt47.branch [
       | then-place-lt47 w ↦
-          ap (λ lanes. get_or lanes j 0) w.result-is ∙ get_or-replicate 32 j 0 0 below ∙ sym (get_or-behind_zeros_front 47 word c.args.place (omega arith))
+          ap (λ lanes. get_or lanes j 0) w.result-is ∙ get_or-replicate 32 j 0 0 below ∙ sym (get_or-behind_zeros_front 47 (filled 208 word) c.args.place (omega arith))
       | else-place-lt47 w ↦
           ap (λ lanes. get_or lanes j 0) w.result-is
-          ∙ w.lanes_at.ensures.each j below
-          ∙ ap (λ row. get_or row at 0) (row_taken g.T.Row.word c.args.rows.now (c.args.place - 47) w.index-rows-place.result w.row.result.now (omega arith) w.index-rows-place.is w.row.ensures)
-          ∙ sym (get_or-behind_zeros_back 47 word c.args.place (omega arith) ∙ get_or-column rows at (c.args.place - 47))
+          ∙ w.lanes_or_zeros.ensures j below
+          ∙ sym (get_or-filled_back 47 208 word c.args.place (omega arith) ∙ get_or-column rows at (c.args.place - 47))
     ]

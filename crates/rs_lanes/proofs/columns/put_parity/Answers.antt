@@ -1,24 +1,38 @@
-use Rattle.std.proofs.Common.{◌≡◌, ◌+◌, ◌++◌, All, sym, subst, arith}
+use Rattle.std.proofs.Common.{◌≡◌, ℕ, ◌%◌, ◌+◌, ◌++◌, ◌<◌, All, refl, sym, ap, subst, ◌∙◌, arith}
 use Rattle.std.proofs.lemmas.List.{map-id}
-use Rattle.gf_field.specs.Words.{IsByte, IsEncoded}
-use Rattle.rs_code.specs.Inner.Polynomials.{IsRemainder}
-use Rattle.rs_code.proofs.Generator.{generator_of}
-use Rattle.rs_lanes.specs.Rows.{column}
+use Rattle.gf_field.specs.Field.{alpha, power}
+use Rattle.gf_field.specs.Words.{IsByte, IsEncoded, value}
+use Rattle.rs_code.proofs.Values.{value-byte}
+use Rattle.rs_lanes.specs.Rows.{place, column}
+use Rattle.rs_lanes.specs.Inner.Parity.{filled}
+use Rattle.rs_lanes.specs.Inner.Thirds.{third}
 use Rattle.rs_lanes.proofs.ColumnLemmas.{length-column, same_columns}
-use Rattle.rs_lanes.proofs.CodewordLemmas.{encoded_by}
-use Rattle.rs_lanes.proofs.TableLemmas.{PO-tables}
+use Rattle.rs_lanes.proofs.MatrixLemmas.{PO-basis}
+use Rattle.rs_lanes.proofs.ParityLemmas.{encoded_by_values}
 use Rattle.rs_lanes.proofs.columns.put_parity.Goals as goal
+
+-- the arrays have sizes that are addressed, and values are bytes
+pub parity_of-requires : goal.parity_of-requires
+parity_of-requires c =
+    let bytes : (k j : ℕ) → k < 16 → j < 32 → place c.values_of-values.result k j < 256 =
+    λ k j few below. subst (λ b. b < 256) (sym (c.values_of-values.ensures k j few below)) (value-byte (third c.column_thirds.result (k % 3) j) (power alpha k)) in
+    (omega arith, (omega arith, (omega arith, bytes)))
 
 pub returns-clause-encoded : goal.returns-clause-encoded
 returns-clause-encoded c = λ j below.
     let rows = c.args.rows.now in
-    let parity = c.put_register.new.parity in
-    let register = c.divide_columns.result in
+    let parity = c.put_vectors.new.parity in
+    let vectors = c.parity_of.result in
     let at = c.args.at + j in
     let whole = map-id rows in
-    let same : column register j ≡ column parity at =
-    same_columns register parity j at (omega arith) (λ k inside. sym (c.put_register.ensures.set k j (omega arith) below)) in
+    let same : column vectors j ≡ column parity at =
+    same_columns vectors parity j at (omega arith) (λ k inside. sym (c.put_vectors.ensures.set k j (omega arith) below)) in
     subst (λ xs. IsEncoded 208 16 (column rows at) (column rows at ++ xs)) same
-    (encoded_by 208 16 (column rows at) (column register j) (omega (arith, length-column rows at)) (omega arith)
-    (subst (λ xs. All IsByte (column xs at)) whole (c.divide_columns.ensures.bytes j below))
-    (subst (λ xs. IsRemainder (generator_of 16) (column xs at) (column register j)) whole (c.divide_columns.ensures.remainders (generator_of 16) PO-tables j below)))
+    (encoded_by_values 208 16 (column rows at) (column vectors j) (omega (arith, length-column rows at)) (omega arith) (omega (arith, length-column vectors j))
+    (subst (λ xs. All IsByte (column xs at)) whole (c.column_thirds.ensures.bytes j below))
+    (c.parity_of.ensures.bytes j below)
+    (λ k few.
+    c.parity_of.ensures.values PO-basis k j few below
+    ∙ c.values_of-values.ensures k j few below
+    ∙ (c.column_thirds.ensures.thirds (k % 3) j (omega arith) below).values k refl
+    ∙ ap (λ xs. value (filled 208 (column xs at)) (power alpha k)) whole))

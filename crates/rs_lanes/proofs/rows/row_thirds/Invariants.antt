@@ -1,7 +1,9 @@
+use Rattle.std.proofs.Common.{take}
 use Rattle.rs_lanes.specs.Rows.{column}
+use Rattle.rs_lanes.specs.Inner.Parity.{filled}
 use Rattle.rs_lanes.proofs.ThirdLemmas.{HasThirds}
 use Rattle.rs_lanes.proofs.rows.row_thirds.Given as goal
 
 -- the places before this one are added up
 abbrev pub invariant-loop-place : goal.invariant-loop-place
-invariant-loop-place l = HasThirds 73 (λ n. column l.turned n) l.place l.thirds
+invariant-loop-place l = HasThirds 73 (λ n. filled 182 (take l.count (column l.turned n))) l.place l.thirds

@@ -5,16 +5,16 @@ use Rattle.rs_code.proofs.Values.{value-nil}
 use Rattle.rs_lanes.specs.Rows.{place}
 use Rattle.rs_lanes.specs.Inner.Lanes.{HasLanes}
 use Rattle.rs_lanes.specs.Inner.Thirds.{exponent_at, third}
-use Rattle.rs_lanes.proofs.FifthLemmas.{HasLanes-zeros}
+use Rattle.rs_lanes.proofs.LaneLemmas.{HasLanes-zeros}
 use Rattle.rs_lanes.proofs.ThirdLemmas.{value-fives, value-fives_more}
 use Rattle.rs_lanes.proofs.thirds.values.Goals as goal
 
 pub loop-place-init : goal.loop-place-init
 loop-place-init c = record {
   values = λ m few wanted.
-      let zeros = HasLanes-zeros m few in
+      let zeros = HasLanes-zeros 5 m few in
       record { size = zeros.size; each = λ j below. zeros.each j below ∙ sym (value-nil (power alpha (exponent_at c.args.i m))) };
-  others = λ m few unwanted. HasLanes-zeros m few;
+  others = λ m few unwanted. HasLanes-zeros 5 m few;
 }
 
 pub loop-place-preserved : goal.loop-place-preserved

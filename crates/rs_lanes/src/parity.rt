@@ -1,0 +1,53 @@
+//! The parity of words in 32 lanes, as the sum of the words that a matrix has for each of their values.
+ghost use Rattle.std.specs.Prelude.{◌≡◌, ℕ, ◌<◌, length, slice_index, EachIndex, All};
+ghost use Rattle.gf_field.specs.Field.{alpha, plus, product, power};
+ghost use Rattle.gf_field.specs.Words.{IsByte, value};
+ghost use Rattle.rs_lanes.specs.Rows.{line, place, column};
+ghost use Rattle.rs_lanes.specs.Inner.Lanes.{HasLanes};
+ghost use Rattle.rs_lanes.specs.Inner.Parity.{combined, IsBasis};
+
+use crate::factors::PRODUCTS;
+use crate::lanes::{mixed, times};
+use std::simd::prelude::*;
+
+/// The words of `R` bytes with these values at alpha^0 to alpha^(`R` - 1), one in each lane.
+#[inline(always)]
+pub fn parity_of<const R: usize>(matrix: &[[u8; R]; R], values: &[u8x32; R]) -> [u8x32; R]
+    requires { (k j : ℕ) → k < R → j < 32 → place values.now k j < 256 }
+    ensures lanes { EachIndex result (λ i. length (line result i) ≡ 32) }
+    ensures bytes { (j : ℕ) → j < 32 → All IsByte (column result j) }
+    ensures values { IsBasis R matrix.now → (k j : ℕ) → k < R → j < 32
+        → value (column result j) (power alpha k) ≡ place values.now k j }
+{
+    let mut parity = [u8x32::splat(0); R];
+    for k in 0..R {
+        add_multiples(matrix, k, values[k], &mut parity);
+    }
+    parity
+}
+
+// Adds the value with number `k` to each place, multiplied by its coefficient there.
+#[inline(always)]
+fn add_multiples<const R: usize>(
+    matrix: &[[u8; R]; R],
+    k: usize,
+    value: u8x32,
+    parity: &mut [u8x32; R],
+)
+    requires { k < R }
+    ensures size { length parity.new ≡ R }
+    ensures added { (i : ℕ) → i < R
+        → HasLanes (line parity.new i) (λ j. plus (place parity.old i j) (product (slice_index value j) (place matrix.now i k))) }
+{
+    for i in 0..R {
+        parity[i] = with_multiple(parity[i], value, matrix[i][k]);
+    }
+}
+
+// The sum of a vector and a multiple of another.
+#[inline(always)]
+fn with_multiple(sum: u8x32, lanes: u8x32, factor: u8) -> u8x32
+    ensures { HasLanes result (λ j. plus (slice_index sum j) (product (slice_index lanes j) factor)) }
+{
+    mixed(sum, times(&PRODUCTS[factor as usize], lanes))
+}
