@@ -1,6 +1,6 @@
--- Parity by its values: sums of the columns of a matrix (combined-zero, combined_more, combined_bytes), which have the values where
--- the matrix is a basis (combined_values); zeros behind a word (filled-whole, filled-bytes), and the encoded word, whose parity has
--- the values of the message followed by zeros (encoded_by_values); encoded_kept where columns stay.
+-- Parity by its values: sums of the columns of a matrix (combined, combined-zero, combined_more, combined_bytes), which have the
+-- values where the matrix is a basis (combined_values); zeros behind a word (filled-whole, filled-bytes), and the encoded word,
+-- whose parity has the values of the message followed by zeros (encoded_by_values); encoded_kept where columns stay.
 use Rattle.std.proofs.Common.{◌≡◌, ◌≢◌, ℕ, zero, suc, ◌+◌, ◌-◌, ◌<◌, ◌≤◌, List, ◌++◌, length, get_or, replicate, All, refl, sym, ap, subst, ◌∙◌, inl, inr, arith, add-one, length-append, ◌==◌, if◌then◌else◌}
 use Rattle.std.proofs.lemmas.Bool.{cases_eq, cases_lt}
 use Rattle.std.proofs.lemmas.Bool.Decides.{nat_tests}
@@ -15,12 +15,17 @@ use Rattle.rs_code.specs.Inner.Polynomials.{sum_of, scaled}
 use Rattle.rs_code.proofs.Codewords.{IsEncoded-from_codeword}
 use Rattle.rs_code.proofs.Values.{value-append, value-sum_of, value-scaled, value-zeros, length-sum_of, get_or-sum_of, length-scaled, get_or-scaled}
 use Rattle.rs_lanes.specs.Rows.{line, place, column}
-use Rattle.rs_lanes.specs.Inner.Parity.{filled, combined, IsBasis}
+use Rattle.rs_lanes.specs.Inner.Parity.{filled, IsBasis}
 use Rattle.rs_lanes.specs.Inner.Thirds.{behind_zeros}
 use Rattle.rs_lanes.proofs.ColumnLemmas.{length-column, get_or-column, same_columns}
 use Rattle.rs_lanes.proofs.ThirdLemmas.{get_or-behind_zeros_back}
 
 -- ---- sums of multiples
+
+-- the sum of the first values, each multiplied by the coefficient at its place in the row
+unfoldable pub combined : List ℕ → (ℕ → ℕ) → ℕ → ℕ
+combined row values zero = 0
+combined row values (suc k) = plus (combined row values k) (product (values k) (get_or row k 0))
 
 -- no terms add up to 0
 pub combined-zero : (row : List ℕ) (values : ℕ → ℕ) → combined row values 0 ≡ 0

@@ -51,8 +51,9 @@ fn put_parity(rows: &[[u8; 182]], at: usize, parity: &mut [[u8; 182]])
     ensures below { (k j : ℕ) → j < at → place parity.new k j ≡ place parity.old k j }
     ensures above { (k j : ℕ) → at + 32 ≤ j → place parity.new k j ≡ place parity.old k j }
 {
-    let values = values_of(&column_thirds(rows, at));
-    put_vectors(&parity_of(&PO_MATRIX, &values), at, parity);
+    let mut thirds = [[u8x32::splat(0); 3]; 85];
+    put_thirds(rows, at, &mut thirds);
+    put_vectors(&parity_of(&PO_MATRIX, &values_of(&thirds)), at, parity);
 }
 
 // Sets the bytes of 32 columns to those of the vectors. All others stay.
@@ -100,18 +101,20 @@ fn put_wrong<T: Row>(rows: &[T], at: usize, wrong: &mut [u8; 182])
     ensures below { (k : ℕ) → k < at → slice_index wrong.new k ≡ slice_index wrong.old k }
     ensures above { (k : ℕ) → at + 32 ≤ k → slice_index wrong.new k ≡ slice_index wrong.old k }
 {
-    put_lanes(wrong_lanes::<16>(&column_thirds(rows, at)), wrong, at);
+    let mut thirds = [[u8x32::splat(0); 3]; 85];
+    put_thirds(rows, at, &mut thirds);
+    put_lanes(wrong_lanes::<16>(&thirds), wrong, at);
 }
 
-// The thirds of the 32 columns from `at` on, of 208 rows or of fewer with zeros below. That the columns are bytes is told too.
+// Sets the thirds to those of the 32 columns from `at` on, of 208 rows or of fewer with zeros below. That the columns are
+// bytes is told too.
 #[inline(always)]
-fn column_thirds<T: Row>(rows: &[T], at: usize) -> [[u8x32; 3]; 85]
+fn put_thirds<T: Row>(rows: &[T], at: usize, thirds: &mut [[u8x32; 3]; 85])
     requires at { at + 32 ≤ 182 }
     requires rows { length rows.now ≤ 208 }
     ensures bytes { (j : ℕ) → j < 32 → All IsByte (column (map T.word rows.now) (at + j)) }
-    ensures thirds { (i j : ℕ) → i < 3 → j < 32 → IsThird i (filled 208 (column (map T.word rows.now) (at + j))) (third result i j) }
+    ensures thirds { (i j : ℕ) → i < 3 → j < 32 → IsThird i (filled 208 (column (map T.word rows.now) (at + j))) (third thirds.new i j) }
 {
-    let mut thirds = [[u8x32::splat(0); 3]; 85];
     for place in 0..85 {
         thirds[place] = thirds_of(
             padded(rows, at, place),
@@ -119,7 +122,6 @@ fn column_thirds<T: Row>(rows: &[T], at: usize) -> [[u8x32; 3]; 85]
             padded(rows, at, 170 + place),
         );
     }
-    thirds
 }
 
 // A place of these columns with 47 zeros put in front.

@@ -4,7 +4,7 @@ ghost use Rattle.gf_field.specs.Field.{alpha, plus, product, power};
 ghost use Rattle.gf_field.specs.Words.{IsByte, value};
 ghost use Rattle.rs_lanes.specs.Rows.{line, place, column};
 ghost use Rattle.rs_lanes.specs.Inner.Lanes.{HasLanes};
-ghost use Rattle.rs_lanes.specs.Inner.Parity.{combined, IsBasis};
+ghost use Rattle.rs_lanes.specs.Inner.Parity.{IsBasis};
 
 use crate::factors::PRODUCTS;
 use crate::lanes::{mixed, times};

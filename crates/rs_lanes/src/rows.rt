@@ -21,7 +21,9 @@ pub fn inner_parity(rows: &mut [[u8; 182]], top: usize)
 {
     let mut turned = [u8x32::splat(0); 182];
     turn(rows, top, &mut turned);
-    let parity = parity_of(&PI_MATRIX, &values_of(&row_thirds(&turned, 172)));
+    let mut thirds = [[u8x32::splat(0); 3]; 85];
+    put_thirds(&turned, 172, &mut thirds);
+    let parity = parity_of(&PI_MATRIX, &values_of(&thirds));
     for n in 0..32 {
         put_end(&parity, n, &mut rows[top + n]);
     }
@@ -35,7 +37,9 @@ pub fn wrong_rows(rows: &[[u8; 182]], top: usize) -> u8x32
 {
     let mut turned = [u8x32::splat(0); 182];
     turn(rows, top, &mut turned);
-    wrong_lanes::<10>(&row_thirds(&turned, 182))
+    let mut thirds = [[u8x32::splat(0); 3]; 85];
+    put_thirds(&turned, 182, &mut thirds);
+    wrong_lanes::<10>(&thirds)
 }
 
 // Sets the last ten bytes of a row to lane `n` of these vectors.
@@ -50,14 +54,14 @@ fn put_end(parity: &[u8x32; 10], n: usize, row: &mut [u8; 182])
     }
 }
 
-// The thirds of words of 182 bytes, of which places from `count` on are zeros. That the others are bytes is told too.
+// Sets the thirds to those of words of 182 bytes, of which places from `count` on are zeros. That the others are bytes is
+// told too.
 #[inline(always)]
-fn row_thirds(turned: &[u8x32; 182], count: usize) -> [[u8x32; 3]; 85]
+fn put_thirds(turned: &[u8x32; 182], count: usize, thirds: &mut [[u8x32; 3]; 85])
     requires { count ≤ 182 }
     ensures bytes { (n : ℕ) → n < 32 → All IsByte (take count (column turned.now n)) }
-    ensures thirds { (i n : ℕ) → i < 3 → n < 32 → IsThird i (filled 182 (take count (column turned.now n))) (third result i n) }
+    ensures thirds { (i n : ℕ) → i < 3 → n < 32 → IsThird i (filled 182 (take count (column turned.now n))) (third thirds.new i n) }
 {
-    let mut thirds = [[u8x32::splat(0); 3]; 85];
     for place in 0..85 {
         thirds[place] = thirds_of(
             padded(turned, count, place),
@@ -65,7 +69,6 @@ fn row_thirds(turned: &[u8x32; 182], count: usize) -> [[u8x32; 3]; 85]
             padded(turned, count, 170 + place),
         );
     }
-    thirds
 }
 
 // A place of these words with 73 zeros put in front.

@@ -1,17 +1,12 @@
 -- Ours: parity by the values that it has at the first powers of alpha.
-use Rattle.std.specs.Prelude.{◌≡◌, ℕ, zero, suc, ◌-◌, ◌<◌, List, ◌++◌, length, replicate, slice_index, ◌==◌, if◌then◌else◌}
-use Rattle.gf_field.specs.Field.{alpha, plus, product, power}
+use Rattle.std.specs.Prelude.{◌≡◌, ℕ, ◌-◌, ◌<◌, List, ◌++◌, length, replicate, ◌==◌, if◌then◌else◌}
+use Rattle.gf_field.specs.Field.{alpha, power}
 use Rattle.gf_field.specs.Words.{value}
 use Rattle.rs_lanes.specs.Rows.{column}
 
 -- a word with zeros put behind it, up to this length
 unfoldable pub filled : ℕ → List ℕ → List ℕ
 filled size word = word ++ replicate (size - length word) 0
-
--- the sum of the first values, each multiplied by the coefficient at its place in the row
-unfoldable pub combined : List ℕ → (ℕ → ℕ) → ℕ → ℕ
-combined row values zero = 0
-combined row values (suc k) = plus (combined row values k) (product (values k) (slice_index row k))
 
 -- each column of the matrix, as a word, has the value 1 at its own power of alpha, and 0 at the others below the r-th
 pub record IsBasis (r : ℕ) (matrix : List (List ℕ)) : Type 0 where

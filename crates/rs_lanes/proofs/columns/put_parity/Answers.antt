@@ -14,8 +14,8 @@ use Rattle.rs_lanes.proofs.columns.put_parity.Goals as goal
 -- the arrays have sizes that are addressed, and values are bytes
 pub parity_of-requires : goal.parity_of-requires
 parity_of-requires c =
-    let bytes : (k j : ℕ) → k < 16 → j < 32 → place c.values_of-values.result k j < 256 =
-    λ k j few below. subst (λ b. b < 256) (sym (c.values_of-values.ensures k j few below)) (value-byte (third c.column_thirds.result (k % 3) j) (power alpha k)) in
+    let bytes : (k j : ℕ) → k < 16 → j < 32 → place c.values_of.result k j < 256 =
+    λ k j few below. subst (λ b. b < 256) (sym (c.values_of.ensures k j few below)) (value-byte (third c.put_thirds.new.thirds (k % 3) j) (power alpha k)) in
     (omega arith, (omega arith, (omega arith, bytes)))
 
 pub returns-clause-encoded : goal.returns-clause-encoded
@@ -29,10 +29,10 @@ returns-clause-encoded c = λ j below.
     same_columns vectors parity j at (omega arith) (λ k inside. sym (c.put_vectors.ensures.set k j (omega arith) below)) in
     subst (λ xs. IsEncoded 208 16 (column rows at) (column rows at ++ xs)) same
     (encoded_by_values 208 16 (column rows at) (column vectors j) (omega (arith, length-column rows at)) (omega arith) (omega (arith, length-column vectors j))
-    (subst (λ xs. All IsByte (column xs at)) whole (c.column_thirds.ensures.bytes j below))
+    (subst (λ xs. All IsByte (column xs at)) whole (c.put_thirds.ensures.bytes j below))
     (c.parity_of.ensures.bytes j below)
     (λ k few.
     c.parity_of.ensures.values PO-basis k j few below
-    ∙ c.values_of-values.ensures k j few below
-    ∙ (c.column_thirds.ensures.thirds (k % 3) j (omega arith) below).values k refl
+    ∙ c.values_of.ensures k j few below
+    ∙ (c.put_thirds.ensures.thirds (k % 3) j (omega arith) below).values k refl
     ∙ ap (λ xs. value (filled 208 (column xs at)) (power alpha k)) whole))

@@ -1,7 +1,7 @@
 use Rattle.std.proofs.Common.{◌≡◌, ℕ, ◌<◌, length}
 use Rattle.rs_lanes.specs.Rows.{line, place}
 use Rattle.rs_lanes.specs.Inner.Lanes.{HasLanes}
-use Rattle.rs_lanes.specs.Inner.Parity.{combined}
+use Rattle.rs_lanes.proofs.ParityLemmas.{combined}
 use Rattle.rs_lanes.proofs.parity.parity_of.Given as goal
 
 -- each byte is the sum of the values before this one, multiplied by their coefficients

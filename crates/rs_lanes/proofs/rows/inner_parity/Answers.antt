@@ -15,7 +15,7 @@ use Rattle.rs_lanes.proofs.rows.inner_parity.Goals as goal
 pub parity_of-parity-requires : goal.parity_of-parity-requires
 parity_of-parity-requires c =
     let bytes : (k j : ℕ) → k < 10 → j < 32 → place c.values_of.result k j < 256 =
-    λ k j few below. subst (λ b. b < 256) (sym (c.values_of.ensures k j few below)) (value-byte (third c.row_thirds.result (k % 3) j) (power alpha k)) in
+    λ k j few below. subst (λ b. b < 256) (sym (c.values_of.ensures k j few below)) (value-byte (third c.put_thirds.new.thirds (k % 3) j) (power alpha k)) in
     (omega arith, (omega arith, (omega arith, bytes)))
 
 pub returns-clause-encoded : goal.returns-clause-encoded
@@ -29,11 +29,11 @@ returns-clause-encoded c = λ n below.
     turned_row turned n row (omega arith) size (λ k inside. c.turn.ensures.turned k n inside below ∙ ap (λ xs. place xs (c.args.top + n) k) whole) in
     let encoded = encoded_by_values 182 10 (take 172 row) parity (length-take-le 172 row (omega arith)) (omega arith)
     (omega (arith, length-column c.parity_of-parity.result n))
-    (subst (λ xs. All IsByte (take 172 xs)) same (c.row_thirds.ensures.bytes n below))
+    (subst (λ xs. All IsByte (take 172 xs)) same (c.put_thirds.ensures.bytes n below))
     (c.parity_of-parity.ensures.bytes n below)
     (λ k few.
     c.parity_of-parity.ensures.values PI-basis k n few below
     ∙ c.values_of.ensures k n few below
-    ∙ (c.row_thirds.ensures.thirds (k % 3) n (omega arith) below).values k refl
+    ∙ (c.put_thirds.ensures.thirds (k % 3) n (omega arith) below).values k refl
     ∙ ap (λ xs. value (filled 182 (take 172 xs)) (power alpha k)) same) in
     subst (IsEncoded 182 10 (take 172 row)) (sym (c.loop-n.invariant.set n (omega arith))) encoded

@@ -19,9 +19,9 @@ returns-clause-zeros c = λ n below.
     let same : take 182 (column turned n) ≡ row =
     ap (take 182) (turned_row turned n row (omega arith) size (λ k inside. c.turn.ensures.turned k n inside below ∙ ap (λ xs. place xs (c.args.top + n) k) whole))
     ∙ ap (λ m. take m row) (sym size) ∙ take-length row in
-    let told = codeword_by_thirds 182 10 row (λ i. third c.row_thirds.result i n) size
-    (subst (All IsByte) same (c.row_thirds.ensures.bytes n below))
+    let told = codeword_by_thirds 182 10 row (λ i. third c.put_thirds.new.thirds i n) size
+    (subst (All IsByte) same (c.put_thirds.ensures.bytes n below))
     (λ i few.
-    subst (λ word. IsThird i word (third c.row_thirds.result i n)) (ap (filled 182) same ∙ filled-whole 182 row size) (c.row_thirds.ensures.thirds i n few below)) in
+    subst (λ word. IsThird i word (third c.put_thirds.new.thirds i n)) (ap (filled 182) same ∙ filled-whole 182 row size) (c.put_thirds.ensures.thirds i n few below)) in
     let zeros = c.wrong_lanes.ensures.zeros n below in
     ((λ zero_is. told.0 (zeros.0 zero_is)), (λ codeword. zeros.1 (told.1 codeword)))

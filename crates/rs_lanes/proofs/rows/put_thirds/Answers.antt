@@ -4,7 +4,7 @@ use Rattle.rs_lanes.specs.Inner.Parity.{filled}
 use Rattle.rs_lanes.proofs.ColumnLemmas.{length-column}
 use Rattle.rs_lanes.proofs.ParityLemmas.{length-filled, filled-bytes}
 use Rattle.rs_lanes.proofs.ThirdLemmas.{HasThirds, thirds_more, thirds_bytes, thirds_told}
-use Rattle.rs_lanes.proofs.rows.row_thirds.Goals as goal
+use Rattle.rs_lanes.proofs.rows.put_thirds.Goals as goal
 
 -- the first places of a lane
 short : (turned : List (List ℕ)) (count n : ℕ) → length turned ≡ 182 → count ≤ 182 → length (take count (column turned n)) ≤ 182

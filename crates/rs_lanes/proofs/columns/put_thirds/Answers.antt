@@ -5,7 +5,7 @@ use Rattle.rs_lanes.specs.Inner.Parity.{filled}
 use Rattle.rs_lanes.proofs.ColumnLemmas.{length-column}
 use Rattle.rs_lanes.proofs.ParityLemmas.{length-filled, filled-bytes}
 use Rattle.rs_lanes.proofs.ThirdLemmas.{HasThirds, thirds_more, thirds_bytes, thirds_told}
-use Rattle.rs_lanes.proofs.columns.column_thirds.Goals as goal
+use Rattle.rs_lanes.proofs.columns.put_thirds.Goals as goal
 
 -- a column of at most 208 rows
 short : {A : Type 0} (word : A → List ℕ) (rows : List A) (j : ℕ) → length rows ≤ 208 → length (column (map word rows) j) ≤ 208

@@ -2,7 +2,7 @@ use Rattle.std.proofs.Common.{◌+◌, map}
 use Rattle.rs_lanes.specs.Rows.{column}
 use Rattle.rs_lanes.specs.Inner.Parity.{filled}
 use Rattle.rs_lanes.proofs.ThirdLemmas.{HasThirds}
-use Rattle.rs_lanes.proofs.columns.column_thirds.Given as goal
+use Rattle.rs_lanes.proofs.columns.put_thirds.Given as goal
 
 -- the places before this one are added up
 abbrev pub invariant-loop-place : goal.invariant-loop-place
