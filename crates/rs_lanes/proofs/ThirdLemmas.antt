@@ -1,7 +1,7 @@
 -- Words cut into pieces of one size that are added up (length-folded, get_or-folded_zero, get_or-folded_suc, value-folded), zeros in
--- front of a word (behind_zeros), the thirds of words in 32 lanes (third-zero, third-one, third-two, HasThirds with thirds_more,
--- thirds_bytes, thirds_told), and codewords by the values of their thirds (codeword_by_thirds).
-use Rattle.std.proofs.Common.{◌≡◌, ◌↔◌, ℕ, zero, suc, ◌+◌, ◌-◌, ◌*◌, ◌/◌, ◌%◌, ◌<◌, ◌≤◌, List, [], length, get_or, set, take, drop, replicate, All, refl, sym, ap, subst, ◌∙◌, inl, inr, arith, length-append, length-drop, length-take-le, length-set, get_or-take, get_or-drop, get_or-set_other}
+-- front of a word (behind_zeros), and the thirds of words in 32 lanes (third-zero, third-one, third-two, HasThirds with
+-- thirds_more, thirds_bytes, thirds_told).
+use Rattle.std.proofs.Common.{◌≡◌, ℕ, zero, suc, ◌+◌, ◌-◌, ◌*◌, ◌/◌, ◌%◌, ◌<◌, ◌≤◌, List, [], length, get_or, set, take, drop, replicate, All, refl, sym, ap, subst, ◌∙◌, inl, inr, arith, length-append, length-drop, length-take-le, length-set, get_or-take, get_or-drop, get_or-set_other}
 use Rattle.std.proofs.Math.ListN.{get_or-map}
 use Rattle.std.proofs.Math.Seq.{take-add, take-length}
 use Rattle.std.proofs.lemmas.Bool.{cases_eq}
@@ -10,7 +10,7 @@ use Rattle.std.proofs.lemmas.List.Elements.{All-from_get_or}
 use Rattle.std.proofs.lemmas.List.{length-map, get_or_append_left, get_or-append_right}
 use Rattle.std.proofs.lemmas.Simd.{length-replicate, get_or-replicate}
 use Rattle.gf_field.specs.Field.{alpha, plus, shift, shifted, partial_product, product, power}
-use Rattle.gf_field.specs.Words.{IsByte, IsCodeword, value}
+use Rattle.gf_field.specs.Words.{IsByte, value}
 use Rattle.gf_field.proofs.FieldLaws.{plus-byte, plus-product, product-plus, product-comm, product-assoc, one-product, power-zero, power-mul, power-alpha-mod, power-alpha-shifted, zero-product, zero-plus}
 use Rattle.rs_code.specs.Inner.Polynomials.{scaled}
 use Rattle.rs_code.proofs.Ring.{ring}
@@ -284,13 +284,3 @@ pub thirds_told : (zeros : ℕ) (word : ℕ → List ℕ) (thirds : List (List (
 thirds_told zeros word thirds i j whole has below lane =
     IsThird-folded zeros i (word j) (third thirds i j) whole (length-map thirds (λ vectors. place vectors i j) ∙ has.size)
     (λ q inside. get_or-third thirds i j q ∙ has.set q i j inside below lane)
-
--- a word is a codeword where the values of its thirds are 0
-pub codeword_by_thirds : (n r : ℕ) (word : List ℕ) (thirds : ℕ → List ℕ) → length word ≡ n → All IsByte word
-    → ((i : ℕ) → i < 3 → IsThird i word (thirds i))
-    → ((k : ℕ) → k < r → value (thirds (k % 3)) (power alpha k) ≡ 0) ↔ IsCodeword n r word
-codeword_by_thirds n r word thirds size bytes are =
-    let same : (k : ℕ) → value (thirds (k % 3)) (power alpha k) ≡ value word (power alpha k) = λ k. (are (k % 3) (omega arith)).values k refl in (
-      (λ zeros. record { size = size; bytes = bytes; vanishes = λ k below. sym (same k) ∙ zeros k below }),
-      (λ codeword k below. same k ∙ codeword.vanishes k below),
-    )

@@ -1,6 +1,7 @@
 //! The columns of an ECC block, 32 at once.
-ghost use Rattle.std.specs.Prelude.{◌≡◌, ◌↔◌, ℕ, ◌+◌, ◌<◌, ◌≤◌, List, ◌++◌, length, map, slice_index, EachIndex, All};
-ghost use Rattle.gf_field.specs.Words.{IsByte, IsCodeword, IsEncoded};
+ghost use Rattle.std.specs.Prelude.{◌≡◌, ℕ, ◌+◌, ◌<◌, ◌≤◌, List, ◌++◌, length, map, slice_index, EachIndex, All};
+ghost use Rattle.gf_field.specs.Field.{alpha, power};
+ghost use Rattle.gf_field.specs.Words.{IsByte, IsEncoded, value};
 ghost use Rattle.rs_lanes.specs.Rows.{line, place, column};
 ghost use Rattle.rs_lanes.specs.Inner.Lanes.{HasLanes};
 ghost use Rattle.rs_lanes.specs.Inner.Parity.{filled};
@@ -10,7 +11,7 @@ use crate::lanes::{load, store};
 use crate::matrices::PO_MATRIX;
 use crate::parity::parity_of;
 use crate::row::Row;
-use crate::thirds::{thirds_of, values_of, wrong_lanes};
+use crate::thirds::{thirds_of, values_of};
 use std::simd::prelude::*;
 
 /// Sets sixteen rows to the outer parity of 192 rows: each column is then followed by its parity.
@@ -27,17 +28,18 @@ pub fn outer_parity(rows: &[[u8; 182]], parity: &mut [[u8; 182]])
     put_parity(rows, 150, parity);
 }
 
-/// Zero at each column of 208 rows that is a codeword, and not at any other.
-pub fn wrong_columns<T: Row>(rows: &[T]) -> [u8; 182]
-    requires { length rows.now ≡ 208 }
-    ensures { (j : ℕ) → j < 182 → (slice_index result j ≡ 0) ↔ IsCodeword 208 16 (column (map T.word rows.now) j) }
+/// The values of the 32 columns from `at` on of 208 rows at alpha^0 to alpha^15, a vector for each of these powers: that of
+/// column `at + n` stands in lane `n`. That the columns are bytes is told too.
+pub fn column_values<T: Row>(rows: &[T], at: usize) -> [u8x32; 16]
+    requires at { at + 32 ≤ 182 }
+    requires rows { length rows.now ≡ 208 }
+    ensures bytes { (j : ℕ) → j < 32 → All IsByte (column (map T.word rows.now) (at + j)) }
+    ensures lanes { EachIndex result (λ k. length (line result k) ≡ 32) }
+    ensures values { (k j : ℕ) → k < 16 → j < 32 → place result k j ≡ value (column (map T.word rows.now) (at + j)) (power alpha k) }
 {
-    let mut wrong = [0; 182];
-    for group in 0..5 {
-        put_wrong(rows, 32 * group, &mut wrong);
-    }
-    put_wrong(rows, 150, &mut wrong);
-    wrong
+    let mut thirds = [[u8x32::splat(0); 3]; 85];
+    put_thirds(rows, at, &mut thirds);
+    values_of(&thirds)
 }
 
 // Sets the outer parity of the 32 columns from `at` on. All else stays.
@@ -91,19 +93,6 @@ fn lanes_at(row: &[u8; 182], at: usize) -> u8x32
     ensures { HasLanes result (λ k. slice_index row.now (at + k)) }
 {
     load(row, at)
-}
-
-// Sets 32 bytes to zero where their columns are codewords, and to others where not.
-fn put_wrong<T: Row>(rows: &[T], at: usize, wrong: &mut [u8; 182])
-    requires at { at + 32 ≤ 182 }
-    requires rows { length rows.now ≡ 208 }
-    ensures set { (j : ℕ) → j < 32 → (slice_index wrong.new (at + j) ≡ 0) ↔ IsCodeword 208 16 (column (map T.word rows.now) (at + j)) }
-    ensures below { (k : ℕ) → k < at → slice_index wrong.new k ≡ slice_index wrong.old k }
-    ensures above { (k : ℕ) → at + 32 ≤ k → slice_index wrong.new k ≡ slice_index wrong.old k }
-{
-    let mut thirds = [[u8x32::splat(0); 3]; 85];
-    put_thirds(rows, at, &mut thirds);
-    put_lanes(wrong_lanes::<16>(&thirds), wrong, at);
 }
 
 // Sets the thirds to those of the 32 columns from `at` on, of 208 rows or of fewer with zeros below. That the columns are

@@ -1,6 +1,7 @@
 //! Vectors of 32 bytes, lane by lane.
 ghost use Rattle.std.specs.Prelude.{◌≡◌, ◌↔◌, ℕ, ◌+◌, ◌*◌, ◌/◌, ◌%◌, ◌<◌, ◌≤◌, length, slice_index};
 ghost use Rattle.gf_field.specs.Field.{plus, product};
+ghost use Rattle.rs_lanes.specs.Rows.{place};
 ghost use Rattle.rs_lanes.specs.Inner.Lanes.{HasLanes};
 ghost use Rattle.rs_lanes.specs.Inner.Tables.{IsTable};
 
@@ -23,11 +24,25 @@ pub fn either(a: u8x32, b: u8x32) -> u8x32
     a | b
 }
 
+/// Lanes that are zero exactly where those of every vector are.
+#[inline(always)]
+pub fn any_of<const R: usize>(vectors: &[u8x32; R]) -> u8x32
+    ensures size { length result ≡ 32 }
+    ensures zeros { (j : ℕ) → j < 32 → (slice_index result j ≡ 0) ↔ ((k : ℕ) → k < R → place vectors.now k j ≡ 0) }
+{
+    let mut any = u8x32::splat(0);
+    for k in 0..R {
+        any = either(any, vectors[k]);
+    }
+    any
+}
+
 /// The 32 bytes from place `at` on.
 #[inline(always)]
 pub fn load(row: &[u8], at: usize) -> u8x32
     requires { at + 32 ≤ length row.now }
-    ensures { HasLanes result (λ k. slice_index row.now (at + k)) }
+    ensures size { length result ≡ 32 }
+    ensures each { (k : ℕ) → k < 32 → slice_index result k ≡ slice_index row.now (at + k) }
 {
     u8x32::from_slice(&row[at..])
 }

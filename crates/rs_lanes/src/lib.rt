@@ -27,9 +27,9 @@ mod tests;
 mod thirds;
 pub mod turning;
 
-pub use columns::{outer_parity, wrong_columns};
-pub use lanes::store;
+pub use columns::{column_values, outer_parity};
+pub use lanes::{any_of, load, store};
 pub use points::{powers, scaled};
 pub use row::Row;
-pub use rows::{inner_parity, wrong_rows};
+pub use rows::{inner_parity, row_values, turned_values};
 pub use turning::load_turned;

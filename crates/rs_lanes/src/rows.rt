@@ -1,13 +1,14 @@
 //! The rows of an ECC block, 32 at once.
-ghost use Rattle.std.specs.Prelude.{◌≡◌, ◌↔◌, ℕ, ◌+◌, ◌<◌, ◌≤◌, List, ◌++◌, length, take, slice_index, EachIndex, All};
-ghost use Rattle.gf_field.specs.Words.{IsByte, IsCodeword, IsEncoded};
+ghost use Rattle.std.specs.Prelude.{◌≡◌, ℕ, ◌+◌, ◌<◌, ◌≤◌, List, ◌++◌, length, take, slice_index, EachIndex, All};
+ghost use Rattle.gf_field.specs.Field.{alpha, power};
+ghost use Rattle.gf_field.specs.Words.{IsByte, IsEncoded, value};
 ghost use Rattle.rs_lanes.specs.Rows.{line, place, column};
 ghost use Rattle.rs_lanes.specs.Inner.Parity.{filled};
 ghost use Rattle.rs_lanes.specs.Inner.Thirds.{behind_zeros, third, IsThird};
 
 use crate::matrices::PI_MATRIX;
 use crate::parity::parity_of;
-use crate::thirds::{thirds_of, values_of, wrong_lanes};
+use crate::thirds::{thirds_of, values_of};
 use crate::turning::turn;
 use std::simd::prelude::*;
 
@@ -29,17 +30,28 @@ pub fn inner_parity(rows: &mut [[u8; 182]], top: usize)
     }
 }
 
-/// Zero in lane `n` where row `top + n` is a codeword, and not in any other of the 32 lanes.
-pub fn wrong_rows(rows: &[[u8; 182]], top: usize) -> u8x32
+/// The values of the 32 rows from `top` on at alpha^0 to alpha^9, a vector for each of these powers: that of row `top + n`
+/// stands in lane `n`. That the rows are bytes is told too.
+pub fn row_values(rows: &[[u8; 182]], top: usize) -> [u8x32; 10]
     requires { top + 32 ≤ length rows.now }
-    ensures size { length result ≡ 32 }
-    ensures zeros { (n : ℕ) → n < 32 → (slice_index result n ≡ 0) ↔ IsCodeword 182 10 (line rows.now (top + n)) }
+    ensures bytes { (n : ℕ) → n < 32 → All IsByte (line rows.now (top + n)) }
+    ensures lanes { EachIndex result (λ k. length (line result k) ≡ 32) }
+    ensures values { (k n : ℕ) → k < 10 → n < 32 → place result k n ≡ value (line rows.now (top + n)) (power alpha k) }
 {
     let mut turned = [u8x32::splat(0); 182];
     turn(rows, top, &mut turned);
+    turned_values(&turned)
+}
+
+/// The same of 32 words of which each vector has one place: word `n` stands in lane `n`.
+pub fn turned_values(turned: &[u8x32; 182]) -> [u8x32; 10]
+    ensures bytes { (n : ℕ) → n < 32 → All IsByte (column turned.now n) }
+    ensures lanes { EachIndex result (λ k. length (line result k) ≡ 32) }
+    ensures values { (k n : ℕ) → k < 10 → n < 32 → place result k n ≡ value (column turned.now n) (power alpha k) }
+{
     let mut thirds = [[u8x32::splat(0); 3]; 85];
-    put_thirds(&turned, 182, &mut thirds);
-    wrong_lanes::<10>(&thirds)
+    put_thirds(turned, 182, &mut thirds);
+    values_of(&thirds)
 }
 
 // Sets the last ten bytes of a row to lane `n` of these vectors.

@@ -11,7 +11,7 @@ ghost use Rattle.rs_lanes.specs.Inner.Thirds.{exponent_at, third, third_byte};
 
 use crate::factors::{POWERS, PRODUCTS};
 use crate::fifths::folded_places;
-use crate::lanes::{either, mixed, times};
+use crate::lanes::{mixed, times};
 use std::simd::prelude::*;
 
 /// One place of the three thirds, by that of the three pieces. That these have bytes is told too, since vectors don't tell it.
@@ -20,7 +20,7 @@ pub fn thirds_of(a: u8x32, b: u8x32, c: u8x32) -> [u8x32; 3]
     ensures thirds { (i : ℕ) → i < 3 → HasLanes (line result i) (λ j. third_byte i (slice_index a j) (slice_index b j) (slice_index c j)) }
     ensures bytes { (j : ℕ) → j < 32 → (slice_index a j < 256) × (slice_index b j < 256) × (slice_index c j < 256) }
 {
-    // alpha^85 is D6, and alpha^170 is D6 + 1: one product serves both.
+    // alpha^85 is 0xD6, and alpha^170 is 0xD6 + 1: one product serves both.
     let sum = mixed(a, b);
     let shared = times(&PRODUCTS[0xD6], sum);
     [
@@ -34,7 +34,7 @@ pub fn thirds_of(a: u8x32, b: u8x32, c: u8x32) -> [u8x32; 3]
 #[inline(always)]
 pub fn values_of<const R: usize>(thirds: &[[u8x32; 3]; 85]) -> [u8x32; R]
     requires { R ≤ 16 }
-    ensures { (k j : ℕ) → k < R → j < 32 → place result k j ≡ value (third thirds.now (k % 3) j) (power alpha k) }
+    ensures { (k : ℕ) → k < R → HasLanes (line result k) (λ j. value (third thirds.now (k % 3) j) (power alpha k)) }
 {
     // Each third is named, so that its exponents are constants where this is inlined.
     let mut all = [u8x32::splat(0); R];
@@ -43,22 +43,6 @@ pub fn values_of<const R: usize>(thirds: &[[u8x32; 3]; 85]) -> [u8x32; R]
     put_values(&values(thirds, 2, R), 2, &mut all);
     put_last_value(thirds, &mut all);
     all
-}
-
-/// Zero in each lane whose word vanishes at alpha^0 to alpha^(`R` - 1), and not in any other.
-#[inline(always)]
-pub fn wrong_lanes<const R: usize>(thirds: &[[u8x32; 3]; 85]) -> u8x32
-    requires { R ≤ 16 }
-    ensures size { length result ≡ 32 }
-    ensures zeros { (j : ℕ) → j < 32
-        → (slice_index result j ≡ 0) ↔ ((k : ℕ) → k < R → value (third thirds.now (k % 3) j) (power alpha k) ≡ 0) }
-{
-    let values = values_of::<R>(thirds);
-    let mut wrong = u8x32::splat(0);
-    for k in 0..R {
-        wrong = either(wrong, values[k]);
-    }
-    wrong
 }
 
 // Puts the five values of the third with number `i` where their exponents are, as far as these are below `R`.
@@ -87,13 +71,12 @@ fn put_last_value<const R: usize>(thirds: &[[u8x32; 3]; 85], all: &mut [u8x32; R
     }
 }
 
-// The values of each lane's third with number `i` at its powers of alpha. Where they aren't below alpha^`count` the lanes are zero.
+// The values of each lane's third with number `i` at its powers of alpha that are below alpha^`count`.
 #[inline(always)]
 fn values(thirds: &[[u8x32; 3]; 85], i: usize, count: usize) -> [u8x32; 5]
     requires { i < 3 }
-    ensures values { (m : ℕ) → m < 5 → exponent_at i m < count
+    ensures { (m : ℕ) → m < 5 → exponent_at i m < count
         → HasLanes (line result m) (λ j. value (third thirds.now i j) (power alpha (exponent_at i m))) }
-    ensures others { (m : ℕ) → m < 5 → count ≤ exponent_at i m → HasLanes (line result m) (λ j. 0) }
 {
     let mut values = [u8x32::splat(0); 5];
     for place in 0..17 {
@@ -114,13 +97,12 @@ fn last_value(thirds: &[[u8x32; 3]; 85]) -> u8x32
     value
 }
 
-// A step of Horner's rule at each power of alpha of a third. That the next lanes are bytes is told too.
+// A step of Horner's rule at each power of alpha of a third that is below alpha^`count`. That the next lanes are bytes is told too.
 #[inline(always)]
 fn read_places(values: &mut [u8x32; 5], next: &[u8x32; 5], i: usize, count: usize)
     requires { i < 3 }
     ensures steps { (m : ℕ) → m < 5 → exponent_at i m < count
         → HasLanes (line values.new m) (λ j. plus (product (power alpha (exponent_at i m)) (place values.old m j)) (place next.now m j)) }
-    ensures others { (m : ℕ) → m < 5 → count ≤ exponent_at i m → line values.new m ≡ line values.old m }
     ensures bytes { (m j : ℕ) → m < 5 → j < 32 → place next.now m j < 256 }
 {
     for m in 0..5 {
@@ -133,7 +115,6 @@ fn read_places(values: &mut [u8x32; 5], next: &[u8x32; 5], i: usize, count: usiz
 fn next_value(k: usize, count: usize, value: u8x32, next: u8x32) -> u8x32
     requires { k < 16 }
     ensures step { k < count → HasLanes result (λ j. plus (product (power alpha k) (slice_index value j)) (slice_index next j)) }
-    ensures other { count ≤ k → result ≡ value }
     ensures bytes { (j : ℕ) → j < 32 → slice_index next j < 256 }
 {
     if k < count {

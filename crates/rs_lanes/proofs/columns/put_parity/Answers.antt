@@ -15,7 +15,7 @@ use Rattle.rs_lanes.proofs.columns.put_parity.Goals as goal
 pub parity_of-requires : goal.parity_of-requires
 parity_of-requires c =
     let bytes : (k j : ℕ) → k < 16 → j < 32 → place c.values_of.result k j < 256 =
-    λ k j few below. subst (λ b. b < 256) (sym (c.values_of.ensures k j few below)) (value-byte (third c.put_thirds.new.thirds (k % 3) j) (power alpha k)) in
+    λ k j few below. subst (λ b. b < 256) (sym ((c.values_of.ensures k few).each j below)) (value-byte (third c.put_thirds.new.thirds (k % 3) j) (power alpha k)) in
     (omega arith, (omega arith, (omega arith, bytes)))
 
 pub returns-clause-encoded : goal.returns-clause-encoded
@@ -33,6 +33,6 @@ returns-clause-encoded c = λ j below.
     (c.parity_of.ensures.bytes j below)
     (λ k few.
     c.parity_of.ensures.values PO-basis k j few below
-    ∙ c.values_of.ensures k j few below
+    ∙ (c.values_of.ensures k few).each j below
     ∙ (c.put_thirds.ensures.thirds (k % 3) j (omega arith) below).values k refl
     ∙ ap (λ xs. value (filled 208 (column xs at)) (power alpha k)) whole))

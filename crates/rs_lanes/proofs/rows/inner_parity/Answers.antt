@@ -15,7 +15,7 @@ use Rattle.rs_lanes.proofs.rows.inner_parity.Goals as goal
 pub parity_of-parity-requires : goal.parity_of-parity-requires
 parity_of-parity-requires c =
     let bytes : (k j : ℕ) → k < 10 → j < 32 → place c.values_of.result k j < 256 =
-    λ k j few below. subst (λ b. b < 256) (sym (c.values_of.ensures k j few below)) (value-byte (third c.put_thirds.new.thirds (k % 3) j) (power alpha k)) in
+    λ k j few below. subst (λ b. b < 256) (sym ((c.values_of.ensures k few).each j below)) (value-byte (third c.put_thirds.new.thirds (k % 3) j) (power alpha k)) in
     (omega arith, (omega arith, (omega arith, bytes)))
 
 pub returns-clause-encoded : goal.returns-clause-encoded
@@ -33,7 +33,7 @@ returns-clause-encoded c = λ n below.
     (c.parity_of-parity.ensures.bytes n below)
     (λ k few.
     c.parity_of-parity.ensures.values PI-basis k n few below
-    ∙ c.values_of.ensures k n few below
+    ∙ (c.values_of.ensures k few).each n below
     ∙ (c.put_thirds.ensures.thirds (k % 3) n (omega arith) below).values k refl
     ∙ ap (λ xs. value (filled 182 (take 172 xs)) (power alpha k)) same) in
     subst (IsEncoded 182 10 (take 172 row)) (sym (c.loop-n.invariant.set n (omega arith))) encoded

@@ -11,7 +11,6 @@ invariant-loop-m l = record {
   size : length l.values ≡ 5;
   steps : (m : ℕ) → m < l.m → exponent_at l.i m < l.count
       → HasLanes (line l.values m) (λ j. plus (product (power alpha (exponent_at l.i m)) (place l.initial.values m j)) (place l.next m j));
-  others : (m : ℕ) → m < l.m → l.count ≤ exponent_at l.i m → line l.values m ≡ line l.initial.values m;
   above : (m : ℕ) → l.m ≤ m → line l.values m ≡ line l.initial.values m;
   bytes : (m j : ℕ) → m < l.m → j < 32 → place l.next m j < 256;
 }

@@ -1,21 +1,17 @@
-use Rattle.std.proofs.Common.{sym, subst, ◌∙◌, arith}
+use Rattle.std.proofs.Common.{sym, ◌∙◌, arith}
 use Rattle.std.proofs.lemmas.List.{length-map}
 use Rattle.gf_field.specs.Field.{alpha, power}
 use Rattle.rs_code.proofs.Values.{value-nil}
 use Rattle.rs_lanes.specs.Rows.{place}
-use Rattle.rs_lanes.specs.Inner.Lanes.{HasLanes}
 use Rattle.rs_lanes.specs.Inner.Thirds.{exponent_at, third}
 use Rattle.rs_lanes.proofs.LaneLemmas.{HasLanes-zeros}
 use Rattle.rs_lanes.proofs.ThirdLemmas.{value-fives, value-fives_more}
 use Rattle.rs_lanes.proofs.thirds.values.Goals as goal
 
 pub loop-place-init : goal.loop-place-init
-loop-place-init c = record {
-  values = λ m few wanted.
-      let zeros = HasLanes-zeros 5 m few in
-      record { size = zeros.size; each = λ j below. zeros.each j below ∙ sym (value-nil (power alpha (exponent_at c.args.i m))) };
-  others = λ m few unwanted. HasLanes-zeros 5 m few;
-}
+loop-place-init c = λ m few wanted.
+    let zeros = HasLanes-zeros 5 m few in
+    record { size = zeros.size; each = λ j below. zeros.each j below ∙ sym (value-nil (power alpha (exponent_at c.args.i m))) }
 
 pub loop-place-preserved : goal.loop-place-preserved
 loop-place-preserved c =
@@ -23,22 +19,19 @@ loop-place-preserved c =
     let i = c.args.i in
     let read = c.read_places.ensures in
     let before = c.loop-place.invariant in
-    record {
-      values = λ m few wanted. record {
-        size = (read.steps m few wanted).size;
-        each = λ j below.
-            (read.steps m few wanted).each j below
-            ∙ value-fives_more (power alpha (exponent_at i m)) (third thirds i j) c.loop-place.place _ _ (length-map thirds (λ vectors. place vectors i j) ∙ omega arith)
-            (omega arith) (read.bytes m j few below) ((before.values m few wanted).each j below) ((c.folded_places.ensures m few).each j below);
-      };
-      others = λ m few unwanted. subst (λ row. HasLanes row (λ j. 0)) (sym (read.others m few unwanted)) (before.others m few unwanted);
+    λ m few wanted. record {
+      size = (read.steps m few wanted).size;
+      each = λ j below.
+          (read.steps m few wanted).each j below
+          ∙ value-fives_more (power alpha (exponent_at i m)) (third thirds i j) c.loop-place.place _ _ (length-map thirds (λ vectors. place vectors i j) ∙ omega arith)
+          (omega arith) (read.bytes m j few below) ((before m few wanted).each j below) ((c.folded_places.ensures m few).each j below);
     }
 
-pub returns-clause-values : goal.returns-clause-values
-returns-clause-values c = λ m few wanted.
+pub returns : goal.returns
+returns c = λ m few wanted.
     let thirds = c.args.thirds.now in
     let i = c.args.i in
-    let read = c.loop-place.invariant.values m few wanted in
+    let read = c.loop-place.invariant m few wanted in
     record {
       size = read.size;
       each = λ j below.

@@ -1,4 +1,4 @@
-use Rattle.std.proofs.Common.{ℕ, ◌<◌, ◌≤◌, take}
+use Rattle.std.proofs.Common.{ℕ, ◌<◌, take}
 use Rattle.gf_field.specs.Field.{alpha, power}
 use Rattle.gf_field.specs.Words.{value}
 use Rattle.rs_lanes.specs.Rows.{line}
@@ -8,9 +8,6 @@ use Rattle.rs_lanes.proofs.thirds.values.Given as goal
 
 -- the values of the places that were read
 abbrev pub invariant-loop-place : goal.invariant-loop-place
-invariant-loop-place l = record {
-  values : (m : ℕ) → m < 5 → exponent_at l.i m < l.count
-      → HasLanes (line l.values m)
-      (λ j. value (take l.place (folded 17 (power (power alpha (exponent_at l.i m)) 17) (third l.thirds l.i j) 4)) (power alpha (exponent_at l.i m)));
-  others : (m : ℕ) → m < 5 → l.count ≤ exponent_at l.i m → HasLanes (line l.values m) (λ j. 0);
-}
+invariant-loop-place l = (m : ℕ) → m < 5 → exponent_at l.i m < l.count
+    → HasLanes (line l.values m)
+    (λ j. value (take l.place (folded 17 (power (power alpha (exponent_at l.i m)) 17) (third l.thirds l.i j) 4)) (power alpha (exponent_at l.i m)))

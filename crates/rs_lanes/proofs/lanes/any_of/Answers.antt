@@ -1,6 +1,6 @@
 use Rattle.std.proofs.Common.{refl, arith}
 use Rattle.std.proofs.lemmas.Simd.{get_or-replicate}
-use Rattle.rs_lanes.proofs.thirds.wrong_lanes.Goals as goal
+use Rattle.rs_lanes.proofs.lanes.any_of.Goals as goal
 
 pub loop-k-init : goal.loop-k-init
 loop-k-init g c = record {

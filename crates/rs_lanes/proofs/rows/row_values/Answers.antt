@@ -1,0 +1,29 @@
+use Rattle.std.proofs.Common.{◌≡◌, ℕ, ◌+◌, ◌<◌, List, length, map, All, ap, subst, ◌∙◌, arith}
+use Rattle.std.proofs.lemmas.List.{map-id}
+use Rattle.gf_field.specs.Field.{alpha, power}
+use Rattle.gf_field.specs.Words.{IsByte, value}
+use Rattle.rs_lanes.specs.Rows.{line, place, column}
+use Rattle.rs_lanes.proofs.ColumnLemmas.{turned_row}
+use Rattle.rs_lanes.proofs.rows.row_values.Goals as goal
+
+-- a lane of the turned rows is its row
+same : (rows turned : List (List ℕ)) (top n : ℕ) → length turned ≡ 182
+    → length (line (map (λ row. row) rows) (top + n)) ≡ 182
+    → ((k : ℕ) → k < 182 → place turned k n ≡ place (map (λ row. row) rows) (top + n) k)
+    → column turned n ≡ line rows (top + n)
+same rows turned top n many size is =
+    let whole = map-id rows in
+    turned_row turned n (line rows (top + n)) many (subst (λ xs. length (line xs (top + n)) ≡ 182) whole size)
+    (λ k inside. is k inside ∙ ap (λ xs. place xs (top + n) k) whole)
+
+pub returns-clause-bytes : goal.returns-clause-bytes
+returns-clause-bytes c = λ n below.
+    subst (All IsByte)
+    (same c.args.rows.now c.turn.new.turned c.args.top n (omega arith) (c.turn.ensures.sizes n below) (λ k inside. c.turn.ensures.turned k n inside below))
+    (c.turned_values.ensures.bytes n below)
+
+pub returns-clause-values : goal.returns-clause-values
+returns-clause-values c = λ k n few below.
+    c.turned_values.ensures.values k n few below
+    ∙ ap (λ word. value word (power alpha k))
+    (same c.args.rows.now c.turn.new.turned c.args.top n (omega arith) (c.turn.ensures.sizes n below) (λ p inside. c.turn.ensures.turned p n inside below))

@@ -1,0 +1,27 @@
+use Rattle.std.proofs.Common.{◌≡◌, ℕ, ◌%◌, List, length, take, All, refl, sym, ap, subst, ◌∙◌, arith}
+use Rattle.std.proofs.Math.Seq.{take-length}
+use Rattle.gf_field.specs.Field.{alpha, power}
+use Rattle.gf_field.specs.Words.{IsByte, value}
+use Rattle.rs_lanes.specs.Rows.{column}
+use Rattle.rs_lanes.specs.Inner.Parity.{filled}
+use Rattle.rs_lanes.proofs.ColumnLemmas.{length-column}
+use Rattle.rs_lanes.proofs.ParityLemmas.{filled-whole}
+use Rattle.rs_lanes.proofs.rows.turned_values.Goals as goal
+
+-- all 182 places of a lane are its word
+whole : (turned : List (List ℕ)) (n : ℕ) → length turned ≡ 182 → take 182 (column turned n) ≡ column turned n
+whole turned n many = ap (λ count. take count (column turned n)) (sym (length-column turned n ∙ many)) ∙ take-length (column turned n)
+
+pub returns-clause-bytes : goal.returns-clause-bytes
+returns-clause-bytes c = λ n below. subst (All IsByte) (whole c.args.turned.now n (omega arith)) (c.put_thirds.ensures.bytes n below)
+
+pub returns-clause-lanes : goal.returns-clause-lanes
+returns-clause-lanes c = λ k inside. (c.values_of.ensures k (omega arith)).size
+
+pub returns-clause-values : goal.returns-clause-values
+returns-clause-values c = λ k n few below.
+    let turned = c.args.turned.now in
+    let many : length turned ≡ 182 = omega arith in
+    (c.values_of.ensures k few).each n below
+    ∙ (c.put_thirds.ensures.thirds (k % 3) n (omega arith) below).values k refl
+    ∙ ap (λ word. value word (power alpha k)) (ap (filled 182) (whole turned n many) ∙ filled-whole 182 (column turned n) (length-column turned n ∙ many))
