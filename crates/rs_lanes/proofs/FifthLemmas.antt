@@ -37,11 +37,11 @@ root-four : power alpha 204 ≡ 0xDD
 unfolding shifted shift
 root-four = power-alpha-shifted 204 ∙ refl
 
--- 0A is DD and D7
+-- 0x0A is 0xDD and 0xD7
 product-0a : (a : ℕ) → product a 0x0A ≡ plus (product a 0xDD) (product a 0xD7)
 product-0a a = product-plus a 0xDD 0xD7
 
--- 44 is 92, D7 and 1
+-- 0x44 is 0x92, 0xD7 and 1
 product-44 : (a : ℕ) → a < 256 → product a 0x44 ≡ plus (product a 0x92) (plus (product a 0xD7) a)
 product-44 a byte = product-plus a 0x92 0xD6 ∙ ap (plus (product a 0x92)) (product-plus a 0xD7 1 ∙ ap (plus (product a 0xD7)) (product-one a byte))
 
@@ -58,47 +58,47 @@ module _ (a0 a1 a2 a3 a4 : ℕ) (byte0 : a0 < 256) (byte1 : a1 < 256) (byte2 : a
   fifth-zero = sym (ap (value (a4 ∷ a3 ∷ a2 ∷ a1 ∷ a0 ∷ [])) (power-zero alpha) ∙ value-five a0 a1 a2 a3 a4 1 byte0 ∙
       rw (one-power 4, one-power 3, one-power 2, one-power 1, product-one a4 byte4, product-one a3 byte3, product-one a2 byte2, product-one a1 byte1) (simp ring))
 
-  -- the value at 0A, term by term
+  -- the value at 0x0A, term by term
   value-one : value (a4 ∷ a3 ∷ a2 ∷ a1 ∷ a0 ∷ []) (power alpha 51)
       ≡ plus (product a4 0xDD) (plus (product a3 0x92) (plus (product a2 0x44) (plus (product a1 0x0A) a0)))
   unfolding power product partial_product shifted shift
   value-one = at-root 0x0A 0x44 0x92 0xDD 51 root-one refl refl refl refl
 
-  -- the value at 0A
+  -- the value at 0x0A
   pub fifth-one : plus (plus (plus a0 (product (plus a1 a2) 0xD7)) a2) (plus (product (plus a1 a4) 0xDD) (product (plus a2 a3) 0x92))
       ≡ value (a4 ∷ a3 ∷ a2 ∷ a1 ∷ a0 ∷ []) (power alpha 51)
   fifth-one = sym (value-one ∙ rw (product-0a a1, product-44 a2 byte2) (simp ring))
 
-  -- the value at 44, term by term
+  -- the value at 0x44, term by term
   value-two : value (a4 ∷ a3 ∷ a2 ∷ a1 ∷ a0 ∷ []) (power alpha 102)
       ≡ plus (product a4 0x92) (plus (product a3 0x0A) (plus (product a2 0xDD) (plus (product a1 0x44) a0)))
   unfolding power product partial_product shifted shift
   value-two = at-root 0x44 0xDD 0x0A 0x92 102 root-two refl refl refl refl
 
-  -- the value at 44
+  -- the value at 0x44
   pub fifth-two : plus (plus (plus a0 (product (plus a1 a2) 0xD7)) a1) (plus (product (plus a2 a3) 0x0A) (product (plus a1 a4) 0x92))
       ≡ value (a4 ∷ a3 ∷ a2 ∷ a1 ∷ a0 ∷ []) (power alpha 102)
   fifth-two = sym (value-two ∙ rw (product-44 a1 byte1, product-0a a3, product-0a (plus a2 a3)) (simp ring))
 
-  -- the value at 92, term by term
+  -- the value at 0x92, term by term
   value-three : value (a4 ∷ a3 ∷ a2 ∷ a1 ∷ a0 ∷ []) (power alpha 153)
       ≡ plus (product a4 0x44) (plus (product a3 0xDD) (plus (product a2 0x0A) (plus (product a1 0x92) a0)))
   unfolding power product partial_product shifted shift
   value-three = at-root 0x92 0x0A 0xDD 0x44 153 root-three refl refl refl refl
 
-  -- the value at 92, the inverse of 44
+  -- the value at 0x92, the inverse of 0x44
   pub fifth-three : plus (plus (plus (plus a0 (product (plus a1 a2) 0xD7)) a1) (plus (product (plus a2 a3) 0x0A) (product (plus a1 a4) 0x92)))
       (plus (product (plus (plus a1 a4) (plus a2 a3)) 0xD7) (plus a1 a4))
       ≡ value (a4 ∷ a3 ∷ a2 ∷ a1 ∷ a0 ∷ []) (power alpha 153)
   fifth-three = sym (value-three ∙ rw (product-44 a4 byte4, product-0a a2, product-0a (plus a2 a3)) (simp ring))
 
-  -- the value at DD, term by term
+  -- the value at 0xDD, term by term
   value-four : value (a4 ∷ a3 ∷ a2 ∷ a1 ∷ a0 ∷ []) (power alpha 204)
       ≡ plus (product a4 0x0A) (plus (product a3 0x44) (plus (product a2 0x92) (plus (product a1 0xDD) a0)))
   unfolding power product partial_product shifted shift
   value-four = at-root 0xDD 0x92 0x44 0x0A 204 root-four refl refl refl refl
 
-  -- the value at DD, the inverse of 0A
+  -- the value at 0xDD, the inverse of 0x0A
   pub fifth-four : plus (plus (plus (plus a0 (product (plus a1 a2) 0xD7)) a2) (plus (product (plus a1 a4) 0xDD) (product (plus a2 a3) 0x92)))
       (plus (product (plus (plus a1 a4) (plus a2 a3)) 0xD7) (plus a2 a3))
       ≡ value (a4 ∷ a3 ∷ a2 ∷ a1 ∷ a0 ∷ []) (power alpha 204)

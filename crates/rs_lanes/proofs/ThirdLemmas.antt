@@ -129,27 +129,27 @@ power-85 k i rest =
     let exponent : k * 85 % 255 ≡ 85 * i = omega arith in
     sym (power-mul alpha k 85) ∙ sym (power-alpha-mod (k * 85)) ∙ ap (power alpha) exponent
 
--- alpha^85 is D6
+-- alpha^85 is 0xD6
 power-alpha-85 : power alpha 85 ≡ 0xD6
 unfolding shifted shift
 power-alpha-85 = power-alpha-shifted 85 ∙ refl
 
--- alpha^170 is D7
+-- alpha^170 is 0xD7
 power-alpha-170 : power alpha 170 ≡ 0xD7
 unfolding shifted shift
 power-alpha-170 = power-alpha-shifted 170 ∙ refl
 
--- the square of D6
+-- the square of 0xD6
 square-d6 : product 0xD6 0xD6 ≡ 0xD7
 unfolding product partial_product shifted shift
 square-d6 = refl
 
--- the square of D7
+-- the square of 0xD7
 square-d7 : product 0xD7 0xD7 ≡ 0xD6
 unfolding product partial_product shifted shift
 square-d7 = refl
 
--- D7 is D6 and 1
+-- 0xD7 is 0xD6 and 1
 product-d7 : (a : ℕ) → a < 256 → product 0xD7 a ≡ plus (product 0xD6 a) a
 product-d7 a byte =
     plus-product 0xD6 1 a ∙ ap (plus (product 0xD6 a)) (one-product a byte)

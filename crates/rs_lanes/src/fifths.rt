@@ -50,8 +50,8 @@ fn fifths(y0: u8x32, y1: u8x32, y2: u8x32, y3: u8x32, y4: u8x32) -> [u8x32; 5]
     ensures { (m : ℕ) → m < 5 → HasLanes (line result m) (λ j.
         value (slice_index y4 j ∷ slice_index y3 j ∷ slice_index y2 j ∷ slice_index y1 j ∷ slice_index y0 j ∷ []) (power alpha (51 * m))) }
 {
-    // The roots other than 1 are 0A and its inverse DD, 44 and its inverse 92. 0A and DD add up to D7, 44 and 92 to D7 + 1: so a
-    // product with D7 turns a sum taken with one root into that with its inverse.
+    // The roots other than 1 are 0x0A and its inverse 0xDD, 0x44 and its inverse 0x92. 0x0A and 0xDD add up to 0xD7, 0x44 and 0x92
+    // to 0xD7 + 1: so a product with 0xD7 turns a sum taken with one root into that with its inverse.
     let ends = mixed(y1, y4);
     let middle = mixed(y2, y3);
     let both = mixed(ends, middle);

@@ -1,8 +1,8 @@
 //! The parity of drawn words, as a program computed it that solves the parity checks as linear equations and knows no
 //! generator, and as the encoder of one word has it.
-ghost use Rattle.std.specs.Prelude.{◌≡◌, ◌<◌, ◌≤◌, vec_len, IfOk};
+ghost use Rattle.std.specs.Prelude.{◌≡◌, ◌<◌, ◌≤◌, length, vec_len, IfOk};
 
-use crate::{inner_parity, outer_parity, powers, scaled, wrong_columns, wrong_rows};
+use crate::{any_of, column_values, inner_parity, outer_parity, powers, row_values, scaled};
 use rs_code::{Pi, Po};
 use sha2::{Digest, Sha256};
 use std::alloc::{AllocError, Global};
@@ -35,6 +35,14 @@ fn empty_rows(alloc: Global, count: usize) -> Result<Vec<[u8; 182]>, AllocError>
     ensures { IfOk result (λ rows. vec_len rows ≡ count) }
 {
     vec![in alloc; [0; 182]; count]
+}
+
+fn put_byte(rows: &mut [[u8; 182]], i: usize, j: usize, byte: u8)
+    requires row { i < length rows.old }
+    requires place { j < 182 }
+    ensures { length rows.new ≡ length rows.old }
+{
+    rows[i][j] = byte;
 }
 
 fn put_column(rows: &mut [[u8; 182]], j: usize, word: &[u8; 208])
@@ -73,6 +81,15 @@ fn parity_of_columns(rows: &[[u8; 182]], count: usize) -> [u8; 32]
     hasher.finalize()
 }
 
+// Whether lane `n` is the only one that isn't zero.
+fn is_alone(lanes: u8x32, n: usize) -> bool {
+    let mut alone = true;
+    for k in 0..32 {
+        alone = alone && (lanes[k] != 0) == (k == n);
+    }
+    alone
+}
+
 #[test]
 fn rows_get_the_parity_of_drawn_words(rt: HostRuntime) -> Result<(), Fail> {
     let mut rows = empty_rows(rt.alloc(), 100)?;
@@ -100,14 +117,22 @@ fn rows_get_the_parity_of_drawn_words(rt: HostRuntime) -> Result<(), Fail> {
 }
 
 #[test]
-fn wrong_rows_are_told(rt: HostRuntime) -> Result<(), Fail> {
+fn rows_have_the_values_of_drawn_words(rt: HostRuntime) -> Result<(), Fail> {
     let mut rows = empty_rows(rt.alloc(), 40)?;
-    rows[7][0] = 1;
-    rows[38][181] = 1;
-    let wrong = wrong_rows(&rows, 7);
-    for n in 0..32 {
-        assert!(rt; (wrong[n] != 0) == (n == 0 || n == 31));
+    let mut drawn = Drawn { state: 5 };
+    for row in rows.iter_mut() {
+        drawn.fill_front(row, 182);
     }
+    let values = row_values(&rows, 7);
+    for n in 0..32 {
+        let syndromes = Pi::new().syndromes(&rows[7 + n]);
+        assert_eq!(rt; syndromes.len(), 10);
+        for (lanes, syndrome) in values.iter().zip(syndromes.as_slice()) {
+            assert!(rt; lanes.to_array()[n] == *syndrome);
+        }
+    }
+    inner_parity(&mut rows, 7);
+    assert!(rt; any_of(&row_values(&rows, 7)) == u8x32::splat(0));
     Ok(())
 }
 
@@ -137,14 +162,23 @@ fn columns_get_the_parity_of_drawn_words(rt: HostRuntime) -> Result<(), Fail> {
 }
 
 #[test]
-fn wrong_columns_are_told(rt: HostRuntime) -> Result<(), Fail> {
+fn columns_have_the_values_of_drawn_words(rt: HostRuntime) -> Result<(), Fail> {
     let mut rows = empty_rows(rt.alloc(), 208)?;
-    rows[0][77] = 1;
-    rows[207][181] = 1;
-    let wrong = wrong_columns(&rows);
-    for (j, byte) in wrong.iter().enumerate() {
-        assert!(rt; (*byte != 0) == (j == 77 || j == 181));
+    let mut drawn = Drawn { state: 6 };
+    for row in rows.iter_mut() {
+        drawn.fill_front(row, 182);
     }
+    let values = column_values(&rows, 150);
+    for n in 0..32 {
+        let syndromes = Po::new().syndromes(&column(&rows, 150 + n));
+        assert_eq!(rt; syndromes.len(), 16);
+        for (lanes, syndrome) in values.iter().zip(syndromes.as_slice()) {
+            assert!(rt; lanes.to_array()[n] == *syndrome);
+        }
+    }
+    let (upper, lower) = rows.split_at_mut(192);
+    outer_parity(upper, lower);
+    assert!(rt; any_of(&column_values(&rows, 150)) == u8x32::splat(0));
     Ok(())
 }
 
@@ -156,13 +190,13 @@ fn lanes_are_multiplied(rt: HostRuntime) -> Result<(), Fail> {
     ]);
     assert!(rt; scaled(lanes, 0x00) == u8x16::splat(0));
     assert!(rt; scaled(lanes, 0x01) == lanes);
-    // 80 times 02 is 1D, and 8E times 02 is 01.
+    // 0x80 times 0x02 is 0x1D, and 0x8E times 0x02 is 0x01.
     let doubled = scaled(lanes, 0x02);
     assert_eq!(rt;
         (doubled[1], doubled[8], doubled[9], doubled[10]),
         (0x02, 0xFE, 0x1D, 0x01)
     );
-    // 03 times F4 is 01.
+    // 0x03 times 0xF4 is 0x01.
     let thrice = scaled(lanes, 0x03);
     assert_eq!(rt; (thrice[1], thrice[3], thrice[14]), (0x03, 0x05, 0x01));
     Ok(())
@@ -190,17 +224,12 @@ fn a_byte_at_any_place_is_told(rt: HostRuntime) -> Result<(), Fail> {
     let mut rows = empty_rows(rt.alloc(), 208)?;
     for place in 0..208 {
         let j = place % 182;
-        rows[place][j] = 0x80;
+        put_byte(&mut rows, place, j, 0x80);
         let top = place.min(176);
-        let wrong = wrong_rows(&rows, top);
-        let columns = wrong_columns(&rows);
-        for n in 0..32 {
-            assert!(rt; (wrong[n] != 0) == (top + n == place));
-        }
-        for (i, byte) in columns.iter().enumerate() {
-            assert!(rt; (*byte != 0) == (i == j));
-        }
-        rows[place][j] = 0;
+        let at = j.min(150);
+        assert!(rt; is_alone(any_of(&row_values(&rows, top)), place - top));
+        assert!(rt; is_alone(any_of(&column_values(&rows, at)), j - at));
+        put_byte(&mut rows, place, j, 0);
     }
     Ok(())
 }
