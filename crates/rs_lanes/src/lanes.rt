@@ -15,15 +15,6 @@ pub fn mixed(a: u8x32, b: u8x32) -> u8x32
     a ^ b
 }
 
-/// Lanes that are zero exactly where those of both are.
-#[inline(always)]
-pub fn either(a: u8x32, b: u8x32) -> u8x32
-    ensures size { length result ≡ 32 }
-    ensures zeros { (k : ℕ) → k < 32 → (slice_index result k ≡ 0) ↔ ((slice_index a k ≡ 0) × (slice_index b k ≡ 0)) }
-{
-    a | b
-}
-
 /// Lanes that are zero exactly where those of every vector are.
 #[inline(always)]
 pub fn any_of<const R: usize>(vectors: &[u8x32; R]) -> u8x32
@@ -68,6 +59,15 @@ pub fn times(table: &[[u8; 16]; 2], lanes: u8x32) -> u8x32
         by_low_nibble(&table[0], lanes),
         by_high_nibble(&table[1], lanes),
     )
+}
+
+// Lanes that are zero exactly where those of both are.
+#[inline(always)]
+fn either(a: u8x32, b: u8x32) -> u8x32
+    ensures size { length result ≡ 32 }
+    ensures zeros { (k : ℕ) → k < 32 → (slice_index result k ≡ 0) ↔ ((slice_index a k ≡ 0) × (slice_index b k ≡ 0)) }
+{
+    a | b
 }
 
 // The table's entries at the low four bits of each lane.
