@@ -29,6 +29,7 @@ word_bytes word = to_be_bytes w32 word
 abbrev pub IsSamePlace : ℕ → ℕ → Type 0
 IsSamePlace word other = bit_and word 0x0DFFFFFF ≡ bit_and other 0x0DFFFFFF
 
+-- the same, as a test: whether two IDs agree in all bits of the place
 abbrev pub is_same_place : ℕ → ℕ → Bool
 is_same_place word other = bit_and word 0x0DFFFFFF == bit_and other 0x0DFFFFFF
 

@@ -10,6 +10,7 @@ use Rattle.dvd_frame.specs.declared.scrambling.Rule.TheVariants.{Whole, Off, Fir
 abbrev pub presets : List ℕ
 presets = 0x0001 ∷ 0x5500 ∷ 0x0002 ∷ 0x2A00 ∷ 0x0004 ∷ 0x5400 ∷ 0x0008 ∷ 0x2800 ∷ 0x0010 ∷ 0x5000 ∷ 0x0020 ∷ 0x2001 ∷ 0x0040 ∷ 0x4002 ∷ 0x0080 ∷ 0x0005 ∷ []
 
+-- the preset of a frame, which bits b7 to b4 of its ID word choose
 abbrev pub preset_of : ℕ → ℕ
 preset_of word = slice_index presets (word / 16 % 16)
 
