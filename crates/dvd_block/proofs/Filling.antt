@@ -22,6 +22,7 @@ pub record IsFilled (old upper cells block : List (List ℕ)) : Type 0 where
   pub sizes : (t : ℕ) → t < 16 → length (line block (192 + t)) ≡ 182
 
 module _ (old upper cells block : List (List ℕ)) (filled : IsFilled old upper cells block) where
+  -- row i of the block, above the outer parity, is row i of those with inner parity alone
   upper_line : (i : ℕ) → i < 192 → line block i ≡ line upper i
   upper_line i above =
       sym (get_or-take 192 block i [] above) ∙ ap (λ (b : List (List ℕ)). line b i) filled.kept ∙ get_or-take 192 upper i [] above
@@ -34,12 +35,14 @@ module _ (old upper cells block : List (List ℕ)) (filled : IsFilled old upper 
       ∙ ap (λ (row : List ℕ). get_or row j 0) (filled.rows i above).begins
       ∙ get_or-take 172 (line old i) j 0 within
 
+  -- the first 192 bytes of column j are those of the same column with inner parity alone
   upper_column : (j : ℕ) → take 192 (column block j) ≡ take 192 (column upper j)
   upper_column j =
       take-map (λ (row : List ℕ). get_or row j 0) 192 block
       ∙ ap (λ (b : List (List ℕ)). map (λ (row : List ℕ). get_or row j 0) b) filled.kept
       ∙ sym (take-map (λ (row : List ℕ). get_or row j 0) 192 upper)
 
+  -- the last 16 bytes of column j are the cells of its outer parity
   lower_column : (j : ℕ) → j < 182 → drop 192 (column block j) ≡ line cells j
   lower_column j within =
       let height : length (column block j) ≡ 208 = length-column block j ∙ filled.height in
@@ -53,6 +56,7 @@ module _ (old upper cells block : List (List ℕ)) (filled : IsFilled old upper 
       ∙ get_or-column block j (192 + t) (omega (arith, filled.height))
       ∙ filled.placed t j small within)
 
+  -- each of the 182 columns is a codeword of the outer code
   column_codeword : (j : ℕ) → j < 182 → IsCodeword 208 16 (column block j)
   column_codeword j within =
       subst (IsCodeword 208 16)
@@ -61,9 +65,11 @@ module _ (old upper cells block : List (List ℕ)) (filled : IsFilled old upper 
       ∙ ap (λ (l : List ℕ). take 192 (column upper j) ++ l) (lower_column j within)))
       (filled.columns j within)
 
+  -- each of the 192 rows above the outer parity is a codeword of the inner code
   upper_codeword : (i : ℕ) → i < 192 → IsCodeword 182 10 (line block i)
   upper_codeword i above = subst (IsCodeword 182 10) (sym (upper_line i above)) (filled.rows i above).codeword
 
+  -- all 208 rows, those of outer parity too, have 182 bytes
   row_size : (i : ℕ) → i < 208 → length (line block i) ≡ 182
   row_size i below = elim (cases_lt i 192) [
     | inl above ↦ (upper_codeword i above).size
@@ -80,6 +86,7 @@ module _ (old upper cells block : List (List ℕ)) (filled : IsFilled old upper 
       subst IsByte (get_or-column block j i (omega (arith, filled.height)) ∙ get_or_default (line block i) j 0 d within)
       (column_is.bytes i 0 (omega (arith, column_is.size)))
 
+  -- the rows of outer parity are codewords of the inner code too, because every column is one of the outer code
   row_codeword : (i : ℕ) → i < 208 → IsCodeword 182 10 (line block i)
   row_codeword i below = record {
     size = row_size i below;
@@ -88,6 +95,7 @@ module _ (old upper cells block : List (List ℕ)) (filled : IsFilled old upper 
         (λ r above. (upper_codeword r (omega arith)).vanishes k few) i below;
   }
 
+  -- so the block is a product code block: its rows and its columns are codewords
   pub is_product : IsProduct block
   is_product = record {
     height = filled.height;

@@ -116,36 +116,44 @@ across words i = (
 
 -- Rows are encoded, then the columns of these, and the block has the columns.
 module _ (frames : List (List ℕ)) (sizes : (f : ℕ) → f < 16 → length (line frames f) ≡ 2064) (bytes : (f : ℕ) → f < 16 → All IsByte (line frames f)) where
+  -- the 172 bytes of frames that begin row i of the block
   message : ℕ → List ℕ
   message i = take 172 (drop (172 * (i % 12)) (line frames (i / 12)))
 
+  -- they are 172, as a frame has 2,064 bytes, twelve times as many
   length-message : (i : ℕ) → i < 192 → length (message i) ≡ 172
   unfolding message
   length-message i above =
       length-take-le 172 (drop (172 * (i % 12)) (line frames (i / 12)))
       (omega (arith, length-drop (172 * (i % 12)) (line frames (i / 12)), sizes (i / 12) (omega arith)))
 
+  -- byte p of row i's message is byte 172 (i % 12) + p of frame i / 12
   get_or-message : (i p d : ℕ) → p < 172 → get_or (message i) p d ≡ get_or (line frames (i / 12)) (172 * (i % 12) + p) d
   unfolding message
   get_or-message i p d within =
       get_or-take 172 (drop (172 * (i % 12)) (line frames (i / 12))) p d within ∙ get_or-drop (172 * (i % 12)) (line frames (i / 12)) p d
 
+  -- they are bytes, as those of the frames are
   All-message : (i : ℕ) → i < 192 → All IsByte (message i)
   All-message i above = λ p d below.
       let inside : p < 172 = omega (arith, length-message i above) in
       subst IsByte (sym (get_or-message i p d inside))
       (bytes (i / 12) (omega arith) (172 * (i % 12) + p) d (omega (arith, sizes (i / 12) (omega arith))))
 
+  -- each of the 192 messages has a row of 182 bytes: itself and its inner parity
   rows : Found (λ i row. IsEncoded 182 10 (message i) row) 192
   rows = found _ 192 (λ i above. encodable 182 10 (message i) (omega arith) (omega arith) (length-message i above) (All-message i above))
 
+  -- the 192 rows with inner parity, above the outer parity
   upper : List (List ℕ)
   upper = rows.list
 
+  -- a column of these rows has 192 bytes
   length-upper_column : (j : ℕ) → length (column upper j) ≡ 192
   unfolding upper
   length-upper_column j = length-column upper j ∙ rows.size
 
+  -- they are bytes, as those of a codeword are
   All-upper_column : (j : ℕ) → j < 182 → All IsByte (column upper j)
   unfolding upper
   All-upper_column j within = λ i d below.
@@ -154,19 +162,24 @@ module _ (frames : List (List ℕ)) (sizes : (f : ℕ) → f < 16 → length (li
       subst IsByte (sym (get_or_default (column upper j) i d 0 below ∙ get_or-column upper j i (omega (arith, rows.size))))
       (codeword.bytes j 0 (omega (arith, codeword.size)))
 
+  -- each of the 182 columns has a word of 208 bytes: itself and its outer parity
   words : Found (λ j word. IsEncoded 208 16 (column upper j) word) 182
   words = found _ 182 (λ j within. encodable 208 16 (column upper j) (omega arith) (omega arith) (length-upper_column j) (All-upper_column j within))
 
+  -- the 208 rows of the block: row i has byte i of each column's word
   lines : Found (IsAcross words.list) 208
   lines = found _ 208 (λ i below. across words.list i)
 
+  -- the 16 bytes of outer parity of each column
   cells : List (List ℕ)
   cells = map (λ (word : List ℕ). drop 192 word) words.list
 
+  -- the cells of column j are the last 16 bytes of its word
   line-cells : (j : ℕ) → j < 182 → line cells j ≡ drop 192 (line words.list j)
   unfolding cells
   line-cells j within = get_or-map (λ (word : List ℕ). drop 192 word) words.list j [] [] (omega (arith, words.size))
 
+  -- the first 192 rows of the block are those with inner parity
   same_line : (i : ℕ) → i < 192 → line lines.list i ≡ line upper i
   unfolding upper
   same_line i above =
@@ -180,6 +193,7 @@ module _ (frames : List (List ℕ)) (sizes : (f : ℕ) → f < 16 → length (li
       ∙ ap (λ (word : List ℕ). get_or word i 0) (words.each j within).begins
       ∙ get_or-column upper j i (omega (arith, rows.size)))
 
+  -- so the rows across the columns' words are filled with inner parity, then with outer parity
   filled : IsFilled upper upper cells lines.list
   unfolding upper
   filled = record {
@@ -207,6 +221,7 @@ module _ (frames : List (List ℕ)) (sizes : (f : ℕ) → f < 16 → length (li
     sizes = λ t below. (lines.each (192 + t) (omega arith)).width;
   }
 
+  -- frame f stands in rows 12 f to 12 f + 11 of the block
   holds : (f : ℕ) → f < 16 → HoldsFrame f (line frames f) lines.list
   unfolding HoldsFrame upper
   holds f below = λ q p within inside.
@@ -221,5 +236,6 @@ module _ (frames : List (List ℕ)) (sizes : (f : ℕ) → f < 16 → length (li
       ∙ ap (λ (g : ℕ). get_or (line frames g) (172 * (i % 12) + p) 0) frame_is
       ∙ ap (λ (r : ℕ). get_or (line frames f) (172 * r + p) 0) row_is
 
+  -- the rows across the columns' words are a block of the sixteen frames, so there is one
   pub some_block : (block : List (List ℕ)) × IsBlockOf frames block
   some_block = (lines.list, record { product = is_product upper upper cells lines.list filled; holds = holds })

@@ -13,6 +13,7 @@ module _ {X : Type 0} (a k : ℕ) (was part : List X) where
   abbrev pub part_written : List X
   part_written = take a was ++ (part ++ drop k (drop a was))
 
+  -- a list with a part written is as long as before
   pub length-part_written : a + k ≤ length was → length part ≡ k → length part_written ≡ length was
   length-part_written inside size =
       omega (
@@ -24,6 +25,7 @@ module _ {X : Type 0} (a k : ℕ) (was part : List X) where
         length-take-le a was (omega arith),
       )
 
+  -- inside the part the elements are those written
   pub get_or-part_written : (d : X) (q : ℕ) → a + k ≤ length was → length part ≡ k → q < k → get_or part_written (a + q) d ≡ get_or part q d
   get_or-part_written d q inside size below =
       let front : length (take a was) ≡ a = length-take-le a was (omega arith) in
@@ -32,6 +34,7 @@ module _ {X : Type 0} (a k : ℕ) (was part : List X) where
       ∙ ap (λ (i : ℕ). get_or (part ++ drop k (drop a was)) i d) place
       ∙ get_or_append_left part (drop k (drop a was)) d q (omega arith)
 
+  -- before the part and behind it the elements are as they were
   pub get_or-part_kept : (d : X) (i : ℕ) → a + k ≤ length was → length part ≡ k → (i < a) ⊎ (a + k ≤ i) → get_or part_written i d ≡ get_or was i d
   get_or-part_kept d i inside size (inl before) =
       let front : length (take a was) ≡ a = length-take-le a was (omega arith) in
@@ -79,9 +82,11 @@ behind_front frame was now q j size fronts below behind =
 
 -- What the rows of a block are after a part of them was lent and written: `old` has the rows that a lend fills up with.
 module _ (a k n : ℕ) (rows part old : List (List ℕ)) where
+  -- the rows of the block once the part, written, is back in its place
   abbrev pub rows_back : List (List ℕ)
   rows_back = take n (part_written a k rows part ++ drop (length (part_written a k rows part)) old)
 
+  -- rows that came back as many as they were are the old ones with the part written
   back_is : a + k ≤ length rows → length part ≡ k → length rows ≡ n → rows_back ≡ part_written a k rows part
   back_is inside size number = lent_whole n old (part_written a k rows part) (length-part_written a k rows part inside size ∙ number)
 
@@ -90,6 +95,7 @@ module _ (a k n : ℕ) (rows part old : List (List ℕ)) where
   back_written inside size number q within =
       ap (λ (b : List (List ℕ)). line b (a + q)) (back_is inside size number) ∙ get_or-part_written a k rows part [] q inside size within
 
+  -- a row before the part or behind it is as it was
   pub back_kept : a + k ≤ length rows → length part ≡ k → length rows ≡ n → (i : ℕ) → (i < a) ⊎ (a + k ≤ i) → line rows_back i ≡ line rows i
   back_kept inside size number i elsewhere =
       ap (λ (b : List (List ℕ)). line b i) (back_is inside size number) ∙ get_or-part_kept a k rows part [] i inside size elsewhere
@@ -107,9 +113,11 @@ back_whole k n rows part old inside size number =
 
 -- twelve rows that had their fronts set to a frame
 module _ (f k n : ℕ) (frame : List ℕ) (rows part old : List (List ℕ)) where
+  -- the rows of the block once the fronts of the twelve of frame f are set
   abbrev frame_rows : List (List ℕ)
   frame_rows = rows_back (12 * f) k n rows part old
 
+  -- the rows of the other frames are as they were
   pub other_rows_kept : f < 16 → k ≡ 12 → length rows ≡ 208 → n ≡ 208 → length part ≡ 12 → rows ≡ old
       → (i : ℕ) → (i < 12 * f) ⊎ (12 * f + 12 ≤ i) → line frame_rows i ≡ line old i
   other_rows_kept below twelve height number size same i elsewhere =
@@ -119,16 +127,19 @@ module _ (f k n : ℕ) (frame : List ℕ) (rows part old : List (List ℕ)) wher
       apart (inl before) = inl before
       apart (inr behind) = inr (omega arith)
 
+  -- row q of frame f is row q of the twelve written
   row_written : f < 16 → k ≡ 12 → length rows ≡ 208 → n ≡ 208 → length part ≡ 12 → (q : ℕ) → q < 12 → line frame_rows (12 * f + q) ≡ line part q
   row_written below twelve height number size q within =
       back_written (12 * f) k n rows part old (omega arith) (omega arith) (omega arith) q (omega arith)
 
+  -- the block holds frame f, in the fronts of its twelve rows
   pub frame_held : f < 16 → k ≡ 12 → length rows ≡ 208 → n ≡ 208 → length frame ≡ 2064 → FrontsSet frame (take k (drop (12 * f) rows)) part → HoldsFrame f frame frame_rows
   unfolding HoldsFrame
   frame_held below twelve height number long fronts = λ q p within inside.
       ap (λ (row : List ℕ). get_or row p 0) (row_written below twelve height number fronts.size q within)
       ∙ front_set frame (take k (drop (12 * f) rows)) part q p long fronts within inside
 
+  -- behind their fronts all rows, those of frame f too, are as they were
   pub inner_parity_kept : f < 16 → k ≡ 12 → length rows ≡ 208 → n ≡ 208 → length frame ≡ 2064 → FrontsSet frame (take k (drop (12 * f) rows)) part → rows ≡ old
       → (i j : ℕ) → 172 ≤ j → place frame_rows i j ≡ place old i j
   inner_parity_kept below twelve height number long fronts same i j behind =
