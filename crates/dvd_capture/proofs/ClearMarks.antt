@@ -16,6 +16,7 @@ zero_byte : (byte : ℕ) → byte < 256 → ((k : ℕ) → k < 8 → bit_at byte
 zero_byte byte fits none =
     omega (arith, fits, none 0 (omega arith), none 1 (omega arith), none 2 (omega arith), none 3 (omega arith), none 4 (omega arith), none 5 (omega arith), none 6 (omega arith), none 7 (omega arith))
 
+-- with none but the last two bits set, it is less than 4
 spare_byte : (byte : ℕ) → byte < 256 → ((k : ℕ) → k < 6 → bit_at byte (7 - k) ≢ 1) → byte < 4
 spare_byte byte fits none =
     omega (arith, fits, none 0 (omega arith), none 1 (omega arith), none 2 (omega arith), none 3 (omega arith), none 4 (omega arith), none 5 (omega arith))
@@ -44,6 +45,7 @@ module _ (row : List ℕ) (size : length row ≡ 23) where
         none j inside = ap (λ n. n == 1) (bit_zero j inside)
 
   module _ (fits : (i : ℕ) → get_or row i 0 < 256) (clear : marks_of row ≡ replicate 182 false) where
+    -- no bit of a place is set, as bit k of byte q marks place 8 q + k of the row
     unset : (q k : ℕ) → 8 * q + k < 182 → k < 8 → bit_at (get_or row q 0) (7 - k) ≢ 1
     unset q k inside low =
         let j : ℕ = 8 * q + k in
@@ -63,5 +65,6 @@ module _ (row : List ℕ) (size : length row ≡ 23) where
         ∙ zero_byte (get_or row q 0) (fits q) (λ k low. unset q k (omega (arith, inside, low)) low)
         ∙ sym (get_or-replicate 22 q 0 0 inside))
 
+    -- and the last byte has nothing but the two spare bits
     pub clear_last : get_or row 22 0 < 4
     clear_last = spare_byte (get_or row 22 0) (fits 22) (λ k low. unset 22 k (omega (arith, low)) (omega (arith, low)))

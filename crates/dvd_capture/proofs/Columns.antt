@@ -13,6 +13,7 @@ use Rattle.dvd_capture.specs.TwoPass.{AgreesWith, IsTwoPass, answer_column, answ
 use Rattle.rs_decode.specs.Filling.{marked}
 use Rattle.dvd_capture.proofs.Bound.{marked-cost}
 
+-- a column of row answers has one byte or none for each row
 pub length-answer_column : (answers : List (Option (List ℕ))) (j : ℕ) → length (answer_column answers j) ≡ length answers
 unfolding answer_column
 length-answer_column answers j = length-map answers (byte_at j)
@@ -68,6 +69,7 @@ length-answers_of (row ∷ received) (mark ∷ marks) (suc n) size marks_size =
     let rest : length (answers_of received marks) ≡ n = length-answers_of received marks n (omega arith) (omega arith) in
     omega arith
 
+-- so at most one block has two-pass agreement with these rows and marks
 pub two_pass_once : (received : List (List ℕ)) (marks : List (List Bool)) (a b : List (List ℕ)) → length received ≡ 208 → length marks ≡ 208
     → IsTwoPass received marks a → IsTwoPass received marks b → a ≡ b
 two_pass_once received marks a b size marks_size is_a is_b =
@@ -85,6 +87,7 @@ pub from_columns-line : (columns : List (List ℕ)) (i : ℕ) → i < 208 → li
 unfolding from_columns
 from_columns-line columns i below = get_or-map-range_with_len (λ k. map (λ word. slice_index word k) columns) 0 208 i i [] below (omega arith)
 
+-- a block by its columns has 208 rows
 pub length-from_columns : (columns : List (List ℕ)) → length (from_columns columns) ≡ 208
 unfolding from_columns
 length-from_columns columns = length-map-range_with_len (λ k. map (λ word. slice_index word k) columns) 0 208

@@ -17,12 +17,15 @@ use Rattle.dvd_capture.specs.declared.form.Form.TheVariants.{Plain, Marked, List
 pub row_at-record_at : (i : ℕ) → i < 208 → row_at (record_at i) ≡ i
 row_at-record_at i below = grind (arith, nat_tests)
 
+-- a row of the block is recorded as one of the 208
 pub record_at-lt : (i : ℕ) → i < 208 → record_at i < 208
 record_at-lt i below = grind (arith, nat_tests)
 
+-- and each of the 208 recorded rows is a row of the block
 pub row_at-lt : (m : ℕ) → m < 208 → row_at m < 208
 row_at-lt m below = grind (arith, nat_tests)
 
+-- the row at recorded row m is recorded there
 pub record_at-row_at : (m : ℕ) → m < 208 → record_at (row_at m) ≡ m
 record_at-row_at m below = grind (arith, nat_tests)
 
@@ -37,6 +40,7 @@ pub part-append : (xs ys : List ℕ) (a n : ℕ) → a + n ≤ length xs → tak
 part-append xs ys a n inside =
     ap (take n) (drop-append-le a xs ys (omega arith)) ∙ take-append-le n (drop a xs) ys (omega (arith, length-drop a xs))
 
+-- what stands behind so many bytes is the second of two lists
 pub part-behind : (xs ys : List ℕ) (a n : ℕ) → length xs ≡ a → length ys ≡ n → take n (drop a (xs ++ ys)) ≡ ys
 part-behind xs ys a n size more = subst (λ k. take n (drop k (xs ++ ys)) ≡ ys) size (ap (take n) (drop-append_seam xs ys) ∙ take_all n ys (omega arith))
 

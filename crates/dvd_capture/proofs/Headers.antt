@@ -17,6 +17,7 @@ each_byte bytes size =
     (λ k below. let inside : k < 32 = subst (λ n. k < n) (length-map-range_with_len (slice_index bytes) 0 32) below in
     get_or-map-range_with_len (slice_index bytes) 0 32 k k 0 inside (omega arith))
 
+-- each of four bytes is below 256
 four_small : (a b c d i : ℕ) → a < 256 → b < 256 → c < 256 → d < 256 → get_or (a ∷ b ∷ c ∷ d ∷ []) i 0 < 256
 four_small a b c d zero sa sb sc sd = sa
 four_small a b c d (suc zero) sa sb sc sd = sb
@@ -24,20 +25,25 @@ four_small a b c d (suc (suc zero)) sa sb sc sd = sc
 four_small a b c d (suc (suc (suc zero))) sa sb sc sd = sd
 four_small a b c d (suc (suc (suc (suc i)))) sa sb sc sd = omega arith
 
+-- a number that was read from four bytes is written as these
 four_bytes : (a b c d n : ℕ) → a < 256 → b < 256 → c < 256 → d < 256 → n ≡ from_be_bytes w32 (a ∷ b ∷ c ∷ d ∷ []) → to_be_bytes w32 n ≡ a ∷ b ∷ c ∷ d ∷ []
 four_bytes a b c d n sa sb sc sd is = be_bytes_4 (a ∷ b ∷ c ∷ d ∷ []) n refl (λ i. four_small a b c d i sa sb sc sd) is
 
+-- where the test says that a byte is below a bound, it is
 below_by : (b n : ℕ) → nat_lt b n ≡ true → b < n
 below_by b n is = grind (arith, nat_tests)
 
+-- a byte that may stand at place 8 of a header names one of the three shapes
 pub shape-known : (b : ℕ) → may_stand 8 b ≡ true → b < 3
 unfolding may_stand
 shape-known b is = below_by b 3 is
 
+-- a byte that may stand at place 9 of a header names one of the two zones
 pub zones-known : (b : ℕ) → may_stand 9 b ≡ true → b < 2
 unfolding may_stand
 zones-known b is = below_by b 2 is
 
+-- where the test says that two numbers are equal, they are
 equal_by : (b n : ℕ) → (b == n) ≡ true → b ≡ n
 equal_by b n is = grind (arith, nat_tests)
 
@@ -49,9 +55,11 @@ module _ (b : ℕ → ℕ) (may : (k : ℕ) → k < 32 → may_stand k (b k) ≡
     (header : Header) (shape : header.shape ≡ b 8) (zones : header.zones ≡ b 9)
     (sectors0 : header.sectors0 ≡ from_be_bytes w32 (b 12 ∷ b 13 ∷ b 14 ∷ b 15 ∷ [])) (sectors1 : header.sectors1 ≡ from_be_bytes w32 (b 16 ∷ b 17 ∷ b 18 ∷ b 19 ∷ []))
     (initial : header.initial ≡ from_be_bytes w32 (b 20 ∷ b 21 ∷ b 22 ∷ b 23 ∷ [])) (tail : header.tail ≡ from_be_bytes w32 (b 24 ∷ b 25 ∷ b 26 ∷ b 27 ∷ [])) where
+  -- a byte of the header that passes the test for one value has this value
   fixed : (k n : ℕ) → (b k == n) ≡ true → b k ≡ n
   fixed k n is = equal_by (b k) n is
 
+  -- 32 bytes that may all stand at their places are those of the header that was read from them
   pub header-is : header_bytes header ≡ map b (range_with_len 0 32)
   unfolding header_bytes may_stand
   header-is =
@@ -85,6 +93,7 @@ module _ (b : ℕ → ℕ) (may : (k : ℕ) → k < 32 → may_stand k (b k) ≡
 number_same : (m n : ℕ) → m < 2 ^ 32 → n < 2 ^ 32 → to_be_bytes w32 m ≡ to_be_bytes w32 n → m ≡ n
 number_same m n small_m small_n same = sym (from_be_bytes-to_be_bytes_4 m small_m) ∙ ap (from_be_bytes w32) same ∙ from_be_bytes-to_be_bytes_4 n small_n
 
+-- headers with the same 32 bytes have the same shape, zones and numbers
 pub headers_differ : HeadersDiffer
 unfolding header_bytes
 headers_differ a b small_a small_b same = record {

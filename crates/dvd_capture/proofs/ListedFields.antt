@@ -28,24 +28,29 @@ early-unbroken bytes few offset (stands, inl (is, number)) = omega arith
 early-unbroken bytes few offset (stands, inr (i, below, inl (is, start))) = omega arith
 early-unbroken bytes few offset (stands, inr (i, below, inr (is, long))) = omega arith
 
+-- and the unit has more bytes, so it is cut
 pub early-cut : (bytes : List ℕ) → length bytes < 37_858 → IsCut bytes
 early-cut bytes few = record { fewer = omega arith; unbroken = early-unbroken bytes few }
 
 -- where only the number of runs stands, only it may break a rule
 module _ (bytes : List ℕ) (size : length bytes ≡ 37_858) where
+  -- with at most 18,928 runs no rule is broken
   pub number-unbroken : run_count bytes ≤ 18_928 → IsUnbroken bytes
   number-unbroken few offset (stands, inl (is, number)) = omega arith
   number-unbroken few offset (stands, inr (i, below, inl (is, start))) = omega arith
   number-unbroken few offset (stands, inr (i, below, inr (is, long))) = omega arith
 
+  -- a field that breaks a rule is the number of runs, or stands behind it
   number-first : (offset : ℕ) → HasBadField bytes offset → 37_856 ≤ offset
   number-first offset (stands, inl (is, number)) = omega arith
   number-first offset (stands, inr (i, below, inl (is, start))) = omega arith
   number-first offset (stands, inr (i, below, inr (is, long))) = omega arith
 
+  -- with more runs the first field that breaks a rule is their number
   pub number-broken : 18_928 < run_count bytes → IsBrokenAt bytes 37_856
   number-broken many = record { bad = (omega arith, inl (refl, many)); first = number-first }
 
+-- a place is marked by n + 1 runs if it is by the first n, or stands in run n
 pub marked_by-suc : (bytes : List ℕ) (n place : ℕ) → marked_by bytes (suc n) place ≡ (marked_by bytes n place || (nat_le (start_of bytes n) place && nat_lt place (end_of bytes n)))
 unfolding marked_by
 marked_by-suc bytes n place = refl
@@ -62,13 +67,16 @@ marked_by-append a b (suc n) place within =
 
 -- BEHIND n runs. What may break a rule in more bytes is the start of run n and its length.
 module _ (bytes own : List ℕ) (count n end : ℕ) (mark : ℕ → Bool) (has : HasRuns bytes count n end mark) where
+  -- their number of runs stays when more bytes come
   pub same-count : run_count (bytes ++ own) ≡ count
   same-count = field_at-append bytes own 37_856 (let s = has.size in omega arith) ∙ has.number
 
+  -- the start and the length of each run before n stay as well
   earlier : (i : ℕ) → i < n → (start_of (bytes ++ own) i ≡ start_of bytes i) × (length_of (bytes ++ own) i ≡ length_of bytes i)
   earlier i below = let s = has.size in
       (field_at-append bytes own (37_858 + 4 * i) (omega arith), field_at-append bytes own (37_860 + 4 * i) (omega arith))
 
+  -- so the last of the n runs ends where it did
   pub end-same : 0 < n → end_of (bytes ++ own) (n - 1) ≡ end
   end-same some = let before = earlier (n - 1) (omega arith) in let last = has.last some in omega (arith, before.0, before.1, last)
 
@@ -81,6 +89,7 @@ module _ (bytes own : List ℕ) (count n end : ℕ) (mark : ℕ → Bool) (has :
       let s = has.size in let same = earlier i below in let before = earlier (i - 1) (omega arith) in
       has.unbroken (37_858 + 4 * i) (omega arith, inr (i, omega (arith, inside, has.number), inl (refl, inr (touching.0, omega (arith, touching.1, same.0, before.0, before.1)))))
 
+  -- nor does its length break a rule
   length-fine : (i : ℕ) → i < n → i < count → BreaksLength (bytes ++ own) i → ⊥
   length-fine i below inside (inl none) =
       let s = has.size in let same = earlier i below in
@@ -95,9 +104,11 @@ module _ (bytes own : List ℕ) (count n end : ℕ) (mark : ℕ → Bool) (has :
       ((offset ≡ 37_858 + 4 * n) × (2 ≤ length own) × BreaksStart (bytes ++ own) n)
       ⊎ ((offset ≡ 37_860 + 4 * n) × (4 ≤ length own) × BreaksLength (bytes ++ own) n)
 
+  -- the unit's bytes so far: the rows, the number of runs, four bytes for each of n runs, and those that came
   grown : length (bytes ++ own) ≡ 37_858 + 4 * n + length own
   grown = let s = has.size in omega (arith, length-append bytes own, s)
 
+  -- where the start of any run breaks a rule, it is run n, as the earlier ones break none
   by_start : (i offset : ℕ) → length own ≤ 4 → offset + 2 ≤ length (bytes ++ own) → i < count → offset ≡ 37_858 + 4 * i → BreaksStart (bytes ++ own) i
       → (((nat_le (suc i) n ≡ true) × (suc i ≤ n)) ⊎ ((nat_le (suc i) n ≡ false) × (n < suc i))) → IsNext offset
   by_start i offset few stands inside is breaks (inl below) = absurd (start-fine i (omega (arith, below.1)) inside breaks)
@@ -105,6 +116,7 @@ module _ (bytes own : List ℕ) (count n end : ℕ) (mark : ℕ → Bool) (has :
       let g = grown in let same : i ≡ n = omega (arith, above.1) in
       inl (omega arith, omega arith, subst (λ j. BreaksStart (bytes ++ own) j) same breaks)
 
+  -- and so where the length of any run breaks a rule
   by_length : (i offset : ℕ) → length own ≤ 4 → offset + 2 ≤ length (bytes ++ own) → i < count → offset ≡ 37_860 + 4 * i → BreaksLength (bytes ++ own) i
       → (((nat_le (suc i) n ≡ true) × (suc i ≤ n)) ⊎ ((nat_le (suc i) n ≡ false) × (n < suc i))) → IsNext offset
   by_length i offset few stands inside is breaks (inl below) = absurd (length-fine i (omega (arith, below.1)) inside breaks)
@@ -112,6 +124,7 @@ module _ (bytes own : List ℕ) (count n end : ℕ) (mark : ℕ → Bool) (has :
       let g = grown in let same : i ≡ n = omega (arith, above.1) in
       inr (omega arith, omega arith, subst (λ j. BreaksLength (bytes ++ own) j) same breaks)
 
+  -- at most four bytes behind n runs, a field that breaks a rule is the start of run n or its length
   pub next-bad : length own ≤ 4 → (offset : ℕ) → HasBadField (bytes ++ own) offset → IsNext offset
   next-bad few offset (stands, inl (is, number)) =
       let s = has.size in let same = same-count in
@@ -125,6 +138,7 @@ module _ (bytes own : List ℕ) (count n end : ℕ) (mark : ℕ → Bool) (has :
   start-is : start_of (bytes ++ own) n ≡ field_at own 0
   start-is = field_at-behind bytes own (37_858 + 4 * n) 0 (let s = has.size in omega arith)
 
+  -- its length is the second field behind the n runs
   length-is : length_of (bytes ++ own) n ≡ field_at own 2
   length-is = field_at-behind bytes own (37_860 + 4 * n) 2 (let s = has.size in omega arith)
 
@@ -132,14 +146,17 @@ module _ (bytes own : List ℕ) (count n end : ℕ) (mark : ℕ → Bool) (has :
   abbrev pub IsFine : ℕ → Type 0
   IsFine start = (start < 37_856) × (0 < n → end < start)
 
+  -- such a start breaks no rule
   start-lawful : IsFine (field_at own 0) → BreaksStart (bytes ++ own) n → ⊥
   start-lawful fine (inl high) = let is = start-is in let f = fine.0 in omega (arith, is, f, high)
   start-lawful fine (inr (some, touching)) = let is = start-is in let f = fine.1 some in let e = end-same some in omega (arith, is, f, e, touching)
 
   module _ (below : n < count) where
+    -- a unit with a run n has more bytes, while fewer than four came behind the runs before
     more-to-come : length own < 4 → length (bytes ++ own) < listed_size (bytes ++ own)
     more-to-come few = let g = grown in let c = same-count in omega (arith, g, c)
 
+    -- before the start of run n is whole, no field of it breaks a rule
     no-start : length own < 2 → (offset : ℕ) → IsNext offset → ⊥
     no-start few offset (inl (is, stands, breaks)) = omega arith
     no-start few offset (inr (is, stands, breaks)) = omega arith
@@ -151,6 +168,7 @@ module _ (bytes own : List ℕ) (count n end : ℕ) (mark : ℕ → Bool) (has :
       unbroken = λ offset bad. no-start few offset (next-bad (omega arith) offset bad);
     }
 
+    -- before the length of run n is whole, and with a start that breaks no rule, no field of it breaks one
     no-length : length own < 4 → IsFine (field_at own 0) → (offset : ℕ) → IsNext offset → ⊥
     no-length few fine offset (inl (is, stands, breaks)) = start-lawful fine breaks
     no-length few fine offset (inr (is, stands, breaks)) = omega arith
@@ -162,10 +180,12 @@ module _ (bytes own : List ℕ) (count n end : ℕ) (mark : ℕ → Bool) (has :
       unbroken = λ offset bad. no-length few fine offset (next-bad (omega arith) offset bad);
     }
 
+    -- a start behind the block's last place, or not above the end of the run before, breaks a rule
     breaks-start : (37_856 ≤ field_at own 0) ⊎ ((0 < n) × (field_at own 0 ≤ end)) → BreaksStart (bytes ++ own) n
     breaks-start (inl high) = let is = start-is in inl (omega (arith, is, high))
     breaks-start (inr (some, touching)) = let is = start-is in let e = end-same some in inr (some, omega (arith, is, e, touching))
 
+    -- no field before the start of run n breaks a rule
     first-next : (offset : ℕ) → IsNext offset → 37_858 + 4 * n ≤ offset
     first-next offset (inl (is, stands, breaks)) = omega arith
     first-next offset (inr (is, stands, breaks)) = omega arith
@@ -177,10 +197,12 @@ module _ (bytes own : List ℕ) (count n end : ℕ) (mark : ℕ → Bool) (has :
       first = λ offset bad. first-next offset (next-bad (omega arith) offset bad);
     }
 
+    -- a length of no place, or beyond the block's last place, breaks a rule
     breaks-length : (field_at own 2 ≡ 0) ⊎ (37_856 < field_at own 0 + field_at own 2) → BreaksLength (bytes ++ own) n
     breaks-length (inl none) = let is = length-is in inl (omega (arith, is, none))
     breaks-length (inr past) = let is = length-is in let s = start-is in inr (omega (arith, is, s, past))
 
+    -- where the start of run n breaks no rule, no field before its length does
     second-next : IsFine (field_at own 0) → (offset : ℕ) → IsNext offset → 37_860 + 4 * n ≤ offset
     second-next fine offset (inl (is, stands, breaks)) = absurd (start-lawful fine breaks)
     second-next fine offset (inr (is, stands, breaks)) = omega arith
@@ -193,10 +215,12 @@ module _ (bytes own : List ℕ) (count n end : ℕ) (mark : ℕ → Bool) (has :
       first = λ offset bad. second-next fine offset (next-bad (omega arith) offset bad);
     }
 
+    -- a length of some places, all of them in the block, breaks no rule
     length-lawful : 0 < field_at own 2 → field_at own 0 + field_at own 2 ≤ 37_856 → BreaksLength (bytes ++ own) n → ⊥
     length-lawful some within (inl none) = let is = length-is in omega (arith, is, none, some)
     length-lawful some within (inr past) = let is = length-is in let s = start-is in omega (arith, is, s, past, within)
 
+    -- where neither the start of run n nor its length breaks a rule, no field of the bytes does
     no-next : IsFine (field_at own 0) → 0 < field_at own 2 → field_at own 0 + field_at own 2 ≤ 37_856 → (offset : ℕ) → IsNext offset → ⊥
     no-next fine some within offset (inl (is, stands, breaks)) = start-lawful fine breaks
     no-next fine some within offset (inr (is, stands, breaks)) = length-lawful some within breaks

@@ -14,6 +14,7 @@ use Rattle.dvd_capture.proofs.ListedFields.{IsFine, broken-length, broken-start,
 pub first-field : (start long : List ℕ) → length start ≡ 2 → field_at (start ++ long) 0 ≡ field_at start 0
 first-field start long size = field_at-append start long 0 (omega arith)
 
+-- the second is the field at offset 2
 pub second-field : (start long : List ℕ) → length start ≡ 2 → field_at (start ++ long) 2 ≡ field_at long 0
 second-field start long size = field_at-behind start long 2 0 (omega arith)
 
@@ -58,9 +59,11 @@ module _ (bytes : List ℕ) (count n end : ℕ) (mark : ℕ → Bool) (has : Has
     }
 
     module _ (fine : IsFine bytes start count n end mark has (field_at start 0)) (new : Option (List ℕ)) where
+      -- the start of run n breaks no rule with its length behind it either
       fine-in : (long : List ℕ) → IsFine bytes (start ++ long) count n end mark has (field_at (start ++ long) 0)
       fine-in long = let same = first-field start long size in (omega (arith, fine.0, same), λ some. let above = fine.1 some in omega (arith, above, same))
 
+      -- until its length is whole, fewer than four bytes of run n came
       few : (long : List ℕ) → length long < 2 → length (start ++ long) < 4
       few long fewer = omega (arith, fewer, size, length-append start long)
 
@@ -96,6 +99,7 @@ module _ (bytes : List ℕ) (count n end : ℕ) (mark : ℕ → Bool) (has : Has
         in_both (inl none) = inl (second-field start long size ∙ none)
         in_both (inr past) = let first = first-field start long size in let second = second-field start long size in inr (omega (arith, past, first, second))
 
+      -- run n ends behind its start as many places as its length says
       ends : (long : List ℕ) → field_at (start ++ long) 0 ≡ field_at start 0 → field_at (start ++ long) 2 ≡ field_at long 0
           → field_at (start ++ long) 0 + field_at (start ++ long) 2 ≡ field_at start 0 + field_at long 0
       ends long first second = omega (arith, first, second)
@@ -140,9 +144,11 @@ module _ (rows : List ℕ) (mark : ℕ → Bool) (are : AreRows rows mark) (old 
   }
 
   module _ (new : Option (List ℕ)) (number : ℕ) (field : TakesField old new number) where
+    -- the rows and the number of runs are 37,858 bytes
     size : length (rows ++ field.own) ≡ 37_858
     size = omega (arith, field.size, are.0, length-append rows field.own)
 
+    -- and the number that was taken is the unit's number of runs
     number-is : run_count (rows ++ field.own) ≡ number
     number-is = field_at-behind rows field.own 37_856 0 (let r = are.0 in omega arith) ∙ field.is
 
@@ -154,6 +160,7 @@ module _ (rows : List ℕ) (mark : ℕ → Bool) (are : AreRows rows mark) (old 
       stops = number-broken (rows ++ field.own) size (let is = number-is in omega (arith, is, many));
     }
 
+    -- there are at most 18,928: the unit goes on with none of its runs taken yet
     pub number-taken : number ≤ 18_928 → TakesRuns rows number 0 0 mark old new
     unfolding marked_by
     number-taken few = record {
@@ -178,6 +185,7 @@ runs-behind bytes old mid new count n end next_end m mark mark_now t more = reco
   runs = subst (λ l. HasRuns l count m next_end mark_now) (append_assoc bytes t.own more.own) more.runs;
 }
 
+-- a unit that isn't fetched behind more of its bytes isn't fetched behind these either
 pub stopped-behind : (bytes own : List ℕ) (old mid new : Option (List ℕ)) (answer : FetchAnswer) → Consumes old mid own → IsStopped (bytes ++ own) mid new answer → IsStopped bytes old new answer
 stopped-behind bytes own old mid new answer takes more = record {
   own = own ++ more.own;
@@ -185,6 +193,7 @@ stopped-behind bytes own old mid new answer takes more = record {
   stops = subst (λ l. IsStop l new answer) (append_assoc bytes own more.own) more.stops;
 }
 
+-- and so where an answer is the error that says why
 pub stopped_result : {A : Type 0} (bytes own : List ℕ) (old mid new : Option (List ℕ)) (error : FetchAnswer) (answer : Result A FetchAnswer) → IsErrAnd answer (λ e. e ≡ error)
     → Consumes old mid own → IsStopped (bytes ++ own) mid new error → IfErr answer (IsStopped bytes old new)
 stopped_result bytes own old mid new error answer is takes more = if_err answer error (IsStopped bytes old new) is (stopped-behind bytes own old mid new error takes more)

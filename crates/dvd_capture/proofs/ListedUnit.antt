@@ -81,6 +81,7 @@ rows-unmarked old new rows marks c = (
 -- THE WHOLE UNIT, whose rows were captured before.
 module _ (old mid new : Option (List ℕ)) (rows : List (List ℕ)) (marks marks_now : List (List Bool)) (c : Captures Plain old mid rows marks)
     (height : length marks_now ≡ 208) (width : (i : ℕ) → i < 208 → length (marks_line marks_now i) ≡ 182) where
+  -- all runs taken behind the rows: the listed unit is captured, with the rows and with the marks of its runs
   unit-captured : TakesAll c.bytes (mark_of marks_now) mid new → Captures Listed old new rows marks_now
   unit-captured all = let runs = all.takes.runs in record {
     bytes = c.bytes ++ all.takes.own;
@@ -91,12 +92,15 @@ module _ (old mid new : Option (List ℕ)) (rows : List (List ℕ)) (marks marks
     marks_are = marks-listed marks_now (c.bytes ++ all.takes.own) all.count height width runs.number runs.marks;
   }
 
+  -- the answer that the unit is full: it is captured
   pub unit-full : (answer : FetchAnswer) → IsFetched c.bytes (mark_of marks_now) mid new answer → answer ≡ Full → Captures Listed old new rows marks_now
   unit-full answer fetched is = unit-captured (subst (IsFetched c.bytes (mark_of marks_now) mid new) is fetched)
 
+  -- no answer behind the rows says that the source ended before the unit
   pub unit-end : (answer : FetchAnswer) → IsFetched c.bytes (mark_of marks_now) mid new answer → answer ≡ End → ⊥
   unit-end answer fetched is = subst (IsFetched c.bytes (mark_of marks_now) mid new) is fetched
 
+  -- the answer that the unit is short: the source ended after so many of its bytes, one at least
   pub unit-short : (answer : FetchAnswer) (count : ℕ) → IsFetched c.bytes (mark_of marks_now) mid new answer → answer ≡ Short count → (0 < count) × EndsAfter Listed old new count
   unit-short answer count fetched is =
       let stop : IsStopped c.bytes mid new (Short count) = subst (IsFetched c.bytes (mark_of marks_now) mid new) is fetched in
@@ -112,6 +116,7 @@ module _ (old mid new : Option (List ℕ)) (rows : List (List ℕ)) (marks marks
         },
       )
 
+  -- the answer that a read failed: it failed within the unit
   pub unit-fault : (answer : FetchAnswer) → IsFetched c.bytes (mark_of marks_now) mid new answer → answer ≡ ReadFault → FailsWithin Listed old new
   unit-fault answer fetched is =
       let stop : IsStopped c.bytes mid new ReadFault = subst (IsFetched c.bytes (mark_of marks_now) mid new) is fetched in record {
@@ -120,6 +125,7 @@ module _ (old mid new : Option (List ℕ)) (rows : List (List ℕ)) (marks marks
         fewer = stop.stops.fewer;
       }
 
+  -- the answer that the marks are bad: the first field of the unit that breaks a rule stands there
   pub unit-broken : (answer : FetchAnswer) (at : ℕ) → IsFetched c.bytes (mark_of marks_now) mid new answer → answer ≡ BadMarks at → BreaksAt Listed old new at
   unit-broken answer at fetched is =
       let stop : IsStopped c.bytes mid new (BadMarks at) = subst (IsFetched c.bytes (mark_of marks_now) mid new) is fetched in record {
@@ -140,5 +146,6 @@ rows-ended old new count e = record {
   at_end = e.at_end;
 }
 
+-- a read that failed within the rows failed within the listed unit
 pub rows-failed : (old new : Option (List ℕ)) → FailsWithin Plain old new → FailsWithin Listed old new
 rows-failed old new f = record { bytes = f.bytes; taken = f.taken; fewer = omega (arith, f.fewer) }

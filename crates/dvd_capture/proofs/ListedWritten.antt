@@ -37,11 +37,13 @@ small-append a b first second k = elim (cases_lt k (length a)) [
       subst (λ n. n < 256) (sym same) (second (k - length a))
 ]
 
+-- the two bytes of a field are below 256
 pub small-field : (n k : ℕ) → slice_index (to_be_bytes w16 n) k < 256
 small-field n zero = omega arith
 small-field n (suc zero) = omega arith
 small-field n (suc (suc k)) = omega arith
 
+-- and so are the four bytes of a run
 small-run : (start length : ℕ) (k : ℕ) → slice_index (to_be_bytes w16 start ++ to_be_bytes w16 length) k < 256
 small-run start length k = small-append (to_be_bytes w16 start) (to_be_bytes w16 length) (small-field start) (small-field length) k
 
@@ -66,6 +68,7 @@ pub record IsNextRun (mark : ℕ → Bool) (end start next : ℕ) : Type 0 where
   pub marked : AreMarked mark true start next
   pub ends : next < 37_856 → mark next ≡ false
 
+-- no test is both true and false
 true_not_false : {A : Type 0} (b : Bool) → b ≡ true → b ≡ false → A
 true_not_false true is not_is = absurd (cc)
 true_not_false false is not_is = absurd (cc)
@@ -93,11 +96,13 @@ between mark place end start next behind order unmarked marked = by_end (leb_tel
 -- ONE RUN MORE is written.
 module _ (bytes : List ℕ) (mark : ℕ → Bool) (n end start next : ℕ) (begun : IsBegun bytes mark n end) (run : IsNextRun mark end start next)
     (more : n < starts_below mark 37_856) where
+  -- below the start of the next run, n runs start
   same_starts : starts_below mark start ≡ n
   same_starts =
       let k : end + (start - end) ≡ start = let b = run.behind in omega arith in
       ap (starts_below mark) (sym k) ∙ starts-unmarked mark end (start - end) (subst (AreMarked mark false end) (sym k) run.unmarked) ∙ begun.counted
 
+  -- the next run starts at a place of the block, as more than n runs start in it
   pub start-inside : start < 37_856
   start-inside = by_start (leb_tells 37_856 start) where
     by_start : (((nat_le 37_856 start ≡ true) × (37_856 ≤ start)) ⊎ ((nat_le 37_856 start ≡ false) × (start < 37_856))) → start < 37_856
@@ -106,13 +111,16 @@ module _ (bytes : List ℕ) (mark : ℕ → Bool) (n end start next : ℕ) (begu
         let last = ap (starts_below mark) all in absurd (omega (arith, same, last, more))
     by_start (inr is) = is.1
 
+  -- a place is marked where the next run starts and unmarked where the last one ends, so they differ
   begun_apart : (((end == start) ≡ true) × (end ≡ start)) ⊎ (((end == start) ≡ false) × (end ≢ start)) → 0 < end → end < start
   begun_apart (inl is) some = true_not_false (mark end) (ap mark is.1 ∙ run.starts start-inside) (begun.clear some (let s = start-inside in omega (arith, is.1, s)))
   begun_apart (inr is) some = let b = run.behind in let apart = is.1 in omega arith
 
+  -- the next run starts above the end of the last one
   pub run-apart : 0 < end → end < start
   run-apart some = begun_apart (eqb_tells end start) some
 
+  -- the last of the runs written, if there is any, ends above place 0
   some_end : 0 < n → 0 < end
   some_end some = by_end (leb_tells 1 end) where
     by_end : (((nat_le 1 end ≡ true) × (1 ≤ end)) ⊎ ((nat_le 1 end ≡ false) × (end < 1))) → 0 < end
@@ -121,6 +129,7 @@ module _ (bytes : List ℕ) (mark : ℕ → Bool) (n end start next : ℕ) (begu
         let none : end ≡ 0 = omega (arith, is.1) in
         let counted = begun.counted in let first = ap (starts_below mark) none in let zero_starts = starts-none mark in absurd (omega (arith, counted, first, zero_starts, some))
 
+  -- the next run has a place
   pub some-length : start < next
   some-length = by_next (leb_tells (suc start) next) where
     by_next : (((nat_le (suc start) next ≡ true) × (suc start ≤ next)) ⊎ ((nat_le (suc start) next ≡ false) × (next < suc start))) → start < next
@@ -129,6 +138,7 @@ module _ (bytes : List ℕ) (mark : ℕ → Bool) (n end start next : ℕ) (begu
         let o = run.order in let same : next ≡ start = omega (arith, is.1, o) in
         true_not_false (mark start) (run.starts start-inside) (ap mark (sym same) ∙ run.ends (let s = start-inside in omega (arith, same, s)))
 
+  -- a run starts at its first place
   starts_here : start_at mark start ≡ 1
   starts_here = start-first mark start (run.starts start-inside) (by_start (leb_tells (suc end) start)) where
     by_start : (((nat_le (suc end) start ≡ true) × (suc end ≤ start)) ⊎ ((nat_le (suc end) start ≡ false) × (start < suc end))) → (start ≡ 0) ⊎ (mark (start - 1) ≡ false)
@@ -138,6 +148,7 @@ module _ (bytes : List ℕ) (mark : ℕ → Bool) (n end start next : ℕ) (begu
       at_end (inl some) = let apart = run-apart (omega (arith, some.1)) in absurd (omega (arith, is.1, apart))
       at_end (inr none) = omega (arith, is.1, none.1)
 
+  -- below its end, n + 1 runs start
   pub counted-next : starts_below mark next ≡ n + 1
   counted-next =
       let s = some-length in
@@ -145,15 +156,19 @@ module _ (bytes : List ℕ) (mark : ℕ → Bool) (n end start next : ℕ) (begu
       let first = starts-next mark start in let one = starts_here in let same = same_starts in
       ap (starts_below mark) (sym k) ∙ starts-marked mark start (next - start - 1) (subst (AreMarked mark true start) (sym k) run.marked) ∙ omega (arith, first, one, same)
 
+  -- the four bytes of the next run: its start, and its length
   abbrev pub run_bytes : List ℕ
   run_bytes = to_be_bytes w16 start ++ to_be_bytes w16 (next - start)
 
+  -- the first field of these is its start
   start_field : field_at run_bytes 0 ≡ start
   start_field = first-field (to_be_bytes w16 start) (to_be_bytes w16 (next - start)) refl ∙ field-written start (let s = start-inside in omega (arith, s))
 
+  -- and the second its length
   length_field : field_at run_bytes 2 ≡ next - start
   length_field = second-field (to_be_bytes w16 start) (to_be_bytes w16 (next - start)) refl ∙ field-written (next - start) (let w = run.within in omega (arith, w))
 
+  -- with these behind the others, the first n + 1 runs are written
   pub run-written : IsBegun (bytes ++ run_bytes) mark (n + 1) next
   run-written =
       let sf = start_field in let lf = length_field in let inside = start-inside in let some = some-length in let w = run.within in
@@ -225,17 +240,20 @@ pub record IsFound (mark : ℕ → Bool) (value : Bool) (from k at : ℕ) : Type
   pub passed : AreMarked mark (not value) from at
   pub found : at < from + k → mark at ≡ value
 
+-- a mark is the one sought, or the other one
 other_mark : (value here : Bool) → (here ≡ value) ⊎ (here ≡ not value)
 other_mark true true = inl refl
 other_mark true false = inr refl
 other_mark false true = inr refl
 other_mark false false = inl refl
 
+-- no place from this one to below `at` has the mark sought, where neither it has nor those behind it
 one_passed : (mark : ℕ → Bool) (value : Bool) (from at place : ℕ) → mark from ≡ not value → AreMarked mark (not value) (suc from) at
     → from ≤ place → place < at → (((nat_le (suc from) place ≡ true) × (suc from ≤ place)) ⊎ ((nat_le (suc from) place ≡ false) × (place < suc from))) → mark place ≡ not value
 one_passed mark value from at place here rest least inside (inl is) = rest place is.1 inside
 one_passed mark value from at place here rest least inside (inr is) = let same : place ≡ from = omega (arith, is.1, least) in ap mark same ∙ here
 
+-- the search is over at this place, if it has the mark sought, or goes on behind it
 further : (mark : ℕ → Bool) (value : Bool) (from k at : ℕ) → (mark from ≡ value) ⊎ (mark from ≡ not value) → IsFound mark value (suc from) k at
     → (place : ℕ) × IsFound mark value from (suc k) place
 further mark value from k at (inl is) rest = (
@@ -257,6 +275,7 @@ further mark value from k at (inr is) rest = (
   },
 )
 
+-- the first of k places from one on that has this mark, or the place behind them all
 find_place : (mark : ℕ → Bool) (value : Bool) (from k : ℕ) → (place : ℕ) × IsFound mark value from k place
 find_place mark value from zero = (
   from,
@@ -270,6 +289,7 @@ find_place mark value from zero = (
 find_place mark value from (suc k) =
     let (at, rest) = find_place mark value (suc from) k in further mark value from k at (other_mark value (mark from)) rest
 
+-- the bytes that are left to be written, with which all runs of the unit stand
 pub record HasRest (bytes : List ℕ) (mark : ℕ → Bool) : Type 0 where
   pub rest : List ℕ
   pub small : (k : ℕ) → slice_index rest k < 256
@@ -277,6 +297,7 @@ pub record HasRest (bytes : List ℕ) (mark : ℕ → Bool) : Type 0 where
   pub end : ℕ
   pub runs : HasRuns (bytes ++ rest) count count end mark
 
+-- the next run starts at the first marked place from the last end on, and ends at the first unmarked one behind it
 next_run : (mark : ℕ → Bool) (end : ℕ) → end ≤ 37_856 → (start : ℕ) × (next : ℕ) × IsNextRun mark end start next
 next_run mark end within =
     let (start, found) = find_place mark true end (37_856 - end) in
@@ -297,6 +318,7 @@ next_run mark end within =
       },
     )
 
+-- there are bytes for the d runs that are left
 pub rest-exists : (d : ℕ) (bytes : List ℕ) (mark : ℕ → Bool) (n end : ℕ) → IsBegun bytes mark n end → n + d ≡ starts_below mark 37_856 → HasRest bytes mark
 rest-exists zero bytes mark n end begun all = record {
   rest = [];
@@ -347,6 +369,7 @@ module _ (rows : List ℕ) (mark : ℕ → Bool) (size : length rows ≡ 37_856)
     begun = subst (λ n. IsBegun (rows ++ to_be_bytes w16 n) mark 0 0) (sym is) (none-written rows mark size);
   }
 
+  -- or a front of the number, so that some of the unit was written
   pub number-begun : (number : ℕ) → number ≡ starts_below mark 37_856 → AppendsPrefix old new (to_be_bytes w16 number) → AppendsSome rows mark old new
   number-begun number is part =
       let after = rest-exists (starts_below mark 37_856) (rows ++ to_be_bytes w16 (starts_below mark 37_856)) mark 0 0 (none-written rows mark size) (omega arith) in record {
@@ -363,9 +386,11 @@ module _ (rows : List ℕ) (mark : ℕ → Bool) (size : length rows ≡ 37_856)
   runs-written n end all w = record { own = w.own; bytes = w.bytes; grows = w.grows; count = n; end = end; runs = all-written (rows ++ w.own) mark n end w.begun all }
 
   module _ (mid : Option (List ℕ)) (n end start next : ℕ) (w : AreWritten rows mark n end old mid) (run : IsNextRun mark end start next) (more : n < starts_below mark 37_856) where
+    -- the four bytes that are written for the next run
     run_own : List ℕ
     run_own = to_be_bytes w16 start ++ to_be_bytes w16 (next - start)
 
+    -- with these behind those written before, the first n + 1 runs are written
     begun_next : IsBegun (rows ++ (w.own ++ run_own)) mark (n + 1) next
     unfolding run_own
     begun_next = subst (λ l. IsBegun l mark (n + 1) next) (append_assoc rows w.own run_own) (run-written (rows ++ w.own) mark n end start next w.begun run more)
@@ -391,13 +416,16 @@ module _ (rows : List ℕ) (mark : ℕ → Bool) (size : length rows ≡ 37_856)
 
 -- THE BYTES OF THE ROWS, and the whole unit.
 module _ (rows : List (List ℕ)) (height : length rows ≡ 208) (widths : (i : ℕ) → i < 208 → length (line rows i) ≡ 182) where
+  -- each of the rows has 182 bytes
   wide : All (λ row. length row ≡ 182) rows
   wide = All-from_get_or (λ row. length row ≡ 182) rows [] (λ i within. widths i (omega (arith, within, height)))
 
+  -- recorded they are 37,856 bytes
   pub recording_size : length (recording rows) ≡ 37_856
   recording_size = length-recorded rows height wide 208 (omega arith) ∙ refl
 
   module _ (marks : List (List Bool)) (marks_height : length marks ≡ 208) (marks_widths : (i : ℕ) → i < 208 → length (marks_line marks i) ≡ 182) where
+    -- the recording of the rows, and behind it all runs of the marks, is the unit of both
     pub unit-of : (own : List ℕ) → ((k : ℕ) → slice_index own k < 256) → (count end : ℕ) → HasRuns (recording rows ++ own) count count end (mark_of marks)
         → IsUnitOf rows marks (recording rows ++ own)
     unit-of own small count end runs = record {

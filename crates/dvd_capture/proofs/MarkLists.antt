@@ -8,6 +8,7 @@ use Rattle.dvd_block.specs.Product.{line}
 use Rattle.dvd_capture.specs.Answers.{marks_line}
 use Rattle.dvd_capture.specs.MarkBits.{mark_at, marks_of}
 
+-- a row of marks has 182, one for each byte of a row
 pub length-marks_of : (bytes : List ℕ) → length (marks_of bytes) ≡ 182
 unfolding marks_of
 length-marks_of bytes = length-map-range_with_len (mark_at bytes) 0 182
@@ -22,6 +23,7 @@ pub zero_marks : marks_of (replicate 23 0) ≡ replicate 182 false
 unfolding marks_of
 zero_marks = refl
 
+-- and rows of no bits are rows without a mark
 pub no_marks : map marks_of (replicate 208 (replicate 23 0)) ≡ replicate 208 (replicate 182 false)
 no_marks = rw zero_marks refl
 

@@ -17,15 +17,19 @@ marks-width marks i below =
 
 module _ (marks : List (List Bool)) (place : ℕ) (value : Bool) (height : length marks ≡ 208)
     (width : length (marks_line marks (row_at (place / 182))) ≡ 182) (below : place < 37_856) where
+  -- the row of the block that has the place
   abbrev pub row : ℕ
   row = row_at (place / 182)
 
+  -- its marks, once the place has the value
   abbrev pub line_now : List Bool
   line_now = set (marks_line marks row) (place % 182) value
 
+  -- the row is one of the block's
   row_below : row < length marks
   row_below = let r : row_at (place / 182) < 208 = row_at-lt (place / 182) (omega arith) in subst (λ n. row < n) (sym height) r
 
+  -- the place has the value now
   pub mark-set_same : mark_of (set marks row line_now) place ≡ value
   mark-set_same =
       ap (λ (l : List Bool). get_or l (place % 182) false) (get_or-set_same marks row line_now [] row_below)
@@ -37,6 +41,7 @@ module _ (marks : List (List Bool)) (place : ℕ) (value : Bool) (height : lengt
       let elsewhere : other % 182 ≢ place % 182 = λ equal. apart (omega (arith, same, equal)) in
       get_or-set_other (marks_line marks row) (place % 182) (other % 182) value false elsewhere
 
+  -- another place has the mark that it had, be it in the same row or not
   by_row : (other : ℕ) → other < 37_856 → other ≢ place
       → ((((row_at (other / 182) == row) ≡ true) × (row_at (other / 182) ≡ row)) ⊎ (((row_at (other / 182) == row) ≡ false) × (row_at (other / 182) ≢ row)))
       → mark_of (set marks row line_now) other ≡ mark_of marks other
@@ -49,6 +54,7 @@ module _ (marks : List (List Bool)) (place : ℕ) (value : Bool) (height : lengt
   by_row other other_below apart (inr is) =
       ap (λ (l : List Bool). get_or l (other % 182) false) (get_or-set_other marks row (row_at (other / 182)) line_now [] is.1)
 
+  -- so all other places of the block have the marks that they had
   pub mark-set_other : (other : ℕ) → other < 37_856 → other ≢ place → mark_of (set marks row line_now) other ≡ mark_of marks other
   mark-set_other other other_below apart = by_row other other_below apart (eqb_tells (row_at (other / 182)) row)
 

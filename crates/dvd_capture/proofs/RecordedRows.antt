@@ -10,14 +10,17 @@ use Rattle.dvd_capture.specs.declared.form.Form.TheVariants.{Plain}
 use Rattle.dvd_capture.proofs.Fetching.{part-append, part-behind, record_at-lt, row_at-lt, row_at-record_at}
 
 module _ (block : List (List ℕ)) (height : length block ≡ 208) (widths : All (λ row. length row ≡ 182) block) where
+  -- each of the 208 rows has 182 bytes
   width : (i : ℕ) → i < 208 → length (line block i) ≡ 182
   width i below = widths i [] (omega (arith, height))
 
+  -- n + 1 recorded rows are n of them and the row that stands at recorded row n
   one_more : (n : ℕ) → recorded 0 (n + 1) block ≡ recorded 0 n block ++ line block (row_at n)
   one_more n =
       let same : 0 + n ≡ n = omega arith in
       recorded-more 0 n block ∙ ap (λ k. recorded 0 n block ++ line block (row_at k)) same
 
+  -- n recorded rows have 182 n bytes
   pub length-recorded : (n : ℕ) → n ≤ 208 → length (recorded 0 n block) ≡ 182 * n
   length-recorded zero within = ap length (recorded-none 0 block)
   length-recorded (suc n) within =
@@ -32,6 +35,7 @@ module _ (block : List (List ℕ)) (height : length block ≡ 208) (widths : All
       ap (λ k. recorded 0 k block) (sym all) ∙ recorded-add 0 (m + 1) (207 - m) block
       ∙ ap (λ front. front ++ recorded (0 + (m + 1)) (207 - m) block) (one_more m)
 
+  -- recorded row m of the plain form is the row of the block that stands there
   record_is : (m : ℕ) → m < 208 → record_of Plain (recorded 0 208 block) m ≡ line block (row_at m)
   record_is m below =
       let row : List ℕ = line block (row_at m) in
@@ -41,6 +45,7 @@ module _ (block : List (List ℕ)) (height : length block ≡ 208) (widths : All
       ∙ part-append (recorded 0 m block ++ row) (recorded (0 + (m + 1)) (207 - m) block) (182 * m) 182 (omega (arith, length-append (recorded 0 m block) row, before, row_width))
       ∙ part-behind (recorded 0 m block) row (182 * m) 182 before row_width
 
+  -- so the rows captured from a block's recording are the block
   pub recording_captured : captured_rows Plain (recording block) ≡ block
   unfolding captured_rows
   recording_captured =

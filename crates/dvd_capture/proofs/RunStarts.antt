@@ -7,14 +7,17 @@ use Rattle.dvd_capture.specs.Inner.Listing.{AreMarked, starts_below}
 abbrev pub start_at : (ℕ → Bool) → ℕ → ℕ
 start_at mark n = if mark n && ((n == 0) || not (mark (n - 1))) then 1 else 0
 
+-- below place 0 no run starts
 pub starts-none : (mark : ℕ → Bool) → starts_below mark 0 ≡ 0
 unfolding starts_below
 starts-none mark = refl
 
+-- below place n + 1 as many start as below place n, and one more if one starts there
 pub starts-suc : (mark : ℕ → Bool) (n : ℕ) → starts_below mark (suc n) ≡ starts_below mark n + start_at mark n
 unfolding starts_below
 starts-suc mark n = refl
 
+-- the same, with n + 1 as a sum
 pub starts-next : (mark : ℕ → Bool) (n : ℕ) → starts_below mark (n + 1) ≡ starts_below mark n + start_at mark n
 starts-next mark n = let one : n + 1 ≡ suc n = omega arith in ap (starts_below mark) one ∙ starts-suc mark n
 
@@ -23,15 +26,18 @@ start-by : (mark : ℕ → Bool) (n : ℕ) (here before : Bool) → mark n ≡ h
     → start_at mark n ≡ (if here && ((n == 0) || not before) then 1 else 0)
 start-by mark n here before is was = rw (is, was) refl
 
+-- no run starts at an unmarked place
 start-unmarked : (mark : ℕ → Bool) (n : ℕ) → mark n ≡ false → start_at mark n ≡ 0
 start-unmarked mark n none = rw none refl
 
+-- no run starts behind a marked place
 start-inside : (mark : ℕ → Bool) (n : ℕ) → 0 < n → mark (n - 1) ≡ true → start_at mark n ≡ 0
 start-inside mark n behind before = by_mark (mark n) refl where
   by_mark : (here : Bool) → mark n ≡ here → start_at mark n ≡ 0
   by_mark true is = start-by mark n true true is before ∙ grind (arith, nat_tests)
   by_mark false is = start-unmarked mark n is
 
+-- a run starts at a marked place that is the first of all, or has an unmarked one before it
 pub start-first : (mark : ℕ → Bool) (n : ℕ) → mark n ≡ true → (n ≡ 0) ⊎ (mark (n - 1) ≡ false) → start_at mark n ≡ 1
 start-first mark n is (inl none) =
     let first : (n == 0) ≡ true = grind (arith, nat_tests) in
@@ -41,6 +47,7 @@ start-first mark n is (inr was) = start-by mark n true false is was ∙ either (
   either true = refl
   either false = refl
 
+-- one run at most starts at a place
 start-few : (mark : ℕ → Bool) (n : ℕ) → start_at mark n ≤ 1
 start-few mark n = by_test (mark n && ((n == 0) || not (mark (n - 1)))) where
   by_test : (test : Bool) → (if test then 1 else 0) ≤ 1
@@ -56,6 +63,7 @@ starts-unmarked mark from (suc k) none =
     let here = start-unmarked mark (from + k) (none (from + k) (omega arith) (omega arith)) in
     ap (starts_below mark) e ∙ starts-suc mark (from + k) ∙ omega (arith, before, here)
 
+-- among marked places, those behind the first start no run
 pub starts-marked : (mark : ℕ → Bool) (from k : ℕ) → AreMarked mark true from (from + suc k) → starts_below mark (from + suc k) ≡ starts_below mark (from + 1)
 starts-marked mark from zero all = refl
 starts-marked mark from (suc k) all =
@@ -64,6 +72,7 @@ starts-marked mark from (suc k) all =
     let here = start-inside mark (from + suc k) (omega arith) (all (from + suc k - 1) (omega arith) (omega arith)) in
     ap (starts_below mark) e ∙ starts-suc mark (from + suc k) ∙ omega (arith, before, here)
 
+-- below a later place as many start, or more
 pub starts-order : (mark : ℕ → Bool) (from k : ℕ) → starts_below mark from ≤ starts_below mark (from + k)
 starts-order mark from zero = let e : from + 0 ≡ from = omega arith in let same = ap (starts_below mark) e in omega (arith, same)
 starts-order mark from (suc k) =
@@ -75,6 +84,7 @@ starts-order mark from (suc k) =
 abbrev IsHalf : (ℕ → Bool) → ℕ → Type 0
 IsHalf mark n = (2 * starts_below mark (suc n) ≤ suc n + 1) × (mark n ≡ false → 2 * starts_below mark (suc n) ≤ suc n)
 
+-- where it holds up to place n, twice the starts up to the next place are at most its places and one
 half-next : (mark : ℕ → Bool) (n : ℕ) (b : Bool) → mark n ≡ b → IsHalf mark n → 2 * starts_below mark (suc (suc n)) ≤ suc (suc n) + 1
 half-next mark n true was before =
     let same : suc n - 1 ≡ n = omega arith in
@@ -85,6 +95,7 @@ half-next mark n false was before =
     let next = starts-suc mark (suc n) in let few = start-few mark (suc n) in let b = before.1 was in
     omega (arith, b, next, few)
 
+-- so it holds up to each place
 starts-half : (mark : ℕ → Bool) (n : ℕ) → IsHalf mark n
 starts-half mark zero =
     let first = starts-suc mark 0 in let none = starts-none mark in let few = start-few mark 0 in (
@@ -97,31 +108,38 @@ starts-half mark (suc n) =
       λ unmarked. let zero_here = start-unmarked mark (suc n) unmarked in omega (arith, b, next, zero_here),
     )
 
+-- a block has at most 18,928 runs, half as many as it has places
 pub starts-few : (mark : ℕ → Bool) → starts_below mark 37_856 ≤ 18_928
 starts-few mark = let half = starts-half mark 37_855 in let b = half.0 in omega (arith, b)
 
 -- where no run starts any more, no place is marked any more
 module _ (mark : ℕ → Bool) (from k : ℕ) (begin : (from ≡ 0) ⊎ (mark from ≡ false)) (before : AreMarked mark false from (from + k)) (no_start : start_at mark (from + k) ≡ 0) where
+  -- the first of these places, where it is marked, is place 0, as else it would be unmarked
   at_first : k ≡ 0 → (from ≡ 0) ⊎ (mark from ≡ false) → mark (from + k) ≡ true → (from + k ≡ 0) ⊎ (mark (from + k - 1) ≡ false)
   at_first none (inl is) marked = inl (omega arith)
   at_first none (inr is) marked = absurd (let same_place : from + k ≡ from = omega arith in let other : true ≡ false = sym marked ∙ ap mark same_place ∙ is in cc)
 
+  -- place from + k, where it is marked, is place 0 or has an unmarked one before it
   begins : (j : ℕ) → k ≡ j → mark (from + k) ≡ true → (from + k ≡ 0) ⊎ (mark (from + k - 1) ≡ false)
   begins zero none marked = at_first none begin marked
   begins (suc j) some marked = inr (before (from + k - 1) (omega arith) (omega arith))
 
+  -- so a run would start at it; as none does, it is unmarked
   last : (here : Bool) → mark (from + k) ≡ here → mark (from + k) ≡ false
   last false is = is
   last true is = absurd (let one = start-first mark (from + k) is (begins k refl is) in omega (arith, one, no_start))
 
+  -- each place from the first to this one is unmarked
   one_further : (place : ℕ) → from ≤ place → place < suc (from + k)
       → ((nat_le (suc place) (from + k) ≡ true) × (suc place ≤ from + k)) ⊎ ((nat_le (suc place) (from + k) ≡ false) × (from + k < suc place)) → mark place ≡ false
   one_further place least below (inl is) = before place least (omega (arith, is.1))
   one_further place least below (inr is) = let same_place : place ≡ from + k = omega (arith, is.1, below) in ap mark same_place ∙ last (mark (from + k)) refl
 
+  -- so the unmarked places go on by one
   pub unmarked-further : AreMarked mark false from (suc (from + k))
   unmarked-further place least below = one_further place least below (leb_tells (suc place) (from + k))
 
+-- where as many runs start below a later place, all places up to it are unmarked
 pub none_left : (mark : ℕ → Bool) (from k : ℕ) → (from ≡ 0) ⊎ (mark from ≡ false) → starts_below mark (from + k) ≡ starts_below mark from
     → AreMarked mark false from (from + k)
 none_left mark from zero begin same place least below = absurd (omega arith)

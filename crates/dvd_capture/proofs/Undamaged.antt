@@ -19,6 +19,7 @@ cost-itself [] n = refl
 cost-itself (byte ∷ word) zero = refl
 cost-itself (byte ∷ word) (suc n) = grind (arith, nat_tests, cost-itself word n)
 
+-- and a block of such words weighs nothing
 weight-itself : (block : List (List ℕ)) (n : ℕ) → block_weight block block (replicate n (replicate 182 false)) ≡ 0
 unfolding block_weight
 weight-itself [] n = refl
@@ -27,5 +28,6 @@ weight-itself (word ∷ block) (suc n) =
     ap (λ (c : ℕ). (if nat_le c 10 then 0 else if nat_lt 10 (marked (replicate 182 false)) then 1 else 2) + block_weight block block (replicate n (replicate 182 false))) (cost-itself word 182)
     ∙ omega (arith, weight-itself block n)
 
+-- so a plain block that is as it was recorded is within the bound
 pub undamaged_within : (block : List (List ℕ)) (own : List ℕ) → IsWithin block block (captured_marks Plain own)
 undamaged_within block own = rw (plain_marks own) (omega (arith, weight-itself block 208))

@@ -51,5 +51,6 @@ pub record StateTheSame (a b : Header) : Type 0 where
   pub initial : a.initial ≡ b.initial
   pub tail : a.tail ≡ b.tail
 
+-- two headers whose numbers have 32 bits are the same where their bytes are
 abbrev pub HeadersDiffer : Type 0
 HeadersDiffer = (a b : Header) → HasNumbers a → HasNumbers b → header_bytes a ≡ header_bytes b → StateTheSame a b

@@ -25,11 +25,14 @@ with_columns columns all = record { all = with_items columns.all all; size = col
 abbrev pub with_sector : Sectors → ℕ → List ℕ → Sectors
 with_sector sectors f main = record { all = with_item sectors.all f main; size = sectors.size }
 
+-- the row answers of a block are lent for writing, and their buffer has them back, as many as before
 abbrev pub LendsAnswers : MutBor Answers → MutBor (List AnswerRow) → Fml
 LendsAnswers answers rows = Lends answers_row (Array answer_row 0) answers rows (with_answers answers.now)
 
+-- the column answers are lent for writing, and their buffer has them back, as many as before
 abbrev pub LendsColumns : MutBor Columns → MutBor (List ColumnAnswer) → Fml
 LendsColumns columns all = Lends columns_row (Array column_row 0) columns all (with_columns columns.now)
 
+-- sector f is lent for writing, and the buffer of sectors has it back, the others being as they were
 abbrev pub LendsSector : MutBor Sectors → ℕ → MutBor (List ℕ) → Fml
 LendsSector sectors f main = Lends sectors_row (Array u8 2048) sectors main (with_sector sectors.now f)

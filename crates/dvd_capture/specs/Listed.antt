@@ -17,9 +17,11 @@ run_count bytes = field_at bytes 37_856
 abbrev pub start_of : List ℕ → ℕ → ℕ
 start_of bytes i = field_at bytes (37_858 + 4 * i)
 
+-- the length of run i: how many places it has
 abbrev pub length_of : List ℕ → ℕ → ℕ
 length_of bytes i = field_at bytes (37_860 + 4 * i)
 
+-- the end of run i: the place behind its last one
 abbrev pub end_of : List ℕ → ℕ → ℕ
 end_of bytes i = start_of bytes i + length_of bytes i
 
@@ -32,9 +34,11 @@ listed_size bytes = 37_858 + 4 * run_count bytes
 abbrev pub BreaksNumber : List ℕ → Type 0
 BreaksNumber bytes = 18_928 < run_count bytes
 
+-- the start of run i is no place of the block, or isn't above the end of the run before
 abbrev pub BreaksStart : List ℕ → ℕ → Type 0
 BreaksStart bytes i = (37_856 ≤ start_of bytes i) ⊎ ((0 < i) × (start_of bytes i ≤ end_of bytes (i - 1)))
 
+-- run i has no place, or one that isn't a place of the block
 abbrev pub BreaksLength : List ℕ → ℕ → Type 0
 BreaksLength bytes i = (length_of bytes i ≡ 0) ⊎ (37_856 < end_of bytes i)
 

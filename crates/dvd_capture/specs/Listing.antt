@@ -11,6 +11,7 @@ pub record AppendsUnit (old new : Option (List ℕ)) (rows : List (List ℕ)) (m
   pub is_unit : IsUnitOf rows marks unit
   pub grows : Appends old new unit
 
+-- a part of the unit of these rows and marks was written
 pub record AppendsPart (old new : Option (List ℕ)) (rows : List (List ℕ)) (marks : List (List Bool)) : Type 0 where
   pub unit : List ℕ
   pub is_unit : IsUnitOf rows marks unit

@@ -16,5 +16,6 @@ block_weight (word ∷ block) [] marks = 0
 block_weight (word ∷ block) (row ∷ rows) [] = 0
 block_weight (word ∷ block) (row ∷ rows) (mark ∷ marks) = row_weight word row mark + block_weight block rows marks
 
+-- the damage is within the bound: what a block's rows weigh is at most 16
 abbrev pub IsWithin : List (List ℕ) → List (List ℕ) → List (List Bool) → Type 0
 IsWithin block received marks = block_weight block received marks ≤ 16

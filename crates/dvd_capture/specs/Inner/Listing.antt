@@ -57,6 +57,7 @@ IsFetched before mark old new (Short count) = IsStopped before old new (Short co
 IsFetched before mark old new ReadFault = IsStopped before old new ReadFault
 IsFetched before mark old new (BadMarks at) = IsStopped before old new (BadMarks at)
 
+-- behind those bytes of rows more were written, to the last run of their unit
 pub record AppendsAll (before : List ℕ) (mark : ℕ → Bool) (old new : Option (List ℕ)) : Type 0 where
   pub own : List ℕ
   pub bytes : (k : ℕ) → slice_index own k < 256
@@ -65,6 +66,7 @@ pub record AppendsAll (before : List ℕ) (mark : ℕ → Bool) (old new : Optio
   pub end : ℕ
   pub runs : HasRuns (before ++ own) count count end mark
 
+-- behind those bytes of rows a front was written of bytes that go to the last run of their unit
 pub record AppendsSome (before : List ℕ) (mark : ℕ → Bool) (old new : Option (List ℕ)) : Type 0 where
   pub own : List ℕ
   pub bytes : (k : ℕ) → slice_index own k < 256
@@ -80,6 +82,7 @@ pub record TakesField (old new : Option (List ℕ)) (value : ℕ) : Type 0 where
   pub taken : Consumes old new own
   pub is : field_at own 0 ≡ value
 
+-- the source ended within a field: of its two bytes fewer came, behind so many of the unit
 pub record EndsInField (held : ℕ) (old new : Option (List ℕ)) (count : ℕ) : Type 0 where
   pub own : List ℕ
   pub fewer : length own < 2
@@ -87,6 +90,7 @@ pub record EndsInField (held : ℕ) (old new : Option (List ℕ)) (count : ℕ) 
   pub is : count ≡ held + length own
   pub at_end : IsAtEnd new
 
+-- why a field wasn't taken: the source ended within it, or a read failed
 abbrev pub IsNoField : ℕ → Option (List ℕ) → Option (List ℕ) → FetchAnswer → Type 0
 IsNoField held old new Full = ⊥
 IsNoField held old new End = ⊥
