@@ -101,6 +101,7 @@ module _ (layout : Layout) (zones : Zones) (form : Form) (May : ℕ → List ℕ
     pub size : length before ≡ 2048 * image_from entry.content
     pub out : IsFrontOf (before ++ written steps) a.out
 
+  -- so in such a run a data block that is whole in the input has its turn
   pub has_turn : (bytes : List ℕ) (a : Outcome) → IsOutcome (block_units layout zones form May) bytes a
       → IsFaultless a.end → (k : ℕ) (entry : BlockPlan) → slice_get (plan_of layout zones) k ≡ Some entry → IsImage entry.content
       → HasBlocks form bytes (k + 1) → HasTurn bytes a k entry
@@ -120,6 +121,7 @@ module _ (layout : Layout) (zones : Zones) (form : Form) (May : ℕ → List ℕ
   -- Where its image sectors alone may be written of a block that is borne, they stand at their place.
   module _ (cpr image : List ℕ) (bytes : List ℕ) (k : ℕ) (entry : BlockPlan) (b : IsBorne layout zones form bytes cpr image k entry)
       (alone : (steps : List Step) (turn : Turn) → May k (block_bytes form bytes k) steps turn → (steps ≡ Write (image_part layout entry image) ∷ []) × (turn ≡ Good)) where
+    -- in a run that no fault ended, the image sectors of the block are written where they stand in the image
     at_place : (a : Outcome) → IsOutcome (block_units layout zones form May) bytes a → IsFaultless a.end
         → take (image_bytes layout entry) (drop (2048 * image_from entry.content) a.out) ≡ image_part layout entry image
     at_place a runs none =

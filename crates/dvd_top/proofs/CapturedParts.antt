@@ -19,9 +19,11 @@ module _ (own more : List ℕ) where
   number_same : 37_858 ≤ length own → run_count (own ++ more) ≡ run_count own
   number_same enough = field_at-append own more 37_856 (omega (arith, enough))
 
+  -- the start of run i, where it stands in the first bytes, is the same in both
   start_same : (i : ℕ) → 37_860 + 4 * i ≤ length own → start_of (own ++ more) i ≡ start_of own i
   start_same i enough = field_at-append own more (37_858 + 4 * i) (omega (arith, enough))
 
+  -- the length of run i, where it stands in the first bytes, is the same in both
   length_same : (i : ℕ) → 37_862 + 4 * i ≤ length own → length_of (own ++ more) i ≡ length_of own i
   length_same i enough = field_at-append own more (37_860 + 4 * i) (omega (arith, enough))
 
@@ -45,6 +47,7 @@ module _ (own more : List ℕ) where
   start_on i enough (inr (some, touching)) =
       inr (some, let start = start_same i enough in let end = before_same i some enough in omega (arith, touching, start, end))
 
+  -- and the start that breaks a rule with more bytes behind it broke it before
   start_back : (i : ℕ) → 37_860 + 4 * i ≤ length own → BreaksStart (own ++ more) i → BreaksStart own i
   start_back i enough (inl high) = inl (subst (λ n. 37_856 ≤ n) (start_same i enough) high)
   start_back i enough (inr (some, touching)) =
@@ -55,6 +58,7 @@ module _ (own more : List ℕ) where
   long_on i enough (inl none) = inl (length_same i enough ∙ none)
   long_on i enough (inr past) = inr (subst (λ n. 37_856 < n) (sym (end_same i enough)) past)
 
+  -- and the length that breaks a rule with more bytes behind it broke it before
   long_back : (i : ℕ) → 37_862 + 4 * i ≤ length own → BreaksLength (own ++ more) i → BreaksLength own i
   long_back i enough (inl none) = inl (sym (length_same i enough) ∙ none)
   long_back i enough (inr past) = inr (subst (λ n. 37_856 < n) (end_same i enough) past)

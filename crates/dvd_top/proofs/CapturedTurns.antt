@@ -43,6 +43,7 @@ captured_failed Listed bytes left k fewer = listed_failed (broken_at bytes) byte
 
 -- HOW A LOOP ENDS within block k, by what a source gave of it.
 module _ (form : Form) (k : ℕ) (old new : Seen) where
+  -- the source ended after some of the block's bytes, or before them: the loop ends short of block k
   pub ends_after : (count : ℕ) → EndsAfter form old.bytes new.bytes count → EndsCaptured form k old new (Short k count)
   ends_after count ends = record {
     own = ends.bytes;
@@ -54,6 +55,7 @@ module _ (form : Form) (k : ℕ) (old new : Seen) where
         (inl (ap (Short k) (sym ends.size), refl));
   }
 
+  -- a read failed within the block: the loop ends in a fault of a read
   pub ends_failed : FailsWithin form old.bytes new.bytes → EndsCaptured form k old new ReadFault
   ends_failed failed = record {
     own = failed.bytes;
@@ -63,6 +65,7 @@ module _ (form : Form) (k : ℕ) (old new : Seen) where
     ends = captured_failed form failed.bytes (left_of new.bytes).0 k failed.fewer;
   }
 
+  -- a field of the block's marks breaks a rule: the loop ends in bad marks at this field
   pub ends_broken : (at : ℕ) → BreaksAt form old.bytes new.bytes at → EndsCaptured form k old new (BadMarks k at)
   ends_broken at breaks = record {
     own = breaks.bytes;
@@ -75,6 +78,7 @@ module _ (form : Form) (k : ℕ) (old new : Seen) where
 
 -- UNITS that are captured blocks: a turn by what was read and by what was done.
 module _ (units : Units) (form : Form) (begins : (k : ℕ) (own : List ℕ) → units.begins k own ≡ captured_part form own) (k : ℕ) (before : List (List ℕ)) (number : length before ≡ k) (ready : List (List ℕ) → Type 0) (source new_source output report : Seen) where
+  -- a block that isn't read whole ends the loop, as its source did
   pub captured_short : (answer : Result Turn LoopEnd) (end : LoopEnd) → answer ≡ Err end → EndsCaptured form k source new_source end
       → IsTurn units before ready (streams source output report) (streams new_source output report) answer
   captured_short answer end is short =
@@ -98,6 +102,7 @@ module _ (units : Units) (form : Form) (begins : (k : ℕ) (own : List ℕ) → 
         };
       })
 
+  -- a block that was read whole, and what was done for it, is a turn
   pub captured_done : (rows : List (List ℕ)) (marks : List (List Bool)) → (fetched : Captures form source.bytes new_source.bytes rows marks)
       → (new_output new_report : Seen) (answer : Result Turn LoopEnd)
       → AreDone (units.does k before fetched.bytes) (streams new_source output report) (streams new_source new_output new_report) answer

@@ -112,6 +112,7 @@ module _ (address sectors : ℕ) where
     | inr refused ↦ (let no : Last ≡ Bad = refused.bad in cc)
   ]
 
+  -- nor is a unit of `cdread` the last, and it writes 2,048 bytes
   unit-wide : (count : ℕ) (before : List (List ℕ)) (own : List ℕ) (steps : List Step) (turn : Turn) → IsUnit (first count (cdread_units address sectors)) before own steps turn
       → (length (written steps) ≡ 2048) × (turn ≢ Last)
   unit-wide count before own steps turn unit = read-wide (address + length before) (length before) own steps turn ((sized_whole 2352 own).0 unit.whole) unit.does

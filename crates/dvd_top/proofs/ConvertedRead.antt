@@ -74,18 +74,23 @@ pub record GoesAgain (units : Units) (n : ℕ) (before : List (List ℕ)) (bad :
   pub ends : again.end ≡ a.end
 
 module _ (layout : Layout) (zones : Zones) (form : Form) (has : HasSize form) (opening : List ℕ) where
+  -- the captured blocks of this form, as `convert` writes them in the listed form
   abbrev converting : Units
   converting = convert_units layout zones form opening
 
+  -- the same blocks, as `recover` reads them
   abbrev reading : Units
   reading = recover_units layout zones form
 
+  -- the listed blocks that were written, as `recover` reads them
   abbrev listing : Units
   listing = recover_units layout zones Listed
 
+  -- no block that `convert` goes over is the last
   convert_last : (before : List (List ℕ)) (own : List ℕ) (steps : List Step) → IsUnit converting before own steps Last → ⊥
   convert_last before own steps unit = let no : Last ≡ Good = unit.does.good in cc
 
+  -- nor is one that `recover` goes over
   recover_last : (before : List (List ℕ)) (own : List ℕ) (steps : List Step) → IsUnit reading before own steps Last → ⊥
   recover_last before own steps unit =
       done_not_last unit.does.entry.content layout (length before) unit.does.entry (captured_rows form own) (captured_marks form own) steps unit.does.does
@@ -156,6 +161,7 @@ module _ (layout : Layout) (zones : Zones) (form : Form) (has : HasSize form) (o
           ends = r.ends ∙ sym (ap (λ (x : Outcome). x.end) o.is);
         }
 
+  -- two lists that are as long are so with one unit more each
   longer : (xs ys : List (List ℕ)) (x y : List ℕ) → length xs ≡ length ys → length (xs ++ x ∷ []) ≡ length (ys ++ y ∷ [])
   longer xs ys x y same = omega (arith, same, length-append xs (x ∷ []), length-append ys (y ∷ []))
 

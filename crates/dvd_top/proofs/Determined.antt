@@ -66,6 +66,7 @@ MayOne May = (steps others : List Step) (turn other : Turn) → May steps turn �
 module _ (units : Units) (size : ℕ → ℕ) (begins : (k : ℕ) (own : List ℕ) → units.begins k own ≡ sized (size k) own)
     (one : (before : List (List ℕ)) (own : List ℕ) → MayOne (units.does (length before) before own))
     (closing : (before : List (List ℕ)) (steps others : List Step) → units.closes before steps → units.closes before others → steps ≡ others) where
+  -- what such units do is determined: how bytes begin, what each does, and what closes them
   are_determined : AreDetermined units
   are_determined = record {
     whole = whole_stays units size begins;
@@ -74,6 +75,7 @@ module _ (units : Units) (size : ℕ → ℕ) (begins : (k : ℕ) (own : List �
     closes = closing;
   }
 
+  -- two runs of these units over the same bytes, which no fault ended, are the same
   one_run : (bytes : List ℕ) (a b : Outcome) → IsOutcome units bytes a → IsOutcome units bytes b → IsFaultless a.end → IsFaultless b.end
       → AreSame a b
   one_run bytes a b p q none other = agrees units are_determined bytes a b p q none other
@@ -82,6 +84,7 @@ module _ (units : Units) (size : ℕ → ℕ) (begins : (k : ℕ) (own : List �
 module _ (units : Units) (form : Form) (begins : (k : ℕ) (own : List ℕ) → units.begins k own ≡ captured_part form own)
     (one : (before : List (List ℕ)) (own : List ℕ) → MayOne (units.does (length before) before own))
     (closing : (before : List (List ℕ)) (steps others : List Step) → units.closes before steps → units.closes before others → steps ≡ others) where
+  -- two runs over captured blocks that no fault ended are the same, but for what was taken of the broken one
   one_capture : (bytes : List ℕ) (a b : Outcome) → IsOutcome units bytes a → IsOutcome units bytes b → IsFaultless a.end → IsFaultless b.end
       → AreSame a b
   one_capture bytes a b p q none other = agrees units (blocks_determined units form begins one closing) bytes a b p q none other
@@ -114,21 +117,25 @@ length-captured_marks form own = length-map-range_with_len (λ i. record_marks f
 
 -- What is read of it is one, and where something is read it has no cause.
 module _ (layout : Layout) (k : ℕ) (entry : BlockPlan) (rows : List (List ℕ)) (marks : List (List Bool)) (size : length rows ≡ 208) (marks_size : length marks ≡ 208) where
+  -- what two passes give of a block is one set of sectors, so what is written of it is one thing
   given_is_one : MayOne (IsGiven layout entry rows marks)
   given_is_one steps others turn other p q =
       let sectors : p.sectors ≡ q.sectors =
       (read-determined rows marks entry p.sectors size marks_size p.read).1 ∙ sym (read-determined rows marks entry q.sectors size marks_size q.read).1 in
       (p.writes ∙ ap (λ s. Write (sectors_out (image_sectors layout entry.content) s) ∷ []) sectors ∙ sym q.writes, p.good ∙ sym q.good)
 
+  -- a refused block has one first cause, so one line and one set of saved sectors
   refused_is_one : MayOne (IsRefused layout k entry rows marks)
   refused_is_one steps others turn other p q =
       let cause : p.cause ≡ q.cause = (let is : Some p.cause ≡ Some q.cause = sym p.first ∙ q.first in cc) in
       (p.tells ∙ ap (λ c. Tell (damage_line k entry c (saved_in rows marks entry)) ∷ Write (sectors_out (image_sectors layout entry.content) (block_out rows marks entry)) ∷ []) cause ∙ sym q.tells, p.bad ∙ sym q.bad)
 
+  -- a block that is given isn't refused, as it has no cause
   not_both : (steps others : List Step) (turn other : Turn) → IsGiven layout entry rows marks steps turn
       → IsRefused layout k entry rows marks others other → ⊥
   not_both steps others turn other p q = let no : None ≡ Some q.cause = sym (read-determined rows marks entry p.sectors size marks_size p.read).0 ∙ q.first in cc
 
+  -- so a block of image sectors is given in one way, or refused in one
   image_is_one : MayOne (IsImageDone layout k entry rows marks)
   image_is_one steps others turn other p q = elim p [
     | inl given ↦ elim q [
@@ -141,9 +148,11 @@ module _ (layout : Layout) (k : ℕ) (entry : BlockPlan) (rows : List (List ℕ)
     ]
   ]
 
+  -- for a block without an image nothing is done, and the turn is good
   passed_is_one : MayOne IsPassedOver
   passed_is_one steps others turn other p q = (p.0 ∙ sym q.0, p.1 ∙ sym q.1)
 
+  -- whatever a block holds, one thing alone is done for it
   done_is_one : (content : Content) → MayOne (IsDone content layout k entry rows marks)
   done_is_one (Image sector) = image_is_one
   done_is_one Zero = passed_is_one
@@ -161,6 +170,7 @@ recovered_is_one layout zones form k own steps others turn other p q =
 
 -- DEEP. What rounds read of a block is one, and it has no cause.
 module _ (layout : Layout) (k : ℕ) (entry : BlockPlan) (rows : List (List ℕ)) (marks : List (List Bool)) where
+  -- what rounds give back of a block is one set of sectors, and the round whose line is told is one
   given_back_is_one : MayOne (IsGivenBack layout k entry rows marks)
   given_back_is_one steps others turn other p q =
       let same = deep-once rows marks entry p.round q.round p.sectors q.sectors p.read q.read in (
@@ -171,14 +181,17 @@ module _ (layout : Layout) (k : ℕ) (entry : BlockPlan) (rows : List (List ℕ)
         p.good ∙ sym q.good,
       )
 
+  -- a block that rounds lose has one first cause, so one line and one set of saved sectors
   lost_is_one : MayOne (IsLost layout k entry rows marks)
   lost_is_one steps others turn other p q =
       let cause : p.cause ≡ q.cause = (let is : Some p.cause ≡ Some q.cause = sym p.first ∙ q.first in cc) in
       (p.tells ∙ ap (λ c. Tell (damage_line k entry c (saved_in rows marks entry)) ∷ Write (sectors_out (image_sectors layout entry.content) (block_out rows marks entry)) ∷ []) cause ∙ sym q.tells, p.bad ∙ sym q.bad)
 
+  -- a block that rounds give back isn't lost, as it has no cause
   not_lost : (steps others : List Step) (turn other : Turn) → IsGivenBack layout k entry rows marks steps turn → IsLost layout k entry rows marks others other → ⊥
   not_lost steps others turn other p q = let no : None ≡ Some q.cause = sym (deep-no_cause rows marks entry p.round p.sectors p.read) ∙ q.first in cc
 
+  -- so a block of image sectors is given back in one way, or lost in one
   image_read_is_one : MayOne (IsImageRead layout k entry rows marks)
   image_read_is_one steps others turn other p q = elim p [
     | inl given ↦ elim q [
@@ -191,6 +204,7 @@ module _ (layout : Layout) (k : ℕ) (entry : BlockPlan) (rows : List (List ℕ)
     ]
   ]
 
+  -- whatever a block holds, rounds do one thing alone for it
   read_deep_is_one : (content : Content) → MayOne (IsReadDeep content layout k entry rows marks)
   read_deep_is_one (Image sector) = image_read_is_one
   read_deep_is_one Zero = λ steps others turn other p q. (p.0 ∙ sym q.0, p.1 ∙ sym q.1)
@@ -208,12 +222,14 @@ deepened_is_one layout zones form k own steps others turn other p q =
 
 -- INFO. A block answers with one format or with none.
 module _ (entry : BlockPlan) (rows : List (List ℕ)) (marks : List (List Bool)) (size : length rows ≡ 208) (marks_size : length marks ≡ 208) where
+  -- the format that a block of control data answers with is one
   answer_is_one : MayOne (IsAnswer entry rows marks)
   answer_is_one steps others turn other p q =
       let sectors : p.sectors ≡ q.sectors =
       (read-determined rows marks entry p.sectors size marks_size p.read).1 ∙ sym (read-determined rows marks entry q.sectors size marks_size q.read).1 in
       (p.writes ∙ ap (λ s. Write (format_lines (fields_in (line s 0))) ∷ []) sectors ∙ sym q.writes, p.last ∙ sym q.last)
 
+  -- a block that answers has neither a cause nor a broken format, so that it isn't one without an answer
   not_answered : (steps others : List Step) (turn other : Turn) → IsAnswer entry rows marks steps turn → IsNoAnswer entry rows marks others other → ⊥
   not_answered steps others turn other p q = elim q.why [
     | inl (cause, first) ↦ (let no : None ≡ Some cause = sym (read-determined rows marks entry p.sectors size marks_size p.read).0 ∙ first in cc)
@@ -224,6 +240,7 @@ module _ (entry : BlockPlan) (rows : List (List ℕ)) (marks : List (List Bool))
         cc
   ]
 
+  -- so a block of control data answers in one way, or not at all
   control_is_one : MayOne (IsControlDone entry rows marks)
   control_is_one steps others turn other p q = elim p [
     | inl answer ↦ elim q [
@@ -236,6 +253,7 @@ module _ (entry : BlockPlan) (rows : List (List ℕ)) (marks : List (List Bool))
     ]
   ]
 
+  -- whatever a block holds, one thing alone is done when it is asked for its format
   asked_is_one : (content : Content) → MayOne (IsAsked content entry rows marks)
   asked_is_one Control = control_is_one
   asked_is_one Zero = λ steps others turn other p q. (p.0 ∙ sym q.0, p.1 ∙ sym q.1)
@@ -266,9 +284,11 @@ one_layout settings a b p q =
     same_lengths-same a b (p.shape ∙ sym q.shape) (p.sectors0 ∙ sym q.sectors0) (p.sectors1 ∙ sym q.sectors1) (p.initial ∙ sym q.initial) (p.tail ∙ sym q.tail)
 
 module _ (settings : Settings) (bytes : List ℕ) (a b : Outcome) (none : IsFaultless a.end) (other : IsFaultless b.end) where
+  -- a run of this command over these bytes
   abbrev IsOf : Command → Outcome → Type 0
   IsOf word outcome = (meaning word).OfUnits settings (λ units. IsOutcome units bytes outcome)
 
+  -- for each command, two runs over the same bytes that no fault ended do the same
   by_command : (word : Command) → IsOf word a → IsOf word b → AreSame a b
   by_command command.Frames p q =
       one_run (frames_units settings.first settings.sectors) (λ k. 2048) (λ k own. refl) (λ before own. frame_is_one settings.first (length before) own)

@@ -50,12 +50,15 @@ module _ (layout : Layout) (single : layout.shape ≡ Single) where
   unfolding plan_of
   data_plan = ap (λ shape. flat_map entries_of (filter (λ zone. is_data zone.area) (zones_by layout shape))) single
 
+  -- the plan has the blocks of layer 0's sectors
   length-plan : length (plan_of layout DataOnly) ≡ blocks_of layout.sectors0
   length-plan = ap length (data_plan ∙ append-nil (entries_of (first_data layout))) ∙ length-entries_of (first_data layout)
 
+  -- with sixteen sectors for each of so many blocks it has these blocks
   pub length-data_plan : (blocks : ℕ) → layout.sectors0 ≡ 16 * blocks → length (plan_of layout DataOnly) ≡ blocks
   length-data_plan blocks sectors = length-plan ∙ omega (arith, sectors)
 
+  -- the entry of block k, which holds image sectors from this one on
   abbrev image_entry : ℕ → ℕ → BlockPlan
   image_entry k sector = record { first = 0x30000 + 16 * k; area = DataZone; layer = 0; content = Image sector }
 
@@ -68,6 +71,7 @@ module _ (layout : Layout) (single : layout.shape ≡ Single) where
       one_entry (plan_of layout DataOnly) k entry (drawn_entry k) stands
       (ap (λ plan. slice_get plan k) data_plan ∙ block-at (zone ∷ []) 0 k k zone (omega arith) inside (omega arith) ∙ ap (λ e. Some e) here)
 
+  -- its frames of the drawn sectors, with zeros for CPR_MAI, are the drawn frames
   same_frames : (k : ℕ) (image : List ℕ) → frames_of layout (drawn_entry k) (replicate 6 0) image ≡ drawn_frames k image
   unfolding frames_of drawn_frames
   same_frames k image =
@@ -105,9 +109,11 @@ pub record IsFound (k : ℕ) (image : List ℕ) (block rows : List (List ℕ)) (
   pub sectors : (sectors : List (List ℕ)) → IsReadAs rows marks (drawn_entry k) sectors → sectors ≡ drawn_sectors image
 
 module _ (k x : ℕ) (block rows : List (List ℕ)) (marks : List (List Bool)) (few : k < 4096) (is : IsHurtBlock k x block rows marks) where
+  -- the image that was drawn for the block: sixteen sectors
   abbrev image : List ℕ
   image = bytes_from x 32768
 
+  -- the block's frames are made of its drawn sectors
   made_of : IsMadeOf (drawn_entry k) false (replicate 6 0) (drawn_sector image) (drawn_frames k image)
   made_of = record {
     cpr_size = length-replicate {A = ℕ} 6 0;
@@ -115,15 +121,19 @@ module _ (k x : ℕ) (block rows : List (List ℕ)) (marks : List (List Bool)) (
     are = λ f below. line-drawn k f image below;
   }
 
+  -- the hurt block has 208 rows
   pub height : length rows ≡ 208
   height = is.hurt.height ∙ is.made.product.height
 
+  -- and 208 rows of marks
   pub marks_height : length marks ≡ 208
   marks_height = is.hurt.marked.size ∙ length-replicate 208 (replicate 182 false)
 
+  -- the block that was made has two-pass agreement with what was hurt of it
   agrees : IsTwoPass rows marks block
   agrees = hurt_agrees (state_after x 32768) block no_marks rows marks is.made.product refl is.hurt
 
+  -- so its drawn sectors are read back
   read : IsReadAs rows marks (drawn_entry k) (drawn_sectors image)
   unfolding drawn_sectors
   read =

@@ -78,6 +78,7 @@ module _ (seed n : ℕ) (old_state new_state : ℕ) (old new : Counts) (old_work
     (trial : Trial) (drawn : IsTrial seed n trial) (state_is : new_state ≡ hurt_state (state_after old_state 32768))
     (found : block_in trial.rows trial.marks ≡ trial.block) (counted : CountsOne trial.rows trial.marks old new)
     (fixed_most : new.fixed ≤ old.fixed + 2 ^ 32) (failed_most : new.failed ≤ old.failed + 2 ^ 16) (left : IsLeft seed n new_work) where
+  -- so block n is behind as well: its trial is one more, and what is counted of it is added
   pub one_more : IsBehind seed (n + 1) new_state new new_work
   one_more = record {
     state_is = state_is ∙ ap (λ x. hurt_state (state_after x 32768)) before.state_is ∙ state_next seed n;

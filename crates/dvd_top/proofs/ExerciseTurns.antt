@@ -34,9 +34,11 @@ module _ (blocks k x : ℕ) (layout : Layout) (single : layout.shape ≡ Single)
     (entry : BlockPlan) (stands : slice_get (plan_of layout DataOnly) k ≡ Some entry) (piece : List ℕ) (block : List (List ℕ)) (work : Work)
     (drawn : piece ≡ bytes_from x 32768) (made : IsBlockOf (frames_of layout entry (replicate 6 0) piece) block)
     (hurt : IsHurt (state_after x 32768) block no_marks (rows_of work) (marks_of_work work)) where
+  -- the entry is the one that is drawn for block k
   pub entry_is : entry ≡ drawn_entry k
   entry_is = data_entry layout single k entry stands
 
+  -- the work holds block k, made of what was drawn and then hurt
   hurt_block : IsHurtBlock k x block (rows_of work) (marks_of_work work)
   hurt_block = record {
     made = subst (λ frames. IsBlockOf frames block) (drawn_mastered layout k entry (bytes_from x 32768) single stands)
@@ -44,6 +46,7 @@ module _ (blocks k x : ℕ) (layout : Layout) (single : layout.shape ≡ Single)
     hurt = hurt;
   }
 
+  -- so no cause is found of it, and the block and its sectors are found again
   pub found_block : IsFound k (bytes_from x 32768) block (rows_of work) (marks_of_work work)
   found_block = is_found k x block (rows_of work) (marks_of_work work) (omega (arith, within, few)) hurt_block
 
@@ -54,6 +57,7 @@ module _ (blocks k x : ℕ) (layout : Layout) (single : layout.shape ≡ Single)
       (counted : sectors_of new_work ≡ drawn_sectors image → CountsOne (rows_of work) (marks_of_work work) old new)
       (fixed_most : new.fixed ≤ old.fixed + 2 ^ 32) (failed_most : new.failed ≤ old.failed + 2 ^ 16)
       (stage : stage_of new_work ≡ Fixed) (received : new_work.received ≡ work.received) (marks : new_work.marks ≡ work.marks) where
+    -- the sectors that were read of it are those that were drawn
     sectors_are : sectors_of new_work ≡ drawn_sectors (bytes_from x 32768)
     sectors_are = found_block.sectors (sectors_of new_work) (subst (λ e. IsReadAs (rows_of work) (marks_of_work work) e (sectors_of new_work)) entry_is read)
 

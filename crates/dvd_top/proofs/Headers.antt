@@ -27,6 +27,7 @@ zones_for (suc (suc n)) below = absurd (omega arith)
 
 -- A layout and zones with the numbers of a header are those that it states.
 module _ (header : Header) (numbers : HasNumbers header) (zones : Zones) (zones_are : zones_number zones ≡ header.zones) where
+  -- a layout with the header's shape and four numbers is the one that it states, in the settings of the words
   pub stated_by : (layout : Layout) → shape_number layout.shape ≡ header.shape → layout.sectors0 ≡ header.sectors0 → layout.sectors1 ≡ header.sectors1
       → layout.initial ≡ header.initial → layout.tail ≡ header.tail
       → (settings : Settings) → IsHeaderOf settings (with_layout settings layout zones) (header_bytes header)

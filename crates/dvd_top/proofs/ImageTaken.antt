@@ -22,6 +22,7 @@ module _ (layout : Layout) (zones : Zones) (cpr image : List ℕ) where
   never_last : (k : ℕ) (before : List (List ℕ)) (own : List ℕ) (steps : List Step) → IsMastered layout zones cpr k own steps Last → ⊥
   never_last k before own steps does = let no : Last ≡ Good = does.good in cc
 
+  -- where mastering has come to a block of image sectors, it has taken those before its first, in order
   pub in_order : (k : ℕ) (entry : BlockPlan) (a : Outcome) → slice_get (plan_of layout zones) k ≡ Some entry → IsImage entry.content
       → IsOutcome (first k (master_units layout zones cpr)) image a → a.end ≡ Done → length a.taken ≡ 2048 * image_from entry.content
   in_order k entry a stands is_image runs done =
@@ -30,6 +31,7 @@ module _ (layout : Layout) (zones : Zones) (cpr image : List ℕ) where
       ∙ start-blocks layout zones k (omega arith)
       ∙ ap (λ n. 2048 * n) (plan_of-in_order layout zones k entry stands is_image)
 
+  -- the blocks are units of given sizes, and none is bad
   all_good : AreGood (master_units layout zones cpr) (bytes_of_block layout zones) (λ k own out lines. Unit {0})
   all_good = record {
     begins = λ k bytes. refl;
@@ -39,6 +41,7 @@ module _ (layout : Layout) (zones : Zones) (cpr image : List ℕ) where
     asks = refl;
   }
 
+  -- mastering is done exactly where the image has as many bytes as the disk has sectors for
   pub whole : (a : Outcome) → IsOutcome (master_units layout zones cpr) image a → IsFaultless a.end
       → (a.end ≡ Done → length image ≡ 2048 * total_sectors layout) × (length image ≡ 2048 * total_sectors layout → a.end ≡ Done)
   whole a runs none =

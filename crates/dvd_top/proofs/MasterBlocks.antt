@@ -22,6 +22,7 @@ module _ (layout : Layout) (zones : Zones) (k : ℕ) (entry : BlockPlan) (stands
   pub size_is : bytes_of_block layout zones k ≡ image_bytes layout entry
   size_is = ap (bytes_of_entry layout) stands
 
+  -- for a piece of the image, filled with zeros, the recording of its frames' block is what mastering may write
   pub mastered : (cpr piece : List ℕ) (size : ℕ) → length piece ≡ 32768 → size ≤ 32768 → drop size piece ≡ replicate (32768 - size) 0
       → (block : List (List ℕ))
       → IsBlockOf (frames_of layout entry cpr piece) block → IsMastered layout zones cpr k (take size piece) (Write (recording block) ∷ []) Good

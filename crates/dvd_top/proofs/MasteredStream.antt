@@ -140,9 +140,11 @@ outcome_is a taken out lines end taken_is out_is lines_are end_is =
     ∙ ap (λ e. record { taken = taken; out = out; lines = lines; end = e }) end_is
 
 module _ (layout : Layout) (zones : Zones) (cpr image : List ℕ) (cpr_size : length cpr ≡ 6) (image_size : length image ≡ 2048 * total_sectors layout) where
+  -- how many blocks the plan has
   abbrev count : ℕ
   count = length (plan_of layout zones)
 
+  -- how many image bytes block k takes
   abbrev size : ℕ → ℕ
   size = bytes_of_block layout zones
 
@@ -150,9 +152,11 @@ module _ (layout : Layout) (zones : Zones) (cpr image : List ℕ) (cpr_size : le
   abbrev part : ℕ → List ℕ
   part k = take (size k) (drop (start size k) image)
 
+  -- the image is as long as all blocks take together
   image_all : length image ≡ start size count
   image_all = image_size ∙ sym (start-all layout zones)
 
+  -- the part of block k is as long as its image sectors
   length-part : (k : ℕ) (entry : BlockPlan) → k < count → slice_get (plan_of layout zones) k ≡ Some entry → length (part k) ≡ image_bytes layout entry
   length-part k entry lt stands =
       let last : suc k + (count - suc k) ≡ count = omega arith in
@@ -160,6 +164,7 @@ module _ (layout : Layout) (zones : Zones) (cpr image : List ℕ) (cpr_size : le
       length-take-le (size k) (drop (start size k) image) (omega (arith, inside, start-suc size k, image_all, length-drop (start size k) image)) ∙ size_is layout zones k entry stands
 
   module _ (mastered : Outcome) (pieces : InPieces size (λ k own out lines. IsRecorded layout zones cpr k own out) 0 count image image mastered) where
+    -- what was written for block k is the recording of its part
     recorded-at : (k : ℕ) → k < count → IsRecorded layout zones cpr k (part k) (pieces.outs k)
     recorded-at k lt = pieces.each k (omega arith) (omega arith)
 

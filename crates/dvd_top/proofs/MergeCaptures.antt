@@ -36,15 +36,19 @@ size-more : (s n a b : ℕ) → a ≡ n * s → b ≡ s → a + b ≡ (n + 1) * 
 size-more s n a b before own = grind (arith, before, own)
 
 module _ (form : Form) (n : ℕ) (bytes own : List ℕ) (size : length bytes ≡ n * block_size form) (whole : length own ≡ block_size form) where
+  -- the captures before the last stay what they were
   capture-before : (c : ℕ) → c < n → capture_in form (bytes ++ own) c ≡ capture_in form bytes c
   capture-before c lt = part-append bytes own (block_size form * c) (block_size form) (omega (arith, size, parts-le (block_size form) c n lt))
 
+  -- the last capture is the one that came
   capture-last : capture_in form (bytes ++ own) n ≡ own
   capture-last = part-behind bytes own (block_size form * n) (block_size form) (grind (arith, size)) whole
 
+  -- what capture c of these bytes saw of its block, place by place
   at : List ℕ → ℕ → Table
   at all c = table_in form (capture_in form all c)
 
+  -- so with one capture more there is one table more, its own
   tables_more : tables_in (n + 1) form (bytes ++ own) ≡ tables_in n form bytes ++ table_in form own ∷ []
   unfolding tables_in at
   tables_more =

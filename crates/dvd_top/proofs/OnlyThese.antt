@@ -28,6 +28,7 @@ module _ (units : Units) (size : ℕ → ℕ) (begins : (k : ℕ) (bytes : List 
   abbrev pub only_these : Units
   only_these = record units { does = λ k before own steps turn. units.does k before own steps turn × (own ≡ take (size k) (drop (start size k) all)) }
 
+  -- a run behind some of the units, over what is left of the bytes, is one of units that may have no others
   goes_only : (n : ℕ) (before : List (List ℕ)) (bad : ℕ) (front left : List ℕ) (a : Outcome) → all ≡ front ++ left
       → length front ≡ start size (length before)
       → Goes units n before bad left a → Goes only_these n before bad left a
@@ -55,6 +56,7 @@ module _ (units : Units) (size : ℕ → ℕ) (begins : (k : ℕ) (bytes : List 
         takes = t.takes;
       })
 
+  -- and so is a whole run
   pub runs_only : (a : Outcome) → IsOutcome units all a → IsOutcome only_these all a
   runs_only a runs =
       does_as units.opens (Goes units units.count [] 0 all) (Goes only_these units.count [] 0 all)

@@ -84,10 +84,12 @@ recovered layout zones form k entry stands own rows marks rows_are marks_are old
 }
 
 module _ (layout : Layout) (k : ℕ) (entry : BlockPlan) (rows : List (List ℕ)) (marks : List (List Bool)) where
+  -- a block of which sectors are read: they are written, and the turn is good
   pub given : (sectors : List (List ℕ)) → IsReadAs rows marks entry sectors
       → IsImageDone layout k entry rows marks (Write (sectors_out (image_sectors layout entry.content) sectors) ∷ []) Good
   given sectors read = inl (record { sectors = sectors; read = read; writes = refl; good = refl })
 
+  -- a block that is refused for its cause: what is done for it is what `recover` may do
   pub refused : (cause : Cause) → block_cause rows marks entry ≡ Some cause → (steps : List Step) (turn : Turn) → IsRefusedFor layout k entry rows marks cause steps turn
       → IsImageDone layout k entry rows marks steps turn
   refused cause first steps turn is = inr (record { cause = cause; first = first; tells = is.0; bad = is.1 })

@@ -90,9 +90,11 @@ abbrev pub IsWide : ℕ → List Step → Turn → Type 0
 IsWide count steps turn = (length (written steps) ≡ count) × (turn ≢ Last)
 
 module _ (layout : Layout) (k : ℕ) (entry : BlockPlan) (rows : List (List ℕ)) (marks : List (List Bool)) (size : length rows ≡ 208) (marks_size : length marks ≡ 208) (steps : List Step) (turn : Turn) where
+  -- one write of some bytes writes as many
   write-wide : (bytes : List ℕ) → steps ≡ Write bytes ∷ [] → length (written steps) ≡ length bytes
   write-wide bytes is = ap (λ s. length (written s)) is ∙ ap length (append-nil bytes)
 
+  -- for a block of image sectors, given or refused, as many bytes are written as these have
   image-wide : IsImageDone layout k entry rows marks steps turn → IsWide (image_bytes layout entry) steps turn
   image-wide (inl given) =
       let count = image_sectors layout entry.content in (
@@ -110,9 +112,11 @@ module _ (layout : Layout) (k : ℕ) (entry : BlockPlan) (rows : List (List ℕ)
         λ last. let no : Bad ≡ Last = sym refused.bad ∙ last in cc,
       )
 
+  -- for a block without image sectors none is written
   passed-wide : image_bytes layout entry ≡ 0 → IsPassedOver steps turn → IsWide (image_bytes layout entry) steps turn
   passed-wide none (nothing, good) = (ap (λ s. length (written s)) nothing ∙ sym none, λ last. let no : Good ≡ Last = sym good ∙ last in cc)
 
+  -- so whatever a block holds, `recover` writes as many bytes as its image sectors have
   done-wide : (content : Content) → entry.content ≡ content → IsDone content layout k entry rows marks steps turn
       → IsWide (image_bytes layout entry) steps turn
   done-wide (Image sector) is done = image-wide done
@@ -133,6 +137,7 @@ written-behind None k entry round bytes = refl
 written-behind (Some cause) k entry round bytes = refl
 
 module _ (layout : Layout) (k : ℕ) (entry : BlockPlan) (rows : List (List ℕ)) (marks : List (List Bool)) (size : length rows ≡ 208) (marks_size : length marks ≡ 208) (steps : List Step) (turn : Turn) where
+  -- for a block of image sectors that rounds give back or lose, as many bytes are written as these have
   read-wide : IsImageRead layout k entry rows marks steps turn → IsWide (image_bytes layout entry) steps turn
   read-wide (inl given) =
       let count = image_sectors layout entry.content in
@@ -153,6 +158,7 @@ module _ (layout : Layout) (k : ℕ) (entry : BlockPlan) (rows : List (List ℕ)
         λ last. let no : Bad ≡ Last = sym lost.bad ∙ last in cc,
       )
 
+  -- so whatever a block holds, `deep` writes as many bytes as its image sectors have
   deep-wide : (content : Content) → entry.content ≡ content → IsReadDeep content layout k entry rows marks steps turn
       → IsWide (image_bytes layout entry) steps turn
   deep-wide (Image sector) is done = read-wide done

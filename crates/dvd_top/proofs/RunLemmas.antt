@@ -56,6 +56,7 @@ module _ (settings : Settings) (old : Streams) (source output mid_report new_rep
       let fails : line.outcome ≡ _ = subst (λ w. Closes (closing_line settings.command) w line.outcome) is line.holds in
       sym line.ends ∙ ap (λ (o : Outcome). o.end) fails
 
+  -- the faults of the report rose exactly where the run ended in one
   report_counts : Counts (is_report_fault end) old.report.faults new_report.faults
   report_counts = elim (report_or_not within) [
     | inl is ↦ subst (λ e. Counts (is_report_fault e) old.report.faults new_report.faults) (sym (end_is is))
@@ -64,6 +65,7 @@ module _ (settings : Settings) (old : Streams) (source output mid_report new_rep
     | inr not ↦ subst (λ n. Counts (is_report_fault end) n new_report.faults) (stayed within not old.report.faults mid_report.faults loop.causes.report) (cause not)
   ]
 
+  -- so the loop and its closing line are a run, with the status of its end
   pub has_run : (end ≢ ReportFault → end ≡ within) → (result : Status) → result ≡ status_of end
       → HasRun settings old (streams source output new_report) result
   has_run same result is_status = record {

@@ -133,6 +133,7 @@ module _ (units : Units) (size : ℕ → ℕ) (begins : (k : ℕ) (own : List �
         exists.2,
       )
 
+  -- behind the last unit its closing steps are done, and the outcome has no fault
   closing_exists : (before : List (List ℕ)) (bad : ℕ) (bytes : List ℕ) → length before ≡ units.count → Exists (Goes units 0 before bad bytes)
   unfolding Goes
   closing_exists before bad bytes all =
@@ -140,6 +141,7 @@ module _ (units : Units) (size : ℕ → ℕ) (begins : (k : ℕ) (own : List �
       let exists = steps_exist closes.0 (EndsBehind units.behind bad bytes) (behind_exists units.behind bad bytes) in
       (exists.0, (closes.0, closes.1, exists.1), exists.2)
 
+  -- with n units to come an outcome without a fault exists: the input ends in the next, or it is taken
   goes_exist : (n : ℕ) (before : List (List ℕ)) (bad : ℕ) (bytes : List ℕ) → length before + n ≡ units.count → All IsByte bytes
       → Exists (Goes units n before bad bytes)
   goes_exist zero before bad bytes all are = closing_exists before bad bytes (omega arith)
@@ -155,6 +157,7 @@ module _ (units : Units) (size : ℕ → ℕ) (begins : (k : ℕ) (own : List �
         (λ turn. goes_exist n (before ++ own ∷ []) (bad + bad_of turn) (drop here bytes) (one_fewer before own n units.count all) (All-drop IsByte here bytes are)))
   ]
 
+  -- so every input of bytes has an outcome without a fault
   runs_exist : (bytes : List ℕ) → All IsByte bytes → Exists (IsOutcome units bytes)
   runs_exist bytes are = steps_exist units.opens (Goes units units.count [] 0 bytes) (goes_exist units.count [] 0 bytes (omega arith) are)
 
@@ -196,6 +199,7 @@ mastered_some layout zones cpr six k own within are =
 
 -- RECOVER. A captured block has a cause, or it is read.
 module _ (layout : Layout) (k : ℕ) (entry : BlockPlan) (rows : List (List ℕ)) (marks : List (List Bool)) (size : length rows ≡ 208) (marks_size : length marks ≡ 208) where
+  -- a block of image sectors without a cause may be given, and one with a cause may be refused for it
   image_some : (cause : Option Cause) → block_cause rows marks entry ≡ cause → MaySome (IsImageDone layout k entry rows marks)
   image_some None none = (
     Write (sectors_out (image_sectors layout entry.content) (block_sectors rows marks entry)) ∷ [],
@@ -208,9 +212,11 @@ module _ (layout : Layout) (k : ℕ) (entry : BlockPlan) (rows : List (List ℕ)
     inr (record { cause = cause; first = first; tells = refl; bad = refl }),
   )
 
+  -- a block without image sectors may be passed over
   passed_some : MaySome IsPassedOver
   passed_some = ([], Good, (refl, refl))
 
+  -- whatever a block holds, something may be done for it
   done_some : (content : Content) → MaySome (IsDone content layout k entry rows marks)
   done_some (Image sector) = image_some (block_cause rows marks entry) refl
   done_some Zero = passed_some
@@ -227,6 +233,7 @@ recovered_some layout zones form k own within =
 
 -- DEEP. A captured block has a cause, or rounds give it back.
 module _ (layout : Layout) (k : ℕ) (entry : BlockPlan) (rows : List (List ℕ)) (marks : List (List Bool)) (size : length rows ≡ 208) (marks_size : length marks ≡ 208) where
+  -- a block without a cause may be given back by rounds, and one with a cause may be lost for it
   image_read_some : (cause : Option Cause) → deep_cause rows marks entry ≡ cause → MaySome (IsImageRead layout k entry rows marks)
   image_read_some None none =
       let some = deep-some rows marks entry size marks_size none in (
@@ -240,6 +247,7 @@ module _ (layout : Layout) (k : ℕ) (entry : BlockPlan) (rows : List (List ℕ)
     inr (record { cause = cause; first = first; tells = refl; bad = refl }),
   )
 
+  -- whatever a block holds, rounds may do something for it
   read_deep_some : (content : Content) → MaySome (IsReadDeep content layout k entry rows marks)
   read_deep_some (Image sector) = image_read_some (deep_cause rows marks entry) refl
   read_deep_some Zero = ([], Good, (refl, refl))
@@ -256,6 +264,7 @@ deepened_some layout zones form k own within =
 
 -- INFO. A block of control data answers or it doesn't.
 module _ (entry : BlockPlan) (rows : List (List ℕ)) (marks : List (List Bool)) (size : length rows ≡ 208) (marks_size : length marks ≡ 208) where
+  -- a block without a cause may answer with its format, or with none where that breaks a rule
   format_some : block_cause rows marks entry ≡ None → (fault : Option ControlFault) → control_fault (line (block_sectors rows marks entry) 0) ≡ fault
       → MaySome (IsControlDone entry rows marks)
   format_some none None lawful = (
@@ -269,10 +278,12 @@ module _ (entry : BlockPlan) (rows : List (List ℕ)) (marks : List (List Bool))
     inr (record { why = inr (block_sectors rows marks entry, fault, no_cause-read rows marks entry size marks_size none, broken); nothing = refl; good = refl }),
   )
 
+  -- a block of control data with a cause may go without an answer, and one without may be asked for its format
   control_some : (cause : Option Cause) → block_cause rows marks entry ≡ cause → MaySome (IsControlDone entry rows marks)
   control_some None none = format_some none (control_fault (line (block_sectors rows marks entry) 0)) refl
   control_some (Some cause) first = ([], Good, inr (record { why = inl (cause, first); nothing = refl; good = refl }))
 
+  -- whatever a block holds, something may be done when it is asked for its format
   asked_some : (content : Content) → MaySome (IsAsked content entry rows marks)
   asked_some Control = control_some (block_cause rows marks entry) refl
   asked_some Zero = ([], Good, (refl, refl))
@@ -322,6 +333,7 @@ convert_total units form begins may closing = record {
 }
 
 module _ (settings : Settings) (bytes : List ℕ) (six : HasBytes 6 settings.cpr) (are : All IsByte bytes) where
+  -- where no rule of the words is broken, each command has an outcome for these bytes
   by_command : (word : Command) → (meaning word).breaks settings ≡ None → (word ≡ command.CdMake → HasAddresses settings)
       → Exists (λ outcome. (meaning word).OfUnits settings (λ units. IsOutcome units bytes outcome))
   by_command command.Frames none addresses =
@@ -415,6 +427,7 @@ module _ (settings : Settings) (bytes : List ℕ) (six : HasBytes 6 settings.cpr
       goes_some stated left (subst (HasBytes 6) (sym cpr) six) rest (lawful_for stated.command stated none)
       (λ is. absurd (not_made settings.form settings.command listed (λ so. (addresses so).1) (sym same ∙ is)))
 
+  -- so every form has one: over the blocks of a plain or a marked stream, and behind the header of a listed one
   by_form : (form : Form) → settings.form ≡ form → breaks_in form settings ≡ None → Exists (Opens form GoesOver settings bytes)
   by_form Plain is none = goes_some settings bytes six are none (λ so. (addresses so).0)
   by_form Marked is none = goes_some settings bytes six are none (λ so. (addresses so).0)

@@ -90,6 +90,7 @@ module _ (layout : Layout) (zones : Zones) (form : Form) (k : ℕ) (before : Lis
       ∙ ap (λ r. found_in layout zones form before ++ surveyed r (captured_marks form own) entry ∷ []) (sym rows_are)
       ∙ ap (λ m. found_in layout zones form before ++ surveyed rows m entry ∷ []) (sym marks_are)
 
+  -- a state that stands for the blocks found before and for this one stands for all found up to block k
   pub next_stands : (after : SurveyState) → StandsFor after (found_in layout zones form before ++ surveyed rows marks entry ∷ [])
       → StandsFor after (found_in layout zones form (before ++ own ∷ []))
   next_stands after is = subst (StandsFor after) (sym found_with) is

@@ -13,6 +13,7 @@ use Rattle.dvd_loop.specs.declared.ends.Turn.{Turn}
 use Rattle.dvd_loop.proofs.TurnLemmas.{line_begun, step_begun, step_told, step_written, steps_behind_line}
 
 module _ (May : List Step → Turn → Type 0) (line bytes : List ℕ) (turn : Turn) (may : May (Tell line ∷ Write bytes ∷ []) turn) where
+  -- the two deeds of the unit: the line is told, then the bytes are written
   abbrev both : List Step
   both = Tell line ∷ Write bytes ∷ []
 
