@@ -84,6 +84,7 @@ module _ (units : Units) (det : AreDetermined units) where
       ((units.begins k bytes ≡ Cut) × (outcome ≡ taking bytes (ended (Short k (length bytes)))))
       ⊎ ((at : ℕ) × (own : List ℕ) × (units.begins k bytes ≡ Broken at) × (outcome ≡ taking own (ended (BadMarks k at))))
 
+  -- where no fault ended it, the loop within unit k ends in one of these ways
   ends_as : (k : ℕ) (bytes : List ℕ) (outcome : Outcome) → IsWithin units k bytes outcome → IsFaultless outcome.end → EndsAs k bytes outcome
   ends_as k bytes outcome w none =
       elim (units.begins k w.own) as (λ part. units.begins k w.own ≡ part → EndsWithin part k (length w.own) w.left outcome.end → EndsAs k bytes outcome) [
@@ -100,6 +101,7 @@ module _ (units : Units) (det : AreDetermined units) where
         ]
       ] refl w.ends
 
+  -- two loops that end within unit k of the same bytes agree: both are short, or both stop at the same broken place
   within_agree : (k : ℕ) (bytes : List ℕ) → AllAgree (IsWithin units k bytes) (IsWithin units k bytes)
   within_agree k bytes a b w v none other =
       elim (ends_as k bytes a w none) [
@@ -118,10 +120,12 @@ module _ (units : Units) (det : AreDetermined units) where
         ]
       ]
 
+  -- bytes with a whole unit in front begin with it
   whole_unit : (k : ℕ) (bytes own left : List ℕ) → bytes ≡ own ++ left → units.begins k own ≡ Whole (length own)
       → units.begins k bytes ≡ Whole (length own)
   whole_unit k bytes own left front whole = subst (λ l. units.begins k l ≡ Whole (length own)) (sym front) (det.whole k own left whole)
 
+  -- bytes that begin with a whole unit k don't end within it
   not_both : {A : Type 0} (k : ℕ) (bytes own left : List ℕ) (a : Outcome) → IsWithin units k bytes a → IsFaultless a.end
       → bytes ≡ own ++ left → units.begins k own ≡ Whole (length own) → A
   not_both k bytes own left a w none front whole =
@@ -149,6 +153,7 @@ module _ (units : Units) (det : AreDetermined units) where
       (steps_agree t.steps (After t.own t.left t.turn) (After t.own t.left t.turn) (agree t.own t.left t.turn) t.after s.after t.does others
       (subst (λ (o : Outcome). IsFaultless o.end) t.takes none) (subst (λ (o : Outcome). IsFaultless o.end) s.takes other)))
 
+  -- with n units to come, two outcomes over the same bytes agree
   goes_agree : (n : ℕ) (before : List (List ℕ)) (bad : ℕ) (bytes : List ℕ) → AllAgree (Goes units n before bad bytes) (Goes units n before bad bytes)
   unfolding Goes
   goes_agree zero before bad bytes a b (steps, closes, does) (others, closing, rest) none other =

@@ -44,6 +44,7 @@ module _ (bad : ℕ) (source new_source output report : Seen) (own : List ℕ) (
         moved = record { reads = subst (Consumes source.bytes new_source.bytes) nothing reads; writes = Appends-none output.bytes; tells = Appends-none report.bytes };
       }
 
+  -- a list of length 1 is one number
   one : (xs : List ℕ) → length xs ≡ 1 → (x : ℕ) × (xs ≡ x ∷ [])
   one [] is = absurd (omega arith)
   one (x ∷ []) is = (x, refl)
@@ -62,6 +63,7 @@ module _ (bad : ℕ) (source new_source output report : Seen) (own : List ℕ) (
         moved = record { reads = subst (Consumes source.bytes new_source.bytes) byte.1 reads; writes = Appends-none output.bytes; tells = Appends-none report.bytes };
       }
 
+  -- a failed read of one byte more may end any input, with bytes left or without
   by_fault : (left : List ℕ) → EndsBehind Asks bad left (ended ReadFault)
   by_fault [] = inr refl
   by_fault (byte ∷ left) = inr refl
@@ -120,6 +122,7 @@ closed_none closing old = record {
 }
 
 module _ (closing : LoopEnd → List ℕ) (end : LoopEnd) (not : end ≢ ReportFault) (source output report new_report : Seen) where
+  -- the closing line was told: the loop ends as it did before it
   pub closed_line : Appends report.bytes new_report.bytes (closing end)
       → Comes (λ bytes. Closes closing end) (streams source output report) (streams source output new_report) end
   closed_line tells = record {
@@ -135,6 +138,7 @@ module _ (closing : LoopEnd → List ℕ) (end : LoopEnd) (not : end ≢ ReportF
     };
   }
 
+  -- the report failed within the closing line: the loop ends in a fault of the report
   pub closed_fault : AppendsPrefix report.bytes new_report.bytes (closing end)
       → Comes (λ bytes. Closes closing end) (streams source output report) (streams source output new_report) ReportFault
   closed_fault begun = record {

@@ -26,9 +26,11 @@ end_by_over zero = tt
 end_by_over (suc bad) = tt
 
 module _ (size before : ℕ) where
+  -- an outcome that equals another ends in the same way
   ends_as : (n : ℕ) (bytes : List ℕ) (a x : Outcome) → a ≡ x → Ends n size before bytes x → Ends n size before bytes a
   ends_as n bytes a x is ends = subst (Ends n size before bytes) (sym is) ends
 
+  -- behind the last unit the input is over, or has a byte more
   ends_behind : (bad : ℕ) (bytes : List ℕ) (a : Outcome) → EndsBehind Asks bad bytes a → IsFaultless a.end → Ends 0 size before bytes a
   ends_behind bad [] a ends none = elim ends [
     | inr fault ↦ absurd (not_by_fault a _ fault (λ f. f) none)
@@ -41,6 +43,7 @@ module _ (size before : ℕ) where
         ends_as 0 (byte ∷ left) a _ is (record { taken = ap (λ n. take n (byte ∷ left)) one; by = inr (inr (omega (arith, zero-mul size), refl)) })
   ]
 
+  -- with fewer bytes than one unit the loop ends within the next one
   ends_short : (n : ℕ) (bytes : List ℕ) (a : Outcome) → length bytes < size → a ≡ taking bytes (ended (Short before (length bytes)))
       → Ends (suc n) size before bytes a
   ends_short n bytes a fewer is =
@@ -50,6 +53,7 @@ module _ (size before : ℕ) where
         by = inl (0, length bytes, omega arith, fewer, omega (arith, zero-mul size), ap (λ k. Short k (length bytes)) zeroth);
       })
 
+  -- behind one unit that was taken, what ends the units to come ends it with these, one further on
   ends_later : (n : ℕ) (own left w t : List ℕ) (a after : Outcome) → length own ≡ size → a ≡ onto own w t after
       → Ends n size (before + 1) left after → Ends (suc n) size before (own ++ left) a
   ends_later n own left w t a after whole is r =
@@ -67,6 +71,7 @@ module _ (size before : ℕ) where
       })
 
 module _ (units : Units) (size : ℕ) (are : AreOfOneSize units size) where
+  -- with n units to come, a run that no fault ended ends as the length of the bytes left tells
   goes_end : (n : ℕ) (before : List (List ℕ)) (bad : ℕ) (bytes : List ℕ) (a : Outcome) → Goes units n before bad bytes a → IsFaultless a.end
       → Ends n size (length before) bytes a
   unfolding Goes

@@ -82,6 +82,7 @@ behind_there behind.Asks bad (byte ∷ left) a ends fault = elim ends [
 ]
 
 module _ (units : Units) where
+  -- a failed read within unit k leaves what the end of the input there would leave
   within_there : (k : ℕ) (bytes : List ℕ) → LeaveThat (IsWithin units k) bytes
   within_there k bytes a w fault =
       let P = IsWithin units k in
@@ -101,6 +102,7 @@ module _ (units : Units) where
         | Broken at ↦ λ ends by. by (BadMarks k at) (inl refl) tt
       ] w.ends there
 
+  -- with n units to come, a failed read leaves what the end of the input there would leave
   goes_there : (n : ℕ) (before : List (List ℕ)) (bad : ℕ) (bytes : List ℕ) → LeaveThat (Goes units n before bad) bytes
   unfolding Goes
   goes_there zero before bad bytes a (steps, closes, does) fault =
@@ -260,6 +262,7 @@ nothing_behind behind.Asks bad (byte ∷ left) a ends = elim ends [
 ]
 
 module _ (units : Units) (total : AreTotal units) where
+  -- with n units to come, any outcome has fronts of one without a fault
   goes_beyond : (n : ℕ) (before : List (List ℕ)) (bad : ℕ) (bytes : List ℕ) → length before + n ≡ units.count
       → LeaveFronts (Goes units n before bad bytes)
   unfolding Goes

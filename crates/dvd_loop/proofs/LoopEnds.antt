@@ -11,9 +11,11 @@ use Rattle.dvd_loop.proofs.PlainEnds.{damaged_at_most, never_bad_header, never_b
 use Rattle.dvd_loop.proofs.Sizes.{sized_never_broken}
 
 module _ (units : Units) (size : ℕ → ℕ) (begins : (k : ℕ) (own : List ℕ) → units.begins k own ≡ sized (size k) own) (asks : units.behind ≡ Asks) (bytes : List ℕ) (outcome : Outcome) (runs : IsOutcome units bytes outcome) where
+  -- units behind which one byte more is asked for don't end for want of control data
   no_control : outcome.end ≢ NoControl
   no_control = never_no_control units bytes outcome runs (λ stands. let no : Asks ≡ StopsNoControl = sym asks ∙ stands in cc)
 
+  -- units of given sizes never end in bad marks, as no bytes of theirs break a rule
   no_marks : (k at : ℕ) → outcome.end ≢ BadMarks k at
   no_marks = never_bad_marks units bytes outcome runs (λ k at own broken. sized_never_broken (size k) at own (sym (begins k own) ∙ broken))
 

@@ -80,9 +80,11 @@ pub record InPieces (size : ℕ → ℕ) (P : ℕ → List ℕ → List ℕ → 
   pub taken : outcome.taken ≡ left
 
 module _ (units : Units) (size : ℕ → ℕ) (P : ℕ → List ℕ → List ℕ → List ℕ → Type 0) (are : AreGood units size P) where
+  -- an outcome that equals another goes over the same pieces
   pieces_as : (k n : ℕ) (all left : List ℕ) (a x : Outcome) → a ≡ x → InPieces size P k n all left x → InPieces size P k n all left a
   pieces_as k n all left a x is pieces = subst (InPieces size P k n all left) (sym is) pieces
 
+  -- with no units to come and no bytes left, there are no pieces, and the run is done
   no_more : (k : ℕ) (all : List ℕ) (a : Outcome) → EndsBehind Asks 0 [] a → IsFaultless a.end → InPieces size P k 0 all [] a
   no_more k all a ends none = elim ends [
     | inr fault ↦ absurd (not_by_fault a _ fault (λ f. f) none)
@@ -104,6 +106,7 @@ module _ (units : Units) (size : ℕ → ℕ) (P : ℕ → List ℕ → List ℕ
       sym (take-append_seam own left) ∙ ap (λ n. take n (own ++ left)) whole
       ∙ ap (take (size k)) (sym (drop-append_seam front (own ++ left)) ∙ ap (λ n. drop n (front ++ (own ++ left))) at ∙ ap (drop (start size k)) (sym is))
 
+  -- one unit before those to come adds its piece to theirs
   one_more : (k n : ℕ) (all own left w t : List ℕ) (after : Outcome) → P k (take (size k) (drop (start size k) all)) w t
       → InPieces size P (k + 1) n all left after
       → InPieces size P k (suc n) all (own ++ left) (onto own w t after)
@@ -127,6 +130,7 @@ module _ (units : Units) (size : ℕ → ℕ) (P : ℕ → List ℕ → List ℕ
     taken = ap (λ l. own ++ l) r.taken;
   }
 
+  -- with n units to come and their bytes left, each writes and tells its piece, and the run is done
   goes_over : (n : ℕ) (before : List (List ℕ)) (all front left : List ℕ) (a : Outcome) → all ≡ front ++ left
       → length front ≡ start size (length before) → length before + n ≡ units.count
       → length all ≡ start size units.count → Goes units n before 0 left a → IsFaultless a.end → InPieces size P (length before) n all left a

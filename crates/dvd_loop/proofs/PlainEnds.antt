@@ -216,6 +216,7 @@ pub record AreSilent (units : Units) : Type 0 where
   pub closes : (before : List (List ℕ)) (steps : List Step) → units.closes before steps → told steps ≡ []
 
 module _ (units : Units) (are : AreSilent units) where
+  -- with n units to come, a run of silent units tells nothing, and the report doesn't fail
   goes_silent : (n : ℕ) (before : List (List ℕ)) (bad : ℕ) (bytes : List ℕ) → AllSilent (Goes units n before bad bytes)
   unfolding Goes
   goes_silent zero before bad bytes a (steps, closes, does) = steps_silent steps (are.closes before steps closes) (EndsBehind units.behind bad bytes) (behind_silent units.behind bad bytes) a does
@@ -256,6 +257,7 @@ module _ (units : Units) (bytes : List ℕ) (outcome : Outcome) (runs : IsOutcom
   pub never_short_header : (held : ℕ) → outcome.end ≢ ShortHeader held
   never_short_header held is = reason (ShortHeader held) is
 
+  -- nor does it end in a header that breaks a rule
   pub never_bad_header : (at : ℕ) → outcome.end ≢ BadHeader at
   never_bad_header at is = reason (BadHeader at) is
 

@@ -125,6 +125,7 @@ module _ (units : Units) where
         (reaches_next n is (own ++ left) (taking own (onto [] (written steps) (told steps) after)) (taken_unit n before own left steps turn bad after unit goes)))
 
     module _ (ready : List (List ℕ) → Type 0) (new : Streams) (turn : Turn) (t : IsTurnDone units before ready now new turn) (lt : k < units.count) where
+      -- what was taken, written and told up to behind this unit: that before it, and then its own
       moved_next : HaveMoved old new (r.taken ++ t.own) (r.out ++ written t.steps) (r.lines ++ told t.steps)
       moved_next = moves_on old now new r.taken r.out r.lines t.own (written t.steps) (told t.steps) r.moved t.moved
 
@@ -174,6 +175,7 @@ module _ (units : Units) where
         (λ left after at. reaches_next n.0 n.1 left after (ends_at n.0 before bad left after at)) comes
 
     module _ (all : k ≡ units.count) (steps : List Step) (closes : units.closes before steps) where
+      -- behind all units and the closing steps, what comes of the bytes left is an outcome of all
       reaches_closed : (left : List ℕ) (after : Outcome) → Does steps (EndsBehind units.behind bad left) after
           → IsOutcome units (r.taken ++ left) (onto r.taken r.out r.lines after)
       unfolding Goes

@@ -60,6 +60,7 @@ module _ (units : Units) (size : ℕ → ℕ) (begins : (k : ℕ) (bytes : List 
       let is = unit_size k own whole in
       begins k (own ++ more) ∙ sized_enough (size k) (own ++ more) (omega (arith, length-append own more)) ∙ ap Whole (sym is)
 
+  -- bytes that break a rule would break it whatever follows, but none of such a unit do
   pub broken_stays : (k at : ℕ) (own more : List ℕ) → units.begins k own ≡ Broken at → units.begins k (own ++ more) ≡ Broken at
   broken_stays k at own more broken = absurd (sized_never_broken (size k) at own (sym (begins k own) ∙ broken))
 

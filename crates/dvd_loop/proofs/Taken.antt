@@ -54,9 +54,11 @@ module _ (units : Units) (size : ℕ → ℕ) (begins : (k : ℕ) (bytes : List 
     further : start size before + count ≡ start size units.count
     takes : TakesAll units.behind count bytes a
 
+  -- an outcome that equals another takes the same rest
   rest_as : (before : ℕ) (bytes : List ℕ) (a x : Outcome) → a ≡ x → TakesRest before bytes x → TakesRest before bytes a
   rest_as before bytes a x is rest = subst (TakesRest before bytes) (sym is) rest
 
+  -- with n units to come, a run that ends as done takes the bytes of these
   goes_take : (n : ℕ) (before : List (List ℕ)) (bad : ℕ) (bytes : List ℕ) (a : Outcome) → length before + n ≡ units.count
       → Goes units n before bad bytes a → IsFaultless a.end → a.end ≡ Done → TakesRest (length before) bytes a
   unfolding Goes
@@ -84,6 +86,7 @@ module _ (units : Units) (size : ℕ → ℕ) (begins : (k : ℕ) (bytes : List 
         })
   ]
 
+  -- from the first unit on, a run that ends as done takes the bytes of all
   takes_rest : (bytes : List ℕ) (a : Outcome) → units.opens ≡ [] → IsOutcome units bytes a → a.end ≡ Done → TakesRest 0 bytes a
   takes_rest bytes a opens runs done =
       goes_take units.count [] 0 bytes a (omega arith) (subst (λ l. Does l (Goes units units.count [] 0 bytes) a) opens runs) (subst IsFaultless (sym done) tt) done

@@ -41,6 +41,7 @@ pub one_fewer : (before : List (List ℕ)) (own : List ℕ) (n count : ℕ) → 
 one_fewer before own n count all = omega (arith, length-append before (own ∷ []))
 
 module _ (units : Units) (total : AreTotal units) where
+  -- with n units to come there is an outcome without a fault for any bytes
   pub goes_exist : (n : ℕ) (before : List (List ℕ)) (bad : ℕ) (bytes : List ℕ) → length before + n ≡ units.count
       → Exists (Goes units n before bad bytes)
   unfolding Goes
@@ -92,6 +93,7 @@ module _ (units : Units) (total : AreTotal units) where
     )
   ]
 
+  -- so there is one with all units to come
   pub all_exist : (bytes : List ℕ) → Exists (Goes units units.count [] 0 bytes)
   all_exist bytes = goes_exist units.count [] 0 bytes (omega arith)
 

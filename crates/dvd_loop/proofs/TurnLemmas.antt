@@ -98,6 +98,7 @@ module _ (source output new_output report : Seen) where
     tells = Appends-none report.bytes;
   }
 
+  -- the output failed within the write: a front of its bytes came, and no step behind it was taken
   pub step_begun : (bytes : List ℕ) (steps : List Step) → AppendsPrefix output.bytes new_output.bytes bytes
       → Comes (λ input. Does (Write bytes ∷ steps) Nothing) (streams source output report) (streams source new_output report) WriteFault
   step_begun bytes steps begun = record {
@@ -123,6 +124,7 @@ module _ (source output report new_report : Seen) where
     tells = subst (Appends report.bytes new_report.bytes) (sym (append-nil line)) tells;
   }
 
+  -- the report failed within the line: a front of it came, and no step behind it was taken
   pub line_begun : (line : List ℕ) (steps : List Step) → AppendsPrefix report.bytes new_report.bytes line
       → Comes (λ input. Does (Tell line ∷ steps) Nothing) (streams source output report) (streams source output new_report) ReportFault
   line_begun line steps begun = record {
@@ -163,10 +165,12 @@ causes_after (Err end) old now new first next = causes_first old now new end end
 
 -- one write is all that is done for a unit that is then this
 module _ (May : List Step → Turn → Type 0) (bytes : List ℕ) (turn : Turn) (may : May (Write bytes ∷ []) turn) (source output new_output report : Seen) where
+  -- the write was whole, so all was done for the unit
   pub write_done : Appends output.bytes new_output.bytes bytes
       → AreDone May (streams source output report) (streams source new_output report) (Ok turn)
   write_done writes = record { steps = Write bytes ∷ []; turn = turn; may = may; done = step_written source output new_output report bytes writes; is = λ value is. cc }
 
+  -- the output failed within the write, which ends the loop
   pub write_begun : (answer : Result Turn LoopEnd) → answer ≡ Err WriteFault → AppendsPrefix output.bytes new_output.bytes bytes
       → AreDone May (streams source output report) (streams source new_output report) answer
   write_begun answer is begun = record {
@@ -179,6 +183,7 @@ module _ (May : List Step → Turn → Type 0) (bytes : List ℕ) (turn : Turn) 
 
 -- Units of given sizes: a turn by what was read and by what was done.
 module _ (units : Units) (size : ℕ → ℕ) (begins : (k : ℕ) (own : List ℕ) → units.begins k own ≡ sized (size k) own) (k : ℕ) (before : List (List ℕ)) (number : length before ≡ k) (ready : List (List ℕ) → Type 0) (source new_source output report : Seen) where
+  -- a unit of which too few bytes came ends the loop, as its source did
   pub sized_short : (answer : Result Turn LoopEnd) (end : LoopEnd) → answer ≡ Err end → EndsShort k (size k) source new_source end
       → IsTurn units before ready (streams source output report) (streams new_source output report) answer
   sized_short answer end is short =
@@ -187,6 +192,7 @@ module _ (units : Units) (size : ℕ → ℕ) (begins : (k : ℕ) (own : List �
       (λ own fewer. begins (length before) own ∙ ap (λ j. sized (size j) own) number ∙ sized_fewer (size k) own fewer)
       (subst (λ j. EndsShort j (size k) source new_source end) (sym number) short))
 
+  -- a unit of which all bytes came, and what was done for it, is a turn
   pub sized_done : (own : List ℕ) → length own ≡ size k → Consumes source.bytes new_source.bytes own
       → (new_output new_report : Seen) (answer : Result Turn LoopEnd)
       → AreDone (units.does k before own) (streams new_source output report) (streams new_source new_output new_report) answer → ready (before ++ own ∷ [])
