@@ -134,12 +134,15 @@ unfolding joined_marks
 marks-row = line-map mark_of
 
 module _ (block rows : List (List ℕ)) (marks : List (List Bool)) (others : Table) (of_block : IsOf block others) (i : ℕ) where
+  -- row i of the one capture, joined with row i of the other captures
   abbrev one : List Place
   one = join_rows (seen_row (line rows i) (marks_line marks i)) (row_of others i)
 
+  -- it is row i of the join of their tables
   row_is : row_of (join_tables (seen_table rows marks) others) i ≡ one
   row_is = row-join (seen_table rows marks) others i ∙ ap (λ row. join_rows row (row_of others i)) (row-seen rows marks i)
 
+  -- so row i of the join costs no more against the block than in the one capture
   joined_bound : (all : Table) → all ≡ join_tables (seen_table rows marks) others
       → cost (line block i) (line (joined_rows all) i) (marks_line (joined_marks all) i) ≤ cost (line block i) (line rows i) (marks_line marks i)
   joined_bound all is =

@@ -10,6 +10,7 @@ module _ {A : Type 0} (f : A → A → A) (comm : (x y : A) → f x y ≡ f y x)
   again : (x y : A) → f x (f x y) ≡ f x y
   again x y = sym (assoc x x y) ∙ ap (λ z. f z y) (idem x)
 
+  -- two elements may be joined to a third in either order
   past : (x y z : A) → f x (f y z) ≡ f y (f x z)
   past x y z = sym (assoc x y z) ∙ ap (λ w. f w z) (comm x y) ∙ assoc y x z
 
@@ -43,6 +44,7 @@ module _ {A : Type 0} (f : A → A → A) (comm : (x y : A) → f x y ≡ f y x)
       ap (λ b. f b (fold f a ys)) (fold_out a x xs) ∙ assoc x (fold f a xs) (fold f a ys)
       ∙ ap (f x) (absorbs_all a xs ys (λ k d within. each (suc k) d (omega (arith, within)))) ∙ each 0 x (omega arith)
 
+  -- a member of a list changes nothing in the list's join
   contained : (a x : A) (xs : List A) → Contains xs x → f x (fold f a xs) ≡ fold f a xs
   contained a x xs (k, within, is) = ap (λ y. f y (fold f a xs)) (sym is) ∙ absorbs a xs k x within
 
@@ -55,12 +57,14 @@ module _ {A : Type 0} (f : A → A → A) (comm : (x y : A) → f x y ≡ f y x)
 
 -- an operation on elements, on lists of them
 module _ {A : Type 0} (f : A → A → A) where
+  -- what doesn't mind the order of two elements doesn't mind that of two lists
   pub zip2-comm : ((x y : A) → f x y ≡ f y x) → (xs ys : List A) → zip2 f xs ys ≡ zip2 f ys xs
   zip2-comm comm [] [] = refl
   zip2-comm comm [] (y ∷ ys) = refl
   zip2-comm comm (x ∷ xs) [] = refl
   zip2-comm comm (x ∷ xs) (y ∷ ys) = ap (λ z. z ∷ zip2 f xs ys) (comm x y) ∙ ap (λ zs. f y x ∷ zs) (zip2-comm comm xs ys)
 
+  -- what may be bracketed either way on elements may be on lists
   pub zip2-assoc : ((x y z : A) → f (f x y) z ≡ f x (f y z)) → (xs ys zs : List A) → zip2 f (zip2 f xs ys) zs ≡ zip2 f xs (zip2 f ys zs)
   zip2-assoc assoc [] ys zs = refl
   zip2-assoc assoc (x ∷ xs) [] zs = refl
@@ -68,16 +72,19 @@ module _ {A : Type 0} (f : A → A → A) where
   zip2-assoc assoc (x ∷ xs) (y ∷ ys) (z ∷ zs) =
       ap (λ w. w ∷ zip2 f (zip2 f xs ys) zs) (assoc x y z) ∙ ap (λ ws. f x (f y z) ∷ ws) (zip2-assoc assoc xs ys zs)
 
+  -- where each element joined with itself is itself, so is each list
   pub zip2-idem : ((x : A) → f x x ≡ x) → (xs : List A) → zip2 f xs xs ≡ xs
   zip2-idem idem [] = refl
   zip2-idem idem (x ∷ xs) = ap (λ y. y ∷ zip2 f xs xs) (idem x) ∙ ap (λ ys. x ∷ ys) (zip2-idem idem xs)
 
 -- what stands behind the end of a list stands behind the end of its joins
 module _ {A B C : Type 0} (g : A → B → C) where
+  -- with an empty list the join is empty
   zip2-none : (xs : List A) → zip2 g xs [] ≡ []
   zip2-none [] = refl
   zip2-none (x ∷ xs) = refl
 
+  -- row i of two joined tables is the join of their rows i, also behind the end of either
   pub zip2-row : (xs : List (List A)) (ys : List (List B)) (i : ℕ) → get_or (zip2 (zip2 g) xs ys) i [] ≡ zip2 g (get_or xs i []) (get_or ys i [])
   zip2-row [] ys i = refl
   zip2-row (x ∷ xs) [] i = sym (zip2-none (get_or (x ∷ xs) i []))

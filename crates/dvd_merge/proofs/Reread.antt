@@ -109,11 +109,13 @@ marks-back marks size =
     mark-marks_of (mark_bytes marks) j below ∙ mark-back marks j size below)
 
 module _ (rows : List (List ℕ)) (width : (i : ℕ) → i < 208 → length (line rows i) ≡ 205) where
+  -- n + 1 recorded rows are n of them and the row that stands at recorded row n
   one_more : (n : ℕ) → recorded 0 (n + 1) rows ≡ recorded 0 n rows ++ line rows (row_at n)
   one_more n =
       let same : 0 + n ≡ n = omega arith in
       recorded-more 0 n rows ∙ ap (λ k. recorded 0 n rows ++ line rows (row_at k)) same
 
+  -- n recorded rows of the marked form have 205 n bytes
   length-recorded : (n : ℕ) → n ≤ 208 → length (recorded 0 n rows) ≡ 205 * n
   length-recorded zero within = ap length (recorded-none 0 rows)
   length-recorded (suc n) within =
@@ -128,6 +130,7 @@ module _ (rows : List (List ℕ)) (width : (i : ℕ) → i < 208 → length (lin
       ap (λ k. recorded 0 k rows) (sym all) ∙ recorded-add 0 (m + 1) (207 - m) rows
       ∙ ap (λ front. front ++ recorded (0 + (m + 1)) (207 - m) rows) (one_more m)
 
+  -- recorded row m of the marked form is the row that stands there
   record_row : (m : ℕ) → m < 208 → record_of Marked (recording rows) m ≡ line rows (row_at m)
   record_row m below =
       let row : List ℕ = line rows (row_at m) in
@@ -138,19 +141,24 @@ module _ (rows : List (List ℕ)) (width : (i : ℕ) → i < 208 → length (lin
       ∙ part-behind (recorded 0 m rows) row (205 * m) 205 before row_width
 
 module _ (table : Table) (height : length table ≡ 208) (widths : All (λ row. length row ≡ 182) table) where
+  -- each row of the table has 182 places
   wide : (i : ℕ) → i < 208 → length (row_of table i) ≡ 182
   wide i below = widths i [] (omega (arith, height, below))
 
+  -- row i of the marked text has the bytes and the mark bits of row i of the table
   row_is : (i : ℕ) → i < 208 → line (map marked_row table) i ≡ marked_row (row_of table i)
   row_is i below = get_or-map marked_row table i [] [] (omega (arith, height, below))
 
+  -- the marks of a row are 23 bytes
   length-bits : (marks : List Bool) → length (mark_bytes marks) ≡ 23
   unfolding mark_bytes
   length-bits marks = length-map-range_with_len (mark_byte marks) 0 23
 
+  -- the bytes of a row are 182
   bytes_long : (i : ℕ) → i < 208 → length (map byte_of (row_of table i)) ≡ 182
   bytes_long i below = length-map (row_of table i) byte_of ∙ wide i below
 
+  -- so a row of the marked text has 205 bytes
   width : (i : ℕ) → i < 208 → length (line (map marked_row table) i) ≡ 205
   unfolding marked_row
   width i below =
@@ -158,15 +166,18 @@ module _ (table : Table) (height : length table ≡ 208) (widths : All (λ row. 
       ap length (row_is i below) ∙ length-append (map byte_of (row_of table i)) bits
       ∙ omega (arith, bytes_long i below, length-bits (map mark_of (row_of table i)))
 
+  -- the marked text has the bytes and marks of row i at its recorded row
   record_is : (i : ℕ) → i < 208 → record_of Marked (marked_text table) (record_at i) ≡ marked_row (row_of table i)
   record_is i below =
       record_row (map marked_row table) width (record_at i) (record_at-lt i below)
       ∙ ap (line (map marked_row table)) (row_at-record_at i below) ∙ row_is i below
 
+  -- its first 182 bytes are those of row i of the table
   front : (i : ℕ) → i < 208 → take 182 (marked_row (row_of table i)) ≡ map byte_of (row_of table i)
   unfolding marked_row
   front i below = part-append (map byte_of (row_of table i)) (mark_bytes (map mark_of (row_of table i))) 0 182 (omega (arith, bytes_long i below)) ∙ take_all 182 (map byte_of (row_of table i)) (omega (arith, bytes_long i below))
 
+  -- and the 23 behind them are read as its marks
   behind : (i : ℕ) → i < 208 → marks_in Marked (marked_row (row_of table i)) ≡ map mark_of (row_of table i)
   unfolding marked_row
   behind i below =
@@ -175,6 +186,7 @@ module _ (table : Table) (height : length table ≡ 208) (widths : All (λ row. 
       subst (λ n. drop n (map byte_of (row_of table i) ++ mark_bytes marks) ≡ mark_bytes marks) (bytes_long i below) (drop-append_seam (map byte_of (row_of table i)) (mark_bytes marks)) in
       ap marks_of bits ∙ marks-back marks (length-map (row_of table i) mark_of ∙ wide i below)
 
+  -- so the rows that are read from the marked text are those of the table
   pub rows_read : captured_rows Marked (marked_text table) ≡ joined_rows table
   unfolding captured_rows joined_rows
   rows_read =
@@ -189,6 +201,7 @@ module _ (table : Table) (height : length table ≡ 208) (widths : All (λ row. 
       joined_size : length (joined_rows table) ≡ 208
       joined_size = length-map table (map byte_of) ∙ height
 
+  -- and so are the marks
   pub marks_read : captured_marks Marked (marked_text table) ≡ joined_marks table
   unfolding captured_marks joined_marks
   marks_read =
