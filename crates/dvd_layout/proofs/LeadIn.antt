@@ -22,21 +22,27 @@ length-zones zone zones = ap length (flat_map-cons entries_of zone zones) ∙ le
     ∙ ap (λ n. n + length (flat_map entries_of zones)) (length-entries_of zone)
 
 module _ (initial : ℕ) where
+  -- so many blocks of zeros of the Initial Zone, before the reference code
   abbrev initial_zone : Zone
   initial_zone = zone_of (0x2F000 - 16 * initial) initial LeadIn 0 Zero
 
+  -- the two blocks of the Reference Code Zone, from sector number 0x2F000 on
   abbrev reference : Zone
   reference = zone_of 0x2F000 2 LeadIn 0 Reference
 
+  -- the 30 blocks of zeros of Buffer Zone 1
   abbrev buffer : Zone
   buffer = zone_of 0x2F020 30 LeadIn 0 Zero
 
+  -- the 192 blocks of the Control Data Zone, from sector number 0x2F200 on
   abbrev control : Zone
   control = zone_of 0x2F200 192 LeadIn 0 Control
 
+  -- the 32 blocks of zeros of Buffer Zone 2, before the Data Zone
   abbrev last_buffer : Zone
   last_buffer = zone_of 0x2FE00 32 LeadIn 0 Zero
 
+  -- the lead-in has 256 blocks and those of its Initial Zone
   pub length-lead_in_blocks : length (lead_in_blocks initial) ≡ initial + 256
   unfolding lead_in_blocks
   length-lead_in_blocks =
@@ -48,12 +54,14 @@ module _ (initial : ℕ) where
       let none : length (flat_map entries_of []) ≡ 0 = refl in
       omega arith
 
+  -- before the reference code stand the blocks of the Initial Zone
   before-one : blocks_before (lead_in initial 0) 1 ≡ initial
   before-one =
       let a = length-zones initial_zone [] in
       let none : length (flat_map entries_of []) ≡ 0 = refl in
       omega arith
 
+  -- before Buffer Zone 1 stand two blocks more
   before-two : blocks_before (lead_in initial 0) 2 ≡ initial + 2
   before-two =
       let a = length-zones initial_zone (reference ∷ []) in
@@ -61,6 +69,7 @@ module _ (initial : ℕ) where
       let none : length (flat_map entries_of []) ≡ 0 = refl in
       omega arith
 
+  -- before the control data stand 30 blocks more, 32 in all behind the Initial Zone
   before-three : blocks_before (lead_in initial 0) 3 ≡ initial + 32
   before-three =
       let a = length-zones initial_zone (reference ∷ buffer ∷ []) in
@@ -76,18 +85,23 @@ module _ (initial : ℕ) where
       let same : own ≡ entry = (let some : Some own ≡ Some entry = sym stands ∙ read in cc) in
       not (ap (λ (e : BlockPlan). e.content) same ∙ is)
 
+  -- the first places of the lead-in are the blocks of the Initial Zone
   in_initial : (k : ℕ) → k < initial → slice_get (flat_map entries_of (lead_in initial 0)) k ≡ Some (entry_of initial_zone k)
   in_initial k below = block-at (lead_in initial 0) 0 k k control (omega arith) below (let none : length (flat_map entries_of []) ≡ 0 = refl in omega arith)
 
+  -- the two places behind the Initial Zone are the blocks of the reference code
   in_reference : (b : ℕ) → b < 2 → slice_get (flat_map entries_of (lead_in initial 0)) (initial + b) ≡ Some (entry_of reference b)
   in_reference b below = block-at (lead_in initial 0) 1 b (initial + b) control (omega arith) below (omega (arith, before-one))
 
+  -- the 30 places behind the reference code are the blocks of Buffer Zone 1
   in_buffer : (b : ℕ) → b < 30 → slice_get (flat_map entries_of (lead_in initial 0)) (initial + 2 + b) ≡ Some (entry_of buffer b)
   in_buffer b below = block-at (lead_in initial 0) 2 b (initial + 2 + b) control (omega arith) below (omega (arith, before-two))
 
+  -- the 192 places behind Buffer Zone 1 are the blocks of the control data
   in_control : (c : ℕ) → c < 192 → slice_get (flat_map entries_of (lead_in initial 0)) (initial + 32 + c) ≡ Some (entry_of control c)
   in_control c below = block-at (lead_in initial 0) 3 c (initial + 32 + c) control (omega arith) below (omega (arith, before-three))
 
+  -- no block before the control data holds any
   none_before : (k : ℕ) (entry : BlockPlan) → k < initial + 32 → slice_get (flat_map entries_of (lead_in initial 0)) k ≡ Some entry → entry.content ≢ Control
   none_before k entry below read = elim (cases_lt k initial) [
     | inl lt ↦ not_control k (entry_of initial_zone k) entry (in_initial k lt) (λ is. cc) read
@@ -103,6 +117,7 @@ module _ (initial : ℕ) where
     ]
   ]
 
+  -- so the control data stand in 192 blocks of the lead-in, behind 32 and those of the Initial Zone
   pub control_data_stand : ControlDataStandInTheLeadIn initial
   unfolding lead_in_blocks
   control_data_stand = record { stand = in_control; none_before = none_before }
