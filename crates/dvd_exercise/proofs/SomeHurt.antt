@@ -49,6 +49,7 @@ same_turn start s t first second same = elim (cases_lt s t) [
 
 module _ (bad lost start y : ℕ) (few : bad + lost < 208) (rows : List (List ℕ)) (marks : List (List Bool)) (height : length rows ≡ 208) (marks_height : length marks ≡ 208)
     (widths : (k : ℕ) → k < 208 → length (line rows k) ≡ 182) where
+  -- row k with the single errors that a row gets which is neither bad nor lost
   abbrev errors : (k : ℕ) → k < 208 → (row : List ℕ) × HasErrors (row_state start (bad + lost) (state_after y (182 * bad)) k) (line rows k) row
   errors k below = some_errors (row_state start (bad + lost) (state_after y (182 * bad)) k) (line rows k) (widths k below)
 
@@ -57,9 +58,11 @@ module _ (bad lost start y : ℕ) (few : bad + lost < 208) (rows : List (List �
   turn_row t (inl early) = combined (state_after y (182 * t)) (line rows (row_of start t))
   turn_row t (inr late) = replicate 182 0
 
+  -- the row of turn t as it is hurt: bad in the first turns, and lost in the others
   abbrev hit_row : ℕ → List ℕ
   hit_row t = turn_row t (leb_tells (suc t) bad)
 
+  -- in a turn of a bad row all its bytes are combined with drawn ones
   bad_row : (t : ℕ) → t < bad → hit_row t ≡ combined (state_after y (182 * t)) (line rows (row_of start t))
   bad_row t below = by_turn (leb_tells (suc t) bad) where
     by_turn : (turn : ((nat_lt t bad ≡ true) × (t < bad)) ⊎ ((nat_lt t bad ≡ false) × (bad < suc t)))
@@ -67,6 +70,7 @@ module _ (bad lost start y : ℕ) (few : bad + lost < 208) (rows : List (List �
     by_turn (inl early) = refl
     by_turn (inr late) = absurd (omega (arith, late.1))
 
+  -- in a turn of a lost row it is zeros
   lost_row : (t : ℕ) → bad ≤ t → hit_row t ≡ replicate 182 0
   lost_row t past = by_turn (leb_tells (suc t) bad) where
     by_turn : (turn : ((nat_lt t bad ≡ true) × (t < bad)) ⊎ ((nat_lt t bad ≡ false) × (bad < suc t))) → turn_row t turn ≡ replicate 182 0
@@ -79,38 +83,46 @@ module _ (bad lost start y : ℕ) (few : bad + lost < 208) (rows : List (List �
   row_for k (inl below) (inr none) = (errors k below).0
   row_for k (inr past) (inr none) = []
 
+  -- where the turn of row k is t, it is the row of this turn
   row_hit : (k : ℕ) (inside : (k < 208) ⊎ (208 ≤ k)) (find : Find start (bad + lost) k) (t : ℕ) → t < bad + lost → row_of start t ≡ k
       → row_for k inside find ≡ hit_row t
   row_hit k inside (inl found) t below same = ap hit_row (same_turn start found.0 t (omega (arith, found.1)) (omega arith) (found.2 ∙ sym same))
   row_hit k (inl lt) (inr none) t below same = absurd (none t below same)
   row_hit k (inr past) (inr none) t below same = absurd (none t below same)
 
+  -- where no turn has row k, it has its single errors alone
   row_errors : (k : ℕ) (inside : (k < 208) ⊎ (208 ≤ k)) (find : Find start (bad + lost) k) → k < 208 → is_hit start (bad + lost) k ≡ false
       → HasErrors (row_state start (bad + lost) (state_after y (182 * bad)) k) (line rows k) (row_for k inside find)
   row_errors k inside (inl found) below miss = absurd (not_hit start (bad + lost) k found.0 miss found.1 found.2)
   row_errors k (inl lt) (inr none) below miss = (errors k lt).1
   row_errors k (inr past) (inr none) below miss = absurd (omega (arith, past))
 
+  -- row k as it is hurt, by the turn that has it, if any
   abbrev row_at : ℕ → List ℕ
   row_at k = row_for k (cases_lt k 208) (find_place (row_of start) k (bad + lost))
 
+  -- the 208 rows as they are hurt
   abbrev done : List (List ℕ)
   done = map row_at (range_with_len 0 208)
 
+  -- row k of these is row k as it is hurt
   line_done : (k : ℕ) → k < 208 → line done k ≡ row_at k
   line_done k below = get_or-map-range_with_len row_at 0 208 k k [] below (omega arith)
 
+  -- the row that turn t hits is the row of this turn
   line_hit : (t : ℕ) → t < bad + lost → line done (row_of start t) ≡ hit_row t
   line_hit t below =
       line_done (row_of start t) (omega arith)
       ∙ row_hit (row_of start t) (cases_lt (row_of start t) 208) (find_place (row_of start) (row_of start t) (bad + lost)) t below refl
 
+  -- the marks of the lost rows are all set, and the others are as they were
   abbrev some_marks : (after : List (List Bool)) × IsChanged [] lost (λ t. row_of start (bad + t)) (λ t. replicate 182 true) marks after
   some_marks =
       some_changed [] lost (λ t. row_of start (bad + t)) (λ t. replicate 182 true) marks
       (λ m t below earlier. row_of-new start (bad + m) (bad + t) (omega arith) (omega arith))
       (λ t below. omega (arith, marks_height))
 
+  -- so the block is hurt by so many bad rows and lost rows, and by single errors in the others
   hurt_by_some : (hurt_rows : List (List ℕ)) × (hurt_marks : List (List Bool)) × IsHurtBy bad lost start y rows marks hurt_rows hurt_marks
   hurt_by_some = (
     done,
