@@ -92,10 +92,12 @@ stands_at layout k d within = by_side (cases_lt k (blocks_of layout.sectors0))
 
 -- pieces of sixteen elements
 module _ {X A : Type 0} (f : X → List A) (sixteen : (x : X) → length (f x) ≡ 16) where
+  -- they are sixteen times as many elements as pieces
   pub length-pieces : (xs : List X) → length (flat_map f xs) ≡ 16 * length xs
   length-pieces [] = refl
   length-pieces (x ∷ xs) = length-append (f x) (flat_map f xs) ∙ omega (arith, sixteen x, length-pieces xs)
 
+  -- element 16 k + n of all is element n of piece k
   pub piece-at : (xs : List X) (k n : ℕ) (e : X) (d : A) → k < length xs → n < 16 → get_or (flat_map f xs) (16 * k + n) d ≡ get_or (f (get_or xs k e)) n d
   piece-at [] k n e d within below = absurd (omega (arith, within))
   piece-at (x ∷ xs) zero n e d within below =

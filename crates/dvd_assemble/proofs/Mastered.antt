@@ -135,12 +135,15 @@ unseen_place (suc n) (suc j) = unseen_place n j
 
 -- the table of a captured frame is of the block
 module _ (f : ℕ) (block : List (List ℕ)) (frame : Frame) (captured : IsCaptureOf f block frame) where
+  -- what the frame tells of row i: its own row, or nothing where the row isn't of this frame
   abbrev row_told : ℕ → List Place
   row_told i = if record_at i / 13 == f then frame_row frame (record_at i % 13) else replicate 182 Unseen
 
+  -- place j of a row isn't seen, or has the byte of row i of the block
   abbrev Has : ℕ → ℕ → List Place → Type 0
   Has i j row = (get_or row j Unseen ≡ Unseen) ⊎ (get_or row j Unseen ≡ Value (place block i j))
 
+  -- each place that the frame tells of row i has the byte of the block
   row_has : (i j : ℕ) → i < 208 → Has i j (row_told i)
   row_has i j below = by_frame (eqb_tells (record_at i / 13) f)
     where
@@ -155,6 +158,7 @@ module _ (f : ℕ) (block : List (List ℕ)) (frame : Frame) (captured : IsCaptu
           rw here.0 (row_tells (line frame.rows q) (marks_line frame.marks q) (λ p. place block i p) agrees j)
       by_frame (inr elsewhere) = rw elsewhere.0 (inl (unseen_place 182 j))
 
+  -- so the table of the frame is of the block
   table_has : IsOf block (frame_table f frame)
   unfolding frame_table
   table_has i j = by_side (cases_lt i 208)
