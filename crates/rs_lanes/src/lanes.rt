@@ -5,6 +5,7 @@ ghost use Rattle.rs_lanes.specs.Rows.{place};
 ghost use Rattle.rs_lanes.specs.Inner.Lanes.{HasLanes};
 ghost use Rattle.rs_lanes.specs.Inner.Tables.{IsTable};
 
+use crate::factors::PRODUCTS;
 use std::simd::prelude::*;
 
 /// The sum of two vectors.
@@ -59,6 +60,15 @@ pub fn times(table: &[[u8; 16]; 2], lanes: u8x32) -> u8x32
         by_low_nibble(&table[0], lanes),
         by_high_nibble(&table[1], lanes),
     )
+}
+
+/// The product of each lane and a factor.
+#[inline(always)]
+pub fn multiple(lanes: u8x32, factor: u8) -> u8x32
+    ensures size { length result ≡ 32 }
+    ensures each { (k : ℕ) → k < 32 → slice_index result k ≡ product (slice_index lanes k) factor }
+{
+    times(&PRODUCTS[factor as usize], lanes)
 }
 
 // Lanes that are zero exactly where those of both are.

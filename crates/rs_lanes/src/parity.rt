@@ -6,8 +6,7 @@ ghost use Rattle.rs_lanes.specs.Rows.{line, place, column};
 ghost use Rattle.rs_lanes.specs.Inner.Lanes.{HasLanes};
 ghost use Rattle.rs_lanes.specs.Inner.Parity.{IsBasis};
 
-use crate::factors::PRODUCTS;
-use crate::lanes::{mixed, times};
+use crate::lanes::{mixed, multiple};
 use std::simd::prelude::*;
 
 /// The words of `R` bytes with these values at alpha^0 to alpha^(`R` - 1), one in each lane.
@@ -49,5 +48,5 @@ fn add_multiples<const R: usize>(
 fn with_multiple(sum: u8x32, lanes: u8x32, factor: u8) -> u8x32
     ensures { HasLanes result (λ j. plus (slice_index sum j) (product (slice_index lanes j) factor)) }
 {
-    mixed(sum, times(&PRODUCTS[factor as usize], lanes))
+    mixed(sum, multiple(lanes, factor))
 }

@@ -1,12 +1,9 @@
-use Rattle.std.proofs.Common.{get_or, ap, ◌∙◌, arith}
+use Rattle.std.proofs.Common.{get_or, ap, ◌∙◌}
 use Rattle.gf_field.specs.Field.{plus}
-use Rattle.rs_lanes.proofs.FactorLemmas.{PRODUCTS-tables}
 use Rattle.rs_lanes.proofs.parity.with_multiple.Goals as goal
 
 pub returns : goal.returns
-returns c =
-    let multiple = c.times.ensures c.args.factor (PRODUCTS-tables c.args.factor (omega arith)) in
-    record {
-      size = c.mixed.ensures.size;
-      each = λ j below. c.mixed.ensures.each j below ∙ ap (plus (get_or c.args.sum j 0)) (multiple.each j below);
-    }
+returns c = record {
+  size = c.mixed.ensures.size;
+  each = λ j below. c.mixed.ensures.each j below ∙ ap (plus (get_or c.args.sum j 0)) (c.multiple.ensures.each j below);
+}
