@@ -1,7 +1,6 @@
 -- The marked places of a word, as loops over the marks pass them.
-use Rattle.std.proofs.Common.{◌≡◌, ◌≢◌, ℕ, zero, suc, ◌+◌, ◌-◌, ◌<◌, ◌≤◌, Bool, true, false, ◌||◌, nat_lt, List, [], ◌∷◌, ◌++◌, length, take, get_or, set, All, refl, sym, ap, ◌∙◌, arith, add-one}
+use Rattle.std.proofs.Common.{◌≡◌, ◌≢◌, ℕ, zero, suc, ◌+◌, ◌-◌, ◌<◌, ◌≤◌, Bool, true, false, ◌||◌, nat_lt, List, [], ◌∷◌, ◌++◌, length, take, drop, replicate, get_or, set, All, refl, sym, ap, ◌∙◌, arith, add-one, zero-add, if◌then◌else◌}
 use Rattle.std.proofs.lemmas.Bool.Decides.{nat_tests}
-use Rattle.std.proofs.lemmas.List.{nil_from_length}
 use Rattle.std.proofs.lemmas.List.Elements.{All-set}
 use Rattle.gf_field.specs.Field.{alpha, plus, power}
 use Rattle.gf_field.specs.Words.{IsByte}
@@ -9,7 +8,7 @@ use Rattle.gf_field.proofs.FieldLaws.{alpha-nonzero, plus-byte, power-alpha-diff
 use Rattle.rs_code.specs.Inner.PowerSums.{points_of}
 use Rattle.rs_code.proofs.PowerSums.{length-points_of}
 use Rattle.rs_decode.specs.Filling.{marked}
-use Rattle.rs_decode.specs.Inner.Places.{picked, patched}
+use Rattle.rs_decode.specs.Inner.Places.{ArePointsBefore, picked, patched}
 
 -- ---- the numbers at marked places
 
@@ -123,9 +122,50 @@ length-picked (false ∷ marks) (x ∷ xs) size = length-picked marks xs (omega 
 pub unmarked : (count : ℕ) → nat_lt 0 count ≡ false → count ≡ 0
 unmarked count none = grind (arith, nat_tests)
 
--- where no place is marked there are none
-pub picked-unmarked : (marks : List Bool) (xs : List ℕ) → length xs ≡ length marks → marked marks ≡ 0 → picked marks xs ≡ []
-picked-unmarked marks xs size none = nil_from_length (picked marks xs) (length-picked marks xs size ∙ none)
+-- where no place is marked nothing is picked
+pub picked-unmarked : (marks : List Bool) (xs : List ℕ) → marked marks ≡ 0 → picked marks xs ≡ []
+unfolding picked marked
+picked-unmarked [] xs none = refl
+picked-unmarked (mark ∷ marks) [] none = refl
+picked-unmarked (true ∷ marks) (x ∷ xs) none = absurd (omega arith)
+picked-unmarked (false ∷ marks) (x ∷ xs) none = picked-unmarked marks xs (omega arith)
+
+-- one place more in front of others
+take-up : {X : Type 0} (i count : ℕ) (xs : List X) → take (suc i + count) xs ≡ take (suc (i + count)) xs
+take-up i count xs = let up : suc i + count ≡ suc (i + count) = omega arith in ap (λ n. take n xs) up
+
+-- nor where there are only places without a mark
+pub picked-replicate : (n : ℕ) (xs : List ℕ) → picked (replicate n false) xs ≡ []
+unfolding picked
+picked-replicate zero xs = refl
+picked-replicate (suc n) [] = refl
+picked-replicate (suc n) (x ∷ xs) = picked-replicate n xs
+
+-- places of which none is marked add nothing to those picked
+pub picked-clear : (marks : List Bool) (xs : List ℕ) (i count : ℕ) → marked (take count (drop i marks)) ≡ 0 → picked (take (i + count) marks) xs ≡ picked (take i marks) xs
+unfolding picked
+picked-clear marks xs zero count none = ap (λ n. picked (take n marks) xs) (zero-add count) ∙ picked-unmarked (take count marks) xs none ∙ sym (picked-none xs)
+picked-clear [] xs (suc i) count none = rw (take-up {X = Bool} i count []) refl
+picked-clear (mark ∷ marks) [] (suc i) count none = rw (take-up i count (mark ∷ marks)) refl
+picked-clear (true ∷ marks) (x ∷ xs) (suc i) count none = rw (take-up i count (true ∷ marks)) (ap (λ ys. x ∷ ys) (picked-clear marks xs i count none))
+picked-clear (false ∷ marks) (x ∷ xs) (suc i) count none = rw (take-up i count (false ∷ marks)) (picked-clear marks xs i count none)
+
+-- and aren't counted
+pub marked-clear : (marks : List Bool) (i count : ℕ) → marked (take count (drop i marks)) ≡ 0 → marked (take (i + count) marks) ≡ marked (take i marks)
+unfolding marked
+marked-clear marks zero count none = ap (λ n. marked (take n marks)) (zero-add count) ∙ none
+marked-clear [] (suc i) count none = rw (take-up {X = Bool} i count []) refl
+marked-clear (mark ∷ marks) (suc i) count none =
+    rw (take-up i count (mark ∷ marks)) (ap (λ n. (if mark then 1 else 0) + n) (marked-clear marks i count none))
+
+-- so the points before such places are those before the place behind them
+pub ArePointsBefore-clear : (marks : List Bool) (most : ℕ) (points : List ℕ) (i count : ℕ) → marked (take count (drop i marks)) ≡ 0 → ArePointsBefore i marks most points
+    → ArePointsBefore (i + count) marks most points
+ArePointsBefore-clear marks most points i count none before = record {
+  picks = before.picks ∙ sym (picked-clear marks (points_of (length marks)) i count none);
+  count = before.count ∙ sym (marked-clear marks i count none);
+  within = before.within;
+}
 
 -- the power of alpha at a place
 pub get_or-points_of : (n i : ℕ) → i < n → get_or (points_of n) i 0 ≡ power alpha (n - 1 - i)

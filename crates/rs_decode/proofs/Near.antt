@@ -78,6 +78,21 @@ cost-unmarked (x ∷ word) (got ∷ received) (false ∷ marks) size received_si
     let rest : cost word received marks ≡ marked marks = cost-unmarked word received marks (omega arith) (omega arith) (agree-rest false marks got x received word agree) in
     omega (arith, same_cost x got 2 (cost word received marks) (agree 0 (omega arith) refl))
 
+-- a word costs the same against words that agree at all unmarked places
+pub cost-alike : (word received other : List ℕ) (marks : List Bool) → length received ≡ length other → AgreeUnmarked marks received other
+    → cost word received marks ≡ cost word other marks
+unfolding cost
+cost-alike [] received other marks size agree = refl
+cost-alike (byte ∷ word) [] [] marks size agree = refl
+cost-alike (byte ∷ word) [] (new ∷ other) marks size agree = absurd (omega arith)
+cost-alike (byte ∷ word) (got ∷ received) [] marks size agree = absurd (omega arith)
+cost-alike (byte ∷ word) (got ∷ received) (new ∷ other) [] size agree = refl
+cost-alike (byte ∷ word) (got ∷ received) (new ∷ other) (true ∷ marks) size agree =
+    ap (λ n. 1 + n) (cost-alike word received other marks (omega arith) (agree-rest true marks got new received other agree))
+cost-alike (byte ∷ word) (got ∷ received) (new ∷ other) (false ∷ marks) size agree =
+    ap (λ x. (if byte == x then 0 else 2) + cost word received marks) (sym (agree 0 (omega arith) refl))
+    ∙ ap (λ n. (if byte == new then 0 else 2) + n) (cost-alike word received other marks (omega arith) (agree-rest false marks got new received other agree))
+
 -- a codeword that agrees at all unmarked places, where at most r are marked, is near
 pub filling_near : FillingIsNear
 filling_near n r received marks word received_size marks_size filling = record {

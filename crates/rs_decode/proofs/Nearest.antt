@@ -1,5 +1,5 @@
 -- The near codeword, found among all words: it is found exactly where there is one.
-use Rattle.std.proofs.Common.{◌≡◌, ◌⊎◌, ◌∙◌, ℕ, zero, suc, ◌<◌, ◌≤◌, Bool, true, false, cond, ◌&&◌, nat_eq, nat_lt, List, [], ◌∷◌, ◌++◌, length, map, find, get_or, All, inl, inr, refl, sym, ap, subst, arith, zero-add, Some, None}
+use Rattle.std.proofs.Common.{◌≡◌, ◌⊎◌, ◌∙◌, ℕ, zero, suc, ◌<◌, ◌≤◌, Bool, true, false, cond, ◌&&◌, ◌==◌, nat_eq, nat_lt, nat_le, List, [], ◌∷◌, ◌++◌, length, map, find, get_or, All, inl, inr, refl, sym, ap, subst, arith, zero-add, Some, None}
 use Rattle.std.specs.List.{flat_map, range_with_len, list_all}
 use Rattle.std.specs.declared.option.Option.{Option}
 use Rattle.std.proofs.lemmas.Bool.{false≢true, eqb-true, eq-eqb, ltb-true, lt-ltb, leb-true, le-leb}
@@ -9,8 +9,9 @@ use Rattle.std.proofs.lemmas.List.Sums.{AllPass-from_list_all, list_all-from_All
 use Rattle.gf_field.specs.Field.{alpha, power}
 use Rattle.gf_field.specs.Words.{IsByte, IsCodeword, IsNear, value, cost}
 use Rattle.rs_decode.specs.Errors.{HasNoneNear}
+use Rattle.rs_decode.specs.Filling.{AgreeUnmarked}
 use Rattle.rs_decode.specs.Nearest.{all_words, is_near, near_of, vanishes_at_all}
-use Rattle.rs_decode.proofs.Near.{near_once}
+use Rattle.rs_decode.proofs.Near.{cost-alike, near_once}
 
 -- x is an element of a list
 abbrev Member : {X : Type 0} → List X → X → Type 0
@@ -177,6 +178,15 @@ pub none-near_of : (n r : ℕ) (received : List ℕ) (marks : List Bool) → len
     → HasNoneNear n r received marks → near_of n r received marks ≡ None
 none-near_of n r received marks received_size marks_size nothing =
     found_none n r received marks (near_of n r received marks) received_size marks_size nothing refl
+
+-- words that agree at all unmarked places have the same near codeword
+pub near_of-alike : (n r : ℕ) (received other : List ℕ) (marks : List Bool) → length received ≡ length other → AgreeUnmarked marks received other
+    → near_of n r received marks ≡ near_of n r other marks
+unfolding near_of is_near
+near_of-alike n r received other marks size agree =
+    let same : is_near n r received marks ≡ is_near n r other marks = λ i word.
+    ap (λ c. (length word == n) && list_all (λ byte. nat_lt byte 256) word && vanishes_at_all r word && nat_le c r) (cost-alike word received other marks size agree) i in
+    ap (λ test. find test (all_words n)) same
 
 -- a codeword passes the test of its values, and bytes that pass it are a codeword
 pub codeword-vanishes : (n r : ℕ) (word : List ℕ) → IsCodeword n r word → vanishes_at_all r word ≡ true

@@ -6,7 +6,7 @@ ghost use Rattle.rs_code.specs.Inner.PowerSums.{power_sum};
 ghost use Rattle.rs_code.specs.Syndromes.{syndromes_of};
 ghost use Rattle.rs_decode.specs.Filling.{IsFilling, HasNoFilling, marked};
 
-use crate::places::{marked_points, patch};
+use crate::places::{Erasures, patch};
 use crate::sums::solve;
 use crate::syndromes::{front, power_sums, syndromes};
 use arrayvec::ArrayVec;
@@ -29,33 +29,38 @@ pub fn fill<const N: usize, const R: usize>(
     ensures err { OnErr result (HasNoFilling N R word.old marks.now) }
     ensures same { OnErr result (word.new ≡ word.old) }
 {
-    fill_from(code, syndromes(code, word), word, marks)
-}
-
-/// The same, by the word's syndromes.
-pub fn fill_from<const N: usize, const R: usize>(
-    code: &Code<N, R>,
-    syndromes: ArrayVec<u8, 32>,
-    word: &mut [u8; N],
-    marks: &[bool; N],
-) -> Result<u16, NoCodeword>
-    requires { syndromes.items ≡ syndromes_of R word.old }
-    ensures ok { IfOk result (λ count. IsFilling N R word.old marks.now word.new × (count ≡ marked marks.now)) }
-    ensures err { OnErr result (HasNoFilling N R word.old marks.now) }
-    ensures same { OnErr result (word.new ≡ word.old) }
-{
-    let Some(points) = marked_points(marks, R) else {
+    let Some(erasures) = Erasures::new(marks, R) else {
         return Err(NoCodeword);
     };
-    let mut corrections: ArrayVec<u8, 32> = ArrayVec::try_from(&syndromes[..points.len()]).unwrap();
-    solve(&points, &mut corrections);
+    fill_from(code, &erasures, syndromes(code, word), word)
+}
+
+/// The same, by the marked places and the word's syndromes.
+pub fn fill_from<const N: usize, const R: usize>(
+    code: &Code<N, R>,
+    erasures: &Erasures<N>,
+    syndromes: ArrayVec<u8, 32>,
+    word: &mut [u8; N],
+) -> Result<u16, NoCodeword>
+    requires { syndromes.items ≡ syndromes_of R word.old }
+    ensures ok { IfOk result (λ count. IsFilling N R word.old erasures.now.marks word.new × (count ≡ marked erasures.now.marks)) }
+    ensures err { OnErr result (HasNoFilling N R word.old erasures.now.marks) }
+    ensures same { OnErr result (word.new ≡ word.old) }
+{
+    let points = &erasures.points;
+    let count = points.len();
+    if count > R {
+        return Err(NoCodeword);
+    }
+    let mut corrections: ArrayVec<u8, 32> = ArrayVec::try_from(&syndromes[..count]).unwrap();
+    solve(points, &mut corrections);
     let mut filled = *word;
-    patch(&mut filled, &points, &corrections);
-    if !completes(code, &filled, &syndromes, &points, &corrections) {
+    patch(&mut filled, points, &corrections);
+    if !completes(code, &filled, &syndromes, points, &corrections) {
         return Err(NoCodeword);
     }
     *word = filled;
-    Ok(points.len() as u16)
+    Ok(count as u16)
 }
 
 // Whether a word that was filled with bytes at points is a codeword. Its values are the syndromes plus the power sums of these

@@ -1,14 +1,16 @@
 //! Errors and erasures: the codeword that is near a word with marks.
-ghost use Rattle.std.specs.Prelude.{◌≡◌, IfOk, OnErr};
-ghost use Rattle.gf_field.specs.Words.{IsNear};
+ghost use Rattle.std.specs.Prelude.{◌≡◌, ℕ, ◌≤◌, List, All, IfOk, OnErr};
+ghost use Rattle.gf_field.specs.Words.{IsByte, IsCodeword, IsNear};
+ghost use Rattle.rs_code.specs.Syndromes.{syndromes_of};
 ghost use Rattle.rs_decode.specs.Errors.{HasNoneNear, error_count};
 ghost use Rattle.rs_decode.specs.Filling.{marked};
 
-use crate::erasures::fill_from;
+use crate::erasures::{NoCodeword, fill_from};
 use crate::locating::{count_errors, mark_zeros, sums_without, tell_bytes};
-use crate::places::marked_points;
+use crate::places::Erasures;
 use crate::register::shortest;
 use crate::syndromes::{are_zeros, syndromes};
+use arrayvec::ArrayVec;
 use rs_code::Code;
 use thiserror::Error;
 
@@ -40,32 +42,76 @@ pub fn decode<const N: usize, const R: usize>(
     ensures beyond { OnErr result (HasNoneNear N R word.old marks.now) }
     ensures same { OnErr result (word.new ≡ word.old) }
 {
-    tell_bytes(word);
-    let Some(points) = marked_points(marks, R) else {
+    let Some(erasures) = Erasures::new(marks, R) else {
         return Err(Beyond);
     };
-    let syndromes = syndromes(code, word);
-    if points.is_empty() && are_zeros(&syndromes) {
+    decode_from(code, &erasures, syndromes(code, word), word)
+}
+
+/// Sets `word` as `decode` does, by its marked places and its syndromes, which are at hand.
+pub fn decode_from<const N: usize, const R: usize>(
+    code: &Code<N, R>,
+    erasures: &Erasures<N>,
+    syndromes: ArrayVec<u8, 32>,
+    word: &mut [u8; N],
+) -> Result<Fix, Beyond>
+    requires { syndromes.items ≡ syndromes_of R word.old }
+    ensures near { IfOk result (λ _. IsNear N R word.old erasures.now.marks word.new) }
+    ensures errors { IfOk result (λ fix. fix.errors ≡ error_count word.old word.new erasures.now.marks) }
+    ensures erased { IfOk result (λ fix. fix.erased ≡ marked erasures.now.marks) }
+    ensures beyond { OnErr result (HasNoneNear N R word.old erasures.now.marks) }
+    ensures same { OnErr result (word.new ≡ word.old) }
+{
+    tell_bytes(word);
+    let erased = erasures.points.len();
+    if erased > R {
+        return Err(Beyond);
+    }
+    if erased == 0 && are_zeros(&syndromes) {
         return Ok(Fix {
             errors: 0,
             erased: 0,
         });
     }
-    let sums = sums_without(&points, &syndromes);
-    let locator = shortest(&sums);
-    let mut doubtful = *marks;
-    mark_zeros(locator.taps, &mut doubtful);
     let mut found = *word;
-    let Ok(_filled) = fill_from(code, syndromes, &mut found, &doubtful) else {
+    let Ok(_filled) = fill_located(code, erasures, syndromes, &mut found) else {
         return Err(Beyond);
     };
-    let errors = count_errors(word, &found, marks);
-    if 2 * errors as usize + points.len() > R {
+    let errors = count_errors(word, &found, &erasures.marks);
+    if 2 * errors as usize + erased > R {
         return Err(Beyond);
     }
     *word = found;
     Ok(Fix {
         errors,
-        erased: points.len() as u16,
+        erased: erased as u16,
     })
+}
+
+// Sets the bytes at the marked places and at those where the locator tells an error: to the near codeword, if there is one.
+fn fill_located<const N: usize, const R: usize>(
+    code: &Code<N, R>,
+    erasures: &Erasures<N>,
+    syndromes: ArrayVec<u8, 32>,
+    word: &mut [u8; N],
+) -> Result<u16, NoCodeword>
+    requires syndromes { syndromes.items ≡ syndromes_of R word.old }
+    requires bytes { All IsByte word.old }
+    requires few { marked erasures.now.marks ≤ R }
+    ensures codeword { IfOk result (λ _. IsCodeword N R word.new) }
+    ensures nearest { IfOk result (λ _. (near : List ℕ) → IsNear N R word.old erasures.now.marks near → near ≡ word.new) }
+    ensures beyond { OnErr result (HasNoneNear N R word.old erasures.now.marks) }
+    ensures same { OnErr result (word.new ≡ word.old) }
+{
+    let locator = shortest(&sums_without(&erasures.points, &syndromes));
+    // A locator of degree 0 is 1 and tells no error.
+    if locator.len == 0 {
+        return fill_from(code, erasures, syndromes, word);
+    }
+    let mut doubtful = erasures.marks;
+    mark_zeros(locator.taps, &mut doubtful);
+    match Erasures::new(&doubtful, R) {
+        Some(places) => fill_from(code, &places, syndromes, word),
+        None => Err(NoCodeword),
+    }
 }

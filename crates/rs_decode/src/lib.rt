@@ -26,5 +26,6 @@ mod tests;
 mod values;
 
 pub use erasures::{NoCodeword, fill};
-pub use errors::{Beyond, Fix, decode};
+pub use errors::{Beyond, Fix, decode, decode_from};
+pub use places::Erasures;
 pub use register::{Register, shortest};

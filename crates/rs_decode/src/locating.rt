@@ -46,16 +46,11 @@ fn take_out_point(sums: &mut [u8], point: u8)
     }
 }
 
-/// Marks each place whose point is a zero of the locator, whose highest coefficient is 1.
+/// Marks each place whose point is a zero of the locator.
 pub fn mark_zeros(locator: ArrayVec<u8, 33>, marks: &mut [bool])
-    requires led { slice_index locator.items 0 ≡ 1 }
     requires short { length marks.now ≤ 255 }
     ensures { marks.new ≡ with_zeros locator.items marks.old (points_of (length marks.old)) }
 {
-    // A locator of degree 0 is 1 and has no zero.
-    if locator.len() == 1 {
-        return;
-    }
     let size = marks.len();
     let values = values_at_powers(&locator, size);
     for place in 0..size {

@@ -1,34 +1,93 @@
 //! The marked places of a word.
-ghost use Rattle.std.specs.Prelude.{◌≡◌, ℕ, List, Bool, ◌-◌, ◌<◌, ◌≤◌, length, All, MatchOption, nat_lt};
+ghost use Rattle.std.specs.Prelude.{◌≡◌, ◌↔◌, ℕ, ◌+◌, List, Bool, true, false, ◌-◌, ◌<◌, ◌≤◌, length, take, replicate, All, IsTrue, MatchOption, nat_lt};
 ghost use Rattle.gf_field.specs.Field.{alpha, power};
 ghost use Rattle.gf_field.specs.Words.{IsByte};
 ghost use Rattle.rs_decode.specs.Filling.{marked};
-ghost use Rattle.rs_decode.specs.Inner.Places.{picked, patched};
+ghost use Rattle.rs_decode.specs.Inner.Places.{ArePointsBefore, picked, patched};
 ghost use Rattle.rs_code.specs.Inner.PowerSums.{points_of};
 
 use arrayvec::ArrayVec;
 use gf_field::{alpha_pow, log};
 
-/// The powers of alpha that the bytes at the marked places stand at, unless more than `most` places are marked.
-pub fn marked_points(marks: &[bool], most: usize) -> Option<ArrayVec<u8, 32>>
+/// The marked places of a word of `N` bytes, and the powers of alpha that their bytes stand at: found once for all words
+/// that have these marks.
+#[derive(Drop)]
+pub struct Erasures<const N: usize> {
+    /// A mark for each place: whether its byte is known to be lost.
+    pub marks: [bool; N],
+    /// The points of the marked places, in their order.
+    pub(crate) points: ArrayVec<u8, 32>,
+    pub ghost size: { length marks ≡ N },
+    ghost gathered: { points.items ≡ picked marks (points_of (length marks)) },
+}
+
+impl<const N: usize> Erasures<N> {
+    /// Of a word without marks.
+    pub fn none() -> Self
+        ensures { result.marks ≡ replicate N false }
+    {
+        Erasures {
+            marks: [false; N],
+            points: ArrayVec::new(),
+        }
+    }
+
+    /// The places of these marks, unless they are more than `most`.
+    pub fn new(marks: &[bool; N], most: usize) -> Option<Self>
+        requires room { most ≤ 32 }
+        requires short { N ≤ 255 }
+        ensures { MatchOption result (most < marked marks.now) (λ erasures. (marked marks.now ≤ most) × (erasures.marks ≡ marks.now)) }
+    {
+        let points = marked_points(marks, most)?;
+        Some(Erasures {
+            marks: *marks,
+            points,
+        })
+    }
+
+    /// Whether no place is marked.
+    pub fn is_empty(&self) -> bool
+        ensures { IsTrue result ↔ (marked self.now.marks ≡ 0) }
+    {
+        self.points.is_empty()
+    }
+}
+
+// The powers of alpha that the bytes at the marked places stand at, unless more than `most` places are marked.
+fn marked_points(marks: &[bool], most: usize) -> Option<ArrayVec<u8, 32>>
     requires room { most ≤ 32 }
     requires short { length marks.now ≤ 255 }
     ensures { MatchOption result (most < marked marks.now) (λ points. (marked marks.now ≤ most) × (points.items ≡ picked marks.now (points_of (length marks.now)))) }
 {
-    // Most words have no mark, and that is seen faster than points are gathered.
-    if !any_marked(marks) {
-        return Some(ArrayVec::new());
-    }
     let mut points = ArrayVec::new();
-    for (place, mark) in marks.iter().enumerate() {
-        if *mark {
+    for group in 0..marks.len().div_ceil(16) {
+        let start = 16 * group;
+        // Few of many places are marked, so that most groups of sixteen are passed over at once.
+        if may_be_marked(&marks[start..]) && !add_points(marks, start, most, &mut points) {
+            return None;
+        }
+    }
+    Some(points)
+}
+
+// Adds the points of the marked ones of sixteen places, or of as many as are left, unless these are then more than `most`.
+fn add_points(marks: &[bool], start: usize, most: usize, points: &mut ArrayVec<u8, 32>) -> bool
+    requires room { most ≤ 32 }
+    requires short { length marks.now ≤ 255 }
+    requires inside { start < length marks.now }
+    requires before { ArePointsBefore start marks.now most points.old.items }
+    ensures added { result ≡ true → ArePointsBefore (start + 16) marks.now most points.new.items }
+    ensures many { result ≡ false → most < marked marks.now }
+{
+    for place in start..marks.len().min(start + 16) {
+        if marks[place] {
             if points.len() == most {
-                return None;
+                return false;
             }
             points.push(point_of(marks.len(), place));
         }
     }
-    Some(points)
+    true
 }
 
 // The power of alpha that a place of a word of this size stands at. A call, so that no division is made for the places
@@ -42,8 +101,18 @@ fn point_of(size: usize, place: usize) -> u8
     alpha_pow((size - 1 - place) as u32)
 }
 
-// Whether any place is marked. All marks are read, so that many are taken at once.
-fn any_marked(marks: &[bool]) -> bool
+// Whether one of the next sixteen places may be marked. None is where the answer is `false`, and it is `true` where fewer are left.
+fn may_be_marked(marks: &[bool]) -> bool
+    ensures { result ≡ false → marked (take 16 marks.now) ≡ 0 }
+{
+    match marks.first_chunk() {
+        Some(sixteen) => any_marked(sixteen),
+        None => true,
+    }
+}
+
+// Whether any of sixteen places is marked. All marks are read, so that they are taken at once.
+fn any_marked(marks: &[bool; 16]) -> bool
     ensures { result ≡ nat_lt 0 (marked marks.now) }
 {
     let mut any = false;

@@ -1,9 +1,6 @@
 use Rattle.std.proofs.Common.{arith}
-use Rattle.rs_decode.proofs.Zeros.{with_zeros-from_places, with_zeros-one}
+use Rattle.rs_decode.proofs.Zeros.{with_zeros-from_places}
 use Rattle.rs_decode.proofs.locating.mark_zeros.Goals as goal
-
-pub returns-then-len-eq1 : goal.returns-then-len-eq1
-returns-then-len-eq1 c = with_zeros-one c.args.locator.items c.args.marks.now (omega (arith, c.len.ensures.value, c.if-len-eq1.true)) c.requires.led
 
 pub returns : goal.returns
 returns c = with_zeros-from_places c.args.locator.items c.args.marks.now c.loop-place.marks c.loop-place.invariant.size (λ k below. c.loop-place.invariant.marked k (omega arith))
