@@ -102,4 +102,5 @@ filling_near n r received marks word received_size marks_size filling = record {
   within = omega (arith, filling.within, cost-unmarked word received marks (filling.codeword.size ∙ sym marks_size) (received_size ∙ sym marks_size) filling.agrees);
 }
 
+-- what the laws of decoding rest on
 pub ruleset laws = (near_once, filling_once, filling_near)

@@ -12,6 +12,7 @@ error-count-one : error_count (1 ∷ 2 ∷ 3 ∷ []) (1 ∷ 5 ∷ 6 ∷ []) (fal
 unfolding error_count
 error-count-one = refl
 
+-- two places of three are marked
 marked-two : marked (true ∷ false ∷ true ∷ []) ≡ 2
 unfolding marked
 marked-two = refl

@@ -1,9 +1,10 @@
 //! Decoding of words of Reed-Solomon codes (ECMA-267, clauses 16.2 and 18) in place, without memory of their own.
 //!
 //! - [`erasures`]: `fill` finds the codeword that agrees with a word at all places that aren't marked.
-//! - [`errors`]: `decode` finds the codeword that is near a word with marks.
+//! - [`errors`]: `decode` finds the codeword that is near a word with marks, and `decode_from` does so by syndromes and marked
+//!   places that are at hand, so that words with the same marks share these.
 //! - `locating`: the places where errors may be, from power sums and a locator.
-//! - `places`: the marked places of a word.
+//! - `places`: the marked places of a word, [`Erasures`].
 //! - [`register`]: `shortest` finds the shortest linear feedback register that generates a list.
 //! - `combining`: multiples of lists added to others, sixteen places at once.
 //! - `sums`: the bytes at given points that have given power sums.

@@ -17,12 +17,13 @@ pub struct Erasures<const N: usize> {
     pub marks: [bool; N],
     /// The points of the marked places, in their order.
     pub(crate) points: ArrayVec<u8, 32>,
+    /// A word of `N` bytes has as many places.
     pub ghost size: { length marks ≡ N },
     ghost gathered: { points.items ≡ picked marks (points_of (length marks)) },
 }
 
 impl<const N: usize> Erasures<N> {
-    /// Of a word without marks.
+    /// Those of a word without marks.
     pub fn none() -> Self
         ensures { result.marks ≡ replicate N false }
     {
@@ -62,7 +63,7 @@ fn marked_points(marks: &[bool], most: usize) -> Option<ArrayVec<u8, 32>>
     let mut points = ArrayVec::new();
     for group in 0..marks.len().div_ceil(16) {
         let start = 16 * group;
-        // Few of many places are marked, so that most groups of sixteen are passed over at once.
+        // Where few of many places are marked, most groups of sixteen are passed over at once.
         if may_be_marked(&marks[start..]) && !add_points(marks, start, most, &mut points) {
             return None;
         }
@@ -70,7 +71,8 @@ fn marked_points(marks: &[bool], most: usize) -> Option<ArrayVec<u8, 32>>
     Some(points)
 }
 
-// Adds the points of the marked ones of sixteen places, or of as many as are left, unless these are then more than `most`.
+// Adds the points of the marked ones of sixteen places, or of as many as are left, and tells whether these are at most
+// `most` then.
 fn add_points(marks: &[bool], start: usize, most: usize, points: &mut ArrayVec<u8, 32>) -> bool
     requires room { most ≤ 32 }
     requires short { length marks.now ≤ 255 }
@@ -101,7 +103,8 @@ fn point_of(size: usize, place: usize) -> u8
     alpha_pow((size - 1 - place) as u32)
 }
 
-// Whether one of the next sixteen places may be marked. None is where the answer is `false`, and it is `true` where fewer are left.
+// Whether one of the next sixteen places may be marked: none is where the answer is `false`. It is `true` where there are
+// fewer places.
 fn may_be_marked(marks: &[bool]) -> bool
     ensures { result ≡ false → marked (take 16 marks.now) ≡ 0 }
 {
@@ -111,7 +114,7 @@ fn may_be_marked(marks: &[bool]) -> bool
     }
 }
 
-// Whether any of sixteen places is marked. All marks are read, so that they are taken at once.
+// Whether any of sixteen places is marked. All marks are read, and so many always, so that they are taken at once.
 fn any_marked(marks: &[bool; 16]) -> bool
     ensures { result ≡ nat_lt 0 (marked marks.now) }
 {

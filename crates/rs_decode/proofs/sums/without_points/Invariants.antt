@@ -3,6 +3,7 @@ use Rattle.rs_decode.specs.Inner.Locator.{at_points, distances}
 use Rattle.rs_decode.specs.Inner.Sums.{AreSums}
 use Rattle.rs_decode.proofs.sums.without_points.Given as goal
 
+-- the first lanes hold the sums with the points so far taken out, of which each left one less
 abbrev pub invariant-loop-point : goal.invariant-loop-point
 invariant-loop-point l = record {
   size : length l.left ≡ 16;
