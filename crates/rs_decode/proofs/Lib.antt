@@ -1,3 +1,4 @@
+pub mod Candidates
 pub mod Combinations
 pub mod Connections
 pub mod Counting

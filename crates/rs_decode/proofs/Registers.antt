@@ -1,8 +1,8 @@
 -- The steps of Berlekamp and Massey: a register stays, or is mended by a multiple of an earlier one, and is the shortest.
-use Rattle.std.proofs.Common.{◌≡◌, ◌≢◌, ℕ, ◌+◌, ◌-◌, ◌*◌, ◌<◌, ◌≤◌, List, length, get_or, set, take, replicate, sym, ap, subst, ◌∙◌, arith, inl, inr, below_more, get_or-take, get_or-set_same, get_or-set_other, length-set, length-take}
+use Rattle.std.proofs.Common.{◌≡◌, ◌≢◌, ℕ, zero, suc, ◌+◌, ◌-◌, ◌*◌, ◌<◌, ◌≤◌, List, ◌∷◌, length, get_or, take, replicate, refl, sym, ap, subst, ◌∙◌, arith, inl, inr, below_more, get_or-take, length-take}
 use Rattle.std.proofs.lemmas.Bool.{cases_lt}
 use Rattle.std.proofs.lemmas.List.{length-replicate, get_or-replicate, get_or_past}
-use Rattle.std.proofs.lemmas.List.Elements.{All-replicate, All-set, All-take}
+use Rattle.std.proofs.lemmas.List.Elements.{All-cons, All-replicate, All-take}
 use Rattle.gf_field.specs.Field.{plus, product}
 use Rattle.gf_field.specs.Words.{IsByte}
 use Rattle.gf_field.proofs.FieldLaws.{plus-self, plus-zero, product-zero}
@@ -22,38 +22,37 @@ zeros_anywhere n k =
       | inr past ↦ get_or_past (replicate n 0) k 0 (omega (arith, length-replicate {A = ℕ} n 0))
     ]
 
--- the taps at the start are 1 or x, followed by zeros
-set_higher : (place c : ℕ) → place < c → get_or {A = ℕ} (set (replicate 33 0) place 1) c 0 ≡ 0
-set_higher place c above = get_or-set_other (replicate 33 0) place c 1 0 (omega arith) ∙ zeros_anywhere 33 c
-
--- and how many they are
-set_size : (place : ℕ) → length {A = ℕ} (set (replicate 33 0) place 1) ≡ 33
-set_size place = length-set (replicate 33 0) place 1 ∙ length-replicate {A = ℕ} 33 0
+-- behind the first tap at the start there are zeros
+pub zeros-start : (c : ℕ) → 0 < c → get_or {A = ℕ} (1 ∷ replicate 32 0) c 0 ≡ 0
+zeros-start zero above = absurd (omega arith)
+zeros-start (suc c) above = zeros_anywhere 32 c
 
 -- before the first number, the register of length 0 is the shortest
-pub IsShortestTo-start : (seq : List ℕ) → IsShortestTo 0 0 (set (replicate 33 0) 0 1) seq
+pub IsShortestTo-start : (seq : List ℕ) → IsShortestTo 0 0 (1 ∷ replicate 32 0) seq
 IsShortestTo-start seq = record {
-  size = set_size 0;
-  bytes = All-set IsByte (replicate 33 0) 0 1 (omega arith) (All-replicate IsByte 33 0 (omega arith));
+  size = ap suc (length-replicate {A = ℕ} 32 0);
+  bytes = All-cons IsByte 1 (replicate 32 0) (omega arith) (All-replicate IsByte 32 0 (omega arith));
   within = omega arith;
-  first = get_or-set_same (replicate 33 0) 0 1 0 (omega (arith, length-replicate {A = ℕ} 33 0));
-  higher = set_higher 0;
+  first = refl;
+  higher = zeros-start;
   makes = λ k reached below. absurd (omega arith);
   least = λ other others within first makes. omega arith;
 }
 
 -- x stands for an earlier register; it reaches no number
-pub FailsAt-start : (seq : List ℕ) → FailsAt 0 1 1 (set (replicate 33 0) 1 1) seq
-FailsAt-start seq = record {
-  size = set_size 1;
-  higher = set_higher 1;
+pub FailsAt-start : (taps seq : List ℕ) → length taps ≡ 33 → ((k : ℕ) → k + 1 < 33 → get_or taps (k + 1) 0 ≡ get_or {A = ℕ} (1 ∷ replicate 32 0) k 0)
+    → FailsAt 0 1 1 taps seq
+FailsAt-start taps seq size moved = record {
+  size = size;
+  higher = λ c above.
+      let next : c ≡ (c - 1) + 1 = omega arith in
+      elim (cases_lt c 33) [
+        | inl inside ↦ ap (λ j. get_or taps j 0) next ∙ moved (c - 1) (omega arith) ∙ zeros-start (c - 1) (omega arith)
+        | inr past ↦ get_or_past taps c 0 (omega arith)
+      ];
   makes = λ k reached below. absurd (omega arith);
   here = λ reached. absurd (omega arith);
 }
-
--- the first tap of x
-pub first-start : get_or {A = ℕ} (set (replicate 33 0) 1 1) 0 0 ≡ 0
-first-start = get_or-set_other (replicate 33 0) 1 0 1 0 (omega arith) ∙ zeros_anywhere 33 0
 
 -- a register that makes the number at n, too, stays
 pub IsShortestTo-stays : (n len : ℕ) (taps seq : List ℕ) → IsShortestTo n len taps seq → connection len taps seq n ≡ 0

@@ -1,12 +1,16 @@
 //! The shortest linear feedback register that generates a list, by the steps of Berlekamp and Massey: the list is taken
 //! number by number. Where the register at hand fails, a multiple of an earlier one, shifted to fail at the same place, mends
-//! it. No step takes memory.
-ghost use Rattle.std.specs.Prelude.{◌≡◌, ℕ, ◌+◌, ◌<◌, ◌≤◌, length, slice_index};
-ghost use Rattle.rs_decode.specs.Register.{Generates, IsLeast, connection};
+//! it. A register's taps stand in one vector, and its connections from the place at hand on in another: what mends its taps
+//! mends its connections too, so that nothing is summed up at any place. No step takes memory.
+ghost use Rattle.std.specs.Prelude.{◌≡◌, ℕ, ◌+◌, ◌<◌, ◌≤◌, ◌∷◌, length, take, slice_index};
+ghost use Rattle.gf_field.specs.Field.{plus, product};
+ghost use Rattle.rs_lanes.specs.Inner.Lanes.{HasLanes};
+ghost use Rattle.rs_decode.specs.Register.{Generates, IsLeast};
 
-use crate::combining::add_multiple;
 use arrayvec::ArrayVec;
-use gf_field::{div, mul};
+use gf_field::div;
+use rs_lanes::{multiple, store};
+use std::simd::prelude::*;
 
 /// A register that generates a list: from place `len` on, the sum over i of the i-th tap times the number i places before
 /// is 0.
@@ -18,6 +22,15 @@ pub struct Register {
     pub taps: ArrayVec<u8, 33>,
 }
 
+// A register on the way to the shortest one.
+#[derive(Clone, Copy)]
+struct Candidate {
+    // Its taps but for the first, which is 1 at the register at hand and 0 at the earlier one.
+    taps: u8x32,
+    // Lane k is its connection k places after the place at hand, where the list has such a place.
+    connections: u8x32,
+}
+
 /// The shortest register that generates `seq`, which has at most 32 bytes. It takes no memory and never fails.
 /// Where its length is more than half of the number of bytes, there may be others as short, of which this is one.
 pub fn shortest(seq: &[u8]) -> Register
@@ -26,56 +39,111 @@ pub fn shortest(seq: &[u8]) -> Register
     ensures least { IsLeast result.len seq.now }
 {
     let mut len = 0;
-    let mut taps = [0; 33];
-    taps[0] = 1;
+    // Of length 0, it fails by each number itself.
+    let mut register = Candidate {
+        taps: u8x32::splat(0),
+        connections: in_front(seq),
+    };
     // The register from before the length last changed, shifted to fail at the place at hand, and the connection by which
     // it fails. While the length is 0 there is none, and x stands for it.
-    let mut earlier = [0; 33];
-    earlier[1] = 1;
+    let mut earlier = Candidate {
+        taps: moved_up(1, register.taps),
+        connections: moved_up(0, register.connections),
+    };
     let mut failure = 1;
     for place in 0..seq.len() {
-        let found = discrepancy(&taps, len, seq, place);
+        let found = register.connections[0];
+        let mut first = 0;
         if found != 0 {
-            let before = taps;
-            add_multiple(&mut taps, div(found, failure), &earlier, place + 2 - len);
+            let before = register;
+            register = mended(register, earlier, div(found, failure));
             // No register that generates the number here is shorter than `place + 1 - len`.
             if 2 * len <= place {
                 len = place + 1 - len;
                 earlier = before;
+                first = 1;
                 failure = found;
             }
         }
-        times_x(&mut earlier);
+        register.connections = moved_down(register.connections);
+        // Shifted, it has at the next place the connections that it had here.
+        earlier.taps = moved_up(first, earlier.taps);
     }
-    let mut taps = ArrayVec::from(taps);
-    taps.truncate(len + 1);
     Register {
         len: len as u16,
-        taps,
+        taps: all_taps(register.taps, len),
     }
 }
 
-/// The connection at a place, which is 0 where the register generates the number there.
-fn discrepancy(taps: &[u8], len: usize, seq: &[u8], place: usize) -> u8
-    requires taps { len < length taps.now }
-    requires reaches { len ≤ place }
-    requires inside { place < length seq.now }
-    ensures { result ≡ connection len taps.now seq.now place }
+// A register with a multiple of another added.
+#[inline(always)]
+fn mended(register: Candidate, other: Candidate, factor: u8) -> Candidate
+    ensures taps { HasLanes result.taps (λ k. plus (slice_index register.taps k) (product (slice_index other.taps k) factor)) }
+    ensures connections { HasLanes result.connections
+        (λ k. plus (slice_index register.connections k) (product (slice_index other.connections k) factor)) }
 {
-    let mut total = 0;
-    for i in 0..len + 1 {
-        total ^= mul(taps[i], seq[place - i]);
+    Candidate {
+        taps: with_multiple(register.taps, other.taps, factor),
+        connections: with_multiple(register.connections, other.connections, factor),
     }
-    total
 }
 
-/// The polynomial times x: moves each coefficient one place up. The highest one is lost.
-fn times_x(polynomial: &mut [u8])
-    requires { 0 < length polynomial.old }
-    ensures len { length polynomial.new ≡ length polynomial.old }
-    ensures first { slice_index polynomial.new 0 ≡ 0 }
-    ensures others { (k : ℕ) → k + 1 < length polynomial.old → slice_index polynomial.new (k + 1) ≡ slice_index polynomial.old k }
+// The sum of a vector and a multiple of another.
+#[inline(always)]
+fn with_multiple(lanes: u8x32, other: u8x32, factor: u8) -> u8x32
+    ensures { HasLanes result (λ k. plus (slice_index lanes k) (product (slice_index other k) factor)) }
 {
-    polynomial.rotate_right(1);
-    polynomial[0] = 0;
+    lanes ^ multiple(other, factor)
+}
+
+// Each lane moved up by one, and a byte in the first. What was in the last lane is lost.
+#[inline(always)]
+fn moved_up(first: u8, lanes: u8x32) -> u8x32
+    ensures { HasLanes result (λ k. slice_index (first ∷ lanes) k) }
+{
+    u8x32::splat(first).shuffle(
+        lanes,
+        [
+            0, 32, 33, 34, 35, 36, 37, 38, 39, 40, 41, 42, 43, 44, 45, 46, 47, 48, 49, 50, 51, 52,
+            53, 54, 55, 56, 57, 58, 59, 60, 61, 62,
+        ],
+    )
+}
+
+// Each lane moved down by one. What was in the first lane is lost.
+#[inline(always)]
+fn moved_down(lanes: u8x32) -> u8x32
+    ensures size { length result ≡ 32 }
+    ensures each { (k : ℕ) → k < 31 → slice_index result k ≡ slice_index lanes (k + 1) }
+{
+    lanes.shuffle(
+        u8x32::splat(0),
+        [
+            1, 2, 3, 4, 5, 6, 7, 8, 9, 10, 11, 12, 13, 14, 15, 16, 17, 18, 19, 20, 21, 22, 23, 24,
+            25, 26, 27, 28, 29, 30, 31, 32,
+        ],
+    )
+}
+
+// A list in the first lanes of a vector.
+fn in_front(list: &[u8]) -> u8x32
+    requires { length list.now ≤ 32 }
+    ensures size { length result ≡ 32 }
+    ensures list { take (length list.now) result ≡ list.now }
+{
+    let mut lanes = [0; 32];
+    lanes[..list.len()].copy_from_slice(list);
+    u8x32::from_array(lanes)
+}
+
+// The taps of a register of length `len`, of which the first is 1.
+fn all_taps(lanes: u8x32, len: usize) -> ArrayVec<u8, 33>
+    requires { len ≤ 32 }
+    ensures { result.items ≡ take (len + 1) (1 ∷ lanes) }
+{
+    let mut bytes = [1; 33];
+    store(lanes, &mut bytes, 1);
+    let mut taps = ArrayVec::from(bytes);
+    taps.truncate(len + 1);
+    taps
 }

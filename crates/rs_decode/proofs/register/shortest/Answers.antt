@@ -1,61 +1,61 @@
-use Rattle.std.proofs.Common.{◌≡◌, ◌+◌, ◌-◌, length, take, sym, ap, subst, ◌∙◌, arith}
-use Rattle.rs_decode.specs.Inner.Steps.{IsShortestTo, FailsAt}
-use Rattle.rs_decode.proofs.Registers.{IsShortestTo-start, FailsAt-start, FailsAt-times_x, Leaves, Leaves-stays, Leaves-mended, Leaves-longer, Generates-end, IsLeast-end, first-start}
+use Rattle.std.proofs.Common.{◌≡◌, ◌<◌, ◌∷◌, length, get_or, sym, subst, ◌∙◌, arith}
+use Rattle.std.proofs.lemmas.List.{get_or_read_under}
+use Rattle.rs_decode.specs.Inner.Steps.{IsShortestTo}
+use Rattle.rs_decode.proofs.Candidates.{IsLeft, IsAt-start, IsAt-next, IsLeft-stays, IsLeft-mended, IsLeft-longer}
+use Rattle.rs_decode.proofs.Registers.{Generates-end, IsLeast-end}
 use Rattle.rs_decode.proofs.register.shortest.Goals as goal
 use Rattle.rs_decode.proofs.register.shortest.Goals.{then-found-ne0+then-len-place, then-found-ne0+else-len-place, else-found-ne0}
 
 pub loop-place-init : goal.loop-place-init
 loop-place-init c = record {
-  shortest = IsShortestTo-start c.args.seq.now;
-  fails = FailsAt-start c.args.seq.now;
-  starts = first-start;
-  nonzero = λ same. absurd (omega arith);
+  lanes = c.in_front.ensures.size;
+  is_at = IsAt-start c.moved_up.result c.args.seq.now c.in_front.result c.moved_up-2.result c.requires (λ k below. omega (arith, c.type_inv.seq k)) c.in_front.ensures.list
+      c.moved_up.ensures c.moved_up-2.ensures;
 }
-
-pub add_multiple-requires-clause-higher : goal.add_multiple-requires-clause-higher
-add_multiple-requires-clause-higher c = λ k from. c.loop-place.invariant.fails.higher k (omega (arith, c.loop-place.invariant.shortest.within))
 
 pub loop-place-preserved : goal.loop-place-preserved
 loop-place-preserved c =
     let n = c.loop-place.place in
     let len = c.loop-place.len in
-    let taps = c.loop-place.taps in
+    let failure = c.loop-place.failure in
+    let register = c.loop-place.register in
     let earlier = c.loop-place.earlier in
     let seq = c.args.seq.now in
-    let found = c.discrepancy-found.result in
-    let before = c.loop-place.invariant in
+    let at = c.loop-place.invariant.is_at in
     let after = c.if-found-ne0 in
-    let leaves : Leaves n after.len after.failure after.taps after.earlier seq =
+    let inside : n < length seq = omega arith in
+    let found : c.index-found.result.now ≡ get_or register.connections 0 0 =
+    get_or_read_under register.connections 0 32 c.index-found.result.now 0 c.index-found.ensures (omega arith) (sym c.loop-place.invariant.lanes) in
+    let left : IsLeft n after.len after.failure after.first after.register.taps after.earlier.taps seq after.register.connections after.earlier.connections =
     elim c.if-found-ne0.branch [
       | then-found-ne0+then-len-place w ↦
-          rw (w.len-is, w.failure-is, w.taps-is ∙ w.add_multiple.ensures, w.earlier-is)
-          (Leaves-longer n len found c.loop-place.failure w.div.result taps earlier seq
-          before.shortest before.fails before.starts c.discrepancy-found.ensures w.if-found-ne0.true w.div.ensures (omega (arith, w.if-len-place.true)))
+          rw (w.len-is, w.failure-is ∙ found, w.first-is, w.register-is, w.earlier-is)
+          (IsLeft-longer n len failure register.taps earlier.taps seq register.connections earlier.connections c.requires inside at w.div.result
+          w.mended-register.result.taps w.mended-register.result.connections (λ none. w.if-found-ne0.true (found ∙ none)) (w.div.ensures ∙ found)
+          w.mended-register.ensures.taps w.mended-register.ensures.connections (omega (arith, w.if-len-place.true)))
       | then-found-ne0+else-len-place w ↦
-          rw (w.len-is, w.failure-is, w.taps-is ∙ w.add_multiple.ensures, w.earlier-is)
-          (Leaves-mended n len found c.loop-place.failure w.div.result taps earlier seq
-          before.shortest before.fails before.starts before.nonzero c.discrepancy-found.ensures w.if-found-ne0.true w.div.ensures (omega (arith, w.if-len-place.false)))
+          rw (w.len-is, w.failure-is, w.first-is, w.register-is, w.earlier-is)
+          (IsLeft-mended n len failure register.taps earlier.taps seq register.connections earlier.connections c.requires inside at w.div.result
+          w.mended-register.result.taps w.mended-register.result.connections (λ none. w.if-found-ne0.true (found ∙ none)) (w.div.ensures ∙ found)
+          w.mended-register.ensures.taps w.mended-register.ensures.connections (omega (arith, w.if-len-place.false)))
       | else-found-ne0 w ↦
-          rw (w.len-is, w.failure-is, w.taps-is, w.earlier-is)
-          (Leaves-stays n len c.loop-place.failure taps earlier seq before.shortest before.fails before.nonzero (sym c.discrepancy-found.ensures ∙ w.if-found-ne0.false))
+          rw (w.len-is, w.failure-is, w.first-is, w.register-is, w.earlier-is)
+          (IsLeft-stays n len failure register.taps earlier.taps seq register.connections earlier.connections c.requires inside at (sym found ∙ w.if-found-ne0.false))
     ] in
-    let reach : n + 1 - after.len + 1 ≡ n + 1 + 1 - after.len = omega (arith, leaves.0.within) in
     record {
-      shortest = leaves.0;
-      fails = subst (λ r. FailsAt (n + 1) r after.failure c.times_x.new.polynomial seq) reach
-          (FailsAt-times_x n (n + 1 - after.len) after.failure after.earlier c.times_x.new.polynomial seq leaves.1 (omega arith)
-          (c.times_x.ensures.len ∙ leaves.1.size) c.times_x.ensures.first (λ k below. c.times_x.ensures.others k (omega (arith, leaves.1.size))));
-      starts = c.times_x.ensures.first;
-      nonzero = leaves.2;
+      lanes = c.moved_down-register.ensures.size;
+      is_at = IsAt-next n after.len after.failure after.first after.register.taps after.earlier.taps seq after.register.connections after.earlier.connections
+          c.moved_down-register.result c.moved_up-earlier.result c.requires inside c.moved_down-register.ensures.each c.moved_up-earlier.ensures left;
     }
 
 pub returns-clause-generates : goal.returns-clause-generates
 returns-clause-generates c =
     let end : c.loop-place.place ≡ length c.args.seq.now = omega arith in
-    let is = subst (λ n. IsShortestTo n c.loop-place.len c.loop-place.taps c.args.seq.now) end c.loop-place.invariant.shortest in
-    rw (c.truncate.ensures.items ∙ ap (take (c.loop-place.len + 1)) c.from-taps.ensures.0) (Generates-end c.loop-place.len c.loop-place.taps c.args.seq.now is c.requires)
+    let is = subst (λ n. IsShortestTo n c.loop-place.len (1 ∷ c.loop-place.register.taps) c.args.seq.now) end c.loop-place.invariant.is_at.shortest in
+    rw c.all_taps.ensures (Generates-end c.loop-place.len (1 ∷ c.loop-place.register.taps) c.args.seq.now is c.requires)
 
 pub returns-clause-least : goal.returns-clause-least
 returns-clause-least c =
     let end : c.loop-place.place ≡ length c.args.seq.now = omega arith in
-    IsLeast-end c.loop-place.len c.loop-place.taps c.args.seq.now (subst (λ n. IsShortestTo n c.loop-place.len c.loop-place.taps c.args.seq.now) end c.loop-place.invariant.shortest)
+    let is = subst (λ n. IsShortestTo n c.loop-place.len (1 ∷ c.loop-place.register.taps) c.args.seq.now) end c.loop-place.invariant.is_at.shortest in
+    IsLeast-end c.loop-place.len (1 ∷ c.loop-place.register.taps) c.args.seq.now is
