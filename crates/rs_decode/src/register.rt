@@ -9,7 +9,7 @@ ghost use Rattle.rs_decode.specs.Register.{Generates, IsLeast};
 
 use arrayvec::ArrayVec;
 use gf_field::div;
-use rs_lanes::{multiple, store};
+use rs_lanes::{store, with_multiple};
 use std::simd::prelude::*;
 
 /// A register that generates a list: from place `len` on, the sum over i of the i-th tap times the number i places before
@@ -86,14 +86,6 @@ fn mended(register: Candidate, other: Candidate, factor: u8) -> Candidate
         taps: with_multiple(register.taps, other.taps, factor),
         connections: with_multiple(register.connections, other.connections, factor),
     }
-}
-
-// The sum of a vector and a multiple of another.
-#[inline(always)]
-fn with_multiple(lanes: u8x32, other: u8x32, factor: u8) -> u8x32
-    ensures { HasLanes result (λ k. plus (slice_index lanes k) (product (slice_index other k) factor)) }
-{
-    lanes ^ multiple(other, factor)
 }
 
 // Each lane moved up by one, and a byte in the first. What was in the last lane is lost.

@@ -6,7 +6,7 @@ ghost use Rattle.rs_lanes.specs.Rows.{line, place, column};
 ghost use Rattle.rs_lanes.specs.Inner.Lanes.{HasLanes};
 ghost use Rattle.rs_lanes.specs.Inner.Parity.{IsBasis};
 
-use crate::lanes::{mixed, multiple};
+use crate::lanes::with_multiple;
 use std::simd::prelude::*;
 
 /// The words of `R` bytes with these values at alpha^0 to alpha^(`R` - 1), one in each lane.
@@ -41,12 +41,4 @@ fn add_multiples<const R: usize>(
     for i in 0..R {
         parity[i] = with_multiple(parity[i], value, matrix[i][k]);
     }
-}
-
-// The sum of a vector and a multiple of another.
-#[inline(always)]
-fn with_multiple(sum: u8x32, lanes: u8x32, factor: u8) -> u8x32
-    ensures { HasLanes result (λ j. plus (slice_index sum j) (product (slice_index lanes j) factor)) }
-{
-    mixed(sum, multiple(lanes, factor))
 }
