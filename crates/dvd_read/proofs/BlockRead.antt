@@ -21,11 +21,13 @@ module _ (rows : List (List ℕ)) (marks : List (List Bool)) (entry : BlockPlan)
   pub both_of_none : block_cause rows marks entry ≡ None → (two_pass_cause (answers_of rows marks) ≡ None) × (frames_cause (block_in rows marks) entry ≡ None)
   unfolding block_cause
   both_of_none = parts (two_pass_cause (answers_of rows marks)) where
+    -- where a first cause or else another is none, neither is
     parts : (passes : Option Cause) → option_or passes (frames_cause (block_in rows marks) entry) ≡ None
         → (passes ≡ None) × (frames_cause (block_in rows marks) entry ≡ None)
     parts None is = (refl, is)
     parts (Some cause) is = cc
 
+  -- without a cause the sectors are the Main Data of the block that is found
   sectors_read : block_cause rows marks entry ≡ None → block_sectors rows marks entry ≡ main_data (block_in rows marks) entry
   unfolding block_sectors
   sectors_read is = ap (λ cause. cond (is_none cause) (main_data (block_in rows marks) entry) (replicate 16 (replicate 2048 0))) is

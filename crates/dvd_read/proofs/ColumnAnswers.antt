@@ -1,40 +1,20 @@
 -- The columns of the rows' answers, and the rows of the columns' words.
-use Rattle.std.proofs.Common.{◌≡◌, ◌∙◌, ℕ, ◌+◌, ◌<◌, Bool, true, false, not, List, [], length, map, get_or, position, slice_index, All, refl, sym, ap, subst, arith, Some, None}
+use Rattle.std.proofs.Common.{◌≡◌, ◌∙◌, ℕ, ◌+◌, ◌-◌, ◌<◌, Bool, true, false, not, List, [], length, map, get_or, position, slice_index, All, inl, inr, refl, sym, ap, subst, arith, Some, None}
 use Rattle.std.specs.Prelude.{◌↔◌, IsTrue}
 use Rattle.std.specs.declared.option.Option.{Option}
+use Rattle.std.proofs.lemmas.Bool.{cases_lt}
 use Rattle.std.proofs.lemmas.List.{get_or-map, length-map}
 use Rattle.std.proofs.lemmas.Grind.{same_number_lists}
 use Rattle.gf_field.specs.Words.{IsByte, IsCodeword}
 use Rattle.rs_decode.specs.Nearest.{vanishes_at_all}
 use Rattle.rs_decode.proofs.Nearest.{codeword-vanishes, vanishing-codeword}
 use Rattle.dvd_block.specs.Product.{line}
-use Rattle.dvd_capture.specs.TwoPass.{answer_column, byte_at, column_answer, from_columns}
-use Rattle.dvd_capture.specs.declared.parts.AnswerRow.{AnswerRow}
+use Rattle.dvd_capture.specs.TwoPass.{column_answer, from_columns}
 use Rattle.dvd_capture.specs.declared.parts.ColumnAnswer.{ColumnAnswer}
 use Rattle.dvd_capture.proofs.Columns.{from_columns-line}
-use Rattle.dvd_read.specs.Parts.{AreColumnsFrom, answer_word, column_word}
+use Rattle.dvd_read.specs.Parts.{AreColumnsFrom, column_word}
 use Rattle.dvd_read.specs.Inner.Found.{AreColumns, words_of}
 use Rattle.dvd_read.proofs.Positions.{first_passes, none_passes}
-use Rattle.dvd_read.proofs.RowAnswers.{blank_answer}
-
--- the bytes of a column of answers before row i
-abbrev pub IsReadBefore : List AnswerRow → ℕ → List ℕ → ℕ → Type 0
-IsReadBefore answers j word i = (k : ℕ) (d : AnswerRow) → k < i → get_or word k 0 ≡ byte_at j (answer_word (get_or answers k d))
-
--- once all rows are read, it is the column of the answers
-pub column_read : (answers : List AnswerRow) (j : ℕ) (word : List ℕ) → length answers ≡ 208 → length word ≡ 208 → IsReadBefore answers j word 208
-    → word ≡ answer_column (map answer_word answers) j
-unfolding answer_column
-column_read answers j word size word_size read =
-    same_number_lists word (map (byte_at j) (map answer_word answers))
-    (word_size ∙ sym (length-map (map answer_word answers) (byte_at j) ∙ length-map answers answer_word ∙ size))
-    (λ k within.
-    let below : k < 208 = omega arith in
-    let inside : k < length answers = omega arith in
-    let inside_words : k < length (map answer_word answers) = rw length-map inside in
-    read k blank_answer below
-    ∙ ap (byte_at j) (sym (get_or-map answer_word answers k blank_answer None inside))
-    ∙ sym (get_or-map (byte_at j) (map answer_word answers) k None 0 inside_words))
 
 -- a column that stands nowhere
 abbrev pub blank_column : ColumnAnswer
@@ -60,10 +40,6 @@ row_read columns i row below size row_size read =
     ∙ sym (get_or-map (λ word. slice_index word i) (words_of columns) k [] 0 inside_words))
     ∙ sym (from_columns-line (words_of columns) i below)
 
--- the first n columns from `start` on are answered
-abbrev pub AreColumnsBefore : List (Option (List ℕ)) → ℕ → List ColumnAnswer → ℕ → Type 0
-AreColumnsBefore answers start piece n = (k : ℕ) (d : ColumnAnswer) → k < n → column_word (get_or piece k d) ≡ column_answer answers (start + k)
-
 -- the answers to all columns from the first on
 pub columns-whole : (answers : List (Option (List ℕ))) (columns : List ColumnAnswer) → length columns ≡ 182
     → AreColumnsFrom answers 0 columns → AreColumns answers columns
@@ -74,6 +50,7 @@ columns-whole answers columns size from j d below =
 pub codeword_tested : (answer : Bool) (row : List ℕ) → length row ≡ 182 → All IsByte row → IsTrue answer ↔ IsCodeword 182 10 row → answer ≡ vanishes_at_all 10 row
 codeword_tested true row size bytes decides = sym (codeword-vanishes 182 10 row (decides.0 refl))
 codeword_tested false row size bytes decides = refused (vanishes_at_all 10 row) refl where
+  -- a row that isn't a codeword fails the test
   refused : (test : Bool) → vanishes_at_all 10 row ≡ test → false ≡ test
   refused true passes = decides.1 (vanishing-codeword 182 10 row size bytes passes)
   refused false fails = refl
@@ -100,3 +77,11 @@ wrong_first block i within before here =
 pub wrong_none : (block : List (List ℕ)) → ((k : ℕ) → k < length block → vanishes_at_all 10 (line block k) ≡ true)
     → position (λ row. not (vanishes_at_all 10 row)) block ≡ None
 wrong_none block all = none_passes (λ row. not (vanishes_at_all 10 row)) block [] (λ k within. ap not (all k within))
+
+-- what holds of the rows below `top` and of the n rows from there on holds of all below their end
+pub rows_more : (P : ℕ → Type 0) (top n : ℕ) → ((k : ℕ) → k < top → P k) → ((k : ℕ) → k < n → P (top + k)) → (k : ℕ) → k < top + n → P k
+rows_more P top n before more k below =
+    elim (cases_lt k top) [
+      | inl under ↦ before k under
+      | inr above ↦ subst P {x = top + (k - top)} (omega arith) (more (k - top) (omega arith))
+    ]

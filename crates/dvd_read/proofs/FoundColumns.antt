@@ -44,6 +44,7 @@ missing-is answers columns size are =
     position-by (λ (column : ColumnAnswer). not column.answered) is_none columns (map column_word columns) (sym (length-map columns column_word)) (sym lengths)
     ∙ ap (position is_none) (answers-are answers columns size are)
   where
+    -- tests that fail on equally long fronts of equally long lists pass first at the same place
     position-by : {X Y : Type 0} (p : X → Bool) (q : Y → Bool) (xs : List X) (ys : List Y) → length xs ≡ length ys
         → prefix_len (λ x. not (p x)) xs ≡ prefix_len (λ y. not (q y)) ys → position p xs ≡ position q ys
     position-by p q xs ys sizes lengths = rw (sizes, lengths) refl
@@ -72,6 +73,7 @@ words-found answers columns size are none =
     ∙ ap (λ column. unwrap_or column []) (are j blank_column below ∙ sym (get_or-columns_of answers j None below))
     ∙ sym (get_or-map (λ column. unwrap_or column []) (columns_of answers) j None [] (omega (arith, length-columns_of answers)))))
   where
+    -- a flag is set whose opposite isn't
     unnot : (b : Bool) → not b ≡ false → b ≡ true
     unnot true is = refl
     unnot false is = sym is

@@ -2,10 +2,12 @@
 pub mod RowAnswers
 pub mod Positions
 pub mod ColumnAnswers
+pub mod LaneValues
 pub mod Outcomes
 pub mod FoundColumns
 pub mod Codewords
 pub mod Standing
+pub mod MarkedColumns
 pub mod Differences
 pub mod FrameFaults
 pub mod BlockRead

@@ -118,6 +118,7 @@ agrees-found answers size none_lost none_wrong =
     vanishing-codeword 182 10 (line (from_columns (words answers)) i) (row_size (words answers) i (length-words answers) below)
     (row_bytes answers (words answers) i are below) vanishes))
   where
+    -- a flag is set whose opposite isn't
     unnot : (b : Bool) → not b ≡ false → b ≡ true
     unnot true is = refl
     unnot false is = sym is

@@ -1,9 +1,8 @@
 -- The answer to one row, and the answers to all of them as words.
-use Rattle.std.proofs.Common.{◌≡◌, ◌∙◌, ℕ, zero, suc, min, ◌+◌, ◌-◌, ◌*◌, ◌<◌, ◌≤◌, Bool, true, false, cond, List, [], ◌∷◌, length, map, take, get_or, set, inl, inr, refl, sym, ap, subst, arith, Some, None, is_none, MatchOption}
+use Rattle.std.proofs.Common.{◌≡◌, ◌∙◌, ℕ, zero, suc, ◌+◌, ◌<◌, ◌≤◌, Bool, true, false, cond, List, [], ◌∷◌, length, map, take, get_or, refl, sym, ap, subst, arith, Some, None, is_none, MatchOption}
 use mir.Val.{bool_byte}
 use Rattle.std.specs.declared.option.Option.{Option}
-use Rattle.std.proofs.lemmas.Bool.{cases_eq}
-use Rattle.std.proofs.lemmas.List.{get_or-map, get_or-set_same, get_or-set_other, ext_get_or, length-map, length-set}
+use Rattle.std.proofs.lemmas.List.{get_or-map, ext_get_or, length-map}
 use Rattle.gf_field.specs.Words.{IsNear}
 use Rattle.rs_decode.specs.Errors.{error_count}
 use Rattle.rs_decode.specs.Filling.{marked}
@@ -61,31 +60,6 @@ pub answers-whole : (received : List (List ℕ)) (marks : List (List Bool)) (ans
     → AreAnswersFrom received marks 0 answers → AreAnswers received marks answers
 answers-whole received marks answers size from i d below =
     subst (λ (n : ℕ). IsAnswer (line received n) (marks_line marks n) (get_or answers i d)) {x = 0 + i} (omega arith) (from.are i d (omega (arith, below, size)))
-
--- of two more rows or columns it is noted which are codewords, where the second may be the first again
-pub noted-next : (P : ℕ → Type 0) (whole : List Bool) (k other count : ℕ) (first second : Bool)
-    → 2 * k < length whole
-    → other < length whole
-    → other ≡ min (2 * k + 1) (count - 1)
-    → (first ≡ true → P (2 * k))
-    → (second ≡ true → P other)
-    → ((j : ℕ) → j < 2 * k → j < count → get_or whole j false ≡ true → P j)
-    → (j : ℕ) → j < 2 * (k + 1) → j < count → get_or (set (set whole (2 * k) first) other second) j false ≡ true → P j
-noted-next P whole k other count first second one_inside other_inside is one two before j below within noted = elim (cases_eq j other) [
-  | inl last ↦
-      subst P (sym last)
-      (two
-      (sym (get_or-set_same (set whole (2 * k) first) other second false (omega (arith, other_inside, length-set whole (2 * k) first)))
-      ∙ ap (λ n. get_or (set (set whole (2 * k) first) other second) n false) (sym last) ∙ noted))
-  | inr not_last ↦
-      let left : get_or (set whole (2 * k) first) j false ≡ true = sym (get_or-set_other (set whole (2 * k) first) other j second false not_last) ∙ noted in
-      elim (cases_eq j (2 * k)) [
-        | inl here ↦
-            subst P (sym here)
-            (one (sym (get_or-set_same whole (2 * k) first false one_inside) ∙ ap (λ n. get_or (set whole (2 * k) first) n false) (sym here) ∙ left))
-        | inr not_here ↦ before j (omega (arith, not_last, not_here, is, within, below)) within (sym (get_or-set_other whole (2 * k) j first false not_here) ∙ left)
-      ]
-]
 
 -- the flags of the rows before row i
 abbrev pub AreFlagsBefore : List AnswerRow → List Bool → ℕ → Type 0
@@ -168,6 +142,7 @@ block_answers received marks answers size are =
     answers-are (received_rows received) (marks_rows marks) answers (omega (arith, received.size, received.rows.ok.0))
     (length-map marks.rows.items marks_of ∙ rows_size) size are
   where
+    -- there are 208 rows of marks
     rows_size : length marks.rows.items ≡ 208
     rows_size = omega (arith, marks.size, marks.rows.ok.0)
 
@@ -177,5 +152,6 @@ length-block_answers received marks =
     length-answers_of (received_rows received) (marks_rows marks) 208 (omega (arith, received.size, received.rows.ok.0))
     (length-map marks.rows.items marks_of ∙ rows_size)
   where
+    -- there are 208 rows of marks
     rows_size : length marks.rows.items ≡ 208
     rows_size = omega (arith, marks.size, marks.rows.ok.0)

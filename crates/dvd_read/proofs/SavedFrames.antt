@@ -75,19 +75,23 @@ failed-flag answers i d within =
     ap is_none (get_or-map answer_word answers i d None within) ∙ sym (flag-by (get_or answers i d).bytes (get_or answers i d).fix)
 
 module _ (answers : List (Option (List ℕ))) (f : ℕ) where
+  -- where two passes have no cause, a frame of the block found is the candidate
   pub candidate-found : (block : List (List ℕ)) (frame : List ℕ) → is_none (two_pass_cause answers) ≡ true → block ≡ block_found answers → frame ≡ frame_of block f
       → candidate answers f ≡ Some frame
   unfolding candidate
   candidate-found block frame none same is = rw none (ap Some (ap (λ b. frame_of b f) (sym same) ∙ sym is))
 
+  -- where they have one, and no row of the frame is lacked, the frame of the rows' answers is
   pub candidate-answered : (frame : List ℕ) → is_none (two_pass_cause answers) ≡ false → lacks_row answers f ≡ false → frame ≡ frame_of (answered_block answers) f
       → candidate answers f ≡ Some frame
   unfolding candidate
   candidate-answered frame some all is = rw (some, all) (ap Some (sym is))
 
+  -- and there is a candidate exactly where no row of the frame is lacked
   pub candidate-has : (has : Bool) → is_none (two_pass_cause answers) ≡ false → has ≡ not (lacks_row answers f) → has ≡ is_some (candidate answers f)
   unfolding candidate
   candidate-has has some is = is ∙ (rw some (by_lacks (lacks_row answers f))) where
+    -- by whether a row is lacked
     by_lacks : (lacks : Bool) → not lacks ≡ is_some (if lacks then None else Some (frame_of (answered_block answers) f))
     by_lacks true = refl
     by_lacks false = refl
@@ -109,6 +113,7 @@ module _ (answers : List (Option (List ℕ))) (f : ℕ) where
     pub rescued-none : is_some (candidate answers f) ≡ false → is_some (rescued answers entry f) ≡ false
     unfolding rescued
     rescued-none = by_candidate (candidate answers f) where
+      -- by whether there is one
       by_candidate : (frame : Option (List ℕ)) → is_some frame ≡ false → is_some (option_and_then (main_if_right entry f) frame) ≡ false
       by_candidate None none = refl
       by_candidate (Some frame) none = cc

@@ -40,6 +40,7 @@ use Rattle.dvd_read.proofs.SavedFrames.{candidate-answered, candidate-found, cou
 refused-caused : (received : List (List ℕ)) (marks : List (List Bool)) → length received ≡ 208 → length marks ≡ 208 → HasNoTwoPass received marks
     → is_none (two_pass_cause (answers_of received marks)) ≡ false
 refused-caused received marks size marks_size none = by_cause (two_pass_cause (answers_of received marks)) refl where
+  -- by the cause: without one, the block found agrees
   by_cause : (cause : Option Cause) → two_pass_cause (answers_of received marks) ≡ cause → is_none cause ≡ false
   by_cause None is =
       absurd (none (block_found (answers_of received marks)) (no_cause-agrees (answers_of received marks) (length-answers_of received marks 208 size marks_size) is))
@@ -51,6 +52,7 @@ module _ (received : List (List ℕ)) (marks : List (List Bool)) (size : length 
   pub fixed-told : (block : List (List ℕ)) → HasAnswers stage → (stage ≡ Refused → HasNoTwoPass received marks) → (stage ≡ Fixed → IsTwoPass received marks block)
       → fixed ≡ is_none (two_pass_cause (answers_of received marks))
   fixed-told block = by_stage stage fixed told where
+    -- by the stage, which is Refused or Fixed, and by the flag that tells it
     by_stage : (at : Stage) (flag : Bool) → (IsTrue flag ↔ at ≡ Fixed) → HasAnswers at → (at ≡ Refused → HasNoTwoPass received marks)
         → (at ≡ Fixed → IsTwoPass received marks block) → flag ≡ is_none (two_pass_cause (answers_of received marks))
     by_stage Empty flag is has refused agrees = absurd has
@@ -71,6 +73,7 @@ module _ (received : List (List ℕ)) (marks : List (List Bool)) (size : length 
 head-nothing : {X : Type 0} (h : ℕ → Option X) (a n : ℕ) → slice_get (filter_map h (range_with_len a (suc n))) 0 ≡ None
     → (h a ≡ None) × (slice_get (filter_map h (range_with_len (a + 1) n)) 0 ≡ None)
 head-nothing {X = X} h a n = by_head (h a) (filter_map h (range_with_len (a + 1) n)) where
+  -- by whether the first number gives a value
   by_head : (head : Option X) (rest : List X) → slice_get (cons_option head rest) 0 ≡ None → (head ≡ None) × (slice_get rest 0 ≡ None)
   by_head None rest none = (refl, none)
   by_head (Some x) rest none = cc
@@ -115,12 +118,15 @@ wholly-saved rows marks entry none = (
   mains-all block entry (sectors_saved answers entry) (length-map-range_with_len (sector_saved answers entry) 0 16)
       (λ k below. get_or-map-range_with_len (sector_saved answers entry) 0 16 k k [] below (omega arith) ∙ ap (λ o. unwrap_or o (replicate 2048 0)) (each k below)),
 ) where
+  -- what the first pass answers
   answers : List (Option (List ℕ))
   answers = answers_of rows marks
 
+  -- the block that two passes find
   block : List (List ℕ)
   block = block_found answers
 
+  -- each frame is rescued, as its Main Data
   each : (k : ℕ) → k < 16 → rescued answers entry k ≡ Some (main_in (frame_of block k) (rule_for entry.content k))
   each k below =
       let parts = both_of_none rows marks entry none in
@@ -156,6 +162,7 @@ none-lacked answers f (suc n) size f_below most all =
 each-answered : (answers : List (Option (List ℕ))) (f q : ℕ) → length answers ≡ 208 → f < 16 → q < 12 → lacks_row answers f ≡ false
     → is_none (get_or answers (12 * f + q) None) ≡ false
 each-answered answers f q size f_below q_below none = by_flag (is_none (get_or answers (12 * f + q) None)) refl where
+  -- by whether the row failed
   by_flag : (flag : Bool) → is_none (get_or answers (12 * f + q) None) ≡ flag → flag ≡ false
   by_flag false is = refl
   by_flag true is = let lacks = lacks-at answers f q size f_below q_below is in sym lacks ∙ none
@@ -169,6 +176,7 @@ module _ (received : List (List ℕ)) (marks : List (List Bool)) (size : length 
   answer-at : (i : ℕ) → i < 208 → get_or (answers_of received marks) i None ≡ near_of 182 10 (line received i) (marks_line marks i)
   answer-at i below = get_or-answers_of received marks i None (omega arith) (omega arith)
 
+  -- there are 208 answers
   answers_size : length (answers_of received marks) ≡ 208
   answers_size = length-answers_of received marks 208 size marks_size
 
@@ -206,15 +214,19 @@ good_rows-saved entry dim cpr main frames block received marks cause f numbers m
     (unmapped (cause_in f) _ fine.0))
     ∙ fine.1
   where
+    -- what the first pass answers
     answers : List (Option (List ℕ))
     answers = answers_of received marks
 
+    -- there are 208 of them
     size : length answers ≡ 208
     size = answers_size received marks is.height is.marks_height
 
+    -- each of the frame's twelve rows is answered by the row that was recorded
     answer : (q : ℕ) → q < 12 → get_or answers (12 * f + q) None ≡ Some (line block (12 * f + q))
     answer q q_below = good-answer block received marks (12 * f + q) is_block.product is (omega arith) (cheap q q_below)
 
+    -- the frame of the block has no fault, and its Main Data are those it was made of
     fine : (fault_at block entry f ≡ None) × (main_in (frame_of block f) (rule_for entry.content f) ≡ main f)
     fine = frame_fine entry dim cpr main frames block f numbers made is_block below
 
@@ -273,12 +285,14 @@ count-most p =
     subst (λ n. count_by p (range_with_len 0 16) ≤ n) (length-range_with_len 0 16) most
 
 module _ (rows : List (List ℕ)) (marks : List (List Bool)) (size : length rows ≡ 208) (marks_size : length marks ≡ 208) where
+  -- what the first pass answers
   abbrev answers : List (Option (List ℕ))
   answers = answers_of rows marks
 
   -- an answer has 182 places
   answer-wide : (i : ℕ) → i < 208 → is_none (get_or answers i None) ≡ false → length (unwrap_or (get_or answers i None) []) ≡ 182
   answer-wide i below has = by_answer (get_or answers i None) refl has where
+    -- by whether there is an answer
     by_answer : (answer : Option (List ℕ)) → get_or answers i None ≡ answer → is_none answer ≡ false → length (unwrap_or answer []) ≡ 182
     by_answer None is some = cc
     by_answer (Some word) is some = near-size 182 10 (line rows i) word (marks_line marks i) (sym (answer-at rows marks size marks_size i below) ∙ is)
@@ -287,6 +301,7 @@ module _ (rows : List (List ℕ)) (marks : List (List Bool)) (size : length rows
   candidate-size : (f : ℕ) (frame : List ℕ) → f < 16 → candidate answers f ≡ Some frame → length frame ≡ 2064
   unfolding candidate
   candidate-size f frame f_below = by_cause (two_pass_cause answers) (lacks_row answers f) refl refl where
+    -- by the cause, and by whether a row of the frame is lacked
     by_cause : (cause : Option Cause) (lacks : Bool) → two_pass_cause answers ≡ cause → lacks_row answers f ≡ lacks
         → cond (is_none cause) (Some (frame_of (block_found answers) f)) (cond lacks None (Some (frame_of (answered_block answers) f))) ≡ Some frame
         → length frame ≡ 2064
@@ -307,13 +322,16 @@ module _ (rows : List (List ℕ)) (marks : List (List Bool)) (size : length rows
   sector-size : (entry : BlockPlan) (f : ℕ) → f < 16 → length (sector_saved answers entry f) ≡ 2048
   unfolding rescued
   sector-size entry f below = by_candidate (candidate answers f) refl where
+    -- by whether there is a candidate
     by_candidate : (frame : Option (List ℕ)) → candidate answers f ≡ frame → length (unwrap_or (option_and_then (main_if_right entry f) frame) (replicate 2048 0)) ≡ 2048
     by_candidate None is = length-replicate {A = ℕ} 2048 0
     by_candidate (Some frame) is = by_right (is_none (frame_cause frame (wanted_word entry f) (rule_for entry.content f))) where
+      -- by whether it is right
       by_right : (right : Bool) → length (unwrap_or (if right then Some (main_in frame (rule_for entry.content f)) else None) (replicate 2048 0)) ≡ 2048
       by_right false = length-replicate {A = ℕ} 2048 0
       by_right true = length-main frame entry f (candidate-size f frame below is)
 
+  -- what is given out is sixteen sectors of 2,048 bytes, of which at most sixteen are saved
   pub sixteen-sectors : (entry : BlockPlan)
       → (length (block_out rows marks entry) ≡ 16) × ((f : ℕ) → f < 16 → length (line (block_out rows marks entry) f) ≡ 2048) × (saved_in rows marks entry ≤ 16)
   unfolding block_out saved_in

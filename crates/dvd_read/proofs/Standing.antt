@@ -2,33 +2,33 @@
 use Rattle.std.proofs.Common.{◌≡◌, ◌∙◌, ℕ, zero, suc, ◌+◌, ◌<◌, ◌≤◌, ◌==◌, Bool, true, false, if◌then◌else◌, MatchOption, List, [], ◌∷◌, length, map, get_or, replicate, slice_index, refl, sym, ap, subst, arith, Some, None, is_none}
 use Rattle.std.specs.declared.option.Option.{Option}
 use Rattle.std.proofs.lemmas.Bool.Decides.{nat_tests}
-use Rattle.std.proofs.lemmas.List.{get_or-map, ext_get_or, get_or-replicate, length-map, length-replicate}
+use Rattle.std.proofs.lemmas.List.{get_or-map, ext_get_or, length-map, length-replicate}
 use Rattle.std.proofs.lemmas.Grind.{same_number_lists}
-use Rattle.gf_field.specs.Words.{IsCodeword, IsNear, cost}
+use Rattle.gf_field.specs.Words.{IsCodeword, IsNear}
 use Rattle.rs_decode.specs.Errors.{error_count}
 use Rattle.rs_decode.specs.Filling.{marked}
 use Rattle.rs_decode.specs.Nearest.{near_of, vanishes_at_all}
 use Rattle.rs_decode.specs.declared.errors.Fix.{Fix}
-use Rattle.rs_decode.proofs.Counting.{error_count-self}
-use Rattle.rs_decode.proofs.Nearest.{codeword-vanishes, near_of-some}
+use Rattle.rs_decode.proofs.Counting.{IsNear-from_counts, error_count-self}
+use Rattle.rs_decode.proofs.Nearest.{codeword-vanishes}
 use Rattle.dvd_block.specs.Product.{column, line}
 use Rattle.dvd_capture.specs.Answers.{IsAnswer, IsFix, marks_line}
 use Rattle.dvd_capture.specs.Rule.{HasAnswers}
 use Rattle.dvd_capture.specs.Works.{answers_of_work, marks_of_work, rows_of, stage_of}
 use Rattle.dvd_capture.specs.declared.work.Work.{Work}
 use Rattle.dvd_capture.proofs.MarkLists.{length-marks_of, line-marks}
-use Rattle.dvd_capture.specs.TwoPass.{answer_column, byte_at, column_answer, failed_of, from_columns}
+use Rattle.dvd_capture.specs.TwoPass.{failed_of, from_columns}
 use Rattle.dvd_capture.specs.declared.parts.AnswerRow.{AnswerRow}
 use Rattle.dvd_capture.specs.declared.parts.ColumnAnswer.{ColumnAnswer}
 use Rattle.dvd_capture.proofs.Columns.{from_columns-line, length-from_columns}
 use Rattle.dvd_read.specs.Found.{differences}
 use Rattle.dvd_read.specs.Parts.{AreOwnFrom, answer_by, answer_word, bytes_of}
 use Rattle.dvd_read.specs.Inner.Found.{words_of}
-use Rattle.dvd_read.specs.Inner.Standing.{AreCodewords, AreKept, AreOwnColumns}
+use Rattle.dvd_read.specs.Inner.Standing.{AreCodewords, AreOwnColumns}
 use Rattle.dvd_read.proofs.ColumnAnswers.{blank_column}
 use Rattle.dvd_read.proofs.RowAnswers.{blank_answer, row_fixed}
 
--- ---- a codeword without marks
+-- ---- a codeword
 
 -- a row of clear marks has none that is set
 marked-clear : (n : ℕ) → marked (replicate n false) ≡ 0
@@ -36,35 +36,16 @@ unfolding marked
 marked-clear zero = refl
 marked-clear (suc n) = let rest = marked-clear n in omega (arith, rest)
 
--- a first byte that stayed adds no cost
-same-byte : (byte rest : ℕ) → rest ≡ 0 → (if byte == byte then 0 else 2) + rest ≡ 0
-same-byte byte rest none = grind (arith, nat_tests)
+-- a codeword is near itself, as long as no more places are marked than it has parity bytes
+pub near-itself : (n r : ℕ) (word : List ℕ) (marks : List Bool) → length marks ≡ n → marked marks ≤ r → IsCodeword n r word → IsNear n r word marks word
+near-itself n r word marks size few codeword =
+    IsNear-from_counts n r word word marks codeword codeword.size size (omega (arith, few, error_count-self word marks))
 
--- a word costs nothing against itself
-cost-itself : (word : List ℕ) (n : ℕ) → cost word word (replicate n false) ≡ 0
-unfolding cost
-cost-itself [] n = refl
-cost-itself (byte ∷ word) zero = refl
-cost-itself (byte ∷ word) (suc n) = same-byte byte (cost word word (replicate n false)) (cost-itself word n)
-
--- it is near itself
-pub near-itself : (n r : ℕ) (word : List ℕ) → IsCodeword n r word → IsNear n r word (replicate n false) word
-near-itself n r word codeword = record {
-  codeword = codeword;
-  received_size = codeword.size;
-  marks_size = length-replicate n false;
-  within = let none = cost-itself word n in omega arith;
-}
-
--- so it is the near codeword that is found
-pub own-near_of : (n r : ℕ) (word : List ℕ) → n ≤ 255 → IsCodeword n r word → near_of n r word (replicate n false) ≡ Some word
-own-near_of n r word short codeword = near_of-some n r word word (replicate n false) short (near-itself n r word codeword)
-
--- it is its own answer
+-- so without marks it is its own answer
 pub own-row : (row : List ℕ) (answer : AnswerRow) → IsCodeword 182 10 row → answer.bytes ≡ row → answer.fix ≡ Some (record { errors = 0; erased = 0 })
     → IsAnswer row (replicate 182 false) answer
 own-row row answer codeword bytes_are fix_is =
-    row_fixed row row (replicate 182 false) (record { errors = 0; erased = 0 }) answer (near-itself 182 10 row codeword)
+    row_fixed row row (replicate 182 false) (record { errors = 0; erased = 0 }) answer (near-itself 182 10 row (replicate 182 false) (length-replicate 182 false) (omega (arith, marked-clear 182)) codeword)
     (sym (error_count-self row (replicate 182 false))) (sym (marked-clear 182)) bytes_are fix_is
 
 -- ---- a row where nothing was corrected and nothing marked
@@ -131,45 +112,14 @@ abbrev bytes : AnswerRow → List ℕ
 bytes answer = answer.bytes
 
 -- row i of the answers' bytes is those of answer i
-get_or-bytes_of : (answers : List AnswerRow) (i : ℕ) → i < length answers → line (bytes_of answers) i ≡ (get_or answers i blank_answer).bytes
+pub get_or-bytes_of : (answers : List AnswerRow) (i : ℕ) → i < length answers → line (bytes_of answers) i ≡ (get_or answers i blank_answer).bytes
 get_or-bytes_of answers i within = get_or-map bytes answers i blank_answer [] within
 
 -- the answers' bytes are as many rows as there are answers
 pub length-bytes_of : (answers : List AnswerRow) → length (bytes_of answers) ≡ length answers
 length-bytes_of answers = length-map answers bytes
 
--- a column of the answers is one of their bytes
-pub whole-column : (answers : List AnswerRow) (j : ℕ) → marked (failed_of (map answer_word answers)) ≡ 0
-    → answer_column (map answer_word answers) j ≡ column (bytes_of answers) j
-unfolding answer_column
-whole-column answers j none =
-    let words : List (Option (List ℕ)) = map answer_word answers in
-    same_number_lists (map (byte_at j) words) (map (λ row. slice_index row j) (bytes_of answers))
-    (length-map words (byte_at j) ∙ length-map answers answer_word ∙ sym (length-map (bytes_of answers) (λ row. slice_index row j) ∙ length-bytes_of answers))
-    (λ k within.
-    let inside_words : k < length words = subst (λ n. k < n) (length-map words (byte_at j)) within in
-    let inside : k < length answers = subst (λ n. k < n) (length-map answers answer_word) inside_words in
-    let inside_bytes : k < length (bytes_of answers) = subst (λ n. k < n) (sym (length-bytes_of answers)) inside in
-    get_or-map (byte_at j) words k None 0 inside_words
-    ∙ ap (byte_at j) (get_or-map answer_word answers k blank_answer None inside ∙ whole-answered answers k inside none)
-    ∙ sym (ap (λ (row : List ℕ). slice_index row j) (get_or-bytes_of answers k inside))
-    ∙ sym (get_or-map (λ (row : List ℕ). slice_index row j) (bytes_of answers) k [] 0 inside_bytes))
-
--- marks none of which is counted are clear
-all-clear : (marks : List Bool) (n : ℕ) → length marks ≡ n → marked marks ≡ 0 → replicate n false ≡ marks
-all-clear marks n size none =
-    ext_get_or false (replicate n false) marks (length-replicate n false ∙ sym size)
-    (λ k within. get_or-replicate n k false false (omega (arith, within, length-replicate n false)) ∙ sym (none-marked marks k none))
-
--- and its answer is that of a column without marks
-pub whole-answer : (answers : List AnswerRow) (j : ℕ) (word : List ℕ) → length answers ≡ 208 → marked (failed_of (map answer_word answers)) ≡ 0
-    → word ≡ column (bytes_of answers) j → near_of 208 16 word (replicate 208 false) ≡ column_answer (map answer_word answers) j
-whole-answer answers j word size none is =
-    let failed : List Bool = failed_of (map answer_word answers) in
-    let clear : replicate 208 false ≡ failed = all-clear failed 208 (length-map (map answer_word answers) is_none ∙ length-map answers answer_word ∙ size) none in
-    ap (near_of 208 16 word) clear ∙ ap (λ w. near_of 208 16 w failed) (is ∙ sym (whole-column answers j none))
-
--- once all rows are copied, it is the column
+-- once the bytes of all rows are copied, they are the column
 pub column-copied : (answers : List AnswerRow) (j : ℕ) (word : List ℕ) → length answers ≡ 208 → length word ≡ 208
     → ((k : ℕ) → k < 208 → get_or word k 0 ≡ get_or (line (bytes_of answers) k) j 0)
     → word ≡ column (bytes_of answers) j
@@ -225,13 +175,6 @@ rows-stand answers columns size columns_size codewords none own k below =
 pub own-whole : (answers : List AnswerRow) (columns : List ColumnAnswer) → length columns ≡ 182 → AreOwnFrom answers 0 columns → AreOwnColumns answers columns
 own-whole answers columns size from j d below =
     subst (λ (n : ℕ). (get_or columns j d).bytes ≡ column (bytes_of answers) n) {x = 0 + j} (omega arith) (from.are j d (omega (arith, below, size)))
-
--- columns that kept their bytes are still their own answers
-pub own-kept : (answers : List AnswerRow) (start n : ℕ) (columns answered : List ColumnAnswer) → n ≡ length columns → length answered ≡ length columns
-    → AreOwnFrom answers start columns → AreKept columns answered n → AreOwnFrom answers start answered
-own-kept answers start n columns answered is size own kept = record {
-  are = λ k d within. kept k d (omega (arith, within, is, size)) ∙ own.are k d (omega (arith, within, size));
-}
 
 -- what is counted of row i of a captured block
 pub row-counted : (work : Work) (i : ℕ) (row : List ℕ) (default : AnswerRow) (count : ℕ) → i < 208 → HasAnswers (stage_of work) → row ≡ line (rows_of work) i

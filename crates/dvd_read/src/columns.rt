@@ -1,19 +1,23 @@
 //! The second pass: each column of the rows' answers is answered by the codeword near it, the failed rows being marked.
-ghost use Rattle.std.specs.Prelude.{◌≡◌, ℕ, ◌+◌, ◌<◌, ◌≤◌, IsTrue, true, false, length, map, replicate, slice_index, slice_index_or, position, not};
-ghost use Rattle.gf_field.specs.Words.{IsCodeword};
-ghost use Rattle.dvd_capture.specs.TwoPass.{answer_column, byte_at, failed_of, from_columns};
+ghost use Rattle.std.specs.Prelude.{◌≡◌, ℕ, ◌+◌, ◌<◌, ◌≤◌, IsTrue, false, length, map, slice_index, slice_index_or, position, not, MatchOption};
+ghost use Rattle.gf_field.specs.Field.{alpha, power};
+ghost use Rattle.gf_field.specs.Words.{IsCodeword, value};
+ghost use Rattle.rs_code.specs.Syndromes.{syndromes_of};
+ghost use Rattle.dvd_capture.specs.TwoPass.{failed_of, from_columns};
 ghost use Rattle.rs_decode.specs.Nearest.{near_of, vanishes_at_all};
 ghost use Rattle.rs_decode.specs.Filling.{marked};
-ghost use Rattle.dvd_block.specs.Product.{column, line};
+ghost use Rattle.dvd_block.specs.Product.{column, line, place};
 ghost use Rattle.dvd_read.specs.Parts.{AreColumnsFrom, AreOwnFrom, answer_word, bytes_of, column_word};
-ghost use Rattle.dvd_read.specs.Inner.Found.{words_of};
-ghost use Rattle.dvd_read.specs.Inner.Standing.{AreCopied, AreKept, AreNear, AreWhole};
+ghost use Rattle.dvd_read.specs.Inner.Found.{AreRightFrom, IsFirstWrong, words_of};
+ghost use Rattle.dvd_read.specs.Inner.Standing.{AreCopied};
 
-use crate::rows::count_failed;
+use crate::lanes::lane_of;
+use crate::rows::MOST_FAILED;
+use arrayvec::ArrayVec;
 use dvd_capture::parts::{AnswerRow, ColumnAnswer};
-use rs_code::{Pi, Po};
-use rs_decode::decode;
-use rs_lanes::{load_turned, store, wrong_columns};
+use rs_code::Po;
+use rs_decode::{Erasures, decode_from};
+use rs_lanes::{any_of, column_values, load, load_turned, store, turned_values};
 use std::simd::prelude::*;
 
 /// Answers the columns from `start` on, one for each place of a piece of the columns. Answers whether each is as its rows
@@ -32,33 +36,17 @@ pub fn answer_columns(
     ensures none_failed { IsTrue result → marked failed.now ≡ 0 }
     ensures own { IsTrue result → AreOwnFrom answers.now start piece.new }
 {
-    if count_failed(failed) == 0 {
-        return answer_whole_columns(code, answers, start, piece);
-    }
-    answer_marked_columns(code, answers, failed, start, piece);
-    false
-}
-
-// Answers columns of rows of which none failed. Answers whether each column is its own answer.
-fn answer_whole_columns(
-    code: &Po,
-    answers: &[AnswerRow],
-    start: usize,
-    piece: &mut [ColumnAnswer],
-) -> bool
-    requires rows { length answers.now ≡ 208 }
-    requires none_failed { marked (failed_of (map answer_word answers.now)) ≡ 0 }
-    requires columns { start + length piece.old ≤ 182 }
-    ensures columns { AreColumnsFrom (map answer_word answers.now) start piece.new }
-    ensures own { IsTrue result → AreOwnFrom answers.now start piece.new }
-{
     copy_columns(answers, start, piece);
-    let mut whole = [false; 182];
-    find_codewords(answers, &mut whole);
-    answer_copied(code, &whole, start, piece)
+    match Erasures::new(failed, usize::from(MOST_FAILED)) {
+        Some(erasures) => answer_copied(code, answers, &erasures, start, piece),
+        None => {
+            leave_unanswered(piece);
+            false
+        }
+    }
 }
 
-// Writes columns of the rows' answers, of which none failed: sixteen at a time, so that their bytes lie near each other.
+// Writes columns of the rows' bytes, of failed rows too: sixteen at a time, so that their bytes lie near each other.
 fn copy_columns(answers: &[AnswerRow], start: usize, piece: &mut [ColumnAnswer])
     requires rows { length answers.now ≡ 208 }
     requires columns { start + length piece.old ≤ 182 }
@@ -113,93 +101,112 @@ fn put_lanes(lanes: u8x32, at: usize, word: &mut [u8; 208])
     store(lanes, word, at);
 }
 
-// Notes which columns of the rows' answers are codewords.
-fn find_codewords(answers: &[AnswerRow], whole: &mut [bool; 182])
-    requires { length answers.now ≡ 208 }
-    ensures { (j : ℕ) → j < 182 → slice_index_or whole.new j false ≡ true → IsCodeword 208 16 (column (bytes_of answers.now) j) }
+// Notes that no column is answered.
+fn leave_unanswered(piece: &mut [ColumnAnswer])
+    ensures { (k : ℕ) (default : ColumnAnswer) → k < length piece.new → (slice_index_or piece.new k default).answered ≡ false }
 {
-    let wrong = wrong_columns(answers);
-    for j in 0..182 {
-        whole[j] = wrong[j] == 0;
+    for column in piece.iter_mut() {
+        column.answered = false;
     }
 }
 
-// Answers columns, without marks. Answers whether each is its own answer.
-fn answer_copied(code: &Po, whole: &[bool; 182], start: usize, columns: &mut [ColumnAnswer]) -> bool
-    requires columns { start + length columns.old ≤ 182 }
-    requires whole { AreWhole start columns.old whole.now (length columns.old) }
-    ensures answered { AreNear columns.old columns.new (length columns.old) }
-    ensures own { IsTrue result → AreKept columns.old columns.new (length columns.old) }
+// Answers columns whose bytes are copied, with the failed rows marked. Answers whether no row failed and each column is its
+// own answer.
+fn answer_copied(
+    code: &Po,
+    answers: &[AnswerRow],
+    erasures: &Erasures<208>,
+    start: usize,
+    piece: &mut [ColumnAnswer],
+) -> bool
+    requires rows { length answers.now ≡ 208 }
+    requires marks { erasures.now.marks ≡ failed_of (map answer_word answers.now) }
+    requires borne { marked erasures.now.marks ≤ 16 }
+    requires columns { start + length piece.old ≤ 182 }
+    requires own { AreOwnFrom answers.now start piece.old }
+    ensures columns { AreColumnsFrom (map answer_word answers.now) start piece.new }
+    ensures none_failed { IsTrue result → marked erasures.now.marks ≡ 0 }
+    ensures own { IsTrue result → AreOwnFrom answers.now start piece.new }
 {
-    let mut stands = true;
-    for (j, column) in columns.iter_mut().enumerate() {
-        answer_unmarked(code, whole[start + j], column);
-        stands = stands && whole[start + j];
+    let mut stands = erasures.is_empty();
+    for group in 0..piece.len().div_ceil(32) {
+        let at = 32 * group;
+        let end = piece.len().min(at + 32);
+        let group_stands = answer_group(code, answers, erasures, start + at, &mut piece[at..end]);
+        stands = stands && group_stands;
     }
     stands
 }
 
-// Answers one column without marks. A codeword is its own answer.
-fn answer_unmarked(code: &Po, is_codeword: bool, column: &mut ColumnAnswer)
-    requires { is_codeword ≡ true → IsCodeword 208 16 column.old.bytes }
-    ensures answered { column_word column.new ≡ near_of 208 16 column.old.bytes (replicate 208 false) }
-    ensures own { is_codeword ≡ true → column.new.bytes ≡ column.old.bytes }
-{
-    if is_codeword {
-        column.answered = true;
-    } else {
-        decode_column(code, &[false; 208], column);
-    }
-}
-
-// Answers columns, with the failed rows marked.
-fn answer_marked_columns(
+// Answers at most 32 of these columns, by their values. Answers whether each is its own answer.
+fn answer_group(
     code: &Po,
     answers: &[AnswerRow],
-    failed: &[bool; 208],
+    erasures: &Erasures<208>,
     start: usize,
     piece: &mut [ColumnAnswer],
-)
+) -> bool
     requires rows { length answers.now ≡ 208 }
-    requires marks { failed.now ≡ failed_of (map answer_word answers.now) }
+    requires marks { erasures.now.marks ≡ failed_of (map answer_word answers.now) }
+    requires borne { marked erasures.now.marks ≤ 16 }
+    requires few { length piece.old ≤ 32 }
     requires columns { start + length piece.old ≤ 182 }
-    ensures { AreColumnsFrom (map answer_word answers.now) start piece.new }
+    requires own { AreOwnFrom answers.now start piece.old }
+    ensures size { length piece.new ≡ length piece.old }
+    ensures columns { AreColumnsFrom (map answer_word answers.now) start piece.new }
+    ensures own { IsTrue result → AreOwnFrom answers.now start piece.new }
 {
+    // The values of 32 columns are found even where fewer follow.
+    let left = start.min(150);
+    let values = column_values(answers, left);
+    let wrong = any_of(&values);
+    let mut stands = true;
     for (k, column) in piece.iter_mut().enumerate() {
-        read_column(answers, start + k, &mut column.bytes);
-        decode_column(code, failed, column);
+        let n = start - left + k;
+        let whole = answer_column(code, erasures, &values, n, wrong[n], column);
+        stands = stands && whole;
     }
+    stands
 }
 
-// Answers one column, in its place.
-fn decode_column(code: &Po, marks: &[bool; 208], column: &mut ColumnAnswer)
-    ensures { column_word column.new ≡ near_of 208 16 column.old.bytes marks.now }
+// Answers one column, whose values stand in lane `n`; `wrong` is zero where they all are. A codeword is its own answer, also
+// where rows failed: each costs one, and at most sixteen did. Answers whether it is one.
+fn answer_column(
+    code: &Po,
+    erasures: &Erasures<208>,
+    values: &[u8x32; 16],
+    n: usize,
+    wrong: u8,
+    column: &mut ColumnAnswer,
+) -> bool
+    requires lane { n < 32 }
+    requires borne { marked erasures.now.marks ≤ 16 }
+    requires values { (k : ℕ) → k < 16 → place values.now k n ≡ value column.old.bytes (power alpha k) }
+    requires wrong { wrong ≡ 0 → IsCodeword 208 16 column.old.bytes }
+    ensures answered { column_word column.new ≡ near_of 208 16 column.old.bytes erasures.now.marks }
+    ensures own { IsTrue result → column.new.bytes ≡ column.old.bytes }
 {
-    match decode(code, &mut column.bytes, marks) {
+    if wrong == 0 {
+        column.answered = true;
+        return true;
+    }
+    decode_column(code, erasures, lane_of(values, n), column);
+    false
+}
+
+// Answers one column by its syndromes, in its place.
+fn decode_column(
+    code: &Po,
+    erasures: &Erasures<208>,
+    syndromes: ArrayVec<u8, 32>,
+    column: &mut ColumnAnswer,
+)
+    requires { syndromes.items ≡ syndromes_of 16 column.old.bytes }
+    ensures { column_word column.new ≡ near_of 208 16 column.old.bytes erasures.now.marks }
+{
+    match decode_from(code, erasures, syndromes, &mut column.bytes) {
         Ok(_) => column.answered = true,
         Err(_) => column.answered = false,
-    }
-}
-
-// Writes column `j` of the rows' answers.
-fn read_column(answers: &[AnswerRow], j: usize, word: &mut [u8; 208])
-    requires rows { length answers.now ≡ 208 }
-    requires place { j < 182 }
-    ensures { word.new ≡ answer_column (map answer_word answers.now) j }
-{
-    for i in 0..208usize {
-        word[i] = answer_byte(&answers[i], j);
-    }
-}
-
-// Byte `j` of a row's answer; 0 stands for that of a failed row.
-fn answer_byte(answer: &AnswerRow, j: usize) -> u8
-    requires { j < 182 }
-    ensures { result ≡ byte_at j (answer_word answer.now) }
-{
-    match answer.fix {
-        Some(_) => answer.bytes[j],
-        None => 0,
     }
 }
 
@@ -221,30 +228,51 @@ pub(crate) fn first_wrong(columns: &[ColumnAnswer]) -> Option<u16>
     requires { length columns.now ≡ 182 }
     ensures { result ≡ position (λ row. not (vanishes_at_all 10 row)) (from_columns (words_of columns.now)) }
 {
-    let code = Pi::new();
-    for i in 0..208usize {
-        if !is_codeword_row(&code, columns, i) {
-            return Some(i as u16);
+    for group in 0..7usize {
+        // The last 32 rows begin at row 176.
+        let top = (32 * group).min(176);
+        if let Some(i) = first_wrong_from(columns, top) {
+            return Some(i);
         }
     }
     None
 }
 
-// Whether row `i` of the columns' words is a codeword.
-fn is_codeword_row(code: &Pi, columns: &[ColumnAnswer], i: usize) -> bool
+// The first of the 32 rows from `top` on that isn't a codeword.
+fn first_wrong_from(columns: &[ColumnAnswer], top: usize) -> Option<u16>
     requires columns { length columns.now ≡ 182 }
-    requires row { i < 208 }
-    ensures { result ≡ vanishes_at_all 10 (line (from_columns (words_of columns.now)) i) }
+    requires top { top + 32 ≤ 208 }
+    ensures { MatchOption result (AreRightFrom columns.now top 32) (λ i. IsFirstWrong columns.now top i) }
 {
-    let mut row = [0; 182];
-    read_row(columns, i, &mut row);
-    is_codeword(code, &row)
+    let wrong = any_of(&turned_values(&turned_rows(columns, top)));
+    for n in 0..32usize {
+        if wrong[n] != 0 {
+            return Some((top + n) as u16);
+        }
+    }
+    None
 }
 
-fn is_codeword(code: &Pi, row: &[u8; 182]) -> bool
-    ensures { result ≡ vanishes_at_all 10 row.now }
+// The 32 rows of the columns' words from `top` on, a vector for each place.
+fn turned_rows(columns: &[ColumnAnswer], top: usize) -> [u8x32; 182]
+    requires columns { length columns.now ≡ 182 }
+    requires top { top + 32 ≤ 208 }
+    ensures size { length result ≡ 182 }
+    ensures rows { (n : ℕ) → n < 32 → column result n ≡ line (from_columns (words_of columns.now)) (top + n) }
 {
-    code.is_codeword(row)
+    let mut turned = [u8x32::splat(0); 182];
+    for j in 0..182usize {
+        turned[j] = lanes_at(&columns[j].bytes, top);
+    }
+    turned
+}
+
+// The 32 bytes of a column from place `at` on.
+fn lanes_at(word: &[u8; 208], at: usize) -> u8x32
+    requires { at + 32 ≤ 208 }
+    ensures { (n : ℕ) → n < 32 → slice_index result n ≡ slice_index word.now (at + n) }
+{
+    load(word, at)
 }
 
 /// Writes row `i` of the columns' words.

@@ -5,6 +5,7 @@
 mod cause; // why a block is refused, and what was fixed
 mod columns; // the second pass: columns of the rows' answers
 mod frames; // the checks of the sixteen data frames
+mod lanes; // the values of 32 words, as the syndromes of each
 pub mod laws; // what holds of every captured block that is read
 pub mod parts; // the passes piece by piece, for work on several pieces at once
 mod passes; // both passes, and the test of the rows

@@ -1,6 +1,8 @@
 //! The first pass: each received row is answered by the codeword near it, or it fails.
 ghost use Rattle.std.specs.Prelude.{◌≡◌, ◌⊎◌, ℕ, ◌+◌, ◌<◌, ◌≤◌, ◌↔◌, IsTrue, true, false, length, map, replicate, slice_index_or};
-ghost use Rattle.gf_field.specs.Words.{IsCodeword};
+ghost use Rattle.gf_field.specs.Field.{alpha, power};
+ghost use Rattle.gf_field.specs.Words.{value};
+ghost use Rattle.rs_code.specs.Syndromes.{syndromes_of};
 ghost use Rattle.rs_decode.specs.Filling.{marked};
 ghost use Rattle.dvd_block.specs.Product.{line};
 ghost use Rattle.dvd_capture.specs.Answers.{IsAnswer};
@@ -8,10 +10,13 @@ ghost use Rattle.dvd_capture.specs.Parts.{marks_rows, received_rows};
 ghost use Rattle.dvd_capture.specs.TwoPass.{failed_of};
 ghost use Rattle.dvd_read.specs.Parts.{AreAnswersFrom, answer_word};
 
+use crate::lanes::lane_of;
+use arrayvec::ArrayVec;
 use dvd_capture::parts::{AnswerRow, Marks, Received};
 use rs_code::Pi;
-use rs_decode::{Fix, decode};
-use rs_lanes::wrong_rows;
+use rs_decode::{Erasures, Fix, decode, decode_from};
+use rs_lanes::{any_of, row_values};
+use std::simd::prelude::*;
 
 // More failed rows than this leave no column an answer.
 pub(crate) const MOST_FAILED: u16 = 16;
@@ -33,55 +38,61 @@ pub fn answer_rows(
     requires { start + length piece.old ≤ 208 }
     ensures { AreAnswersFrom (received_rows received.now) (marks_rows marks.now) start piece.new }
 {
-    let whole = codewords_among(received, start, piece.len());
+    for group in 0..piece.len().div_ceil(32) {
+        let at = 32 * group;
+        let end = piece.len().min(at + 32);
+        answer_group(code, received, marks, start + at, &mut piece[at..end]);
+    }
+}
+
+// Answers at most 32 rows. The values of all are found at once, and tell which rows are codewords.
+fn answer_group(
+    code: &Pi,
+    received: &Received,
+    marks: &Marks,
+    start: usize,
+    piece: &mut [AnswerRow],
+)
+    requires few { length piece.old ≤ 32 }
+    requires rows { start + length piece.old ≤ 208 }
+    ensures size { length piece.new ≡ length piece.old }
+    ensures answers { AreAnswersFrom (received_rows received.now) (marks_rows marks.now) start piece.new }
+{
+    // The last 32 rows begin at row 176.
+    let top = start.min(176);
+    let values = row_values(received.rows(), top);
+    let wrong = any_of(&values);
     let mut row_marks = [false; 182];
     for (k, answer) in piece.iter_mut().enumerate() {
         let i = start + k;
-        if marks.is_clear(i) {
-            answer_unmarked(code, received.row(i), whole[i], answer);
-        } else {
+        if !marks.is_clear(i) {
             marks.row(i, &mut row_marks);
             answer_row(code, received.row(i), &row_marks, answer);
+        } else if wrong[i - top] == 0 {
+            answer_codeword(received.row(i), answer);
+        } else {
+            answer_unmarked(code, received.row(i), lane_of(&values, i - top), answer);
         }
     }
 }
 
-// Notes which of so many rows from `start` on are codewords, of 32 at a time. No row is noted that is none.
-fn codewords_among(received: &Received, start: usize, count: usize) -> [bool; 208]
-    requires { start + count ≤ 208 }
-    ensures { (i : ℕ) → slice_index_or result i false ≡ true → IsCodeword 182 10 (line (received_rows received.now) i) }
-{
-    let mut whole = [false; 208];
-    for group in 0..count.div_ceil(32) {
-        // The last 32 rows begin at row 176.
-        let top = (start + 32 * group).min(176);
-        note_codewords(received.rows(), top, &mut whole);
-    }
-    whole
-}
-
-// Notes which of the 32 rows from `top` on are codewords. What is noted of other rows stays.
-fn note_codewords(rows: &[[u8; 182]], top: usize, whole: &mut [bool; 208])
-    requires rows { length rows.now ≡ 208 }
-    requires top { top + 32 ≤ 208 }
-    ensures { (i : ℕ) → slice_index_or whole.new i false ≡ true
-        → (slice_index_or whole.old i false ≡ true) ⊎ IsCodeword 182 10 (line rows.now i) }
-{
-    let wrong = wrong_rows(rows, top);
-    for n in 0..32 {
-        whole[top + n] = wrong[n] == 0;
-    }
-}
-
-// Answers one row without marks. A codeword is its own answer.
-fn answer_unmarked(code: &Pi, row: &[u8; 182], is_codeword: bool, answer: &mut AnswerRow)
-    requires { is_codeword ≡ true → IsCodeword 182 10 row.now }
+// Answers one row without marks whose syndromes are zeros: a codeword is its own answer.
+fn answer_codeword(row: &[u8; 182], answer: &mut AnswerRow)
+    requires { (k : ℕ) → k < 10 → value row.now (power alpha k) ≡ 0 }
     ensures { IsAnswer row.now (replicate 182 false) answer.new }
 {
-    if is_codeword {
-        answer.set(row, Some(UNCHANGED));
-    } else {
-        answer_row(code, row, &[false; 182], answer);
+    answer.set(row, Some(UNCHANGED));
+}
+
+// Answers one row without marks, by its syndromes.
+fn answer_unmarked(code: &Pi, row: &[u8; 182], syndromes: ArrayVec<u8, 32>, answer: &mut AnswerRow)
+    requires { syndromes.items ≡ syndromes_of 10 row.now }
+    ensures { IsAnswer row.now (replicate 182 false) answer.new }
+{
+    answer.bytes = *row;
+    match decode_from(code, &Erasures::none(), syndromes, &mut answer.bytes) {
+        Ok(fix) => answer.fix = Some(fix),
+        Err(_) => answer.fix = None,
     }
 }
 

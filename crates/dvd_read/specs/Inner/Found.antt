@@ -1,8 +1,10 @@
 -- Ours: the columns between the passes, as whole lists.
-use Rattle.std.specs.Prelude.{◌≡◌, ◌<◌, ℕ, slice_index_or, List, map}
+use Rattle.std.specs.Prelude.{◌≡◌, ◌<◌, ◌≤◌, ◌+◌, ◌-◌, ℕ, true, false, slice_index_or, List, map}
 use Rattle.std.specs.declared.option.Option.{Option}
 use Rattle.dvd_capture.specs.declared.parts.ColumnAnswer.{ColumnAnswer}
-use Rattle.dvd_capture.specs.TwoPass.{column_answer}
+use Rattle.dvd_capture.specs.TwoPass.{column_answer, from_columns}
+use Rattle.dvd_block.specs.Product.{line}
+use Rattle.rs_decode.specs.Nearest.{vanishes_at_all}
 use Rattle.dvd_read.specs.Parts.{column_word}
 
 -- the words of columns
@@ -12,3 +14,12 @@ words_of columns = map (λ (column : ColumnAnswer). column.bytes) columns
 -- these columns are what the second pass answers
 abbrev pub AreColumns : List (Option (List ℕ)) → List ColumnAnswer → Type 0
 AreColumns answers columns = (j : ℕ) (d : ColumnAnswer) → j < 182 → column_word (slice_index_or columns j d) ≡ column_answer answers j
+
+-- n rows of the columns' words from row `top` on vanish at the powers of alpha
+abbrev pub AreRightFrom : List ColumnAnswer → ℕ → ℕ → Type 0
+AreRightFrom columns top n = (k : ℕ) → k < n → vanishes_at_all 10 (line (from_columns (words_of columns)) (top + k)) ≡ true
+
+-- row i is the first of the 32 from row `top` on that doesn't
+abbrev pub IsFirstWrong : List ColumnAnswer → ℕ → ℕ → Type 0
+IsFirstWrong columns top i =
+    (top ≤ i) × (i < top + 32) × AreRightFrom columns top (i - top) × (vanishes_at_all 10 (line (from_columns (words_of columns)) i) ≡ false)

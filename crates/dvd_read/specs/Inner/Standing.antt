@@ -1,12 +1,11 @@
 -- Ours: rows that are answered by codewords, and blocks that stand as their rows were answered. The second pass finds
 -- nothing to correct in such a block, so its rows need no test.
-use Rattle.std.specs.Prelude.{◌≡◌, ℕ, ◌+◌, ◌<◌, Bool, true, false, List, [], length, replicate, slice_index, slice_index_or, Some}
+use Rattle.std.specs.Prelude.{◌≡◌, ℕ, ◌+◌, ◌<◌, List, [], length, slice_index, slice_index_or, Some}
 use Rattle.gf_field.specs.Words.{IsCodeword}
-use Rattle.rs_decode.specs.Nearest.{near_of}
 use Rattle.dvd_block.specs.Product.{column}
 use Rattle.dvd_capture.specs.declared.parts.AnswerRow.{AnswerRow}
 use Rattle.dvd_capture.specs.declared.parts.ColumnAnswer.{ColumnAnswer}
-use Rattle.dvd_read.specs.Parts.{answer_word, bytes_of, column_word}
+use Rattle.dvd_read.specs.Parts.{answer_word, bytes_of}
 
 -- each row that is answered is answered by a codeword
 abbrev pub AreCodewords : List AnswerRow → Type 0
@@ -22,18 +21,3 @@ abbrev pub AreCopied : List AnswerRow → ℕ → List ColumnAnswer → ℕ → 
 AreCopied answers start piece n =
     (j i : ℕ) (default : ColumnAnswer) → j < length piece → i < n
     → slice_index (slice_index_or piece j default).bytes i ≡ slice_index (slice_index_or (bytes_of answers) i []) (start + j)
-
--- of the first n columns from `start` on, those that are noted are codewords
-abbrev pub AreWhole : ℕ → List ColumnAnswer → List Bool → ℕ → Type 0
-AreWhole start columns whole n =
-    (j : ℕ) (default : ColumnAnswer) → j < n → slice_index_or whole (start + j) false ≡ true → IsCodeword 208 16 (slice_index_or columns j default).bytes
-
--- each of the first n columns is answered by the codeword near its bytes
-abbrev pub AreNear : List ColumnAnswer → List ColumnAnswer → ℕ → Type 0
-AreNear columns answered n =
-    (j : ℕ) (default : ColumnAnswer) → j < n → column_word (slice_index_or answered j default) ≡ near_of 208 16 (slice_index_or columns j default).bytes (replicate 208 false)
-
--- each of the first n columns has its bytes still
-abbrev pub AreKept : List ColumnAnswer → List ColumnAnswer → ℕ → Type 0
-AreKept columns answered n =
-    (j : ℕ) (default : ColumnAnswer) → j < n → (slice_index_or answered j default).bytes ≡ (slice_index_or columns j default).bytes

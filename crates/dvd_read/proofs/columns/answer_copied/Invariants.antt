@@ -1,12 +1,20 @@
-use Rattle.std.proofs.Common.{◌≡◌, ℕ, ◌≤◌, true, slice_index_or}
+use Rattle.std.proofs.Common.{◌≡◌, ℕ, ◌+◌, ◌*◌, ◌<◌, ◌≤◌, true, length, map, get_or}
+use Rattle.rs_decode.specs.Filling.{marked}
+use Rattle.dvd_block.specs.Product.{column}
+use Rattle.dvd_capture.specs.TwoPass.{column_answer}
 use Rattle.dvd_capture.specs.declared.parts.ColumnAnswer.{ColumnAnswer}
-use Rattle.dvd_read.specs.Inner.Standing.{AreKept, AreNear}
+use Rattle.dvd_read.specs.Parts.{answer_word, bytes_of, column_word}
 use Rattle.dvd_read.proofs.columns.answer_copied.Given as goal
 
--- the columns before are answered, and the others are as they were
-abbrev pub invariant-loop-j : goal.invariant-loop-j
-invariant-loop-j l = record {
-  answered : AreNear l.fn.columns l.columns l.j;
-  own : l.stands ≡ true → AreKept l.fn.columns l.columns l.j;
-  others : (k : ℕ) (default : ColumnAnswer) → l.j ≤ k → slice_index_or l.columns k default ≡ slice_index_or l.fn.columns k default;
+-- the columns of the groups that are done are answered, and the others are copied still
+abbrev pub invariant-loop-group : goal.invariant-loop-group
+invariant-loop-group l = record {
+  size : length l.piece ≡ length l.initial.piece;
+  answered : (k : ℕ) (d : ColumnAnswer) → k < 32 * l.group → k < length l.piece
+      → column_word (get_or l.piece k d) ≡ column_answer (map answer_word l.answers) (l.start + k);
+  own : l.stands ≡ true → (k : ℕ) (d : ColumnAnswer) → k < 32 * l.group → k < length l.piece
+      → (get_or l.piece k d).bytes ≡ column (bytes_of l.answers) (l.start + k);
+  none_failed : l.stands ≡ true → marked l.erasures.marks ≡ 0;
+  others : (k : ℕ) (d : ColumnAnswer) → 32 * l.group ≤ k → k < length l.piece
+      → (get_or l.piece k d).bytes ≡ column (bytes_of l.answers) (l.start + k);
 }

@@ -1,0 +1,7 @@
+use Rattle.std.proofs.Common.{sym, arith}
+use Rattle.dvd_read.proofs.MarkedColumns.{own-marked}
+use Rattle.dvd_read.proofs.columns.answer_column.Goals as goal
+
+pub returns-then-wrong-eq0-clause-answered : goal.returns-then-wrong-eq0-clause-answered
+returns-then-wrong-eq0-clause-answered c =
+    sym (own-marked 208 16 c.args.column.now.bytes c.args.erasures.now.marks (omega arith) c.args.erasures.now.size c.requires.borne (c.requires.wrong c.if-wrong-eq0.true))

@@ -1,0 +1,13 @@
+use Rattle.std.proofs.Common.{◌≡◌, ◌∙◌, length, take, ap, arith}
+use Rattle.std.proofs.Math.Seq.{take-length}
+use Rattle.rs_lanes.proofs.ColumnLemmas.{length-column}
+use Rattle.dvd_block.specs.Product.{column}
+use Rattle.dvd_read.proofs.LaneValues.{lane-syndromes}
+use Rattle.dvd_read.proofs.lanes.lane_of.Goals as goal
+
+pub returns-clause-syndromes : goal.returns-clause-syndromes
+returns-clause-syndromes g c = λ word same.
+    let vectors = c.args.vectors.now in
+    let all : c.loop-k.k ≡ length (column vectors c.args.n) = omega (arith, length-column vectors c.args.n, c.told-vectors) in
+    c.loop-k.invariant ∙ ap (λ m. take m (column vectors c.args.n)) all ∙ take-length (column vectors c.args.n)
+    ∙ lane-syndromes g.row.R c.args.n vectors word c.told-vectors same

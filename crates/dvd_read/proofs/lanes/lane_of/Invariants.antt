@@ -1,0 +1,7 @@
+use Rattle.std.proofs.Common.{◌≡◌, take}
+use Rattle.dvd_block.specs.Product.{column}
+use Rattle.dvd_read.proofs.lanes.lane_of.Given as goal
+
+-- the lanes of the vectors before
+abbrev pub invariant-loop-k : goal.invariant-loop-k
+invariant-loop-k g l = l.lanes.items ≡ take l.k (column l.vectors l.n)

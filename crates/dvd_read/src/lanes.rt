@@ -1,0 +1,32 @@
+//! The values of 32 words at powers of alpha, as vectors: the syndromes of word `n` are the lanes with this number.
+ghost use Rattle.std.specs.Prelude.{◌≡◌, ℕ, ◌<◌, ◌≤◌, List, length, slice_index};
+ghost use Rattle.gf_field.specs.Field.{alpha, power};
+ghost use Rattle.gf_field.specs.Words.{value};
+ghost use Rattle.rs_code.specs.Syndromes.{syndromes_of};
+ghost use Rattle.dvd_block.specs.Product.{column, place};
+
+use arrayvec::ArrayVec;
+use std::simd::prelude::*;
+
+/// Lane `n` of each vector: where these are the values of a word, its syndromes.
+pub(crate) fn lane_of<const R: usize>(vectors: &[u8x32; R], n: usize) -> ArrayVec<u8, 32>
+    requires few { R ≤ 32 }
+    requires lane { n < 32 }
+    ensures lanes { result.items ≡ column vectors.now n }
+    ensures syndromes { (word : List ℕ) → ((k : ℕ) → k < R → place vectors.now k n ≡ value word (power alpha k)) → result.items ≡ syndromes_of R word }
+{
+    let mut lanes = ArrayVec::new();
+    for k in 0..R {
+        lanes.push(lane(vectors[k], n));
+    }
+    lanes
+}
+
+// Lane `n` of a vector. One of an array tells no lanes by itself.
+#[inline(always)]
+fn lane(vector: u8x32, n: usize) -> u8
+    requires { n < 32 }
+    ensures { result ≡ slice_index vector n }
+{
+    vector[n]
+}
