@@ -3,9 +3,9 @@
 use Rattle.std.proofs.Common.{◌≡◌, ◌≢◌, ℕ, zero, suc, ◌+◌, ◌-◌, ◌*◌, ◌<◌, ◌≤◌, List, ◌∷◌, length, get_or, get_or-take, replicate, take, refl, sym, ap, subst, ◌∙◌, add-one, arith}
 use Rattle.std.proofs.lemmas.Grind.{same_number_lists}
 use Rattle.gf_field.specs.Field.{plus, product}
-use Rattle.gf_field.proofs.FieldLaws.{one-product, plus-zero, product-comm, product-zero, zero-product}
+use Rattle.gf_field.proofs.FieldLaws.{one-product, plus-zero, product-comm, product-one, product-zero, zero-product}
 use Rattle.rs_code.specs.Inner.Polynomials.{sum_of, scaled}
-use Rattle.rs_code.proofs.Values.{length-sum_of, length-scaled, get_or-sum_of, get_or-scaled}
+use Rattle.rs_code.proofs.Values.{length-sum_of, length-scaled, get_or-sum_of, get_or-scaled, scaled-cons}
 use Rattle.rs_lanes.specs.Inner.Lanes.{HasLanes}
 use Rattle.rs_decode.specs.Register.{connection}
 use Rattle.rs_decode.specs.Inner.Steps.{FailsAt, IsShortestTo}
@@ -109,28 +109,43 @@ taps_mended factor taps others sums size others_size is =
     tap-mended factor taps others sums is k (omega (arith, is.size))
     ∙ sym (get_or-sum_of (1 ∷ taps) all k same ∙ ap (plus (get_or (1 ∷ taps) k 0)) (get_or-scaled factor (0 ∷ others) k)))
 
+-- a multiple's connections are the multiples
+pub HasConnections-scaled : (n factor : ℕ) (taps seq lanes multiples : List ℕ) → length seq ≤ 32 → HasConnections n taps seq lanes
+    → HasLanes multiples (λ k. product (get_or lanes k 0) factor) → HasConnections n (scaled factor taps) seq multiples
+HasConnections-scaled n factor taps seq lanes multiples few are is k below =
+    is.each k (omega arith) ∙ ap (λ x. product x factor) (are k below) ∙ product-comm (connection (n + k) taps seq (n + k)) factor
+    ∙ sym (connection-scaled (n + k) factor taps seq (n + k))
+
+-- the taps of a multiple, the first of which was 1
+pub taps_scaled : (factor : ℕ) (taps multiples : List ℕ) → factor < 256 → length taps ≡ 32 → HasLanes multiples (λ k. product (get_or taps k 0) factor)
+    → factor ∷ multiples ≡ scaled factor (1 ∷ taps)
+taps_scaled factor taps multiples byte size is =
+    let rest : multiples ≡ scaled factor taps =
+    same_number_lists multiples (scaled factor taps) (is.size ∙ sym (length-scaled factor taps ∙ size))
+    (λ k inside. is.each k (omega (arith, is.size)) ∙ product-comm (get_or taps k 0) factor ∙ sym (get_or-scaled factor taps k)) in
+    rw (scaled-cons factor 1 taps, product-one factor byte, rest) refl
+
 -- the place after a byte in front
 pub get_or-behind : (first : ℕ) (lanes : List ℕ) (k : ℕ) → get_or (first ∷ lanes) (k + 1) 0 ≡ get_or lanes k 0
 get_or-behind first lanes k = rw (add-one k) refl
 
--- at place n: the register at hand, the earlier one, which fails there, and the connections of both from there on
-pub record IsAt (n len failure : ℕ) (taps earlier seq connections others : List ℕ) : Type 0 where
+-- at place n: the register at hand, the earlier one, which fails there by 1, and the connections of both from there on
+pub record IsAt (n len : ℕ) (taps earlier seq connections others : List ℕ) : Type 0 where
   pub shortest : IsShortestTo n len (1 ∷ taps) seq
-  pub fails : FailsAt n (n + 1 - len) failure (0 ∷ earlier) seq
-  pub nonzero : failure ≢ 0
+  pub fails : FailsAt n (n + 1 - len) 1 (0 ∷ earlier) seq
   pub connections_are : HasConnections n (1 ∷ taps) seq connections
   pub others_are : HasConnections n (0 ∷ earlier) seq others
 
 -- what the place leaves, before both move on to the next
-pub record IsLeft (n len failure first : ℕ) (taps earlier seq connections others : List ℕ) : Type 0 where
-  pub leaves : Leaves n len failure (1 ∷ taps) (first ∷ earlier) seq
+pub record IsLeft (n len first : ℕ) (taps earlier seq connections others : List ℕ) : Type 0 where
+  pub leaves : Leaves n len (1 ∷ taps) (first ∷ earlier) seq
   pub connections_are : HasConnections n (1 ∷ taps) seq connections
   pub others_are : HasConnections n (first ∷ earlier) seq others
 
 -- at the first place
 pub IsAt-start : (earlier seq lanes moved : List ℕ) → length seq ≤ 32 → ((k : ℕ) → k < length seq → get_or seq k 0 < 256) → take (length seq) lanes ≡ seq
     → HasLanes earlier (λ k. get_or {A = ℕ} (1 ∷ replicate 32 0) k 0) → HasLanes moved (λ k. get_or (0 ∷ lanes) k 0)
-    → IsAt 0 0 1 (replicate 32 0) earlier seq lanes moved
+    → IsAt 0 0 (replicate 32 0) earlier seq lanes moved
 IsAt-start earlier seq lanes moved few bytes front is_x is_moved =
     let tap : (k : ℕ) → k + 1 < 33 → get_or (0 ∷ earlier) (k + 1) 0 ≡ get_or {A = ℕ} (1 ∷ replicate 32 0) k 0 = λ k below.
     get_or-behind 0 earlier k ∙ is_x.each k (omega arith) in
@@ -138,70 +153,74 @@ IsAt-start earlier seq lanes moved few bytes front is_x is_moved =
     record {
       shortest = IsShortestTo-start seq;
       fails = FailsAt-start (0 ∷ earlier) seq (ap suc is_x.size) tap;
-      nonzero = λ same. absurd (omega arith);
       connections_are = at_start (1 ∷ replicate 32 0) seq lanes are;
       others_are = at_start (0 ∷ earlier) seq moved (λ k below. is_moved.each k (omega arith) ∙ connection-start_x earlier seq lanes few are tap k below);
     }
 
 -- at the next place
-pub IsAt-next : (n len failure first : ℕ) (taps earlier seq connections others down up : List ℕ) → length seq ≤ 32 → n < length seq
+pub IsAt-next : (n len first : ℕ) (taps earlier seq connections others down up : List ℕ) → length seq ≤ 32 → n < length seq
     → ((k : ℕ) → k < 31 → get_or down k 0 ≡ get_or connections (k + 1) 0) → HasLanes up (λ k. get_or (first ∷ earlier) k 0)
-    → IsLeft n len failure first taps earlier seq connections others → IsAt (n + 1) len failure taps up seq down others
-IsAt-next n len failure first taps earlier seq connections others down up few inside is_down is_up left =
+    → IsLeft n len first taps earlier seq connections others → IsAt (n + 1) len taps up seq down others
+IsAt-next n len first taps earlier seq connections others down up few inside is_down is_up left =
     let leaves = left.leaves in
     let reach : n + 1 - len + 1 ≡ n + 1 + 1 - len = omega (arith, leaves.0.within) in
     let tap : (k : ℕ) → k + 1 < 33 → get_or (0 ∷ up) (k + 1) 0 ≡ get_or (first ∷ earlier) k 0 = λ k below.
     get_or-behind 0 up k ∙ is_up.each k (omega arith) in
     record {
       shortest = leaves.0;
-      fails = subst (λ r. FailsAt (n + 1) r failure (0 ∷ up) seq) reach
-          (FailsAt-times_x n (n + 1 - len) failure (first ∷ earlier) (0 ∷ up) seq leaves.1 (omega arith) (ap suc is_up.size) refl tap);
-      nonzero = leaves.2;
+      fails = subst (λ r. FailsAt (n + 1) r 1 (0 ∷ up) seq) reach
+          (FailsAt-times_x n (n + 1 - len) 1 (first ∷ earlier) (0 ∷ up) seq leaves.1 (omega arith) (ap suc is_up.size) refl tap);
       connections_are = HasConnections-next n (1 ∷ taps) seq connections down few left.connections_are is_down;
       others_are = HasConnections-moved n (first ∷ earlier) (0 ∷ up) seq others few refl tap left.others_are;
     }
 
-module _ (n len failure : ℕ) (taps earlier seq connections others : List ℕ) (few : length seq ≤ 32) (inside : n < length seq)
-    (at : IsAt n len failure taps earlier seq connections others) where
+module _ (n len : ℕ) (taps earlier seq connections others : List ℕ) (few : length seq ≤ 32) (inside : n < length seq)
+    (at : IsAt n len taps earlier seq connections others) where
   -- what it fails by
   found_is : get_or connections 0 0 ≡ connection len (1 ∷ taps) seq n
   found_is = HasConnections-here n len (1 ∷ taps) seq connections at.shortest inside at.connections_are
 
   -- the register stays
-  pub IsLeft-stays : get_or connections 0 0 ≡ 0 → IsLeft n len failure 0 taps earlier seq connections others
+  pub IsLeft-stays : get_or connections 0 0 ≡ 0 → IsLeft n len 0 taps earlier seq connections others
   IsLeft-stays none = record {
-    leaves = Leaves-stays n len failure (1 ∷ taps) (0 ∷ earlier) seq at.shortest at.fails at.nonzero (sym found_is ∙ none);
+    leaves = Leaves-stays n len (1 ∷ taps) (0 ∷ earlier) seq at.shortest at.fails (sym found_is ∙ none);
     connections_are = at.connections_are;
     others_are = at.others_are;
   }
 
-  module _ (factor : ℕ) (sums sum_connections : List ℕ) (nonzero : get_or connections 0 0 ≢ 0) (quotient : product factor failure ≡ get_or connections 0 0)
-      (sums_are : HasLanes sums (λ k. plus (get_or taps k 0) (product (get_or earlier k 0) factor)))
-      (sum_connections_are : HasLanes sum_connections (λ k. plus (get_or connections k 0) (product (get_or others k 0) factor))) where
+  module _ (found : ℕ) (sums sum_connections : List ℕ) (is_found : found ≡ get_or connections 0 0) (nonzero : found ≢ 0)
+      (sums_are : HasLanes sums (λ k. plus (get_or taps k 0) (product (get_or earlier k 0) found)))
+      (sum_connections_are : HasLanes sum_connections (λ k. plus (get_or connections k 0) (product (get_or others k 0) found))) where
     -- the taps with the multiple
-    taps_are : sum_of (1 ∷ taps) (scaled factor (0 ∷ earlier)) ≡ 1 ∷ sums
-    taps_are = sym (taps_mended factor taps earlier sums (omega (arith, at.shortest.size)) (omega (arith, at.fails.size)) sums_are)
+    taps_are : sum_of (1 ∷ taps) (scaled found (0 ∷ earlier)) ≡ 1 ∷ sums
+    taps_are = sym (taps_mended found taps earlier sums (omega (arith, at.shortest.size)) (omega (arith, at.fails.size)) sums_are)
 
     -- and their connections
     are_mended : HasConnections n (1 ∷ sums) seq sum_connections
     are_mended =
         subst (λ all. HasConnections n all seq sum_connections) taps_are
-        (HasConnections-mended n factor (1 ∷ taps) (0 ∷ earlier) seq connections others sum_connections few (at.shortest.size ∙ sym at.fails.size) at.connections_are at.others_are sum_connections_are)
+        (HasConnections-mended n found (1 ∷ taps) (0 ∷ earlier) seq connections others sum_connections few (at.shortest.size ∙ sym at.fails.size) at.connections_are at.others_are sum_connections_are)
 
     -- it is mended, and stays as long
-    pub IsLeft-mended : n < 2 * len → IsLeft n len failure 0 sums earlier seq sum_connections others
+    pub IsLeft-mended : n < 2 * len → IsLeft n len 0 sums earlier seq sum_connections others
     IsLeft-mended long = record {
-      leaves = subst (λ all. Leaves n len failure all (0 ∷ earlier) seq) taps_are
-          (Leaves-mended n len (get_or connections 0 0) failure factor (1 ∷ taps) (0 ∷ earlier) seq at.shortest at.fails refl at.nonzero found_is nonzero quotient long);
+      leaves = subst (λ all. Leaves n len all (0 ∷ earlier) seq) taps_are
+          (Leaves-mended n len (1 ∷ taps) (0 ∷ earlier) seq at.shortest at.fails found refl (is_found ∙ found_is) nonzero long);
       connections_are = are_mended;
       others_are = at.others_are;
     }
 
-    -- it is mended, and gets longer; as it was, it is the earlier one from now on
-    pub IsLeft-longer : 2 * len ≤ n → IsLeft n (n + 1 - len) (get_or connections 0 0) 1 sums taps seq sum_connections connections
-    IsLeft-longer short = record {
-      leaves = subst (λ all. Leaves n (n + 1 - len) (get_or connections 0 0) all (1 ∷ taps) seq) taps_are
-          (Leaves-longer n len (get_or connections 0 0) failure factor (1 ∷ taps) (0 ∷ earlier) seq at.shortest at.fails refl found_is nonzero quotient short);
-      connections_are = are_mended;
-      others_are = at.connections_are;
-    }
+    -- it is mended, and gets longer; as it was, a multiple of it is the earlier one from now on
+    pub IsLeft-longer : (factor : ℕ) (multiples multiple_connections : List ℕ) → product found factor ≡ 1 → factor < 256
+        → HasLanes multiples (λ k. product (get_or taps k 0) factor) → HasLanes multiple_connections (λ k. product (get_or connections k 0) factor) → 2 * len ≤ n
+        → IsLeft n (n + 1 - len) factor sums multiples seq sum_connections multiple_connections
+    IsLeft-longer factor multiples multiple_connections inverse byte multiples_are multiple_connections_are short =
+        let all_are : scaled factor (1 ∷ taps) ≡ factor ∷ multiples = sym (taps_scaled factor taps multiples byte (omega (arith, at.shortest.size)) multiples_are) in
+        record {
+          leaves = subst (λ all. Leaves n (n + 1 - len) all (factor ∷ multiples) seq) taps_are
+              (subst (λ all. Leaves n (n + 1 - len) (sum_of (1 ∷ taps) (scaled found (0 ∷ earlier))) all seq) all_are
+              (Leaves-longer n len (1 ∷ taps) (0 ∷ earlier) seq at.shortest at.fails found refl (is_found ∙ found_is) nonzero factor inverse short));
+          connections_are = are_mended;
+          others_are = subst (λ all. HasConnections n all seq multiple_connections) all_are
+              (HasConnections-scaled n factor (1 ∷ taps) seq connections multiple_connections few at.connections_are multiple_connections_are);
+        }

@@ -5,14 +5,14 @@ use Rattle.std.proofs.lemmas.List.{length-replicate, get_or-replicate, get_or_pa
 use Rattle.std.proofs.lemmas.List.Elements.{All-cons, All-replicate, All-take}
 use Rattle.gf_field.specs.Field.{plus, product}
 use Rattle.gf_field.specs.Words.{IsByte}
-use Rattle.gf_field.proofs.FieldLaws.{plus-self, plus-zero, product-zero}
+use Rattle.gf_field.proofs.FieldLaws.{plus-self, plus-zero, product-comm, product-one, product-zero}
 use Rattle.rs_code.specs.Inner.Polynomials.{sum_of, scaled}
 use Rattle.rs_code.proofs.Distance.{All-sum_of}
 use Rattle.rs_code.proofs.Remainders.{All-scaled}
 use Rattle.rs_code.proofs.Values.{length-sum_of, length-scaled, get_or-sum_of, get_or-scaled}
 use Rattle.rs_decode.specs.Register.{Generates, IsLeast, connection}
 use Rattle.rs_decode.specs.Inner.Steps.{Makes, IsShortestTo, FailsAt}
-use Rattle.rs_decode.proofs.Connections.{connection-same, connection-longer, connection-later, connection-sum_of, connection-scaled, connections-agree}
+use Rattle.rs_decode.proofs.Connections.{connection-byte, connection-same, connection-longer, connection-later, connection-sum_of, connection-scaled, connections-agree}
 
 -- no place of a list of zeros holds another number
 zeros_anywhere : (n k : ℕ) → get_or {A = ℕ} (replicate n 0) k 0 ≡ 0
@@ -128,6 +128,16 @@ FailsAt-at_hand n len found taps seq is discrepancy = record {
   here = λ reached. discrepancy;
 }
 
+-- a multiple fails by the multiple
+pub FailsAt-scaled : (n len failure factor : ℕ) (taps seq : List ℕ) → FailsAt n len failure taps seq
+    → FailsAt n len (product factor failure) (scaled factor taps) seq
+FailsAt-scaled n len failure factor taps seq is = record {
+  size = length-scaled factor taps ∙ is.size;
+  higher = λ c above. get_or-scaled factor taps c ∙ ap (product factor) (is.higher c above) ∙ product-zero factor;
+  makes = λ k reached below. connection-scaled len factor taps seq k ∙ ap (product factor) (is.makes k reached below) ∙ product-zero factor;
+  here = λ reached. connection-scaled len factor taps seq n ∙ ap (product factor) (is.here reached);
+}
+
 -- with each tap moved up, it fails one place later
 pub FailsAt-times_x : (n len failure : ℕ) (taps moved seq : List ℕ) → FailsAt n len failure taps seq → n < 32 → length moved ≡ 33
     → get_or moved 0 0 ≡ 0 → ((k : ℕ) → k + 1 < 33 → get_or moved (k + 1) 0 ≡ get_or taps k 0) → FailsAt (n + 1) (len + 1) failure moved seq
@@ -152,37 +162,39 @@ FailsAt-times_x n len failure taps moved seq is few size first others =
       here = λ reached. later n (omega arith) few ∙ is.here (omega arith);
     }
 
--- what a place leaves, before the earlier register moves on
-abbrev pub Leaves : ℕ → ℕ → ℕ → List ℕ → List ℕ → List ℕ → Type 0
-Leaves n len failure taps earlier seq = IsShortestTo (n + 1) len taps seq × FailsAt n (n + 1 - len) failure earlier seq × (failure ≢ 0)
+-- what a place leaves, before the earlier register, which fails by 1, moves on
+abbrev pub Leaves : ℕ → ℕ → List ℕ → List ℕ → List ℕ → Type 0
+Leaves n len taps earlier seq = IsShortestTo (n + 1) len taps seq × FailsAt n (n + 1 - len) 1 earlier seq
 
--- the register at hand stays
-pub Leaves-stays : (n len failure : ℕ) (taps earlier seq : List ℕ) → IsShortestTo n len taps seq → FailsAt n (n + 1 - len) failure earlier seq
-    → failure ≢ 0 → connection len taps seq n ≡ 0 → Leaves n len failure taps earlier seq
-Leaves-stays n len failure taps earlier seq is fails nonzero made = (IsShortestTo-stays n len taps seq is made, fails, nonzero)
+module _ (n len : ℕ) (taps earlier seq : List ℕ) (is : IsShortestTo n len taps seq) (fails : FailsAt n (n + 1 - len) 1 earlier seq) where
+  -- the register at hand stays
+  pub Leaves-stays : connection len taps seq n ≡ 0 → Leaves n len taps earlier seq
+  Leaves-stays made = (IsShortestTo-stays n len taps seq is made, fails)
 
--- it is mended, and stays as long
-pub Leaves-mended : (n len found failure factor : ℕ) (taps earlier seq : List ℕ) → IsShortestTo n len taps seq
-    → FailsAt n (n + 1 - len) failure earlier seq → get_or earlier 0 0 ≡ 0 → failure ≢ 0 → found ≡ connection len taps seq n → found ≢ 0
-    → product factor failure ≡ found → n < 2 * len → Leaves n len failure (sum_of taps (scaled factor earlier)) earlier seq
-Leaves-mended n len found failure factor taps earlier seq is fails starts nonzero discrepancy found_nonzero quotient long = (
-  IsShortestTo-mended n len (n + 1 - len) len found failure factor taps earlier seq is fails (omega (arith, is.within)) starts
-      (sym discrepancy) found_nonzero quotient (omega arith) (omega arith) (λ k above_len above_reach. above_len),
-  fails,
-  nonzero,
-)
+  module _ (found : ℕ) (starts : get_or earlier 0 0 ≡ 0) (discrepancy : found ≡ connection len taps seq n) (nonzero : found ≢ 0) where
+    -- the multiple of the earlier one that mends it
+    by_itself : product found 1 ≡ found
+    by_itself = product-one found (subst (λ x. x < 256) (sym discrepancy) (connection-byte len taps seq n))
 
--- it is mended, and gets longer; as it was, it is the earlier one from now on
-pub Leaves-longer : (n len found failure factor : ℕ) (taps earlier seq : List ℕ) → IsShortestTo n len taps seq
-    → FailsAt n (n + 1 - len) failure earlier seq → get_or earlier 0 0 ≡ 0 → found ≡ connection len taps seq n → found ≢ 0
-    → product factor failure ≡ found → 2 * len ≤ n → Leaves n (n + 1 - len) found (sum_of taps (scaled factor earlier)) taps seq
-Leaves-longer n len found failure factor taps earlier seq is fails starts discrepancy found_nonzero quotient short =
-    let back : len ≡ n + 1 - (n + 1 - len) = omega (arith, is.within) in (
-      IsShortestTo-mended n len (n + 1 - len) (n + 1 - len) found failure factor taps earlier seq is fails (omega (arith, is.within)) starts
-          (sym discrepancy) found_nonzero quotient (omega arith) (omega arith) (λ k above_len above_reach. above_reach),
-      subst (λ reach. FailsAt n reach found taps seq) back (FailsAt-at_hand n len found taps seq is (sym discrepancy)),
-      found_nonzero,
+    -- it is mended, and stays as long
+    pub Leaves-mended : n < 2 * len → Leaves n len (sum_of taps (scaled found earlier)) earlier seq
+    Leaves-mended long = (
+      IsShortestTo-mended n len (n + 1 - len) len found 1 found taps earlier seq is fails (omega (arith, is.within)) starts
+          (sym discrepancy) nonzero by_itself (omega arith) (omega arith) (λ k above_len above_reach. above_len),
+      fails,
     )
+
+    -- it is mended, and gets longer; as it was, a multiple of it is the earlier one from now on
+    pub Leaves-longer : (factor : ℕ) → product found factor ≡ 1 → 2 * len ≤ n
+        → Leaves n (n + 1 - len) (sum_of taps (scaled found earlier)) (scaled factor taps) seq
+    Leaves-longer factor inverse short =
+        let back : len ≡ n + 1 - (n + 1 - len) = omega (arith, is.within) in (
+          IsShortestTo-mended n len (n + 1 - len) (n + 1 - len) found 1 found taps earlier seq is fails (omega (arith, is.within)) starts
+              (sym discrepancy) nonzero by_itself (omega arith) (omega arith) (λ k above_len above_reach. above_reach),
+          subst (λ reach. FailsAt n reach 1 (scaled factor taps) seq) back
+              (subst (λ by. FailsAt n len by (scaled factor taps) seq) (product-comm factor found ∙ inverse)
+              (FailsAt-scaled n len found factor taps seq (FailsAt-at_hand n len found taps seq is (sym discrepancy)))),
+        )
 
 -- at the list's end, the taps without the zeros after them generate it
 pub Generates-end : (len : ℕ) (taps seq : List ℕ) → IsShortestTo (length seq) len taps seq → length seq ≤ 32 → Generates len (take (len + 1) taps) seq

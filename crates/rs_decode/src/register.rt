@@ -8,8 +8,8 @@ ghost use Rattle.rs_lanes.specs.Inner.Lanes.{HasLanes};
 ghost use Rattle.rs_decode.specs.Register.{Generates, IsLeast};
 
 use arrayvec::ArrayVec;
-use gf_field::div;
-use rs_lanes::{store, with_multiple};
+use gf_field::inv;
+use rs_lanes::{multiple, store, with_multiple};
 use std::simd::prelude::*;
 
 /// A register that generates a list: from place `len` on, the sum over i of the i-th tap times the number i places before
@@ -44,29 +44,27 @@ pub fn shortest(seq: &[u8]) -> Register
         taps: u8x32::splat(0),
         connections: in_front(seq),
     };
-    // The register from before the length last changed, shifted to fail at the place at hand, and the connection by which
-    // it fails. While the length is 0 there is none, and x stands for it.
+    // The register from before the length last changed, shifted to fail at the place at hand, and multiplied to fail by 1.
+    // While the length is 0 there is none, and x stands for it.
     let mut earlier = Candidate {
         taps: moved_up(1, register.taps),
         connections: moved_up(0, register.connections),
     };
-    let mut failure = 1;
     for place in 0..seq.len() {
         let found = register.connections[0];
         let mut first = 0;
         if found != 0 {
             let before = register;
-            register = mended(register, earlier, div(found, failure));
+            register = mended(register, earlier, found);
             // No register that generates the number here is shorter than `place + 1 - len`.
             if 2 * len <= place {
                 len = place + 1 - len;
-                earlier = before;
-                first = 1;
-                failure = found;
+                first = inv(found);
+                earlier = scaled(before, first);
             }
         }
         register.connections = moved_down(register.connections);
-        // Shifted, it has at the next place the connections that it had here.
+        // Shifted, it has at the next place the connections that it had here. Its first tap comes into the lanes.
         earlier.taps = moved_up(first, earlier.taps);
     }
     Register {
@@ -85,6 +83,18 @@ fn mended(register: Candidate, other: Candidate, factor: u8) -> Candidate
     Candidate {
         taps: with_multiple(register.taps, other.taps, factor),
         connections: with_multiple(register.connections, other.connections, factor),
+    }
+}
+
+// A multiple of a register but for its first tap.
+#[inline(always)]
+fn scaled(register: Candidate, factor: u8) -> Candidate
+    ensures taps { HasLanes result.taps (λ k. product (slice_index register.taps k) factor) }
+    ensures connections { HasLanes result.connections (λ k. product (slice_index register.connections k) factor) }
+{
+    Candidate {
+        taps: multiple(register.taps, factor),
+        connections: multiple(register.connections, factor),
     }
 }
 

@@ -62,13 +62,22 @@ pub fn times(table: &[[u8; 16]; 2], lanes: u8x32) -> u8x32
     )
 }
 
+/// The product of each lane and a factor.
+#[inline(always)]
+pub fn multiple(lanes: u8x32, factor: u8) -> u8x32
+    ensures size { length result ≡ 32 }
+    ensures each { (k : ℕ) → k < 32 → slice_index result k ≡ product (slice_index lanes k) factor }
+{
+    times(&PRODUCTS[factor as usize], lanes)
+}
+
 /// The sum of a vector and a multiple of another.
 #[inline(always)]
 pub fn with_multiple(sum: u8x32, lanes: u8x32, factor: u8) -> u8x32
     ensures size { length result ≡ 32 }
     ensures each { (k : ℕ) → k < 32 → slice_index result k ≡ plus (slice_index sum k) (product (slice_index lanes k) factor) }
 {
-    mixed(sum, times(&PRODUCTS[factor as usize], lanes))
+    mixed(sum, multiple(lanes, factor))
 }
 
 // Lanes that are zero exactly where those of both are.

@@ -29,7 +29,7 @@ mod thirds;
 pub mod turning;
 
 pub use columns::{column_values, outer_parity};
-pub use lanes::{any_of, load, store, with_multiple};
+pub use lanes::{any_of, load, multiple, store, with_multiple};
 pub use points::{powers, scaled};
 pub use row::Row;
 pub use rows::{inner_parity, row_values, turned_values};

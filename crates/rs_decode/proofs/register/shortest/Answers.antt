@@ -17,7 +17,6 @@ pub loop-place-preserved : goal.loop-place-preserved
 loop-place-preserved c =
     let n = c.loop-place.place in
     let len = c.loop-place.len in
-    let failure = c.loop-place.failure in
     let register = c.loop-place.register in
     let earlier = c.loop-place.earlier in
     let seq = c.args.seq.now in
@@ -26,25 +25,26 @@ loop-place-preserved c =
     let inside : n < length seq = omega arith in
     let found : c.index-found.result.now ≡ get_or register.connections 0 0 =
     get_or_read_under register.connections 0 32 c.index-found.result.now 0 c.index-found.ensures (omega arith) (sym c.loop-place.invariant.lanes) in
-    let left : IsLeft n after.len after.failure after.first after.register.taps after.earlier.taps seq after.register.connections after.earlier.connections =
+    let left : IsLeft n after.len after.first after.register.taps after.earlier.taps seq after.register.connections after.earlier.connections =
     elim c.if-found-ne0.branch [
       | then-found-ne0+then-len-place w ↦
-          rw (w.len-is, w.failure-is ∙ found, w.first-is, w.register-is, w.earlier-is)
-          (IsLeft-longer n len failure register.taps earlier.taps seq register.connections earlier.connections c.requires inside at w.div.result
-          w.mended-register.result.taps w.mended-register.result.connections (λ none. w.if-found-ne0.true (found ∙ none)) (w.div.ensures ∙ found)
-          w.mended-register.ensures.taps w.mended-register.ensures.connections (omega (arith, w.if-len-place.true)))
+          rw (w.len-is, w.first-is, w.register-is, w.earlier-is)
+          (IsLeft-longer n len register.taps earlier.taps seq register.connections earlier.connections c.requires inside at c.index-found.result.now
+          w.mended-register.result.taps w.mended-register.result.connections found w.if-found-ne0.true
+          w.mended-register.ensures.taps w.mended-register.ensures.connections w.inv-first.result w.scaled-earlier.result.taps w.scaled-earlier.result.connections
+          w.inv-first.ensures (omega arith) w.scaled-earlier.ensures.taps w.scaled-earlier.ensures.connections (omega (arith, w.if-len-place.true)))
       | then-found-ne0+else-len-place w ↦
-          rw (w.len-is, w.failure-is, w.first-is, w.register-is, w.earlier-is)
-          (IsLeft-mended n len failure register.taps earlier.taps seq register.connections earlier.connections c.requires inside at w.div.result
-          w.mended-register.result.taps w.mended-register.result.connections (λ none. w.if-found-ne0.true (found ∙ none)) (w.div.ensures ∙ found)
+          rw (w.len-is, w.first-is, w.register-is, w.earlier-is)
+          (IsLeft-mended n len register.taps earlier.taps seq register.connections earlier.connections c.requires inside at c.index-found.result.now
+          w.mended-register.result.taps w.mended-register.result.connections found w.if-found-ne0.true
           w.mended-register.ensures.taps w.mended-register.ensures.connections (omega (arith, w.if-len-place.false)))
       | else-found-ne0 w ↦
-          rw (w.len-is, w.failure-is, w.first-is, w.register-is, w.earlier-is)
-          (IsLeft-stays n len failure register.taps earlier.taps seq register.connections earlier.connections c.requires inside at (sym found ∙ w.if-found-ne0.false))
+          rw (w.len-is, w.first-is, w.register-is, w.earlier-is)
+          (IsLeft-stays n len register.taps earlier.taps seq register.connections earlier.connections c.requires inside at (sym found ∙ w.if-found-ne0.false))
     ] in
     record {
       lanes = c.moved_down-register.ensures.size;
-      is_at = IsAt-next n after.len after.failure after.first after.register.taps after.earlier.taps seq after.register.connections after.earlier.connections
+      is_at = IsAt-next n after.len after.first after.register.taps after.earlier.taps seq after.register.connections after.earlier.connections
           c.moved_down-register.result c.moved_up-earlier.result c.requires inside c.moved_down-register.ensures.each c.moved_up-earlier.ensures left;
     }
 

@@ -6,5 +6,5 @@ use Rattle.rs_decode.proofs.register.shortest.Given as goal
 abbrev pub invariant-loop-place : goal.invariant-loop-place
 invariant-loop-place l = record {
   lanes : length l.register.connections ≡ 32;
-  is_at : IsAt l.place l.len l.failure l.register.taps l.earlier.taps l.seq l.register.connections l.earlier.connections;
+  is_at : IsAt l.place l.len l.register.taps l.earlier.taps l.seq l.register.connections l.earlier.connections;
 }
