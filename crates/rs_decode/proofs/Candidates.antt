@@ -14,11 +14,13 @@ use Rattle.rs_decode.proofs.Registers.{FailsAt-start, FailsAt-times_x, IsShortes
 use Rattle.rs_decode.proofs.Totals.{total-first}
 
 -- the connection of the first tap alone, where all others are 0
-connection-first : (taps seq : List ℕ) (n : ℕ) → ((c : ℕ) → 0 < c → get_or taps c 0 ≡ 0) → connection n taps seq n ≡ product (get_or taps 0 0) (get_or seq n 0)
+connection-first : (taps seq : List ℕ) (n : ℕ) → ((c : ℕ) → 0 < c → get_or taps c 0 ≡ 0)
+    → connection n taps seq n ≡ product (get_or taps 0 0) (get_or seq n 0)
 connection-first taps seq n zeros =
     let here : n - 0 ≡ n = omega arith in
     connection-total n taps seq n
-    ∙ total-first n (λ i. product (get_or taps i 0) (get_or seq (n - i) 0)) (λ i above within. ap (λ x. product x (get_or seq (n - i) 0)) (zeros i above) ∙ zero-product (get_or seq (n - i) 0))
+    ∙ total-first n (λ i. product (get_or taps i 0) (get_or seq (n - i) 0))
+    (λ i above within. ap (λ x. product x (get_or seq (n - i) 0)) (zeros i above) ∙ zero-product (get_or seq (n - i) 0))
     ∙ ap (λ k. product (get_or taps 0 0) (get_or seq k 0)) here
 
 -- Lane k is the connection k places after n, where the list has such a place. Of taps that reach further back than the list
@@ -199,7 +201,8 @@ module _ (n len : ℕ) (taps earlier seq connections others : List ℕ) (few : l
     are_mended : HasConnections n (1 ∷ sums) seq sum_connections
     are_mended =
         subst (λ all. HasConnections n all seq sum_connections) taps_are
-        (HasConnections-mended n found (1 ∷ taps) (0 ∷ earlier) seq connections others sum_connections few (at.shortest.size ∙ sym at.fails.size) at.connections_are at.others_are sum_connections_are)
+        (HasConnections-mended n found (1 ∷ taps) (0 ∷ earlier) seq connections others sum_connections few (at.shortest.size ∙ sym at.fails.size)
+        at.connections_are at.others_are sum_connections_are)
 
     -- it is mended, and stays as long
     pub IsLeft-mended : n < 2 * len → IsLeft n len 0 sums earlier seq sum_connections others

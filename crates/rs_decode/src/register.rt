@@ -52,6 +52,7 @@ pub fn shortest(seq: &[u8]) -> Register
     };
     for place in 0..seq.len() {
         let found = register.connections[0];
+        // The first tap of the earlier one, before it is shifted.
         let mut first = 0;
         if found != 0 {
             let before = register;
@@ -64,7 +65,7 @@ pub fn shortest(seq: &[u8]) -> Register
             }
         }
         register.connections = moved_down(register.connections);
-        // Shifted, it has at the next place the connections that it had here. Its first tap comes into the lanes.
+        // Shifted, it has at the next place the connections that it had here.
         earlier.taps = moved_up(first, earlier.taps);
     }
     Register {
