@@ -18,7 +18,7 @@ use Rattle.dvd_capture.specs.Listed.{field_at, mark_of, marked_by, run_count}
 use Rattle.dvd_capture.specs.Listing.{AppendsPart, AppendsUnit}
 use Rattle.dvd_capture.specs.Inner.Listing.{AppendsAll, AppendsSome, AreMarked, HasRuns, starts_below}
 use Rattle.dvd_capture.proofs.ListedUnit.{marks-listed, rows-listed}
-use Rattle.dvd_capture.proofs.RecordedRows.{length-recorded, recording_captured}
+use Rattle.dvd_capture.proofs.RecordedRows.{length-recording, recording_captured}
 use Rattle.dvd_capture.proofs.ListedFields.{field_at-behind, number-unbroken, one-run-more}
 use Rattle.dvd_capture.proofs.ListedTaken.{field-read, first-field, second-field}
 use Rattle.dvd_capture.proofs.RunStarts.{none_left, start-first, start_at, starts-few, starts-marked, starts-next, starts-none, starts-unmarked}
@@ -422,7 +422,7 @@ module _ (rows : List (List ℕ)) (height : length rows ≡ 208) (widths : (i : 
 
   -- recorded they are 37,856 bytes
   pub recording_size : length (recording rows) ≡ 37_856
-  recording_size = length-recorded rows height wide 208 (omega arith) ∙ refl
+  recording_size = length-recording rows height wide
 
   module _ (marks : List (List Bool)) (marks_height : length marks ≡ 208) (marks_widths : (i : ℕ) → i < 208 → length (marks_line marks i) ≡ 182) where
     -- the recording of the rows, and behind it all runs of the marks, is the unit of both

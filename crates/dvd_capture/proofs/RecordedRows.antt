@@ -5,45 +5,53 @@ use Rattle.std.proofs.lemmas.List.FromFn.{length-map-range_with_len, get_or-map-
 use Rattle.dvd_block.specs.Product.{line}
 use Rattle.dvd_block.specs.Recording.{record_at, recorded, recording, row_at}
 use Rattle.dvd_block.proofs.Recorded.{recorded-add, recorded-more, recorded-none}
-use Rattle.dvd_capture.specs.Captured.{captured_rows, record_of}
+use Rattle.dvd_capture.specs.Captured.{captured_rows, record_of, record_size}
+use Rattle.dvd_capture.specs.declared.form.Form.{Form}
 use Rattle.dvd_capture.specs.declared.form.Form.TheVariants.{Plain}
 use Rattle.dvd_capture.proofs.Fetching.{part-append, part-behind, record_at-lt, row_at-lt, row_at-record_at}
+
+-- Rows of one width, that of the recorded rows of a form.
+module _ (form : Form) (rows : List (List ℕ)) (width : (i : ℕ) → i < 208 → length (line rows i) ≡ record_size form) where
+  -- n + 1 recorded rows are n of them and the row that stands at recorded row n
+  one_more : (n : ℕ) → recorded 0 (n + 1) rows ≡ recorded 0 n rows ++ line rows (row_at n)
+  one_more n =
+      let same : 0 + n ≡ n = omega arith in
+      recorded-more 0 n rows ∙ ap (λ k. recorded 0 n rows ++ line rows (row_at k)) same
+
+  -- n recorded rows have n times the bytes of one
+  length-recorded : (n : ℕ) → n ≤ 208 → length (recorded 0 n rows) ≡ record_size form * n
+  length-recorded zero within = ap length (recorded-none 0 rows) ∙ omega arith
+  length-recorded (suc n) within =
+      let more : n + 1 ≡ suc n = omega arith in
+      ap (λ k. length (recorded 0 k rows)) (sym more) ∙ ap length (one_more n) ∙ length-append (recorded 0 n rows) (line rows (row_at n))
+      ∙ omega (arith, length-recorded n (omega arith), width (row_at n) (row_at-lt n (omega arith)))
+
+  -- recorded row m stands behind m others
+  split : (m : ℕ) → m < 208 → recording rows ≡ (recorded 0 m rows ++ line rows (row_at m)) ++ recorded (0 + (m + 1)) (207 - m) rows
+  split m below =
+      let all : m + 1 + (207 - m) ≡ 208 = omega arith in
+      ap (λ k. recorded 0 k rows) (sym all) ∙ recorded-add 0 (m + 1) (207 - m) rows
+      ∙ ap (λ front. front ++ recorded (0 + (m + 1)) (207 - m) rows) (one_more m)
+
+  -- recorded row m is the row that stands there
+  pub record_row : (m : ℕ) → m < 208 → record_of form (recording rows) m ≡ line rows (row_at m)
+  record_row m below =
+      let size : ℕ = record_size form in
+      let row : List ℕ = line rows (row_at m) in
+      let row_width : length row ≡ size = width (row_at m) (row_at-lt m below) in
+      let before : length (recorded 0 m rows) ≡ size * m = length-recorded m (omega arith) in
+      ap (λ bytes. take size (drop (size * m) bytes)) (split m below)
+      ∙ part-append (recorded 0 m rows ++ row) (recorded (0 + (m + 1)) (207 - m) rows) (size * m) size (omega (arith, length-append (recorded 0 m rows) row, before, row_width))
+      ∙ part-behind (recorded 0 m rows) row (size * m) size before row_width
 
 module _ (block : List (List ℕ)) (height : length block ≡ 208) (widths : All (λ row. length row ≡ 182) block) where
   -- each of the 208 rows has 182 bytes
   width : (i : ℕ) → i < 208 → length (line block i) ≡ 182
   width i below = widths i [] (omega (arith, height))
 
-  -- n + 1 recorded rows are n of them and the row that stands at recorded row n
-  one_more : (n : ℕ) → recorded 0 (n + 1) block ≡ recorded 0 n block ++ line block (row_at n)
-  one_more n =
-      let same : 0 + n ≡ n = omega arith in
-      recorded-more 0 n block ∙ ap (λ k. recorded 0 n block ++ line block (row_at k)) same
-
-  -- n recorded rows have 182 n bytes
-  pub length-recorded : (n : ℕ) → n ≤ 208 → length (recorded 0 n block) ≡ 182 * n
-  length-recorded zero within = ap length (recorded-none 0 block)
-  length-recorded (suc n) within =
-      let more : n + 1 ≡ suc n = omega arith in
-      ap (λ k. length (recorded 0 k block)) (sym more) ∙ ap length (one_more n) ∙ length-append (recorded 0 n block) (line block (row_at n))
-      ∙ omega (arith, length-recorded n (omega arith), width (row_at n) (row_at-lt n (omega arith)))
-
-  -- recorded row m stands behind m others
-  pub split : (m : ℕ) → m < 208 → recorded 0 208 block ≡ (recorded 0 m block ++ line block (row_at m)) ++ recorded (0 + (m + 1)) (207 - m) block
-  split m below =
-      let all : m + 1 + (207 - m) ≡ 208 = omega arith in
-      ap (λ k. recorded 0 k block) (sym all) ∙ recorded-add 0 (m + 1) (207 - m) block
-      ∙ ap (λ front. front ++ recorded (0 + (m + 1)) (207 - m) block) (one_more m)
-
-  -- recorded row m of the plain form is the row of the block that stands there
-  record_is : (m : ℕ) → m < 208 → record_of Plain (recorded 0 208 block) m ≡ line block (row_at m)
-  record_is m below =
-      let row : List ℕ = line block (row_at m) in
-      let row_width : length row ≡ 182 = width (row_at m) (row_at-lt m below) in
-      let before : length (recorded 0 m block) ≡ 182 * m = length-recorded m (omega arith) in
-      ap (λ bytes. take 182 (drop (182 * m) bytes)) (split m below)
-      ∙ part-append (recorded 0 m block ++ row) (recorded (0 + (m + 1)) (207 - m) block) (182 * m) 182 (omega (arith, length-append (recorded 0 m block) row, before, row_width))
-      ∙ part-behind (recorded 0 m block) row (182 * m) 182 before row_width
+  -- recorded they are 37,856 bytes
+  pub length-recording : length (recording block) ≡ 37_856
+  length-recording = length-recorded Plain block width 208 (omega arith)
 
   -- so the rows captured from a block's recording are the block
   pub recording_captured : captured_rows Plain (recording block) ≡ block
@@ -52,7 +60,7 @@ module _ (block : List (List ℕ)) (height : length block ≡ 208) (widths : All
       ext_get_or [] (captured_rows Plain (recording block)) block (length-map-range_with_len row 0 208 ∙ sym height)
       (λ i within. let below : i < 208 = subst (λ n. i < n) (length-map-range_with_len row 0 208) within in
       get_or-map-range_with_len row 0 208 i i [] below (omega arith)
-      ∙ ap (take 182) (record_is (record_at i) (record_at-lt i below) ∙ ap (line block) (row_at-record_at i below))
+      ∙ ap (take 182) (record_row Plain block width (record_at i) (record_at-lt i below) ∙ ap (line block) (row_at-record_at i below))
       ∙ take_all 182 (line block i) (omega (arith, width i below)))
     where
       row : ℕ → List ℕ

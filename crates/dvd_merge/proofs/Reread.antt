@@ -8,13 +8,13 @@ use Rattle.std.proofs.lemmas.List.{ext_get_or, get_or-drop, get_or-map, get_or-t
 use Rattle.std.proofs.lemmas.List.FromFn.{length-map-range_with_len, get_or-map-range_with_len}
 use Rattle.std.proofs.lemmas.Nat.Bits.{bit_at-suc, bit_at_lowest}
 use Rattle.dvd_block.specs.Product.{line}
-use Rattle.dvd_block.specs.Recording.{record_at, recorded, recording, row_at}
-use Rattle.dvd_block.proofs.Recorded.{recorded-add, recorded-more, recorded-none}
+use Rattle.dvd_block.specs.Recording.{record_at}
 use Rattle.dvd_capture.specs.Captured.{captured_marks, captured_rows, marks_in, record_of}
 use Rattle.dvd_capture.specs.MarkBits.{mark_at, marks_of}
 use Rattle.dvd_capture.specs.declared.form.Form.TheVariants.{Marked}
-use Rattle.dvd_capture.proofs.Fetching.{part-append, part-behind, record_at-lt, row_at-lt, row_at-record_at}
+use Rattle.dvd_capture.proofs.Fetching.{part-append, record_at-lt, row_at-record_at}
 use Rattle.dvd_capture.proofs.MarkLists.{length-marks_of, mark-marks_of}
+use Rattle.dvd_capture.proofs.RecordedRows.{record_row}
 use Rattle.dvd_merge.specs.Join.{Table, byte_of, joined_marks, joined_rows, mark_of, row_of}
 use Rattle.dvd_merge.specs.MarkedText.{mark_byte, mark_bytes, marked_row, marked_text, number_of_marks}
 use Rattle.dvd_merge.proofs.Costs.{bytes-row, marks-row}
@@ -108,38 +108,6 @@ marks-back marks size =
     (λ j within. let below : j < 182 = subst (λ n. j < n) (length-marks_of (mark_bytes marks)) within in
     mark-marks_of (mark_bytes marks) j below ∙ mark-back marks j size below)
 
-module _ (rows : List (List ℕ)) (width : (i : ℕ) → i < 208 → length (line rows i) ≡ 205) where
-  -- n + 1 recorded rows are n of them and the row that stands at recorded row n
-  one_more : (n : ℕ) → recorded 0 (n + 1) rows ≡ recorded 0 n rows ++ line rows (row_at n)
-  one_more n =
-      let same : 0 + n ≡ n = omega arith in
-      recorded-more 0 n rows ∙ ap (λ k. recorded 0 n rows ++ line rows (row_at k)) same
-
-  -- n recorded rows of the marked form have 205 n bytes
-  length-recorded : (n : ℕ) → n ≤ 208 → length (recorded 0 n rows) ≡ 205 * n
-  length-recorded zero within = ap length (recorded-none 0 rows)
-  length-recorded (suc n) within =
-      let more : n + 1 ≡ suc n = omega arith in
-      ap (λ k. length (recorded 0 k rows)) (sym more) ∙ ap length (one_more n) ∙ length-append (recorded 0 n rows) (line rows (row_at n))
-      ∙ omega (arith, length-recorded n (omega arith), width (row_at n) (row_at-lt n (omega arith)))
-
-  -- recorded row m stands behind m others
-  split : (m : ℕ) → m < 208 → recorded 0 208 rows ≡ (recorded 0 m rows ++ line rows (row_at m)) ++ recorded (0 + (m + 1)) (207 - m) rows
-  split m below =
-      let all : m + 1 + (207 - m) ≡ 208 = omega arith in
-      ap (λ k. recorded 0 k rows) (sym all) ∙ recorded-add 0 (m + 1) (207 - m) rows
-      ∙ ap (λ front. front ++ recorded (0 + (m + 1)) (207 - m) rows) (one_more m)
-
-  -- recorded row m of the marked form is the row that stands there
-  record_row : (m : ℕ) → m < 208 → record_of Marked (recording rows) m ≡ line rows (row_at m)
-  record_row m below =
-      let row : List ℕ = line rows (row_at m) in
-      let row_width : length row ≡ 205 = width (row_at m) (row_at-lt m below) in
-      let before : length (recorded 0 m rows) ≡ 205 * m = length-recorded m (omega arith) in
-      ap (λ bytes. take 205 (drop (205 * m) bytes)) (split m below)
-      ∙ part-append (recorded 0 m rows ++ row) (recorded (0 + (m + 1)) (207 - m) rows) (205 * m) 205 (omega (arith, length-append (recorded 0 m rows) row, before, row_width))
-      ∙ part-behind (recorded 0 m rows) row (205 * m) 205 before row_width
-
 module _ (table : Table) (height : length table ≡ 208) (widths : All (λ row. length row ≡ 182) table) where
   -- each row of the table has 182 places
   wide : (i : ℕ) → i < 208 → length (row_of table i) ≡ 182
@@ -169,7 +137,7 @@ module _ (table : Table) (height : length table ≡ 208) (widths : All (λ row. 
   -- the marked text has the bytes and marks of row i at its recorded row
   record_is : (i : ℕ) → i < 208 → record_of Marked (marked_text table) (record_at i) ≡ marked_row (row_of table i)
   record_is i below =
-      record_row (map marked_row table) width (record_at i) (record_at-lt i below)
+      record_row Marked (map marked_row table) width (record_at i) (record_at-lt i below)
       ∙ ap (line (map marked_row table)) (row_at-record_at i below) ∙ row_is i below
 
   -- its first 182 bytes are those of row i of the table

@@ -7,7 +7,7 @@ use Rattle.dvd_block.specs.Recording.{recording}
 use Rattle.dvd_capture.specs.Captured.{captured_marks, captured_rows}
 use Rattle.dvd_capture.specs.Within.{IsWithin}
 use Rattle.dvd_capture.specs.declared.form.Form.TheVariants.{Plain}
-use Rattle.dvd_capture.proofs.RecordedRows.{length-recorded, recording_captured}
+use Rattle.dvd_capture.proofs.RecordedRows.{length-recording, recording_captured}
 use Rattle.dvd_capture.proofs.Undamaged.{undamaged_within}
 use Rattle.dvd_layout.specs.Content.{IsImage}
 use Rattle.dvd_layout.specs.Place.{image_sectors, total_sectors}
@@ -43,7 +43,7 @@ widths-of block is i d within = (is.rows i d within).size
 
 -- the recording of a block is 37,856 bytes
 recording-size : (block : List (List ℕ)) → IsProduct block → length (recording block) ≡ 37_856
-recording-size block is = length-recorded block is.height (widths-of block is) 208 (omega arith)
+recording-size block is = length-recording block is.height (widths-of block is)
 
 -- a block that was recorded is within the bound
 recording-within : (block : List (List ℕ)) → IsProduct block
