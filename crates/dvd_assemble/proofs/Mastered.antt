@@ -36,7 +36,7 @@ use Rattle.dvd_merge.specs.Agreeing.{IsOf}
 use Rattle.dvd_merge.specs.Join.{joined, seen, unseen}
 use Rattle.dvd_merge.specs.declared.place.Place.{Place}
 use Rattle.dvd_merge.specs.declared.place.Place.TheVariants.{Unseen, Value}
-use Rattle.dvd_merge.proofs.Costs.{is_of-fold, is_of-unseen}
+use Rattle.dvd_merge.proofs.Costs.{is_of-fold, is_of-unseen, unseen_place}
 use Rattle.dvd_assemble.specs.Assembled.{frame_row, frame_table, table_for, told_of}
 use Rattle.dvd_assemble.specs.Frames.{Frame}
 use Rattle.dvd_assemble.specs.Home.{checked_word, home, home_in, word_in}
@@ -126,12 +126,6 @@ row_tells (byte ∷ bytes) (true ∷ marks) right agrees zero = inl refl
 row_tells (byte ∷ bytes) (false ∷ marks) right agrees zero = inr (ap Value (sym (agrees 0 (omega arith) refl)))
 row_tells (byte ∷ bytes) (mark ∷ marks) right agrees (suc j) =
     row_tells bytes marks (λ i. right (suc i)) (λ i within free. agrees (suc i) (omega (arith, within)) free) j
-
--- each place of a row that isn't seen is unseen, also behind its end
-unseen_place : (n j : ℕ) → get_or (replicate n Unseen) j Unseen ≡ Unseen
-unseen_place zero j = refl
-unseen_place (suc n) zero = refl
-unseen_place (suc n) (suc j) = unseen_place n j
 
 -- the table of a captured frame is of the block
 module _ (f : ℕ) (block : List (List ℕ)) (frame : Frame) (captured : IsCaptureOf f block frame) where

@@ -30,15 +30,15 @@ same_row (suc n) zero row none j = none j
 same_row (suc n) (suc i) row none j = same_row n i row none j
 
 -- each place of a row that isn't seen is unseen, also behind its end
-same_place : (n j : ℕ) → get_or (replicate n Unseen) j Unseen ≡ Unseen
-same_place zero j = refl
-same_place (suc n) zero = refl
-same_place (suc n) (suc j) = same_place n j
+pub unseen_place : (n j : ℕ) → get_or (replicate n Unseen) j Unseen ≡ Unseen
+unseen_place zero j = refl
+unseen_place (suc n) zero = refl
+unseen_place (suc n) (suc j) = unseen_place n j
 
 -- a table in which nothing is seen is of every block
 pub is_of-unseen : (block : List (List ℕ)) → IsOf block unseen
 unfolding unseen
-is_of-unseen block i j = inl (same_row 208 i (replicate 182 Unseen) (same_place 182) j)
+is_of-unseen block i j = inl (same_row 208 i (replicate 182 Unseen) (unseen_place 182) j)
 
 -- the join of two tables of a block is of that block
 is_of-join : (block : List (List ℕ)) (a b : Table) → IsOf block a → IsOf block b → IsOf block (join_tables a b)
