@@ -48,6 +48,5 @@ pub mod RunEnds
 pub mod RunLemmas
 pub mod SomethingDone
 pub mod SurveyBlocks
-pub mod ToldThenWritten
 pub mod UnitsOf
 pub mod Written

@@ -8,7 +8,7 @@ use Rattle.dvd_loop.proofs.TurnLemmas.{err_is, write_begun, write_done}
 use Rattle.dvd_top.specs.CdLines.{damaged_sector_line}
 use Rattle.dvd_top.specs.Commands.CdRead.{IsSectorRead, user_data}
 use Rattle.dvd_top.proofs.CdSectors.{given, refused}
-use Rattle.dvd_top.proofs.ToldThenWritten.{both_done, bytes_fail, line_fails}
+use Rattle.dvd_top.proofs.TwoSteps.{both_done, bytes_fail, line_fails}
 use Rattle.dvd_top.proofs.commands.cd_read.give_sector.Goals as goal
 
 pub returns-in_err-write_whole-in-Ok-clause-done : goal.returns-in_err-write_whole-in-Ok-clause-done
