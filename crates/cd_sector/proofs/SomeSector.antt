@@ -83,74 +83,65 @@ one_more word old below some size bytes = (
     new : List ℕ
     new = set (set old p x) q y
 
--- the first P words can be encoded, and nothing changes before their parity
-p_encoded : (old : List ℕ) (count : ℕ) → count ≤ 86 → length old ≡ 2352 → All IsByte old → (sector : List ℕ) × IsEncodedTo 0 count 2076 old sector
-p_encoded old zero within size bytes = (old, record { size = size; bytes = bytes; kept = λ at _. refl; right = λ word _ below. absurd (omega arith) })
-p_encoded old (suc n) within size bytes = next (p_encoded old n (omega arith) size bytes)
-  where
-    next : (sector : List ℕ) × IsEncodedTo 0 n 2076 old sector → (sector : List ℕ) × IsEncodedTo 0 (suc n) 2076 old sector
-    next (was, is) = after (one_more n was (omega arith) (omega (arith, word_size-p n (omega arith))) is.size is.bytes)
-      where
-        last : (m : ℕ) → 24 ≤ m → 2076 ≤ place n m
-        last m from = omega (arith, place-p n m (omega arith))
+-- words of one kind, whose parity stands behind a place, and which have no byte in common
+record AreApart (from count limit : ℕ) : Type 0 where
+  pub few : from + count ≤ 138
+  pub some : (n : ℕ) → from ≤ n → n < from + count → 2 < word_size n
+  pub behind : (n m : ℕ) → from ≤ n → n < from + count → word_size n ≤ m + 2 → limit ≤ place n m
+  pub apart : (v n m k : ℕ) → from ≤ v → v < n → n < from + count → place v m ≢ place n k
 
-        after : (sector : List ℕ) × IsOneMore n was sector → (sector : List ℕ) × IsEncodedTo 0 (suc n) 2076 old sector
-        after (now, one) = (
-          now,
-          record {
-            size = one.size;
-            bytes = one.bytes;
-            kept = λ at before. one.kept at
-                (λ same. omega (arith, same, last (word_size n - 2) (omega (arith, word_size-p n (omega arith)))))
-                (λ same. omega (arith, same, last (word_size n - 1) (omega (arith, word_size-p n (omega arith)))))
-                ∙ is.kept at before;
-            right = λ word above below. each word below (cases_lt word n);
-          },
-        )
-          where
-            each : (word : ℕ) → word < 0 + suc n → (word < n) ⊎ (n ≤ word) → IsRight now word
-            each word below (inl earlier) =
-                kept_right was now word
-                (λ m _. one.kept (place word m)
-                (apart-p word n m (word_size n - 2) (omega arith) (omega arith) (omega arith)) (apart-p word n m (word_size n - 1) (omega arith) (omega arith) (omega arith)))
-                (is.right word (omega arith) (omega arith))
-            each word below (inr here) = let same : n ≡ word = omega arith in subst (IsRight now) same one.right
+-- the P words
+p_words : AreApart 0 86 2076
+p_words = record {
+  few = omega arith;
+  some = λ n _ below. omega (arith, word_size-p n below);
+  behind = λ n m _ below last. omega (arith, last, word_size-p n below, place-p n m below);
+  apart = λ v n m k _ before below. apart-p v n m k (omega arith) below (omega (arith, before));
+}
 
--- the first Q words can be encoded, and nothing changes before their parity
-q_encoded : (old : List ℕ) (count : ℕ) → count ≤ 52 → length old ≡ 2352 → All IsByte old → (sector : List ℕ) × IsEncodedTo 86 count 2248 old sector
-q_encoded old zero within size bytes = (old, record { size = size; bytes = bytes; kept = λ at _. refl; right = λ word above below. absurd (omega arith) })
-q_encoded old (suc k) within size bytes = next (q_encoded old k (omega arith) size bytes)
+-- the Q words
+q_words : AreApart 86 52 2248
+q_words = record {
+  few = omega arith;
+  some = λ n above _. omega (arith, word_size-q n above);
+  behind = λ n m above _ last.
+      let own : 43 ≤ m = omega (arith, last, word_size-q n above) in omega (arith, place-own n m above own);
+  apart = λ v n m k above before below. apart-qq v n m k above (omega arith) (omega arith) below (omega (arith, before));
+}
+
+-- the first of them can be encoded, and nothing changes before their parity
+words_encoded : (from most limit : ℕ) → AreApart from most limit → (old : List ℕ) (count : ℕ) → count ≤ most → length old ≡ 2352 → All IsByte old
+    → (sector : List ℕ) × IsEncodedTo from count limit old sector
+words_encoded from most limit words old zero within size bytes =
+    (old, record { size = size; bytes = bytes; kept = λ at _. refl; right = λ word above below. absurd (omega arith) })
+words_encoded from most limit words old (suc k) within size bytes = next (words_encoded from most limit words old k (omega arith) size bytes)
   where
     n : ℕ
-    n = 86 + k
+    n = from + k
 
-    next : (sector : List ℕ) × IsEncodedTo 86 k 2248 old sector → (sector : List ℕ) × IsEncodedTo 86 (suc k) 2248 old sector
-    next (was, is) = after (one_more n was (omega arith) (omega (arith, word_size-q n (omega arith))) is.size is.bytes)
+    next : (sector : List ℕ) × IsEncodedTo from k limit old sector → (sector : List ℕ) × IsEncodedTo from (suc k) limit old sector
+    next (was, is) = after (one_more n was (omega (arith, words.few)) (words.some n (omega arith) (omega arith)) is.size is.bytes)
       where
-        last : (m : ℕ) → 43 ≤ m → 2248 ≤ place n m
-        last m from = omega (arith, place-own n m (omega arith) from)
-
-        after : (sector : List ℕ) × IsOneMore n was sector → (sector : List ℕ) × IsEncodedTo 86 (suc k) 2248 old sector
+        after : (sector : List ℕ) × IsOneMore n was sector → (sector : List ℕ) × IsEncodedTo from (suc k) limit old sector
         after (now, one) = (
           now,
           record {
             size = one.size;
             bytes = one.bytes;
             kept = λ at before. one.kept at
-                (λ same. omega (arith, same, last (word_size n - 2) (omega (arith, word_size-q n (omega arith)))))
-                (λ same. omega (arith, same, last (word_size n - 1) (omega (arith, word_size-q n (omega arith)))))
+                (λ same. omega (arith, same, words.behind n (word_size n - 2) (omega arith) (omega arith) (omega arith)))
+                (λ same. omega (arith, same, words.behind n (word_size n - 1) (omega arith) (omega arith) (omega arith)))
                 ∙ is.kept at before;
             right = λ word above below. each word above below (cases_lt word n);
           },
         )
           where
-            each : (word : ℕ) → 86 ≤ word → word < 86 + suc k → (word < n) ⊎ (n ≤ word) → IsRight now word
+            each : (word : ℕ) → from ≤ word → word < from + suc k → (word < n) ⊎ (n ≤ word) → IsRight now word
             each word above below (inl earlier) =
                 kept_right was now word
                 (λ m _. one.kept (place word m)
-                (apart-qq word n m (word_size n - 2) above (omega arith) (omega arith) (omega arith) (omega arith))
-                (apart-qq word n m (word_size n - 1) above (omega arith) (omega arith) (omega arith) (omega arith)))
-                (is.right word above (omega arith))
+                (words.apart word n m (word_size n - 2) above earlier (omega arith)) (words.apart word n m (word_size n - 1) above earlier (omega arith)))
+                (is.right word above earlier)
             each word above below (inr here) = let same : n ≡ word = omega arith in subst (IsRight now) same one.right
 
 -- a list of four bytes is one of bytes
@@ -224,7 +215,7 @@ some_sector address user below size bytes = (
         (All-replicate IsByte 276 0 (omega arith))
 
     p_done : (sector : List ℕ) × IsEncodedTo 0 86 2076 start sector
-    p_done = p_encoded start 86 (omega arith) start_size start_bytes
+    p_done = words_encoded 0 86 2076 p_words start 86 (omega arith) start_size start_bytes
 
     q_done : (sector : List ℕ) × IsEncodedTo 86 52 2248 p_done.0 sector
-    q_done = q_encoded p_done.0 52 (omega arith) p_done.1.size p_done.1.bytes
+    q_done = words_encoded 86 52 2248 q_words p_done.0 52 (omega arith) p_done.1.size p_done.1.bytes
