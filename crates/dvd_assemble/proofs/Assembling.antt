@@ -1,12 +1,12 @@
 -- The blocks that frames make, one frame after the other.
-use Rattle.std.proofs.Common.{◌≡◌, ◌≢◌, ◌⊎◌, inl, inr, ◌∙◌, refl, sym, ap, subst, ℕ, ◌/◌, ◌%◌, ◌<◌, ◌==◌, ◌↔◌, true, false, if◌then◌else◌, List, [], ◌∷◌, ◌++◌, length, map, get_or, set, Option, None, Some, arith}
+use Rattle.std.proofs.Common.{◌≡◌, inl, inr, ◌∙◌, refl, sym, ap, subst, ℕ, ◌/◌, ◌%◌, ◌<◌, ◌==◌, ◌↔◌, if◌then◌else◌, List, [], ◌∷◌, ◌++◌, length, map, get_or, set, Option, None, Some, arith}
 use Rattle.std.specs.List.{Contains, range_with_len}
 use Rattle.std.specs.Option.{option_map_or}
 use Rattle.std.proofs.lemmas.Bool.Decides.{eqb_tells}
 use Rattle.std.proofs.lemmas.List.{ext_get_or, get_or-map, get_or-set_same, get_or-set_other, length-map, length-set}
 use Rattle.std.proofs.lemmas.List.Elements.{Contains-get_or}
 use Rattle.dvd_merge.proofs.Lattice.{same_members}
-use Rattle.dvd_merge.proofs.Places.{tables-assoc, tables-comm, tables-idem}
+use Rattle.dvd_merge.proofs.Places.{Tells, tables-assoc, tables-comm, tables-idem}
 use Rattle.std.proofs.lemmas.List.FromFn.{length-map-range_with_len, get_or-map-range_with_len}
 use Rattle.dvd_layout.specs.Plan.{plan_of}
 use Rattle.dvd_layout.specs.declared.layout.Layout.{Layout}
@@ -16,10 +16,6 @@ use Rattle.dvd_assemble.specs.Assembled.{assembled, frame_table, settled, table_
 use Rattle.dvd_assemble.specs.Frames.{Frame}
 use Rattle.dvd_assemble.specs.Home.{home}
 use Rattle.dvd_assemble.proofs.Tables.{IsShaped, by_table, join_none, joined-more, joined-shaped, length-frame_table, length-unseen}
-
--- whether two numbers are equal, and what the test of them says
-abbrev Tells : ℕ → ℕ → Type 0
-Tells a b = ((((a == b) ≡ true) × (a ≡ b)) ⊎ (((a == b) ≡ false) × (a ≢ b)))
 
 -- what all these frames tell of block k
 abbrev pub block_at : Layout → List Frame → ℕ → Table

@@ -1,6 +1,6 @@
 -- Frames that were captured of mastered blocks: their homes, and what they tell.
 use Rattle.std.proofs.Common.{◌≡◌, ◌⊎◌, inl, inr, ◌∙◌, refl, sym, ap, subst, ℕ, zero, suc, ◌+◌, ◌*◌, ◌/◌, ◌%◌, ◌^◌, ◌<◌, ◌==◌, Bool, true, false, if◌then◌else◌, arith}
-use Rattle.std.proofs.Common.{◌≢◌, ◌≤◌, List, [], ◌∷◌, ◌++◌, length, map, get_or, take, replicate, All, None, Some, eq-eqb}
+use Rattle.std.proofs.Common.{◌≤◌, List, [], ◌∷◌, ◌++◌, length, map, get_or, take, replicate, All, None, Some, eq-eqb}
 use Rattle.std.specs.Prelude.{bit_and}
 use Rattle.std.specs.Int.{from_be_bytes, w32}
 use Rattle.std.specs.List.{range_with_len}
@@ -37,6 +37,7 @@ use Rattle.dvd_merge.specs.Join.{joined, seen, unseen}
 use Rattle.dvd_merge.specs.declared.place.Place.{Place}
 use Rattle.dvd_merge.specs.declared.place.Place.TheVariants.{Unseen, Value}
 use Rattle.dvd_merge.proofs.Costs.{is_of-fold, is_of-unseen, unseen_place}
+use Rattle.dvd_merge.proofs.Places.{Tells}
 use Rattle.dvd_assemble.specs.Assembled.{frame_row, frame_table, table_for, told_of}
 use Rattle.dvd_assemble.specs.Frames.{Frame}
 use Rattle.dvd_assemble.specs.Home.{checked_word, home, home_in, word_in}
@@ -144,7 +145,7 @@ module _ (f : ℕ) (block : List (List ℕ)) (frame : Frame) (captured : IsCaptu
       q : ℕ
       q = record_at i % 13
 
-      by_frame : ((((record_at i / 13 == f) ≡ true) × (record_at i / 13 ≡ f)) ⊎ (((record_at i / 13 == f) ≡ false) × (record_at i / 13 ≢ f))) → Has i j (row_told i)
+      by_frame : Tells (record_at i / 13) f → Has i j (row_told i)
       by_frame (inl here) =
           let number : 13 * f + q ≡ record_at i = omega (arith, here.1) in
           let row : row_at (13 * f + q) ≡ i = ap row_at number ∙ row_at-record_at i below in
@@ -174,8 +175,7 @@ told_has layout blocks k frame named (at, f, within, below, captured) =
     home_is : home layout frame ≡ Some (16 * at + f)
     home_is = come_home layout at f (blocks at) frame within below (named at within) captured
 
-    by_block : (((((16 * at + f) / 16 == k) ≡ true) × ((16 * at + f) / 16 ≡ k)) ⊎ ((((16 * at + f) / 16 == k) ≡ false) × ((16 * at + f) / 16 ≢ k)))
-        → IsOf (blocks k) (table_for k frame (16 * at + f))
+    by_block : Tells ((16 * at + f) / 16) k → IsOf (blocks k) (table_for k frame (16 * at + f))
     by_block (inl here) =
         let block : at ≡ k = omega (arith, here.1, below) in
         let number : (16 * at + f) % 16 ≡ f = omega (arith, below) in

@@ -11,7 +11,7 @@ use Rattle.dvd_merge.specs.Join.{Table, byte_of, join, join_rows, join_tables, j
 use Rattle.dvd_merge.specs.declared.place.Place.{Place}
 use Rattle.dvd_merge.specs.declared.place.Place.TheVariants.{Unseen, Value}
 use Rattle.dvd_merge.proofs.Lattice.{fold_middle}
-use Rattle.dvd_merge.proofs.Places.{join-apart, join-same, join-unseen, place-join, row-join, row-seen, tables-assoc, tables-comm, tables-idem, unseen-join}
+use Rattle.dvd_merge.proofs.Places.{Tells, join-apart, join-same, join-unseen, place-join, row-join, row-seen, tables-assoc, tables-comm, tables-idem, unseen-join}
 
 -- a place that isn't seen, or has this byte
 abbrev Has : ℕ → Place → Type 0
@@ -63,10 +63,6 @@ is_of-fold block start (table ∷ tables) of_start each =
 -- one place
 abbrev place_weight : ℕ → ℕ → Bool → ℕ
 place_weight byte got mark = if mark then 1 else if byte == got then 0 else 2
-
--- whether two numbers are equal, and what the test of them says
-abbrev Tells : ℕ → ℕ → Type 0
-Tells a b = ((((a == b) ≡ true) × (a ≡ b)) ⊎ (((a == b) ≡ false) × (a ≢ b)))
 
 -- an unmarked place with the byte of the block weighs nothing
 no_weight : (byte : ℕ) → place_weight byte byte false ≡ 0

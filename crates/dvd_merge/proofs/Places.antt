@@ -15,7 +15,7 @@ same_places n xs ys size clones =
     ext_get_or Unseen ys xs (clones.long ∙ sym size) (λ k within. clones.at k Unseen Unseen (omega (arith, clones.long, within)))
 
 -- whether two numbers are equal, and what the test of them says
-abbrev Tells : ℕ → ℕ → Type 0
+abbrev pub Tells : ℕ → ℕ → Type 0
 Tells a b = ((((a == b) ≡ true) × (a ≡ b)) ⊎ (((a == b) ≡ false) × (a ≢ b)))
 
 -- two values
