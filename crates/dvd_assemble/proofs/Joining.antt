@@ -1,13 +1,13 @@
 -- A captured frame joined to a block, row by row.
-use Rattle.std.proofs.Common.{◌≡◌, ◌≢◌, ◌⊎◌, inl, inr, ◌∙◌, sym, ap, ℕ, ◌+◌, ◌*◌, ◌/◌, ◌%◌, ◌<◌, ◌≤◌, ◌==◌, true, false, if◌then◌else◌, List, [], length, map, set, refl, arith}
-use Rattle.std.specs.List.{range_with_len}
+use Rattle.std.proofs.Common.{◌≡◌, ◌≢◌, ◌⊎◌, inl, inr, ◌∙◌, sym, ap, ℕ, ◌+◌, ◌*◌, ◌/◌, ◌%◌, ◌<◌, ◌≤◌, ◌==◌, if◌then◌else◌, List, [], length, set, refl, arith}
 use Rattle.std.proofs.lemmas.Bool.Decides.{eqb_tells}
-use Rattle.std.proofs.lemmas.List.{ext_get_or, get_or-set_same, get_or-set_other, length-set}
-use Rattle.std.proofs.lemmas.List.FromFn.{length-map-range_with_len, get_or-map-range_with_len}
+use Rattle.std.proofs.lemmas.List.{get_or-set_same, get_or-set_other, length-set}
 use Rattle.dvd_block.specs.Recording.{record_at, row_at}
 use Rattle.dvd_capture.proofs.Fetching.{record_at-row_at, row_at-lt, row_at-record_at}
+use Rattle.dvd_capture.proofs.Mapped.{mapped}
 use Rattle.dvd_merge.specs.Join.{Table, join_rows, row_of}
 use Rattle.dvd_merge.specs.declared.place.Place.{Place}
+use Rattle.dvd_merge.proofs.Places.{Tells}
 use Rattle.dvd_assemble.specs.Assembled.{frame_row, with_frame}
 use Rattle.dvd_assemble.specs.Frames.{Frame}
 
@@ -20,10 +20,6 @@ pub record IsPartlyJoined (f : ℕ) (frame : Frame) (old now : Table) (q : ℕ) 
 -- before the first row the block is as it was
 pub none_joined : (f : ℕ) (frame : Frame) (old : Table) → length old ≡ 208 → IsPartlyJoined f frame old old 0
 none_joined f frame old size = record { size = size; taken = λ i below here few. absurd (omega arith); rest = λ i below other. refl }
-
--- whether two numbers are equal, and what the test of them says
-abbrev Tells : ℕ → ℕ → Type 0
-Tells a b = ((((a == b) ≡ true) × (a ≡ b)) ⊎ (((a == b) ≡ false) × (a ≢ b)))
 
 -- one row more
 pub row_joined : (f q : ℕ) (frame : Frame) (old before now : Table) → f < 16 → q < 13 → IsPartlyJoined f frame old before q
@@ -89,9 +85,7 @@ row_joined f q frame old before now frames rows part is = record {
 pub all_joined : (f : ℕ) (frame : Frame) (old now : Table) → IsPartlyJoined f frame old now 13 → now ≡ with_frame f frame old
 unfolding with_frame
 all_joined f frame old now part =
-    ext_get_or [] now (map at (range_with_len 0 208)) (part.size ∙ sym (length-map-range_with_len at 0 208))
-    (λ i within. let below : i < 208 = omega (arith, part.size, within) in
-    by_frame i below (eqb_tells (record_at i / 13) f) ∙ sym (get_or-map-range_with_len at 0 208 i i [] below (omega arith)))
+    mapped at now 208 [] part.size (λ i below. by_frame i below (eqb_tells (record_at i / 13) f))
   where
     at : ℕ → List Place
     at i = if record_at i / 13 == f then join_rows (row_of old i) (frame_row frame (record_at i % 13)) else row_of old i

@@ -1,13 +1,13 @@
 -- A recording frame in its bytes, row by row.
-use Rattle.std.proofs.Common.{◌≡◌, ◌≢◌, ◌⊎◌, inl, inr, ◌∙◌, sym, ℕ, ◌+◌, ◌<◌, ◌==◌, true, false, Bool, List, [], length, map, take, get_or, set, refl, arith}
-use Rattle.std.specs.List.{range_with_len}
+use Rattle.std.proofs.Common.{◌≡◌, inl, inr, ◌∙◌, ℕ, ◌+◌, ◌<◌, Bool, List, [], length, take, get_or, set, refl, arith}
 use Rattle.std.proofs.lemmas.Bool.Decides.{eqb_tells}
-use Rattle.std.proofs.lemmas.List.{ext_get_or, get_or-set_same, get_or-set_other, length-set}
-use Rattle.std.proofs.lemmas.List.FromFn.{length-map-range_with_len, get_or-map-range_with_len}
+use Rattle.std.proofs.lemmas.List.{get_or-set_same, get_or-set_other, length-set}
 use Rattle.dvd_block.specs.Product.{line}
 use Rattle.dvd_capture.specs.Answers.{marks_line}
 use Rattle.dvd_capture.specs.Captured.{marks_in, record_of}
 use Rattle.dvd_capture.specs.declared.form.Form.{Form}
+use Rattle.dvd_capture.proofs.Mapped.{mapped}
+use Rattle.dvd_merge.proofs.Places.{Tells}
 use Rattle.dvd_assemble.specs.Frames.{frame_in}
 
 -- the first q rows of a frame are set to those in these bytes
@@ -16,10 +16,6 @@ pub record IsPartlyPut (form : Form) (bytes : List ℕ) (rows : List (List ℕ))
   pub marks_size : length marks ≡ 13
   pub rows_set : (k : ℕ) → k < q → line rows k ≡ take 182 (record_of form bytes k)
   pub marks_set : (k : ℕ) → k < q → marks_line marks k ≡ marks_in form (record_of form bytes k)
-
--- whether two numbers are equal, and what the test of them says
-abbrev Tells : ℕ → ℕ → Type 0
-Tells a b = ((((a == b) ≡ true) × (a ≡ b)) ⊎ (((a == b) ≡ false) × (a ≢ b)))
 
 -- an element more of a list that is set from the front
 set_more : {A : Type 0} (xs : List A) (q k : ℕ) (d x : A) (is : ℕ → A) → q < length xs → ((k : ℕ) → k < q → get_or xs k d ≡ is k) → x ≡ is q
@@ -41,19 +37,12 @@ row_put form bytes row bits rows marks q below part row_is bits_are = record {
   marks_set = λ k less. set_more marks q k [] bits (λ n. marks_in form (record_of form bytes n)) (omega (arith, part.marks_size)) part.marks_set bits_are less;
 }
 
--- a list of thirteen elements, each of which is known by its place
-mapped : {A : Type 0} (xs : List A) (d : A) (is : ℕ → A) → length xs ≡ 13 → ((k : ℕ) → k < 13 → get_or xs k d ≡ is k) → xs ≡ map is (range_with_len 0 13)
-mapped xs d is size each =
-    ext_get_or d xs (map is (range_with_len 0 13)) (size ∙ sym (length-map-range_with_len is 0 13))
-    (λ k within. let below : k < 13 = omega (arith, size, within) in
-    each k below ∙ sym (get_or-map-range_with_len is 0 13 k k d below (omega arith)))
-
 -- with thirteen rows put it is the frame in these bytes
 pub all_put : (form : Form) (bytes : List ℕ) (rows : List (List ℕ)) (marks : List (List Bool)) → IsPartlyPut form bytes rows marks 13
     → record { rows = rows; marks = marks } ≡ frame_in form bytes
 unfolding frame_in
 all_put form bytes rows marks part =
     rw (
-      mapped rows [] (λ k. take 182 (record_of form bytes k)) part.rows_size part.rows_set,
-      mapped marks [] (λ k. marks_in form (record_of form bytes k)) part.marks_size part.marks_set,
+      mapped (λ k. take 182 (record_of form bytes k)) rows 13 [] part.rows_size part.rows_set,
+      mapped (λ k. marks_in form (record_of form bytes k)) marks 13 [] part.marks_size part.marks_set,
     ) refl

@@ -1,5 +1,5 @@
 -- Tables of one shape: what isn't seen changes nothing, and a frame's table is joined by its rows.
-use Rattle.std.proofs.Common.{◌≡◌, ◌≢◌, ◌⊎◌, inl, inr, ◌∙◌, refl, sym, ap, ℕ, zero, suc, ◌/◌, ◌%◌, ◌<◌, ◌≤◌, ◌==◌, true, false, if◌then◌else◌, List, [], ◌∷◌, ◌++◌, length, map, get_or, replicate, arith}
+use Rattle.std.proofs.Common.{◌≡◌, inl, inr, ◌∙◌, refl, sym, ap, ℕ, zero, suc, ◌/◌, ◌%◌, ◌<◌, ◌≤◌, ◌==◌, if◌then◌else◌, List, [], ◌∷◌, ◌++◌, length, map, get_or, replicate, arith}
 use Rattle.std.specs.List.{fold, range_with_len}
 use Rattle.std.specs.Simd.Lanes.{zip2}
 use Rattle.std.proofs.lemmas.Bool.Decides.{eqb_tells}
@@ -8,10 +8,11 @@ use Rattle.std.proofs.lemmas.List.Sums.{fold-append}
 use Rattle.std.proofs.lemmas.List.FromFn.{length-map-range_with_len, get_or-map-range_with_len}
 use Rattle.std.proofs.lemmas.Simd.{length-zip2}
 use Rattle.dvd_block.specs.Recording.{record_at}
+use Rattle.dvd_capture.proofs.Mapped.{mapped}
 use Rattle.dvd_merge.specs.Join.{Table, join, join_rows, join_tables, joined, row_of, unseen}
 use Rattle.dvd_merge.specs.declared.place.Place.{Place}
 use Rattle.dvd_merge.specs.declared.place.Place.TheVariants.{Unseen}
-use Rattle.dvd_merge.proofs.Places.{join-unseen, row-join}
+use Rattle.dvd_merge.proofs.Places.{Tells, join-unseen, row-join}
 use Rattle.dvd_assemble.specs.Assembled.{frame_row, frame_table, with_frame}
 use Rattle.dvd_assemble.specs.Frames.{Frame}
 
@@ -105,20 +106,15 @@ unfolding frame_table
 length-frame_table f frame =
     length-map-range_with_len (λ i. if record_at i / 13 == f then frame_row frame (record_at i % 13) else replicate 182 Unseen) 0 208
 
--- whether two numbers are equal, and what the test of them says
-abbrev Tells : ℕ → ℕ → Type 0
-Tells a b = ((((a == b) ≡ true) × (a ≡ b)) ⊎ (((a == b) ≡ false) × (a ≢ b)))
-
 -- a frame that is joined by its rows is joined by its table
 pub by_table : (f : ℕ) (frame : Frame) (table : Table) → IsShaped table → with_frame f frame table ≡ join_tables table (frame_table f frame)
 unfolding with_frame frame_table join_tables
 by_table f frame table shaped =
-    ext_get_or [] (map rows (range_with_len 0 208)) (zip2 join_rows table (map tells (range_with_len 0 208))) heights
-    (λ i within. let below : i < 208 = omega (arith, within, length-map-range_with_len rows 0 208) in
-    get_or-map-range_with_len rows 0 208 i i [] below (omega arith)
-    ∙ by_frame i (eqb_tells (record_at i / 13) f)
-    ∙ ap (join_rows (row_of table i)) (sym (get_or-map-range_with_len tells 0 208 i i [] below (omega arith)))
-    ∙ sym (row-join table (map tells (range_with_len 0 208)) i))
+    sym (mapped rows (zip2 join_rows table (map tells (range_with_len 0 208))) 208 [] height
+    (λ i below.
+    row-join table (map tells (range_with_len 0 208)) i
+    ∙ ap (join_rows (row_of table i)) (get_or-map-range_with_len tells 0 208 i i [] below (omega arith))
+    ∙ sym (by_frame i (eqb_tells (record_at i / 13) f))))
   where
     rows : ℕ → List Place
     rows i = if record_at i / 13 == f then join_rows (row_of table i) (frame_row frame (record_at i % 13)) else row_of table i
@@ -126,10 +122,8 @@ by_table f frame table shaped =
     tells : ℕ → List Place
     tells i = if record_at i / 13 == f then frame_row frame (record_at i % 13) else replicate 182 Unseen
 
-    heights : length (map rows (range_with_len 0 208)) ≡ length (zip2 join_rows table (map tells (range_with_len 0 208)))
-    heights =
-        length-map-range_with_len rows 0 208 ∙ sym shaped.height
-        ∙ sym (length-zip2 join_rows table (map tells (range_with_len 0 208)) (shaped.height ∙ sym (length-map-range_with_len tells 0 208)))
+    height : length (zip2 join_rows table (map tells (range_with_len 0 208))) ≡ 208
+    height = length-zip2 join_rows table (map tells (range_with_len 0 208)) (shaped.height ∙ sym (length-map-range_with_len tells 0 208)) ∙ shaped.height
 
     by_frame : (i : ℕ) → Tells (record_at i / 13) f → rows i ≡ join_rows (row_of table i) (tells i)
     by_frame i (inl here) = rw here.0 refl

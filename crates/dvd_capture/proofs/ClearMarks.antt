@@ -2,10 +2,10 @@
 use Rattle.std.proofs.Common.{◌≡◌, ◌≢◌, ◌⊎◌, ◌∙◌, ℕ, ◌+◌, ◌*◌, ◌-◌, ◌/◌, ◌%◌, ◌<◌, ◌≤◌, ◌==◌, true, false, List, length, replicate, take, get_or, inl, inr, sym, ap, subst, arith}
 use Rattle.std.specs.Int.{bit_at}
 use Rattle.std.proofs.lemmas.Grind.{same_number_lists}
-use Rattle.std.proofs.lemmas.List.{ext_get_or, get_or-replicate, get_or-take, length-replicate, length-take}
+use Rattle.std.proofs.lemmas.List.{get_or-replicate, get_or-take, length-replicate, length-take}
 use Rattle.std.proofs.lemmas.Nat.Bits.{bit_at-zero, bit_at_above}
 use Rattle.dvd_capture.specs.MarkBits.{mark_at, marks_of}
-use Rattle.dvd_capture.proofs.MarkLists.{length-marks_of, mark-marks_of}
+use Rattle.dvd_capture.proofs.MarkLists.{all_marks, mark-marks_of}
 
 -- a bit that is no 1
 no_one : (n : ℕ) → (n == 1) ≡ false → n ≢ 1
@@ -25,9 +25,7 @@ module _ (row : List ℕ) (size : length row ≡ 23) where
   -- no place is marked where the bytes are so
   pub clear_marks : take 22 row ≡ replicate 22 0 → get_or row 22 0 < 4 → marks_of row ≡ replicate 182 false
   clear_marks zeros spare =
-      ext_get_or false (marks_of row) (replicate 182 false) (length-marks_of row ∙ sym (length-replicate 182 false)) (λ j within.
-      let inside : j < 182 = subst (λ n. j < n) (length-marks_of row) within in
-      mark-marks_of row j inside ∙ none j inside ∙ sym (get_or-replicate 182 j false false inside)) where
+      sym (all_marks row (replicate 182 false) (length-replicate 182 false) (λ j inside. get_or-replicate 182 j false false inside ∙ sym (none j inside))) where
         bit_zero : (j : ℕ) → j < 182 → bit_at (get_or row (j / 8) 0) (7 - j % 8) ≡ 0
         bit_zero j inside = by_byte (dec j) where
           dec : (j : ℕ) → (j / 8 < 22) ⊎ (22 ≤ j / 8)

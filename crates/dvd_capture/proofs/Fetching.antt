@@ -2,8 +2,7 @@
 use Rattle.std.proofs.Common.{◌≡◌, ◌≢◌, ◌⊎◌, ◌∙◌, ℕ, ◌+◌, ◌-◌, ◌*◌, ◌<◌, ◌≤◌, ◌==◌, Bool, true, false, List, [], ◌++◌, length, set, take, drop, inl, inr, refl, sym, ap, subst, arith, Option, length-drop}
 use Rattle.std.proofs.lemmas.Bool.Decides.{eqb_tells, nat_tests}
 use Rattle.std.proofs.Math.Seq.{drop-append_seam}
-use Rattle.std.proofs.lemmas.List.{take_all, take-append-le, length-take-le, drop-append-le, ext_get_or, get_or-set_same, get_or-set_other}
-use Rattle.std.proofs.lemmas.List.FromFn.{length-map-range_with_len, get_or-map-range_with_len}
+use Rattle.std.proofs.lemmas.List.{take_all, take-append-le, length-take-le, drop-append-le, get_or-set_same, get_or-set_other}
 use Rattle.std.specs.Io.KnownBytes.{Consumes}
 use Rattle.dvd_block.specs.Product.{line}
 use Rattle.dvd_block.specs.Recording.{record_at, row_at}
@@ -12,6 +11,7 @@ use Rattle.dvd_capture.specs.Captured.{Captures, HasSize, IsLawful, block_size, 
 use Rattle.dvd_capture.specs.Inner.Putting.{ArePut}
 use Rattle.dvd_capture.specs.declared.form.Form.{Form}
 use Rattle.dvd_capture.specs.declared.form.Form.TheVariants.{Plain, Marked, Listed}
+use Rattle.dvd_capture.proofs.Mapped.{mapped}
 
 -- the order of recording there and back
 pub row_at-record_at : (i : ℕ) → i < 208 → row_at (record_at i) ≡ i
@@ -117,19 +117,12 @@ all_fetched form sized old now rows marks count bytes height marks_height size a
   lawful = sized-lawful form sized bytes;
   taken = subst (Consumes old now) (take_all count bytes (omega (arith, size))) consumed;
   rows_are =
-      ext_get_or [] rows (captured_rows form bytes) (height ∙ sym (length-map-range_with_len row 0 208))
-      (λ i within. let below : i < 208 = subst (λ n. i < n) height within in
-      put.rows_set i below (record_at-lt i below) ∙ sym (get_or-map-range_with_len row 0 208 i i [] below (omega arith)));
+      mapped (λ i. take 182 (record_of form bytes (record_at i))) rows 208 [] height
+      (λ i below. put.rows_set i below (record_at-lt i below));
   marks_are =
-      ext_get_or [] marks (captured_marks form bytes) (marks_height ∙ sym (length-map-range_with_len row_marks 0 208))
-      (λ i within. let below : i < 208 = subst (λ n. i < n) marks_height within in
-      put.marks_set i below (record_at-lt i below) ∙ sym (sized-marks form sized bytes (record_at i)) ∙ sym (get_or-map-range_with_len row_marks 0 208 i i [] below (omega arith)));
-} where
-  row : ℕ → List ℕ
-  row i = take 182 (record_of form bytes (record_at i))
-
-  row_marks : ℕ → List Bool
-  row_marks i = record_marks form bytes (record_at i)
+      mapped (λ i. record_marks form bytes (record_at i)) marks 208 [] marks_height
+      (λ i below. put.marks_set i below (record_at-lt i below) ∙ sym (sized-marks form sized bytes (record_at i)));
+}
 
 -- recorded row k, by the number of its bytes
 pub record_cut : (form : Form) (bytes : List ℕ) (size k : ℕ) → size ≡ record_size form

@@ -1,21 +1,17 @@
 -- The bytes of a header.
-use Rattle.std.proofs.Common.{◌≡◌, ◌∙◌, ℕ, zero, suc, ◌<◌, ◌^◌, ◌==◌, true, List, [], ◌∷◌, ◌++◌, length, map, take, drop, get_or, slice_index, nat_lt, refl, sym, ap, subst, arith}
+use Rattle.std.proofs.Common.{◌≡◌, ◌∙◌, ℕ, zero, suc, ◌<◌, ◌^◌, ◌==◌, true, List, [], ◌∷◌, ◌++◌, length, map, take, drop, get_or, slice_index, nat_lt, refl, sym, ap, arith}
 use Rattle.std.specs.Int.{from_be_bytes, to_be_bytes, w32}
 use Rattle.std.specs.List.{range_with_len}
 use Rattle.std.proofs.lemmas.Bool.Decides.{nat_tests}
-use Rattle.std.proofs.lemmas.Grind.{same_number_lists}
-use Rattle.std.proofs.lemmas.List.FromFn.{length-map-range_with_len, get_or-map-range_with_len}
 use Rattle.std.proofs.lemmas.Nat.{be_bytes_4, from_be_bytes-to_be_bytes_4}
 use Rattle.dvd_capture.specs.Header.{header_bytes, initial_bytes, may_stand}
 use Rattle.dvd_capture.specs.Laws.{HeadersDiffer}
 use Rattle.dvd_capture.specs.declared.header.Header.{Header}
+use Rattle.dvd_capture.proofs.Mapped.{mapped}
 
 -- 32 bytes one by one
 pub each_byte : (bytes : List ℕ) → length bytes ≡ 32 → map (slice_index bytes) (range_with_len 0 32) ≡ bytes
-each_byte bytes size =
-    same_number_lists (map (slice_index bytes) (range_with_len 0 32)) bytes (length-map-range_with_len (slice_index bytes) 0 32 ∙ sym size)
-    (λ k below. let inside : k < 32 = subst (λ n. k < n) (length-map-range_with_len (slice_index bytes) 0 32) below in
-    get_or-map-range_with_len (slice_index bytes) 0 32 k k 0 inside (omega arith))
+each_byte bytes size = sym (mapped (slice_index bytes) bytes 32 0 size (λ k below. refl))
 
 -- each of four bytes is below 256
 four_small : (a b c d i : ℕ) → a < 256 → b < 256 → c < 256 → d < 256 → get_or (a ∷ b ∷ c ∷ d ∷ []) i 0 < 256

@@ -1,6 +1,7 @@
 pub mod Bound
 pub mod ClearMarks
 pub mod Columns
+pub mod Mapped
 pub mod MarkLists
 pub mod WorkParts
 pub mod Fetching

@@ -1,7 +1,7 @@
 -- A listed unit by the bytes of its rows and by its runs.
 use Rattle.std.proofs.Common.{◌≡◌, ◌∙◌, ℕ, ◌+◌, ◌*◌, ◌/◌, ◌%◌, ◌<◌, Bool, false, List, [], ◌++◌, length, map, take, get_or, replicate, Option, refl, sym, ap, subst, arith, length-append}
 use Rattle.std.specs.List.{range_with_len}
-use Rattle.std.proofs.lemmas.List.{ext_get_or, get_or-replicate}
+use Rattle.std.proofs.lemmas.List.{get_or-replicate}
 use Rattle.std.proofs.lemmas.List.FromFn.{length-map-range_with_len, get_or-map-range_with_len}
 use Rattle.dvd_ports.proofs.KnownLemmas.{Consumes-then}
 use Rattle.dvd_block.specs.Recording.{record_at, row_at}
@@ -14,16 +14,16 @@ use Rattle.dvd_capture.specs.declared.capture.FetchAnswer.TheVariants.{Full, End
 use Rattle.dvd_capture.specs.declared.form.Form.TheVariants.{Plain, Listed}
 use Rattle.dvd_capture.proofs.ListedFields.{early-unbroken}
 use Rattle.dvd_capture.proofs.Fetching.{part-append, record_at-lt, row_at-lt, row_at-record_at}
+use Rattle.dvd_capture.proofs.Mapped.{mapped}
 
 -- the rows stand in the first bytes
 pub rows-listed : (rows_bytes own : List ℕ) → length rows_bytes ≡ 37_856 → captured_rows Listed (rows_bytes ++ own) ≡ captured_rows Plain rows_bytes
 unfolding captured_rows
 rows-listed rows_bytes own size =
-    ext_get_or [] (map listed (range_with_len 0 208)) (map plain (range_with_len 0 208)) (length-map-range_with_len listed 0 208 ∙ sym (length-map-range_with_len plain 0 208))
-    (λ i within. let below : i < 208 = subst (λ n. i < n) (length-map-range_with_len listed 0 208) within in
+    mapped plain (map listed (range_with_len 0 208)) 208 [] (length-map-range_with_len listed 0 208)
+    (λ i below.
     get_or-map-range_with_len listed 0 208 i i [] below (omega arith)
-    ∙ ap (take 182) (part-append rows_bytes own (182 * record_at i) 182 (let m = record_at-lt i below in omega (arith, m, size)))
-    ∙ sym (get_or-map-range_with_len plain 0 208 i i [] below (omega arith)))
+    ∙ ap (take 182) (part-append rows_bytes own (182 * record_at i) 182 (let m = record_at-lt i below in omega (arith, m, size))))
   where
     listed : ℕ → List ℕ
     listed i = take 182 (record_of Listed (rows_bytes ++ own) (record_at i))
@@ -35,10 +35,7 @@ rows-listed rows_bytes own size =
 pub marks-listed : (marks : List (List Bool)) (bytes : List ℕ) (count : ℕ) → length marks ≡ 208 → ((i : ℕ) → i < 208 → length (marks_line marks i) ≡ 182)
     → run_count bytes ≡ count → ((place : ℕ) → place < 37_856 → mark_of marks place ≡ marked_by bytes count place) → marks ≡ captured_marks Listed bytes
 unfolding captured_marks
-marks-listed marks bytes count height width number same =
-    ext_get_or [] marks (map row (range_with_len 0 208)) (height ∙ sym (length-map-range_with_len row 0 208))
-    (λ i within. let below : i < 208 = subst (λ n. i < n) height within in
-    each_row i below ∙ sym (get_or-map-range_with_len row 0 208 i i [] below (omega arith)))
+marks-listed marks bytes count height width number same = mapped row marks 208 [] height each_row
   where
     mark_at : ℕ → ℕ → Bool
     mark_at m j = marked_by bytes (run_count bytes) (182 * m + j)
@@ -58,10 +55,7 @@ marks-listed marks bytes count height width number same =
         ∙ ap (λ n. marked_by bytes n (182 * record_at i + j)) (sym number)
 
     each_row : (i : ℕ) → i < 208 → get_or marks i [] ≡ row i
-    each_row i below =
-        ext_get_or false (get_or marks i []) (row i) (width i below ∙ sym (length-map-range_with_len (mark_at (record_at i)) 0 182))
-        (λ j within. let inside : j < 182 = subst (λ n. j < n) (width i below) within in
-        at i j below inside ∙ sym (get_or-map-range_with_len (mark_at (record_at i)) 0 182 j j false inside (omega arith)))
+    each_row i below = mapped (mark_at (record_at i)) (get_or marks i []) 182 false (width i below) (λ j. at i j below)
 
 -- a plain block has no marks
 pub rows-unmarked : (old new : Option (List ℕ)) (rows : List (List ℕ)) (marks : List (List Bool)) (c : Captures Plain old new rows marks) → AreRows c.bytes (mark_of marks)

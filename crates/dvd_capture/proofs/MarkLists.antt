@@ -2,11 +2,12 @@
 use Rattle.std.proofs.Common.{◌≡◌, ◌≢◌, ◌⊎◌, ◌∙◌, ℕ, ◌-◌, ◌/◌, ◌%◌, ◌<◌, ◌==◌, Bool, true, false, List, [], length, map, set, replicate, slice_index, get_or, inl, inr, refl, sym, ap, subst, arith}
 use Rattle.std.specs.Int.{bit_at}
 use Rattle.std.proofs.lemmas.Bool.Decides.{eqb_tells}
-use Rattle.std.proofs.lemmas.List.{ext_get_or, get_or-map, get_or-set_same, get_or-set_other, length-set}
+use Rattle.std.proofs.lemmas.List.{get_or-map, get_or-set_same, get_or-set_other, length-set}
 use Rattle.std.proofs.lemmas.List.FromFn.{length-map-range_with_len, get_or-map-range_with_len}
 use Rattle.dvd_block.specs.Product.{line}
 use Rattle.dvd_capture.specs.Answers.{marks_line}
 use Rattle.dvd_capture.specs.MarkBits.{mark_at, marks_of}
+use Rattle.dvd_capture.proofs.Mapped.{mapped}
 
 -- a row of marks has 182, one for each byte of a row
 pub length-marks_of : (bytes : List ℕ) → length (marks_of bytes) ≡ 182
@@ -17,6 +18,11 @@ length-marks_of bytes = length-map-range_with_len (mark_at bytes) 0 182
 pub mark-marks_of : (bytes : List ℕ) (j : ℕ) → j < 182 → get_or (marks_of bytes) j false ≡ mark_at bytes j
 unfolding marks_of
 mark-marks_of bytes j below = get_or-map-range_with_len (mark_at bytes) 0 182 j j false below (omega arith)
+
+-- and marks that are known place by place are such a row
+pub all_marks : (bytes : List ℕ) (marks : List Bool) → length marks ≡ 182 → ((j : ℕ) → j < 182 → get_or marks j false ≡ mark_at bytes j) → marks ≡ marks_of bytes
+unfolding marks_of
+all_marks bytes marks size each = mapped (mark_at bytes) marks 182 false size each
 
 -- no bit is no mark
 pub zero_marks : marks_of (replicate 23 0) ≡ replicate 182 false
@@ -32,10 +38,8 @@ pub set-marks : (bytes : List ℕ) (j byte : ℕ) (mark : Bool) → length bytes
     → ((k : ℕ) → k < 8 → k ≢ 7 - j % 8 → bit_at byte k ≡ bit_at (slice_index bytes (j / 8)) k)
     → marks_of (set bytes (j / 8) byte) ≡ set (marks_of bytes) j mark
 set-marks bytes j byte mark size below same others =
-    ext_get_or false (marks_of (set bytes (j / 8) byte)) (set (marks_of bytes) j mark)
-    (length-marks_of (set bytes (j / 8) byte) ∙ sym (length-set (marks_of bytes) j mark ∙ length-marks_of bytes))
-    (λ k within. let inside : k < 182 = subst (λ n. k < n) (length-marks_of (set bytes (j / 8) byte)) within in
-    mark-marks_of (set bytes (j / 8) byte) k inside ∙ at_place k inside (eqb_tells k j)) where
+    sym (all_marks (set bytes (j / 8) byte) (set (marks_of bytes) j mark) (length-set (marks_of bytes) j mark ∙ length-marks_of bytes)
+    (λ k inside. sym (at_place k inside (eqb_tells k j)))) where
       in_byte : j / 8 < length bytes
       in_byte = omega (arith, size)
 

@@ -1,7 +1,6 @@
 -- The recording of a block has its rows at their recorded rows.
-use Rattle.std.proofs.Common.{◌≡◌, ◌∙◌, ℕ, zero, suc, ◌+◌, ◌-◌, ◌*◌, ◌<◌, ◌≤◌, List, [], ◌++◌, length, take, drop, All, sym, ap, subst, arith, length-append}
-use Rattle.std.proofs.lemmas.List.{take_all, ext_get_or}
-use Rattle.std.proofs.lemmas.List.FromFn.{length-map-range_with_len, get_or-map-range_with_len}
+use Rattle.std.proofs.Common.{◌≡◌, ◌∙◌, ℕ, zero, suc, ◌+◌, ◌-◌, ◌*◌, ◌<◌, ◌≤◌, List, [], ◌++◌, length, take, drop, All, sym, ap, arith, length-append}
+use Rattle.std.proofs.lemmas.List.{take_all}
 use Rattle.dvd_block.specs.Product.{line}
 use Rattle.dvd_block.specs.Recording.{record_at, recorded, recording, row_at}
 use Rattle.dvd_block.proofs.Recorded.{recorded-add, recorded-more, recorded-none}
@@ -9,6 +8,7 @@ use Rattle.dvd_capture.specs.Captured.{captured_rows, record_of, record_size}
 use Rattle.dvd_capture.specs.declared.form.Form.{Form}
 use Rattle.dvd_capture.specs.declared.form.Form.TheVariants.{Plain}
 use Rattle.dvd_capture.proofs.Fetching.{part-append, part-behind, record_at-lt, row_at-lt, row_at-record_at}
+use Rattle.dvd_capture.proofs.Mapped.{mapped}
 
 -- Rows of one width, that of the recorded rows of a form.
 module _ (form : Form) (rows : List (List ℕ)) (width : (i : ℕ) → i < 208 → length (line rows i) ≡ record_size form) where
@@ -57,11 +57,11 @@ module _ (block : List (List ℕ)) (height : length block ≡ 208) (widths : All
   pub recording_captured : captured_rows Plain (recording block) ≡ block
   unfolding captured_rows
   recording_captured =
-      ext_get_or [] (captured_rows Plain (recording block)) block (length-map-range_with_len row 0 208 ∙ sym height)
-      (λ i within. let below : i < 208 = subst (λ n. i < n) (length-map-range_with_len row 0 208) within in
-      get_or-map-range_with_len row 0 208 i i [] below (omega arith)
-      ∙ ap (take 182) (record_row Plain block width (record_at i) (record_at-lt i below) ∙ ap (line block) (row_at-record_at i below))
-      ∙ take_all 182 (line block i) (omega (arith, width i below)))
+      sym (mapped row block 208 [] height
+      (λ i below. sym (
+      ap (take 182) (record_row Plain block width (record_at i) (record_at-lt i below) ∙ ap (line block) (row_at-record_at i below))
+      ∙ take_all 182 (line block i) (omega (arith, width i below))
+      )))
     where
       row : ℕ → List ℕ
       row i = take 182 (record_of Plain (recording block) (record_at i))

@@ -1,10 +1,8 @@
 -- Rows in the marked form.
 use Rattle.std.proofs.Common.{◌≡◌, ℕ, ◌+◌, ◌*◌, ◌<◌, ◌≤◌, Bool, false, if◌then◌else◌, List, [], ◌∷◌, ◌++◌, length, map, take, drop, get_or, set, refl, sym, ◌∙◌, ap, arith}
-use Rattle.std.specs.List.{range_with_len}
 use Rattle.std.specs.Simd.Lanes.{zip2}
 use Rattle.std.proofs.lemmas.List.Sums.{fold_more}
 use Rattle.std.proofs.lemmas.List.{ext_get_or, map-append, take-append-drop, take_all, take_more, take_more_set}
-use Rattle.std.proofs.lemmas.List.FromFn.{length-map-range_with_len, get_or-map-range_with_len}
 use Rattle.std.proofs.lemmas.Simd.{get_or-zip2, length-zip2}
 use Rattle.dvd_block.specs.Product.{line}
 use Rattle.dvd_capture.specs.Answers.{marks_line}
@@ -44,17 +42,6 @@ cells_all f places cells old j n least most size front behind =
     sym (take-append-drop n cells)
     ∙ ap (λ l. l ++ drop n cells) (ap (λ k. take k cells) (sym last) ∙ front ∙ ap (map f) (take_all j places (omega (arith, size, last))))
     ∙ ap (λ l. map f places ++ l) behind
-
--- all bytes of mark bits
-pub packed_all : (marks : List Bool) (bytes : List ℕ) → length bytes ≡ 23
-    → ((q : ℕ) → q < 23 → get_or bytes q 0 ≡ number_of_marks (take 8 (drop (8 * q) marks)))
-    → bytes ≡ map (λ k. number_of_marks (take 8 (drop (8 * k) marks))) (range_with_len 0 23)
-packed_all marks bytes size each =
-    ext_get_or 0 bytes (map at (range_with_len 0 23)) (size ∙ sym (length-map-range_with_len at 0 23))
-    (λ q within. let below : q < 23 = omega (arith, size, within) in
-    each q below ∙ sym (get_or-map-range_with_len at 0 23 q q 0 below (omega arith))) where
-      at : ℕ → ℕ
-      at k = number_of_marks (take 8 (drop (8 * k) marks))
 
 -- a list that is joined at each place is the join
 pub zipped_all : {A B C : Type 0} (f : A → B → C) (xs : List A) (ys : List B) (zs : List C) (n : ℕ) (a : A) (b : B) (c : C)

@@ -1,10 +1,9 @@
 -- A marked text is read back as the rows and the marks of its table.
 use Rattle.std.proofs.Common.{◌≡◌, ◌∙◌, ℕ, zero, suc, ◌+◌, ◌-◌, ◌*◌, ◌/◌, ◌%◌, ◌<◌, ◌≤◌, ◌==◌, Bool, true, false, if◌then◌else◌, List, [], ◌∷◌, ◌++◌, length, map, take, drop, get_or, All, inl, inr, refl, sym, ap, subst, arith, length-append}
 use Rattle.std.specs.Int.{bit_at}
-use Rattle.std.specs.List.{range_with_len}
 use Rattle.std.proofs.lemmas.Bool.{cases_lt}
 use Rattle.std.proofs.Math.Seq.{drop-append_seam}
-use Rattle.std.proofs.lemmas.List.{ext_get_or, get_or-drop, get_or-map, get_or-take, get_or_append_left, length-drop, length-map, length-take-le, take_all}
+use Rattle.std.proofs.lemmas.List.{get_or-drop, get_or-map, get_or-take, get_or_append_left, length-drop, length-map, length-take-le, take_all}
 use Rattle.std.proofs.lemmas.List.FromFn.{length-map-range_with_len, get_or-map-range_with_len}
 use Rattle.std.proofs.lemmas.Nat.Bits.{bit_at-suc, bit_at_lowest}
 use Rattle.dvd_block.specs.Product.{line}
@@ -13,7 +12,8 @@ use Rattle.dvd_capture.specs.Captured.{captured_marks, captured_rows, marks_in, 
 use Rattle.dvd_capture.specs.MarkBits.{mark_at, marks_of}
 use Rattle.dvd_capture.specs.declared.form.Form.TheVariants.{Marked}
 use Rattle.dvd_capture.proofs.Fetching.{part-append, record_at-lt, row_at-record_at}
-use Rattle.dvd_capture.proofs.MarkLists.{length-marks_of, mark-marks_of}
+use Rattle.dvd_capture.proofs.Mapped.{mapped}
+use Rattle.dvd_capture.proofs.MarkLists.{all_marks}
 use Rattle.dvd_capture.proofs.RecordedRows.{record_row}
 use Rattle.dvd_merge.specs.Join.{Table, byte_of, joined_marks, joined_rows, mark_of, row_of}
 use Rattle.dvd_merge.specs.MarkedText.{mark_byte, mark_bytes, marked_row, marked_text, number_of_marks}
@@ -103,10 +103,7 @@ mark-back marks j size below =
 
 -- the mark bytes of a row are read back as its 182 marks
 marks-back : (marks : List Bool) → length marks ≡ 182 → marks_of (mark_bytes marks) ≡ marks
-marks-back marks size =
-    ext_get_or false (marks_of (mark_bytes marks)) marks (length-marks_of (mark_bytes marks) ∙ sym size)
-    (λ j within. let below : j < 182 = subst (λ n. j < n) (length-marks_of (mark_bytes marks)) within in
-    mark-marks_of (mark_bytes marks) j below ∙ mark-back marks j size below)
+marks-back marks size = sym (all_marks (mark_bytes marks) marks size (λ j below. sym (mark-back marks j size below)))
 
 module _ (table : Table) (height : length table ≡ 208) (widths : All (λ row. length row ≡ 182) table) where
   -- each row of the table has 182 places
@@ -158,10 +155,8 @@ module _ (table : Table) (height : length table ≡ 208) (widths : All (λ row. 
   pub rows_read : captured_rows Marked (marked_text table) ≡ joined_rows table
   unfolding captured_rows joined_rows
   rows_read =
-      ext_get_or [] (map row (range_with_len 0 208)) (joined_rows table) (length-map-range_with_len row 0 208 ∙ sym joined_size)
-      (λ i within. let below : i < 208 = subst (λ n. i < n) (length-map-range_with_len row 0 208) within in
-      get_or-map-range_with_len row 0 208 i i [] below (omega arith)
-      ∙ ap (take 182) (record_is i below) ∙ front i below ∙ sym (bytes-row table i))
+      sym (mapped row (joined_rows table) 208 [] joined_size
+      (λ i below. bytes-row table i ∙ sym (ap (take 182) (record_is i below) ∙ front i below)))
     where
       row : ℕ → List ℕ
       row i = take 182 (record_of Marked (marked_text table) (record_at i))
@@ -173,10 +168,8 @@ module _ (table : Table) (height : length table ≡ 208) (widths : All (λ row. 
   pub marks_read : captured_marks Marked (marked_text table) ≡ joined_marks table
   unfolding captured_marks joined_marks
   marks_read =
-      ext_get_or [] (map row (range_with_len 0 208)) (joined_marks table) (length-map-range_with_len row 0 208 ∙ sym joined_size)
-      (λ i within. let below : i < 208 = subst (λ n. i < n) (length-map-range_with_len row 0 208) within in
-      get_or-map-range_with_len row 0 208 i i [] below (omega arith)
-      ∙ ap (marks_in Marked) (record_is i below) ∙ behind i below ∙ sym (marks-row table i))
+      sym (mapped row (joined_marks table) 208 [] joined_size
+      (λ i below. marks-row table i ∙ sym (ap (marks_in Marked) (record_is i below) ∙ behind i below)))
     where
       row : ℕ → List Bool
       row i = marks_in Marked (record_of Marked (marked_text table) (record_at i))
