@@ -56,12 +56,12 @@ module _ (block : List (List ℕ)) (height : length block ≡ 208) (widths : All
   -- so the rows captured from a block's recording are the block
   pub recording_captured : captured_rows Plain (recording block) ≡ block
   unfolding captured_rows
-  recording_captured =
-      sym (mapped row block 208 [] height
-      (λ i below. sym (
-      ap (take 182) (record_row Plain block width (record_at i) (record_at-lt i below) ∙ ap (line block) (row_at-record_at i below))
-      ∙ take_all 182 (line block i) (omega (arith, width i below))
-      )))
+  recording_captured = sym (mapped row block 208 [] height (λ i below. sym (row_is i below)))
     where
       row : ℕ → List ℕ
       row i = take 182 (record_of Plain (recording block) (record_at i))
+
+      row_is : (i : ℕ) → i < 208 → row i ≡ line block i
+      row_is i below =
+          ap (take 182) (record_row Plain block width (record_at i) (record_at-lt i below) ∙ ap (line block) (row_at-record_at i below))
+          ∙ take_all 182 (line block i) (omega (arith, width i below))
