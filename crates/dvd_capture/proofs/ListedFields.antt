@@ -108,21 +108,11 @@ module _ (bytes own : List ℕ) (count n end : ℕ) (mark : ℕ → Bool) (has :
   grown : length (bytes ++ own) ≡ 37_858 + 4 * n + length own
   grown = let s = has.size in omega (arith, length-append bytes own, s)
 
-  -- where the start of any run breaks a rule, it is run n, as the earlier ones break none
-  by_start : (i offset : ℕ) → length own ≤ 4 → offset + 2 ≤ length (bytes ++ own) → i < count → offset ≡ 37_858 + 4 * i → BreaksStart (bytes ++ own) i
-      → (((nat_le (suc i) n ≡ true) × (suc i ≤ n)) ⊎ ((nat_le (suc i) n ≡ false) × (n < suc i))) → IsNext offset
-  by_start i offset few stands inside is breaks (inl below) = absurd (start-fine i (omega (arith, below.1)) inside breaks)
-  by_start i offset few stands inside is breaks (inr above) =
-      let g = grown in let same : i ≡ n = omega (arith, above.1) in
-      inl (omega arith, omega arith, subst (λ j. BreaksStart (bytes ++ own) j) same breaks)
-
-  -- and so where the length of any run breaks a rule
-  by_length : (i offset : ℕ) → length own ≤ 4 → offset + 2 ≤ length (bytes ++ own) → i < count → offset ≡ 37_860 + 4 * i → BreaksLength (bytes ++ own) i
-      → (((nat_le (suc i) n ≡ true) × (suc i ≤ n)) ⊎ ((nat_le (suc i) n ≡ false) × (n < suc i))) → IsNext offset
-  by_length i offset few stands inside is breaks (inl below) = absurd (length-fine i (omega (arith, below.1)) inside breaks)
-  by_length i offset few stands inside is breaks (inr above) =
-      let g = grown in let same : i ≡ n = omega (arith, above.1) in
-      inr (omega arith, omega arith, subst (λ j. BreaksLength (bytes ++ own) j) same breaks)
+  -- where a field of any run breaks a rule, it is run n, as the earlier ones break none
+  run-is : (Breaks : ℕ → Type 0) → ((i : ℕ) → i < n → i < count → Breaks i → ⊥) → (i : ℕ) → length own ≤ 4 → 37_860 + 4 * i ≤ length (bytes ++ own) → i < count → Breaks i
+      → (((nat_le (suc i) n ≡ true) × (suc i ≤ n)) ⊎ ((nat_le (suc i) n ≡ false) × (n < suc i))) → i ≡ n
+  run-is Breaks fine i few stands inside breaks (inl below) = absurd (fine i (omega (arith, below.1)) inside breaks)
+  run-is Breaks fine i few stands inside breaks (inr above) = omega (arith, above.1, grown)
 
   -- at most four bytes behind n runs, a field that breaks a rule is the start of run n or its length
   pub next-bad : length own ≤ 4 → (offset : ℕ) → HasBadField (bytes ++ own) offset → IsNext offset
@@ -130,9 +120,13 @@ module _ (bytes own : List ℕ) (count n end : ℕ) (mark : ℕ → Bool) (has :
       let s = has.size in let same = same-count in
       absurd (has.unbroken offset (omega arith, inl (is, omega (arith, number, same, has.number))))
   next-bad few offset (stands, inr (i, below, inl (is, start))) =
-      let same = same-count in by_start i offset few stands (omega (arith, below, same)) is start (leb_tells (suc i) n)
+      let inside : i < count = omega (arith, below, same-count) in
+      let same = run-is (BreaksStart (bytes ++ own)) start-fine i few (omega (arith, stands, is)) inside start (leb_tells (suc i) n) in
+      inl (omega (arith, is, same), omega (arith, stands, is, same, grown), subst (BreaksStart (bytes ++ own)) same start)
   next-bad few offset (stands, inr (i, below, inr (is, long))) =
-      let same = same-count in by_length i offset few stands (omega (arith, below, same)) is long (leb_tells (suc i) n)
+      let inside : i < count = omega (arith, below, same-count) in
+      let same = run-is (BreaksLength (bytes ++ own)) length-fine i few (omega (arith, stands, is)) inside long (leb_tells (suc i) n) in
+      inr (omega (arith, is, same), omega (arith, stands, is, same, grown), subst (BreaksLength (bytes ++ own)) same long)
 
   -- what run n is, by its own bytes
   start-is : start_of (bytes ++ own) n ≡ field_at own 0
