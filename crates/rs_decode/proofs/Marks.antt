@@ -1,61 +1,20 @@
 -- The marked places of a word, as loops over the marks pass them.
-use Rattle.std.proofs.Common.{◌≡◌, ◌≢◌, ℕ, zero, suc, ◌+◌, ◌-◌, ◌<◌, ◌≤◌, Bool, true, false, ◌||◌, nat_lt, List, [], ◌∷◌, ◌++◌, length, take, drop, replicate, get_or, set, All, refl, sym, ap, ◌∙◌, arith, add-one, zero-add, if◌then◌else◌}
-use Rattle.std.proofs.lemmas.Bool.Decides.{nat_tests}
+use Rattle.std.proofs.Common.{◌≡◌, ◌≢◌, ℕ, zero, suc, ◌+◌, ◌-◌, ◌<◌, ◌≤◌, Bool, true, false, inl, inr, List, [], ◌∷◌, ◌++◌, length, take, replicate, get_or, set, All, refl, sym, ap, ◌∙◌, arith, add-one, zero-add}
+use Rattle.std.proofs.lemmas.Bool.{cases_eq}
+use Rattle.std.proofs.lemmas.List.{get_or-set_other}
 use Rattle.std.proofs.lemmas.List.Elements.{All-set}
+use Rattle.std.proofs.lemmas.Grind.{get_or-set_at}
+use Rattle.std.proofs.Math.Seq.{take-suc}
+use mir.Val.{bool_byte}
 use Rattle.gf_field.specs.Field.{alpha, plus, power}
 use Rattle.gf_field.specs.Words.{IsByte}
 use Rattle.gf_field.proofs.FieldLaws.{alpha-nonzero, plus-byte, power-alpha-differ, power-nonzero}
 use Rattle.rs_code.specs.Inner.PowerSums.{points_of}
 use Rattle.rs_code.proofs.PowerSums.{length-points_of}
 use Rattle.rs_decode.specs.Filling.{marked}
-use Rattle.rs_decode.specs.Inner.Places.{ArePointsBefore, picked, patched}
+use Rattle.rs_decode.specs.Inner.Places.{ArePlaces, picked, patched, place_of_mark}
 
 -- ---- the numbers at marked places
-
--- one more place that is marked adds its number to those picked
-picked-suc_marked : (marks : List Bool) (xs : List ℕ) (i : ℕ)
-    → i < length marks
-    → length xs ≡ length marks
-    → get_or marks i false ≡ true
-    → picked (take (suc i) marks) xs ≡ picked (take i marks) xs ++ get_or xs i 0 ∷ []
-unfolding picked
-picked-suc_marked [] xs i below size set = absurd (omega arith)
-picked-suc_marked (mark ∷ marks) [] i below size set = absurd (omega arith)
-picked-suc_marked (true ∷ marks) (x ∷ xs) zero below size set = refl
-picked-suc_marked (false ∷ marks) (x ∷ xs) zero below size set = absurd (cc)
-picked-suc_marked (true ∷ marks) (x ∷ xs) (suc i) below size set = ap (λ ys. x ∷ ys) (picked-suc_marked marks xs i (omega arith) (omega arith) set)
-picked-suc_marked (false ∷ marks) (x ∷ xs) (suc i) below size set = picked-suc_marked marks xs i (omega arith) (omega arith) set
-
--- one more place that isn't marked adds nothing to those picked
-picked-suc_clear : (marks : List Bool) (xs : List ℕ) (i : ℕ) → i < length marks → length xs ≡ length marks → get_or marks i false ≡ false → picked (take (suc i) marks) xs ≡ picked (take i marks) xs
-unfolding picked
-picked-suc_clear [] xs i below size clear = absurd (omega arith)
-picked-suc_clear (mark ∷ marks) [] i below size clear = absurd (omega arith)
-picked-suc_clear (true ∷ marks) (x ∷ xs) zero below size clear = absurd (cc)
-picked-suc_clear (false ∷ marks) (x ∷ xs) zero below size clear = refl
-picked-suc_clear (true ∷ marks) (x ∷ xs) (suc i) below size clear = ap (λ ys. x ∷ ys) (picked-suc_clear marks xs i (omega arith) (omega arith) clear)
-picked-suc_clear (false ∷ marks) (x ∷ xs) (suc i) below size clear = picked-suc_clear marks xs i (omega arith) (omega arith) clear
-
--- without marks nothing is picked
-pub picked-none : (xs : List ℕ) → picked [] xs ≡ []
-unfolding picked
-picked-none xs = refl
-
--- the step of a marked place, as a loop counts
-pub picked-next_marked : (marks : List Bool) (xs : List ℕ) (i : ℕ)
-    → i < length marks
-    → length xs ≡ length marks
-    → get_or marks i false ≡ true
-    → picked (take (i + 1) marks) xs ≡ picked (take i marks) xs ++ get_or xs i 0 ∷ []
-picked-next_marked marks xs i below size set = rw add-one (picked-suc_marked marks xs i below size set)
-
--- the step of an unmarked place, as a loop counts
-pub picked-next_clear : (marks : List Bool) (xs : List ℕ) (i : ℕ)
-    → i < length marks
-    → length xs ≡ length marks
-    → get_or marks i false ≡ false
-    → picked (take (i + 1) marks) xs ≡ picked (take i marks) xs
-picked-next_clear marks xs i below size clear = rw add-one (picked-suc_clear marks xs i below size clear)
 
 -- ---- how many they are
 
@@ -64,51 +23,25 @@ pub marked-none : marked [] ≡ 0
 unfolding marked
 marked-none = refl
 
--- one more place that is marked is counted
-marked-suc_marked : (marks : List Bool) (i : ℕ) → i < length marks → get_or marks i false ≡ true → marked (take (suc i) marks) ≡ suc (marked (take i marks))
+-- one more place is counted where it is marked
+marked-suc : (marks : List Bool) (i : ℕ) → i < length marks → marked (take (suc i) marks) ≡ marked (take i marks) + bool_byte (get_or marks i false)
 unfolding marked
-marked-suc_marked [] i below set = absurd (omega arith)
-marked-suc_marked (true ∷ marks) zero below set = refl
-marked-suc_marked (false ∷ marks) zero below set = absurd (cc)
-marked-suc_marked (mark ∷ marks) (suc i) below set =
-    let rest : marked (take (suc i) marks) ≡ suc (marked (take i marks)) = marked-suc_marked marks i (omega arith) set in
-    omega arith
+marked-suc [] i below = absurd (omega arith)
+marked-suc (true ∷ marks) zero below = refl
+marked-suc (false ∷ marks) zero below = refl
+marked-suc (mark ∷ marks) (suc i) below = let rest = marked-suc marks i (omega arith) in omega (arith, rest)
 
--- one more place that isn't marked isn't counted
-marked-suc_clear : (marks : List Bool) (i : ℕ) → i < length marks → get_or marks i false ≡ false → marked (take (suc i) marks) ≡ marked (take i marks)
+-- the same, as a loop counts
+pub marked-next : (marks : List Bool) (i : ℕ) → i < length marks → marked (take (i + 1) marks) ≡ marked (take i marks) + bool_byte (get_or marks i false)
+marked-next marks i below = ap (λ n. marked (take n marks)) (add-one i) ∙ marked-suc marks i below
+
+-- in front of a place there are no more marks than places
+pub marked-few : (marks : List Bool) (i : ℕ) → marked (take i marks) ≤ i
 unfolding marked
-marked-suc_clear [] i below clear = absurd (omega arith)
-marked-suc_clear (true ∷ marks) zero below clear = absurd (cc)
-marked-suc_clear (false ∷ marks) zero below clear = refl
-marked-suc_clear (mark ∷ marks) (suc i) below clear =
-    let rest : marked (take (suc i) marks) ≡ marked (take i marks) = marked-suc_clear marks i (omega arith) clear in
-    omega arith
-
--- a marked place is counted, as a loop counts
-pub marked-next_marked : (marks : List Bool) (i : ℕ) → i < length marks → get_or marks i false ≡ true → marked (take (i + 1) marks) ≡ suc (marked (take i marks))
-marked-next_marked marks i below set = rw add-one (marked-suc_marked marks i below set)
-
--- an unmarked place isn't, as a loop counts
-pub marked-next_clear : (marks : List Bool) (i : ℕ) → i < length marks → get_or marks i false ≡ false → marked (take (i + 1) marks) ≡ marked (take i marks)
-marked-next_clear marks i below clear = rw add-one (marked-suc_clear marks i below clear)
-
--- in front of a place no more are marked than in all
-pub marked-take-le : (marks : List Bool) (i : ℕ) → marked (take i marks) ≤ marked marks
-unfolding marked
-marked-take-le marks zero = omega arith
-marked-take-le [] (suc i) = omega arith
-marked-take-le (mark ∷ marks) (suc i) =
-    let rest : marked (take i marks) ≤ marked marks = marked-take-le marks i in
-    omega arith
-
--- whether any place so far is marked
-any-next : (mark : Bool) (before after : ℕ) → (mark ≡ true → after ≡ suc before) → (mark ≡ false → after ≡ before) → (nat_lt 0 before || mark) ≡ nat_lt 0 after
-any-next true before after one_more same = let more = one_more refl in grind (arith, nat_tests)
-any-next false before after one_more same = let kept = same refl in grind (arith, nat_tests)
-
--- some place up to this one is marked where one before it is, or itself
-pub any_marked-next : (marks : List Bool) (i : ℕ) → i < length marks → (nat_lt 0 (marked (take i marks)) || get_or marks i false) ≡ nat_lt 0 (marked (take (i + 1) marks))
-any_marked-next marks i below = any-next (get_or marks i false) (marked (take i marks)) (marked (take (i + 1) marks)) (marked-next_marked marks i below) (marked-next_clear marks i below)
+marked-few marks zero = omega arith
+marked-few [] (suc i) = omega arith
+marked-few (true ∷ marks) (suc i) = let rest = marked-few marks i in omega arith
+marked-few (false ∷ marks) (suc i) = let rest = marked-few marks i in omega arith
 
 -- as many numbers are picked as places are marked
 pub length-picked : (marks : List Bool) (xs : List ℕ) → length xs ≡ length marks → length (picked marks xs) ≡ marked marks
@@ -118,54 +51,12 @@ length-picked (mark ∷ marks) [] size = absurd (omega arith)
 length-picked (true ∷ marks) (x ∷ xs) size = ap suc (length-picked marks xs (omega arith)) ∙ omega arith
 length-picked (false ∷ marks) (x ∷ xs) size = length-picked marks xs (omega arith) ∙ omega arith
 
--- a count that isn't above 0 is 0
-pub unmarked : (count : ℕ) → nat_lt 0 count ≡ false → count ≡ 0
-unmarked count none = grind (arith, nat_tests)
-
--- where no place is marked nothing is picked
-pub picked-unmarked : (marks : List Bool) (xs : List ℕ) → marked marks ≡ 0 → picked marks xs ≡ []
-unfolding picked marked
-picked-unmarked [] xs none = refl
-picked-unmarked (mark ∷ marks) [] none = refl
-picked-unmarked (true ∷ marks) (x ∷ xs) none = absurd (omega arith)
-picked-unmarked (false ∷ marks) (x ∷ xs) none = picked-unmarked marks xs (omega arith)
-
--- one place more in front of others
-take-up : {X : Type 0} (i count : ℕ) (xs : List X) → take (suc i + count) xs ≡ take (suc (i + count)) xs
-take-up i count xs = let up : suc i + count ≡ suc (i + count) = omega arith in ap (λ n. take n xs) up
-
--- nor where there are only places without a mark
+-- where there are only places without a mark nothing is picked
 pub picked-replicate : (n : ℕ) (xs : List ℕ) → picked (replicate n false) xs ≡ []
 unfolding picked
 picked-replicate zero xs = refl
 picked-replicate (suc n) [] = refl
 picked-replicate (suc n) (x ∷ xs) = picked-replicate n xs
-
--- places of which none is marked add nothing to those picked
-pub picked-clear : (marks : List Bool) (xs : List ℕ) (i count : ℕ) → marked (take count (drop i marks)) ≡ 0 → picked (take (i + count) marks) xs ≡ picked (take i marks) xs
-unfolding picked
-picked-clear marks xs zero count none = ap (λ n. picked (take n marks) xs) (zero-add count) ∙ picked-unmarked (take count marks) xs none ∙ sym (picked-none xs)
-picked-clear [] xs (suc i) count none = rw (take-up {X = Bool} i count []) refl
-picked-clear (mark ∷ marks) [] (suc i) count none = rw (take-up i count (mark ∷ marks)) refl
-picked-clear (true ∷ marks) (x ∷ xs) (suc i) count none = rw (take-up i count (true ∷ marks)) (ap (λ ys. x ∷ ys) (picked-clear marks xs i count none))
-picked-clear (false ∷ marks) (x ∷ xs) (suc i) count none = rw (take-up i count (false ∷ marks)) (picked-clear marks xs i count none)
-
--- and aren't counted
-pub marked-clear : (marks : List Bool) (i count : ℕ) → marked (take count (drop i marks)) ≡ 0 → marked (take (i + count) marks) ≡ marked (take i marks)
-unfolding marked
-marked-clear marks zero count none = ap (λ n. marked (take n marks)) (zero-add count) ∙ none
-marked-clear [] (suc i) count none = rw (take-up {X = Bool} i count []) refl
-marked-clear (mark ∷ marks) (suc i) count none =
-    rw (take-up i count (mark ∷ marks)) (ap (λ n. (if mark then 1 else 0) + n) (marked-clear marks i count none))
-
--- so the points before such places are those before the place behind them
-pub ArePointsBefore-clear : (marks : List Bool) (most : ℕ) (points : List ℕ) (i count : ℕ) → marked (take count (drop i marks)) ≡ 0 → ArePointsBefore i marks most points
-    → ArePointsBefore (i + count) marks most points
-ArePointsBefore-clear marks most points i count none before = record {
-  picks = before.picks ∙ sym (picked-clear marks (points_of (length marks)) i count none);
-  count = before.count ∙ sym (marked-clear marks i count none);
-  within = before.within;
-}
 
 -- the power of alpha at a place
 pub get_or-points_of : (n i : ℕ) → i < n → get_or (points_of n) i 0 ≡ power alpha (n - 1 - i)
@@ -176,14 +67,7 @@ get_or-points_of (suc n) (suc i) below =
     let same : n - 1 - i ≡ suc n - 1 - suc i = omega arith in
     get_or-points_of n i (omega arith) ∙ ap (power alpha) same
 
--- ---- words with bytes added at marked places
-
--- the place of the mark that i marks stand before
-place_of_mark : List Bool → ℕ → ℕ
-place_of_mark [] i = 0
-place_of_mark (true ∷ marks) zero = 0
-place_of_mark (true ∷ marks) (suc i) = suc (place_of_mark marks i)
-place_of_mark (false ∷ marks) i = suc (place_of_mark marks i)
+-- ---- the places of the marks
 
 -- each mark's place is a place of the word
 place_of_mark-inside : (marks : List Bool) (i : ℕ) → i < marked marks → place_of_mark marks i < length marks
@@ -202,6 +86,27 @@ picked-at (true ∷ marks) (x ∷ xs) zero size below = refl
 picked-at (true ∷ marks) (x ∷ xs) (suc i) size below = picked-at marks xs i (omega arith) (omega arith)
 picked-at (false ∷ marks) (x ∷ xs) i size below = picked-at marks xs i (omega arith) (omega arith)
 
+-- the mark at a marked place stands behind those in front of it
+place_of_mark-at : (marks : List Bool) (place : ℕ) → place < length marks → get_or marks place false ≡ true → place_of_mark marks (marked (take place marks)) ≡ place
+unfolding place_of_mark marked
+place_of_mark-at [] place below is = absurd (omega arith)
+place_of_mark-at (true ∷ marks) zero below is = refl
+place_of_mark-at (false ∷ marks) zero below is = absurd (cc)
+place_of_mark-at (true ∷ marks) (suc place) below is =
+    let behind : 1 + marked (take place marks) ≡ suc (marked (take place marks)) = omega arith in
+    ap (place_of_mark (true ∷ marks)) behind ∙ ap suc (place_of_mark-at marks place (omega arith) is)
+place_of_mark-at (false ∷ marks) (suc place) below is =
+    ap (λ i. suc (place_of_mark marks i)) (zero-add (marked (take place marks))) ∙ ap suc (place_of_mark-at marks place (omega arith) is)
+
+-- a place that is written behind those of the marks in front of it stays where it is marked itself
+pub ArePlaces-next : (marks : List Bool) (place count : ℕ) (places : List ℕ) → place < length marks → count < length places → count ≡ marked (take place marks) → ArePlaces marks count places
+    → (mark : Bool) → get_or marks place false ≡ mark → ArePlaces marks (count + bool_byte mark) (set places count place)
+ArePlaces-next marks place count places below room counted before true is = λ i inside. elim (cases_eq i count) [
+  | inl same ↦ get_or-set_at places count i place 0 same room ∙ sym (place_of_mark-at marks place below is) ∙ ap (place_of_mark marks) (sym counted ∙ sym same)
+  | inr differ ↦ get_or-set_other places count i place 0 differ ∙ before i (omega (arith, differ))
+]
+ArePlaces-next marks place count places below room counted before false is = λ i inside. get_or-set_other places count i place 0 (omega arith) ∙ before i (omega arith)
+
 -- the power of alpha at its place, as a loop over the points has it
 point-at : (marks : List Bool) (points : List ℕ) (i : ℕ) → points ≡ picked marks (points_of (length marks)) → i < length points
     → (place_of_mark marks i < length marks) × (get_or points i 0 ≡ power alpha (length marks - 1 - place_of_mark marks i))
@@ -210,6 +115,22 @@ point-at marks points i are inside =
     let below : i < marked marks = omega (arith, ap length are, length-picked marks (points_of (length marks)) size) in
     let within = place_of_mark-inside marks i below in
     (within, ap (λ xs. get_or xs i 0) are ∙ picked-at marks (points_of (length marks)) i size below ∙ get_or-points_of (length marks) (place_of_mark marks i) within)
+
+-- with one place more there is one point more, its power of alpha
+pub point-next : (marks : List Bool) (places : List ℕ) (i count place : ℕ) → i < count → count ≡ marked marks → ArePlaces marks count places → place ≡ get_or places i 0
+    → (place < length marks)
+    × (take (i + 1) (picked marks (points_of (length marks))) ≡ take i (picked marks (points_of (length marks))) ++ power alpha (length marks - 1 - place) ∷ [])
+point-next marks places i count place inside all are same =
+    let points = picked marks (points_of (length marks)) in
+    let size : length points ≡ marked marks = length-picked marks (points_of (length marks)) (length-points_of (length marks)) in
+    let at = point-at marks points i refl (omega (arith, size)) in
+    let here : place ≡ place_of_mark marks i = same ∙ are i inside in (
+      omega (arith, at.0, here),
+      ap (λ n. take n points) (add-one i) ∙ take-suc points i 0 (omega (arith, size))
+          ∙ ap (λ x. take i points ++ x ∷ []) (at.1 ∙ ap (λ p. power alpha (length marks - 1 - p)) (sym here)),
+    )
+
+-- ---- words with bytes added at marked places
 
 -- with no bytes
 pub patched-none : (word : List ℕ) (marks : List Bool) → patched word marks [] ≡ word

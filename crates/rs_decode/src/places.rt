@@ -1,9 +1,9 @@
 //! The marked places of a word.
-ghost use Rattle.std.specs.Prelude.{◌≡◌, ◌↔◌, ℕ, ◌+◌, List, Bool, true, false, ◌-◌, ◌<◌, ◌≤◌, length, take, replicate, All, IsTrue, MatchOption, nat_lt};
+ghost use Rattle.std.specs.Prelude.{◌≡◌, ◌↔◌, List, Bool, false, ◌-◌, ◌<◌, ◌≤◌, length, replicate, All, IsTrue, MatchOption};
 ghost use Rattle.gf_field.specs.Field.{alpha, power};
 ghost use Rattle.gf_field.specs.Words.{IsByte};
 ghost use Rattle.rs_decode.specs.Filling.{marked};
-ghost use Rattle.rs_decode.specs.Inner.Places.{ArePointsBefore, picked, patched};
+ghost use Rattle.rs_decode.specs.Inner.Places.{ArePlaces, picked, patched};
 ghost use Rattle.rs_code.specs.Inner.PowerSums.{points_of};
 
 use arrayvec::ArrayVec;
@@ -60,41 +60,19 @@ fn marked_points(marks: &[bool], most: usize) -> Option<ArrayVec<u8, 32>>
     requires short { length marks.now ≤ 255 }
     ensures { MatchOption result (most < marked marks.now) (λ points. (marked marks.now ≤ most) × (points.items ≡ picked marks.now (points_of (length marks.now)))) }
 {
+    let mut places = [0; 256];
+    let count = gather_places(marks, &mut places);
+    if count > most {
+        return None;
+    }
     let mut points = ArrayVec::new();
-    for group in 0..marks.len().div_ceil(16) {
-        let start = 16 * group;
-        // Where few of many places are marked, most groups of sixteen are passed over at once.
-        if may_be_marked(&marks[start..]) && !add_points(marks, start, most, &mut points) {
-            return None;
-        }
+    for place in &places[..count] {
+        points.push(point_of(marks.len(), usize::from(*place)));
     }
     Some(points)
 }
 
-// Adds the points of the marked ones of sixteen places, or of as many as are left, and tells whether these are at most
-// `most` then.
-fn add_points(marks: &[bool], start: usize, most: usize, points: &mut ArrayVec<u8, 32>) -> bool
-    requires room { most ≤ 32 }
-    requires short { length marks.now ≤ 255 }
-    requires inside { start < length marks.now }
-    requires before { ArePointsBefore start marks.now most points.old.items }
-    ensures added { result ≡ true → ArePointsBefore (start + 16) marks.now most points.new.items }
-    ensures many { result ≡ false → most < marked marks.now }
-{
-    for place in start..marks.len().min(start + 16) {
-        if marks[place] {
-            if points.len() == most {
-                return false;
-            }
-            points.push(point_of(marks.len(), place));
-        }
-    }
-    true
-}
-
-// The power of alpha that a place of a word of this size stands at. A call, so that no division is made for the places
-// that aren't marked.
-#[inline(never)]
+// The power of alpha that a place of a word of this size stands at.
 fn point_of(size: usize, place: usize) -> u8
     requires short { size ≤ 255 }
     requires inside { place < size }
@@ -103,26 +81,19 @@ fn point_of(size: usize, place: usize) -> u8
     alpha_pow((size - 1 - place) as u32)
 }
 
-// Whether one of the next sixteen places may be marked: none is where the answer is `false`. It is `true` where there are
-// fewer places.
-fn may_be_marked(marks: &[bool]) -> bool
-    ensures { result ≡ false → marked (take 16 marks.now) ≡ 0 }
+// Writes the marked places in order, and tells how many they are.
+fn gather_places(marks: &[bool], places: &mut [u8; 256]) -> usize
+    requires short { length marks.now ≤ 255 }
+    ensures count { result ≡ marked marks.now }
+    ensures gathered { ArePlaces marks.now result places.new }
 {
-    match marks.first_chunk() {
-        Some(sixteen) => any_marked(sixteen),
-        None => true,
+    let mut count = 0;
+    for place in 0..marks.len() {
+        // Each place is written behind those found so far, and stays if it is marked: a branch could not be guessed.
+        places[count] = place as u8;
+        count += usize::from(marks[place]);
     }
-}
-
-// Whether any of sixteen places is marked. All marks are read, and so many always, so that they are taken at once.
-fn any_marked(marks: &[bool; 16]) -> bool
-    ensures { result ≡ nat_lt 0 (marked marks.now) }
-{
-    let mut any = false;
-    for mark in marks {
-        any |= *mark;
-    }
-    any
+    count
 }
 
 /// Adds each byte to the place that has its point. Where the points are those of marked places, these are patched in order.

@@ -1,8 +1,6 @@
 -- The bytes of a word at its marked places.
-use Rattle.std.specs.Prelude.{◌≡◌, ℕ, ◌≤◌, Bool, true, false, List, [], ◌∷◌, length, take}
+use Rattle.std.specs.Prelude.{◌≡◌, ℕ, zero, suc, ◌<◌, Bool, true, false, List, [], ◌∷◌, slice_index}
 use Rattle.gf_field.specs.Field.{plus}
-use Rattle.rs_code.specs.Inner.PowerSums.{points_of}
-use Rattle.rs_decode.specs.Filling.{marked}
 
 -- the numbers at the marked places, in order
 unfoldable pub picked : List Bool → List ℕ → List ℕ
@@ -11,11 +9,16 @@ picked (mark ∷ marks) [] = []
 picked (true ∷ marks) (x ∷ xs) = x ∷ picked marks xs
 picked (false ∷ marks) (x ∷ xs) = picked marks xs
 
--- these are the points of the marked places before one, and they are no more than a bound
-pub record ArePointsBefore (place : ℕ) (marks : List Bool) (most : ℕ) (points : List ℕ) : Type 0 where
-  pub picks : points ≡ picked (take place marks) (points_of (length marks))
-  pub count : length points ≡ marked (take place marks)
-  pub within : length points ≤ most
+-- the place of the mark that i marks stand before
+unfoldable pub place_of_mark : List Bool → ℕ → ℕ
+place_of_mark [] i = 0
+place_of_mark (true ∷ marks) zero = 0
+place_of_mark (true ∷ marks) (suc i) = suc (place_of_mark marks i)
+place_of_mark (false ∷ marks) i = suc (place_of_mark marks i)
+
+-- the first numbers, as many as told, are the places of the first marks
+abbrev pub ArePlaces : List Bool → ℕ → List ℕ → Type 0
+ArePlaces marks count places = (i : ℕ) → i < count → slice_index places i ≡ place_of_mark marks i
 
 -- a word with the bytes added to its marked places, in order
 unfoldable pub patched : List ℕ → List Bool → List ℕ → List ℕ

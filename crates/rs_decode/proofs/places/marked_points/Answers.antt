@@ -1,31 +1,39 @@
-use Rattle.std.proofs.Common.{◌≡◌, ◌+◌, ◌-◌, ◌*◌, length, length-drop, take, drop, sym, ap, subst, ◌∙◌, arith}
-use Rattle.std.proofs.lemmas.List.{take_all}
+use Rattle.std.proofs.Common.{◌≡◌, ◌<◌, ◌+◌, ◌-◌, ◌++◌, ◌∷◌, [], length, take, arith, ap, sym, ◌∙◌}
+use Rattle.std.proofs.lemmas.List.{get_or-take, length-take, take_all}
+use Rattle.gf_field.specs.Field.{alpha, power}
 use Rattle.rs_code.specs.Inner.PowerSums.{points_of}
-use Rattle.rs_decode.specs.Filling.{marked}
-use Rattle.rs_decode.specs.Inner.Places.{ArePointsBefore}
-use Rattle.rs_decode.proofs.Marks.{picked-none, marked-none, ArePointsBefore-clear}
+use Rattle.rs_code.proofs.PowerSums.{length-points_of}
+use Rattle.rs_decode.specs.Inner.Places.{picked}
+use Rattle.rs_decode.proofs.Marks.{length-picked, point-next}
 use Rattle.rs_decode.proofs.places.marked_points.Goals as goal
-use Rattle.rs_decode.proofs.places.marked_points.Goals.{else-may_be_marked-via-then-may_be_marked+else-not-add_points, else-may_be_marked-via-else-may_be_marked}
+use Rattle.rs_decode.proofs.places.marked_points.Goals.{After-from}
 
-pub loop-group-init : goal.loop-group-init
-loop-group-init c =
-    let none : length c.new-points.result.items ≡ 0 = ap length c.new-points.ensures in
-    record {
-      picks = c.new-points.ensures ∙ sym (picked-none (points_of (length c.args.marks.now)));
-      count = none ∙ sym marked-none;
-      within = omega (arith, none);
-    }
+-- the place that is read is one of the word, and the points up to it have its power of alpha behind them
+next : (c : After-from) → (c.from.result < length c.args.marks.now)
+    × (take (c.loop-place.place-index + 1) (picked c.args.marks.now (points_of (length c.args.marks.now)))
+    ≡ take c.loop-place.place-index (picked c.args.marks.now (points_of (length c.args.marks.now))) ++ power alpha (length c.args.marks.now - 1 - c.from.result) ∷ [])
+next c =
+    let gathered = c.gather_places-count in
+    let i = c.loop-place.place-index in
+    let inside : i < gathered.result = omega (arith, c.loop-place-test.true, length-take gathered.result gathered.new.places) in
+    point-next c.args.marks.now gathered.new.places i gathered.result c.from.result inside gathered.ensures.count gathered.ensures.gathered
+    (c.from.ensures ∙ get_or-take gathered.result gathered.new.places i 0 inside)
 
-pub loop-group-preserved : goal.loop-group-preserved
-loop-group-preserved c =
+pub point_of-requires-clause-inside : goal.point_of-requires-clause-inside
+point_of-requires-clause-inside c = (next c).0
+
+pub loop-place-preserved : goal.loop-place-preserved
+loop-place-preserved c =
+    let here = (goal.at.loop-place-preserved c).After-from in
+    let before = take c.loop-place.place-index (picked c.args.marks.now (points_of (length c.args.marks.now))) in
+    c.push.ensures.items ∙ ap (λ xs. xs ++ c.point_of.result ∷ []) c.loop-place.invariant ∙ ap (λ x. before ++ x ∷ []) c.point_of.ensures ∙ sym (next here).1
+
+pub returns : goal.returns
+returns c =
     let marks = c.args.marks.now in
-    let start = 16 * c.loop-group.group in
-    let rest : take (length marks - start) (drop start marks) ≡ drop start marks = take_all (length marks - start) (drop start marks) (omega (arith, length-drop start marks)) in
-    let next : start + 16 ≡ 16 * (c.loop-group.group + 1) = omega arith in
-    elim c.else-may_be_marked.branch [
-      | else-may_be_marked-via-then-may_be_marked+else-not-add_points w ↦ subst (λ n. ArePointsBefore n marks c.args.most c.else-may_be_marked.points.items) next
-          (subst (λ p. ArePointsBefore (start + 16) marks c.args.most p.items) (sym w.points-is) (w.add_points.ensures.added w.if-not-add_points.false))
-      | else-may_be_marked-via-else-may_be_marked w ↦ subst (λ n. ArePointsBefore n marks c.args.most c.else-may_be_marked.points.items) next
-          (subst (λ p. ArePointsBefore (start + 16) marks c.args.most p.items) (sym w.points-is)
-          (ArePointsBefore-clear marks c.args.most c.loop-group.points.items start 16 (sym (ap (λ xs. marked (take 16 xs)) rest) ∙ c.may_be_marked.ensures w.if-may_be_marked.false) c.loop-group.invariant))
-    ]
+    let gathered = c.gather_places-count in
+    let long = length-take gathered.result gathered.new.places in (
+      omega (arith, gathered.ensures.count),
+      c.loop-place.invariant ∙ take_all c.loop-place.place-index (picked marks (points_of (length marks)))
+          (omega (arith, long, c.loop-place-test.false, gathered.ensures.count, c.if-count-most.false, c.requires.room, length-picked marks (points_of (length marks)) (length-points_of (length marks)))),
+    )

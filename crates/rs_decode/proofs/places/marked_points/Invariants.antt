@@ -1,7 +1,8 @@
-use Rattle.std.proofs.Common.{◌*◌}
-use Rattle.rs_decode.specs.Inner.Places.{ArePointsBefore}
+use Rattle.std.proofs.Common.{◌≡◌, length, take}
+use Rattle.rs_code.specs.Inner.PowerSums.{points_of}
+use Rattle.rs_decode.specs.Inner.Places.{picked}
 use Rattle.rs_decode.proofs.places.marked_points.Given as goal
 
--- the points of the groups so far
-abbrev pub invariant-loop-group : goal.invariant-loop-group
-invariant-loop-group l = ArePointsBefore (16 * l.group) l.marks l.most l.points.items
+-- the points of the places so far
+abbrev pub invariant-loop-place : goal.invariant-loop-place
+invariant-loop-place l = l.points.items ≡ take l.place-index (picked l.marks (points_of (length l.marks)))
