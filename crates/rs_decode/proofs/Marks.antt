@@ -8,7 +8,7 @@ use Rattle.std.proofs.Math.Seq.{take-suc}
 use mir.Val.{bool_byte}
 use Rattle.gf_field.specs.Field.{alpha, plus, power}
 use Rattle.gf_field.specs.Words.{IsByte}
-use Rattle.gf_field.proofs.FieldLaws.{alpha-nonzero, plus-byte, power-alpha-differ, power-nonzero}
+use Rattle.gf_field.proofs.FieldLaws.{alpha-nonzero, plus-assoc, plus-byte, plus-self, plus-zero, power-alpha-differ, power-nonzero}
 use Rattle.rs_code.specs.Inner.PowerSums.{points_of}
 use Rattle.rs_code.proofs.PowerSums.{length-points_of}
 use Rattle.rs_decode.specs.Filling.{marked}
@@ -143,6 +143,17 @@ patched-none (byte ∷ word) (true ∷ marks) = ap (λ w. byte ∷ w) (patched-n
 -- a word with a byte added at a place
 abbrev added : List ℕ → ℕ → ℕ → List ℕ
 added word place byte = set word place (plus (get_or word place 0) byte)
+
+-- the same bytes added twice
+pub patched-twice : (word : List ℕ) (marks : List Bool) (bytes : List ℕ) → patched (patched word marks bytes) marks bytes ≡ word
+unfolding patched
+patched-twice [] marks bytes = refl
+patched-twice (byte ∷ word) [] bytes = refl
+patched-twice (byte ∷ word) (false ∷ marks) bytes = ap (λ w. byte ∷ w) (patched-twice word marks bytes)
+patched-twice (byte ∷ word) (true ∷ marks) [] = ap (λ w. byte ∷ w) (patched-twice word marks [])
+patched-twice (byte ∷ word) (true ∷ marks) (first ∷ rest) =
+    let back : plus (plus byte first) first ≡ byte = plus-assoc byte first first ∙ ap (plus byte) (plus-self first) ∙ plus-zero byte in
+    ap (λ b. b ∷ patched (patched word marks rest) marks rest) back ∙ ap (λ w. byte ∷ w) (patched-twice word marks rest)
 
 -- with one byte more
 patched-suc : (word : List ℕ) (marks : List Bool) (bytes : List ℕ) (i : ℕ) → length word ≡ length marks → i < length bytes → i < marked marks

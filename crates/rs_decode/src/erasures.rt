@@ -54,12 +54,12 @@ pub fn fill_from<const N: usize, const R: usize>(
     }
     let mut corrections: ArrayVec<u8, 32> = ArrayVec::try_from(&syndromes[..count]).unwrap();
     solve(points, &mut corrections);
-    let mut filled = *word;
-    patch(&mut filled, points, &corrections);
-    if !completes(code, &filled, &syndromes, points, &corrections) {
+    patch(word, points, &corrections);
+    if !completes(code, word, &syndromes, points, &corrections) {
+        // The same bytes added once more give the word back.
+        patch(word, points, &corrections);
         return Err(NoCodeword);
     }
-    *word = filled;
     Ok(count as u16)
 }
 

@@ -73,15 +73,15 @@ pub fn decode_from<const N: usize, const R: usize>(
             erased: 0,
         });
     }
-    let mut found = *word;
-    let Ok(_filled) = fill_located(code, erasures, syndromes, &mut found) else {
+    let received = *word;
+    let Ok(_filled) = fill_located(code, erasures, syndromes, word) else {
         return Err(Beyond);
     };
-    let errors = count_errors(word, &found, &erasures.marks);
+    let errors = count_errors(&received, word, &erasures.marks);
     if 2 * errors as usize + erased > R {
+        *word = received;
         return Err(Beyond);
     }
-    *word = found;
     Ok(Fix {
         errors,
         erased: erased as u16,

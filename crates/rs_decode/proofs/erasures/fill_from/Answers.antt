@@ -10,7 +10,7 @@ use Rattle.rs_decode.specs.Inner.Places.{patched}
 use Rattle.rs_decode.specs.Inner.Sums.{HasSums}
 use Rattle.rs_decode.specs.Filling.{AgreeUnmarked, marked}
 use Rattle.rs_decode.proofs.Fillings.{marked_points-distinct, points-few, length-first_syndromes, filled-codeword, value-filled, AgreeUnmarked-patched, no_filling}
-use Rattle.rs_decode.proofs.Marks.{point-nonzero}
+use Rattle.rs_decode.proofs.Marks.{patched-twice, point-nonzero}
 use Rattle.rs_decode.proofs.erasures.fill_from.Goals as goal
 use Rattle.rs_decode.proofs.erasures.fill_from.Goals.{After-deref_mut, After-deref-4, After-patch}
 
@@ -66,6 +66,24 @@ completes-requires g c =
     let values =
     value-filled g.row.R c.args.word.now c.patch.new.word c.deref-5.result.now c.deref-7.result.now c.deref-6.result.now marks (c.told-word ∙ sym c.args.erasures.now.size) fits points_are syndromes_are filled_is in
     (search rules, (search rules, (c.patch.ensures.bytes, (nonzero, (fits, (long, values))))))
+
+pub patch-requires-then-not-completes-clause-fits : goal.patch-requires-then-not-completes-clause-fits
+patch-requires-then-not-completes-clause-fits g c =
+    let same = c.deref-then-not-completes-2.ensures.0 ∙ sym c.deref-4.ensures.0 in
+    ap length (same ∙ corrected g (goal.at.patch-requires-then-not-completes-clause-fits g c).After-deref-4) ∙ c.solve.ensures.size
+    ∙ sums-fit g (goal.at.patch-requires-then-not-completes-clause-fits g c).After-deref_mut ∙ ap length (sym c.deref-then-not-completes.ensures.0)
+
+-- what was added is added again
+pub returns-then-not-completes-clause-same : goal.returns-then-not-completes-clause-same
+returns-then-not-completes-clause-same g c =
+    let word = c.args.word.now in
+    let marks = c.args.erasures.now.marks in
+    let bytes = c.deref-4.result.now in
+    let alike : length marks ≡ length c.patch.new.word = c.args.erasures.now.size ∙ omega (arith, c.patch.auto.word) in
+    let again = c.patch-then-not-completes.ensures.patched marks alike (c.deref-then-not-completes.ensures.0 ∙ c.args.erasures.now.gathered) in
+    let same = c.deref-then-not-completes-2.ensures.0 ∙ sym c.deref-4.ensures.0 in
+    again ∙ ap (patched c.patch.new.word marks) same
+    ∙ ap (λ w. patched w marks bytes) (patched_word g (goal.at.returns-then-not-completes-clause-same g c).After-patch) ∙ patched-twice word marks bytes
 
 pub returns-then-not-completes-clause-err : goal.returns-then-not-completes-clause-err
 returns-then-not-completes-clause-err g c =
