@@ -89,7 +89,7 @@ fn gather_places(marks: &[bool], places: &mut [u8; 256]) -> usize
 {
     let mut count = 0;
     for place in 0..marks.len() {
-        // Each place is written behind those found so far, and stays if it is marked: a branch could not be guessed.
+        // Each place is written behind those found so far and stays if it is marked, so that no branch hangs on a mark.
         places[count] = place as u8;
         count += usize::from(marks[place]);
     }
