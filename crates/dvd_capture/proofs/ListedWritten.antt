@@ -462,7 +462,8 @@ module _ (rows : List (List ℕ)) (height : length rows ≡ 208) (widths : (i : 
         let number = to_be_bytes w16 (starts_below (mark_of marks) 37_856) in
         let after = rest-exists (starts_below (mark_of marks) 37_856) (recording rows ++ number) (mark_of marks) 0 0 (none-written (recording rows) (mark_of marks) recording_size) (omega arith) in record {
           unit = recording rows ++ (number ++ after.rest);
-          is_unit = unit-of (number ++ after.rest) (small-append number after.rest (small-field (starts_below (mark_of marks) 37_856)) after.small) after.count after.end (subst (λ l. HasRuns l after.count after.count after.end (mark_of marks)) (append_assoc (recording rows) number after.rest) after.runs);
+          is_unit = unit-of (number ++ after.rest) (small-append number after.rest (small-field (starts_below (mark_of marks) 37_856)) after.small) after.count after.end
+              (subst (λ l. HasRuns l after.count after.count after.end (mark_of marks)) (append_assoc (recording rows) number after.rest) after.runs);
           part = prefix-behind old old new [] (recording rows) (number ++ after.rest) (Appends-none old) part;
         }
 

@@ -182,7 +182,8 @@ module _ (May : List Step → Turn → Type 0) (bytes : List ℕ) (turn : Turn) 
   }
 
 -- Units of given sizes: a turn by what was read and by what was done.
-module _ (units : Units) (size : ℕ → ℕ) (begins : (k : ℕ) (own : List ℕ) → units.begins k own ≡ sized (size k) own) (k : ℕ) (before : List (List ℕ)) (number : length before ≡ k) (ready : List (List ℕ) → Type 0) (source new_source output report : Seen) where
+module _ (units : Units) (size : ℕ → ℕ) (begins : (k : ℕ) (own : List ℕ) → units.begins k own ≡ sized (size k) own) (k : ℕ)
+    (before : List (List ℕ)) (number : length before ≡ k) (ready : List (List ℕ) → Type 0) (source new_source output report : Seen) where
   -- a unit of which too few bytes came ends the loop, as its source did
   pub sized_short : (answer : Result Turn LoopEnd) (end : LoopEnd) → answer ≡ Err end → EndsShort k (size k) source new_source end
       → IsTurn units before ready (streams source output report) (streams new_source output report) answer

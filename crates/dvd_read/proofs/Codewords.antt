@@ -1,27 +1,15 @@
 -- What is found as near is a codeword, however long what was received is.
-use Rattle.std.proofs.Common.{◌≡◌, ◌∙◌, ℕ, Bool, true, false, cond, ◌&&◌, nat_lt, List, [], ◌∷◌, get_or, find, refl, sym, subst, Some}
-use Rattle.std.specs.declared.option.Option.{Option}
+use Rattle.std.proofs.Common.{◌≡◌, ◌∙◌, ℕ, Bool, true, false, ◌&&◌, nat_lt, List, get_or, refl, sym, Some}
 use Rattle.std.proofs.lemmas.Bool.{eqb-true, ltb-true}
 use Rattle.std.proofs.lemmas.List.Sums.{AllPass-from_list_all}
 use Rattle.gf_field.specs.Words.{IsCodeword}
 use Rattle.rs_decode.specs.Nearest.{all_words, is_near, near_of}
-use Rattle.rs_decode.proofs.Nearest.{vanishing-codeword}
+use Rattle.rs_decode.proofs.Nearest.{find-some, vanishing-codeword}
 use Rattle.dvd_capture.specs.Answers.{AreAnswers, marks_line}
 use Rattle.dvd_capture.specs.declared.parts.AnswerRow.{AnswerRow}
 use Rattle.dvd_block.specs.Product.{line}
 use Rattle.dvd_read.specs.Inner.Standing.{AreCodewords}
 use Rattle.dvd_read.proofs.RowAnswers.{answer_word-is}
-
--- what is found is the first element, which passes, or was found among the others
-step-passes : {X : Type 0} (p : X → Bool) (y x : X) (rest : Option X) (b : Bool) → p y ≡ b → (rest ≡ Some x → p x ≡ true)
-    → cond b (Some y) rest ≡ Some x → p x ≡ true
-step-passes p y x rest true is later found = let same : y ≡ x = cc in subst (λ z. p z ≡ true) same is
-step-passes p y x rest false is later found = later found
-
--- what a search finds passes
-find-passes : {X : Type 0} (p : X → Bool) (xs : List X) (x : X) → find p xs ≡ Some x → p x ≡ true
-find-passes p [] x found = cc
-find-passes p (y ∷ xs) x found = step-passes p y x (find p xs) (p y) refl (find-passes p xs x) found
 
 -- where a conjunction is true, both its parts are
 both : (a b : Bool) → (a && b) ≡ true → (a ≡ true) × (b ≡ true)
@@ -42,7 +30,7 @@ codeword-passes n r received word marks passes =
 pub near_of-codeword : (n r : ℕ) (received word : List ℕ) (marks : List Bool) → near_of n r received marks ≡ Some word → IsCodeword n r word
 unfolding near_of
 near_of-codeword n r received word marks found =
-    codeword-passes n r received word marks (find-passes (is_near n r received marks) (all_words n) word found)
+    codeword-passes n r received word marks (find-some (is_near n r received marks) (all_words n) word found)
 
 -- so the answers of the first pass are codewords
 pub answers-codewords : (received : List (List ℕ)) (marks : List (List Bool)) (answers : List AnswerRow) → AreAnswers received marks answers → AreCodewords answers

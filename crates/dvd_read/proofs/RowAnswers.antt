@@ -9,7 +9,7 @@ use Rattle.rs_decode.specs.Filling.{marked}
 use Rattle.rs_decode.specs.Nearest.{near_of}
 use Rattle.rs_decode.specs.declared.errors.Fix.{Fix}
 use Rattle.rs_decode.proofs.Nearest.{near_of-some}
-use Rattle.rs_decode.proofs.Marks.{marked-next_marked, marked-next_clear}
+use Rattle.rs_decode.proofs.Marks.{marked-next}
 use Rattle.dvd_block.specs.Product.{line}
 use Rattle.dvd_capture.proofs.Columns.{length-answers_of}
 use Rattle.dvd_capture.specs.Answers.{AreAnswers, IsAnswer, IsFix, marks_line}
@@ -104,16 +104,6 @@ answers-are received marks answers size marks_size answers_size are =
     get_or-map answer_word answers k blank_answer None inside
     ∙ answer_word-is (line received k) (marks_line marks k) (get_or answers k blank_answer) (are k blank_answer below)
     ∙ sym (get_or-answers_of received marks k None (omega arith) (omega arith)))
-
--- one more place is counted where its flag is set
-next-by : (marks : List Bool) (i : ℕ) (flag : Bool) → i < length marks → get_or marks i false ≡ flag
-    → marked (take i marks) + cond flag 1 0 ≡ marked (take (i + 1) marks)
-next-by marks i true within is = omega (arith, marked-next_marked marks i within is)
-next-by marks i false within is = omega (arith, marked-next_clear marks i within is)
-
--- one more flag counts where it is set
-pub marked-next : (marks : List Bool) (i : ℕ) → i < length marks → marked (take i marks) + cond (get_or marks i false) 1 0 ≡ marked (take (i + 1) marks)
-marked-next marks i within = next-by marks i (get_or marks i false) within refl
 
 -- a flag as a number is 1 where it is set and 0 elsewhere
 pub as_number : (flag : Bool) → bool_byte flag ≡ cond flag 1 0

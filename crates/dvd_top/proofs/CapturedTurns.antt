@@ -77,7 +77,8 @@ module _ (form : Form) (k : ℕ) (old new : Seen) where
   }
 
 -- UNITS that are captured blocks: a turn by what was read and by what was done.
-module _ (units : Units) (form : Form) (begins : (k : ℕ) (own : List ℕ) → units.begins k own ≡ captured_part form own) (k : ℕ) (before : List (List ℕ)) (number : length before ≡ k) (ready : List (List ℕ) → Type 0) (source new_source output report : Seen) where
+module _ (units : Units) (form : Form) (begins : (k : ℕ) (own : List ℕ) → units.begins k own ≡ captured_part form own) (k : ℕ)
+    (before : List (List ℕ)) (number : length before ≡ k) (ready : List (List ℕ) → Type 0) (source new_source output report : Seen) where
   -- a block that isn't read whole ends the loop, as its source did
   pub captured_short : (answer : Result Turn LoopEnd) (end : LoopEnd) → answer ≡ Err end → EndsCaptured form k source new_source end
       → IsTurn units before ready (streams source output report) (streams new_source output report) answer

@@ -67,8 +67,8 @@ some-step : {X : Type 0} (p : X → Bool) (y x : X) (rest : Option X) (b : Bool)
 some-step p y x rest true is later found = let same : y ≡ x = cc in subst (λ z. p z ≡ true) same is
 some-step p y x rest false is later found = later found
 
--- and what it finds passes
-find-some : {X : Type 0} (p : X → Bool) (xs : List X) (x : X) → find p xs ≡ Some x → p x ≡ true
+-- what a search finds passes
+pub find-some : {X : Type 0} (p : X → Bool) (xs : List X) (x : X) → find p xs ≡ Some x → p x ≡ true
 find-some p [] x found = cc
 find-some p (y ∷ xs) x found = some-step p y x (find p xs) (p y) refl (find-some p xs x) found
 

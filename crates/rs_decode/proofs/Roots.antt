@@ -148,11 +148,13 @@ few_lowest_first (x ∷ points) (c ∷ cs) distinct all_points all nonzero =
           λ zeros. nonzero (all_zero c x cs root (zeros_from_quotient x cs (zeros ∙ ap (λ n. replicate n 0) (length-quotient x cs)))) in
           let rest = few_lowest_first points (quotient x cs) distinct.1 tail_points (All-quotient x cs all_cs) quotient_nonzero in
           let same = same_zeros x c cs points byte_x all_cs tail_points distinct.0 root in
-          let counted : (if polynomial_at (c ∷ cs) x == 0 then 1 else 0) + zeros_among (polynomial_at (c ∷ cs)) points ≤ 1 + zeros_among (polynomial_at (quotient x cs)) points = one_at_most (polynomial_at (c ∷ cs) x) (zeros_among (polynomial_at (c ∷ cs)) points) (zeros_among (polynomial_at (quotient x cs)) points) same in
+          let counted : (if polynomial_at (c ∷ cs) x == 0 then 1 else 0) + zeros_among (polynomial_at (c ∷ cs)) points ≤ 1 + zeros_among (polynomial_at (quotient x cs)) points =
+          one_at_most (polynomial_at (c ∷ cs) x) (zeros_among (polynomial_at (c ∷ cs)) points) (zeros_among (polynomial_at (quotient x cs)) points) same in
           omega (arith, length-quotient x cs)
       | inr no_root ↦
           let rest = few_lowest_first points (c ∷ cs) distinct.1 (All-tail IsByte x points all_points) all nonzero in
-          let counted : (if polynomial_at (c ∷ cs) x == 0 then 1 else 0) + zeros_among (polynomial_at (c ∷ cs)) points ≡ zeros_among (polynomial_at (c ∷ cs)) points = not_counted (polynomial_at (c ∷ cs) x) (zeros_among (polynomial_at (c ∷ cs)) points) no_root in
+          let counted : (if polynomial_at (c ∷ cs) x == 0 then 1 else 0) + zeros_among (polynomial_at (c ∷ cs)) points ≡ zeros_among (polynomial_at (c ∷ cs)) points =
+          not_counted (polynomial_at (c ∷ cs) x) (zeros_among (polynomial_at (c ∷ cs)) points) no_root in
           omega arith
     ]
 
