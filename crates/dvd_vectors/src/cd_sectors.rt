@@ -1,5 +1,5 @@
 //! CD-ROM sectors that are made, and their user data, by whole runs.
-use crate::fixture::{ALL_SOUND, End, image, run_to, zeros};
+use crate::fixture::{ALL_SOUND, End, Run, end_so, has_at, image, leave_fronts, run_to};
 use dvd_top::Status;
 use sha2::{Digest, Sha256};
 use std::test::Fail;
@@ -21,6 +21,11 @@ const COUNTED: [u8; 32] = [
     0x67, 0x80, 0x83, 0x98, 0x2D, 0xFB, 0xC7, 0x81, 0xC5, 0x5B, 0xA1, 0x47, 0x29, 0x89, 0x6B, 0x47,
 ];
 
+// How it begins.
+const FRONT: [u8; 16] = [
+    0x00, 0xFF, 0xFF, 0xFF, 0xFF, 0xFF, 0xFF, 0xFF, 0xFF, 0xFF, 0xFF, 0x00, 0x00, 0x02, 0x00, 0x01,
+];
+
 // Byte i of the user data is 7i + i / 256.
 fn counted() -> [u8; 2048] {
     let mut bytes = [0; 2048];
@@ -35,120 +40,138 @@ fn made<R: AllocGlobal + Threads + Sync>(rt: &R, user: &[u8]) -> Result<Vec<u8>,
     run_to(rt, MAKE, user, ALL_SOUND, (Status::Done, 2352, "done\n"))
 }
 
-fn has_at(sector: &[u8], at: usize, bytes: &[u8]) -> bool {
-    sector.get(at..).is_some_and(|rest| rest.starts_with(bytes))
-}
-
 // What the sector library of the program wodim makes (libedc of cdrkit 1.1.11), and a program that was made from the standard
 // alone.
 #[test]
 fn the_sectors_of_another_program(rt: HostRuntime) -> Result<(), Fail> {
     let sector = made(&rt, &[0; 2048])?;
-    let front = [
-        0x00, 0xFF, 0xFF, 0xFF, 0xFF, 0xFF, 0xFF, 0xFF, 0xFF, 0xFF, 0xFF, 0x00, 0x00, 0x02, 0x00,
-        0x01,
-    ];
-    assert!(rt; sector.starts_with(&front));
+    assert!(rt; sector.starts_with(&FRONT));
     assert_eq!(rt; Sha256::digest(&sector), ZEROS);
+    Ok(())
+}
+
+// Places of the sector of counted bytes, and what stands there: the EDC, and parities.
+static PLACES: [(usize, [u8; 4]); 3] = [
+    (2064, [0xA2, 0xCA, 0x36, 0xEC]),
+    (2076, [0xD2, 0x24, 0xCD, 0x3B]),
+    (2248, [0x59, 0x71, 0x7C, 0xF6]),
+];
+
+#[test]
+fn the_sector_of_counted_bytes(rt: HostRuntime) -> Result<(), Fail> {
     let sector = made(&rt, &counted())?;
-    assert!(rt; has_at(&sector, 2064, &[0xA2, 0xCA, 0x36, 0xEC]));
-    assert!(rt; has_at(&sector, 2076, &[0xD2, 0x24, 0xCD, 0x3B]));
-    assert!(rt; has_at(&sector, 2248, &[0x59, 0x71, 0x7C, 0xF6]));
+    for (at, bytes) in &PLACES {
+        assert!(rt; has_at(&sector, *at, bytes));
+    }
     assert_eq!(rt; Sha256::digest(&sector), COUNTED);
     Ok(())
 }
 
-// Words, zeros read, and the end.
-type Run = (&'static str, usize, End);
-
+// Over so many zeros.
 static RUNS: [Run; 12] = [
-    (
-        MAKE,
-        2047,
-        (Status::Short, 0, "short: sector 0, 2047 bytes\n"),
-    ),
-    (MAKE, 2049, (Status::Long, 2352, "long\n")),
-    (
-        "cdmake --address 0 --sectors 450000",
-        2050,
-        (Status::Short, 2352, "short: sector 1, 2 bytes\n"),
-    ),
-    (
-        "cdmake --address 449999 --sectors 2",
-        2048,
-        (Status::Usage, 0, "usage\n"),
-    ),
-    (READ, 0, (Status::Short, 0, "short: sector 0, 0 bytes\n")),
-    (
-        READ,
-        2351,
-        (Status::Short, 0, "short: sector 0, 2351 bytes\n"),
-    ),
-    (
-        READ,
-        2352,
-        (
+    Run {
+        words: MAKE,
+        input: (0, "", 0, 0, 2047, 0),
+        end: (Status::Short, 0, "short: sector 0, 2047 bytes\n"),
+        writes: &[],
+    },
+    Run {
+        words: MAKE,
+        input: (0, "", 0, 0, 2049, 0),
+        end: (Status::Long, 2352, "long\n"),
+        writes: &[],
+    },
+    Run {
+        words: "cdmake --address 0 --sectors 450000",
+        input: (0, "", 0, 0, 2050, 0),
+        end: (Status::Short, 2352, "short: sector 1, 2 bytes\n"),
+        writes: &[],
+    },
+    Run {
+        words: "cdmake --address 449999 --sectors 2",
+        input: (0, "", 0, 0, 2048, 0),
+        end: (Status::Usage, 0, "usage\n"),
+        writes: &[],
+    },
+    Run {
+        words: READ,
+        input: (0, "", 0, 0, 0, 0),
+        end: (Status::Short, 0, "short: sector 0, 0 bytes\n"),
+        writes: &[],
+    },
+    Run {
+        words: READ,
+        input: (0, "", 0, 0, 2351, 0),
+        end: (Status::Short, 0, "short: sector 0, 2351 bytes\n"),
+        writes: &[],
+    },
+    Run {
+        words: READ,
+        input: (0, "", 0, 0, 2352, 0),
+        end: (
             Status::Damaged,
             2048,
             "sector 0: mode 0\ndamaged: 1 sectors\n",
         ),
-    ),
-    (READ, 2353, (Status::Long, 2048, "sector 0: mode 0\nlong\n")),
-    (
-        "cdread --address 449998 --sectors 2",
-        4704,
-        (
+        writes: &[],
+    },
+    Run {
+        words: READ,
+        input: (0, "", 0, 0, 2353, 0),
+        end: (Status::Long, 2048, "sector 0: mode 0\nlong\n"),
+        writes: &[],
+    },
+    Run {
+        words: "cdread --address 449998 --sectors 2",
+        input: (0, "", 0, 0, 4704, 0),
+        end: (
             Status::Damaged,
             4096,
             "sector 0: mode 0\nsector 1: mode 0\ndamaged: 2 sectors\n",
         ),
-    ),
-    (
-        "cdread --address 0 --sectors 450000",
-        2353,
-        (
+        writes: &[],
+    },
+    Run {
+        words: "cdread --address 0 --sectors 450000",
+        input: (0, "", 0, 0, 2353, 0),
+        end: (
             Status::Short,
             2048,
             "sector 0: mode 0\nshort: sector 1, 1 bytes\n",
         ),
-    ),
-    (
-        "cdread --address 449999 --sectors 2",
-        2352,
-        (Status::Usage, 0, "usage\n"),
-    ),
-    (
-        "cdread --address 150 --sectors 1 --form plain",
-        2352,
-        (Status::Usage, 0, "usage\n"),
-    ),
+        writes: &[],
+    },
+    Run {
+        words: "cdread --address 449999 --sectors 2",
+        input: (0, "", 0, 0, 2352, 0),
+        end: (Status::Usage, 0, "usage\n"),
+        writes: &[],
+    },
+    Run {
+        words: "cdread --address 150 --sectors 1 --form plain",
+        input: (0, "", 0, 0, 2352, 0),
+        end: (Status::Usage, 0, "usage\n"),
+        writes: &[],
+    },
 ];
 
 #[test]
 fn each_run_ends_as_its_input_says(rt: HostRuntime) -> Result<(), Fail> {
-    for (text, size, end) in &RUNS {
-        run_to(&rt, text, &zeros(rt.alloc(), *size)?, ALL_SOUND, *end)?;
-    }
-    Ok(())
+    end_so(&rt, &RUNS, ALL_SOUND)
 }
+
+// What is left of a sector of another address.
+const ELSEWHERE: End = (
+    Status::Damaged,
+    2048,
+    "sector 0: address found 000200\ndamaged: 1 sectors\n",
+);
 
 #[test]
 fn a_sector_of_another_address(rt: HostRuntime) -> Result<(), Fail> {
     let sector = made(&rt, &counted())?;
-    let end = (
-        Status::Damaged,
-        2048,
-        "sector 0: address found 000200\ndamaged: 1 sectors\n",
-    );
-    let out = run_to(
-        &rt,
-        "cdread --address 151 --sectors 1",
-        &sector,
-        ALL_SOUND,
-        end,
-    )?;
-    assert_eq!(rt; &out, &zeros(rt.alloc(), 2048)?);
-    Ok(())
+    let text = "cdread --address 151 --sectors 1";
+    leave_fronts(&rt, text, &sector, &[0; 2048], &[(ALL_SOUND, ELSEWHERE)])
 }
 
 // The bits that are read wrong: of the first sector all bytes of one P word in each half, of the second one a thousand bytes,
@@ -163,37 +186,35 @@ fn wrong_bits(at: usize) -> u8 {
     }
 }
 
-#[test]
-fn a_damaged_sector_among_good_ones(rt: HostRuntime) -> Result<(), Fail> {
-    let mut user = image(rt.alloc(), 4)?;
-    let done = (Status::Done, 9408, "done\n");
-    let mut stream = run_to(
-        &rt,
-        "cdmake --address 4498 --sectors 4",
-        &user,
-        ALL_SOUND,
-        done,
-    )?;
+// The sectors of an image, made and read wrong.
+fn damaged<R: AllocGlobal + Threads + Sync>(rt: &R, image: &[u8]) -> Result<Vec<u8>, Fail> {
+    let text = "cdmake --address 4498 --sectors 4";
+    let mut stream = run_to(rt, text, image, ALL_SOUND, (Status::Done, 9408, "done\n"))?;
     for (at, byte) in stream.iter_mut().enumerate() {
         *byte ^= wrong_bits(at);
     }
-    let end = (
-        Status::Damaged,
-        8192,
-        "sector 1: parity 0\ndamaged: 1 sectors\n",
-    );
-    let out = run_to(
-        &rt,
-        "cdread --address 4498 --sectors 4",
-        &stream,
-        ALL_SOUND,
-        end,
-    )?;
-    for (k, sector) in user.chunks_exact_mut(2048).enumerate() {
-        if k == 1 {
-            sector.fill(0);
-        }
+    Ok(stream)
+}
+
+// Fills the second sector of an image with zeros.
+fn wipe_second(image: &mut [u8]) {
+    if let Some(sector) = image.get_mut(2048..4096) {
+        sector.fill(0);
     }
-    assert_eq!(rt; &out, &user);
-    Ok(())
+}
+
+// What is left of the others.
+const ONE_DAMAGED: End = (
+    Status::Damaged,
+    8192,
+    "sector 1: parity 0\ndamaged: 1 sectors\n",
+);
+
+#[test]
+fn a_damaged_sector_among_good_ones(rt: HostRuntime) -> Result<(), Fail> {
+    let mut image = image(rt.alloc(), 4)?;
+    let stream = damaged(&rt, &image)?;
+    wipe_second(&mut image);
+    let text = "cdread --address 4498 --sectors 4";
+    leave_fronts(&rt, text, &stream, &image, &[(ALL_SOUND, ONE_DAMAGED)])
 }

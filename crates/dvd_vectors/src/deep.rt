@@ -2,15 +2,15 @@
 //! come from another program.
 ghost use Rattle.std.specs.Prelude.{◌<◌};
 
-use crate::fixture::{ALL_SOUND, BLOCK, image, mastered, run_to};
+use crate::fixture::{ALL_SOUND, End, Marks, image, marked, mastered, recording, run_to, writes};
 use dvd_block::row_of_record;
 use dvd_top::Status;
 use sha2::{Digest, Sha256};
-use std::alloc::{AllocError, Global};
 use std::test::Fail;
+use std::thread::Threads;
 
 // The places of a block that are lost.
-#[derive(Clone, Copy, Debug, PartialEq, Eq)]
+#[derive(Clone, Copy)]
 enum Lost {
     // Eleven places side by side in each of twenty rows, nine places further in each.
     Ladder,
@@ -47,33 +47,40 @@ fn is_in_chain(chain: usize, row: usize, j: usize) -> bool
     j / 10 == chain || j == link
 }
 
-// A recording in the marked form with lost places, and with five wrong bytes at most in each of twenty other rows.
-fn damaged(alloc: Global, stream: &[u8], lost: Lost) -> Result<Vec<u8>, AllocError> {
-    let mut bytes = Vec::new(alloc);
-    for (record, row) in stream.chunks_exact(182).enumerate() {
-        push_row(&mut bytes, row, row_of_record(record % 208), lost)?;
-    }
-    Ok(bytes)
+// Whether a place of a stream is lost.
+fn is_lost_at(lost: Lost, k: usize) -> bool {
+    is_lost(lost, row_of_record(k / 182 % 208), k % 182)
 }
 
-fn push_row(bytes: &mut Vec<u8>, row: &[u8], i: usize, lost: Lost) -> Result<(), AllocError>
-    requires { i < 208 }
-{
-    let mut marks = [0; 23];
-    for j in 0..182usize {
-        let is_wrong = 100 <= i && i < 120 && j % 37 == i % 37;
-        let is_lost = is_lost(lost, i, j);
-        let byte = row.get(j).copied().unwrap_or(0);
-        bytes.push(match (is_lost, is_wrong) {
-            (true, _) => byte ^ 0x5A,
-            (false, true) => byte ^ 0x55,
-            (false, false) => byte,
-        })?;
-        if is_lost {
-            marks[j / 8] |= 0x80 >> (j % 8);
+// Makes lost places wrong, and five bytes at most in each of twenty other rows.
+fn damage(stream: &mut [u8], lost: Lost) {
+    for (k, byte) in stream.iter_mut().enumerate() {
+        let i = row_of_record(k / 182 % 208);
+        if is_lost_at(lost, k) {
+            *byte ^= 0x5A;
+        } else if 100 <= i && i < 120 && k % 182 % 37 == i % 37 {
+            *byte ^= 0x55;
         }
     }
-    bytes.extend_from_slice(&marks)
+}
+
+impl Marks for Lost {
+    fn of_row(&self, record: usize) -> [u8; 23] {
+        let mut marks = [0; 23];
+        for j in 0..182usize {
+            if is_lost(*self, row_of_record(record % 208), j) {
+                marks[j / 8] |= 0x80 >> (j % 8);
+            }
+        }
+        marks
+    }
+}
+
+// A recording in the marked form that is damaged so.
+fn damaged<R: AllocGlobal + Threads + Sync>(rt: &R, lost: Lost) -> Result<Vec<u8>, Fail> {
+    let mut stream = recording(rt, "master --sectors 16", 16, 1)?;
+    damage(&mut stream, lost);
+    Ok(marked(rt.alloc(), &stream, &lost)?)
 }
 
 // The lost places, the words, the status and the report.
@@ -119,11 +126,9 @@ const WRITTEN: [u8; 32] = [
 
 #[test]
 fn rounds_give_blocks_back(rt: HostRuntime) -> Result<(), Fail> {
-    let alloc = rt.alloc();
-    let stream = mastered(&rt, "master --sectors 16", &image(alloc, 16)?)?;
     let mut hash = Sha256::new();
     for (lost, status, report) in &RUNS {
-        let bytes = damaged(alloc, &stream, *lost)?;
+        let bytes = damaged(&rt, *lost)?;
         let end = (*status, 32_768, *report);
         let text = "deep --sectors 16 --form marked";
         hash.update(&run_to(&rt, text, &bytes, ALL_SOUND, end)?);
@@ -132,23 +137,18 @@ fn rounds_give_blocks_back(rt: HostRuntime) -> Result<(), Fail> {
     Ok(())
 }
 
+// What the two passes leave of a block that a round gives back.
+const REFUSED: End = (
+    Status::Damaged,
+    32_768,
+    "block 0 sector 030000 layer 0: rows 20 saved 14\ndamaged: 1 blocks\n",
+);
+
 #[test]
 fn two_passes_refuse_what_a_round_gives_back(rt: HostRuntime) -> Result<(), Fail> {
-    let alloc = rt.alloc();
-    let stream = mastered(&rt, "master --sectors 16", &image(alloc, 16)?)?;
-    let bytes = damaged(alloc, &stream, Lost::Ladder)?;
-    let end = (
-        Status::Damaged,
-        32_768,
-        "block 0 sector 030000 layer 0: rows 20 saved 14\ndamaged: 1 blocks\n",
-    );
-    run_to(
-        &rt,
-        "recover --sectors 16 --form marked",
-        &bytes,
-        ALL_SOUND,
-        end,
-    )?;
+    let bytes = damaged(&rt, Lost::Ladder)?;
+    let text = "recover --sectors 16 --form marked";
+    run_to(&rt, text, &bytes, ALL_SOUND, REFUSED)?;
     Ok(())
 }
 
@@ -156,9 +156,5 @@ fn two_passes_refuse_what_a_round_gives_back(rt: HostRuntime) -> Result<(), Fail
 fn a_sound_block_has_no_line(rt: HostRuntime) -> Result<(), Fail> {
     let image = image(rt.alloc(), 16)?;
     let stream = mastered(&rt, "master --sectors 16", &image)?;
-    assert_eq!(rt; stream.len(), BLOCK);
-    let end = (Status::Done, 32_768, "done\n");
-    let written = run_to(&rt, "deep --sectors 16", &stream, ALL_SOUND, end)?;
-    assert!(rt; written == image);
-    Ok(())
+    writes(&rt, "deep --sectors 16", &stream, ALL_SOUND, &image)
 }

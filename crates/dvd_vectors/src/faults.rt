@@ -1,7 +1,7 @@
 //! How much exactly is left after a fault, and the lines.
 use crate::fixture::{
-    ALL_SOUND, BLOCK, Case, Disk, NEVER, SIXTEEN, SOUND, THIRTY_TWO, image, leave_fronts,
-    leave_sectors, mastered, run_to, zeros,
+    ALL_SOUND, BLOCK, Case, Input, NEVER, SOUND, image, leave_fronts, leave_sectors, mastered,
+    run_to, zeros,
 };
 use dvd_top::Status;
 use std::test::Fail;
@@ -97,6 +97,11 @@ fn a_failed_read_leaves_the_recorded_blocks(rt: HostRuntime) -> Result<(), Fail>
     leave_fronts(&rt, "master --sectors 32", &image, &stream, &MASTERED)
 }
 
+// A recorded block, and two of them.
+static SIXTEEN: Input = (16, "master --sectors 16", 1, 0, BLOCK, 0);
+
+static THIRTY_TWO: Input = (32, "master --sectors 32", 2, 0, 2 * BLOCK, 0);
+
 static ONE_BLOCK: [Case; 4] = [
     (
         ((1000, 5, 0), SOUND, SOUND),
@@ -138,8 +143,8 @@ static TWO_BLOCKS: [Case; 4] = [
 
 #[test]
 fn a_fault_leaves_the_sectors_before_it(rt: HostRuntime) -> Result<(), Fail> {
-    leave_sectors(&rt, &SIXTEEN, BLOCK, &ONE_BLOCK)?;
-    leave_sectors(&rt, &THIRTY_TWO, 2 * BLOCK, &TWO_BLOCKS)
+    leave_sectors(&rt, "recover --sectors 16", &SIXTEEN, &ONE_BLOCK)?;
+    leave_sectors(&rt, "recover --sectors 32", &THIRTY_TWO, &TWO_BLOCKS)
 }
 
 // The line of a refused block goes out before its sectors, which are zeros.
@@ -184,7 +189,7 @@ static REFUSED: [Case; 6] = [
 ];
 
 // A disk of two blocks, of which one is recorded.
-static HALF: Disk = (16, "master --sectors 16", "recover --sectors 32");
+static HALF: Input = (16, "master --sectors 16", 1, 0, 2 * BLOCK, 0);
 
 static SECOND_REFUSED: [Case; 2] = [
     (
@@ -205,5 +210,5 @@ static SECOND_REFUSED: [Case; 2] = [
 fn a_refused_block_is_named_before_its_sectors(rt: HostRuntime) -> Result<(), Fail> {
     let stream = zeros(rt.alloc(), BLOCK)?;
     leave_fronts(&rt, "recover --sectors 16", &stream, &stream, &REFUSED)?;
-    leave_sectors(&rt, &HALF, 2 * BLOCK, &SECOND_REFUSED)
+    leave_sectors(&rt, "recover --sectors 32", &HALF, &SECOND_REFUSED)
 }

@@ -135,13 +135,135 @@ pub type Input = (usize, &'static str, usize, usize, usize, u8);
 /// The bytes of an input.
 pub fn bytes_of<R: AllocGlobal + Threads + Sync>(rt: &R, input: &Input) -> Result<Vec<u8>, Fail> {
     let (sectors, text, blocks, from, length, filling) = *input;
-    let mut bytes = image(rt.alloc(), sectors)?;
-    if !text.is_empty() {
-        bytes = recorded(rt, text, &bytes, blocks)?;
-    }
+    let mut bytes = recording(rt, text, sectors, blocks)?;
     let from = from.min(bytes.len());
     bytes.rotate_left(from);
     bytes.resize(length, filling)?;
+    Ok(bytes)
+}
+
+/// What the words record of an image of so many sectors; with no words the image itself.
+pub fn recording<R: AllocGlobal + Threads + Sync>(
+    rt: &R,
+    text: &str,
+    sectors: usize,
+    blocks: usize,
+) -> Result<Vec<u8>, Fail> {
+    let image = image(rt.alloc(), sectors)?;
+    if text.is_empty() {
+        return Ok(image);
+    }
+    recorded(rt, text, &image, blocks)
+}
+
+/// A run: its words, its input, its end, and the bytes that it writes at some places.
+pub struct Run {
+    /// The words, by blanks.
+    pub words: &'static str,
+    /// What they run over.
+    pub input: Input,
+    /// The status, the bytes written, and the report.
+    pub end: End,
+    /// Places of the output, and the bytes that begin there.
+    pub writes: &'static [(usize, &'static [u8])],
+}
+
+/// The runs end so, and write so.
+pub fn end_so<R: AllocGlobal + Threads + Sync>(
+    rt: &R,
+    runs: &[Run],
+    ports: Ports,
+) -> Result<(), Fail> {
+    for run in runs {
+        ends_so(rt, run, ports)?;
+    }
+    Ok(())
+}
+
+// One run does.
+fn ends_so<R: AllocGlobal + Threads + Sync>(rt: &R, run: &Run, ports: Ports) -> Result<(), Fail> {
+    let bytes = bytes_of(rt, &run.input)?;
+    let written = run_to(rt, run.words, &bytes, ports, run.end)?;
+    if !has_all(&written, run.writes) {
+        Err(run.words)?;
+    }
+    Ok(())
+}
+
+// Whether bytes stand at these places.
+fn has_all(written: &[u8], places: &[(usize, &'static [u8])]) -> bool {
+    for (at, bytes) in places {
+        if !has_at(written, *at, bytes) {
+            return false;
+        }
+    }
+    true
+}
+
+/// Whether those bytes stand there.
+pub fn has_at(written: &[u8], at: usize, bytes: &[u8]) -> bool {
+    match written.get(at..) {
+        Some(rest) => rest.starts_with(bytes),
+        None => false,
+    }
+}
+
+/// The words are done, and write these bytes.
+pub fn writes<R: AllocGlobal + Threads + Sync>(
+    rt: &R,
+    text: &str,
+    bytes: &[u8],
+    ports: Ports,
+    wanted: &[u8],
+) -> Result<(), Fail> {
+    let end = (Status::Done, wanted.len(), "done\n");
+    if run_to(rt, text, bytes, ports, end)?.as_slice() != wanted {
+        Err(wanted.len())?;
+    }
+    Ok(())
+}
+
+/// Whether a run ends so, and writes and tells these bytes.
+pub fn leaves<R: AllocGlobal + Threads + Sync>(
+    rt: &R,
+    text: &str,
+    bytes: &[u8],
+    ports: Ports,
+    left: (Status, &[u8], &[u8]),
+) -> Result<bool, Fail> {
+    let (status, out, told) = ran(rt, text, bytes, ports)?;
+    Ok(status == left.0 && out.held() == left.1 && told.held() == left.2)
+}
+
+/// The words of both texts.
+pub fn joined(alloc: Global, text: &str, more: &str) -> Result<String, AllocError> {
+    format!(in alloc; "{text} {more}")
+}
+
+/// The bytes without so many at their end, and with these behind them.
+pub fn ended(alloc: Global, bytes: &[u8], cut: usize, more: &[u8]) -> Result<Vec<u8>, AllocError> {
+    let mut bytes = bytes.to_vec(alloc)?;
+    bytes.truncate(bytes.len().saturating_sub(cut));
+    bytes.extend_from_slice(more)?;
+    Ok(bytes)
+}
+
+/// The marks of a capture.
+pub trait Marks {
+    /// The 23 bytes of marks of a recorded row, whose number in the stream that is.
+    fn of_row(&self, record: usize) -> [u8; 23];
+}
+
+/// The bytes of a captured block in the marked form.
+pub const MARKED: usize = 42_640;
+
+/// The capture of a stream in the marked form.
+pub fn marked<M: Marks>(alloc: Global, stream: &[u8], marks: &M) -> Result<Vec<u8>, AllocError> {
+    let mut bytes = Vec::new(alloc);
+    for (record, row) in stream.chunks_exact(182).enumerate() {
+        bytes.extend_from_slice(row)?;
+        bytes.extend_from_slice(&marks.of_row(record))?;
+    }
     Ok(bytes)
 }
 
@@ -162,25 +284,25 @@ pub fn leave_fronts<R: AllocGlobal + Threads + Sync>(
     Ok(())
 }
 
-/// A disk: the sectors of its image, the words that master it, and those that read it back.
-pub type Disk = (usize, &'static str, &'static str);
+/// Rows of which nothing is known: zeros with marks, and the last byte of the marks as it is given.
+pub fn unknown(alloc: Global, rows: usize, last: u8) -> Result<Vec<u8>, AllocError> {
+    let mut bytes = Vec::new(alloc);
+    for _ in 0..rows {
+        bytes.extend_from_slice(&[0; 182])?;
+        bytes.extend_from_slice(&[0xFF; 22])?;
+        bytes.push(last)?;
+    }
+    Ok(bytes)
+}
 
-/// A disk of one ECC block of image.
-pub static SIXTEEN: Disk = (16, "master --sectors 16", "recover --sectors 16");
-
-/// A disk of two.
-pub static THIRTY_TWO: Disk = (32, "master --sectors 32", "recover --sectors 32");
-
-/// Leaves fronts of the image where its recording is read back, cut to this length or followed by zeros.
+/// Leaves fronts of the image where the words run over this input, which was recorded of it.
 pub fn leave_sectors<R: AllocGlobal + Threads + Sync>(
     rt: &R,
-    disk: &Disk,
-    length: usize,
+    text: &str,
+    input: &Input,
     cases: &[Case],
 ) -> Result<(), Fail> {
-    let (sectors, master, recover) = *disk;
-    let image = image(rt.alloc(), sectors)?;
-    let mut stream = mastered(rt, master, &image)?;
-    stream.resize(length, 0)?;
-    leave_fronts(rt, recover, &stream, &image, cases)
+    let image = image(rt.alloc(), input.0)?;
+    let stream = bytes_of(rt, input)?;
+    leave_fronts(rt, text, &stream, &image, cases)
 }

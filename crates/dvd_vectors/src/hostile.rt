@@ -245,14 +245,20 @@ fn port(step: usize, call: u64) -> Port {
 // The most bytes of a call, of all ports.
 static STEPS: [usize; 4] = [1, 7, 2047, 40_000];
 
+// They play no part in what a command leaves.
+fn play_no_part<R: AllocGlobal + Threads + Sync>(rt: &R, command: &Command) -> Result<(), Fail> {
+    let input = bytes_of(rt, &command.input)?;
+    for step in &STEPS {
+        let port = port(*step, NEVER);
+        whole(rt, command, &input, (port, port, port))?;
+    }
+    Ok(())
+}
+
 #[test]
 fn pieces_play_no_part(rt: HostRuntime) -> Result<(), Fail> {
     for command in &COMMANDS {
-        let input = bytes_of(&rt, &command.input)?;
-        for step in &STEPS {
-            let port = port(*step, NEVER);
-            whole(&rt, command, &input, (port, port, port))?;
-        }
+        play_no_part(&rt, command)?;
     }
     Ok(())
 }
@@ -353,15 +359,21 @@ fn fail_in_turn<R: AllocGlobal + Threads + Sync>(
     Ok(())
 }
 
+// So it is for each of the ports.
+fn each_port_fails<R: AllocGlobal + Threads + Sync>(rt: &R, command: &Command) -> Result<(), Fail> {
+    let port = port(40_000, NEVER);
+    let input = bytes_of(rt, &command.input)?;
+    let output = whole(rt, command, &input, (port, port, port))?;
+    for side in &[Side::Source, Side::Output, Side::Report] {
+        fail_in_turn(rt, command, &input, &output, side)?;
+    }
+    Ok(())
+}
+
 #[test]
 fn each_call_fails_in_turn(rt: HostRuntime) -> Result<(), Fail> {
-    let port = port(40_000, NEVER);
     for command in &COMMANDS {
-        let input = bytes_of(&rt, &command.input)?;
-        let output = whole(&rt, command, &input, (port, port, port))?;
-        for side in &[Side::Source, Side::Output, Side::Report] {
-            fail_in_turn(&rt, command, &input, &output, side)?;
-        }
+        each_port_fails(&rt, command)?;
     }
     Ok(())
 }

@@ -1,5 +1,5 @@
 //! The physical format that `info` finds in what `master` wrote of every zone, and what it answers where there is none.
-use crate::fixture::{ALL_SOUND, BLOCK, End, image, recorded, run_to, zeros};
+use crate::fixture::{ALL_SOUND, BLOCK, Run, end_so, leave_fronts, recording};
 use dvd_top::Status;
 use std::test::Fail;
 use std::thread::Threads;
@@ -42,11 +42,6 @@ static OPPOSITE: Disk = (
     "version 1\nrate 2\nlayers 2\npath opposite\nkind 1\ndensity 1\npitch 0\nfirst 030000\nlast FCFFEF\nlayer0 03001F\nbca 0\n",
 );
 
-// The stream of a disk.
-fn stream_of<R: AllocGlobal + Threads + Sync>(rt: &R, disk: &Disk) -> Result<Vec<u8>, Fail> {
-    recorded(rt, disk.0, &image(rt.alloc(), disk.1)?, disk.2)
-}
-
 // Destroys so many control blocks of a stream, from the first on.
 fn wipe(stream: &mut [u8], disk: &Disk, count: usize) {
     let from = disk.4.saturating_mul(BLOCK);
@@ -55,100 +50,87 @@ fn wipe(stream: &mut [u8], disk: &Disk, count: usize) {
     }
 }
 
-// The first control block that is left answers where so many are destroyed.
-fn answers_without<R: AllocGlobal + Threads + Sync>(
+// The first control block that is left answers where so many are destroyed, and none where all 192 are.
+fn answer_without<R: AllocGlobal + Threads + Sync>(
     rt: &R,
     disk: &Disk,
     stream: &mut [u8],
     count: usize,
 ) -> Result<(), Fail> {
     wipe(stream, disk, count);
-    let end = (Status::Done, disk.5.len(), "done\n");
-    let lines = run_to(rt, disk.3, stream, ALL_SOUND, end)?;
-    if lines.as_slice() != disk.5.as_bytes() {
-        Err(count)?;
-    }
-    Ok(())
-}
-
-// None answers where all 192 are destroyed.
-fn none_answers<R: AllocGlobal + Threads + Sync>(
-    rt: &R,
-    disk: &Disk,
-    stream: &mut [u8],
-) -> Result<(), Fail> {
-    wipe(stream, disk, 192);
-    let end = (Status::NoControl, 0, "no control block\n");
-    run_to(rt, disk.3, stream, ALL_SOUND, end)?;
-    Ok(())
+    let lines = disk.5.as_bytes();
+    let end = match count {
+        192 => (Status::NoControl, 0, "no control block\n"),
+        _ => (Status::Done, lines.len(), "done\n"),
+    };
+    leave_fronts(rt, disk.3, stream, lines, &[(ALL_SOUND, end)])
 }
 
 // The first, the second and the last control block answer, and then none.
 fn some_answer<R: AllocGlobal + Threads + Sync>(rt: &R, disk: &Disk) -> Result<(), Fail> {
-    let mut stream = stream_of(rt, disk)?;
-    for count in [0, 1, 191] {
-        answers_without(rt, disk, &mut stream, count)?;
+    let mut stream = recording(rt, disk.0, disk.1, disk.2)?;
+    for count in [0, 1, 191, 192] {
+        answer_without(rt, disk, &mut stream, count)?;
     }
-    none_answers(rt, disk, &mut stream)
+    Ok(())
 }
 
 #[test]
 fn one_layer_tells_its_format(rt: HostRuntime) -> Result<(), Fail> {
-    let mut stream = stream_of(&rt, &SINGLE)?;
-    for count in 0..192usize {
-        answers_without(&rt, &SINGLE, &mut stream, count)?;
+    let mut stream = recording(&rt, SINGLE.0, SINGLE.1, SINGLE.2)?;
+    for count in 0..193usize {
+        answer_without(&rt, &SINGLE, &mut stream, count)?;
     }
-    none_answers(&rt, &SINGLE, &mut stream)
+    Ok(())
 }
 
 #[test]
-fn two_parallel_layers_tell_their_format(rt: HostRuntime) -> Result<(), Fail> {
-    some_answer(&rt, &PARALLEL)
-}
-
-#[test]
-fn two_opposite_layers_tell_their_format(rt: HostRuntime) -> Result<(), Fail> {
+fn two_layers_tell_their_format(rt: HostRuntime) -> Result<(), Fail> {
+    some_answer(&rt, &PARALLEL)?;
     some_answer(&rt, &OPPOSITE)
 }
 
-// Words, so many zeros, and the end.
-static ENDS: [(&str, usize, End); 6] = [
-    (
-        "info",
-        224 * BLOCK,
-        (Status::NoControl, 0, "no control block\n"),
-    ),
-    (
-        "info",
-        224 * BLOCK - 1,
-        (Status::Short, 0, "short: block 223, 37855 bytes\n"),
-    ),
-    (
-        "info --form marked",
-        42_645,
-        (Status::Short, 0, "short: block 1, 5 bytes\n"),
-    ),
-    (
-        "info --initial 12031",
-        0,
-        (Status::Short, 0, "short: block 0, 0 bytes\n"),
-    ),
-    (
-        "info --initial 12032",
-        BLOCK,
-        (Status::Setting, 0, "setting: initial too long 12032\n"),
-    ),
-    (
-        "info --initial 4294967295",
-        BLOCK,
-        (Status::Setting, 0, "setting: initial too long 4294967295\n"),
-    ),
+// Over so many zeros.
+static ZEROS: [Run; 6] = [
+    Run {
+        words: "info",
+        input: (0, "", 0, 0, 224 * BLOCK, 0),
+        end: (Status::NoControl, 0, "no control block\n"),
+        writes: &[],
+    },
+    Run {
+        words: "info",
+        input: (0, "", 0, 0, 224 * BLOCK - 1, 0),
+        end: (Status::Short, 0, "short: block 223, 37855 bytes\n"),
+        writes: &[],
+    },
+    Run {
+        words: "info --form marked",
+        input: (0, "", 0, 0, 42_645, 0),
+        end: (Status::Short, 0, "short: block 1, 5 bytes\n"),
+        writes: &[],
+    },
+    Run {
+        words: "info --initial 12031",
+        input: (0, "", 0, 0, 0, 0),
+        end: (Status::Short, 0, "short: block 0, 0 bytes\n"),
+        writes: &[],
+    },
+    Run {
+        words: "info --initial 12032",
+        input: (0, "", 0, 0, BLOCK, 0),
+        end: (Status::Setting, 0, "setting: initial too long 12032\n"),
+        writes: &[],
+    },
+    Run {
+        words: "info --initial 4294967295",
+        input: (0, "", 0, 0, BLOCK, 0),
+        end: (Status::Setting, 0, "setting: initial too long 4294967295\n"),
+        writes: &[],
+    },
 ];
 
 #[test]
 fn zeros_tell_no_format(rt: HostRuntime) -> Result<(), Fail> {
-    for (text, count, end) in &ENDS {
-        run_to(&rt, text, &zeros(rt.alloc(), *count)?, ALL_SOUND, *end)?;
-    }
-    Ok(())
+    end_so(&rt, &ZEROS, ALL_SOUND)
 }

@@ -2,7 +2,10 @@
 //! rule.
 ghost use Rattle.std.specs.Prelude.{◌≤◌};
 
-use crate::fixture::{BLOCK, End, NEVER, Ports, SOUND, image, mastered, ran, recorded, run_to};
+use crate::fixture::{
+    BLOCK, Case, Marks, NEVER, Ports, SOUND, ended, image, joined, leave_fronts, leaves, marked,
+    mastered, ran, recording, run_to, writes,
+};
 use dvd_top::Status;
 use std::alloc::{AllocError, Global};
 use std::test::Fail;
@@ -35,53 +38,54 @@ fn header(alloc: Global, stated: Stated) -> Result<Vec<u8>, AllocError> {
     Ok(bytes)
 }
 
-// The listed capture of recorded blocks, each of which has these runs.
-fn listed(
-    alloc: Global,
-    stated: Stated,
-    stream: &[u8],
-    runs: &[Run],
-) -> Result<Vec<u8>, AllocError> {
-    let mut bytes = header(alloc, stated)?;
-    for block in stream.chunks_exact(BLOCK) {
+// The listed capture of a stream.
+fn listed(alloc: Global, stream: &Stream) -> Result<Vec<u8>, AllocError> {
+    let runs = listed_runs(alloc, stream.runs)?;
+    let mut bytes = header(alloc, stream.stated)?;
+    for block in stream.bytes.chunks_exact(BLOCK) {
         bytes.extend_from_slice(block)?;
-        bytes.extend_from_slice(&(runs.len().min(65_535) as u16).to_be_bytes())?;
-        for (start, length) in runs {
-            bytes.extend_from_slice(&start.to_be_bytes())?;
-            bytes.extend_from_slice(&length.to_be_bytes())?;
-        }
+        bytes.extend_from_slice(&runs)?;
     }
     Ok(bytes)
+}
+
+// How many runs there are, and each of them.
+fn listed_runs(alloc: Global, runs: &[Run]) -> Result<Vec<u8>, AllocError> {
+    let count = runs.len().min(65_535) as u16;
+    let mut bytes = count.to_be_bytes().to_vec(alloc)?;
+    for (start, length) in runs {
+        bytes.extend_from_slice(&start.to_be_bytes())?;
+        bytes.extend_from_slice(&length.to_be_bytes())?;
+    }
+    Ok(bytes)
+}
+
+// The marks of runs, which each block has.
+#[derive(Drop)]
+struct Runs(&'static [Run]);
+
+impl Marks for Runs {
+    fn of_row(&self, record: usize) -> [u8; 23] {
+        let first = 182 * (record % 208) as u32;
+        let mut marks = [0; 23];
+        for j in 0..182u32 {
+            if is_marked(self.0, first + j) {
+                marks[j as usize / 8] |= 0x80 >> (j % 8);
+            }
+        }
+        marks
+    }
 }
 
 // Whether one of the runs marks a place.
 fn is_marked(runs: &[Run], place: u32) -> bool {
-    runs.iter().any(|(start, length)| {
-        u32::from(*start) <= place && place < u32::from(*start).saturating_add(u32::from(*length))
-    })
-}
-
-// The marked capture of recorded blocks, each of which has these runs.
-fn marked(alloc: Global, stream: &[u8], runs: &[Run]) -> Result<Vec<u8>, AllocError> {
-    let mut bytes = Vec::new(alloc);
-    for (m, row) in stream.chunks_exact(182).enumerate() {
-        bytes.extend_from_slice(row)?;
-        bytes.extend_from_slice(&marks(runs, 182 * (m % 208) as u32))?;
-    }
-    Ok(bytes)
-}
-
-// The 23 bytes of marks of the row whose first place that is.
-fn marks(runs: &[Run], first: u32) -> [u8; 23]
-    requires { first ≤ 37_674 }
-{
-    let mut marks = [0; 23];
-    for j in 0..182u32 {
-        if is_marked(runs, first + j) {
-            marks[j as usize / 8] |= 0x80 >> (j % 8);
+    for (start, length) in runs {
+        let start = u32::from(*start);
+        if start <= place && place < start + u32::from(*length) {
+            return true;
         }
     }
-    marks
+    false
 }
 
 // Both words do the same, each over its bytes.
@@ -93,11 +97,41 @@ fn does_the_same<R: AllocGlobal + Threads + Sync>(
     others: &[u8],
 ) -> Result<(), Fail> {
     let (status, out, told) = ran(rt, text, bytes, PORTS)?;
-    let (same, out2, told2) = ran(rt, other, others, PORTS)?;
-    if status != same || out.held() != out2.held() || told.held() != told2.held() {
-        Err((status, same))?;
+    if !leaves(rt, other, others, PORTS, (status, out.held(), told.held()))? {
+        Err(status)?;
     }
     Ok(())
+}
+
+// A stream, what its header states, and the runs of each block.
+#[derive(Drop)]
+struct Stream<'a> {
+    bytes: &'a [u8],
+    stated: Stated,
+    runs: &'static [Run],
+}
+
+// Words over the marked capture do the same as others over the listed one.
+fn is_as_marked<R: AllocGlobal + Threads + Sync>(
+    rt: &R,
+    stream: &Stream,
+    text: &str,
+    other: &str,
+) -> Result<(), Fail> {
+    let others = listed(rt.alloc(), stream)?;
+    let bytes = marked(rt.alloc(), stream.bytes, &Runs(stream.runs))?;
+    does_the_same(rt, text, &bytes, other, &others)
+}
+
+// Words over the plain capture do the same as others over the listed one.
+fn is_as_plain<R: AllocGlobal + Threads + Sync>(
+    rt: &R,
+    stream: &Stream,
+    text: &str,
+    other: &str,
+) -> Result<(), Fail> {
+    let others = listed(rt.alloc(), stream)?;
+    does_the_same(rt, text, stream.bytes, other, &others)
 }
 
 // Words that name a layout of two blocks, without their form and with it.
@@ -131,76 +165,151 @@ fn damage(stream: &mut [u8], every: usize) {
     }
 }
 
+// Each command reads the forms of a stream the same.
+fn is_read_the_same<R: AllocGlobal + Threads + Sync>(rt: &R, bytes: &[u8]) -> Result<(), Fail> {
+    let stated = single(17);
+    for (plain, with_marks, with_runs) in &READING {
+        is_as_plain(
+            rt,
+            &Stream {
+                bytes,
+                stated,
+                runs: &[],
+            },
+            plain,
+            with_runs,
+        )?;
+        is_as_marked(
+            rt,
+            &Stream {
+                bytes,
+                stated,
+                runs: &RUNS,
+            },
+            with_marks,
+            with_runs,
+        )?;
+    }
+    Ok(())
+}
+
 #[test]
 fn each_form_of_a_damaged_stream_is_read_the_same(rt: HostRuntime) -> Result<(), Fail> {
-    let alloc = rt.alloc();
-    let image = image(alloc, 17)?;
     for every in [1_000_000, 300, 31, 7] {
-        let mut stream = mastered(&rt, "master --sectors 17", &image)?;
+        let mut stream = recording(&rt, "master --sectors 17", 17, 2)?;
         damage(&mut stream, every);
-        for (plain, with_marks, with_runs) in &READING {
-            let bytes = listed(alloc, single(17), &stream, &[])?;
-            does_the_same(&rt, plain, &stream, with_runs, &bytes)?;
-            let bytes = listed(alloc, single(17), &stream, &RUNS)?;
-            let others = marked(alloc, &stream, &RUNS)?;
-            does_the_same(&rt, with_marks, &others, with_runs, &bytes)?;
-        }
+        is_read_the_same(&rt, &stream)?;
+    }
+    Ok(())
+}
+
+// Words over the marked form of a disk with every zone, and over the listed one.
+static FINDING: [(&str, &str); 2] = [
+    ("info --initial 1 --form marked", "info --form listed"),
+    (
+        "recover --sectors 16 --zones all --initial 1 --form marked",
+        "recover --form listed",
+    ),
+];
+
+// What stands in the blocks of such a disk is found behind a header.
+fn is_found<R: AllocGlobal + Threads + Sync>(
+    rt: &R,
+    bytes: &[u8],
+    runs: &'static [Run],
+) -> Result<(), Fail> {
+    let stated = (0, 1, [16, 0, 1, 16]);
+    for (text, other) in &FINDING {
+        is_as_marked(
+            rt,
+            &Stream {
+                bytes,
+                stated,
+                runs,
+            },
+            text,
+            other,
+        )?;
     }
     Ok(())
 }
 
 #[test]
 fn a_format_is_found_behind_a_header(rt: HostRuntime) -> Result<(), Fail> {
-    let alloc = rt.alloc();
-    let words = "master --sectors 16 --zones all --initial 1";
-    let mut stream = recorded(&rt, words, &image(alloc, 16)?, 274)?;
-    stream.truncate(34 * BLOCK);
-    for count in [34, 33, 1, 0] {
-        stream.truncate(BLOCK.saturating_mul(count));
-        for runs in [&RUNS[..0], &RUNS[..]] {
-            let bytes = listed(alloc, (0, 1, [16, 0, 1, 16]), &stream, runs)?;
-            let others = marked(alloc, &stream, runs)?;
-            let text = "info --initial 1 --form marked";
-            does_the_same(&rt, text, &others, "info --form listed", &bytes)?;
-            let text = "recover --sectors 16 --zones all --initial 1 --form marked";
-            does_the_same(&rt, text, &others, "recover --form listed", &bytes)?;
-        }
+    let text = "master --sectors 16 --zones all --initial 1";
+    let mut stream = recording(&rt, text, 16, 274)?;
+    for count in [34usize, 33, 1, 0] {
+        stream.truncate(BLOCK * count);
+        is_found(&rt, &stream, &[])?;
+        is_found(&rt, &stream, &RUNS)?;
     }
     Ok(())
 }
 
-// Disks: their words, the sectors of the image, the blocks, and what a header states of each.
-static DISKS: [(&str, usize, usize, Stated); 3] = [
-    ("--sectors 18", 18, 2, (0, 0, [18, 0, 0, 16])),
-    (
-        "--sectors 16 --sectors1 17 --shape parallel --tail 0",
-        33,
-        3,
-        (1, 0, [16, 17, 0, 0]),
-    ),
-    (
-        "--sectors 32 --sectors1 17 --shape opposite --initial 12031",
-        49,
-        4,
-        (2, 0, [32, 17, 12_031, 16]),
-    ),
+// A disk: its words, the sectors of the image, the blocks, and what a header states of it.
+struct Disk {
+    words: &'static str,
+    sectors: usize,
+    blocks: usize,
+    stated: Stated,
+}
+
+static DISKS: [Disk; 3] = [
+    Disk {
+        words: "--sectors 18",
+        sectors: 18,
+        blocks: 2,
+        stated: (0, 0, [18, 0, 0, 16]),
+    },
+    Disk {
+        words: "--sectors 16 --sectors1 17 --shape parallel --tail 0",
+        sectors: 33,
+        blocks: 3,
+        stated: (1, 0, [16, 17, 0, 0]),
+    },
+    Disk {
+        words: "--sectors 32 --sectors1 17 --shape opposite --initial 12031",
+        sectors: 49,
+        blocks: 4,
+        stated: (2, 0, [32, 17, 12_031, 16]),
+    },
 ];
+
+// The stream of a disk.
+fn stream_of<R: AllocGlobal + Threads + Sync>(rt: &R, disk: &Disk) -> Result<Vec<u8>, Fail> {
+    let text = joined(rt.alloc(), "master", disk.words)?;
+    recording(rt, &text, disk.sectors, disk.blocks)
+}
+
+// A listed capture gives the image of its disk to both commands that read it.
+fn gives_image<R: AllocGlobal + Threads + Sync>(
+    rt: &R,
+    sectors: usize,
+    stream: &Stream,
+) -> Result<(), Fail> {
+    let image = image(rt.alloc(), sectors)?;
+    let bytes = listed(rt.alloc(), stream)?;
+    writes(rt, "recover --form listed", &bytes, PORTS, &image)?;
+    writes(rt, "deep --form listed", &bytes, PORTS, &image)
+}
+
+// The header of a disk states its layout.
+fn is_stated<R: AllocGlobal + Threads + Sync>(rt: &R, disk: &Disk) -> Result<(), Fail> {
+    let bytes = stream_of(rt, disk)?;
+    let stream = Stream {
+        bytes: &bytes,
+        stated: disk.stated,
+        runs: &[],
+    };
+    gives_image(rt, disk.sectors, &stream)?;
+    let text = joined(rt.alloc(), "survey", disk.words)?;
+    is_as_plain(rt, &stream, &text, "survey --form listed")
+}
 
 #[test]
 fn a_header_states_every_layout(rt: HostRuntime) -> Result<(), Fail> {
-    let alloc = rt.alloc();
-    for (words, sectors, blocks, stated) in &DISKS {
-        let image = image(alloc, *sectors)?;
-        let mut text = String::from_str(alloc, "master ")?;
-        text.push_str(words)?;
-        let stream = recorded(&rt, &text, &image, *blocks)?;
-        let bytes = listed(alloc, *stated, &stream, &[])?;
-        let end: End = (Status::Done, image.len(), "done\n");
-        assert!(rt; run_to(&rt, "recover --form listed", &bytes, PORTS, end)? == image);
-        assert!(rt; run_to(&rt, "deep --form listed", &bytes, PORTS, end)? == image);
-        let mut text = String::from_str(alloc, "survey ")?;
-        text.push_str(words)?;
-        does_the_same(&rt, &text, &stream, "survey --form listed", &bytes)?;
+    for disk in &DISKS {
+        is_stated(&rt, disk)?;
     }
     Ok(())
 }
@@ -248,29 +357,72 @@ static BAD: [(usize, u8, &str); 18] = [
     (31, 0x80, "bad header: byte 31\n"),
 ];
 
+// The listed capture of so many sectors in the Data Zone of one layer.
+fn capture<R: AllocGlobal + Threads + Sync>(
+    rt: &R,
+    text: &str,
+    sectors: u32,
+    runs: &'static [Run],
+) -> Result<Vec<u8>, Fail> {
+    let image = image(rt.alloc(), sectors as usize)?;
+    let bytes = mastered(rt, text, &image)?;
+    let stream = Stream {
+        bytes: &bytes,
+        stated: single(sectors),
+        runs,
+    };
+    Ok(listed(rt.alloc(), &stream)?)
+}
+
+// The listed capture of a block with these runs.
+fn block_with<R: AllocGlobal + Threads + Sync>(
+    rt: &R,
+    runs: &'static [Run],
+) -> Result<Vec<u8>, Fail> {
+    capture(rt, "master --sectors 16", 16, runs)
+}
+
+// A header with another byte there is refused, before a block and before nothing.
+fn is_broken<R: AllocGlobal + Threads + Sync>(
+    rt: &R,
+    bytes: &[u8],
+    bad: &(usize, u8, &'static str),
+) -> Result<(), Fail> {
+    let (at, byte, report) = *bad;
+    let mut broken = bytes.to_vec(rt.alloc())?;
+    if at < broken.len() {
+        broken[at] = byte;
+    }
+    is_refused(rt, &broken, Status::BadHeader, report)?;
+    broken.truncate(32);
+    is_refused(rt, &broken, Status::BadHeader, report)
+}
+
 #[test]
 fn a_header_that_breaks_a_rule_is_refused(rt: HostRuntime) -> Result<(), Fail> {
-    let alloc = rt.alloc();
-    let image = image(alloc, 16)?;
-    let stream = mastered(&rt, "master --sectors 16", &image)?;
-    let bytes = listed(alloc, single(16), &stream, &[])?;
-    for (at, byte, report) in &BAD {
-        let mut broken = bytes.to_vec(alloc)?;
-        if let Some(place) = broken.get_mut(*at) {
-            *place = *byte;
-        }
-        is_refused(&rt, &broken, Status::BadHeader, report)?;
-        broken.truncate(32);
-        is_refused(&rt, &broken, Status::BadHeader, report)?;
+    let bytes = block_with(&rt, &[])?;
+    for bad in &BAD {
+        is_broken(&rt, &bytes, bad)?;
     }
-    let mut front = bytes.to_vec(alloc)?;
-    front.truncate(32);
-    is_refused(&rt, &front, Status::Short, "short: block 0, 0 bytes\n")?;
-    front.truncate(31);
-    is_refused(&rt, &front, Status::Short, "short: header, 31 bytes\n")?;
-    front.truncate(7);
-    is_refused(&rt, &front, Status::Short, "short: header, 7 bytes\n")?;
-    is_refused(&rt, &[], Status::Short, "short: header, 0 bytes\n")
+    Ok(())
+}
+
+// How much there is of a header, and the line.
+static FRONTS: [(usize, &str); 4] = [
+    (32, "short: block 0, 0 bytes\n"),
+    (31, "short: header, 31 bytes\n"),
+    (7, "short: header, 7 bytes\n"),
+    (0, "short: header, 0 bytes\n"),
+];
+
+#[test]
+fn a_header_that_is_cut_off_is_short(rt: HostRuntime) -> Result<(), Fail> {
+    let mut bytes = header(rt.alloc(), single(16))?;
+    for (length, report) in &FRONTS {
+        bytes.truncate(*length);
+        is_refused(&rt, &bytes, Status::Short, report)?;
+    }
+    Ok(())
 }
 
 // What a header may not state, and the line.
@@ -311,124 +463,188 @@ static BROKEN: [(&[Run], &str); 8] = [
 
 #[test]
 fn runs_that_break_a_rule_are_refused(rt: HostRuntime) -> Result<(), Fail> {
-    let alloc = rt.alloc();
-    let image = image(alloc, 16)?;
-    let stream = mastered(&rt, "master --sectors 16", &image)?;
     for (runs, report) in &BROKEN {
-        let bytes = listed(alloc, single(16), &stream, runs)?;
+        let bytes = block_with(&rt, runs)?;
         is_refused(&rt, &bytes, Status::BadMarks, report)?;
     }
-    // One run too many, and the input ends behind their number.
-    let mut bytes = listed(alloc, single(16), &stream, &[])?;
-    bytes.truncate(32 + BLOCK);
-    bytes.extend_from_slice(&[0x49, 0xF1])?;
-    is_refused(
-        &rt,
-        &bytes,
-        Status::BadMarks,
-        "bad marks: block 0, byte 37856\n",
-    )?;
-    bytes.truncate(32 + BLOCK);
-    bytes.extend_from_slice(&[0x49, 0xF0])?;
-    is_refused(&rt, &bytes, Status::Short, "short: block 0, 37858 bytes\n")
-}
-
-#[test]
-fn the_end_of_a_listed_capture_is_looked_for(rt: HostRuntime) -> Result<(), Fail> {
-    let alloc = rt.alloc();
-    let image = image(alloc, 17)?;
-    let stream = mastered(&rt, "master --sectors 17", &image)?;
-    let mut bytes = listed(alloc, single(17), &stream, &[(182, 3)])?;
-    let text = "recover --form listed";
-    bytes.push(0)?;
-    let end: End = (Status::Long, image.len(), "long\n");
-    assert!(rt; run_to(&rt, text, &bytes, PORTS, end)? == image);
-    // The second block has no length of its last run.
-    bytes.truncate(bytes.len().saturating_sub(3));
-    let end: End = (Status::Short, 32_768, "short: block 1, 37860 bytes\n");
-    assert!(rt; image.starts_with(&run_to(&rt, text, &bytes, PORTS, end)?));
-    // A rule is broken in the second block.
-    bytes.push(0)?;
-    bytes.push(0)?;
-    let end: End = (Status::BadMarks, 32_768, "bad marks: block 1, byte 37860\n");
-    assert!(rt; image.starts_with(&run_to(&rt, text, &bytes, PORTS, end)?));
     Ok(())
 }
 
-// What `convert` writes of blocks in this form.
-fn converted<R: AllocGlobal + Threads + Sync>(
+// A number of runs behind which the input ends, and the end: the first is one too many.
+static NUMBERS: [([u8; 2], Status, &str); 2] = [
+    (
+        [0x49, 0xF1],
+        Status::BadMarks,
+        "bad marks: block 0, byte 37856\n",
+    ),
+    ([0x49, 0xF0], Status::Short, "short: block 0, 37858 bytes\n"),
+];
+
+#[test]
+fn runs_of_too_great_a_number_are_refused(rt: HostRuntime) -> Result<(), Fail> {
+    let block = block_with(&rt, &[])?;
+    for (number, status, report) in &NUMBERS {
+        let bytes = ended(rt.alloc(), &block, 2, number)?;
+        is_refused(&rt, &bytes, *status, report)?;
+    }
+    Ok(())
+}
+
+// What is cut off at the end of a listed capture of two blocks, what stands there instead, and the end. The second has no
+// length of its last run, the third one that breaks a rule.
+static LAST: [(usize, &[u8], Case); 3] = [
+    (0, &[0], (PORTS, (Status::Long, 34_816, "long\n"))),
+    (
+        2,
+        &[],
+        (
+            PORTS,
+            (Status::Short, 32_768, "short: block 1, 37860 bytes\n"),
+        ),
+    ),
+    (
+        2,
+        &[0, 0],
+        (
+            PORTS,
+            (Status::BadMarks, 32_768, "bad marks: block 1, byte 37860\n"),
+        ),
+    ),
+];
+
+#[test]
+fn the_end_of_a_listed_capture_is_looked_for(rt: HostRuntime) -> Result<(), Fail> {
+    let image = image(rt.alloc(), 17)?;
+    let whole = capture(&rt, "master --sectors 17", 17, &[(182, 3)])?;
+    for (cut, more, case) in &LAST {
+        let bytes = ended(rt.alloc(), &whole, *cut, more)?;
+        leave_fronts(&rt, "recover --form listed", &bytes, &image, &[*case])?;
+    }
+    Ok(())
+}
+
+// How the listed capture of a block begins without runs, and how it ends where all places are marked.
+const FRONT: [u8; 32] = [
+    0x44, 0x56, 0x44, 0x45, 0x43, 0x43, 0, 2, 0, 0, 0, 0, 0, 0, 0, 16, 0, 0, 0, 0, 0, 0, 0, 0, 0,
+    0, 0, 16, 0, 0, 0, 0,
+];
+
+const ALL_MARKED: [u8; 6] = [0x00, 0x01, 0x00, 0x00, 0x93, 0xE0];
+
+static ALL: [Run; 1] = [(0, 37_856)];
+
+// The blocks of a stream in the plain form are converted to its listed capture.
+fn is_converted<R: AllocGlobal + Threads + Sync>(
     rt: &R,
-    words: &str,
-    stream: &[u8],
-    length: usize,
-) -> Result<Vec<u8>, Fail> {
-    run_to(rt, words, stream, PORTS, (Status::Done, length, "done\n"))
+    text: &str,
+    stream: &Stream,
+) -> Result<(), Fail> {
+    let wanted = listed(rt.alloc(), stream)?;
+    writes(rt, text, stream.bytes, PORTS, &wanted)
+}
+
+// And those in the marked form.
+fn is_converted_with_marks<R: AllocGlobal + Threads + Sync>(
+    rt: &R,
+    text: &str,
+    stream: &Stream,
+) -> Result<(), Fail> {
+    let bytes = marked(rt.alloc(), stream.bytes, &Runs(stream.runs))?;
+    let wanted = listed(rt.alloc(), stream)?;
+    writes(rt, text, &bytes, PORTS, &wanted)
 }
 
 #[test]
 fn a_block_is_converted(rt: HostRuntime) -> Result<(), Fail> {
-    let alloc = rt.alloc();
-    let image = image(alloc, 16)?;
-    let stream = mastered(&rt, "master --sectors 16", &image)?;
-    let bytes = converted(&rt, "convert --sectors 16", &stream, 37_890)?;
-    let front = [
-        0x44, 0x56, 0x44, 0x45, 0x43, 0x43, 0, 2, 0, 0, 0, 0, 0, 0, 0, 16, 0, 0, 0, 0, 0, 0, 0, 0,
-        0, 0, 0, 16, 0, 0, 0, 0,
-    ];
-    assert!(rt; bytes.starts_with(&front));
-    assert!(rt; bytes.ends_with(&[0, 0]));
-    assert!(rt; bytes == listed(alloc, single(16), &stream, &[])?);
-    // All places marked.
-    let all = [(0, 37_856)];
-    let bytes = marked(alloc, &stream, &all)?;
-    let text = "convert --sectors 16 --form marked";
-    let bytes = converted(&rt, text, &bytes, 37_894)?;
-    assert!(rt; bytes.ends_with(&[0x00, 0x01, 0x00, 0x00, 0x93, 0xE0]));
-    assert!(rt; bytes == listed(alloc, single(16), &stream, &all)?);
+    let bytes = recording(&rt, "master --sectors 16", 16, 1)?;
+    let stated = single(16);
+    let stream = Stream {
+        bytes: &bytes,
+        stated,
+        runs: &[],
+    };
+    is_converted(&rt, "convert --sectors 16", &stream)?;
+    let stream = Stream {
+        bytes: &bytes,
+        stated,
+        runs: &ALL,
+    };
+    is_converted_with_marks(&rt, "convert --sectors 16 --form marked", &stream)
+}
+
+#[test]
+fn a_listed_capture_has_these_bytes(rt: HostRuntime) -> Result<(), Fail> {
+    let bytes = block_with(&rt, &[])?;
+    assert!(rt; bytes.len() == 37_890 && bytes.starts_with(&FRONT) && bytes.ends_with(&[0, 0]));
+    let bytes = block_with(&rt, &ALL)?;
+    assert!(rt; bytes.len() == 37_894 && bytes.ends_with(&ALL_MARKED));
     Ok(())
+}
+
+// What is converted of the damaged stream of a disk is read the same.
+fn is_kept<R: AllocGlobal + Threads + Sync>(rt: &R, disk: &Disk) -> Result<(), Fail> {
+    let mut bytes = stream_of(rt, disk)?;
+    damage(&mut bytes, 31);
+    let stream = Stream {
+        bytes: &bytes,
+        stated: disk.stated,
+        runs: &RUNS,
+    };
+    let text = joined(rt.alloc(), "convert --form marked", disk.words)?;
+    is_converted_with_marks(rt, &text, &stream)?;
+    let text = joined(rt.alloc(), "recover --form marked", disk.words)?;
+    is_as_marked(rt, &stream, &text, "recover --form listed")
 }
 
 #[test]
 fn what_is_converted_is_read_the_same(rt: HostRuntime) -> Result<(), Fail> {
-    let alloc = rt.alloc();
-    for (words, sectors, blocks, stated) in &DISKS {
-        let mut text = String::from_str(alloc, "master ")?;
-        text.push_str(words)?;
-        let mut stream = recorded(&rt, &text, &image(alloc, *sectors)?, *blocks)?;
-        damage(&mut stream, 31);
-        let others = marked(alloc, &stream, &RUNS)?;
-        let bytes = listed(alloc, *stated, &stream, &RUNS)?;
-        let mut text = String::from_str(alloc, "convert --form marked ")?;
-        text.push_str(words)?;
-        assert!(rt; converted(&rt, &text, &others, bytes.len())? == bytes);
-        let mut text = String::from_str(alloc, "recover --form marked ")?;
-        text.push_str(words)?;
-        does_the_same(&rt, &text, &others, "recover --form listed", &bytes)?;
+    for disk in &DISKS {
+        is_kept(&rt, disk)?;
     }
     Ok(())
 }
 
+// What is cut off of a stream of two blocks, what stands there instead, and the end. The header stands before anything is read.
+static NOT_WHOLE: [(usize, &[u8], Case); 5] = [
+    (0, &[0], (PORTS, (Status::Long, 75_748, "long\n"))),
+    (
+        1,
+        &[],
+        (
+            PORTS,
+            (Status::Short, 37_890, "short: block 1, 37855 bytes\n"),
+        ),
+    ),
+    (
+        2 * BLOCK,
+        &[],
+        (PORTS, (Status::Short, 32, "short: block 0, 0 bytes\n")),
+    ),
+    (
+        1,
+        &[],
+        (
+            ((40_000, 0, 0), (40_000, NEVER, 160_000), SOUND),
+            (Status::ReadFault, 32, "read fault\n"),
+        ),
+    ),
+    (
+        1,
+        &[],
+        (
+            (SOUND, (40_000, 0, 160_000), SOUND),
+            (Status::WriteFault, 0, "write fault\n"),
+        ),
+    ),
+];
+
 #[test]
 fn a_stream_that_is_not_whole_is_converted_so_far(rt: HostRuntime) -> Result<(), Fail> {
-    let alloc = rt.alloc();
-    let image = image(alloc, 17)?;
-    let mut stream = mastered(&rt, "master --sectors 17", &image)?;
-    let whole = listed(alloc, single(17), &stream, &[])?;
-    let text = "convert --sectors 17";
-    stream.push(0)?;
-    let end: End = (Status::Long, whole.len(), "long\n");
-    assert!(rt; run_to(&rt, text, &stream, PORTS, end)? == whole);
-    stream.truncate(BLOCK.saturating_mul(2).saturating_sub(1));
-    let end: End = (Status::Short, 37_890, "short: block 1, 37855 bytes\n");
-    assert!(rt; whole.starts_with(&run_to(&rt, text, &stream, PORTS, end)?));
-    // The header stands before anything is read.
-    let end: End = (Status::Short, 32, "short: block 0, 0 bytes\n");
-    assert!(rt; whole.starts_with(&run_to(&rt, text, &[], PORTS, end)?));
-    let ports = ((40_000, 0, 0), PORTS.1, SOUND);
-    let end: End = (Status::ReadFault, 32, "read fault\n");
-    assert!(rt; whole.starts_with(&run_to(&rt, text, &stream, ports, end)?));
-    let ports = (SOUND, (40_000, 0, 160_000), SOUND);
-    let end: End = (Status::WriteFault, 0, "write fault\n");
-    assert!(rt; run_to(&rt, text, &stream, ports, end)?.is_empty());
+    let stream = recording(&rt, "master --sectors 17", 17, 2)?;
+    let whole = capture(&rt, "master --sectors 17", 17, &[])?;
+    for (cut, more, case) in &NOT_WHOLE {
+        let bytes = ended(rt.alloc(), &stream, *cut, more)?;
+        leave_fronts(&rt, "convert --sectors 17", &bytes, &whole, &[*case])?;
+    }
     Ok(())
 }

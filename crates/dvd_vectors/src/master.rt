@@ -1,9 +1,8 @@
 //! Recordings of the Data Zone, against the digest that another program computed from the standard.
-use crate::fixture::{BLOCK, End, NEVER, Ports, SOUND, image, run_to};
+use crate::fixture::{BLOCK, NEVER, Ports, Run, SOUND, end_so, image, run_to};
 use dvd_top::Status;
 use sha2::{Digest, Sha256};
 use std::test::Fail;
-use std::thread::Threads;
 
 // The output takes a thousand bytes a call, and has room for two blocks.
 const PIECES: Ports = (SOUND, (1000, NEVER, 2 * BLOCK), SOUND);
@@ -24,51 +23,47 @@ fn a_run_masters_the_data_zone(rt: HostRuntime) -> Result<(), Fail> {
     Ok(())
 }
 
-// Words, bytes of the image, and the end.
-type Run = (&'static str, usize, End);
-
+// Over the front of an image of 18 sectors.
 static RUNS: [Run; 6] = [
-    (TEXT, 34_817, (Status::Long, 2 * BLOCK, "long\n")),
-    (
-        TEXT,
-        32_773,
-        (Status::Short, BLOCK, "short: block 1, 5 bytes\n"),
-    ),
-    (
-        "master --sectors 0",
-        34_816,
-        (Status::Setting, 0, "setting: empty layer 0\n"),
-    ),
-    (
-        "recover --sectors 0",
-        34_816,
-        (Status::Setting, 0, "setting: empty layer 0\n"),
-    ),
-    (
-        "master --sectors 8191745",
-        34_816,
-        (Status::Setting, 0, "setting: layer 0 too long 8388624\n"),
-    ),
-    (
-        "master --sectors 4294967295",
-        34_816,
-        (Status::Setting, 0, "setting: layer 0 too long 4295164160\n"),
-    ),
+    Run {
+        words: TEXT,
+        input: (18, "", 0, 0, 34_817, 0),
+        end: (Status::Long, 2 * BLOCK, "long\n"),
+        writes: &[],
+    },
+    Run {
+        words: TEXT,
+        input: (18, "", 0, 0, 32_773, 0),
+        end: (Status::Short, BLOCK, "short: block 1, 5 bytes\n"),
+        writes: &[],
+    },
+    Run {
+        words: "master --sectors 0",
+        input: (18, "", 0, 0, 34_816, 0),
+        end: (Status::Setting, 0, "setting: empty layer 0\n"),
+        writes: &[],
+    },
+    Run {
+        words: "recover --sectors 0",
+        input: (18, "", 0, 0, 34_816, 0),
+        end: (Status::Setting, 0, "setting: empty layer 0\n"),
+        writes: &[],
+    },
+    Run {
+        words: "master --sectors 8191745",
+        input: (18, "", 0, 0, 34_816, 0),
+        end: (Status::Setting, 0, "setting: layer 0 too long 8388624\n"),
+        writes: &[],
+    },
+    Run {
+        words: "master --sectors 4294967295",
+        input: (18, "", 0, 0, 34_816, 0),
+        end: (Status::Setting, 0, "setting: layer 0 too long 4295164160\n"),
+        writes: &[],
+    },
 ];
-
-// Runs over the front of an image, and ends so.
-fn ends_so<R: AllocGlobal + Threads + Sync>(rt: &R, image: &[u8], run: &Run) -> Result<(), Fail> {
-    let (text, size, end) = *run;
-    let front = image.get(..size).unwrap_or(image);
-    run_to(rt, text, front, PIECES, end)?;
-    Ok(())
-}
 
 #[test]
 fn an_image_that_does_not_fit_is_told(rt: HostRuntime) -> Result<(), Fail> {
-    let image = image(rt.alloc(), 18)?;
-    for run in &RUNS {
-        ends_so(&rt, &image, run)?;
-    }
-    Ok(())
+    end_so(&rt, &RUNS, PIECES)
 }

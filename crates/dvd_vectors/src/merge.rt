@@ -1,14 +1,14 @@
 //! Captures of one disk joined: what one has lost another gives, and where two differ neither is believed.
 ghost use Rattle.std.specs.Prelude.{◌<◌};
 
-use crate::fixture::{NEVER, Ports, SOUND, image, ran, recorded, run_to, zeros};
+use crate::fixture::{
+    End, MARKED, Marks, NEVER, Ports, SOUND, image, leave_fronts, marked, ran, recorded, run_to,
+    unknown, writes, zeros,
+};
 use dvd_top::Status;
 use std::alloc::{AllocError, Global};
 use std::test::Fail;
 use std::thread::Threads;
-
-// The bytes of a captured block in the marked form.
-const MARKED: usize = 42_640;
 
 // Source, output and report, with room for sixteen blocks.
 const PORTS: Ports = (SOUND, (40_000, NEVER, 16 * MARKED), SOUND);
@@ -19,111 +19,166 @@ fn set(bytes: &mut [u8], at: usize, byte: u8) {
     }
 }
 
-// A block of zeros, but for one byte.
-fn block_with(alloc: Global, at: usize, byte: u8) -> Result<Vec<u8>, AllocError> {
-    let mut block = zeros(alloc, MARKED)?;
-    set(&mut block, at, byte);
-    Ok(block)
+// A block of zeros, but for one byte: where it stands, and what it is.
+type Block = (usize, u8);
+
+const VALUE: Block = (0, 1);
+
+const LOST: Block = (182, 0x80);
+
+const ZERO: Block = (0, 0);
+
+// Two captures and their join. Of two different bytes neither is believed.
+static JOINS: [(Block, Block, Block); 5] = [
+    (VALUE, LOST, VALUE),
+    (LOST, VALUE, VALUE),
+    (VALUE, ZERO, LOST),
+    (ZERO, VALUE, LOST),
+    (LOST, ZERO, ZERO),
+];
+
+fn block_with(alloc: Global, block: Block) -> Result<Vec<u8>, AllocError> {
+    let mut bytes = zeros(alloc, MARKED)?;
+    set(&mut bytes, block.0, block.1);
+    Ok(bytes)
 }
 
-// The join of two captures of one block.
-fn merged<R: AllocGlobal + Threads + Sync>(
+// Two captures are joined so.
+fn joins<R: AllocGlobal + Threads + Sync>(
     rt: &R,
-    first: &[u8],
-    second: &[u8],
-) -> Result<Vec<u8>, Fail> {
-    let mut both = first.to_vec(rt.alloc())?;
-    both.extend_from_slice(second)?;
+    join: &(Block, Block, Block),
+) -> Result<(), Fail> {
+    let mut both = block_with(rt.alloc(), join.0)?;
+    both.extend_from_slice(&block_with(rt.alloc(), join.1)?)?;
+    let wanted = block_with(rt.alloc(), join.2)?;
     let text = "merge --sectors 16 --captures 2 --form marked";
-    run_to(rt, text, &both, PORTS, (Status::Done, MARKED, "done\n"))
+    writes(rt, text, &both, PORTS, &wanted)
 }
 
 #[test]
 fn a_lost_byte_comes_from_the_other_capture(rt: HostRuntime) -> Result<(), Fail> {
-    let alloc = rt.alloc();
-    let value = block_with(alloc, 0, 1)?;
-    let lost = block_with(alloc, 182, 0x80)?;
-    let zero = zeros(alloc, MARKED)?;
-    assert!(rt; merged(&rt, &value, &lost)? == value);
-    assert!(rt; merged(&rt, &lost, &value)? == value);
-    // Two different bytes: neither is believed.
-    assert!(rt; merged(&rt, &value, &zero)? == lost);
-    assert!(rt; merged(&rt, &zero, &value)? == lost);
-    assert!(rt; merged(&rt, &lost, &zero)? == zero);
+    for join in &JOINS {
+        joins(&rt, join)?;
+    }
     Ok(())
 }
 
-// A block of which nothing is known: zeros with marks, and the spare bits as they are given.
-fn unknown(alloc: Global, last: u8) -> Result<Vec<u8>, AllocError> {
-    let mut block = Vec::new(alloc);
-    for _ in 0..208 {
-        block.extend_from_slice(&[0; 182])?;
-        block.extend_from_slice(&[0xFF; 22])?;
-        block.push(last)?;
+// Recorded row 13c of the block there has the byte c + 1 at place 11c, and no mark there.
+fn give(bytes: &mut [u8], block: usize, c: usize)
+    requires block { block < 16 }
+    requires capture { c < 16 }
+{
+    let row = MARKED * block + 13 * 205 * c;
+    set(bytes, row + 11 * c, c as u8 + 1);
+    set(bytes, row + 182 + 11 * c / 8, 0xFF ^ 0x80 >> (11 * c % 8));
+}
+
+// Sixteen captures of a block, of which each gives one byte.
+fn sixteen(alloc: Global) -> Result<Vec<u8>, AllocError> {
+    let mut captures = unknown(alloc, 16 * 208, 0xFF)?;
+    for c in 0..16 {
+        give(&mut captures, c, c);
+    }
+    Ok(captures)
+}
+
+// Their join.
+fn join_of_sixteen(alloc: Global) -> Result<Vec<u8>, AllocError> {
+    let mut block = unknown(alloc, 208, 0xFC)?;
+    for c in 0..16 {
+        give(&mut block, 0, c);
     }
     Ok(block)
 }
 
-// Recorded row 13c has the byte c + 1 at place 11c, and no mark there.
-fn give(block: &mut [u8], c: usize)
-    requires { c < 16 }
-{
-    set(block, 13 * 205 * c + 11 * c, c as u8 + 1);
-    set(
-        block,
-        13 * 205 * c + 182 + 11 * c / 8,
-        0xFF ^ 0x80 >> (11 * c % 8),
-    );
-}
+// Words, how much there is of the captures, and the end. The same captures are not enough for two blocks, and a part of a
+// unit counts with all captures before it.
+static SIXTEEN: [(&str, usize, End); 3] = [
+    (
+        "merge --sectors 16 --captures 16 --form marked",
+        16 * MARKED,
+        (Status::Done, MARKED, "done\n"),
+    ),
+    (
+        "merge --sectors 17 --captures 16 --form marked",
+        16 * MARKED,
+        (Status::Short, MARKED, "short: block 1, 0 bytes\n"),
+    ),
+    (
+        "merge --sectors 16 --captures 16 --form marked",
+        16 * MARKED - 1,
+        (Status::Short, 0, "short: block 0, 682239 bytes\n"),
+    ),
+];
 
 #[test]
 fn sixteen_captures_give_a_byte_each(rt: HostRuntime) -> Result<(), Fail> {
-    let alloc = rt.alloc();
-    let mut captures = Vec::new(alloc);
-    let mut joined = unknown(alloc, 0xFC)?;
-    for c in 0..16 {
-        let mut block = unknown(alloc, 0xFF)?;
-        give(&mut block, c);
-        give(&mut joined, c);
-        captures.extend_from_slice(&block)?;
+    let mut captures = sixteen(rt.alloc())?;
+    let joined = join_of_sixteen(rt.alloc())?;
+    for (text, length, end) in &SIXTEEN {
+        captures.truncate(*length);
+        leave_fronts(&rt, text, &captures, &joined, &[(PORTS, *end)])?;
     }
-    let text = "merge --sectors 16 --captures 16 --form marked";
-    let end = (Status::Done, MARKED, "done\n");
-    assert!(rt; run_to(&rt, text, &captures, PORTS, end)? == joined);
-    // The same captures are not enough for two blocks.
-    let end = (Status::Short, MARKED, "short: block 1, 0 bytes\n");
-    let text = "merge --sectors 17 --captures 16 --form marked";
-    assert!(rt; run_to(&rt, text, &captures, PORTS, end)? == joined);
-    // A part of a unit counts with all captures before it.
-    let end = (Status::Short, 0, "short: block 0, 682239 bytes\n");
-    captures.pop();
-    let text = "merge --sectors 16 --captures 16 --form marked";
-    assert!(rt; run_to(&rt, text, &captures, PORTS, end)?.is_empty());
     Ok(())
 }
 
-// A capture of a recording: about a sixth of its rows are lost, and each other row has one wrong byte without a mark. The
-// rows and the places are drawn from the seed by a 64-bit xorshift generator.
-fn captured(alloc: Global, stream: &[u8], seed: u64) -> Result<Vec<u8>, AllocError> {
-    let mut bytes = Vec::new(alloc);
+// What is drawn for each row of a capture, by a 64-bit xorshift generator: about a sixth of the rows are lost, and each
+// other row has one wrong byte without a mark.
+#[derive(Drop)]
+struct Draws(Vec<u64>);
+
+fn drawn(alloc: Global, seed: u64) -> Result<Draws, AllocError> {
+    let mut draws = Vec::new(alloc);
     let mut state = seed;
-    for row in stream.chunks_exact(182) {
+    for _ in 0..3328 {
         state ^= state << 13;
         state ^= state >> 7;
         state ^= state << 17;
-        if state >> 56 < 43 {
-            bytes.extend_from_slice(&[0; 182])?;
-            bytes.extend_from_slice(&[0xFF; 23])?;
+        draws.push(state)?;
+    }
+    Ok(Draws(draws))
+}
+
+impl Draws {
+    fn of(&self, record: usize) -> u64 {
+        self.0.get(record).copied().unwrap_or(0)
+    }
+
+    fn loses(&self, record: usize) -> bool {
+        self.of(record) >> 56 < 43
+    }
+
+    // What stands in the place of a byte.
+    fn byte(&self, k: usize, byte: u8) -> u8 {
+        let record = k / 182;
+        if self.loses(record) {
+            0
+        } else if (k % 182) as u64 == self.of(record) >> 40 & 0x7F {
+            byte ^ 0x55
         } else {
-            let wrong = state >> 40 & 0x7F;
-            for (place, byte) in row.iter().enumerate() {
-                let is_wrong = place as u64 == wrong;
-                bytes.push(if is_wrong { *byte ^ 0x55 } else { *byte })?;
-            }
-            bytes.extend_from_slice(&[0; 23])?;
+            byte
         }
     }
-    Ok(bytes)
+}
+
+impl Marks for Draws {
+    fn of_row(&self, record: usize) -> [u8; 23] {
+        if self.loses(record) {
+            [0xFF; 23]
+        } else {
+            [0; 23]
+        }
+    }
+}
+
+// The capture of a recording of sixteen blocks that is drawn from a seed.
+fn captured(alloc: Global, stream: &[u8], seed: u64) -> Result<Vec<u8>, AllocError> {
+    let draws = drawn(alloc, seed)?;
+    let mut bytes = stream.to_vec(alloc)?;
+    for (k, byte) in bytes.iter_mut().enumerate() {
+        *byte = draws.byte(k, *byte);
+    }
+    marked(alloc, &bytes, &draws)
 }
 
 // The blocks of two captures in turn.
@@ -138,25 +193,39 @@ fn interleaved(alloc: Global, first: &[u8], second: &[u8]) -> Result<Vec<u8>, Al
 
 const RECOVER: &str = "recover --sectors 256 --form marked";
 
-// Whether each of sixteen blocks of a capture is refused.
-fn is_refused<R: AllocGlobal + Threads + Sync>(rt: &R, capture: &[u8]) -> Result<bool, Fail> {
-    let (status, _, told) = ran(rt, RECOVER, capture, PORTS)?;
-    Ok(status == Status::Damaged && told.held().ends_with(b"damaged: 16 blocks\n"))
+// A capture each of whose sixteen blocks is refused.
+fn refused<R: AllocGlobal + Threads + Sync>(
+    rt: &R,
+    stream: &[u8],
+    seed: u64,
+) -> Result<Vec<u8>, Fail> {
+    let capture = captured(rt.alloc(), stream, seed)?;
+    let (status, _, told) = ran(rt, RECOVER, &capture, PORTS)?;
+    if status != Status::Damaged || !told.held().ends_with(b"damaged: 16 blocks\n") {
+        Err((seed, status))?;
+    }
+    Ok(capture)
+}
+
+// The join of two captures of a recording, each of which is refused.
+fn joined<R: AllocGlobal + Threads + Sync>(rt: &R, stream: &[u8]) -> Result<Vec<u8>, Fail> {
+    let first = refused(rt, stream, 1)?;
+    let second = refused(rt, stream, 2)?;
+    let both = interleaved(rt.alloc(), &first, &second)?;
+    let text = "merge --sectors 256 --captures 2 --form marked";
+    run_to(
+        rt,
+        text,
+        &both,
+        PORTS,
+        (Status::Done, 16 * MARKED, "done\n"),
+    )
 }
 
 #[test]
 fn two_captures_beyond_the_bound_come_back_together(rt: HostRuntime) -> Result<(), Fail> {
-    let alloc = rt.alloc();
-    let image = image(alloc, 256)?;
+    let image = image(rt.alloc(), 256)?;
     let stream = recorded(&rt, "master --sectors 256", &image, 16)?;
-    let first = captured(alloc, &stream, 1)?;
-    let second = captured(alloc, &stream, 2)?;
-    assert!(rt; is_refused(&rt, &first)? && is_refused(&rt, &second)?);
-    let both = interleaved(alloc, &first, &second)?;
-    let text = "merge --sectors 256 --captures 2 --form marked";
-    let end = (Status::Done, 16 * MARKED, "done\n");
-    let merged = run_to(&rt, text, &both, PORTS, end)?;
-    let end = (Status::Done, image.len(), "done\n");
-    assert!(rt; run_to(&rt, RECOVER, &merged, PORTS, end)? == image);
-    Ok(())
+    let joined = joined(&rt, &stream)?;
+    writes(&rt, RECOVER, &joined, PORTS, &image)
 }

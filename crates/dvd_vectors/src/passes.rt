@@ -99,10 +99,8 @@ fn eight_rows(alloc: Global) -> Result<Work, Fail> {
 // Every row is a codeword, and the columns make one of them no codeword.
 fn wrong_row(alloc: Global) -> Result<Work, Fail> {
     let mut work = zero_block(alloc)?;
-    for (t, bytes) in MULTIPLES.iter().enumerate() {
-        if t < 8 {
-            put_bytes(&mut work, 191 + t, 171, bytes);
-        }
+    for (i, bytes) in (191..199usize).zip(&MULTIPLES) {
+        put_bytes(&mut work, i, 171, bytes);
     }
     put_bytes(&mut work, 199, 161, &LAST);
     Ok(work)
@@ -116,51 +114,64 @@ fn decode<R: Threads + Sync>(rt: &R, workers: u8, work: &mut Work) -> Option<Res
     Some(two_pass_par(rt, workers, &OpenGate, work))
 }
 
-#[test]
-fn sixteen_lost_rows_are_filled_and_seventeen_are_not(rt: HostRuntime) -> Result<(), Fail> {
-    let fixed = Fixed {
-        bytes: 0,
-        failed_rows: 16,
-    };
-    for workers in WORKERS {
-        let mut work = lost_rows(rt.alloc(), 16)?;
-        assert_eq!(rt; decode(&rt, workers, &mut work), Some(Ok(fixed)));
-        let mut work = lost_rows(rt.alloc(), 17)?;
-        assert_eq!(rt;
-            decode(&rt, workers, &mut work),
-            Some(Err(Cause::Rows { failed: 17 }))
-        );
-    }
-    Ok(())
+// What was received: rows that are lost, so many; eight rows of another codeword; these and a lost row; or rows whose columns
+// make one of them no codeword.
+enum Received {
+    Lost(usize),
+    Eight,
+    EightAndLost,
+    Wrong,
 }
 
-#[test]
-fn eight_rows_of_another_codeword_are_fixed(rt: HostRuntime) -> Result<(), Fail> {
-    let fixed = Fixed {
-        bytes: 88,
-        failed_rows: 0,
+fn work_of(alloc: Global, what: &Received) -> Result<Work, Fail> {
+    let mut work = match what {
+        Received::Lost(count) => lost_rows(alloc, *count)?,
+        Received::Eight | Received::EightAndLost => eight_rows(alloc)?,
+        Received::Wrong => wrong_row(alloc)?,
     };
-    for workers in WORKERS {
-        let mut work = eight_rows(rt.alloc())?;
-        assert_eq!(rt; decode(&rt, workers, &mut work), Some(Ok(fixed)));
-        let mut work = eight_rows(rt.alloc())?;
+    if let Received::EightAndLost = what {
         lose_row(&mut work, 207);
-        assert_eq!(rt;
-            decode(&rt, workers, &mut work),
-            Some(Err(Cause::Column { j: 171 }))
-        );
     }
-    Ok(())
+    Ok(work)
+}
+
+static ANSWERS: [(Received, Result<Fixed, Cause>); 5] = [
+    (
+        Received::Lost(16),
+        Ok(Fixed {
+            bytes: 0,
+            failed_rows: 16,
+        }),
+    ),
+    (Received::Lost(17), Err(Cause::Rows { failed: 17 })),
+    (
+        Received::Eight,
+        Ok(Fixed {
+            bytes: 88,
+            failed_rows: 0,
+        }),
+    ),
+    (Received::EightAndLost, Err(Cause::Column { j: 171 })),
+    (Received::Wrong, Err(Cause::Row { i: 191 })),
+];
+
+// Whether so many workers answer this.
+fn is_answered<R: AllocGlobal + Threads + Sync>(
+    rt: &R,
+    what: &Received,
+    answer: Result<Fixed, Cause>,
+    workers: u8,
+) -> Result<bool, Fail> {
+    let mut work = work_of(rt.alloc(), what)?;
+    Ok(decode(rt, workers, &mut work) == Some(answer))
 }
 
 #[test]
-fn a_row_that_is_no_codeword_refuses_the_block(rt: HostRuntime) -> Result<(), Fail> {
-    for workers in WORKERS {
-        let mut work = wrong_row(rt.alloc())?;
-        assert_eq!(rt;
-            decode(&rt, workers, &mut work),
-            Some(Err(Cause::Row { i: 191 }))
-        );
+fn each_number_of_workers_answers_the_same(rt: HostRuntime) -> Result<(), Fail> {
+    for (what, answer) in &ANSWERS {
+        for workers in WORKERS {
+            assert!(rt; is_answered(&rt, what, *answer, workers)?);
+        }
     }
     Ok(())
 }

@@ -1,11 +1,12 @@
 //! Streams that are cut off, followed by more, full of marks or of another place, and what is read back of them.
 use crate::fixture::{
-    ALL_SOUND, BLOCK, End, Input, SOUND, bytes_of, image, mastered, run_to, sink,
+    ALL_SOUND, BLOCK, End, Input, SOUND, bytes_of, image, leave_fronts, recording, sink,
 };
 use crate::words;
 use dvd_par::OpenGate;
-use dvd_ports::{NullSink, SliceSource};
+use dvd_ports::{MemSink, NullSink, SliceSource};
 use dvd_top::{Status, run};
+use std::alloc::AllocError;
 use std::test::Fail;
 use std::thread::Threads;
 
@@ -112,39 +113,42 @@ static STREAMS: [Stream; 12] = [
     ),
 ];
 
-// Whether the sectors come back, and zeros.
-fn comes_back<R: AllocGlobal + Threads + Sync>(rt: &R, stream: &Stream) -> Result<bool, Fail> {
+// The sectors come back, and zeros.
+fn come_back<R: AllocGlobal + Threads + Sync>(rt: &R, stream: &Stream) -> Result<(), Fail> {
     let (text, input, end, sectors) = stream;
     let mut wanted = image(rt.alloc(), *sectors)?;
     wanted.resize(end.1, 0)?;
-    let written = run_to(rt, text, &bytes_of(rt, input)?, ALL_SOUND, *end)?;
-    Ok(written == wanted)
+    let bytes = bytes_of(rt, input)?;
+    leave_fronts(rt, text, &bytes, &wanted, &[(ALL_SOUND, *end)])
 }
 
 #[test]
 fn what_stands_in_a_stream_comes_back(rt: HostRuntime) -> Result<(), Fail> {
     for stream in &STREAMS {
-        assert!(rt; comes_back(&rt, stream)?, "{}", stream.2.2);
+        come_back(&rt, stream)?;
     }
     Ok(())
 }
 
+// Runs the words over a stream, with an output that keeps nothing.
+fn run_to_nothing<R: AllocGlobal + Threads + Sync>(
+    rt: &R,
+    text: &str,
+    stream: &[u8],
+    report: &mut MemSink,
+) -> Result<Status, AllocError> {
+    let alloc = rt.alloc();
+    let words = words(alloc, text)?;
+    let mut src = SliceSource::new(stream);
+    let mut out = NullSink::new();
+    Ok(run(rt, &OpenGate, alloc, &words, &mut src, &mut out, report))
+}
+
 #[test]
 fn an_output_may_keep_nothing(rt: HostRuntime) -> Result<(), Fail> {
-    let alloc = rt.alloc();
-    let stream = mastered(&rt, "master --sectors 17", &image(alloc, 17)?)?;
-    let words = words(alloc, "recover --sectors 17")?;
-    let mut report = sink(alloc, SOUND)?;
-    let mut src = SliceSource::new(&stream);
-    let status = run(
-        &rt,
-        &OpenGate,
-        alloc,
-        &words,
-        &mut src,
-        &mut NullSink::new(),
-        &mut report,
-    );
+    let stream = recording(&rt, "master --sectors 17", 17, 2)?;
+    let mut report = sink(rt.alloc(), SOUND)?;
+    let status = run_to_nothing(&rt, "recover --sectors 17", &stream, &mut report)?;
     assert!(rt; status == Status::Done && report.held() == b"done\n".as_slice());
     Ok(())
 }

@@ -1,6 +1,6 @@
 //! A disk of 528 blocks as a rescuer meets it: a burst over forty blocks, of which marked rows are lost, and wrong bytes in
 //! every eighth row of all others, which nothing marks. All of it is read back, and the survey counts what stands there.
-use crate::fixture::{NEVER, Ports, SOUND, image, recorded, run_to};
+use crate::fixture::{Marks, NEVER, Ports, SOUND, image, marked, recorded, run_to};
 use dvd_top::Status;
 use sha2::{Digest, Sha256};
 use std::alloc::{AllocError, Global};
@@ -19,36 +19,45 @@ fn is_in_burst(record: usize) -> bool {
     (300 * 208..340 * 208).contains(&record)
 }
 
-// A row of which nothing could be read: zeros, each with a mark.
-fn push_lost(bytes: &mut Vec<u8>) -> Result<(), AllocError> {
-    bytes.extend_from_slice(&[0; 182])?;
-    bytes.extend_from_slice(&[0xFF; 22])?;
-    bytes.push(0b1111_1100)?;
-    Ok(())
+// Whether nothing could be read of a row: it stands as zeros, each with a mark.
+fn is_lost(record: usize) -> bool {
+    is_in_burst(record) && record % 208 < 12
 }
 
-// A row without marks, whose first three bytes are combined with this one.
-fn push_row(bytes: &mut Vec<u8>, row: &[u8], flip: u8) -> Result<(), AllocError> {
-    for (place, byte) in row.iter().enumerate() {
-        bytes.push(if place < 3 { *byte ^ flip } else { *byte })?;
+// The burst. Behind and before it the first three bytes of every eighth row are wrong.
+#[derive(Drop)]
+struct Burst;
+
+impl Marks for Burst {
+    fn of_row(&self, record: usize) -> [u8; 23] {
+        let mut marks = [0; 23];
+        if is_lost(record) {
+            marks = [0xFF; 23];
+            marks[22] = 0b1111_1100;
+        }
+        marks
     }
-    bytes.extend_from_slice(&[0; 23])?;
-    Ok(())
+}
+
+// What stands in the place of a byte of the stream.
+fn read(k: usize, byte: u8) -> u8 {
+    let record = k / 182;
+    if is_lost(record) {
+        0
+    } else if !is_in_burst(record) && record % 8 == 0 && k % 182 < 3 {
+        byte ^ 0xFF
+    } else {
+        byte
+    }
 }
 
 // The captured stream, in the marked form.
 fn captured(alloc: Global, stream: &[u8]) -> Result<Vec<u8>, AllocError> {
-    let mut bytes = Vec::new(alloc);
-    for (record, row) in stream.chunks_exact(182).enumerate() {
-        if is_in_burst(record) && record % 208 < 12 {
-            push_lost(&mut bytes)?;
-        } else if !is_in_burst(record) && record % 8 == 0 {
-            push_row(&mut bytes, row, 0xFF)?;
-        } else {
-            push_row(&mut bytes, row, 0)?;
-        }
+    let mut bytes = stream.to_vec(alloc)?;
+    for (k, byte) in bytes.iter_mut().enumerate() {
+        *byte = read(k, *byte);
     }
-    Ok(bytes)
+    marked(alloc, &bytes, &Burst)
 }
 
 // What these words write over what was captured of the image.

@@ -1,8 +1,7 @@
 //! Surveys of streams: the lines of blocks and of totals, for both forms, damage that comes and goes, and streams that
 //! aren't whole.
-use crate::fixture::{ALL_SOUND, BLOCK, image, mastered, recorded, run_to, zeros};
+use crate::fixture::{ALL_SOUND, BLOCK, Input, Marks, bytes_of, marked, recording, run_to};
 use dvd_top::Status;
-use std::alloc::{AllocError, Global};
 use std::test::Fail;
 use std::thread::Threads;
 
@@ -19,42 +18,37 @@ fn tells<R: AllocGlobal + Threads + Sync>(rt: &R, stream: &[u8], run: &Run) -> R
     Ok(())
 }
 
-// Over a mastered stream of one block.
-static WHOLE: [Run; 3] = [
+// Over a mastered stream of one block, and over so many zeros, which have no errors and no address.
+static RUNS: [(Input, Run); 5] = [
     (
-        "survey --sectors 16",
-        Status::Done,
-        "done\n",
-        "block 0 sector 030000 layer 0 pi 0 failed 0 sum8 0: whole\nblocks 1 pi 0 failed 0 damaged 0 peak 0 at 0 over 0\n",
+        MASTERED,
+        (
+            "survey --sectors 16",
+            Status::Done,
+            "done\n",
+            "block 0 sector 030000 layer 0 pi 0 failed 0 sum8 0: whole\nblocks 1 pi 0 failed 0 damaged 0 peak 0 at 0 over 0\n",
+        ),
     ),
     (
-        "survey --sectors 17",
-        Status::Short,
-        "short: block 1, 0 bytes\n",
-        "block 0 sector 030000 layer 0 pi 0 failed 0 sum8 0: whole\n",
+        MASTERED,
+        (
+            "survey --sectors 17",
+            Status::Short,
+            "short: block 1, 0 bytes\n",
+            "block 0 sector 030000 layer 0 pi 0 failed 0 sum8 0: whole\n",
+        ),
     ),
     (
-        "survey --sectors 16 --form marked",
-        Status::Short,
-        "short: block 0, 37856 bytes\n",
-        "",
+        MASTERED,
+        (
+            "survey --sectors 16 --form marked",
+            Status::Short,
+            "short: block 0, 37856 bytes\n",
+            "",
+        ),
     ),
-];
-
-#[test]
-fn a_mastered_block_is_whole(rt: HostRuntime) -> Result<(), Fail> {
-    let image = image(rt.alloc(), 16)?;
-    let stream = mastered(&rt, "master --sectors 16", &image)?;
-    for run in &WHOLE {
-        tells(&rt, &stream, run)?;
-    }
-    Ok(())
-}
-
-// Over so many zeros.
-static ZEROS: [(usize, Run); 2] = [
     (
-        BLOCK,
+        (0, "", 0, 0, BLOCK, 0),
         (
             "survey --sectors 16",
             Status::Damaged,
@@ -63,7 +57,7 @@ static ZEROS: [(usize, Run); 2] = [
         ),
     ),
     (
-        BLOCK + 1,
+        (0, "", 0, 0, BLOCK + 1, 0),
         (
             "survey --sectors 16",
             Status::Long,
@@ -73,23 +67,28 @@ static ZEROS: [(usize, Run); 2] = [
     ),
 ];
 
+const MASTERED: Input = (16, "master --sectors 16", 1, 0, BLOCK, 0);
+
 #[test]
-fn zeros_have_no_errors_and_no_address(rt: HostRuntime) -> Result<(), Fail> {
-    for (count, run) in &ZEROS {
-        tells(&rt, &zeros(rt.alloc(), *count)?, run)?;
+fn a_block_is_whole_or_has_no_address(rt: HostRuntime) -> Result<(), Fail> {
+    for (input, run) in &RUNS {
+        tells(&rt, &bytes_of(&rt, input)?, run)?;
     }
     Ok(())
 }
 
-// A recording in the marked form, of whose blocks the first rows have one mark each.
-fn marked(alloc: Global, stream: &[u8], rows: usize) -> Result<Vec<u8>, AllocError> {
-    let mut bytes = Vec::new(alloc);
-    for (record, row) in stream.chunks_exact(182).enumerate() {
-        bytes.extend_from_slice(row)?;
-        bytes.push(if record % 208 < rows { 1 } else { 0 })?;
-        bytes.extend_from_slice(&[0; 22])?;
+// The first rows of each block have one mark each, so many of them.
+#[derive(Drop)]
+struct FirstRows(usize);
+
+impl Marks for FirstRows {
+    fn of_row(&self, record: usize) -> [u8; 23] {
+        let mut marks = [0; 23];
+        if record % 208 < self.0 {
+            marks[0] = 1;
+        }
+        marks
     }
-    Ok(bytes)
 }
 
 // So many rows of each of two blocks have a mark.
@@ -116,29 +115,32 @@ static MARKED: [(usize, Run); 2] = [
 
 #[test]
 fn a_row_with_a_mark_has_an_error(rt: HostRuntime) -> Result<(), Fail> {
-    let alloc = rt.alloc();
-    let stream = mastered(&rt, "master --sectors 32", &image(alloc, 32)?)?;
+    let stream = recording(&rt, "master --sectors 32", 32, 2)?;
     for (rows, run) in &MARKED {
-        tells(&rt, &marked(alloc, &stream, *rows)?, run)?;
+        let bytes = marked(rt.alloc(), &stream, &FirstRows(*rows))?;
+        tells(&rt, &bytes, run)?;
     }
     Ok(())
 }
 
-// How many rows of each block have a wrong byte: a burst over three blocks.
-static BURST: [usize; 12] = [0, 0, 90, 208, 45, 0, 0, 0, 0, 0, 0, 0];
+// How many rows of a block have a wrong byte: a burst over three blocks.
+fn wrong_rows(block: usize) -> usize {
+    match block {
+        2 => 90,
+        3 => 208,
+        4 => 45,
+        _ => 0,
+    }
+}
 
-// A stream whose blocks have wrong bytes in so many of their first rows.
-fn burst(alloc: Global, stream: &[u8]) -> Result<Vec<u8>, AllocError> {
-    let mut bytes = Vec::new(alloc);
-    for (block, rows) in stream.chunks_exact(BLOCK).zip(BURST) {
-        for (record, row) in block.chunks_exact(182).enumerate() {
-            for (place, byte) in row.iter().enumerate() {
-                let is_wrong = record < rows && place == record % 182;
-                bytes.push(if is_wrong { *byte ^ 0xFF } else { *byte })?;
-            }
+// Makes a byte wrong in so many of the first rows of each block.
+fn burst(stream: &mut [u8]) {
+    for (k, byte) in stream.iter_mut().enumerate() {
+        let record = k % BLOCK / 182;
+        if record < wrong_rows(k / BLOCK) && k % 182 == record % 182 {
+            *byte ^= 0xFF;
         }
     }
-    Ok(bytes)
 }
 
 static RISES_AND_FALLS: Run = (
@@ -150,30 +152,25 @@ static RISES_AND_FALLS: Run = (
 
 #[test]
 fn a_burst_is_seen_by_eight_blocks(rt: HostRuntime) -> Result<(), Fail> {
-    let alloc = rt.alloc();
-    let stream = mastered(&rt, "master --sectors 192", &image(alloc, 192)?)?;
-    tells(&rt, &burst(alloc, &stream)?, &RISES_AND_FALLS)
+    let mut stream = recording(&rt, "master --sectors 192", 192, 12)?;
+    burst(&mut stream);
+    tells(&rt, &stream, &RISES_AND_FALLS)
 }
 
-// A disk of two layers with every zone: its words, blocks and totals.
-const DISK: (&str, &str, usize, &str) = (
-    "master --sectors 16 --sectors1 5 --shape opposite --zones all --tail 1",
+// A disk of two layers with every zone: its totals.
+const DISK: Run = (
     "survey --sectors 16 --sectors1 5 --shape opposite --zones all --tail 1",
-    261,
+    Status::Done,
+    "done\n",
     "blocks 261 pi 0 failed 0 damaged 0 peak 0 at 0 over 0\n",
 );
 
 #[test]
 fn every_zone_of_a_disk_is_surveyed(rt: HostRuntime) -> Result<(), Fail> {
-    let (master, survey, blocks, totals) = DISK;
-    let stream = recorded(&rt, master, &image(rt.alloc(), 21)?, blocks)?;
-    let lines = run_to(
-        &rt,
-        survey,
-        &stream,
-        ALL_SOUND,
-        (Status::Done, 15_604, "done\n"),
-    )?;
-    assert!(rt; lines.ends_with(totals.as_bytes()));
+    let text = "master --sectors 16 --sectors1 5 --shape opposite --zones all --tail 1";
+    let stream = recording(&rt, text, 21, 261)?;
+    let end = (DISK.1, 15_604, DISK.2);
+    let lines = run_to(&rt, DISK.0, &stream, ALL_SOUND, end)?;
+    assert!(rt; lines.ends_with(DISK.3.as_bytes()));
     Ok(())
 }

@@ -57,18 +57,12 @@ static USAGE: [Case; 11] = [
     ((SOUND, SOUND, (9, NEVER, 7)), (Status::Usage, 0, "usage\n")),
 ];
 
+// Over sectors, and over nothing.
 #[test]
 fn words_that_ask_for_nothing_are_usage(rt: HostRuntime) -> Result<(), Fail> {
     let bytes = zeros(rt.alloc(), 34_816)?;
     for text in &TEXTS {
         leave_fronts(&rt, text, &bytes, &[], &USAGE)?;
-    }
-    Ok(())
-}
-
-#[test]
-fn they_are_usage_over_no_input(rt: HostRuntime) -> Result<(), Fail> {
-    for text in &TEXTS {
         leave_fronts(&rt, text, &[], &[], &USAGE)?;
     }
     Ok(())

@@ -1,10 +1,10 @@
 //! Several workers on one run: what comes out is that of one worker, and two workers work at the same time.
 use crate::fixture::{
-    ALL_SOUND, BLOCK, NEVER, Ports, SOUND, image, mastered, ran, ran_through, zeros,
+    ALL_SOUND, BLOCK, Input, NEVER, Ports, SOUND, bytes_of, image, joined, leaves, mastered, ran,
+    ran_through,
 };
 use dvd_par::Gate;
 use dvd_top::Status;
-use std::alloc::{AllocError, Global};
 use std::sync::atomic::{AtomicU64, Ordering};
 use std::test::Fail;
 use std::thread::Threads;
@@ -69,31 +69,62 @@ impl Gate for Meeting {
     }
 }
 
-// Whether pieces 0 and 1 of each pass meet in one of a few runs over these bytes; there are so many passes.
-fn meets<R: AllocGlobal + Threads + Sync>(
+// Pieces 0 and 1 of each pass meet in one of a few runs over these bytes; there are so many passes.
+fn meet<R: AllocGlobal + Threads + Sync>(
+    rt: &R,
+    text: &str,
+    bytes: &[u8],
+    passes: u64,
+) -> Result<(), Fail> {
+    for _ in 0..MOST_RUNS {
+        if is_met_once(rt, text, bytes, passes)? {
+            return Ok(());
+        }
+    }
+    Err(passes)?
+}
+
+// Whether they do in one run.
+fn is_met_once<R: AllocGlobal + Threads + Sync>(
     rt: &R,
     text: &str,
     bytes: &[u8],
     passes: u64,
 ) -> Result<bool, Fail> {
-    for _ in 0..MOST_RUNS {
-        let gate = Meeting::new();
-        let (status, _, _) = ran_through(rt, &gate, text, bytes, ALL_SOUND)?;
-        if status == Status::Done && gate.is_met(passes) {
-            return Ok(true);
-        }
-    }
-    Ok(false)
+    let gate = Meeting::new();
+    let (status, _, _) = ran_through(rt, &gate, text, bytes, ALL_SOUND)?;
+    Ok(status == Status::Done && gate.is_met(passes))
 }
+
+// Words, their input, and the passes.
+static MEETINGS: [(&str, Input, u64); 4] = [
+    (
+        "recover --sectors 16 --workers 2",
+        (16, "master --sectors 16", 1, 0, BLOCK, 0),
+        2,
+    ),
+    (
+        "survey --sectors 16 --workers 2",
+        (16, "master --sectors 16", 1, 0, BLOCK, 0),
+        2,
+    ),
+    (
+        "master --sectors 16 --workers 2",
+        (0, "", 0, 0, 32_768, 0),
+        2,
+    ),
+    (
+        "exercise --seed 1 --blocks 1 --workers 2",
+        (0, "", 0, 0, 0, 0),
+        4,
+    ),
+];
 
 #[test]
 fn two_workers_work_at_the_same_time(rt: HostRuntime) -> Result<(), Fail> {
-    let image = zeros(rt.alloc(), 32_768)?;
-    let stream = mastered(&rt, "master --sectors 16", &image)?;
-    assert!(rt; meets(&rt, "recover --sectors 16 --workers 2", &stream, 2)?);
-    assert!(rt; meets(&rt, "survey --sectors 16 --workers 2", &stream, 2)?);
-    assert!(rt; meets(&rt, "master --sectors 16 --workers 2", &image, 2)?);
-    assert!(rt; meets(&rt, "exercise --seed 1 --blocks 1 --workers 2", &[], 4)?);
+    for (text, input, passes) in &MEETINGS {
+        meet(&rt, text, &bytes_of(&rt, input)?, *passes)?;
+    }
     Ok(())
 }
 
@@ -113,58 +144,70 @@ fn scratch(stream: &mut [u8]) {
     }
 }
 
-// The words with so many workers.
-fn with_workers(alloc: Global, text: &str, workers: u8) -> Result<String, AllocError> {
-    format!(in alloc; "{text} --workers {workers}")
+// Source, output and report, with room for three blocks.
+const PORTS: Ports = (SOUND, (BLOCK, NEVER, 3 * BLOCK), SOUND);
+
+// Words, numbers of workers, and the status.
+type Run = (&'static str, &'static [&'static str], Status);
+
+static OVER_THE_STREAM: [Run; 2] = [
+    (
+        "recover --sectors 33",
+        &["--workers 1", "--workers 8"],
+        Status::Damaged,
+    ),
+    (
+        "survey --sectors 33",
+        &["--workers 1", "--workers 8"],
+        Status::Damaged,
+    ),
+];
+
+static OVER_THE_IMAGE: [Run; 2] = [
+    (
+        "master --sectors 33",
+        &["--workers 1", "--workers 5", "--workers 16"],
+        Status::Done,
+    ),
+    (
+        "exercise --seed 1 --blocks 2",
+        &["--workers 1", "--workers 3", "--workers 16"],
+        Status::Done,
+    ),
+];
+
+// A run over these bytes ends so, and is the same for each number of workers.
+fn is_same<R: AllocGlobal + Threads + Sync>(rt: &R, run: &Run, bytes: &[u8]) -> Result<(), Fail> {
+    let (status, out, told) = ran(rt, run.0, bytes, PORTS)?;
+    for workers in run.1 {
+        let text = joined(rt.alloc(), run.0, workers)?;
+        if !leaves(rt, &text, bytes, PORTS, (run.2, out.held(), told.held()))? {
+            Err(run.0)?;
+        }
+    }
+    if status != run.2 {
+        Err(status)?;
+    }
+    Ok(())
 }
 
-// Whether the run of these words over these bytes ends so, and is the same for each of these numbers of workers.
-fn is_same<R: AllocGlobal + Threads + Sync>(
+// Each of these runs is.
+fn are_same<R: AllocGlobal + Threads + Sync>(
     rt: &R,
-    text: &str,
+    runs: &[Run],
     bytes: &[u8],
-    workers: &[u8],
-    wanted: Status,
-) -> Result<bool, Fail> {
-    let ports: Ports = (SOUND, (BLOCK, NEVER, 3 * BLOCK), SOUND);
-    let (status, out, told) = ran(rt, text, bytes, ports)?;
-    let mut same = status == wanted;
-    for count in workers {
-        let words = with_workers(rt.alloc(), text, *count)?;
-        let (its_status, its_out, its_told) = ran(rt, &words, bytes, ports)?;
-        same = same
-            && its_status == status
-            && its_out.held() == out.held()
-            && its_told.held() == told.held();
+) -> Result<(), Fail> {
+    for run in runs {
+        is_same(rt, run, bytes)?;
     }
-    Ok(same)
+    Ok(())
 }
 
 #[test]
 fn runs_are_the_same_for_each_number_of_workers(rt: HostRuntime) -> Result<(), Fail> {
     let image = image(rt.alloc(), 33)?;
+    are_same(&rt, &OVER_THE_IMAGE, &image)?;
     let mut stream = mastered(&rt, "master --sectors 33", &image)?;
     scratch(&mut stream);
-    let damaged = Status::Damaged;
-    assert!(rt; is_same(&rt, "recover --sectors 33", &stream, &[1, 8], damaged)?);
-    assert!(rt; is_same(&rt, "survey --sectors 33", &stream, &[1, 8], damaged)?);
-    assert!(rt;
-        is_same(
-            &rt,
-            "master --sectors 33",
-            &image,
-            &[1, 5, 16],
-            Status::Done
-        )?
-    );
-    assert!(rt;
-        is_same(
-            &rt,
-            "exercise --seed 1 --blocks 2",
-            &[],
-            &[1, 3, 16],
-            Status::Done
-        )?
-    );
-    Ok(())
+    are_same(&rt, &OVER_THE_STREAM, &stream)
 }
