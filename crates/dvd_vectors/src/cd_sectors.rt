@@ -186,14 +186,11 @@ fn wrong_bits(at: usize) -> u8 {
     }
 }
 
-// The sectors of an image, made and read wrong.
-fn damaged<R: AllocGlobal + Threads + Sync>(rt: &R, image: &[u8]) -> Result<Vec<u8>, Fail> {
-    let text = "cdmake --address 4498 --sectors 4";
-    let mut stream = run_to(rt, text, image, ALL_SOUND, (Status::Done, 9408, "done\n"))?;
+// Reads bits of a stream wrong.
+fn misread(stream: &mut [u8]) {
     for (at, byte) in stream.iter_mut().enumerate() {
         *byte ^= wrong_bits(at);
     }
-    Ok(stream)
 }
 
 // Fills the second sector of an image with zeros.
@@ -202,6 +199,10 @@ fn wipe_second(image: &mut [u8]) {
         sector.fill(0);
     }
 }
+
+const MAKE_FOUR: &str = "cdmake --address 4498 --sectors 4";
+
+const FOUR: End = (Status::Done, 9408, "done\n");
 
 // What is left of the others.
 const ONE_DAMAGED: End = (
@@ -213,7 +214,8 @@ const ONE_DAMAGED: End = (
 #[test]
 fn a_damaged_sector_among_good_ones(rt: HostRuntime) -> Result<(), Fail> {
     let mut image = image(rt.alloc(), 4)?;
-    let stream = damaged(&rt, &image)?;
+    let mut stream = run_to(&rt, MAKE_FOUR, &image, ALL_SOUND, FOUR)?;
+    misread(&mut stream);
     wipe_second(&mut image);
     let text = "cdread --address 4498 --sectors 4";
     leave_fronts(&rt, text, &stream, &image, &[(ALL_SOUND, ONE_DAMAGED)])

@@ -1,8 +1,7 @@
 //! Damaged blocks with marks: up to the bound all comes back. A block beyond it is named, and its frames come back whose
 //! rows are all read.
-use crate::fixture::{ALL_SOUND, End, Marks, image, leave_fronts, marked, mastered};
+use crate::fixture::{ALL_SOUND, Capture, End, captured, image, leave_fronts, mastered};
 use dvd_top::Status;
-use std::alloc::{AllocError, Global};
 use std::test::Fail;
 use std::thread::Threads;
 
@@ -10,9 +9,9 @@ use std::thread::Threads;
 #[derive(Drop)]
 struct Lost(&'static [usize]);
 
-impl Lost {
-    // What stands in the place of a byte of a block: five bytes at most are wrong in a row without marks, ten are marked in
-    // each other one.
+// Five bytes at most are wrong in a row without marks, ten are marked in each other one, and the high bit of a mark byte is
+// the first place.
+impl Capture for Lost {
     fn byte(&self, k: usize, byte: u8) -> u8 {
         let (place, j) = (k / 182 % 208, k % 182);
         if self.0.contains(&place) {
@@ -24,11 +23,8 @@ impl Lost {
             _ => byte,
         }
     }
-}
 
-// The high bit of a mark byte is the first place.
-impl Marks for Lost {
-    fn of_row(&self, record: usize) -> [u8; 23] {
+    fn marks(&self, record: usize) -> [u8; 23] {
         let place = record % 208;
         let mut marks = [0; 23];
         if self.0.contains(&place) {
@@ -39,15 +35,6 @@ impl Marks for Lost {
         }
         marks
     }
-}
-
-// Blocks with marks that are damaged so.
-fn damaged(alloc: Global, stream: &[u8], lost: &Lost) -> Result<Vec<u8>, AllocError> {
-    let mut bytes = stream.to_vec(alloc)?;
-    for (k, byte) in bytes.iter_mut().enumerate() {
-        *byte = lost.byte(k, *byte);
-    }
-    marked(alloc, &bytes, lost)
 }
 
 // Words to master and to recover with, the sectors of the image, the lost rows of each block, the end, and which sectors of
@@ -149,7 +136,7 @@ fn keep_sectors(image: &mut [u8], sectors: (usize, usize)) {
 fn come_back<R: AllocGlobal + Threads + Sync>(rt: &R, damage: &Damage) -> Result<(), Fail> {
     let (master, recover, sectors, lost, end, kept) = *damage;
     let mut image = image(rt.alloc(), sectors)?;
-    let bytes = damaged(rt.alloc(), &mastered(rt, master, &image)?, &Lost(lost))?;
+    let bytes = captured(rt.alloc(), &mastered(rt, master, &image)?, &Lost(lost))?;
     keep_sectors(&mut image, kept);
     leave_fronts(rt, recover, &bytes, &image, &[(ALL_SOUND, end)])
 }

@@ -2,7 +2,9 @@
 //! come from another program.
 ghost use Rattle.std.specs.Prelude.{◌<◌};
 
-use crate::fixture::{ALL_SOUND, End, Marks, image, marked, mastered, recording, run_to, writes};
+use crate::fixture::{
+    ALL_SOUND, Capture, End, captured, image, mastered, recording, run_to, writes,
+};
 use dvd_block::row_of_record;
 use dvd_top::Status;
 use sha2::{Digest, Sha256};
@@ -47,28 +49,24 @@ fn is_in_chain(chain: usize, row: usize, j: usize) -> bool
     j / 10 == chain || j == link
 }
 
-// Whether a place of a stream is lost.
-fn is_lost_at(lost: Lost, k: usize) -> bool {
-    is_lost(lost, row_of_record(k / 182 % 208), k % 182)
-}
-
-// Makes lost places wrong, and five bytes at most in each of twenty other rows.
-fn damage(stream: &mut [u8], lost: Lost) {
-    for (k, byte) in stream.iter_mut().enumerate() {
-        let i = row_of_record(k / 182 % 208);
-        if is_lost_at(lost, k) {
-            *byte ^= 0x5A;
-        } else if 100 <= i && i < 120 && k % 182 % 37 == i % 37 {
-            *byte ^= 0x55;
+// The lost places are wrong, and five bytes at most in each of twenty other rows.
+impl Capture for Lost {
+    fn byte(&self, k: usize, byte: u8) -> u8 {
+        let (i, j) = (row_of_record(k / 182 % 208), k % 182);
+        if is_lost(*self, i, j) {
+            byte ^ 0x5A
+        } else if 100 <= i && i < 120 && j % 37 == i % 37 {
+            byte ^ 0x55
+        } else {
+            byte
         }
     }
-}
 
-impl Marks for Lost {
-    fn of_row(&self, record: usize) -> [u8; 23] {
+    fn marks(&self, record: usize) -> [u8; 23] {
+        let i = row_of_record(record % 208);
         let mut marks = [0; 23];
         for j in 0..182usize {
-            if is_lost(*self, row_of_record(record % 208), j) {
+            if is_lost(*self, i, j) {
                 marks[j / 8] |= 0x80 >> (j % 8);
             }
         }
@@ -77,10 +75,9 @@ impl Marks for Lost {
 }
 
 // A recording in the marked form that is damaged so.
-fn damaged<R: AllocGlobal + Threads + Sync>(rt: &R, lost: Lost) -> Result<Vec<u8>, Fail> {
-    let mut stream = recording(rt, "master --sectors 16", 16, 1)?;
-    damage(&mut stream, lost);
-    Ok(marked(rt.alloc(), &stream, &lost)?)
+fn damaged<R: AllocGlobal + Threads + Sync>(rt: &R, lost: &Lost) -> Result<Vec<u8>, Fail> {
+    let stream = recording(rt, "master --sectors 16", 16, 1)?;
+    Ok(captured(rt.alloc(), &stream, lost)?)
 }
 
 // The lost places, the words, the status and the report.
@@ -128,7 +125,7 @@ const WRITTEN: [u8; 32] = [
 fn rounds_give_blocks_back(rt: HostRuntime) -> Result<(), Fail> {
     let mut hash = Sha256::new();
     for (lost, status, report) in &RUNS {
-        let bytes = damaged(&rt, *lost)?;
+        let bytes = damaged(&rt, lost)?;
         let end = (*status, 32_768, *report);
         let text = "deep --sectors 16 --form marked";
         hash.update(&run_to(&rt, text, &bytes, ALL_SOUND, end)?);
@@ -146,7 +143,7 @@ const REFUSED: End = (
 
 #[test]
 fn two_passes_refuse_what_a_round_gives_back(rt: HostRuntime) -> Result<(), Fail> {
-    let bytes = damaged(&rt, Lost::Ladder)?;
+    let bytes = damaged(&rt, &Lost::Ladder)?;
     let text = "recover --sectors 16 --form marked";
     run_to(&rt, text, &bytes, ALL_SOUND, REFUSED)?;
     Ok(())

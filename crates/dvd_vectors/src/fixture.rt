@@ -248,23 +248,40 @@ pub fn ended(alloc: Global, bytes: &[u8], cut: usize, more: &[u8]) -> Result<Vec
     Ok(bytes)
 }
 
-/// The marks of a capture.
-pub trait Marks {
+/// How a capture of a stream differs from it.
+pub trait Capture {
+    /// What is read in the place of byte `k` of the stream.
+    fn byte(&self, k: usize, byte: u8) -> u8;
+
     /// The 23 bytes of marks of a recorded row, whose number in the stream that is.
-    fn of_row(&self, record: usize) -> [u8; 23];
+    fn marks(&self, record: usize) -> [u8; 23];
 }
 
 /// The bytes of a captured block in the marked form.
 pub const MARKED: usize = 42_640;
 
 /// The capture of a stream in the marked form.
-pub fn marked<M: Marks>(alloc: Global, stream: &[u8], marks: &M) -> Result<Vec<u8>, AllocError> {
+pub fn captured<C: Capture>(alloc: Global, stream: &[u8], how: &C) -> Result<Vec<u8>, AllocError> {
+    let mut rows = stream.to_vec(alloc)?;
+    misread(&mut rows, how);
+    marked(alloc, &rows, how)
+}
+
+// The rows as they were read, each with its marks.
+fn marked<C: Capture>(alloc: Global, rows: &[u8], how: &C) -> Result<Vec<u8>, AllocError> {
     let mut bytes = Vec::new(alloc);
-    for (record, row) in stream.chunks_exact(182).enumerate() {
+    for (record, row) in rows.chunks_exact(182).enumerate() {
         bytes.extend_from_slice(row)?;
-        bytes.extend_from_slice(&marks.of_row(record))?;
+        bytes.extend_from_slice(&how.marks(record))?;
     }
     Ok(bytes)
+}
+
+/// Changes the bytes of a stream as a capture does.
+pub fn misread<C: Capture>(stream: &mut [u8], how: &C) {
+    for (k, byte) in stream.iter_mut().enumerate() {
+        *byte = how.byte(k, *byte);
+    }
 }
 
 /// Runs the words once for each case; an error where it isn't the front of `whole` that is written.

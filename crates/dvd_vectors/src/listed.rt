@@ -3,8 +3,8 @@
 ghost use Rattle.std.specs.Prelude.{◌≤◌};
 
 use crate::fixture::{
-    BLOCK, Case, Marks, NEVER, Ports, SOUND, ended, image, joined, leave_fronts, leaves, marked,
-    mastered, ran, recording, run_to, writes,
+    BLOCK, Capture, Case, NEVER, Ports, SOUND, captured, ended, image, joined, leave_fronts,
+    leaves, mastered, ran, recording, run_to, writes,
 };
 use dvd_top::Status;
 use std::alloc::{AllocError, Global};
@@ -64,8 +64,12 @@ fn listed_runs(alloc: Global, runs: &[Run]) -> Result<Vec<u8>, AllocError> {
 #[derive(Drop)]
 struct Runs(&'static [Run]);
 
-impl Marks for Runs {
-    fn of_row(&self, record: usize) -> [u8; 23] {
+impl Capture for Runs {
+    fn byte(&self, _: usize, byte: u8) -> u8 {
+        byte
+    }
+
+    fn marks(&self, record: usize) -> [u8; 23] {
         let first = 182 * (record % 208) as u32;
         let mut marks = [0; 23];
         for j in 0..182u32 {
@@ -119,7 +123,7 @@ fn is_as_marked<R: AllocGlobal + Threads + Sync>(
     other: &str,
 ) -> Result<(), Fail> {
     let others = listed(rt.alloc(), stream)?;
-    let bytes = marked(rt.alloc(), stream.bytes, &Runs(stream.runs))?;
+    let bytes = captured(rt.alloc(), stream.bytes, &Runs(stream.runs))?;
     does_the_same(rt, text, &bytes, other, &others)
 }
 
@@ -549,7 +553,7 @@ fn is_converted_with_marks<R: AllocGlobal + Threads + Sync>(
     text: &str,
     stream: &Stream,
 ) -> Result<(), Fail> {
-    let bytes = marked(rt.alloc(), stream.bytes, &Runs(stream.runs))?;
+    let bytes = captured(rt.alloc(), stream.bytes, &Runs(stream.runs))?;
     let wanted = listed(rt.alloc(), stream)?;
     writes(rt, text, &bytes, PORTS, &wanted)
 }

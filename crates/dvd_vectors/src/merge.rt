@@ -2,8 +2,8 @@
 ghost use Rattle.std.specs.Prelude.{◌<◌};
 
 use crate::fixture::{
-    End, MARKED, Marks, NEVER, Ports, SOUND, image, leave_fronts, marked, ran, recorded, run_to,
-    unknown, writes, zeros,
+    Capture, End, MARKED, NEVER, Ports, SOUND, captured, image, leave_fronts, ran, recorded,
+    run_to, unknown, writes, zeros,
 };
 use dvd_top::Status;
 use std::alloc::{AllocError, Global};
@@ -147,8 +147,9 @@ impl Draws {
     fn loses(&self, record: usize) -> bool {
         self.of(record) >> 56 < 43
     }
+}
 
-    // What stands in the place of a byte.
+impl Capture for Draws {
     fn byte(&self, k: usize, byte: u8) -> u8 {
         let record = k / 182;
         if self.loses(record) {
@@ -159,26 +160,14 @@ impl Draws {
             byte
         }
     }
-}
 
-impl Marks for Draws {
-    fn of_row(&self, record: usize) -> [u8; 23] {
+    fn marks(&self, record: usize) -> [u8; 23] {
         if self.loses(record) {
             [0xFF; 23]
         } else {
             [0; 23]
         }
     }
-}
-
-// The capture of a recording of sixteen blocks that is drawn from a seed.
-fn captured(alloc: Global, stream: &[u8], seed: u64) -> Result<Vec<u8>, AllocError> {
-    let draws = drawn(alloc, seed)?;
-    let mut bytes = stream.to_vec(alloc)?;
-    for (k, byte) in bytes.iter_mut().enumerate() {
-        *byte = draws.byte(k, *byte);
-    }
-    marked(alloc, &bytes, &draws)
 }
 
 // The blocks of two captures in turn.
@@ -199,7 +188,8 @@ fn refused<R: AllocGlobal + Threads + Sync>(
     stream: &[u8],
     seed: u64,
 ) -> Result<Vec<u8>, Fail> {
-    let capture = captured(rt.alloc(), stream, seed)?;
+    let draws = drawn(rt.alloc(), seed)?;
+    let capture = captured(rt.alloc(), stream, &draws)?;
     let (status, _, told) = ran(rt, RECOVER, &capture, PORTS)?;
     if status != Status::Damaged || !told.held().ends_with(b"damaged: 16 blocks\n") {
         Err((seed, status))?;

@@ -99,8 +99,8 @@ fn eight_rows(alloc: Global) -> Result<Work, Fail> {
 // Every row is a codeword, and the columns make one of them no codeword.
 fn wrong_row(alloc: Global) -> Result<Work, Fail> {
     let mut work = zero_block(alloc)?;
-    for (i, bytes) in (191..199usize).zip(&MULTIPLES) {
-        put_bytes(&mut work, i, 171, bytes);
+    for t in 0..8usize {
+        put_bytes(&mut work, 191 + t, 171, &MULTIPLES[t]);
     }
     put_bytes(&mut work, 199, 161, &LAST);
     Ok(work)

@@ -1,9 +1,8 @@
 //! A disk of 528 blocks as a rescuer meets it: a burst over forty blocks, of which marked rows are lost, and wrong bytes in
 //! every eighth row of all others, which nothing marks. All of it is read back, and the survey counts what stands there.
-use crate::fixture::{Marks, NEVER, Ports, SOUND, image, marked, recorded, run_to};
+use crate::fixture::{Capture, NEVER, Ports, SOUND, captured, image, recorded, run_to};
 use dvd_top::Status;
 use sha2::{Digest, Sha256};
-use std::alloc::{AllocError, Global};
 use std::test::Fail;
 use std::thread::Threads;
 
@@ -28,8 +27,19 @@ fn is_lost(record: usize) -> bool {
 #[derive(Drop)]
 struct Burst;
 
-impl Marks for Burst {
-    fn of_row(&self, record: usize) -> [u8; 23] {
+impl Capture for Burst {
+    fn byte(&self, k: usize, byte: u8) -> u8 {
+        let record = k / 182;
+        if is_lost(record) {
+            0
+        } else if !is_in_burst(record) && record % 8 == 0 && k % 182 < 3 {
+            byte ^ 0xFF
+        } else {
+            byte
+        }
+    }
+
+    fn marks(&self, record: usize) -> [u8; 23] {
         let mut marks = [0; 23];
         if is_lost(record) {
             marks = [0xFF; 23];
@@ -39,27 +49,6 @@ impl Marks for Burst {
     }
 }
 
-// What stands in the place of a byte of the stream.
-fn read(k: usize, byte: u8) -> u8 {
-    let record = k / 182;
-    if is_lost(record) {
-        0
-    } else if !is_in_burst(record) && record % 8 == 0 && k % 182 < 3 {
-        byte ^ 0xFF
-    } else {
-        byte
-    }
-}
-
-// The captured stream, in the marked form.
-fn captured(alloc: Global, stream: &[u8]) -> Result<Vec<u8>, AllocError> {
-    let mut bytes = stream.to_vec(alloc)?;
-    for (k, byte) in bytes.iter_mut().enumerate() {
-        *byte = read(k, *byte);
-    }
-    marked(alloc, &bytes, &Burst)
-}
-
 // What these words write over what was captured of the image.
 fn run_over<R: AllocGlobal + Threads + Sync>(
     rt: &R,
@@ -67,7 +56,7 @@ fn run_over<R: AllocGlobal + Threads + Sync>(
     text: &str,
     length: usize,
 ) -> Result<Vec<u8>, Fail> {
-    let stream = captured(rt.alloc(), &recorded(rt, MASTER, image, 528)?)?;
+    let stream = captured(rt.alloc(), &recorded(rt, MASTER, image, 528)?, &Burst)?;
     run_to(rt, text, &stream, PORTS, (Status::Done, length, "done\n"))
 }
 

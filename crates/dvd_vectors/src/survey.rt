@@ -1,6 +1,6 @@
 //! Surveys of streams: the lines of blocks and of totals, for both forms, damage that comes and goes, and streams that
 //! aren't whole.
-use crate::fixture::{ALL_SOUND, BLOCK, Input, Marks, bytes_of, marked, recording, run_to};
+use crate::fixture::{ALL_SOUND, BLOCK, Capture, Input, bytes_of, captured, recording, run_to};
 use dvd_top::Status;
 use std::test::Fail;
 use std::thread::Threads;
@@ -81,8 +81,12 @@ fn a_block_is_whole_or_has_no_address(rt: HostRuntime) -> Result<(), Fail> {
 #[derive(Drop)]
 struct FirstRows(usize);
 
-impl Marks for FirstRows {
-    fn of_row(&self, record: usize) -> [u8; 23] {
+impl Capture for FirstRows {
+    fn byte(&self, _: usize, byte: u8) -> u8 {
+        byte
+    }
+
+    fn marks(&self, record: usize) -> [u8; 23] {
         let mut marks = [0; 23];
         if record % 208 < self.0 {
             marks[0] = 1;
@@ -117,7 +121,7 @@ static MARKED: [(usize, Run); 2] = [
 fn a_row_with_a_mark_has_an_error(rt: HostRuntime) -> Result<(), Fail> {
     let stream = recording(&rt, "master --sectors 32", 32, 2)?;
     for (rows, run) in &MARKED {
-        let bytes = marked(rt.alloc(), &stream, &FirstRows(*rows))?;
+        let bytes = captured(rt.alloc(), &stream, &FirstRows(*rows))?;
         tells(&rt, &bytes, run)?;
     }
     Ok(())
