@@ -26,6 +26,8 @@ mod largest; // the largest disk of each command
 #[cfg(test)]
 mod listed; // captures that state their layout
 #[cfg(test)]
+mod loops; // the loops of two commands by themselves
+#[cfg(test)]
 mod master; // recordings
 #[cfg(test)]
 mod merge; // captures of one disk joined
