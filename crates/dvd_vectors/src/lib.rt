@@ -4,6 +4,8 @@
 #[cfg(test)]
 mod assemble; // scattered recording frames put in order
 #[cfg(test)]
+mod convert; // captures converted to the form that states its layout
+#[cfg(test)]
 mod damage; // blocks within the bound and beyond it
 #[cfg(test)]
 mod deep; // blocks that rounds give back, and that they don't
@@ -37,6 +39,8 @@ mod options; // what the options of `master` change
 mod passes; // both passes with several workers
 #[cfg(test)]
 mod recover; // streams that aren't those that are asked for
+#[cfg(test)]
+mod refused; // listed captures that break a rule
 #[cfg(test)]
 mod scratched; // a disk with a burst and scattered errors
 #[cfg(test)]
