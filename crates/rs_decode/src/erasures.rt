@@ -32,18 +32,19 @@ pub fn fill<const N: usize, const R: usize>(
     let Some(erasures) = Erasures::new(marks, R) else {
         return Err(NoCodeword);
     };
-    fill_from(code, &erasures, syndromes(code, word), word)
+    fill_from(code, &erasures, syndromes(code, word), word)?;
+    Ok(erasures.points.len() as u16)
 }
 
-/// The same, by the marked places and the word's syndromes.
+/// Sets the bytes in the same way, by the marked places and the word's syndromes.
 pub fn fill_from<const N: usize, const R: usize>(
     code: &Code<N, R>,
     erasures: &Erasures<N>,
     syndromes: ArrayVec<u8, 32>,
     word: &mut [u8; N],
-) -> Result<u16, NoCodeword>
+) -> Result<(), NoCodeword>
     requires { syndromes.items ≡ syndromes_of R word.old }
-    ensures ok { IfOk result (λ count. IsFilling N R word.old erasures.now.marks word.new × (count ≡ marked erasures.now.marks)) }
+    ensures ok { IfOk result (λ _. IsFilling N R word.old erasures.now.marks word.new) }
     ensures err { OnErr result (HasNoFilling N R word.old erasures.now.marks) }
     ensures same { OnErr result (word.new ≡ word.old) }
 {
@@ -60,7 +61,7 @@ pub fn fill_from<const N: usize, const R: usize>(
         patch(word, points, &corrections);
         return Err(NoCodeword);
     }
-    Ok(count as u16)
+    Ok(())
 }
 
 // Whether a word that was filled with bytes at points is a codeword. Its values are the syndromes plus the power sums of these

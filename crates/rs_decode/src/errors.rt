@@ -74,7 +74,7 @@ pub fn decode_from<const N: usize, const R: usize>(
         });
     }
     let received = *word;
-    let Ok(_filled) = fill_located(code, erasures, syndromes, word) else {
+    let Ok(()) = fill_located(code, erasures, syndromes, word) else {
         return Err(Beyond);
     };
     let errors = count_errors(&received, word, &erasures.marks);
@@ -94,7 +94,7 @@ fn fill_located<const N: usize, const R: usize>(
     erasures: &Erasures<N>,
     syndromes: ArrayVec<u8, 32>,
     word: &mut [u8; N],
-) -> Result<u16, NoCodeword>
+) -> Result<(), NoCodeword>
     requires syndromes { syndromes.items ≡ syndromes_of R word.old }
     requires bytes { All IsByte word.old }
     requires few { marked erasures.now.marks ≤ R }

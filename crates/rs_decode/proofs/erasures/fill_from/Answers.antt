@@ -101,14 +101,12 @@ returns-then-not-completes-clause-err g c =
     (λ codeword. absurd (cc (c.completes.ensures.1 codeword)))
 
 pub returns-clause-ok : goal.returns-clause-ok
-returns-clause-ok g c = (
-  record {
-    codeword = c.completes.ensures.0 c.if-not-completes.false;
-    agrees = subst (AgreeUnmarked c.args.erasures.now.marks c.args.word.now) (sym (patched_word g (goal.at.returns-clause-ok g c).After-patch)) (AgreeUnmarked-patched c.args.word.now c.args.erasures.now.marks c.deref-4.result.now (c.told-word ∙ sym c.args.erasures.now.size));
-    within = omega (arith, c.if-count.false, c.len-count.ensures.value, points-few c.args.erasures.now.marks c.args.erasures.now.points.items c.args.erasures.now.gathered);
-  },
-  c.len-count.ensures.value ∙ points-few c.args.erasures.now.marks c.args.erasures.now.points.items c.args.erasures.now.gathered,
-)
+returns-clause-ok g c =
+    record {
+      codeword = c.completes.ensures.0 c.if-not-completes.false;
+      agrees = subst (AgreeUnmarked c.args.erasures.now.marks c.args.word.now) (sym (patched_word g (goal.at.returns-clause-ok g c).After-patch)) (AgreeUnmarked-patched c.args.word.now c.args.erasures.now.marks c.deref-4.result.now (c.told-word ∙ sym c.args.erasures.now.size));
+      within = omega (arith, c.if-count.false, c.len-count.ensures.value, points-few c.args.erasures.now.marks c.args.erasures.now.points.items c.args.erasures.now.gathered);
+    }
 
 -- more places are marked than the code has parity bytes
 pub returns-then-count-clause-err : goal.returns-then-count-clause-err

@@ -47,7 +47,7 @@ pub returns-then-locator-eq0-clause-nearest : goal.returns-then-locator-eq0-clau
 returns-then-locator-eq0-clause-nearest g c =
     IfOk-weaker c.fill_from.result _ _ (λ _ filled near is_near.
     filling_once g.row.N g.row.R c.args.word.now c.args.erasures.now.marks near c.fill_from.new.word (omega (arith, c.args.code.now.bounds)) c.args.erasures.now.size
-    (near_fills g (goal.at.returns-then-locator-eq0-clause-nearest g c).After-shortest-locator c.args.erasures.now.marks (no_more g (goal.at.returns-then-locator-eq0-clause-nearest g c).Then-locator-eq0) near is_near) filled.0)
+    (near_fills g (goal.at.returns-then-locator-eq0-clause-nearest g c).After-shortest-locator c.args.erasures.now.marks (no_more g (goal.at.returns-then-locator-eq0-clause-nearest g c).Then-locator-eq0) near is_near) filled)
     c.fill_from.ensures.ok
 
 pub returns-then-locator-eq0-clause-beyond : goal.returns-then-locator-eq0-clause-beyond
@@ -61,7 +61,7 @@ returns-in-Some-clause-nearest g c =
     let places = c.in-Some.places in
     IfOk-weaker c.fill_from-in-Some.result _ _ (λ _ filled near is_near.
     filling_once g.row.N g.row.R c.args.word.now places.marks near c.fill_from-in-Some.new.word (omega (arith, c.args.code.now.bounds)) places.size
-    (near_fills g (goal.at.returns-in-Some-clause-nearest g c).After-shortest-locator places.marks (c.in-Some.ensures.1 ∙ c.mark_zeros.ensures) near is_near) filled.0)
+    (near_fills g (goal.at.returns-in-Some-clause-nearest g c).After-shortest-locator places.marks (c.in-Some.ensures.1 ∙ c.mark_zeros.ensures) near is_near) filled)
     c.fill_from-in-Some.ensures.ok
 
 pub returns-in-Some-clause-beyond : goal.returns-in-Some-clause-beyond
