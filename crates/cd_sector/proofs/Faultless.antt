@@ -33,16 +33,23 @@ header_of : (address : ℕ) (user rest : List ℕ) → take 3 (drop 12 (covered 
 unfolding covered
 header_of address user rest = refl
 
+-- a sector that was made begins with the bytes that the EDC covers, and behind them stand the EDC and eight zeros
+pub made_whole : (address : ℕ) (user sector : List ℕ) → IsSector address user sector
+    → sector ≡ covered address user ++ (edc_of (covered address user) ++ (replicate 8 0 ++ drop 2076 sector))
+unfolding data_part
+made_whole address user sector made =
+    let front : List ℕ = covered address user in
+    let edc : List ℕ = edc_of front in
+    sym (take-append-drop 2076 sector) ∙ ap (λ (l : List ℕ). l ++ drop 2076 sector) made.begins
+    ∙ append_assoc (front ++ edc) (replicate 8 0) (drop 2076 sector) ∙ append_assoc front edc (replicate 8 0 ++ drop 2076 sector)
+
 -- a sector that was made for an address has no fault at this address
 pub faultless : (address : ℕ) (user sector : List ℕ) → length user ≡ 2048 → IsSector address user sector → IsFaultless sector address
-unfolding data_part
 faultless address user sector size made =
     let front : List ℕ = covered address user in
     let edc : List ℕ = edc_of front in
     let rest : List ℕ = edc ++ (replicate 8 0 ++ drop 2076 sector) in
-    let whole : sector ≡ front ++ rest =
-    sym (take-append-drop 2076 sector) ∙ ap (λ (l : List ℕ). l ++ drop 2076 sector) made.begins
-    ∙ append_assoc (front ++ edc) (replicate 8 0) (drop 2076 sector) ∙ append_assoc front edc (replicate 8 0 ++ drop 2076 sector) in
+    let whole : sector ≡ front ++ rest = made_whole address user sector made in
     let behind : drop 2064 (front ++ rest) ≡ rest = drop_at front rest 2064 (omega (arith, length-covered address user)) in
     record {
       words = made.words;
