@@ -1,10 +1,8 @@
 -- What division leaves of each byte with more and more bytes of zeros behind it: the rule by which these terms follow from one
 -- another. ByteFolds-start computes its first case for each byte, byte_more leads to the next, and Folds-doubled doubles distances.
-use Rattle.std.proofs.Common.{◌≡◌, ℕ, zero, suc, ◌+◌, ◌*◌, ◌%◌, ◌^◌, ◌<◌, ◌≤◌, Bool, true, false, cond, eqb, List, [], ◌∷◌, ◌++◌, length, get_or, map, All, refl, sym, ◌∙◌, ap, subst, zero-add, arith}
+use Rattle.std.proofs.Common.{◌≡◌, ℕ, zero, suc, ◌+◌, ◌*◌, ◌%◌, ◌^◌, ◌<◌, ◌≤◌, Bool, true, false, cond, eqb, List, [], ◌∷◌, ◌++◌, length, get_or, map, All, refl, sym, ◌∙◌, ap, zero-add, arith}
 use Rattle.std.specs.Prelude.{bit_xor, replicate}
-use Rattle.std.specs.Int.{bit_at}
 use Rattle.std.specs.List.{range_with_len}
-use Rattle.std.specs.Int.Bits.{xor_zero_r}
 use Rattle.std.proofs.Math.Nat.{pow-suc}
 use Rattle.std.proofs.lemmas.List.{length-append, length-replicate, append_assoc, replicate-append-replicate}
 use Rattle.std.proofs.lemmas.List.Elements.{All-append, All-replicate}

@@ -1,5 +1,5 @@
 //! A data frame that was read: its checks, and its Main Data unscrambled (ECMA-267, 16 and 17).
-ghost use Rattle.std.specs.Prelude.{◌≡◌, ◌++◌, take, drop, None, Some, IfErr, OnErr, OnOk};
+ghost use Rattle.std.specs.Prelude.{◌≡◌, ◌≤◌, ◌++◌, length, take, drop, None, Some, IfErr, OnErr, OnOk};
 ghost use Rattle.std.specs.Str.{bytes_eq};
 ghost use Rattle.dvd_frame.specs.Edc.{edc_of};
 ghost use Rattle.dvd_frame.specs.Frame.{found_word, frame_cause, main_in};
@@ -73,18 +73,21 @@ pub fn read_frame_with(
     Ok(())
 }
 
-// The ID as it was read.
-fn found_id(frame: &[u8; 2064]) -> Id
-    ensures { result ≡ found_word frame.now }
+/// The ID that bytes begin with, as it was read.
+pub fn found_id(bytes: &[u8]) -> Id
+    requires { 4 ≤ length bytes.now }
+    ensures { result ≡ found_word bytes.now }
 {
-    Id::from_word(u32::from_be_bytes([frame[0], frame[1], frame[2], frame[3]]))
+    Id::from_word(u32::from_be_bytes([bytes[0], bytes[1], bytes[2], bytes[3]]))
 }
 
-fn has_right_ied(frame: &[u8; 2064]) -> bool
-    ensures { result ≡ has_check (take 6 frame.now) }
+/// Whether the first six bytes are an ID with its right check.
+pub fn has_right_ied(bytes: &[u8]) -> bool
+    requires { 6 ≤ length bytes.now }
+    ensures { result ≡ has_check (take 6 bytes.now) }
 {
     let mut word = [0; 6];
-    word.copy_from_slice(&frame[..6]);
+    word.copy_from_slice(&bytes[..6]);
     Ied::new().is_codeword(&word)
 }
 
