@@ -2,3 +2,4 @@
 pub mod Generator
 pub mod Damage
 pub mod Laws
+pub mod Inner

@@ -7,6 +7,7 @@ ghost use Rattle.dvd_capture.specs.Works.{marks_of_work, rows_of, stage_of};
 ghost use Rattle.dvd_capture.specs.declared.stage.Stage.TheVariants.{Fetched};
 ghost use Rattle.dvd_exercise.specs.Damage.{HasErrors, IsChanged, IsHurt, bad_count, combined, error_count, hurt_state, is_hit, lost_count, row_of, row_state, start_row};
 ghost use Rattle.dvd_exercise.specs.Generator.{state_after, state_of};
+ghost use Rattle.dvd_exercise.specs.Inner.Kept.{KeepsRest};
 
 use crate::generator::Rand;
 use dvd_capture::Work;
@@ -93,10 +94,7 @@ fn combine(work: &mut Work, i: usize, j: usize, byte: u8)
     ensures received { rows_of work.new ≡ slice_set (rows_of work.old) i (slice_set (line (rows_of work.old) i) j (bit_xor (place (rows_of work.old) i j) byte)) }
     ensures width { length (line (rows_of work.new) i) ≡ 182 }
     ensures marks { marks_of_work work.new ≡ marks_of_work work.old }
-    ensures stage { stage_of work.new ≡ Fetched }
-    ensures answers { work.new.answers ≡ work.old.answers }
-    ensures columns { work.new.columns ≡ work.old.columns }
-    ensures sectors { work.new.sectors ≡ work.old.sectors }
+    ensures rest { KeepsRest work.old work.new }
 {
     let received = work.received(i, j);
     let mark = work.marked(i, j);
@@ -110,10 +108,7 @@ fn combine_row(rand: &mut Rand, work: &mut Work, i: usize)
     ensures received { rows_of work.new ≡ slice_set (rows_of work.old) i (combined (state_of rand.old) (line (rows_of work.old) i)) }
     ensures drawn { state_of rand.new ≡ state_after (state_of rand.old) 182 }
     ensures marks { marks_of_work work.new ≡ marks_of_work work.old }
-    ensures stage { stage_of work.new ≡ Fetched }
-    ensures answers { work.new.answers ≡ work.old.answers }
-    ensures columns { work.new.columns ≡ work.old.columns }
-    ensures sectors { work.new.sectors ≡ work.old.sectors }
+    ensures rest { KeepsRest work.old work.new }
 {
     for j in 0..182 {
         let byte = rand.byte();
@@ -127,10 +122,7 @@ fn lose_row(work: &mut Work, i: usize)
     requires row { i < 208 }
     ensures received { rows_of work.new ≡ slice_set (rows_of work.old) i (replicate 182 0) }
     ensures marks { marks_of_work work.new ≡ slice_set (marks_of_work work.old) i (replicate 182 true) }
-    ensures stage { stage_of work.new ≡ Fetched }
-    ensures answers { work.new.answers ≡ work.old.answers }
-    ensures columns { work.new.columns ≡ work.old.columns }
-    ensures sectors { work.new.sectors ≡ work.old.sectors }
+    ensures rest { KeepsRest work.old work.new }
 {
     for j in 0..182 {
         work.damage(i, j, 0, true);
@@ -145,10 +137,7 @@ fn hurt_row(rand: &mut Rand, work: &mut Work, i: usize)
     ensures others { rows_of work.new ≡ slice_set (rows_of work.old) i (line (rows_of work.new) i) }
     ensures drawn { state_of rand.new ≡ state_after (state_of rand.old) (2 + error_count (state_of rand.old)) }
     ensures marks { marks_of_work work.new ≡ marks_of_work work.old }
-    ensures stage { stage_of work.new ≡ Fetched }
-    ensures answers { work.new.answers ≡ work.old.answers }
-    ensures columns { work.new.columns ≡ work.old.columns }
-    ensures sectors { work.new.sectors ≡ work.old.sectors }
+    ensures rest { KeepsRest work.old work.new }
 {
     let count = (rand.word() % 6) as usize;
     let first = (rand.word() % 182) as usize;
@@ -164,10 +153,7 @@ fn combine_rows(plan: &Plan, rand: &mut Rand, work: &mut Work)
     ensures received { IsChanged [] plan.now.bad (row_of plan.now.start) (λ t. combined (state_after (state_of rand.old) (182 * t)) (line (rows_of work.old) (row_of plan.now.start t))) (rows_of work.old) (rows_of work.new) }
     ensures drawn { state_of rand.new ≡ state_after (state_of rand.old) (182 * plan.now.bad) }
     ensures marks { marks_of_work work.new ≡ marks_of_work work.old }
-    ensures stage { stage_of work.new ≡ Fetched }
-    ensures answers { work.new.answers ≡ work.old.answers }
-    ensures columns { work.new.columns ≡ work.old.columns }
-    ensures sectors { work.new.sectors ≡ work.old.sectors }
+    ensures rest { KeepsRest work.old work.new }
 {
     for turn in 0..plan.bad {
         combine_row(rand, work, plan.row(turn));
@@ -179,10 +165,7 @@ fn lose_rows(plan: &Plan, work: &mut Work)
     requires stage { stage_of work.old ≡ Fetched }
     ensures received { IsChanged [] plan.now.lost (λ t. row_of plan.now.start (plan.now.bad + t)) (λ t. replicate 182 0) (rows_of work.old) (rows_of work.new) }
     ensures marks { IsChanged [] plan.now.lost (λ t. row_of plan.now.start (plan.now.bad + t)) (λ t. replicate 182 true) (marks_of_work work.old) (marks_of_work work.new) }
-    ensures stage { stage_of work.new ≡ Fetched }
-    ensures answers { work.new.answers ≡ work.old.answers }
-    ensures columns { work.new.columns ≡ work.old.columns }
-    ensures sectors { work.new.sectors ≡ work.old.sectors }
+    ensures rest { KeepsRest work.old work.new }
 {
     for t in 0..plan.lost {
         lose_row(work, plan.row(plan.bad + t));
@@ -197,10 +180,7 @@ fn hurt_others(plan: &Plan, rand: &mut Rand, work: &mut Work)
         → HasErrors (row_state plan.now.start (plan.now.bad + plan.now.lost) (state_of rand.old) row) (line (rows_of work.old) row) (line (rows_of work.new) row) }
     ensures drawn { state_of rand.new ≡ row_state plan.now.start (plan.now.bad + plan.now.lost) (state_of rand.old) 208 }
     ensures marks { marks_of_work work.new ≡ marks_of_work work.old }
-    ensures stage { stage_of work.new ≡ Fetched }
-    ensures answers { work.new.answers ≡ work.old.answers }
-    ensures columns { work.new.columns ≡ work.old.columns }
-    ensures sectors { work.new.sectors ≡ work.old.sectors }
+    ensures rest { KeepsRest work.old work.new }
 {
     for row in 0..208 {
         if !plan.hits(row) {

@@ -6,7 +6,7 @@ use Rattle.dvd_exercise.specs.Generator.{byte_at, state_of, step}
 use Rattle.dvd_exercise.proofs.Changed.{line_more, line_none, line_untouched, line_whole}
 use Rattle.dvd_exercise.proofs.Draws.{byte_more, state_more, state_none}
 use Rattle.dvd_exercise.proofs.Rows.{get_or-combined, length-combined}
-use Rattle.dvd_exercise.proofs.Works.{rows_height}
+use Rattle.dvd_exercise.proofs.Works.{rows_height, rest-same, rest-then}
 use Rattle.dvd_exercise.proofs.damage.combine_row.Goals as goal
 
 pub loop-j-init : goal.loop-j-init
@@ -15,10 +15,7 @@ loop-j-init c = record {
   width = λ more. absurd (omega arith);
   drawn = sym (state_none (state_of c.args.rand.now));
   marks = refl;
-  stage = c.requires.stage;
-  answers = refl;
-  columns = refl;
-  sectors = refl;
+  rest = rest-same c.args.work.now c.requires.stage;
 }
 
 pub loop-j-preserved : goal.loop-j-preserved
@@ -35,10 +32,7 @@ loop-j-preserved c =
       width = λ more. c.combine.ensures.width;
       drawn = c.byte-byte.ensures.state ∙ ap step c.loop-j.invariant.drawn ∙ state_more y j;
       marks = c.combine.ensures.marks ∙ c.loop-j.invariant.marks;
-      stage = c.combine.ensures.stage;
-      answers = c.combine.ensures.answers ∙ c.loop-j.invariant.answers;
-      columns = c.combine.ensures.columns ∙ c.loop-j.invariant.columns;
-      sectors = c.combine.ensures.sectors ∙ c.loop-j.invariant.sectors;
+      rest = rest-then c.args.work.now c.loop-j.work c.combine.new.work c.loop-j.invariant.rest c.combine.ensures.rest;
     }
 
 pub returns-clause-received : goal.returns-clause-received

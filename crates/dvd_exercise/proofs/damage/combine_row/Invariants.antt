@@ -1,8 +1,8 @@
 use Rattle.std.proofs.Common.{◌≡◌, ◌<◌, length, bit_xor}
 use Rattle.dvd_block.specs.Product.{line, place}
-use Rattle.dvd_capture.specs.Works.{marks_of_work, rows_of, stage_of}
-use Rattle.dvd_capture.specs.declared.stage.Stage.TheVariants.{Fetched}
+use Rattle.dvd_capture.specs.Works.{marks_of_work, rows_of}
 use Rattle.dvd_exercise.specs.Generator.{byte_at, state_after, state_of}
+use Rattle.dvd_exercise.specs.Inner.Kept.{KeepsRest}
 use Rattle.dvd_exercise.proofs.Changed.{IsLineChanged}
 use Rattle.dvd_exercise.proofs.damage.combine_row.Given as goal
 
@@ -12,8 +12,5 @@ invariant-loop-j l = record {
   width : 0 < l.j → length (line (rows_of l.work) l.i) ≡ 182;
   drawn : state_of l.rand ≡ state_after (state_of l.fn.rand) l.j;
   marks : marks_of_work l.work ≡ marks_of_work l.fn.work;
-  stage : stage_of l.work ≡ Fetched;
-  answers : l.work.answers ≡ l.fn.work.answers;
-  columns : l.work.columns ≡ l.fn.work.columns;
-  sectors : l.work.sectors ≡ l.fn.work.sectors;
+  rest : KeepsRest l.fn.work l.work;
 }

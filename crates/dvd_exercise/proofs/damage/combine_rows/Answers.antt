@@ -6,7 +6,7 @@ use Rattle.dvd_exercise.specs.Generator.{state_after, state_of}
 use Rattle.dvd_exercise.proofs.Changed.{changed_next, changed_none}
 use Rattle.dvd_exercise.proofs.Draws.{state-add, state_none}
 use Rattle.dvd_exercise.proofs.Rows.{row_of-new}
-use Rattle.dvd_exercise.proofs.Works.{rows_height}
+use Rattle.dvd_exercise.proofs.Works.{rows_height, rest-same, rest-then}
 use Rattle.dvd_exercise.proofs.damage.combine_rows.Goals as goal
 
 pub loop-turn-init : goal.loop-turn-init
@@ -14,10 +14,7 @@ loop-turn-init c = record {
   rows = changed_none [] (row_of c.args.plan.now.start) (λ t. combined (state_after (state_of c.args.rand.now) (182 * t)) (line (rows_of c.args.work.now) (row_of c.args.plan.now.start t))) (rows_of c.args.work.now);
   drawn = sym (state_none (state_of c.args.rand.now));
   marks = refl;
-  stage = c.requires.stage;
-  answers = refl;
-  columns = refl;
-  sectors = refl;
+  rest = rest-same c.args.work.now c.requires.stage;
 }
 
 pub loop-turn-preserved : goal.loop-turn-preserved
@@ -34,8 +31,5 @@ loop-turn-preserved c =
           (λ same. ap (λ (x : ℕ). combined x (line (rows_of c.loop-turn.work) c.row.result)) before ∙ ap (combined (state_after y (182 * t))) (same ∙ ap (line rows) c.row.ensures.row));
       drawn = c.combine_row.ensures.drawn ∙ ap (λ (x : ℕ). state_after x 182) before ∙ state-add y (182 * t) 182 ∙ ap (state_after y) count;
       marks = c.combine_row.ensures.marks ∙ c.loop-turn.invariant.marks;
-      stage = c.combine_row.ensures.stage;
-      answers = c.combine_row.ensures.answers ∙ c.loop-turn.invariant.answers;
-      columns = c.combine_row.ensures.columns ∙ c.loop-turn.invariant.columns;
-      sectors = c.combine_row.ensures.sectors ∙ c.loop-turn.invariant.sectors;
+      rest = rest-then c.args.work.now c.loop-turn.work c.combine_row.new.work c.loop-turn.invariant.rest c.combine_row.ensures.rest;
     }

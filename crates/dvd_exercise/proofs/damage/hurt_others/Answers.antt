@@ -1,10 +1,11 @@
 use Rattle.std.proofs.Common.{◌≡◌, ◌∙◌, ℕ, ◌+◌, true, false, refl, sym, ap, subst}
 use Rattle.dvd_block.specs.Product.{line}
-use Rattle.dvd_capture.specs.Works.{marks_of_work, rows_of, stage_of}
-use Rattle.dvd_capture.specs.declared.work.Work.{Work}
+use Rattle.dvd_capture.specs.Works.{marks_of_work, rows_of}
 use Rattle.dvd_exercise.specs.Damage.{HasErrors, error_count, is_hit}
 use Rattle.dvd_exercise.specs.Generator.{state_after, state_of}
+use Rattle.dvd_exercise.specs.Inner.Kept.{KeepsRest}
 use Rattle.dvd_exercise.proofs.Rows.{AreHurtBelow, hurt-errors, hurt-hit, hurt_none, state-errors, state-hit, state_first}
+use Rattle.dvd_exercise.proofs.Works.{rest-same, rest-then}
 use Rattle.dvd_exercise.proofs.damage.hurt_others.Goals as goal
 use Rattle.dvd_exercise.proofs.damage.hurt_others.Goals.{then-not-hits, else-not-hits}
 
@@ -13,10 +14,7 @@ loop-row-init c = record {
   rows = hurt_none c.args.plan.now.start (c.args.plan.now.bad + c.args.plan.now.lost) (state_of c.args.rand.now) (rows_of c.args.work.now);
   drawn = sym (state_first c.args.plan.now.start (c.args.plan.now.bad + c.args.plan.now.lost) (state_of c.args.rand.now));
   marks = refl;
-  stage = c.requires.stage;
-  answers = refl;
-  columns = refl;
-  sectors = refl;
+  rest = rest-same c.args.work.now c.requires.stage;
 }
 
 pub loop-row-preserved : goal.loop-row-preserved
@@ -35,10 +33,8 @@ loop-row-preserved c =
                 (subst (λ x. HasErrors x (line (rows_of c.loop-row.work) row) (line (rows_of w.hurt_row.new.work) row)) c.loop-row.invariant.drawn w.hurt_row.ensures.received));
             drawn = ap state_of w.rand-is ∙ w.hurt_row.ensures.drawn ∙ ap (λ (x : ℕ). state_after x (2 + error_count x)) c.loop-row.invariant.drawn ∙ sym (state-errors start n y row miss);
             marks = ap marks_of_work w.work-is ∙ w.hurt_row.ensures.marks ∙ c.loop-row.invariant.marks;
-            stage = ap stage_of w.work-is ∙ w.hurt_row.ensures.stage;
-            answers = ap (λ (work : Work). work.answers) w.work-is ∙ w.hurt_row.ensures.answers ∙ c.loop-row.invariant.answers;
-            columns = ap (λ (work : Work). work.columns) w.work-is ∙ w.hurt_row.ensures.columns ∙ c.loop-row.invariant.columns;
-            sectors = ap (λ (work : Work). work.sectors) w.work-is ∙ w.hurt_row.ensures.sectors ∙ c.loop-row.invariant.sectors;
+            rest = subst (KeepsRest c.args.work.now) (sym w.work-is)
+                (rest-then c.args.work.now c.loop-row.work w.hurt_row.new.work c.loop-row.invariant.rest w.hurt_row.ensures.rest);
           }
       | else-not-hits w ↦
           let hit : is_hit start n row ≡ true = sym c.hits.ensures ∙ w.if-not-hits.false in record {
@@ -46,9 +42,6 @@ loop-row-preserved c =
                 (hurt-hit start n y rows (rows_of c.loop-row.work) row c.loop-row.invariant.rows hit);
             drawn = ap state_of w.rand-is ∙ c.loop-row.invariant.drawn ∙ sym (state-hit start n y row hit);
             marks = ap marks_of_work w.work-is ∙ c.loop-row.invariant.marks;
-            stage = ap stage_of w.work-is ∙ c.loop-row.invariant.stage;
-            answers = ap (λ (work : Work). work.answers) w.work-is ∙ c.loop-row.invariant.answers;
-            columns = ap (λ (work : Work). work.columns) w.work-is ∙ c.loop-row.invariant.columns;
-            sectors = ap (λ (work : Work). work.sectors) w.work-is ∙ c.loop-row.invariant.sectors;
+            rest = subst (KeepsRest c.args.work.now) (sym w.work-is) c.loop-row.invariant.rest;
           }
     ]

@@ -1,8 +1,8 @@
 use Rattle.std.proofs.Common.{◌≡◌, ◌+◌}
-use Rattle.dvd_capture.specs.Works.{marks_of_work, rows_of, stage_of}
-use Rattle.dvd_capture.specs.declared.stage.Stage.TheVariants.{Fetched}
+use Rattle.dvd_capture.specs.Works.{marks_of_work, rows_of}
 use Rattle.dvd_exercise.specs.Damage.{row_state}
 use Rattle.dvd_exercise.specs.Generator.{state_of}
+use Rattle.dvd_exercise.specs.Inner.Kept.{KeepsRest}
 use Rattle.dvd_exercise.proofs.Rows.{AreHurtBelow}
 use Rattle.dvd_exercise.proofs.damage.hurt_others.Given as goal
 
@@ -11,8 +11,5 @@ invariant-loop-row l = record {
   rows : AreHurtBelow l.plan.start (l.plan.bad + l.plan.lost) (state_of l.fn.rand) (rows_of l.fn.work) (rows_of l.work) l.row;
   drawn : state_of l.rand ≡ row_state l.plan.start (l.plan.bad + l.plan.lost) (state_of l.fn.rand) l.row;
   marks : marks_of_work l.work ≡ marks_of_work l.fn.work;
-  stage : stage_of l.work ≡ Fetched;
-  answers : l.work.answers ≡ l.fn.work.answers;
-  columns : l.work.columns ≡ l.fn.work.columns;
-  sectors : l.work.sectors ≡ l.fn.work.sectors;
+  rest : KeepsRest l.fn.work l.work;
 }

@@ -6,7 +6,7 @@ use Rattle.dvd_exercise.specs.Generator.{byte_at, state_after, state_of, step}
 use Rattle.dvd_exercise.proofs.Changed.{line_more, line_none, line_untouched}
 use Rattle.dvd_exercise.proofs.Draws.{byte_more, state_more, two_words, state_one}
 use Rattle.dvd_exercise.proofs.Rows.{place-new}
-use Rattle.dvd_exercise.proofs.Works.{rows_height}
+use Rattle.dvd_exercise.proofs.Works.{rows_height, rest-same, rest-then}
 use Rattle.dvd_exercise.proofs.damage.hurt_row.Goals as goal
 
 -- what the two words say
@@ -23,10 +23,7 @@ loop-u-init c = record {
       (λ u. bit_xor (place (rows_of c.args.work.now) c.args.i (error_place (state_of c.args.rand.now) u)) (error_byte (state_of c.args.rand.now) u)) (rows_of c.args.work.now);
   drawn = second (state_of c.args.rand.now) _ _ c.word.ensures.state c.word-2.ensures.state;
   marks = refl;
-  stage = c.requires.stage;
-  answers = refl;
-  columns = refl;
-  sectors = refl;
+  rest = rest-same c.args.work.now c.requires.stage;
 }
 
 pub loop-u-preserved : goal.loop-u-preserved
@@ -47,10 +44,7 @@ loop-u-preserved c =
           (omega (arith, c.combine.ensures.width)) (ap (λ (b : ℕ). bit_xor b (error_byte y u)) untouched);
       drawn = c.byte-byte.ensures.state ∙ ap step c.loop-u.invariant.drawn ∙ state_more y (2 + u) ∙ ap (state_after y) (add_assoc 2 u 1);
       marks = c.combine.ensures.marks ∙ c.loop-u.invariant.marks;
-      stage = c.combine.ensures.stage;
-      answers = c.combine.ensures.answers ∙ c.loop-u.invariant.answers;
-      columns = c.combine.ensures.columns ∙ c.loop-u.invariant.columns;
-      sectors = c.combine.ensures.sectors ∙ c.loop-u.invariant.sectors;
+      rest = rest-then c.args.work.now c.loop-u.work c.combine.new.work c.loop-u.invariant.rest c.combine.ensures.rest;
     } where
       -- the same byte is combined at the same place
       at_place : (rows : List (List ℕ)) (i j k b d : ℕ) → j ≡ k → b ≡ d

@@ -1,9 +1,9 @@
 use Rattle.std.proofs.Common.{◌≡◌, ◌+◌, bit_xor}
 use Rattle.dvd_block.specs.Product.{place}
-use Rattle.dvd_capture.specs.Works.{marks_of_work, rows_of, stage_of}
-use Rattle.dvd_capture.specs.declared.stage.Stage.TheVariants.{Fetched}
+use Rattle.dvd_capture.specs.Works.{marks_of_work, rows_of}
 use Rattle.dvd_exercise.specs.Damage.{error_byte, error_place}
 use Rattle.dvd_exercise.specs.Generator.{state_after, state_of}
+use Rattle.dvd_exercise.specs.Inner.Kept.{KeepsRest}
 use Rattle.dvd_exercise.proofs.Changed.{IsLineChanged}
 use Rattle.dvd_exercise.proofs.damage.hurt_row.Given as goal
 
@@ -13,8 +13,5 @@ invariant-loop-u l = record {
       (λ u. bit_xor (place (rows_of l.fn.work) l.i (error_place (state_of l.fn.rand) u)) (error_byte (state_of l.fn.rand) u)) (rows_of l.fn.work) (rows_of l.work);
   drawn : state_of l.rand ≡ state_after (state_of l.fn.rand) (2 + l.u);
   marks : marks_of_work l.work ≡ marks_of_work l.fn.work;
-  stage : stage_of l.work ≡ Fetched;
-  answers : l.work.answers ≡ l.fn.work.answers;
-  columns : l.work.columns ≡ l.fn.work.columns;
-  sectors : l.work.sectors ≡ l.fn.work.sectors;
+  rest : KeepsRest l.fn.work l.work;
 }

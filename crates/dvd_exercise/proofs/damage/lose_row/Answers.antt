@@ -2,7 +2,7 @@ use Rattle.std.proofs.Common.{◌≡◌, ◌∙◌, ℕ, true, false, replicate,
 use Rattle.std.proofs.lemmas.List.{get_or-replicate, length-replicate}
 use Rattle.dvd_capture.specs.Works.{marks_of_work, rows_of}
 use Rattle.dvd_exercise.proofs.Changed.{line_more, line_none, line_whole}
-use Rattle.dvd_exercise.proofs.Works.{marks_width, rows_height, marks_height}
+use Rattle.dvd_exercise.proofs.Works.{marks_width, rows_height, marks_height, rest-same, rest-then}
 use Rattle.dvd_exercise.proofs.damage.lose_row.Goals as goal
 
 pub loop-j-init : goal.loop-j-init
@@ -10,10 +10,7 @@ loop-j-init c = record {
   row = line_none 0 c.args.i (λ k. k) (λ _. 0) (rows_of c.args.work.now);
   width = λ more. absurd (omega arith);
   marks = line_none false c.args.i (λ k. k) (λ _. true) (marks_of_work c.args.work.now);
-  stage = c.requires.stage;
-  answers = refl;
-  columns = refl;
-  sectors = refl;
+  rest = rest-same c.args.work.now c.requires.stage;
 }
 
 pub loop-j-preserved : goal.loop-j-preserved
@@ -23,10 +20,8 @@ loop-j-preserved c = record {
   width = λ more. c.damage.ensures.width;
   marks = line_more false c.args.i c.loop-j.j (λ k. k) (λ _. true) _ _ _ true (omega (arith, marks_height c.args.work.now, c.requires.row)) (λ t below same. omega arith)
       c.loop-j.invariant.marks c.damage.ensures.marks (omega (arith, marks_width c.damage.new.self c.args.i c.requires.row)) refl;
-  stage = c.damage.ensures.stage;
-  answers = c.damage.ensures.answers ∙ c.loop-j.invariant.answers;
-  columns = c.damage.ensures.columns ∙ c.loop-j.invariant.columns;
-  sectors = c.damage.ensures.sectors ∙ c.loop-j.invariant.sectors;
+  rest = rest-then c.args.work.now c.loop-j.work c.damage.new.self c.loop-j.invariant.rest
+      (record { stage = c.damage.ensures.stage; answers = c.damage.ensures.answers; columns = c.damage.ensures.columns; sectors = c.damage.ensures.sectors });
 }
 
 pub returns-clause-received : goal.returns-clause-received
