@@ -16,7 +16,7 @@ use Rattle.dvd_capture.specs.Captured.{IsUnitOf}
 use Rattle.dvd_capture.specs.Laws.{MarksHaveASpelling}
 use Rattle.dvd_capture.specs.Listed.{field_at, mark_of, marked_by, run_count}
 use Rattle.dvd_capture.specs.Listing.{AppendsPart, AppendsUnit}
-use Rattle.dvd_capture.specs.Inner.Listing.{AppendsAll, AppendsSome, AreMarked, HasRuns, starts_below}
+use Rattle.dvd_capture.specs.Inner.Listing.{AppendsAll, AppendsSome, AreMarked, HasRuns, IsFound, starts_below}
 use Rattle.dvd_capture.proofs.ListedUnit.{marks-listed, rows-listed}
 use Rattle.dvd_capture.proofs.RecordedRows.{length-recording, recording_captured}
 use Rattle.dvd_capture.proofs.ListedFields.{field_at-behind, number-unbroken, one-run-more}
@@ -58,15 +58,10 @@ pub record IsBegun (bytes : List ℕ) (mark : ℕ → Bool) (n end : ℕ) : Type
   pub clear : 0 < end → end < 37_856 → mark end ≡ false
   pub counted : starts_below mark end ≡ n
 
--- where the next run starts and ends
+-- the next run starts at the first marked place from the last end on, and ends at the first unmarked one behind it
 pub record IsNextRun (mark : ℕ → Bool) (end start next : ℕ) : Type 0 where
-  pub behind : end ≤ start
-  pub order : start ≤ next
-  pub within : next ≤ 37_856
-  pub unmarked : AreMarked mark false end start
-  pub starts : start < 37_856 → mark start ≡ true
-  pub marked : AreMarked mark true start next
-  pub ends : next < 37_856 → mark next ≡ false
+  pub starts : IsFound mark true end 37_856 start
+  pub ends : IsFound mark false start 37_856 next
 
 -- no test is both true and false
 true_not_false : {A : Type 0} (b : Bool) → b ≡ true → b ≡ false → A
@@ -99,22 +94,22 @@ module _ (bytes : List ℕ) (mark : ℕ → Bool) (n end start next : ℕ) (begu
   -- below the start of the next run, n runs start
   same_starts : starts_below mark start ≡ n
   same_starts =
-      let k : end + (start - end) ≡ start = let b = run.behind in omega arith in
-      ap (starts_below mark) (sym k) ∙ starts-unmarked mark end (start - end) (subst (AreMarked mark false end) (sym k) run.unmarked) ∙ begun.counted
+      let k : end + (start - end) ≡ start = let b = run.starts.least in omega arith in
+      ap (starts_below mark) (sym k) ∙ starts-unmarked mark end (start - end) (subst (AreMarked mark false end) (sym k) run.starts.passed) ∙ begun.counted
 
   -- the next run starts at a place of the block, as more than n runs start in it
   pub start-inside : start < 37_856
   start-inside = by_start (leb_tells 37_856 start) where
     by_start : (((nat_le 37_856 start ≡ true) × (37_856 ≤ start)) ⊎ ((nat_le 37_856 start ≡ false) × (start < 37_856))) → start < 37_856
     by_start (inl is) =
-        let same = same_starts in let o = run.order in let w = run.within in let all : start ≡ 37_856 = omega (arith, is.1, o, w) in
+        let same = same_starts in let o = run.ends.least in let w = run.ends.within in let all : start ≡ 37_856 = omega (arith, is.1, o, w) in
         let last = ap (starts_below mark) all in absurd (omega (arith, same, last, more))
     by_start (inr is) = is.1
 
   -- a place is marked where the next run starts and unmarked where the last one ends, so they differ
   begun_apart : (((end == start) ≡ true) × (end ≡ start)) ⊎ (((end == start) ≡ false) × (end ≢ start)) → 0 < end → end < start
-  begun_apart (inl is) some = true_not_false (mark end) (ap mark is.1 ∙ run.starts start-inside) (begun.clear some (let s = start-inside in omega (arith, is.1, s)))
-  begun_apart (inr is) some = let b = run.behind in let apart = is.1 in omega arith
+  begun_apart (inl is) some = true_not_false (mark end) (ap mark is.1 ∙ run.starts.found start-inside) (begun.clear some (let s = start-inside in omega (arith, is.1, s)))
+  begun_apart (inr is) some = let b = run.starts.least in let apart = is.1 in omega arith
 
   -- the next run starts above the end of the last one
   pub run-apart : 0 < end → end < start
@@ -135,14 +130,14 @@ module _ (bytes : List ℕ) (mark : ℕ → Bool) (n end start next : ℕ) (begu
     by_next : (((nat_le (suc start) next ≡ true) × (suc start ≤ next)) ⊎ ((nat_le (suc start) next ≡ false) × (next < suc start))) → start < next
     by_next (inl is) = omega (arith, is.1)
     by_next (inr is) =
-        let o = run.order in let same : next ≡ start = omega (arith, is.1, o) in
-        true_not_false (mark start) (run.starts start-inside) (ap mark (sym same) ∙ run.ends (let s = start-inside in omega (arith, same, s)))
+        let o = run.ends.least in let same : next ≡ start = omega (arith, is.1, o) in
+        true_not_false (mark start) (run.starts.found start-inside) (ap mark (sym same) ∙ run.ends.found (let s = start-inside in omega (arith, same, s)))
 
   -- a run starts at its first place
   starts_here : start_at mark start ≡ 1
-  starts_here = start-first mark start (run.starts start-inside) (by_start (leb_tells (suc end) start)) where
+  starts_here = start-first mark start (run.starts.found start-inside) (by_start (leb_tells (suc end) start)) where
     by_start : (((nat_le (suc end) start ≡ true) × (suc end ≤ start)) ⊎ ((nat_le (suc end) start ≡ false) × (start < suc end))) → (start ≡ 0) ⊎ (mark (start - 1) ≡ false)
-    by_start (inl is) = inr (run.unmarked (start - 1) (omega (arith, is.1)) (omega (arith, is.1)))
+    by_start (inl is) = inr (run.starts.passed (start - 1) (omega (arith, is.1)) (omega (arith, is.1)))
     by_start (inr is) = inl (at_end (leb_tells 1 end)) where
       at_end : (((nat_le 1 end ≡ true) × (1 ≤ end)) ⊎ ((nat_le 1 end ≡ false) × (end < 1))) → start ≡ 0
       at_end (inl some) = let apart = run-apart (omega (arith, some.1)) in absurd (omega (arith, is.1, apart))
@@ -154,7 +149,7 @@ module _ (bytes : List ℕ) (mark : ℕ → Bool) (n end start next : ℕ) (begu
       let s = some-length in
       let k : start + suc (next - start - 1) ≡ next = omega (arith, s) in
       let first = starts-next mark start in let one = starts_here in let same = same_starts in
-      ap (starts_below mark) (sym k) ∙ starts-marked mark start (next - start - 1) (subst (AreMarked mark true start) (sym k) run.marked) ∙ omega (arith, first, one, same)
+      ap (starts_below mark) (sym k) ∙ starts-marked mark start (next - start - 1) (subst (AreMarked mark true start) (sym k) run.ends.passed) ∙ omega (arith, first, one, same)
 
   -- the four bytes of the next run: its start, and its length
   abbrev pub run_bytes : List ℕ
@@ -166,22 +161,22 @@ module _ (bytes : List ℕ) (mark : ℕ → Bool) (n end start next : ℕ) (begu
 
   -- and the second its length
   length_field : field_at run_bytes 2 ≡ next - start
-  length_field = second-field (to_be_bytes w16 start) (to_be_bytes w16 (next - start)) refl ∙ field-written (next - start) (let w = run.within in omega (arith, w))
+  length_field = second-field (to_be_bytes w16 start) (to_be_bytes w16 (next - start)) refl ∙ field-written (next - start) (let w = run.ends.within in omega (arith, w))
 
   -- with these behind the others, the first n + 1 runs are written
   pub run-written : IsBegun (bytes ++ run_bytes) mark (n + 1) next
   run-written =
-      let sf = start_field in let lf = length_field in let inside = start-inside in let some = some-length in let w = run.within in
+      let sf = start_field in let lf = length_field in let inside = start-inside in let some = some-length in let w = run.ends.within in
       let ends : field_at run_bytes 0 + field_at run_bytes 2 ≡ next = omega (arith, sf, lf, some) in record {
         runs = subst (λ e. HasRuns (bytes ++ run_bytes) (starts_below mark 37_856) (n + 1) e (below mark next)) ends
             (one-run-more bytes run_bytes (starts_below mark 37_856) n end (below mark end) begun.runs more (below mark next) refl
             (omega (arith, sf, inside), λ behind. let apart = run-apart (some_end behind) in omega (arith, sf, apart))
             (omega (arith, lf, some)) (omega (arith, ends, w))
-            (λ place place_below. between mark place end start next run.behind run.order (run.unmarked place) (run.marked place)
+            (λ place place_below. between mark place end start next run.starts.least run.ends.least (run.starts.passed place) (run.ends.passed place)
             ∙ ap (λ s. below mark end place || (nat_le s place && nat_lt place next)) (sym sf)
             ∙ ap (λ e. below mark end place || (nat_le (field_at run_bytes 0) place && nat_lt place e)) (sym ends)));
         within = w;
-        clear = λ some_next inside_next. run.ends inside_next;
+        clear = λ some_next inside_next. run.ends.found inside_next;
         counted = counted-next;
       }
 
@@ -234,11 +229,6 @@ none-written rows mark size =
       none_below place b = grind (arith, nat_tests)
 
 -- SOME RUNS ARE LEFT to be written: there are bytes for them.
-pub record IsFound (mark : ℕ → Bool) (value : Bool) (from k at : ℕ) : Type 0 where
-  pub least : from ≤ at
-  pub within : at ≤ from + k
-  pub passed : AreMarked mark (not value) from at
-  pub found : at < from + k → mark at ≡ value
 
 -- a mark is the one sought, or the other one
 other_mark : (value here : Bool) → (here ≡ value) ⊎ (here ≡ not value)
@@ -254,8 +244,8 @@ one_passed mark value from at place here rest least inside (inl is) = rest place
 one_passed mark value from at place here rest least inside (inr is) = let same : place ≡ from = omega (arith, is.1, least) in ap mark same ∙ here
 
 -- the search is over at this place, if it has the mark sought, or goes on behind it
-further : (mark : ℕ → Bool) (value : Bool) (from k at : ℕ) → (mark from ≡ value) ⊎ (mark from ≡ not value) → IsFound mark value (suc from) k at
-    → (place : ℕ) × IsFound mark value from (suc k) place
+further : (mark : ℕ → Bool) (value : Bool) (from k at : ℕ) → (mark from ≡ value) ⊎ (mark from ≡ not value) → IsFound mark value (suc from) (suc from + k) at
+    → (place : ℕ) × IsFound mark value from (from + suc k) place
 further mark value from k at (inl is) rest = (
   from,
   record {
@@ -276,7 +266,7 @@ further mark value from k at (inr is) rest = (
 )
 
 -- the first of k places from one on that has this mark, or the place behind them all
-find_place : (mark : ℕ → Bool) (value : Bool) (from k : ℕ) → (place : ℕ) × IsFound mark value from k place
+find_place : (mark : ℕ → Bool) (value : Bool) (from k : ℕ) → (place : ℕ) × IsFound mark value from (from + k) place
 find_place mark value from zero = (
   from,
   record {
@@ -297,26 +287,14 @@ pub record HasRest (bytes : List ℕ) (mark : ℕ → Bool) : Type 0 where
   pub end : ℕ
   pub runs : HasRuns (bytes ++ rest) count count end mark
 
--- the next run starts at the first marked place from the last end on, and ends at the first unmarked one behind it
+-- there is a next run
 next_run : (mark : ℕ → Bool) (end : ℕ) → end ≤ 37_856 → (start : ℕ) × (next : ℕ) × IsNextRun mark end start next
 next_run mark end within =
     let (start, found) = find_place mark true end (37_856 - end) in
-    let k : end + (37_856 - end) ≡ 37_856 = omega arith in
+    let starts : IsFound mark true end 37_856 start = subst (λ all. IsFound mark true end all start) (omega (arith, within)) found in
+    let inside : start ≤ 37_856 = starts.within in
     let (next, found_end) = find_place mark false start (37_856 - start) in
-    let start_within : start ≤ 37_856 = let w = found.within in omega (arith, w, k) in
-    let k_end : start + (37_856 - start) ≡ 37_856 = omega (arith, start_within) in (
-      start,
-      next,
-      record {
-        behind = found.least;
-        order = found_end.least;
-        within = let w = found_end.within in omega (arith, w, k_end);
-        unmarked = found.passed;
-        starts = λ inside. found.found (omega (arith, inside, k));
-        marked = found_end.passed;
-        ends = λ inside. found_end.found (omega (arith, inside, k_end));
-      },
-    )
+    (start, next, record { starts = starts; ends = subst (λ all. IsFound mark false start all next) (omega (arith, inside)) found_end })
 
 -- there are bytes for the d runs that are left
 pub rest-exists : (d : ℕ) (bytes : List ℕ) (mark : ℕ → Bool) (n end : ℕ) → IsBegun bytes mark n end → n + d ≡ starts_below mark 37_856 → HasRest bytes mark

@@ -111,8 +111,8 @@ pub(crate) fn fetch_rows<S: Source>(
     }
 }
 
-// What is answered where a source ended after so many bytes of a block.
-fn cut_off(bytes: usize) -> FetchAnswer
+/// What is answered where a source ended after so many bytes of a block, or of a part of one.
+pub fn cut_off(bytes: usize) -> FetchAnswer
     requires { bytes < 42640 }
     ensures { result ≡ (if bytes == 0 then End else Short bytes) }
 {

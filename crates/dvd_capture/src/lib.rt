@@ -12,7 +12,7 @@ mod places; // the marks of a block in the order of recording
 mod stage; // how far a captured block is
 mod work; // a captured block with all that is found of it
 
-pub use capture::{FetchAnswer, fetch};
+pub use capture::{FetchAnswer, cut_off, fetch};
 pub use form::Form;
 pub use header::{Header, HeaderFault};
 pub use listed::write_listed;

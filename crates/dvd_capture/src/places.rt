@@ -1,7 +1,7 @@
 //! The marks of a block by its places in the order of recording: place 182 m + j is place j of recorded row m.
 ghost use Rattle.std.specs.Prelude.{◌≡◌, ◌≢◌, ℕ, ◌-◌, ◌<◌, ◌≤◌, ◌==◌, ◌&&◌, ◌||◌, true, not, nat_le, nat_lt};
 ghost use Rattle.dvd_capture.specs.Listed.{mark_of};
-ghost use Rattle.dvd_capture.specs.Inner.Listing.{AreMarked, starts_below};
+ghost use Rattle.dvd_capture.specs.Inner.Listing.{IsFound, starts_below};
 ghost use Rattle.dvd_capture.specs.Parts.{marks_rows};
 
 use crate::parts::Marks;
@@ -42,10 +42,7 @@ pub(crate) fn mark_places(marks: &mut Marks, start: usize, end: usize)
 /// The first place from `from` on whose mark is this, or the number of places.
 pub(crate) fn next_place(marks: &Marks, from: usize, marked: bool) -> usize
     requires { from ≤ 37_856 }
-    ensures from { from ≤ result }
-    ensures within { result ≤ 37_856 }
-    ensures passed { AreMarked (mark_of (marks_rows marks.now)) (not marked) from result }
-    ensures found { result < 37_856 → mark_of (marks_rows marks.now) result ≡ marked }
+    ensures { IsFound (mark_of (marks_rows marks.now)) marked from 37_856 result }
 {
     for place in from..PLACES {
         if is_marked(marks, place) == marked {

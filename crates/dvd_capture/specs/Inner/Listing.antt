@@ -113,6 +113,13 @@ starts_below mark (suc n) = starts_below mark n + (if mark n && ((n == 0) || not
 abbrev pub AreMarked : (ℕ → Bool) → Bool → ℕ → ℕ → Type 0
 AreMarked mark value from to = (place : ℕ) → from ≤ place → place < to → mark place ≡ value
 
+-- the first place from one on, and before another, that has this mark, or that other place
+pub record IsFound (mark : ℕ → Bool) (value : Bool) (from end at : ℕ) : Type 0 where
+  pub least : from ≤ at
+  pub within : at ≤ end
+  pub passed : AreMarked mark (not value) from at
+  pub found : at < end → mark at ≡ value
+
 -- these bytes are those of the rows, and no place is marked yet
 abbrev pub AreRows : List ℕ → (ℕ → Bool) → Type 0
 AreRows before mark = (length before ≡ 37_856) × AreMarked mark false 0 37_856

@@ -27,15 +27,7 @@ returns-in_err-write_run-clause-begun g c = λ before size.
     on_err c.from_residual-in_err-write_run.result _
     (one-more-begun before (mark_of (marks_rows c.args.marks.now)) size _ _ _ c.loop-run._run c.loop-run.end c.next_place-start.result c.next_place-end.result
     (c.loop-run.invariant.written before size)
-    (record {
-      behind = c.next_place-start.ensures.from;
-      order = c.next_place-end.ensures.from;
-      within = c.next_place-end.ensures.within;
-      unmarked = c.next_place-start.ensures.passed;
-      starts = c.next_place-start.ensures.found;
-      marked = c.next_place-end.ensures.passed;
-      ends = c.next_place-end.ensures.found;
-    })
+    (record { starts = c.next_place-start.ensures; ends = c.next_place-end.ensures })
     (omega (arith, c.loop-run-test.true, c.count_runs-number.ensures)) c.in_err-write_run.ensures.begun)
 
 pub loop-run-preserved : goal.loop-run-preserved
@@ -43,15 +35,7 @@ loop-run-preserved g c = record {
   written = λ before size.
       one-more-written before (mark_of (marks_rows c.args.marks.now)) size _ _ _ c.loop-run._run c.loop-run.end c.next_place-start.result c.next_place-end.result
       (c.loop-run.invariant.written before size)
-      (record {
-        behind = c.next_place-start.ensures.from;
-        order = c.next_place-end.ensures.from;
-        within = c.next_place-end.ensures.within;
-        unmarked = c.next_place-start.ensures.passed;
-        starts = c.next_place-start.ensures.found;
-        marked = c.next_place-end.ensures.passed;
-        ends = c.next_place-end.ensures.found;
-      })
+      (record { starts = c.next_place-start.ensures; ends = c.next_place-end.ensures })
       (omega (arith, c.loop-run-test.true, c.count_runs-number.ensures)) c.in_ok-write_run.ensures.written;
   within = c.next_place-end.ensures.within;
   steady = c.in_ok-write_run.ensures.cause.steady ∙ c.loop-run.invariant.steady;
