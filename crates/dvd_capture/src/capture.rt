@@ -4,6 +4,7 @@ ghost use Rattle.dvd_block.specs.Recording.{row_at};
 ghost use Rattle.dvd_ports.specs.Causes.{Rose};
 ghost use Rattle.dvd_capture.specs.Captured.{BreaksAt, Captures, EndsAfter, FailsWithin, HasSize, marks_in, record_size};
 ghost use Rattle.dvd_capture.specs.Parts.{marks_rows, received_rows};
+ghost use Rattle.dvd_capture.specs.Inner.Fetching.{Fetches};
 ghost use Rattle.dvd_capture.specs.Inner.Putting.{ArePut};
 ghost use Rattle.dvd_capture.specs.Works.{marks_of_work, rows_of, stage_of};
 ghost use Rattle.dvd_capture.specs.declared.stage.Stage.TheVariants.{Empty, Fetched};
@@ -66,14 +67,7 @@ fn fetch_parts<S: Source>(
     received: &mut Received,
     marks: &mut Marks,
 ) -> FetchAnswer
-    ensures full { result ≡ Full → Captures form (S.seen src.old).bytes (S.seen src.new).bytes (received_rows received.new) (marks_rows marks.new) }
-    ensures end { result ≡ End → EndsAfter form (S.seen src.old).bytes (S.seen src.new).bytes 0 }
-    ensures short { (count : ℕ) → result ≡ Short count → (0 < count) × EndsAfter form (S.seen src.old).bytes (S.seen src.new).bytes count }
-    ensures fault { result ≡ ReadFault → FailsWithin form (S.seen src.old).bytes (S.seen src.new).bytes }
-    ensures broken { (at : ℕ) → result ≡ BadMarks at → BreaksAt form (S.seen src.old).bytes (S.seen src.new).bytes at }
-    ensures cause { result ≡ ReadFault → Rose (S.seen src.old).faults (S.seen src.new).faults }
-    ensures steady { result ≢ ReadFault → (S.seen src.new).faults ≡ (S.seen src.old).faults }
-    ensures later { (S.seen src.old).faults ≤ (S.seen src.new).faults }
+    ensures { Fetches form (S.seen src.old) (S.seen src.new) (received_rows received.new) (marks_rows marks.new) result }
 {
     match form {
         Form::Plain | Form::Marked => fetch_rows(src, form, received, marks),
@@ -89,14 +83,8 @@ pub(crate) fn fetch_rows<S: Source>(
     marks: &mut Marks,
 ) -> FetchAnswer
     requires { HasSize form }
-    ensures full { result ≡ Full → Captures form (S.seen src.old).bytes (S.seen src.new).bytes (received_rows received.new) (marks_rows marks.new) }
-    ensures end { result ≡ End → EndsAfter form (S.seen src.old).bytes (S.seen src.new).bytes 0 }
-    ensures short { (count : ℕ) → result ≡ Short count → (0 < count) × EndsAfter form (S.seen src.old).bytes (S.seen src.new).bytes count }
-    ensures fault { result ≡ ReadFault → FailsWithin form (S.seen src.old).bytes (S.seen src.new).bytes }
+    ensures fetches { Fetches form (S.seen src.old) (S.seen src.new) (received_rows received.new) (marks_rows marks.new) result }
     ensures never { (at : ℕ) → result ≢ BadMarks at }
-    ensures cause { result ≡ ReadFault → Rose (S.seen src.old).faults (S.seen src.new).faults }
-    ensures steady { result ≢ ReadFault → (S.seen src.new).faults ≡ (S.seen src.old).faults }
-    ensures later { (S.seen src.old).faults ≤ (S.seen src.new).faults }
 {
     let size = form.size();
     let mut buffer = [0; MOST_BLOCK];

@@ -6,9 +6,9 @@ ghost use Rattle.std.specs.Int.{to_be_bytes, w16};
 ghost use Rattle.dvd_block.specs.Product.{line};
 ghost use Rattle.dvd_ports.specs.Causes.{HasCause, Rose};
 ghost use Rattle.dvd_ports.specs.Whole.{AppendsPrefix};
-ghost use Rattle.dvd_capture.specs.Captured.{BreaksAt, Captures, EndsAfter, FailsWithin};
 ghost use Rattle.dvd_capture.specs.Listed.{mark_of, run_count};
 ghost use Rattle.dvd_capture.specs.Listing.{AppendsPart, AppendsUnit};
+ghost use Rattle.dvd_capture.specs.Inner.Fetching.{Fetches};
 ghost use Rattle.dvd_capture.specs.Inner.Listing.{AppendsAll, AppendsSome, AreRows, HasFetchCause, HasRuns, IsFetched, IsNoField, IsStopped, TakesAll, TakesField, TakesRuns};
 ghost use Rattle.dvd_capture.specs.Parts.{marks_rows, received_rows};
 ghost use Rattle.dvd_capture.specs.Rule.{HasBlock};
@@ -96,14 +96,7 @@ pub(crate) fn fetch_listed<S: Source>(
     received: &mut Received,
     marks: &mut Marks,
 ) -> FetchAnswer
-    ensures full { result ≡ Full → Captures Listed (S.seen src.old).bytes (S.seen src.new).bytes (received_rows received.new) (marks_rows marks.new) }
-    ensures end { result ≡ End → EndsAfter Listed (S.seen src.old).bytes (S.seen src.new).bytes 0 }
-    ensures short { (count : ℕ) → result ≡ Short count → (0 < count) × EndsAfter Listed (S.seen src.old).bytes (S.seen src.new).bytes count }
-    ensures fault { result ≡ ReadFault → FailsWithin Listed (S.seen src.old).bytes (S.seen src.new).bytes }
-    ensures broken { (at : ℕ) → result ≡ BadMarks at → BreaksAt Listed (S.seen src.old).bytes (S.seen src.new).bytes at }
-    ensures cause { result ≡ ReadFault → Rose (S.seen src.old).faults (S.seen src.new).faults }
-    ensures steady { result ≢ ReadFault → (S.seen src.new).faults ≡ (S.seen src.old).faults }
-    ensures later { (S.seen src.old).faults ≤ (S.seen src.new).faults }
+    ensures { Fetches Listed (S.seen src.old) (S.seen src.new) (received_rows received.new) (marks_rows marks.new) result }
 {
     match fetch_rows(src, Form::Plain, received, marks) {
         FetchAnswer::Full => fetch_marks(src, marks),

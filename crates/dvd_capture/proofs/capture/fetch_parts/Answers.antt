@@ -1,4 +1,4 @@
 use Rattle.dvd_capture.proofs.capture.fetch_parts.Goals as goal
 
-pub returns-in-Listed-clause-short : goal.returns-in-Listed-clause-short
-returns-in-Listed-clause-short g c = rw c.in-Listed.is c.fetch_listed.ensures.short
+pub returns-in-Listed : goal.returns-in-Listed
+returns-in-Listed g c = rw c.in-Listed.is c.fetch_listed.ensures

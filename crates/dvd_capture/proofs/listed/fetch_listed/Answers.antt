@@ -1,44 +1,39 @@
+use Rattle.std.proofs.Common.{◌≡◌, ◌∙◌, sym, arith}
 use Rattle.dvd_capture.specs.Parts.{marks_rows}
-use Rattle.dvd_capture.proofs.ListedUnit.{rows-ended, rows-unmarked, unit-broken, unit-end, unit-fault, unit-full, unit-short}
+use Rattle.dvd_capture.specs.declared.capture.FetchAnswer.TheVariants.{Full, ReadFault}
+use Rattle.dvd_capture.proofs.ListedUnit.{rows-ended, rows-failed, rows-unmarked, unit-broken, unit-end, unit-fault, unit-full, unit-short}
 use Rattle.dvd_capture.proofs.MarkPlaces.{marks-width}
 use Rattle.dvd_capture.proofs.WorkParts.{marks-height}
 use Rattle.dvd_capture.proofs.listed.fetch_listed.Goals as goal
 
-pub returns-in-Full-clause-full : goal.returns-in-Full-clause-full
-returns-in-Full-clause-full g c = λ is.
-    let captured = c.fetch_rows.ensures.full c.in-Full.is in
+pub returns-in-Full : goal.returns-in-Full
+returns-in-Full g c =
+    let captured = c.fetch_rows.ensures.fetches.full c.in-Full.is in
     let marks = c.fetch_marks.new.marks in
-    unit-full _ _ _ _ _ (marks_rows marks) captured (marks-height marks) (marks-width marks) c.fetch_marks.result
-    (c.fetch_marks.ensures.fetched captured.bytes (rows-unmarked _ _ _ _ captured)) is
+    let answer = c.fetch_marks.result in
+    let high = marks-height marks in
+    let wide = marks-width marks in
+    let fetched = c.fetch_marks.ensures.fetched captured.bytes (rows-unmarked _ _ _ _ captured) in
+    let same = c.fetch_rows.ensures.fetches.steady (λ fault. let no : Full ≡ ReadFault = sym c.in-Full.is ∙ fault in cc) in record {
+      full = unit-full _ _ _ _ _ (marks_rows marks) captured high wide answer fetched;
+      end = λ is. absurd (unit-end _ _ _ _ _ (marks_rows marks) captured high wide answer fetched is);
+      short = λ count. unit-short _ _ _ _ _ (marks_rows marks) captured high wide answer count fetched;
+      fault = unit-fault _ _ _ _ _ (marks_rows marks) captured high wide answer fetched;
+      broken = λ at. unit-broken _ _ _ _ _ (marks_rows marks) captured high wide answer at fetched;
+      cause = λ is. omega (arith, same, c.fetch_marks.ensures.cause is);
+      steady = λ is. c.fetch_marks.ensures.steady is ∙ same;
+      later = omega (arith, same, c.fetch_marks.ensures.later);
+    }
 
-pub returns-in-Full-clause-end : goal.returns-in-Full-clause-end
-returns-in-Full-clause-end g c = λ is.
-    let captured = c.fetch_rows.ensures.full c.in-Full.is in
-    let marks = c.fetch_marks.new.marks in
-    absurd (unit-end _ _ _ _ _ (marks_rows marks) captured (marks-height marks) (marks-width marks) c.fetch_marks.result
-    (c.fetch_marks.ensures.fetched captured.bytes (rows-unmarked _ _ _ _ captured)) is)
-
-pub returns-in-Full-clause-short : goal.returns-in-Full-clause-short
-returns-in-Full-clause-short g c = λ count is.
-    let captured = c.fetch_rows.ensures.full c.in-Full.is in
-    let marks = c.fetch_marks.new.marks in
-    unit-short _ _ _ _ _ (marks_rows marks) captured (marks-height marks) (marks-width marks) c.fetch_marks.result count
-    (c.fetch_marks.ensures.fetched captured.bytes (rows-unmarked _ _ _ _ captured)) is
-
-pub returns-in-Full-clause-fault : goal.returns-in-Full-clause-fault
-returns-in-Full-clause-fault g c = λ is.
-    let captured = c.fetch_rows.ensures.full c.in-Full.is in
-    let marks = c.fetch_marks.new.marks in
-    unit-fault _ _ _ _ _ (marks_rows marks) captured (marks-height marks) (marks-width marks) c.fetch_marks.result
-    (c.fetch_marks.ensures.fetched captured.bytes (rows-unmarked _ _ _ _ captured)) is
-
-pub returns-in-Full-clause-broken : goal.returns-in-Full-clause-broken
-returns-in-Full-clause-broken g c = λ at is.
-    let captured = c.fetch_rows.ensures.full c.in-Full.is in
-    let marks = c.fetch_marks.new.marks in
-    unit-broken _ _ _ _ _ (marks_rows marks) captured (marks-height marks) (marks-width marks) c.fetch_marks.result at
-    (c.fetch_marks.ensures.fetched captured.bytes (rows-unmarked _ _ _ _ captured)) is
-
-pub returns-in_default-clause-short : goal.returns-in_default-clause-short
-returns-in_default-clause-short g c = λ count is.
-    let ends = c.fetch_rows.ensures.short count is in (ends.0, rows-ended _ _ count ends.1)
+pub returns-in_default : goal.returns-in_default
+returns-in_default g c =
+    let rows = c.fetch_rows.ensures.fetches in record {
+      full = λ is. absurd (c.in_default.not-Full is);
+      end = λ is. rows-ended _ _ 0 (rows.end is);
+      short = λ count is. let ends = rows.short count is in (ends.0, rows-ended _ _ count ends.1);
+      fault = λ is. rows-failed _ _ (rows.fault is);
+      broken = λ at is. absurd (c.fetch_rows.ensures.never at is);
+      cause = rows.cause;
+      steady = rows.steady;
+      later = rows.later;
+    }
