@@ -13,7 +13,7 @@ ghost use Rattle.dvd_assemble.specs.Assembled.{with_frame};
 ghost use Rattle.dvd_assemble.specs.Works.{captured};
 
 use dvd_block::row_of_record;
-use dvd_capture::{FetchAnswer, Form};
+use dvd_capture::{FetchAnswer, Form, cut_off};
 use dvd_merge::Merge;
 use dvd_ports::{Failed, Source, read_whole};
 
@@ -158,19 +158,5 @@ pub fn fetch_frame<S: Source>(src: &mut S, form: Form, frame: &mut FrameWork) ->
             FetchAnswer::Full
         }
         Err(Failed) => FetchAnswer::ReadFault,
-    }
-}
-
-// What is answered where a source ended after so many bytes of a frame.
-fn cut_off(bytes: usize) -> FetchAnswer
-    requires { bytes < 2665 }
-    ensures { result ≡ (if bytes == 0 then End else Short bytes) }
-{
-    if bytes == 0 {
-        FetchAnswer::End
-    } else {
-        FetchAnswer::Short {
-            bytes: bytes as u32,
-        }
     }
 }

@@ -1,9 +1,8 @@
 //! Where a captured recording frame belongs.
-ghost use Rattle.std.specs.Prelude.{◌≡◌, ◌+◌, ◌*◌, ◌<◌, ◌≤◌, ◌==◌, if◌then◌else◌, length, slice_index, take, IfSome};
+ghost use Rattle.std.specs.Prelude.{◌≡◌, ◌+◌, ◌*◌, ◌<◌, ◌≤◌, ◌==◌, if◌then◌else◌, length, slice_index, IfSome};
 ghost use Rattle.std.specs.Option.{option_map};
 ghost use Rattle.rs_decode.specs.Nearest.{near_of};
-ghost use Rattle.dvd_frame.specs.Frame.{found_word};
-ghost use Rattle.dvd_frame.specs.Id.{has_check, is_same_place};
+ghost use Rattle.dvd_frame.specs.Id.{is_same_place};
 ghost use Rattle.dvd_layout.specs.Lengths.{blocks_of};
 ghost use Rattle.dvd_layout.specs.Plan.{plan_of};
 ghost use Rattle.dvd_layout.specs.declared.layout.Zones.TheVariants.{DataOnly};
@@ -13,9 +12,9 @@ ghost use Rattle.dvd_assemble.specs.Home.{block_and_frame, home, home_in, word_i
 ghost use Rattle.dvd_assemble.specs.Works.{captured};
 
 use crate::frame::FrameWork;
-use dvd_frame::Id;
+use dvd_frame::{Id, found_id, has_right_ied};
 use dvd_layout::{Layout, Zones, id_of};
-use rs_code::{Ied, Pi};
+use rs_code::Pi;
 use rs_decode::decode;
 
 /// The block of the data zone and the recording frame of it that the first row of a captured frame names, if it names one.
@@ -42,22 +41,6 @@ fn id_in(row: &[u8; 182], marks: &[bool; 182]) -> Option<Id>
     } else {
         None
     }
-}
-
-// The ID as it was read.
-fn found_id(row: &[u8; 182]) -> Id
-    ensures { result ≡ found_word row.now }
-{
-    Id::from_word(u32::from_be_bytes([row[0], row[1], row[2], row[3]]))
-}
-
-// Whether the first six bytes are an ID with its right check.
-fn has_right_ied(row: &[u8; 182]) -> bool
-    ensures { result ≡ has_check (take 6 row.now) }
-{
-    let mut six = [0; 6];
-    six.copy_from_slice(&row[..6]);
-    Ied::new().is_codeword(&six)
 }
 
 // The block and the frame that have the place of this ID: the layer tells the first block that may have it, and the
