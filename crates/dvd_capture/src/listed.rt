@@ -1,20 +1,20 @@
 //! Blocks in the listed form: the bytes of the plain form, and behind them fields of two bytes, the number of runs of marked
 //! places and each run's start and length.
-ghost use Rattle.std.specs.Prelude.{◌≡◌, ◌≢◌, ℕ, ◌+◌, ◌*◌, ◌<◌, ◌≤◌, ◌⊎◌, true, false, List, ◌++◌, length, IfOk, IfErr, OnOk, OnErr};
-ghost use Rattle.std.specs.Io.KnownBytes.{Appends, Consumes};
+ghost use Rattle.std.specs.Prelude.{◌≡◌, ◌≢◌, ℕ, ◌+◌, ◌<◌, ◌≤◌, ◌⊎◌, true, false, List, ◌++◌, length, IfOk, IfErr, OnOk, OnErr};
+ghost use Rattle.std.specs.Io.KnownBytes.{Appends};
 ghost use Rattle.std.specs.Int.{to_be_bytes, w16};
 ghost use Rattle.dvd_block.specs.Product.{line};
 ghost use Rattle.dvd_ports.specs.Causes.{HasCause, Rose};
 ghost use Rattle.dvd_ports.specs.Whole.{AppendsPrefix};
-ghost use Rattle.dvd_capture.specs.Listed.{mark_of, run_count};
+ghost use Rattle.dvd_capture.specs.Listed.{mark_of};
 ghost use Rattle.dvd_capture.specs.Listing.{AppendsPart, AppendsUnit};
 ghost use Rattle.dvd_capture.specs.Inner.Fetching.{Fetches};
 ghost use Rattle.dvd_capture.specs.Inner.Listing.{AppendsAll, AppendsSome, AreRows, HasFetchCause, HasRuns, IsFetched, IsNoField, IsStopped, TakesAll, TakesField, TakesRuns};
 ghost use Rattle.dvd_capture.specs.Parts.{marks_rows, received_rows};
 ghost use Rattle.dvd_capture.specs.Rule.{HasBlock};
 ghost use Rattle.dvd_capture.specs.Works.{marks_of_work, rows_of, stage_of};
-ghost use Rattle.dvd_capture.specs.declared.capture.FetchAnswer.TheVariants.{Full, End, Short, ReadFault, BadMarks};
-ghost use Rattle.dvd_capture.specs.declared.form.Form.TheVariants.{Plain, Listed};
+ghost use Rattle.dvd_capture.specs.declared.capture.FetchAnswer.TheVariants.{ReadFault};
+ghost use Rattle.dvd_capture.specs.declared.form.Form.TheVariants.{Listed};
 
 use crate::capture::{FetchAnswer, fetch_rows};
 use crate::form::Form;

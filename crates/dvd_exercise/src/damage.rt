@@ -1,7 +1,6 @@
 //! Damage to a received block: bad rows, lost rows, and single errors in all other rows.
-ghost use Rattle.std.specs.Prelude.{◌≡◌, ℕ, ◌+◌, ◌-◌, ◌*◌, ◌%◌, ◌<◌, ◌≤◌, Bool, true, false, List, [], length, replicate, slice_set, bit_xor};
+ghost use Rattle.std.specs.Prelude.{◌≡◌, ℕ, ◌+◌, ◌*◌, ◌<◌, ◌≤◌, true, false, [], length, replicate, slice_set, bit_xor};
 ghost use Rattle.dvd_block.specs.Product.{line, place};
-ghost use Rattle.dvd_capture.specs.Answers.{marks_line};
 ghost use Rattle.dvd_capture.specs.Within.{IsWithin};
 ghost use Rattle.dvd_capture.specs.Works.{marks_of_work, rows_of, stage_of};
 ghost use Rattle.dvd_capture.specs.declared.stage.Stage.TheVariants.{Fetched};
