@@ -1,5 +1,5 @@
 //! A captured recording frame: thirteen rows with their marks.
-ghost use Rattle.std.specs.Prelude.{◌≡◌, ◌≢◌, ℕ, ◌+◌, ◌*◌, ◌<◌, ◌≤◌, ◌==◌, if◌then◌else◌, false, length, replicate, take};
+ghost use Rattle.std.specs.Prelude.{◌≡◌, ◌≢◌, ℕ, ◌<◌, ◌≤◌, false, length, replicate, take};
 ghost use Rattle.dvd_block.specs.Product.{line};
 ghost use Rattle.dvd_capture.specs.Answers.{marks_line};
 ghost use Rattle.dvd_capture.specs.Captured.{HasSize, marks_in, record_size};

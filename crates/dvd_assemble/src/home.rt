@@ -1,13 +1,10 @@
 //! Where a captured recording frame belongs.
 ghost use Rattle.std.specs.Prelude.{◌≡◌, ◌+◌, ◌*◌, ◌<◌, ◌≤◌, ◌==◌, if◌then◌else◌, length, slice_index, IfSome};
 ghost use Rattle.std.specs.Option.{option_map};
-ghost use Rattle.rs_decode.specs.Nearest.{near_of};
 ghost use Rattle.dvd_frame.specs.Id.{is_same_place};
 ghost use Rattle.dvd_layout.specs.Lengths.{blocks_of};
 ghost use Rattle.dvd_layout.specs.Plan.{plan_of};
 ghost use Rattle.dvd_layout.specs.declared.layout.Zones.TheVariants.{DataOnly};
-ghost use Rattle.dvd_capture.specs.Answers.{marks_line};
-ghost use Rattle.dvd_block.specs.Product.{line};
 ghost use Rattle.dvd_assemble.specs.Home.{block_and_frame, home, home_in, word_in, words_of};
 ghost use Rattle.dvd_assemble.specs.Works.{captured};
 

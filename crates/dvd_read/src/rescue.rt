@@ -1,14 +1,11 @@
 //! What is saved of a block whose rows are answered: each data frame that can be known to be right.
-ghost use Rattle.std.specs.Prelude.{◌≡◌, ◌<◌, ◌↔◌, IsTrue, true, length, map, not, replicate, Some, None, is_none, is_some, unwrap_or};
+ghost use Rattle.std.specs.Prelude.{◌≡◌, ◌<◌, ◌↔◌, IsTrue, true, length, map, not, replicate, Some, is_some, unwrap_or};
 ghost use Rattle.dvd_capture.specs.Rule.{HasAnswers};
 ghost use Rattle.dvd_capture.specs.Parts.{sector_bytes};
-ghost use Rattle.dvd_capture.specs.TwoPass.{from_columns};
 ghost use Rattle.dvd_capture.specs.Works.{marks_of_work, rows_of, sectors_of, stage_of};
 ghost use Rattle.dvd_layout.specs.Place.{HasNumbers};
-ghost use Rattle.dvd_read.specs.Causes.{two_pass_cause};
-ghost use Rattle.dvd_read.specs.Found.{block_found};
 ghost use Rattle.dvd_read.specs.Parts.{answer_word};
-ghost use Rattle.dvd_read.specs.Inner.Found.{words_of};
+ghost use Rattle.dvd_read.specs.Inner.Found.{HoldAnswers};
 ghost use Rattle.dvd_read.specs.Frames.{frame_of};
 ghost use Rattle.dvd_read.specs.Salvage.{answered_block, block_out, candidate, frames_saved, lacks_row, rescued, saved_in, sectors_saved};
 
@@ -58,11 +55,8 @@ fn save_frames(
     plan: &BlockPlan,
     sectors: &mut Sectors,
 ) -> u8
-    requires columns { length columns.now ≡ 182 }
-    requires rows { length answers.now ≡ 208 }
+    requires held { HoldAnswers fixed columns.now answers.now }
     requires numbers { HasNumbers plan.now }
-    requires fixed { fixed ≡ is_none (two_pass_cause (map answer_word answers.now)) }
-    requires block { fixed ≡ true → from_columns (words_of columns.now) ≡ block_found (map answer_word answers.now) }
     ensures out { sector_bytes sectors.new ≡ sectors_saved (map answer_word answers.now) plan.now }
     ensures saved { result ≡ frames_saved (map answer_word answers.now) plan.now }
 {
@@ -84,12 +78,9 @@ fn save_frame(
     f: usize,
     main: &mut [u8; 2048],
 ) -> bool
-    requires columns { length columns.now ≡ 182 }
-    requires rows { length answers.now ≡ 208 }
+    requires held { HoldAnswers fixed columns.now answers.now }
     requires numbers { HasNumbers plan.now }
     requires frame { f < 16 }
-    requires fixed { fixed ≡ is_none (two_pass_cause (map answer_word answers.now)) }
-    requires block { fixed ≡ true → from_columns (words_of columns.now) ≡ block_found (map answer_word answers.now) }
     ensures main { main.new ≡ unwrap_or (rescued (map answer_word answers.now) plan.now f) (replicate 2048 0) }
     ensures saved { result ≡ is_some (rescued (map answer_word answers.now) plan.now f) }
 {
@@ -109,12 +100,9 @@ fn read_candidate(
     f: usize,
     main: &mut [u8; 2048],
 ) -> bool
-    requires columns { length columns.now ≡ 182 }
-    requires rows { length answers.now ≡ 208 }
+    requires held { HoldAnswers fixed columns.now answers.now }
     requires numbers { HasNumbers plan.now }
     requires frame { f < 16 }
-    requires fixed { fixed ≡ is_none (two_pass_cause (map answer_word answers.now)) }
-    requires block { fixed ≡ true → from_columns (words_of columns.now) ≡ block_found (map answer_word answers.now) }
     ensures main { result ≡ true → rescued (map answer_word answers.now) plan.now f ≡ Some main.new }
     ensures saved { result ≡ is_some (rescued (map answer_word answers.now) plan.now f) }
 {
@@ -132,11 +120,8 @@ fn copy_candidate(
     f: usize,
     frame: &mut [u8; 2064],
 ) -> bool
-    requires columns { length columns.now ≡ 182 }
-    requires rows { length answers.now ≡ 208 }
+    requires held { HoldAnswers fixed columns.now answers.now }
     requires frame { f < 16 }
-    requires fixed { fixed ≡ is_none (two_pass_cause (map answer_word answers.now)) }
-    requires block { fixed ≡ true → from_columns (words_of columns.now) ≡ block_found (map answer_word answers.now) }
     ensures candidate { result ≡ true → candidate (map answer_word answers.now) f ≡ Some frame.new }
     ensures has { result ≡ is_some (candidate (map answer_word answers.now) f) }
 {

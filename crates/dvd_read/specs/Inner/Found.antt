@@ -1,11 +1,14 @@
 -- Ours: the columns between the passes, as whole lists.
-use Rattle.std.specs.Prelude.{◌≡◌, ◌<◌, ◌≤◌, ◌+◌, ◌-◌, ℕ, true, false, slice_index_or, List, map}
+use Rattle.std.specs.Prelude.{◌≡◌, ◌<◌, ◌≤◌, ◌+◌, ◌-◌, ℕ, Bool, true, false, is_none, length, slice_index_or, List, map}
 use Rattle.std.specs.declared.option.Option.{Option}
+use Rattle.dvd_capture.specs.declared.parts.AnswerRow.{AnswerRow}
 use Rattle.dvd_capture.specs.declared.parts.ColumnAnswer.{ColumnAnswer}
 use Rattle.dvd_capture.specs.TwoPass.{column_answer, from_columns}
 use Rattle.dvd_block.specs.Product.{line}
 use Rattle.rs_decode.specs.Nearest.{vanishes_at_all}
-use Rattle.dvd_read.specs.Parts.{column_word}
+use Rattle.dvd_read.specs.Causes.{two_pass_cause}
+use Rattle.dvd_read.specs.Found.{block_found}
+use Rattle.dvd_read.specs.Parts.{answer_word, column_word}
 
 -- the words of columns
 abbrev pub words_of : List ColumnAnswer → List (List ℕ)
@@ -23,3 +26,11 @@ AreRightFrom columns top n = (k : ℕ) → k < n → vanishes_at_all 10 (line (f
 abbrev pub IsFirstWrong : List ColumnAnswer → ℕ → ℕ → Type 0
 IsFirstWrong columns top i =
     (top ≤ i) × (i < top + 32) × AreRightFrom columns top (i - top) × (vanishes_at_all 10 (line (from_columns (words_of columns)) i) ≡ false)
+
+-- These are the columns and the rows' answers of a block, and the flag tells whether two passes fixed it: then the columns hold
+-- the block that was found.
+pub record HoldAnswers (flag : Bool) (all : List ColumnAnswer) (answers : List AnswerRow) : Type 0 where
+  pub columns : length all ≡ 182
+  pub rows : length answers ≡ 208
+  pub fixed : flag ≡ is_none (two_pass_cause (map answer_word answers))
+  pub block : flag ≡ true → from_columns (words_of all) ≡ block_found (map answer_word answers)

@@ -9,19 +9,19 @@ pub returns-then-fixed-clause-candidate : goal.returns-then-fixed-clause-candida
 returns-then-fixed-clause-candidate c =
     λ yes.
     candidate-found (map answer_word c.args.answers.now) c.args.f (from_columns (words_of c.args.columns.now)) c.copy_frame.new.frame
-    (sym c.requires.fixed ∙ c.if-fixed.true) (c.requires.block c.if-fixed.true) c.copy_frame.ensures
+    (sym c.requires.held.fixed ∙ c.if-fixed.true) (c.requires.held.block c.if-fixed.true) c.copy_frame.ensures
 
 pub returns-then-fixed-clause-has : goal.returns-then-fixed-clause-has
 returns-then-fixed-clause-has c =
     sym (ap is_some (candidate-found (map answer_word c.args.answers.now) c.args.f (from_columns (words_of c.args.columns.now)) c.copy_frame.new.frame
-    (sym c.requires.fixed ∙ c.if-fixed.true) (c.requires.block c.if-fixed.true) c.copy_frame.ensures))
+    (sym c.requires.held.fixed ∙ c.if-fixed.true) (c.requires.held.block c.if-fixed.true) c.copy_frame.ensures))
 
 pub returns-else-fixed-clause-candidate : goal.returns-else-fixed-clause-candidate
 returns-else-fixed-clause-candidate c =
     λ yes.
-    candidate-answered (map answer_word c.args.answers.now) c.args.f c.copy_answered.new.frame (sym c.requires.fixed ∙ c.if-fixed.false)
+    candidate-answered (map answer_word c.args.answers.now) c.args.f c.copy_answered.new.frame (sym c.requires.held.fixed ∙ c.if-fixed.false)
     (is_not _ (sym c.copy_answered.ensures.has ∙ yes)) (c.copy_answered.ensures.frame yes)
 
 pub returns-else-fixed-clause-has : goal.returns-else-fixed-clause-has
 returns-else-fixed-clause-has c =
-    candidate-has (map answer_word c.args.answers.now) c.args.f c.copy_answered.result (sym c.requires.fixed ∙ c.if-fixed.false) c.copy_answered.ensures.has
+    candidate-has (map answer_word c.args.answers.now) c.args.f c.copy_answered.result (sym c.requires.held.fixed ∙ c.if-fixed.false) c.copy_answered.ensures.has

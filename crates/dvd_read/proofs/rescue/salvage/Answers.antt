@@ -34,21 +34,22 @@ words : (work : Work) (rows : List AnswerRow) → rows ≡ answers_of_work work 
 words work rows are answered =
     ap (map answer_word) are ∙ block_answers work.received work.marks (answers_of_work work) (answers_size work) (work.answered answered)
 
-pub save_frames-requires-clause-fixed : goal.save_frames-requires-clause-fixed
-save_frames-requires-clause-fixed c =
+pub save_frames-requires-clause-held : goal.save_frames-requires-clause-held
+save_frames-requires-clause-held c =
     let work = c.args.work.now in
-    fixed-told (rows_of work) (marks_of_work work) (rows_size work) (marks_size work) (stage_of work) c.is_fixed.result c.is_fixed.ensures (block_of work)
-    c.requires.stage work.refused work.fixed
-    ∙ ap (λ answers. is_none (two_pass_cause answers)) (sym (words work c.rows.result.now c.rows.ensures.rows c.requires.stage))
-
-pub save_frames-requires-clause-block : goal.save_frames-requires-clause-block
-save_frames-requires-clause-block c =
-    let work = c.args.work.now in
-    λ found.
-    ap (λ (columns : List ColumnAnswer). from_columns (words_of columns)) c.all.ensures.columns
-    ∙ fixed-found (rows_of work) (marks_of_work work) (rows_size work) (marks_size work) (stage_of work) c.is_fixed.result c.is_fixed.ensures (block_of work)
-    work.fixed found
-    ∙ ap block_found (sym (words work c.rows.result.now c.rows.ensures.rows c.requires.stage))
+    let same = sym (words work c.rows.result.now c.rows.ensures.rows c.requires.stage) in
+    record {
+      columns = c.all.ensures.size;
+      rows = c.rows.ensures.size;
+      fixed = fixed-told (rows_of work) (marks_of_work work) (rows_size work) (marks_size work) (stage_of work) c.is_fixed.result c.is_fixed.ensures (block_of work)
+          c.requires.stage work.refused work.fixed
+          ∙ ap (λ answers. is_none (two_pass_cause answers)) same;
+      block = λ found.
+          ap (λ (columns : List ColumnAnswer). from_columns (words_of columns)) c.all.ensures.columns
+          ∙ fixed-found (rows_of work) (marks_of_work work) (rows_size work) (marks_size work) (stage_of work) c.is_fixed.result c.is_fixed.ensures (block_of work)
+          work.fixed found
+          ∙ ap block_found same;
+    }
 
 pub returns-clause-out : goal.returns-clause-out
 unfolding block_out
