@@ -1,3 +1,4 @@
+-- What the contracts speak of: ECC blocks, their buffers, and the order in which their rows are recorded.
 pub mod Buffers
 pub mod Examples
 pub mod Laws
