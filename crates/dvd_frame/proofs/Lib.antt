@@ -1,3 +1,4 @@
+-- Why the contracts hold: lemmas on data frames, their IDs and their checks, and how their Main Data are scrambled.
 pub mod BitLists
 pub mod Division
 pub mod Sequences
