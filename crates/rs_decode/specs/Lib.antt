@@ -1,3 +1,4 @@
+-- What the contracts speak of: words with errors and marked places, the codewords near them, and registers that generate lists.
 pub mod Errors
 pub mod Examples
 pub mod Filling
