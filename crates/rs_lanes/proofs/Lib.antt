@@ -1,3 +1,4 @@
+-- Why the contracts hold: lemmas on rows and columns, on the lanes of vectors, and on values and parity in them.
 pub mod ColumnLemmas
 pub mod FactorLemmas
 pub mod FifthLemmas

@@ -1,4 +1,4 @@
--- What only the private functions of this crate promise. No public contract cites these pages.
+-- What private functions promise, here and in rs_decode. No public contract cites these pages.
 pub mod Lanes
 pub mod Parity
 pub mod Tables

@@ -1,2 +1,3 @@
+-- What the contracts speak of: lists of rows, by row and by column.
 pub mod Inner
 pub mod Rows
