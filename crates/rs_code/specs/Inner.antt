@@ -1,4 +1,4 @@
--- What only the private functions of this crate promise. No public contract and no law cites these pages.
+-- What private functions promise, here and in the crates above. No public contract and no law cites these pages.
 pub mod Polynomials
 pub mod PowerSums
 pub mod Registers

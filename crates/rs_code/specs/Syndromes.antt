@@ -4,6 +4,6 @@ use Rattle.std.specs.List.{range_with_len}
 use Rattle.gf_field.specs.Field.{alpha, power}
 use Rattle.gf_field.specs.Words.{value}
 
--- the values of a word at alpha^0 to alpha^(r-1), in this order; the code steps through the word once for each
+-- the values of a word at alpha^0 to alpha^(r-1), in this order; the code reads the word once for all of them
 unfoldable pub syndromes_of : ℕ → List ℕ → List ℕ
 syndromes_of r word = map (λ k. value word (power alpha k)) (range_with_len 0 r)
