@@ -1,2 +1,2 @@
--- What only the private functions of this crate promise. No public contract and no law cites these pages.
+-- What only the private functions of this crate promise; but the clause `begun` of a `StdSink`'s write cites this page too.
 pub mod Fronts

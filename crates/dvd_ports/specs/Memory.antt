@@ -20,7 +20,7 @@ pub record SinkState : Type 0 where
   pub calls : ℕ
   pub faults : ℕ
 
--- what is seen of them: their bytes are told
+-- what is seen of a source: all bytes that it has left
 abbrev pub source_seen : SourceState → Seen
 source_seen s = record { bytes = Some s.left; faults = s.faults }
 
