@@ -10,7 +10,7 @@ use Rattle.dvd_loop.specs.declared.ends.LoopEnd.{LoopEnd}
 use Rattle.dvd_loop.specs.declared.ends.LoopEnd.TheVariants.{Done, ReadFault, Short}
 use Rattle.dvd_loop.specs.declared.ends.Turn.{Turn}
 
--- the bytes of some steps, and their lines
+-- the bytes that these steps write
 abbrev pub written : List Step → List ℕ
 written [] = []
 written (Write bytes ∷ steps) = bytes ++ written steps
