@@ -1,3 +1,4 @@
+-- Why the contracts hold: lemmas on captured ECC blocks, the forms in which they are stored, and what two passes determine of them.
 pub mod Bound
 pub mod ClearMarks
 pub mod Columns

@@ -13,7 +13,7 @@ field_at bytes offset = 256 * slice_index bytes offset + slice_index bytes (offs
 abbrev pub run_count : List ℕ → ℕ
 run_count bytes = field_at bytes 37_856
 
--- the first place of run i, how many places it has, and the place behind its last one
+-- the start of run i: its first place
 abbrev pub start_of : List ℕ → ℕ → ℕ
 start_of bytes i = field_at bytes (37_858 + 4 * i)
 

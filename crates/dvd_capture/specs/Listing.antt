@@ -5,7 +5,7 @@ use Rattle.std.specs.declared.option.Option.{Option}
 use Rattle.dvd_ports.specs.Whole.{AppendsPrefix}
 use Rattle.dvd_capture.specs.Captured.{IsUnitOf}
 
--- the unit of these rows and marks was written, or a part of it
+-- the unit of these rows and marks was written
 pub record AppendsUnit (old new : Option (List ℕ)) (rows : List (List ℕ)) (marks : List (List Bool)) : Type 0 where
   pub unit : List ℕ
   pub is_unit : IsUnitOf rows marks unit
