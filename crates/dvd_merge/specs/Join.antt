@@ -22,19 +22,19 @@ join Conflict other = Conflict
 abbrev pub seen : ℕ → Bool → Place
 seen byte mark = if mark then Unseen else Value byte
 
--- Ours: the table of a captured block
+-- Ours: the table of one row of a captured block
 abbrev pub seen_row : List ℕ → List Bool → List Place
 seen_row bytes marks = zip2 seen bytes marks
 
--- Ours: its rows, one after the other
+-- Ours: the table of a captured block, its rows one after the other
 unfoldable pub seen_table : List (List ℕ) → List (List Bool) → Table
 seen_table rows marks = zip2 seen_row rows marks
 
--- Ours: the join of two tables, place by place
+-- Ours: the join of two rows, place by place
 abbrev pub join_rows : List Place → List Place → List Place
 join_rows a b = zip2 join a b
 
--- Ours: row by row
+-- Ours: the join of two tables, row by row
 unfoldable pub join_tables : Table → Table → Table
 join_tables a b = zip2 join_rows a b
 
@@ -46,7 +46,7 @@ unseen = replicate 208 (replicate 182 Unseen)
 unfoldable pub joined : List Table → Table
 joined tables = fold join_tables unseen tables
 
--- row i, and what is known of the place in row i at j
+-- what is known of the places of row i
 abbrev pub row_of : Table → ℕ → List Place
 row_of table i = slice_index_or table i []
 
@@ -54,7 +54,7 @@ row_of table i = slice_index_or table i []
 abbrev pub place_of : Table → ℕ → ℕ → Place
 place_of table i j = slice_index_or (row_of table i) j Unseen
 
--- Ours: the byte of a place, 0 where none is known, and its mark
+-- Ours: the byte of a place, 0 where none is known
 abbrev pub byte_of : Place → ℕ
 byte_of (Value byte) = byte
 byte_of Unseen = 0
@@ -66,7 +66,7 @@ mark_of (Value byte) = false
 mark_of Unseen = true
 mark_of Conflict = true
 
--- Ours: the rows of a table, as bytes and as marks
+-- Ours: the rows of a table as bytes
 unfoldable pub joined_rows : Table → List (List ℕ)
 joined_rows table = map (map byte_of) table
 

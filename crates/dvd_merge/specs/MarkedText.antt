@@ -6,11 +6,11 @@ use Rattle.dvd_block.specs.Recording.{recording}
 use Rattle.dvd_merge.specs.Join.{Table, byte_of, mark_of}
 use Rattle.dvd_merge.specs.declared.place.Place.{Place}
 
--- Ours: the number whose binary digits are these marks, the first the highest
+-- Ours: a number with one binary digit more at its end, which is this mark
 abbrev pub with_digit : ℕ → Bool → ℕ
 with_digit number mark = 2 * number + (if mark then 1 else 0)
 
--- Ours: the number of all these digits
+-- Ours: the number whose binary digits are these marks, the first the highest
 unfoldable pub number_of_marks : List Bool → ℕ
 number_of_marks marks = fold with_digit 0 marks
 
