@@ -35,7 +35,7 @@ fault_at block entry f = option_map (cause_in f) (frame_cause (frame_of block f)
 unfoldable pub frames_cause : List (List ℕ) → BlockPlan → Option Cause
 frames_cause block entry = slice_get (filter_map (fault_at block entry) (range_with_len 0 16)) 0
 
--- the unscrambled Main Data of frame f, and of the sixteen frames
+-- the unscrambled Main Data of frame f
 abbrev pub main_at : List (List ℕ) → BlockPlan → ℕ → List ℕ
 main_at block entry f = main_in (frame_of block f) (rule_for entry.content f)
 

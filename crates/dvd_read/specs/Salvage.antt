@@ -45,7 +45,7 @@ sectors_saved answers entry = map (λ f. unwrap_or (rescued answers entry f) (re
 abbrev pub frames_saved : List (Option (List ℕ)) → BlockPlan → ℕ
 frames_saved answers entry = count_by (λ f. is_some (rescued answers entry f)) (range_with_len 0 16)
 
--- both for what was received
+-- the sixteen sectors that are saved of what was received
 unfoldable pub block_out : List (List ℕ) → List (List Bool) → BlockPlan → List (List ℕ)
 block_out rows marks entry = sectors_saved (answers_of rows marks) entry
 

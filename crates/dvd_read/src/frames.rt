@@ -37,8 +37,8 @@ pub fn sectors(work: &mut Work, plan: &BlockPlan) -> Result<(), Cause>
     sectors_of_block(work, plan, false)
 }
 
-/// Checks the frames as `sectors` does. Where two passes fixed no byte, the block is what was received, and its frames are taken from there: row by
-/// row, and not from all columns.
+/// Checks the frames as `sectors` does. Where two passes fixed no byte, the block is what was received, and its frames are
+/// taken from there: row by row, and not from all columns.
 pub fn sectors_of_block(work: &mut Work, plan: &BlockPlan, as_received: bool) -> Result<(), Cause>
     requires stage { stage_of work.old ≡ Stage.Fixed }
     requires numbers { HasNumbers plan.now }
