@@ -16,13 +16,13 @@ use Rattle.dvd_loop.specs.declared.ends.LoopEnd.TheVariants.{BadHeader, ReadFaul
 use Rattle.dvd_words.specs.Settings.{broken_rule}
 use Rattle.dvd_words.specs.declared.settings.Settings.{Settings}
 
--- the numbers of the shapes and of the zones in a header
+-- the numbers of the shapes in a header
 abbrev pub shape_number : Shape → ℕ
 shape_number Single = 0
 shape_number Parallel = 1
 shape_number Opposite = 2
 
--- the numbers of the zones
+-- the numbers of the zones in it
 abbrev pub zones_number : Zones → ℕ
 zones_number DataOnly = 0
 zones_number All = 1
@@ -40,12 +40,12 @@ pub record IsStated (settings : Settings) (header : Header) (stated : Settings) 
     tail = header.tail;
   }
 
--- the first byte of the field that a broken rule of layouts names
+-- the first byte of the field that has the sectors of a layer
 abbrev pub place_of_layer : ℕ → ℕ
 place_of_layer zero = 12
 place_of_layer (suc layer) = 16
 
--- so for each rule of layouts
+-- the first byte of the field that a broken rule of layouts names
 abbrev pub place_of : LayoutFault → ℕ
 place_of (EmptyLayer layer) = place_of_layer layer
 place_of (OddLayer sectors) = 12

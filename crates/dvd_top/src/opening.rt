@@ -32,8 +32,8 @@ pub enum HeaderEnd {
 }
 
 /// Reads the header of a listed capture: 32 bytes, and none behind them. It is Short exactly where the input ended before,
-/// BadHeader exactly where a byte can't stand in a header or the layout that it states breaks a rule, and ReadFault only where a read
-/// failed.
+/// BadHeader exactly where a byte can't stand in a header or the layout that it states breaks a rule, and ReadFault only
+/// where a read failed.
 pub fn listed_layout<S: Source>(src: &mut S) -> HeaderEnd
     ensures header { ReadsHeader result (S.seen src.old) (S.seen src.new) }
     ensures causes { (output report : Seen) → HaveCauses (end_in result) (end_in result)

@@ -21,7 +21,7 @@ use Rattle.dvd_loop.specs.declared.ends.Turn.TheVariants.{Good}
 use Rattle.dvd_read.specs.Found.{block_differences}
 use Rattle.dvd_top.specs.Meaning.{Meaning}
 
--- sector f of a block of these sixteen, and all of them
+-- sector f of the sixteen in these bytes
 abbrev pub drawn_sector : List ℕ → ℕ → List ℕ
 drawn_sector image f = take 2048 (drop (2048 * f) image)
 

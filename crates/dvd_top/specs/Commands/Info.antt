@@ -21,11 +21,11 @@ use Rattle.dvd_report.specs.Lines.{hexadecimal}
 use Rattle.dvd_top.specs.Captured.{captured_units}
 use Rattle.dvd_top.specs.Meaning.{Meaning}
 
--- a line with a name and a number: in decimal, or a sector number in six hexadecimal digits
+-- a line with a name and a number in decimal
 abbrev pub number_line : List ℕ → ℕ → List ℕ
 number_line name number = name ++ decimal number ++ codes "\n"
 
--- the line with a sector number
+-- a line with a name and a sector number in six hexadecimal digits
 abbrev pub sector_line : List ℕ → ℕ → List ℕ
 sector_line name number = name ++ hexadecimal 6 number ++ codes "\n"
 

@@ -15,7 +15,7 @@ use Rattle.dvd_merge.specs.MarkedText.{marked_text}
 use Rattle.dvd_top.specs.Meaning.{Meaning}
 use Rattle.dvd_words.specs.Settings.{IsLayoutOf, broken_rule}
 
--- capture c of a unit, in which they stand one after the other, and what it knows of its block
+-- capture c of a unit, in which they stand one after the other
 abbrev pub capture_in : Form → List ℕ → ℕ → List ℕ
 capture_in form own c = take (block_size form) (drop (block_size form * c) own)
 

@@ -84,7 +84,7 @@ pub record EndsCaptured (form : Form) (k : ℕ) (old new : Seen) (end : LoopEnd)
 abbrev pub sectors_out : ℕ → List (List ℕ) → List ℕ
 sectors_out count sectors = flat_map (λ sector. sector) (take count sectors)
 
--- what is done for a block that holds image, and for one that holds none
+-- what is done for a block that holds image
 abbrev pub IsImageDone : Layout → ℕ → BlockPlan → List (List ℕ) → List (List Bool) → List Step → Turn → Type 0
 IsImageDone layout k entry rows marks steps turn = IsGiven layout entry rows marks steps turn ⊎ IsRefused layout k entry rows marks steps turn
 
