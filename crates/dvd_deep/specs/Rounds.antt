@@ -74,10 +74,10 @@ after (suc n) state = round (after n state)
 unfoldable pub first_round : State → Option ℕ
 first_round state = find (λ t. finishes (after (t - 1) state)) (range_with_len 1 4)
 
--- the round that gives back a received block, and the block that it gives
+-- the number of the round that gives back a received block, if one does
 abbrev pub deep_round : List (List ℕ) → List (List Bool) → Option ℕ
 deep_round received marks = first_round (state_in received marks)
 
--- the rows that this round leaves
+-- the block that it gives back: the rows that this round leaves
 abbrev pub deep_block : List (List ℕ) → List (List Bool) → Option (List (List ℕ))
 deep_block received marks = option_map (λ t. (after t (state_in received marks)).rows) (deep_round received marks)
