@@ -1,3 +1,4 @@
+-- What each turn of the loop in `with_bytes` keeps.
 use Rattle.std.proofs.Common.{◌≡◌, drop}
 use Rattle.cd_sector.specs.Inner.Register.{after_bytes}
 use Rattle.cd_sector.proofs.edc.with_bytes.Given as goal

@@ -1,3 +1,4 @@
+-- What each turn of the loop in `marks` keeps.
 use Rattle.std.proofs.Common.{◌≡◌, ℕ, ◌-◌, ◌%◌, ◌<◌, ◌≤◌, length, get_or, false}
 use Rattle.cd_sector.specs.Words.{place}
 use Rattle.cd_sector.proofs.repairing.marks.Given as goal

@@ -1,3 +1,4 @@
+-- What each turn of the loop in `set_p_words` keeps.
 use Rattle.std.proofs.Common.{◌≡◌, ℕ, ◌<◌, length, get_or}
 use Rattle.cd_sector.specs.Words.{IsRight}
 use Rattle.cd_sector.proofs.sector.set_p_words.Given as goal

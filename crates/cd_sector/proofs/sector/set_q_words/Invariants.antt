@@ -1,3 +1,4 @@
+-- What each turn of the loop in `set_q_words` keeps.
 use Rattle.std.proofs.Common.{◌≡◌, ℕ, ◌<◌, ◌≤◌, length, get_or}
 use Rattle.cd_sector.specs.Words.{IsRight}
 use Rattle.cd_sector.proofs.sector.set_q_words.Given as goal

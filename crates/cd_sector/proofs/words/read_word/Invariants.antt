@@ -1,3 +1,4 @@
+-- What each turn of the loop in `read_word` keeps.
 use Rattle.std.proofs.Common.{◌≡◌, ℕ, ◌<◌, get_or}
 use Rattle.cd_sector.specs.Words.{place}
 use Rattle.cd_sector.proofs.words.read_word.Given as goal

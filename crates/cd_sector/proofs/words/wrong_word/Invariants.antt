@@ -1,3 +1,4 @@
+-- What each turn of the loop in `wrong_word` keeps.
 use Rattle.std.proofs.Common.{ℕ, ◌<◌, ◌≤◌}
 use Rattle.cd_sector.specs.Words.{IsRight}
 use Rattle.cd_sector.proofs.words.wrong_word.Given as goal

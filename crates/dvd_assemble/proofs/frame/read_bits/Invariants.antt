@@ -1,3 +1,4 @@
+-- What each turn of the loop in `read_bits` keeps.
 use Rattle.std.proofs.Common.{◌≡◌, ℕ, ◌<◌, false, length, get_or}
 use Rattle.dvd_capture.specs.MarkBits.{mark_at}
 use Rattle.dvd_assemble.proofs.frame.read_bits.Given as goal

@@ -1,3 +1,4 @@
+-- What each turn of the loop in `columns_are_codewords` keeps.
 use Rattle.std.proofs.Common.{ℕ, ◌<◌}
 use Rattle.gf_field.specs.Words.{IsCodeword}
 use Rattle.dvd_block.specs.Product.{column}

@@ -1,3 +1,4 @@
+-- What each turn of the loop in `set_inner_parity` keeps.
 use Rattle.std.proofs.Common.{◌≡◌, ℕ, ◌*◌, ◌<◌, ◌≤◌, length, take}
 use Rattle.gf_field.specs.Words.{IsEncoded}
 use Rattle.dvd_block.specs.Product.{line}

@@ -1,3 +1,4 @@
+-- What each turn of the loop in `put_rows` keeps.
 use Rattle.dvd_capture.specs.Parts.{marks_rows, received_rows}
 use Rattle.dvd_capture.specs.Inner.Putting.{ArePut}
 use Rattle.dvd_capture.proofs.capture.put_rows.Given as goal

@@ -1,3 +1,4 @@
+-- What each turn of the loop in `fetch_runs` keeps.
 use Rattle.std.proofs.Common.{◌≡◌, ℕ, List}
 use Rattle.dvd_capture.specs.Listed.{mark_of}
 use Rattle.dvd_capture.specs.Inner.Listing.{AreRows, TakesRuns}

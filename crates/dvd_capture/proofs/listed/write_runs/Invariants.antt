@@ -1,3 +1,4 @@
+-- What each turn of the loop in `write_runs` keeps.
 use Rattle.std.proofs.Common.{◌≡◌, ◌≤◌, ℕ, List, length}
 use Rattle.dvd_capture.specs.Listed.{mark_of}
 use Rattle.dvd_capture.specs.Parts.{marks_rows}

@@ -1,3 +1,4 @@
+-- What each turn of the loop in `answer_columns` keeps.
 use Rattle.std.proofs.Common.{◌≡◌, is_some}
 use Rattle.std.specs.List.{list_all, range_with_len}
 use Rattle.dvd_capture.specs.Parts.{marks_rows, received_rows}

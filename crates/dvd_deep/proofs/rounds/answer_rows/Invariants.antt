@@ -1,3 +1,4 @@
+-- What each turn of the loop in `answer_rows` keeps.
 use Rattle.std.proofs.Common.{◌≡◌, length}
 use Rattle.dvd_capture.specs.Parts.{marks_rows, received_rows}
 use Rattle.dvd_deep.specs.Inner.Buffers.{state_of}

@@ -1,3 +1,4 @@
+-- What each turn of the loop in `play_rounds` keeps.
 use Rattle.std.proofs.Common.{◌≡◌, ◌-◌}
 use Rattle.dvd_deep.specs.Inner.Buffers.{state_of}
 use Rattle.dvd_deep.specs.Rounds.{after}

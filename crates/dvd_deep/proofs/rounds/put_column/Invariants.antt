@@ -1,3 +1,4 @@
+-- What each turn of the loop in `put_column` keeps.
 use Rattle.dvd_capture.specs.Parts.{marks_rows, received_rows}
 use Rattle.dvd_deep.proofs.ColumnPut.{IsPutBefore}
 use Rattle.dvd_deep.proofs.rounds.put_column.Given as goal

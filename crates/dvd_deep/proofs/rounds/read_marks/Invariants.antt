@@ -1,3 +1,4 @@
+-- What each turn of the loop in `read_marks` keeps.
 use Rattle.std.proofs.Common.{◌≡◌, ℕ, ◌<◌, false, length, get_or}
 use Rattle.dvd_capture.specs.Parts.{marks_rows}
 use Rattle.dvd_deep.specs.Rounds.{mark_in}

@@ -1,3 +1,4 @@
+-- What each turn of the loop in `read_frames` keeps.
 use Rattle.std.proofs.Common.{◌≡◌, ◌*◌, length, take}
 use Rattle.dvd_capture.specs.Parts.{received_rows}
 use Rattle.dvd_read.proofs.FrameFaults.{NoFaultBefore}

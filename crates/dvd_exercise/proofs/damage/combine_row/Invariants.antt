@@ -1,3 +1,4 @@
+-- What each turn of the loop in `combine_row` keeps.
 use Rattle.std.proofs.Common.{◌≡◌, ◌<◌, length, bit_xor}
 use Rattle.dvd_block.specs.Product.{line, place}
 use Rattle.dvd_capture.specs.Works.{marks_of_work, rows_of}

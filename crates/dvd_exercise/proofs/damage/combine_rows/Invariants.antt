@@ -1,3 +1,4 @@
+-- What each turn of the loop in `combine_rows` keeps.
 use Rattle.std.proofs.Common.{◌≡◌, ◌*◌, []}
 use Rattle.dvd_block.specs.Product.{line}
 use Rattle.dvd_capture.specs.Works.{marks_of_work, rows_of}

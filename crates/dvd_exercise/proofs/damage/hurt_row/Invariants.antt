@@ -1,3 +1,4 @@
+-- What each turn of the loop in `hurt_row` keeps.
 use Rattle.std.proofs.Common.{◌≡◌, ◌+◌, bit_xor}
 use Rattle.dvd_block.specs.Product.{place}
 use Rattle.dvd_capture.specs.Works.{marks_of_work, rows_of}

@@ -1,3 +1,4 @@
+-- What each turn of the loop in `fill` keeps.
 use Rattle.std.proofs.Common.{◌≡◌, ℕ, ◌<◌, get_or}
 use Rattle.dvd_exercise.specs.Generator.{byte_at, state_after, state_of}
 use Rattle.dvd_exercise.proofs.generator.fill.Given as goal

@@ -1,3 +1,4 @@
+-- What each turn of the loop in `fold` keeps.
 use Rattle.std.proofs.Common.{◌≡◌, ℕ, ◌+◌, ◌*◌, ◌^◌, drop}
 use Rattle.dvd_frame.specs.Edc.{plus_front}
 use Rattle.dvd_frame.specs.Inner.Registers.{divided_from}

@@ -1,3 +1,4 @@
+-- What each turn of the loop in `follow` keeps.
 use Rattle.std.proofs.Common.{◌≡◌, ◌≤◌, ℕ, List}
 use Rattle.dvd_loop.specs.Streams.{streams, HaveCauses}
 use Rattle.dvd_loop.specs.declared.ends.LoopEnd.TheVariants.{Done}

@@ -1,3 +1,4 @@
+-- What each turn of the loop in `take_row` keeps.
 use Rattle.std.proofs.Common.{◌≡◌, ℕ, ◌<◌, ◌≤◌, false, length, get_or}
 use Rattle.dvd_merge.specs.Join.{join, seen}
 use Rattle.dvd_merge.specs.declared.place.Place.TheVariants.{Unseen}

@@ -1,3 +1,4 @@
+-- What each turn of the loop in `fill_text` keeps.
 use Rattle.std.proofs.Common.{◌≡◌, ◌*◌, length, map, take}
 use Rattle.dvd_block.specs.Recording.{recorded}
 use Rattle.dvd_merge.specs.MarkedText.{marked_row}

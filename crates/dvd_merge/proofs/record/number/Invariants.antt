@@ -1,3 +1,4 @@
+-- What each turn of the loop in `number` keeps.
 use Rattle.std.proofs.Common.{◌≡◌, ◌<◌, ◌^◌}
 use Rattle.dvd_merge.proofs.Records.{first_number}
 use Rattle.dvd_merge.proofs.record.number.Given as goal

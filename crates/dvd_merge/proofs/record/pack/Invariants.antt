@@ -1,3 +1,4 @@
+-- What each turn of the loop in `pack` keeps.
 use Rattle.std.proofs.Common.{◌≡◌, ℕ, ◌*◌, ◌<◌, length, take, drop, get_or}
 use Rattle.dvd_merge.specs.MarkedText.{number_of_marks}
 use Rattle.dvd_merge.proofs.record.pack.Given as goal

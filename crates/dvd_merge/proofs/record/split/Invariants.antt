@@ -1,3 +1,4 @@
+-- What each turn of the loop in `split` keeps.
 use Rattle.std.proofs.Common.{◌≡◌, length, map, take, drop}
 use Rattle.dvd_merge.specs.Join.{byte_of, mark_of}
 use Rattle.dvd_merge.proofs.record.split.Given as goal

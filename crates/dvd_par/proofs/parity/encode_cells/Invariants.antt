@@ -1,3 +1,4 @@
+-- What each turn of the loop in `encode_cells` keeps.
 use Rattle.std.proofs.Common.{ℕ, ◌+◌, ◌<◌, ◌++◌, take}
 use Rattle.gf_field.specs.Words.{IsCodeword}
 use Rattle.dvd_block.specs.Buffers.{lines_rows}

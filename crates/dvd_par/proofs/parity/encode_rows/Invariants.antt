@@ -1,3 +1,4 @@
+-- What each turn of the loop in `encode_rows` keeps.
 use Rattle.std.proofs.Common.{◌≡◌, ℕ, ◌<◌, ◌≤◌, take}
 use Rattle.gf_field.specs.Words.{IsEncoded}
 use Rattle.dvd_block.specs.Product.{line}

@@ -1,3 +1,4 @@
+-- What each turn of the loop in `read_whole` keeps, and why it ends.
 use Rattle.std.proofs.Common.{length, take, ◌≡◌, ◌≤◌, ◌-◌}
 use Rattle.std.specs.Io.KnownBytes.{Consumes}
 use Rattle.dvd_ports.proofs.whole.read_whole.Given as goal

@@ -1,3 +1,4 @@
+-- What each turn of the loop in `write_whole` keeps, and why it ends.
 use Rattle.std.proofs.Common.{length, take, ◌≡◌, ◌≤◌, ◌-◌}
 use Rattle.std.specs.Io.KnownBytes.{Appends}
 use Rattle.dvd_ports.proofs.whole.write_whole.Given as goal

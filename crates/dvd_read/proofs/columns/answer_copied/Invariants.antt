@@ -1,3 +1,4 @@
+-- What each turn of the loop in `answer_copied` keeps.
 use Rattle.std.proofs.Common.{◌≡◌, ℕ, ◌+◌, ◌*◌, ◌<◌, ◌≤◌, true, length, map, get_or}
 use Rattle.rs_decode.specs.Filling.{marked}
 use Rattle.dvd_block.specs.Product.{column}

@@ -1,3 +1,4 @@
+-- What each turn of the loop in `answer_group` keeps.
 use Rattle.std.proofs.Common.{◌≡◌, ℕ, ◌<◌, ◌≤◌, true, get_or}
 use Rattle.rs_decode.specs.Nearest.{near_of}
 use Rattle.dvd_capture.specs.declared.parts.ColumnAnswer.{ColumnAnswer}

@@ -1,3 +1,4 @@
+-- What each turn of the loop in `copy_rows` keeps.
 use Rattle.std.proofs.Common.{◌≡◌, ℕ, ◌+◌, ◌-◌, ◌<◌, ◌≤◌, length, get_or}
 use Rattle.dvd_block.specs.Product.{place}
 use Rattle.dvd_capture.specs.declared.parts.ColumnAnswer.{ColumnAnswer}

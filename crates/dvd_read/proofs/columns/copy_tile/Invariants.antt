@@ -1,3 +1,4 @@
+-- What each turn of the loop in `copy_tile` keeps.
 use Rattle.std.proofs.Common.{◌≡◌, ◌*◌, length}
 use Rattle.dvd_read.specs.Inner.Standing.{AreCopied}
 use Rattle.dvd_read.proofs.columns.copy_tile.Given as goal

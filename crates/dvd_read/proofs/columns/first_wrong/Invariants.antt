@@ -1,3 +1,4 @@
+-- What each turn of the loop in `first_wrong` keeps.
 use Rattle.std.proofs.Common.{◌≡◌, ℕ, ◌*◌, ◌<◌, true}
 use Rattle.rs_decode.specs.Nearest.{vanishes_at_all}
 use Rattle.dvd_block.specs.Product.{line}

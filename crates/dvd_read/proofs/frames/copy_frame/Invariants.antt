@@ -1,3 +1,4 @@
+-- What each turn of the loop in `copy_frame` keeps.
 use Rattle.std.proofs.Common.{◌≡◌, ◌*◌, length, take}
 use Rattle.dvd_capture.specs.TwoPass.{from_columns}
 use Rattle.dvd_read.specs.Inner.Found.{words_of}

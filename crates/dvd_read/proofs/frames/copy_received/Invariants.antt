@@ -1,3 +1,4 @@
+-- What each turn of the loop in `copy_received` keeps.
 use Rattle.std.proofs.Common.{◌≡◌, ℕ, ◌+◌, ◌*◌, ◌<◌, length, take}
 use Rattle.dvd_block.specs.Product.{line}
 use Rattle.dvd_capture.specs.Parts.{received_rows}

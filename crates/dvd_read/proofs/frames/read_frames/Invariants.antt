@@ -1,3 +1,4 @@
+-- What each turn of the loop in `read_frames` keeps.
 use Rattle.dvd_capture.specs.Parts.{sector_bytes}
 use Rattle.dvd_capture.specs.TwoPass.{from_columns}
 use Rattle.dvd_read.specs.Inner.Found.{words_of}

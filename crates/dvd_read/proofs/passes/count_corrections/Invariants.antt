@@ -1,3 +1,4 @@
+-- What each turn of the loop in `count_corrections` keeps.
 use Rattle.std.proofs.Common.{◌≡◌, ◌≤◌, ◌*◌, take}
 use Rattle.dvd_capture.specs.Works.{answers_of_work, rows_of}
 use Rattle.dvd_read.specs.Found.{block_differences}

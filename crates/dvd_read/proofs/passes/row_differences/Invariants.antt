@@ -1,3 +1,4 @@
+-- What each turn of the loop in `row_differences` keeps.
 use Rattle.std.proofs.Common.{◌≡◌, ◌≤◌, take}
 use Rattle.dvd_read.specs.Found.{differences}
 use Rattle.dvd_read.proofs.passes.row_differences.Given as goal

@@ -1,3 +1,4 @@
+-- What each turn of the loop in `copy_answered` keeps.
 use Rattle.std.proofs.Common.{◌≡◌, ◌*◌, false, length, map, take}
 use Rattle.dvd_read.specs.Parts.{answer_word}
 use Rattle.dvd_read.specs.Salvage.{answered_block}

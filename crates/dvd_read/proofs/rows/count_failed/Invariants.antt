@@ -1,3 +1,4 @@
+-- What each turn of the loop in `count_failed` keeps.
 use Rattle.std.proofs.Common.{◌≡◌, ◌≤◌, take}
 use Rattle.rs_decode.specs.Filling.{marked}
 use Rattle.dvd_read.proofs.rows.count_failed.Given as goal

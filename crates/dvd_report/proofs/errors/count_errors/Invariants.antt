@@ -1,3 +1,4 @@
+-- What each turn of the loop in `count_errors` keeps.
 use Rattle.std.proofs.Common.{◌≡◌, ◌≤◌, count_by}
 use Rattle.std.specs.List.{range_with_len}
 use Rattle.dvd_block.specs.Product.{line}

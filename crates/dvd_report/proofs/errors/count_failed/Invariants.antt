@@ -1,3 +1,4 @@
+-- What each turn of the loop in `count_failed` keeps.
 use Rattle.std.proofs.Common.{◌≡◌, ◌≤◌, map, take}
 use Rattle.rs_decode.specs.Filling.{marked}
 use Rattle.dvd_capture.specs.TwoPass.{failed_of}

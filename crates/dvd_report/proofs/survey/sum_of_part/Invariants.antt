@@ -1,3 +1,4 @@
+-- What each turn of the loop in `sum_of_part` keeps.
 use Rattle.std.proofs.Common.{◌≡◌, ◌≤◌, ◌*◌, sum, take}
 use Rattle.dvd_report.proofs.survey.sum_of_part.Given as goal
 

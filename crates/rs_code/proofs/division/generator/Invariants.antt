@@ -1,3 +1,4 @@
+-- What each turn of the loop in `generator` keeps.
 use Rattle.std.proofs.Common.{◌≡◌}
 use Rattle.arrayvec.specs.ArrayVec.{array_vec_len}
 use Rattle.gf_field.specs.Field.{alpha, power}

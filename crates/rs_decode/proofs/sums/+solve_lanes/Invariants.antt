@@ -1,3 +1,4 @@
+-- Why `solve_lanes` ends: what gets less from call to call.
 use Rattle.std.proofs.Common.{length}
 use Rattle.rs_decode.proofs.sums.+solve_lanes.Given as goal
 

@@ -1,3 +1,4 @@
+-- What each turn of the loop in `put_back` keeps.
 use Rattle.std.proofs.Common.{◌≡◌, ℕ, ◌<◌, ◌≤◌, get_or, length, take}
 use Rattle.gf_field.specs.Field.{plus, product}
 use Rattle.gf_field.specs.Words.{value}

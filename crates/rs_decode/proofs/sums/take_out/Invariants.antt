@@ -1,3 +1,4 @@
+-- What each turn of the loop in `take_out` keeps.
 use Rattle.std.proofs.Common.{◌≡◌, ℕ, ◌<◌, ◌≤◌, ◌∷◌, get_or}
 use Rattle.gf_field.specs.Field.{plus, product}
 use Rattle.rs_decode.proofs.sums.take_out.Given as goal

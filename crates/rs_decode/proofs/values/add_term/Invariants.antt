@@ -1,3 +1,4 @@
+-- What each turn of the loop in `add_term` keeps.
 use Rattle.std.proofs.Common.{◌≡◌, ℕ, ◌+◌, ◌*◌, ◌<◌, ◌≤◌, length, get_or}
 use Rattle.gf_field.specs.Field.{alpha, plus, product, power}
 use Rattle.rs_decode.proofs.values.add_term.Given as goal

@@ -1,3 +1,4 @@
+-- What each turn of the loop in `values_at_powers` keeps.
 use Rattle.std.proofs.Common.{◌≡◌, ℕ, ◌-◌, ◌<◌, length, drop, get_or}
 use Rattle.gf_field.specs.Field.{alpha, power}
 use Rattle.gf_field.specs.Words.{value}

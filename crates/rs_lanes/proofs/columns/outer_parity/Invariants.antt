@@ -1,3 +1,4 @@
+-- What each turn of the loop in `outer_parity` keeps.
 use Rattle.std.proofs.Common.{◌≡◌, ℕ, ◌*◌, ◌<◌, ◌++◌, length}
 use Rattle.gf_field.specs.Words.{IsEncoded}
 use Rattle.rs_lanes.specs.Rows.{column}

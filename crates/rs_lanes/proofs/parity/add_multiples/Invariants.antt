@@ -1,3 +1,4 @@
+-- What each turn of the loop in `add_multiples` keeps.
 use Rattle.std.proofs.Common.{◌≡◌, ℕ, ◌<◌, ◌≤◌, length, get_or}
 use Rattle.gf_field.specs.Field.{plus, product}
 use Rattle.rs_lanes.specs.Rows.{line, place}

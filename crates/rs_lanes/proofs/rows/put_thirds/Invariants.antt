@@ -1,3 +1,4 @@
+-- What each turn of the loop in `put_thirds` keeps.
 use Rattle.std.proofs.Common.{take}
 use Rattle.rs_lanes.specs.Rows.{column}
 use Rattle.rs_lanes.specs.Inner.Parity.{filled}

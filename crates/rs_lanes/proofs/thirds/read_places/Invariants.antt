@@ -1,3 +1,4 @@
+-- What each turn of the loop in `read_places` keeps.
 use Rattle.std.proofs.Common.{◌≡◌, ℕ, ◌<◌, ◌≤◌, length}
 use Rattle.gf_field.specs.Field.{alpha, plus, product, power}
 use Rattle.rs_lanes.specs.Rows.{line, place}

@@ -1,3 +1,4 @@
+-- What each turn of the loop in `values` keeps.
 use Rattle.std.proofs.Common.{ℕ, ◌<◌, take}
 use Rattle.gf_field.specs.Field.{alpha, power}
 use Rattle.gf_field.specs.Words.{value}

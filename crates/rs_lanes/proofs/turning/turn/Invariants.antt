@@ -1,3 +1,4 @@
+-- What each turn of the loop in `turn` keeps.
 use Rattle.std.proofs.Common.{◌≡◌, ℕ, ◌+◌, ◌*◌, ◌<◌, length, map}
 use Rattle.rs_lanes.specs.Rows.{line, place}
 use Rattle.rs_lanes.proofs.turning.turn.Given as goal

@@ -1,3 +1,4 @@
+-- What each turn of the loop in `Marks::row` keeps.
 use Rattle.std.proofs.Common.{◌≡◌, ℕ, ◌<◌, false, length, get_or}
 use Rattle.dvd_block.specs.Product.{line}
 use Rattle.dvd_capture.specs.MarkBits.{mark_at}

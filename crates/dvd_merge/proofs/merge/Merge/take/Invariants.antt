@@ -1,3 +1,4 @@
+-- What each turn of the loop in `Merge::take` keeps.
 use Rattle.std.proofs.Common.{◌≡◌, ℕ, ◌<◌, ◌≤◌, length}
 use Rattle.dvd_block.specs.Product.{line}
 use Rattle.dvd_capture.specs.Answers.{marks_line}

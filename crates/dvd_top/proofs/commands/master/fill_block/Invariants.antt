@@ -1,3 +1,4 @@
+-- What each turn of the loop in `fill_block` keeps.
 use Rattle.std.proofs.Common.{ℕ, ◌<◌}
 use Rattle.dvd_block.specs.Buffers.{block_rows}
 use Rattle.dvd_block.specs.Product.{HoldsFrame}

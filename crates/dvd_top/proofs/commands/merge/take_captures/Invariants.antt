@@ -1,3 +1,4 @@
+-- What each turn of the loop in `take_captures` keeps.
 use Rattle.std.proofs.Common.{◌≡◌}
 use Rattle.dvd_merge.specs.Merges.{table_of}
 use Rattle.dvd_top.specs.Inner.Performing.{AreTaken}
