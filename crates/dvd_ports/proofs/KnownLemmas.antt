@@ -3,8 +3,7 @@ use Rattle.std.proofs.Common.{◌≡◌, ◌≢◌, ℕ, ◌+◌, ◌-◌, ◌<�
 use Rattle.std.proofs.Math.Seq.{take-add, take-append-add}
 use Rattle.std.proofs.lemmas.List.{take_at, take_all, take-append-le, length-take, length-take-le}
 use Rattle.std.specs.Io.KnownBytes.{Appends, Consumes, Keeps, WriteAppends}
-use Rattle.dvd_ports.specs.Whole.{AppendsPrefix}
-use Rattle.dvd_ports.specs.Inner.Fronts.{AppendsFront}
+use Rattle.dvd_ports.specs.Whole.{AppendsFront, AppendsPrefix}
 
 -- where nothing happens, no bytes are appended
 pub Appends-none : (a : Option (List ℕ)) → Appends a a []

@@ -3,7 +3,7 @@ ghost use Rattle.std.specs.Prelude.{◌≡◌, ◌<◌, length, take, None, IfOk
 ghost use Rattle.std.specs.Io.KnownBytes.{Appends};
 ghost use Rattle.dvd_ports.specs.Calls.{IsRead, IsWrite};
 ghost use Rattle.dvd_ports.specs.Causes.{next_count};
-ghost use Rattle.dvd_ports.specs.Inner.Fronts.{AppendsFront};
+ghost use Rattle.dvd_ports.specs.Whole.{AppendsFront};
 
 use crate::{Failed, Sink, Source};
 use std::io::{Read, Write};
