@@ -15,3 +15,5 @@ pub use reading::read_block_par;
 
 #[cfg(test)]
 mod tests;
+#[cfg(test)]
+mod worked;

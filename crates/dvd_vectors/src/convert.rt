@@ -1,118 +1,207 @@
 //! Captures in the plain and the marked form converted to the form that states its layout.
-use crate::fixture::{
-    BLOCK, Case, NEVER, SOUND, captured, ended, joined, leave_fronts, recording, writes,
-};
-use crate::listed::{
-    ALL, DISKS, Disk, PORTS, RUNS, Runs, Stream, capture, damage, is_as_marked, listed, single,
-    stream_of,
-};
+use crate::cases::{Alike, Runs, Written, are_alike, hold};
+use crate::fixture::{BLOCK, NO_FAULT, SOUND};
+use crate::listed::{MARKS, RUNS, SEVENTEEN, SIXTEEN};
+use crate::making::Step;
+use crate::reading::{Hit, ONE};
 use dvd_top::Status;
 use std::test::Fail;
-use std::thread::Threads;
 
-// The blocks of a stream in the plain form are converted to its listed capture.
-fn is_converted<R: AllocGlobal + Threads + Sync>(
-    rt: &R,
-    text: &str,
-    stream: &Stream,
-) -> Result<(), Fail> {
-    let wanted = listed(rt.alloc(), stream)?;
-    writes(rt, text, stream.bytes, PORTS, &wanted)
-}
+const ONE_BLOCK: &[Step] = &[Step::Image(16), Step::Run("master --sectors 16", BLOCK)];
 
-// And those in the marked form.
-fn is_converted_with_marks<R: AllocGlobal + Threads + Sync>(
-    rt: &R,
-    text: &str,
-    stream: &Stream,
-) -> Result<(), Fail> {
-    let bytes = captured(rt.alloc(), stream.bytes, &Runs(stream.runs))?;
-    let wanted = listed(rt.alloc(), stream)?;
-    writes(rt, text, &bytes, PORTS, &wanted)
-}
+const TWO_BLOCKS: &[Step] = &[Step::Image(17), Step::Run("master --sectors 17", 2 * BLOCK)];
 
-#[test]
-fn a_block_is_converted(rt: HostRuntime) -> Result<(), Fail> {
-    let bytes = recording(&rt, "master --sectors 16", 16, 1)?;
-    let stated = single(16);
-    let stream = Stream {
-        bytes: &bytes,
-        stated,
-        runs: &[],
-    };
-    is_converted(&rt, "convert --sectors 16", &stream)?;
-    let stream = Stream {
-        bytes: &bytes,
-        stated,
-        runs: &ALL,
-    };
-    is_converted_with_marks(&rt, "convert --sectors 16 --form marked", &stream)
-}
+// Damaged streams of disks: every 31st byte is wrong.
+const ONE_LAYER: &[Step] = &[
+    Step::Image(18),
+    Step::Run("master --sectors 18", 2 * BLOCK),
+    Step::Read(&[(0, (2443, 31), ONE, Hit::Wrong(0x55))]),
+];
 
-// What is converted of the damaged stream of a disk is read the same.
-fn is_kept<R: AllocGlobal + Threads + Sync>(rt: &R, disk: &Disk) -> Result<(), Fail> {
-    let mut bytes = stream_of(rt, disk)?;
-    damage(&mut bytes, 31);
-    let stream = Stream {
-        bytes: &bytes,
-        stated: disk.stated,
-        runs: &RUNS,
-    };
-    let text = joined(rt.alloc(), "convert --form marked", disk.words)?;
-    is_converted_with_marks(rt, &text, &stream)?;
-    let text = joined(rt.alloc(), "recover --form marked", disk.words)?;
-    is_as_marked(rt, &stream, &text, "recover --form listed")
-}
-
-#[test]
-fn what_is_converted_is_read_the_same(rt: HostRuntime) -> Result<(), Fail> {
-    for disk in &DISKS {
-        is_kept(&rt, disk)?;
-    }
-    Ok(())
-}
-
-// What is cut off of a stream of two blocks, what stands there instead, and the end. The header stands before anything is read.
-static NOT_WHOLE: [(usize, &[u8], Case); 5] = [
-    (0, &[0], (PORTS, (Status::Long, 75_748, "long\n"))),
-    (
-        1,
-        &[],
-        (
-            PORTS,
-            (Status::Short, 37_890, "short: block 1, 37855 bytes\n"),
-        ),
+const PARALLEL: &[Step] = &[
+    Step::Image(33),
+    Step::Run(
+        "master --sectors 16 --sectors1 17 --shape parallel --tail 0",
+        3 * BLOCK,
     ),
-    (
-        2 * BLOCK,
-        &[],
-        (PORTS, (Status::Short, 32, "short: block 0, 0 bytes\n")),
+    Step::Read(&[(0, (3664, 31), ONE, Hit::Wrong(0x55))]),
+];
+
+const OPPOSITE: &[Step] = &[
+    Step::Image(49),
+    Step::Run(
+        "master --sectors 32 --sectors1 17 --shape opposite --initial 12031",
+        4 * BLOCK,
     ),
-    (
-        1,
-        &[],
-        (
-            ((40_000, 0, 0), (40_000, NEVER, 160_000), SOUND),
-            (Status::ReadFault, 32, "read fault\n"),
-        ),
-    ),
-    (
-        1,
-        &[],
-        (
-            (SOUND, (40_000, 0, 160_000), SOUND),
-            (Status::WriteFault, 0, "write fault\n"),
-        ),
-    ),
+    Step::Read(&[(0, (4885, 31), ONE, Hit::Wrong(0x55))]),
+];
+
+static CONVERTED: [Runs; 6] = [
+    Runs {
+        words: &["convert --sectors 16"],
+        over: ONE_BLOCK,
+        cases: &[(&[], NO_FAULT, (Status::Done, 37_890, "done\n"))],
+        writes: Written::Front(&[
+            Step::Image(16),
+            Step::Run("master --sectors 16", BLOCK),
+            Step::Listed(SIXTEEN, &[]),
+        ]),
+    },
+    // All places are marked.
+    Runs {
+        words: &["convert --sectors 16 --form marked"],
+        over: ONE_BLOCK,
+        cases: &[(
+            &[Step::Marked(&[&[(0, ONE, (BLOCK, 1), Hit::Doubtful)]])],
+            NO_FAULT,
+            (Status::Done, 37_894, "done\n"),
+        )],
+        writes: Written::Front(&[
+            Step::Image(16),
+            Step::Run("master --sectors 16", BLOCK),
+            Step::Listed(SIXTEEN, &[(0, 37_856)]),
+        ]),
+    },
+    Runs {
+        words: &["convert --form marked --sectors 18"],
+        over: ONE_LAYER,
+        cases: &[(
+            &[Step::Marked(&[MARKS])],
+            NO_FAULT,
+            (Status::Done, 32 + 2 * 37_874, "done\n"),
+        )],
+        writes: Written::Front(&[
+            Step::Image(18),
+            Step::Run("master --sectors 18", 2 * BLOCK),
+            Step::Read(&[(0, (2443, 31), ONE, Hit::Wrong(0x55))]),
+            Step::Listed((0, 0, [18, 0, 0, 16]), RUNS),
+        ]),
+    },
+    Runs {
+        words: &["convert --form marked --sectors 16 --sectors1 17 --shape parallel --tail 0"],
+        over: PARALLEL,
+        cases: &[(
+            &[Step::Marked(&[MARKS])],
+            NO_FAULT,
+            (Status::Done, 32 + 3 * 37_874, "done\n"),
+        )],
+        writes: Written::Front(&[
+            Step::Image(33),
+            Step::Run(
+                "master --sectors 16 --sectors1 17 --shape parallel --tail 0",
+                3 * BLOCK,
+            ),
+            Step::Read(&[(0, (3664, 31), ONE, Hit::Wrong(0x55))]),
+            Step::Listed((1, 0, [16, 17, 0, 0]), RUNS),
+        ]),
+    },
+    Runs {
+        words: &[
+            "convert --form marked --sectors 32 --sectors1 17 --shape opposite --initial 12031",
+        ],
+        over: OPPOSITE,
+        cases: &[(
+            &[Step::Marked(&[MARKS])],
+            NO_FAULT,
+            (Status::Done, 32 + 4 * 37_874, "done\n"),
+        )],
+        writes: Written::Front(&[
+            Step::Image(49),
+            Step::Run(
+                "master --sectors 32 --sectors1 17 --shape opposite --initial 12031",
+                4 * BLOCK,
+            ),
+            Step::Read(&[(0, (4885, 31), ONE, Hit::Wrong(0x55))]),
+            Step::Listed((2, 0, [32, 17, 12_031, 16]), RUNS),
+        ]),
+    },
+    // Streams that aren't whole. The header stands before anything is read.
+    Runs {
+        words: &["convert --sectors 17"],
+        over: TWO_BLOCKS,
+        cases: &[
+            (
+                &[Step::Bytes(1, 0)],
+                NO_FAULT,
+                (Status::Long, 75_748, "long\n"),
+            ),
+            (
+                &[Step::Cut(1)],
+                NO_FAULT,
+                (Status::Short, 37_890, "short: block 1, 37855 bytes\n"),
+            ),
+            (
+                &[Step::Front(0)],
+                NO_FAULT,
+                (Status::Short, 32, "short: block 0, 0 bytes\n"),
+            ),
+            (
+                &[Step::Cut(1)],
+                &[((40_000, 0, 0), SOUND, SOUND)],
+                (Status::ReadFault, 32, "read fault\n"),
+            ),
+            (
+                &[Step::Cut(1)],
+                &[(SOUND, (40_000, 0, 160_000), SOUND)],
+                (Status::WriteFault, 0, "write fault\n"),
+            ),
+        ],
+        writes: Written::Front(&[
+            Step::Image(17),
+            Step::Run("master --sectors 17", 2 * BLOCK),
+            Step::Listed(SEVENTEEN, &[]),
+        ]),
+    },
 ];
 
 #[test]
-fn a_stream_that_is_not_whole_is_converted_so_far(rt: HostRuntime) -> Result<(), Fail> {
-    let stream = recording(&rt, "master --sectors 17", 17, 2)?;
-    let whole = capture(&rt, "master --sectors 17", 17, &[])?;
-    for (cut, more, case) in &NOT_WHOLE {
-        let bytes = ended(rt.alloc(), &stream, *cut, more)?;
-        leave_fronts(&rt, "convert --sectors 17", &bytes, &whole, &[*case])?;
-    }
-    Ok(())
+fn captures_are_converted(rt: HostRuntime) -> Result<(), Fail> {
+    hold(&rt, &CONVERTED)
+}
+
+static READ: [Alike; 3] = [
+    Alike {
+        overs: &[ONE_LAYER],
+        pairs: &[(
+            (
+                "recover --form marked --sectors 18",
+                &[Step::Marked(&[MARKS])],
+            ),
+            (
+                "recover --form listed",
+                &[Step::Listed((0, 0, [18, 0, 0, 16]), RUNS)],
+            ),
+        )],
+    },
+    Alike {
+        overs: &[PARALLEL],
+        pairs: &[(
+            (
+                "recover --form marked --sectors 16 --sectors1 17 --shape parallel --tail 0",
+                &[Step::Marked(&[MARKS])],
+            ),
+            (
+                "recover --form listed",
+                &[Step::Listed((1, 0, [16, 17, 0, 0]), RUNS)],
+            ),
+        )],
+    },
+    Alike {
+        overs: &[OPPOSITE],
+        pairs: &[(
+            (
+                "recover --form marked --sectors 32 --sectors1 17 --shape opposite --initial 12031",
+                &[Step::Marked(&[MARKS])],
+            ),
+            (
+                "recover --form listed",
+                &[Step::Listed((2, 0, [32, 17, 12_031, 16]), RUNS)],
+            ),
+        )],
+    },
+];
+
+#[test]
+fn what_is_converted_is_read_the_same(rt: HostRuntime) -> Result<(), Fail> {
+    are_alike(&rt, &READ)
 }

@@ -1,50 +1,43 @@
 //! The line of `exercise`, whose numbers another program computed from the standard; it reads nothing.
-use crate::fixture::{Input, Ports, Run, SOUND, end_so};
+use crate::cases::{Runs, Written, hold};
+use crate::fixture::{Ports, SOUND};
 use dvd_top::Status;
 use std::test::Fail;
 
 // A source that fails at once.
-const NO_SOURCE: Ports = ((1, 0, 0), SOUND, SOUND);
+const NO_SOURCE: &[Ports] = &[((1, 0, 0), SOUND, SOUND)];
 
-const NOTHING: Input = (0, "", 0, 0, 0, 0);
-
-static RUNS: [Run; 4] = [
-    Run {
-        words: "exercise --seed 1 --blocks 3",
-        input: NOTHING,
-        end: (Status::Done, 54, "done\n"),
-        writes: &[(
+static RUNS: [Runs; 3] = [
+    Runs {
+        words: &[
+            "exercise --seed 1 --blocks 3",
+            "exercise --seed 1 --blocks 3 --workers 8",
+        ],
+        over: &[],
+        cases: &[(&[], NO_SOURCE, (Status::Done, 54, "done\n"))],
+        writes: Written::Holds(&[(
             0,
             b"exercise seed 1 blocks 3 whole 3 fixed 5242 failed 21\n",
-        )],
+        )]),
     },
-    Run {
-        words: "exercise --seed 1 --blocks 3 --workers 8",
-        input: NOTHING,
-        end: (Status::Done, 54, "done\n"),
-        writes: &[(
-            0,
-            b"exercise seed 1 blocks 3 whole 3 fixed 5242 failed 21\n",
-        )],
+    Runs {
+        words: &["exercise --seed 0 --blocks 1"],
+        over: &[],
+        cases: &[(&[], NO_SOURCE, (Status::Done, 53, "done\n"))],
+        writes: Written::Holds(&[(0, b"exercise seed 0 blocks 1 whole 1 fixed 1397 failed 5\n")]),
     },
-    Run {
-        words: "exercise --seed 0 --blocks 1",
-        input: NOTHING,
-        end: (Status::Done, 53, "done\n"),
-        writes: &[(0, b"exercise seed 0 blocks 1 whole 1 fixed 1397 failed 5\n")],
-    },
-    Run {
-        words: "exercise --blocks 1 --seed 4294967295",
-        input: NOTHING,
-        end: (Status::Done, 63, "done\n"),
-        writes: &[(
+    Runs {
+        words: &["exercise --blocks 1 --seed 4294967295"],
+        over: &[],
+        cases: &[(&[], NO_SOURCE, (Status::Done, 63, "done\n"))],
+        writes: Written::Holds(&[(
             0,
             b"exercise seed 4294967295 blocks 1 whole 1 fixed 2677 failed 12\n",
-        )],
+        )]),
     },
 ];
 
 #[test]
 fn drawn_blocks_are_read_back(rt: HostRuntime) -> Result<(), Fail> {
-    end_so(&rt, &RUNS, NO_SOURCE)
+    hold(&rt, &RUNS)
 }

@@ -1,6 +1,7 @@
 //! Every command over a small input: in pieces of every kind, and with each call of its source, its output and its report
 //! failing in turn. A command has one line here. Each digest was computed by another program.
-use crate::fixture::{BLOCK, End, Input, NEVER, Port, Ports, bytes_of, ran, run_to};
+use crate::fixture::{BLOCK, End, NEVER, Port, Ports, ran, run_to};
+use crate::making::{Step, made};
 use dvd_top::Status;
 use sha2::{Digest, Sha256};
 use std::test::Fail;
@@ -12,7 +13,8 @@ type Calls = (usize, u64, u64);
 // A command, its input, the calls of its ports, and what it leaves.
 struct Command {
     words: &'static str,
-    input: Input,
+    // How its input is made.
+    over: &'static [Step],
     source: Calls,
     output: Calls,
     report: Calls,
@@ -26,7 +28,7 @@ struct Command {
 static COMMANDS: [Command; 13] = [
     Command {
         words: "frames --first 030000 --sectors 2",
-        input: (2, "", 0, 0, 4096, 0),
+        over: &[Step::Image(2)],
         source: (700, 1, 7),
         output: (1000, 1, 6),
         report: (2, 1, 3),
@@ -40,7 +42,7 @@ static COMMANDS: [Command; 13] = [
     },
     Command {
         words: "master --sectors 17",
-        input: (17, "", 0, 0, 34_816, 0),
+        over: &[Step::Image(17)],
         source: (5000, 1, 9),
         output: (5000, 1, 16),
         report: (7, 1, 1),
@@ -54,7 +56,7 @@ static COMMANDS: [Command; 13] = [
     },
     Command {
         words: "recover --sectors 17",
-        input: (17, "master --sectors 17", 2, 0, 2 * BLOCK, 0),
+        over: &[Step::Image(17), Step::Run("master --sectors 17", 2 * BLOCK)],
         source: (5000, 1, 17),
         output: (5000, 1, 8),
         report: (7, 1, 1),
@@ -69,7 +71,11 @@ static COMMANDS: [Command; 13] = [
     // Two blocks, the second before the first: zeros.
     Command {
         words: "recover --sectors 32",
-        input: (32, "master --sectors 32", 2, BLOCK, 2 * BLOCK, 0),
+        over: &[
+            Step::Image(32),
+            Step::Run("master --sectors 32", 2 * BLOCK),
+            Step::From(BLOCK),
+        ],
         source: (5000, 1, 17),
         output: (5000, 1, 14),
         report: (7, 1, 23),
@@ -88,7 +94,11 @@ static COMMANDS: [Command; 13] = [
     // The first control block stands behind 32 others, and nothing behind it is read: 33 blocks of eight calls.
     Command {
         words: "info",
-        input: (16, "master --sectors 16 --zones all", 273, 0, 34 * BLOCK, 0),
+        over: &[
+            Step::Image(16),
+            Step::Run("master --sectors 16 --zones all", 273 * BLOCK),
+            Step::Front(34 * BLOCK),
+        ],
         source: (5000, 11, 24),
         output: (50, 1, 3),
         report: (2, 1, 3),
@@ -102,7 +112,7 @@ static COMMANDS: [Command; 13] = [
     },
     Command {
         words: "survey --sectors 16",
-        input: (16, "master --sectors 16", 1, 0, BLOCK, 0),
+        over: &[Step::Image(16), Step::Run("master --sectors 16", BLOCK)],
         source: (5000, 1, 9),
         output: (50, 1, 4),
         report: (2, 1, 3),
@@ -117,7 +127,7 @@ static COMMANDS: [Command; 13] = [
     // It reads nothing.
     Command {
         words: "exercise --seed 0 --blocks 1",
-        input: (0, "", 0, 0, 0, 0),
+        over: &[],
         source: (5000, 1, 0),
         output: (9, 1, 6),
         report: (2, 1, 3),
@@ -131,7 +141,7 @@ static COMMANDS: [Command; 13] = [
     },
     Command {
         words: "cdmake --address 150 --sectors 2",
-        input: (2, "", 0, 0, 4096, 0),
+        over: &[Step::Image(2)],
         source: (700, 1, 7),
         output: (1000, 1, 6),
         report: (2, 1, 3),
@@ -146,7 +156,7 @@ static COMMANDS: [Command; 13] = [
     // Two sectors of zeros, which are of no mode.
     Command {
         words: "cdread --address 150 --sectors 2",
-        input: (0, "", 0, 0, 4704, 0),
+        over: &[Step::Bytes(4704, 0)],
         source: (2000, 1, 5),
         output: (1000, 1, 6),
         report: (7, 1, 9),
@@ -165,7 +175,7 @@ static COMMANDS: [Command; 13] = [
     // Two blocks that differ nearly everywhere, taken for two captures of one.
     Command {
         words: "merge --sectors 16 --captures 2",
-        input: (17, "master --sectors 17", 2, 0, 2 * BLOCK, 0),
+        over: &[Step::Image(17), Step::Run("master --sectors 17", 2 * BLOCK)],
         source: (5000, 1, 17),
         output: (5000, 1, 9),
         report: (7, 1, 1),
@@ -179,7 +189,7 @@ static COMMANDS: [Command; 13] = [
     },
     Command {
         words: "deep --sectors 17",
-        input: (17, "master --sectors 17", 2, 0, 2 * BLOCK, 0),
+        over: &[Step::Image(17), Step::Run("master --sectors 17", 2 * BLOCK)],
         source: (5000, 1, 17),
         output: (5000, 1, 8),
         report: (7, 1, 1),
@@ -194,7 +204,11 @@ static COMMANDS: [Command; 13] = [
     // The frames of two blocks from the ninth on, those before it behind them; the disk has the first block alone.
     Command {
         words: "assemble --sectors 16 --frames 32",
-        input: (17, "master --sectors 17", 2, BLOCK / 2, 2 * BLOCK, 0),
+        over: &[
+            Step::Image(17),
+            Step::Run("master --sectors 17", 2 * BLOCK),
+            Step::From(BLOCK / 2),
+        ],
         source: (5000, 1, 33),
         output: (5000, 1, 9),
         report: (7, 1, 4),
@@ -209,7 +223,7 @@ static COMMANDS: [Command; 13] = [
     // The header, and of each block its rows and the number of its runs, none.
     Command {
         words: "convert --sectors 17",
-        input: (17, "master --sectors 17", 2, 0, 2 * BLOCK, 0),
+        over: &[Step::Image(17), Step::Run("master --sectors 17", 2 * BLOCK)],
         source: (5000, 1, 17),
         output: (5000, 1, 19),
         report: (7, 1, 1),
@@ -247,7 +261,7 @@ static STEPS: [usize; 4] = [1, 7, 2047, 40_000];
 
 // They play no part in what a command leaves.
 fn play_no_part<R: AllocGlobal + Threads + Sync>(rt: &R, command: &Command) -> Result<(), Fail> {
-    let input = bytes_of(rt, &command.input)?;
+    let input = made(rt, command.over)?;
     for step in &STEPS {
         let port = port(*step, NEVER);
         whole(rt, command, &input, (port, port, port))?;
@@ -362,7 +376,7 @@ fn fail_in_turn<R: AllocGlobal + Threads + Sync>(
 // So it is for each of the ports.
 fn each_port_fails<R: AllocGlobal + Threads + Sync>(rt: &R, command: &Command) -> Result<(), Fail> {
     let port = port(40_000, NEVER);
-    let input = bytes_of(rt, &command.input)?;
+    let input = made(rt, command.over)?;
     let output = whole(rt, command, &input, (port, port, port))?;
     for side in &[Side::Source, Side::Output, Side::Report] {
         fail_in_turn(rt, command, &input, &output, side)?;

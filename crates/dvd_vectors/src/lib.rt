@@ -4,6 +4,8 @@
 #[cfg(test)]
 mod assemble; // scattered recording frames put in order
 #[cfg(test)]
+mod cases; // runs that have to end so
+#[cfg(test)]
 mod convert; // captures converted to the form that states its layout
 #[cfg(test)]
 mod damage; // blocks within the bound and beyond it
@@ -30,13 +32,15 @@ mod listed; // captures that state their layout
 #[cfg(test)]
 mod loops; // the loops of two commands by themselves
 #[cfg(test)]
+mod making; // how the bytes of a run are made
+#[cfg(test)]
 mod master; // recordings
 #[cfg(test)]
 mod merge; // captures of one disk joined
 #[cfg(test)]
 mod options; // what the options of `master` change
 #[cfg(test)]
-mod passes; // both passes with several workers
+mod reading; // what is read otherwise of a stream
 #[cfg(test)]
 mod recover; // streams that aren't those that are asked for
 #[cfg(test)]

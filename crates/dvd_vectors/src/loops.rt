@@ -1,7 +1,8 @@
 //! The loops of `master` and `recover` called by themselves, over a disk of one layer with all of its zones.
 ghost use Rattle.std.specs.Prelude.{◌≤◌};
 
-use crate::fixture::{BLOCK, NEVER, image, recorded, sink};
+use crate::fixture::{BLOCK, NEVER, sink};
+use crate::making::{Step, made};
 use dvd_block::{Block, Piece};
 use dvd_capture::{Form, Work};
 use dvd_layout::{Shape, Zones};
@@ -11,12 +12,17 @@ use dvd_top::{Command, LoopEnd, Settings, master_loop, recover_loop};
 use std::test::Fail;
 use std::thread::Threads;
 
-// The words that master it, and the blocks that these record.
-const MASTER: &str = "master --sectors 17 --zones all";
-
 const BLOCKS: usize = 274;
 
-// The settings of these words.
+// The image, and the stream of its disk.
+static IMAGE: [Step; 1] = [Step::Image(17)];
+
+static STREAM: [Step; 2] = [
+    Step::Image(17),
+    Step::Run("master --sectors 17 --zones all", BLOCKS * BLOCK),
+];
+
+// Its settings.
 fn settings(command: Command) -> Settings
     ensures { (1 ≤ result.workers) × (result.workers ≤ 16) }
 {
@@ -59,10 +65,10 @@ fn master<R: AllocGlobal + Threads + Sync>(
 
 #[test]
 fn the_loop_of_master_records_as_the_command_does(rt: HostRuntime) -> Result<(), Fail> {
-    let image = image(rt.alloc(), 17)?;
+    let image = made(&rt, &IMAGE)?;
     let mut out = sink(rt.alloc(), (BLOCK, NEVER, BLOCKS * BLOCK))?;
     assert_eq!(rt; master(&rt, &image, &mut out)?, LoopEnd::Done);
-    let stream = recorded(&rt, MASTER, &image, BLOCKS)?;
+    let stream = made(&rt, &STREAM)?;
     assert!(rt; stream.as_slice() == out.held());
     Ok(())
 }
@@ -85,8 +91,8 @@ fn recover<R: AllocGlobal + Threads + Sync>(
 
 #[test]
 fn the_loop_of_recover_gives_the_image_back(rt: HostRuntime) -> Result<(), Fail> {
-    let image = image(rt.alloc(), 17)?;
-    let stream = recorded(&rt, MASTER, &image, BLOCKS)?;
+    let image = made(&rt, &IMAGE)?;
+    let stream = made(&rt, &STREAM)?;
     let mut out = sink(rt.alloc(), (2048, NEVER, 34_816))?;
     let mut report = sink(rt.alloc(), (64, NEVER, 64))?;
     assert_eq!(rt;

@@ -1,221 +1,207 @@
 //! Captures of one disk joined: what one has lost another gives, and where two differ neither is believed.
-ghost use Rattle.std.specs.Prelude.{◌<◌};
-
-use crate::fixture::{
-    Capture, End, MARKED, NEVER, Ports, SOUND, captured, image, leave_fronts, ran, recorded,
-    run_to, unknown, writes, zeros,
-};
+use crate::cases::{Runs, Written, hold};
+use crate::fixture::{BLOCK, MARKED, NO_FAULT};
+use crate::making::Step;
+use crate::reading::{Hit, Hits, ONE};
 use dvd_top::Status;
-use std::alloc::{AllocError, Global};
 use std::test::Fail;
-use std::thread::Threads;
 
-// Source, output and report, with room for sixteen blocks.
-const PORTS: Ports = (SOUND, (40_000, NEVER, 16 * MARKED), SOUND);
+const JOIN: &[&str] = &["merge --sectors 16 --captures 2 --form marked"];
 
-fn set(bytes: &mut [u8], at: usize, byte: u8) {
-    if at < bytes.len() {
-        bytes[at] = byte;
-    }
-}
+// Two captures of a block of zeros.
+const ZEROS: &[Step] = &[Step::Bytes(2 * MARKED, 0)];
 
-// A block of zeros, but for one byte: where it stands, and what it is.
-type Block = (usize, u8);
-
-const VALUE: Block = (0, 1);
-
-const LOST: Block = (182, 0x80);
-
-const ZERO: Block = (0, 0);
-
-// Two captures and their join. Of two different bytes neither is believed.
-static JOINS: [(Block, Block, Block); 5] = [
-    (VALUE, LOST, VALUE),
-    (LOST, VALUE, VALUE),
-    (VALUE, ZERO, LOST),
-    (ZERO, VALUE, LOST),
-    (LOST, ZERO, ZERO),
+// The first or the second capture has another byte at place 0, or has lost that.
+static JOINS: [Runs; 3] = [
+    Runs {
+        words: JOIN,
+        over: ZEROS,
+        cases: &[
+            (
+                &[Step::Read(&[
+                    (0, ONE, ONE, Hit::Is(1)),
+                    (MARKED + 182, ONE, ONE, Hit::Is(0x80)),
+                ])],
+                NO_FAULT,
+                (Status::Done, MARKED, "done\n"),
+            ),
+            (
+                &[Step::Read(&[
+                    (182, ONE, ONE, Hit::Is(0x80)),
+                    (MARKED, ONE, ONE, Hit::Is(1)),
+                ])],
+                NO_FAULT,
+                (Status::Done, MARKED, "done\n"),
+            ),
+        ],
+        writes: Written::Front(&[
+            Step::Bytes(MARKED, 0),
+            Step::Read(&[(0, ONE, ONE, Hit::Is(1))]),
+        ]),
+    },
+    // Of two different bytes neither is believed.
+    Runs {
+        words: JOIN,
+        over: ZEROS,
+        cases: &[
+            (
+                &[Step::Read(&[(0, ONE, ONE, Hit::Is(1))])],
+                NO_FAULT,
+                (Status::Done, MARKED, "done\n"),
+            ),
+            (
+                &[Step::Read(&[(MARKED, ONE, ONE, Hit::Is(1))])],
+                NO_FAULT,
+                (Status::Done, MARKED, "done\n"),
+            ),
+        ],
+        writes: Written::Front(&[
+            Step::Bytes(MARKED, 0),
+            Step::Read(&[(182, ONE, ONE, Hit::Is(0x80))]),
+        ]),
+    },
+    Runs {
+        words: JOIN,
+        over: ZEROS,
+        cases: &[(
+            &[Step::Read(&[(182, ONE, ONE, Hit::Is(0x80))])],
+            NO_FAULT,
+            (Status::Done, MARKED, "done\n"),
+        )],
+        writes: Written::Front(&[Step::Bytes(MARKED, 0)]),
+    },
 ];
-
-fn block_with(alloc: Global, block: Block) -> Result<Vec<u8>, AllocError> {
-    let mut bytes = zeros(alloc, MARKED)?;
-    set(&mut bytes, block.0, block.1);
-    Ok(bytes)
-}
-
-// Two captures are joined so.
-fn joins<R: AllocGlobal + Threads + Sync>(
-    rt: &R,
-    join: &(Block, Block, Block),
-) -> Result<(), Fail> {
-    let mut both = block_with(rt.alloc(), join.0)?;
-    both.extend_from_slice(&block_with(rt.alloc(), join.1)?)?;
-    let wanted = block_with(rt.alloc(), join.2)?;
-    let text = "merge --sectors 16 --captures 2 --form marked";
-    writes(rt, text, &both, PORTS, &wanted)
-}
 
 #[test]
 fn a_lost_byte_comes_from_the_other_capture(rt: HostRuntime) -> Result<(), Fail> {
-    for join in &JOINS {
-        joins(&rt, join)?;
-    }
-    Ok(())
+    hold(&rt, &JOINS)
 }
 
-// Recorded row 13c of the block there has the byte c + 1 at place 11c, and no mark there.
-fn give(bytes: &mut [u8], block: usize, c: usize)
-    requires block { block < 16 }
-    requires capture { c < 16 }
-{
-    let row = MARKED * block + 13 * 205 * c;
-    set(bytes, row + 11 * c, c as u8 + 1);
-    set(bytes, row + 182 + 11 * c / 8, 0xFF ^ 0x80 >> (11 * c % 8));
-}
-
-// Sixteen captures of a block, of which each gives one byte.
-fn sixteen(alloc: Global) -> Result<Vec<u8>, AllocError> {
-    let mut captures = unknown(alloc, 16 * 208, 0xFF)?;
-    for c in 0..16 {
-        give(&mut captures, c, c);
-    }
-    Ok(captures)
-}
+// Nothing is known of sixteen captures of a block but one byte of each: of capture c at place 11c of recorded row 13c. The two spare
+// bits of the marks are set too.
+const SIXTEEN: &[Step] = &[
+    Step::Bytes(16 * BLOCK, 0),
+    Step::Marked(&[&[
+        (0, ONE, (16 * BLOCK, 1), Hit::Lost),
+        (0, (16, BLOCK + 13 * 182 + 11), ONE, Hit::Is(7)),
+    ]]),
+    Step::Read(&[(204, (16 * 208, 205), ONE, Hit::Wrong(0b11))]),
+];
 
 // Their join.
-fn join_of_sixteen(alloc: Global) -> Result<Vec<u8>, AllocError> {
-    let mut block = unknown(alloc, 208, 0xFC)?;
-    for c in 0..16 {
-        give(&mut block, 0, c);
-    }
-    Ok(block)
-}
+const JOINED: &[Step] = &[
+    Step::Bytes(BLOCK, 0),
+    Step::Marked(&[&[
+        (0, ONE, (BLOCK, 1), Hit::Lost),
+        (0, (16, 13 * 182 + 11), ONE, Hit::Is(7)),
+    ]]),
+];
 
-// Words, how much there is of the captures, and the end. The same captures are not enough for two blocks, and a part of a
-// unit counts with all captures before it.
-static SIXTEEN: [(&str, usize, End); 3] = [
-    (
-        "merge --sectors 16 --captures 16 --form marked",
-        16 * MARKED,
-        (Status::Done, MARKED, "done\n"),
-    ),
-    (
-        "merge --sectors 17 --captures 16 --form marked",
-        16 * MARKED,
-        (Status::Short, MARKED, "short: block 1, 0 bytes\n"),
-    ),
-    (
-        "merge --sectors 16 --captures 16 --form marked",
-        16 * MARKED - 1,
-        (Status::Short, 0, "short: block 0, 682239 bytes\n"),
-    ),
+static GIVEN: [Runs; 2] = [
+    Runs {
+        words: &["merge --sectors 16 --captures 16 --form marked"],
+        over: SIXTEEN,
+        cases: &[
+            (&[], NO_FAULT, (Status::Done, MARKED, "done\n")),
+            // A part of a unit counts with all captures before it.
+            (
+                &[Step::Cut(1)],
+                NO_FAULT,
+                (Status::Short, 0, "short: block 0, 682239 bytes\n"),
+            ),
+        ],
+        writes: Written::Front(JOINED),
+    },
+    // The same captures are not enough for two blocks.
+    Runs {
+        words: &["merge --sectors 17 --captures 16 --form marked"],
+        over: SIXTEEN,
+        cases: &[(
+            &[],
+            NO_FAULT,
+            (Status::Short, MARKED, "short: block 1, 0 bytes\n"),
+        )],
+        writes: Written::Front(JOINED),
+    },
 ];
 
 #[test]
 fn sixteen_captures_give_a_byte_each(rt: HostRuntime) -> Result<(), Fail> {
-    let mut captures = sixteen(rt.alloc())?;
-    let joined = join_of_sixteen(rt.alloc())?;
-    for (text, length, end) in &SIXTEEN {
-        captures.truncate(*length);
-        leave_fronts(&rt, text, &captures, &joined, &[(PORTS, *end)])?;
-    }
-    Ok(())
+    hold(&rt, &GIVEN)
 }
 
-// What is drawn for each row of a capture, by a 64-bit xorshift generator: about a sixth of the rows are lost, and each
-// other row has one wrong byte without a mark.
-#[derive(Drop)]
-struct Draws(Vec<u64>);
+// A recording of sixteen blocks.
+const RECORDED: &[Step] = &[
+    Step::Image(256),
+    Step::Run("master --sectors 256", 16 * BLOCK),
+];
 
-fn drawn(alloc: Global, seed: u64) -> Result<Draws, AllocError> {
-    let mut draws = Vec::new(alloc);
-    let mut state = seed;
-    for _ in 0..3328 {
-        state ^= state << 13;
-        state ^= state >> 7;
-        state ^= state << 17;
-        draws.push(state)?;
-    }
-    Ok(Draws(draws))
-}
+// Of each block one capture has lost recorded rows 0 to 34, and the other rows 100 to 134. Both have wrong bytes without a mark.
+const FIRST: &[Hits] = &[
+    (3, (16, BLOCK), (208, 181), Hit::Wrong(0x55)),
+    (0, (16, BLOCK), (35 * 182, 1), Hit::Lost),
+];
 
-impl Draws {
-    fn of(&self, record: usize) -> u64 {
-        self.0.get(record).copied().unwrap_or(0)
-    }
+const SECOND: &[Hits] = &[
+    (5, (16, BLOCK), (206, 183), Hit::Wrong(0x55)),
+    (100 * 182, (16, BLOCK), (35 * 182, 1), Hit::Lost),
+];
 
-    fn loses(&self, record: usize) -> bool {
-        self.of(record) >> 56 < 43
-    }
-}
+// The same, where the blocks of both come in turn.
+const IN_TURN: &[Hits] = &[
+    (3, (16, 2 * BLOCK), (208, 181), Hit::Wrong(0x55)),
+    (0, (16, 2 * BLOCK), (35 * 182, 1), Hit::Lost),
+    (BLOCK + 5, (16, 2 * BLOCK), (206, 183), Hit::Wrong(0x55)),
+    (BLOCK + 100 * 182, (16, 2 * BLOCK), (35 * 182, 1), Hit::Lost),
+];
 
-impl Capture for Draws {
-    fn byte(&self, k: usize, byte: u8) -> u8 {
-        let record = k / 182;
-        if self.loses(record) {
-            0
-        } else if (k % 182) as u64 == self.of(record) >> 40 & 0x7F {
-            byte ^ 0x55
-        } else {
-            byte
-        }
-    }
-
-    fn marks(&self, record: usize) -> [u8; 23] {
-        if self.loses(record) {
-            [0xFF; 23]
-        } else {
-            [0; 23]
-        }
-    }
-}
-
-// The blocks of two captures in turn.
-fn interleaved(alloc: Global, first: &[u8], second: &[u8]) -> Result<Vec<u8>, AllocError> {
-    let mut both = Vec::new(alloc);
-    for (a, b) in first.chunks_exact(MARKED).zip(second.chunks_exact(MARKED)) {
-        both.extend_from_slice(a)?;
-        both.extend_from_slice(b)?;
-    }
-    Ok(both)
-}
-
-const RECOVER: &str = "recover --sectors 256 --form marked";
-
-// A capture each of whose sixteen blocks is refused.
-fn refused<R: AllocGlobal + Threads + Sync>(
-    rt: &R,
-    stream: &[u8],
-    seed: u64,
-) -> Result<Vec<u8>, Fail> {
-    let draws = drawn(rt.alloc(), seed)?;
-    let capture = captured(rt.alloc(), stream, &draws)?;
-    let (status, _, told) = ran(rt, RECOVER, &capture, PORTS)?;
-    if status != Status::Damaged || !told.held().ends_with(b"damaged: 16 blocks\n") {
-        Err((seed, status))?;
-    }
-    Ok(capture)
-}
-
-// The join of two captures of a recording, each of which is refused.
-fn joined<R: AllocGlobal + Threads + Sync>(rt: &R, stream: &[u8]) -> Result<Vec<u8>, Fail> {
-    let first = refused(rt, stream, 1)?;
-    let second = refused(rt, stream, 2)?;
-    let both = interleaved(rt.alloc(), &first, &second)?;
-    let text = "merge --sectors 256 --captures 2 --form marked";
-    run_to(
-        rt,
-        text,
-        &both,
-        PORTS,
-        (Status::Done, 16 * MARKED, "done\n"),
-    )
-}
+static RECOVERED: [Runs; 2] = [
+    // Each of them is refused.
+    Runs {
+        words: &["recover --sectors 256 --form marked"],
+        over: RECORDED,
+        cases: &[
+            (
+                &[Step::Marked(&[FIRST])],
+                NO_FAULT,
+                (
+                    Status::Damaged,
+                    524_288,
+                    "block 0 sector 030000 layer 0: rows 35 saved 13\nblock 1 sector 030010 layer 0: rows 35 saved 13\nblock 2 sector 030020 layer 0: rows 35 saved 13\nblock 3 sector 030030 layer 0: rows 35 saved 13\nblock 4 sector 030040 layer 0: rows 35 saved 13\nblock 5 sector 030050 layer 0: rows 35 saved 13\nblock 6 sector 030060 layer 0: rows 35 saved 13\nblock 7 sector 030070 layer 0: rows 35 saved 13\nblock 8 sector 030080 layer 0: rows 35 saved 13\nblock 9 sector 030090 layer 0: rows 35 saved 13\nblock 10 sector 0300A0 layer 0: rows 35 saved 13\nblock 11 sector 0300B0 layer 0: rows 35 saved 13\nblock 12 sector 0300C0 layer 0: rows 35 saved 13\nblock 13 sector 0300D0 layer 0: rows 35 saved 13\nblock 14 sector 0300E0 layer 0: rows 35 saved 13\nblock 15 sector 0300F0 layer 0: rows 35 saved 13\ndamaged: 16 blocks\n",
+                ),
+            ),
+            (
+                &[Step::Marked(&[SECOND])],
+                NO_FAULT,
+                (
+                    Status::Damaged,
+                    524_288,
+                    "block 0 sector 030000 layer 0: rows 35 saved 12\nblock 1 sector 030010 layer 0: rows 35 saved 12\nblock 2 sector 030020 layer 0: rows 35 saved 12\nblock 3 sector 030030 layer 0: rows 35 saved 12\nblock 4 sector 030040 layer 0: rows 35 saved 12\nblock 5 sector 030050 layer 0: rows 35 saved 12\nblock 6 sector 030060 layer 0: rows 35 saved 12\nblock 7 sector 030070 layer 0: rows 35 saved 12\nblock 8 sector 030080 layer 0: rows 35 saved 12\nblock 9 sector 030090 layer 0: rows 35 saved 12\nblock 10 sector 0300A0 layer 0: rows 35 saved 12\nblock 11 sector 0300B0 layer 0: rows 35 saved 12\nblock 12 sector 0300C0 layer 0: rows 35 saved 12\nblock 13 sector 0300D0 layer 0: rows 35 saved 12\nblock 14 sector 0300E0 layer 0: rows 35 saved 12\nblock 15 sector 0300F0 layer 0: rows 35 saved 12\ndamaged: 16 blocks\n",
+                ),
+            ),
+        ],
+        writes: Written::Holds(&[]),
+    },
+    Runs {
+        words: &["recover --sectors 256 --form marked"],
+        over: RECORDED,
+        cases: &[(
+            &[
+                Step::Twice(BLOCK),
+                Step::Marked(&[IN_TURN]),
+                Step::Run(
+                    "merge --sectors 256 --captures 2 --form marked",
+                    16 * MARKED,
+                ),
+            ],
+            NO_FAULT,
+            (Status::Done, 524_288, "done\n"),
+        )],
+        writes: Written::Front(&[Step::Image(256)]),
+    },
+];
 
 #[test]
 fn two_captures_beyond_the_bound_come_back_together(rt: HostRuntime) -> Result<(), Fail> {
-    let image = image(rt.alloc(), 256)?;
-    let stream = recorded(&rt, "master --sectors 256", &image, 16)?;
-    let joined = joined(&rt, &stream)?;
-    writes(&rt, RECOVER, &joined, PORTS, &image)
+    hold(&rt, &RECOVERED)
 }

@@ -1,9 +1,11 @@
 //! Words that ask for nothing.
-use crate::fixture::{Case, NEVER, SOUND, leave_fronts, zeros};
+use crate::cases::{Case, Runs, Written, hold};
+use crate::fixture::{ALL_SOUND, NEVER, SOUND};
+use crate::making::Step;
 use dvd_top::Status;
 use std::test::Fail;
 
-static TEXTS: [&str; 24] = [
+const TEXTS: &[&str] = &[
     "",
     "Frames --first 030000 --sectors 1",
     "--help",
@@ -31,39 +33,67 @@ static TEXTS: [&str; 24] = [
 ];
 
 // Where the report has no room for the line, the status tells it.
-static USAGE: [Case; 11] = [
-    (((1, NEVER, 0), SOUND, SOUND), (Status::Usage, 0, "usage\n")),
-    (((7, NEVER, 0), SOUND, SOUND), (Status::Usage, 0, "usage\n")),
-    ((SOUND, SOUND, SOUND), (Status::Usage, 0, "usage\n")),
-    ((SOUND, SOUND, (9, NEVER, 0)), (Status::ReportFault, 0, "")),
-    ((SOUND, SOUND, (9, NEVER, 1)), (Status::ReportFault, 0, "u")),
+const USAGE: &[Case] = &[
     (
-        (SOUND, SOUND, (9, NEVER, 2)),
+        &[],
+        &[
+            ((1, NEVER, 0), SOUND, SOUND),
+            ((7, NEVER, 0), SOUND, SOUND),
+            ALL_SOUND,
+            (SOUND, SOUND, (9, NEVER, 6)),
+            (SOUND, SOUND, (9, NEVER, 7)),
+        ],
+        (Status::Usage, 0, "usage\n"),
+    ),
+    (
+        &[],
+        &[(SOUND, SOUND, (9, NEVER, 0))],
+        (Status::ReportFault, 0, ""),
+    ),
+    (
+        &[],
+        &[(SOUND, SOUND, (9, NEVER, 1))],
+        (Status::ReportFault, 0, "u"),
+    ),
+    (
+        &[],
+        &[(SOUND, SOUND, (9, NEVER, 2))],
         (Status::ReportFault, 0, "us"),
     ),
     (
-        (SOUND, SOUND, (9, NEVER, 3)),
+        &[],
+        &[(SOUND, SOUND, (9, NEVER, 3))],
         (Status::ReportFault, 0, "usa"),
     ),
     (
-        (SOUND, SOUND, (9, NEVER, 4)),
+        &[],
+        &[(SOUND, SOUND, (9, NEVER, 4))],
         (Status::ReportFault, 0, "usag"),
     ),
     (
-        (SOUND, SOUND, (9, NEVER, 5)),
+        &[],
+        &[(SOUND, SOUND, (9, NEVER, 5))],
         (Status::ReportFault, 0, "usage"),
     ),
-    ((SOUND, SOUND, (9, NEVER, 6)), (Status::Usage, 0, "usage\n")),
-    ((SOUND, SOUND, (9, NEVER, 7)), (Status::Usage, 0, "usage\n")),
 ];
 
 // Over sectors, and over nothing.
+static RUNS: [Runs; 2] = [
+    Runs {
+        words: TEXTS,
+        over: &[Step::Bytes(34_816, 0)],
+        cases: USAGE,
+        writes: Written::Holds(&[]),
+    },
+    Runs {
+        words: TEXTS,
+        over: &[],
+        cases: USAGE,
+        writes: Written::Holds(&[]),
+    },
+];
+
 #[test]
 fn words_that_ask_for_nothing_are_usage(rt: HostRuntime) -> Result<(), Fail> {
-    let bytes = zeros(rt.alloc(), 34_816)?;
-    for text in &TEXTS {
-        leave_fronts(&rt, text, &bytes, &[], &USAGE)?;
-        leave_fronts(&rt, text, &[], &[], &USAGE)?;
-    }
-    Ok(())
+    hold(&rt, &RUNS)
 }

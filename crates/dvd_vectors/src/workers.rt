@@ -1,8 +1,8 @@
 //! Several workers on one run: what comes out is that of one worker, and two workers work at the same time.
-use crate::fixture::{
-    ALL_SOUND, BLOCK, Input, NEVER, Ports, SOUND, bytes_of, image, joined, leaves, mastered, ran,
-    ran_through,
-};
+use crate::cases::{Runs, Written, hold};
+use crate::fixture::{ALL_SOUND, BLOCK, NO_FAULT, ran_through};
+use crate::making::{Step, made};
+use crate::reading::Hit;
 use dvd_par::Gate;
 use dvd_top::Status;
 use std::sync::atomic::{AtomicU64, Ordering};
@@ -96,118 +96,101 @@ fn is_met_once<R: AllocGlobal + Threads + Sync>(
     Ok(status == Status::Done && gate.is_met(passes))
 }
 
-// Words, their input, and the passes.
-static MEETINGS: [(&str, Input, u64); 4] = [
+// Words, how their input is made, and the passes.
+static MEETINGS: [(&str, &[Step], u64); 4] = [
     (
         "recover --sectors 16 --workers 2",
-        (16, "master --sectors 16", 1, 0, BLOCK, 0),
+        &[Step::Image(16), Step::Run("master --sectors 16", BLOCK)],
         2,
     ),
     (
         "survey --sectors 16 --workers 2",
-        (16, "master --sectors 16", 1, 0, BLOCK, 0),
+        &[Step::Image(16), Step::Run("master --sectors 16", BLOCK)],
         2,
     ),
     (
         "master --sectors 16 --workers 2",
-        (0, "", 0, 0, 32_768, 0),
+        &[Step::Bytes(32_768, 0)],
         2,
     ),
-    (
-        "exercise --seed 1 --blocks 1 --workers 2",
-        (0, "", 0, 0, 0, 0),
-        4,
-    ),
+    ("exercise --seed 1 --blocks 1 --workers 2", &[], 4),
 ];
 
 #[test]
 fn two_workers_work_at_the_same_time(rt: HostRuntime) -> Result<(), Fail> {
-    for (text, input, passes) in &MEETINGS {
-        meet(&rt, text, &bytes_of(&rt, input)?, *passes)?;
+    for (text, over, passes) in &MEETINGS {
+        meet(&rt, text, &made(&rt, over)?, *passes)?;
     }
     Ok(())
 }
 
-// Changes bytes of a stream of three blocks: up to five of each row of the first, whole rows of the second, and more rows
-// than can be fixed of the third.
-fn scratch(stream: &mut [u8]) {
-    for (k, byte) in stream.iter_mut().enumerate() {
-        let at = k % BLOCK;
-        let is_hit = match k / BLOCK {
-            0 => at % 41 == 0,
-            1 => at / 182 % 40 == 3 && at % 7 == 0,
-            _ => at < 3640 && at % 11 == 0,
-        };
-        if is_hit {
-            *byte ^= 0x5A;
-        }
-    }
-}
-
-// Source, output and report, with room for three blocks.
-const PORTS: Ports = (SOUND, (BLOCK, NEVER, 3 * BLOCK), SOUND);
-
-// Words, numbers of workers, and the status.
-type Run = (&'static str, &'static [&'static str], Status);
-
-static OVER_THE_STREAM: [Run; 2] = [
-    (
-        "recover --sectors 33",
-        &["--workers 1", "--workers 8"],
-        Status::Damaged,
-    ),
-    (
-        "survey --sectors 33",
-        &["--workers 1", "--workers 8"],
-        Status::Damaged,
-    ),
+// Three blocks: five bytes of each row of the first are wrong, more than can be fixed of six rows of the second, and of twenty rows of
+// the third.
+const SCRATCHED: &[Step] = &[
+    Step::Image(33),
+    Step::Run("master --sectors 33", 3 * BLOCK),
+    Step::Read(&[
+        (0, (208, 182), (5, 41), Hit::Wrong(0x5A)),
+        (BLOCK + 3 * 182, (6, 40 * 182), (26, 7), Hit::Wrong(0x5A)),
+        (2 * BLOCK, (20, 182), (17, 11), Hit::Wrong(0x5A)),
+    ]),
 ];
 
-static OVER_THE_IMAGE: [Run; 2] = [
-    (
-        "master --sectors 33",
-        &["--workers 1", "--workers 5", "--workers 16"],
-        Status::Done,
-    ),
-    (
-        "exercise --seed 1 --blocks 2",
-        &["--workers 1", "--workers 3", "--workers 16"],
-        Status::Done,
-    ),
+static RUNS: [Runs; 4] = [
+    Runs {
+        words: &[
+            "recover --sectors 33",
+            "recover --sectors 33 --workers 1",
+            "recover --sectors 33 --workers 8",
+        ],
+        over: SCRATCHED,
+        cases: &[(
+            &[],
+            NO_FAULT,
+            (
+                Status::Damaged,
+                67_584,
+                "block 2 sector 030020 layer 0: rows 20 saved 14\ndamaged: 1 blocks\n",
+            ),
+        )],
+        writes: Written::Front(&[Step::Image(32), Step::Bytes(2048, 0)]),
+    },
+    Runs {
+        words: &[
+            "survey --sectors 33",
+            "survey --sectors 33 --workers 1",
+            "survey --sectors 33 --workers 8",
+        ],
+        over: SCRATCHED,
+        cases: &[(&[], NO_FAULT, (Status::Damaged, 243, "damaged: 1 blocks\n"))],
+        writes: Written::Holds(&[(
+            0,
+            b"block 0 sector 030000 layer 0 pi 208 failed 0 sum8 208: whole\nblock 1 sector 030010 layer 0 pi 6 failed 6 sum8 214: whole\nblock 2 sector 030020 layer 0 pi 20 failed 20 sum8 234: rows 20\nblocks 3 pi 234 failed 26 damaged 1 peak 234 at 2 over 0\n",
+        )]),
+    },
+    Runs {
+        words: &[
+            "master --sectors 33 --workers 1",
+            "master --sectors 33 --workers 5",
+            "master --sectors 33 --workers 16",
+        ],
+        over: &[Step::Image(33)],
+        cases: &[(&[], NO_FAULT, (Status::Done, 3 * BLOCK, "done\n"))],
+        writes: Written::Front(&[Step::Image(33), Step::Run("master --sectors 33", 3 * BLOCK)]),
+    },
+    Runs {
+        words: &[
+            "exercise --seed 1 --blocks 2 --workers 1",
+            "exercise --seed 1 --blocks 2 --workers 3",
+            "exercise --seed 1 --blocks 2 --workers 16",
+        ],
+        over: &[],
+        cases: &[(&[], NO_FAULT, (Status::Done, 54, "done\n"))],
+        writes: Written::Front(&[Step::Run("exercise --seed 1 --blocks 2", 54)]),
+    },
 ];
-
-// A run over these bytes ends so, and is the same for each number of workers.
-fn is_same<R: AllocGlobal + Threads + Sync>(rt: &R, run: &Run, bytes: &[u8]) -> Result<(), Fail> {
-    let (status, out, told) = ran(rt, run.0, bytes, PORTS)?;
-    for workers in run.1 {
-        let text = joined(rt.alloc(), run.0, workers)?;
-        if !leaves(rt, &text, bytes, PORTS, (run.2, out.held(), told.held()))? {
-            Err(run.0)?;
-        }
-    }
-    if status != run.2 {
-        Err(status)?;
-    }
-    Ok(())
-}
-
-// Each of these runs is.
-fn are_same<R: AllocGlobal + Threads + Sync>(
-    rt: &R,
-    runs: &[Run],
-    bytes: &[u8],
-) -> Result<(), Fail> {
-    for run in runs {
-        is_same(rt, run, bytes)?;
-    }
-    Ok(())
-}
 
 #[test]
 fn runs_are_the_same_for_each_number_of_workers(rt: HostRuntime) -> Result<(), Fail> {
-    let image = image(rt.alloc(), 33)?;
-    are_same(&rt, &OVER_THE_IMAGE, &image)?;
-    let mut stream = mastered(&rt, "master --sectors 33", &image)?;
-    scratch(&mut stream);
-    are_same(&rt, &OVER_THE_STREAM, &stream)
+    hold(&rt, &RUNS)
 }
