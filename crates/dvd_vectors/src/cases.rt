@@ -42,18 +42,18 @@ pub fn hold<R: AllocGlobal + Threads + Sync>(rt: &R, all: &[Runs]) -> Result<(),
 
 fn holds<R: AllocGlobal + Threads + Sync>(rt: &R, runs: &Runs) -> Result<(), Fail> {
     let bytes = made(rt, runs.over)?;
-    let whole = whole_of(rt, &runs.writes)?;
+    let whole = made(rt, whole_of(&runs.writes))?;
     for case in runs.cases {
         words_hold(rt, runs, case, &bytes, &whole)?;
     }
     Ok(())
 }
 
-// What a front is one of.
-fn whole_of<R: AllocGlobal + Threads + Sync>(rt: &R, writes: &Written) -> Result<Vec<u8>, Fail> {
+// The steps that make what a front is one of.
+fn whole_of(writes: &Written) -> &'static [Step] {
     match writes {
-        Written::Front(steps) => made(rt, steps),
-        _ => Ok(Vec::new(rt.alloc())),
+        Written::Front(steps) => steps,
+        _ => &[],
     }
 }
 
@@ -83,7 +83,7 @@ fn ports_hold<R: AllocGlobal + Threads + Sync>(
     for ports in case.1 {
         let written = run_to(rt, words, bytes, *ports, case.2)?;
         if !is_so(&written, writes, whole) {
-            Err((words, *ports))?;
+            Err(words)?;
         }
     }
     Ok(())
@@ -140,7 +140,7 @@ fn pairs_alike<R: AllocGlobal + Threads + Sync>(
     let bytes = made(rt, over)?;
     for (one, other) in pairs {
         if !is_alike(&went(rt, one, &bytes)?, &went(rt, other, &bytes)?) {
-            Err((one.0, other.0))?;
+            Err(other.0)?;
         }
     }
     Ok(())

@@ -36,7 +36,33 @@ const OPPOSITE: &[Step] = &[
     Step::Read(&[(0, (4885, 31), ONE, Hit::Wrong(0x55))]),
 ];
 
-static CONVERTED: [Runs; 6] = [
+static CONVERTED: [Runs; 8] = [
+    // How the listed capture of a block begins, and how it ends without runs and where all places are marked.
+    Runs {
+        words: &["convert --sectors 16"],
+        over: ONE_BLOCK,
+        cases: &[(&[], NO_FAULT, (Status::Done, 37_890, "done\n"))],
+        writes: Written::Holds(&[
+            (
+                0,
+                &[
+                    0x44, 0x56, 0x44, 0x45, 0x43, 0x43, 0, 2, 0, 0, 0, 0, 0, 0, 0, 16, 0, 0, 0, 0,
+                    0, 0, 0, 0, 0, 0, 0, 16, 0, 0, 0, 0,
+                ],
+            ),
+            (37_888, &[0, 0]),
+        ]),
+    },
+    Runs {
+        words: &["convert --sectors 16 --form marked"],
+        over: ONE_BLOCK,
+        cases: &[(
+            &[Step::Marked(&[&[(0, ONE, (BLOCK, 1), Hit::Doubtful)]])],
+            NO_FAULT,
+            (Status::Done, 37_894, "done\n"),
+        )],
+        writes: Written::Holds(&[(37_888, &[0x00, 0x01, 0x00, 0x00, 0x93, 0xE0])]),
+    },
     Runs {
         words: &["convert --sectors 16"],
         over: ONE_BLOCK,

@@ -72,7 +72,7 @@ pub fn run_to<R: AllocGlobal + Threads + Sync>(
     let (status, out, told) = ran(rt, text, bytes, ports)?;
     let written = out.held().len();
     if status != end.0 || written != end.1 || told.held() != end.2.as_bytes() {
-        Err((ports, status, written))?;
+        Err((status, written))?;
     }
     Ok(out.held().to_vec(rt.alloc())?)
 }

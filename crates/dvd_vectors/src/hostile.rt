@@ -246,7 +246,7 @@ fn whole<R: AllocGlobal + Threads + Sync>(
 ) -> Result<Vec<u8>, Fail> {
     let output = run_to(rt, command.words, input, ports, command.end)?;
     if Sha256::digest(&output) != command.digest {
-        Err((command.words, ports))?;
+        Err(command.words)?;
     }
     Ok(output)
 }
@@ -347,7 +347,7 @@ fn leaves_front<R: AllocGlobal + Threads + Sync>(
         || !output.starts_with(out.held())
         || !tells(command, side, told.held())
     {
-        Err((command.words, ports, status))?;
+        Err(command.words)?;
     }
     Ok(())
 }

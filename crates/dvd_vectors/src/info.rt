@@ -1,52 +1,76 @@
 //! The physical format that `info` finds in what `master` wrote of every zone, and what it answers where there is none.
 use crate::cases::{Runs, Written, hold};
-use crate::fixture::{ALL_SOUND, BLOCK, NO_FAULT, run_to};
-use crate::making::{Step, made};
+use crate::fixture::{BLOCK, NO_FAULT};
+use crate::making::Step;
 use crate::reading::{Hit, ONE};
 use dvd_top::Status;
 use std::test::Fail;
-use std::thread::Threads;
 
-const LINES: &str =
-    "version 1\nrate 2\nlayers 1\npath parallel\nkind 1\ndensity 0\npitch 0\nfirst 030000\nlast 03000F\nlayer0 000000\nbca 0\n";
-
-static SINGLE: [Step; 2] = [
-    Step::Image(16),
-    Step::Run("master --sectors 16 --zones all", 273 * BLOCK),
-];
-
-// The first control block that is left answers where so many are destroyed, and none where all 192 are.
-fn answer_without<R: AllocGlobal + Threads + Sync>(
-    rt: &R,
-    stream: &mut [u8],
-    count: usize,
-) -> Result<(), Fail> {
-    if let Some(blocks) = stream.get_mut(
-        32 * BLOCK..count.saturating_add(32).saturating_mul(BLOCK),
-    ) {
-        blocks.fill(0);
-    }
-    let (end, lines) = match count {
-        192 => ((Status::NoControl, 0, "no control block\n"), ""),
-        _ => ((Status::Done, 110, "done\n"), LINES),
-    };
-    if run_to(rt, "info", stream, ALL_SOUND, end)?.as_slice() != lines.as_bytes() {
-        Err(count)?;
-    }
-    Ok(())
-}
-
-#[test]
-fn one_layer_tells_its_format(rt: HostRuntime) -> Result<(), Fail> {
-    let mut stream = made(&rt, &SINGLE)?;
-    for count in 0..193usize {
-        answer_without(&rt, &mut stream, count)?;
-    }
-    Ok(())
-}
-
-// Disks of two layers of which none of the control blocks is destroyed, the first, all but the last, and all.
-static TWO_LAYERS: [Runs; 2] = [
+// Of these disks some of the 192 control blocks are destroyed, from the first on: the first that is left answers.
+static DISKS: [Runs; 3] = [
+    Runs {
+        words: &["info"],
+        over: &[
+            Step::Image(16),
+            Step::Run("master --sectors 16 --zones all", 273 * BLOCK),
+        ],
+        cases: &[
+            (&[], NO_FAULT, (Status::Done, 110, "done\n")),
+            (
+                &[Step::Read(&[(32 * BLOCK, ONE, (BLOCK, 1), Hit::Lost)])],
+                NO_FAULT,
+                (Status::Done, 110, "done\n"),
+            ),
+            (
+                &[Step::Read(&[(32 * BLOCK, ONE, (2 * BLOCK, 1), Hit::Lost)])],
+                NO_FAULT,
+                (Status::Done, 110, "done\n"),
+            ),
+            (
+                &[Step::Read(&[(32 * BLOCK, ONE, (3 * BLOCK, 1), Hit::Lost)])],
+                NO_FAULT,
+                (Status::Done, 110, "done\n"),
+            ),
+            (
+                &[Step::Read(&[(32 * BLOCK, ONE, (31 * BLOCK, 1), Hit::Lost)])],
+                NO_FAULT,
+                (Status::Done, 110, "done\n"),
+            ),
+            (
+                &[Step::Read(&[(32 * BLOCK, ONE, (32 * BLOCK, 1), Hit::Lost)])],
+                NO_FAULT,
+                (Status::Done, 110, "done\n"),
+            ),
+            (
+                &[Step::Read(&[(32 * BLOCK, ONE, (95 * BLOCK, 1), Hit::Lost)])],
+                NO_FAULT,
+                (Status::Done, 110, "done\n"),
+            ),
+            (
+                &[Step::Read(&[(32 * BLOCK, ONE, (96 * BLOCK, 1), Hit::Lost)])],
+                NO_FAULT,
+                (Status::Done, 110, "done\n"),
+            ),
+            (
+                &[Step::Read(&[(32 * BLOCK, ONE, (190 * BLOCK, 1), Hit::Lost)])],
+                NO_FAULT,
+                (Status::Done, 110, "done\n"),
+            ),
+            (
+                &[Step::Read(&[(32 * BLOCK, ONE, (191 * BLOCK, 1), Hit::Lost)])],
+                NO_FAULT,
+                (Status::Done, 110, "done\n"),
+            ),
+            (
+                &[Step::Read(&[(32 * BLOCK, ONE, (192 * BLOCK, 1), Hit::Lost)])],
+                NO_FAULT,
+                (Status::NoControl, 0, "no control block\n"),
+            ),
+        ],
+        writes: Written::Front(&[Step::These(
+            b"version 1\nrate 2\nlayers 1\npath parallel\nkind 1\ndensity 0\npitch 0\nfirst 030000\nlast 03000F\nlayer0 000000\nbca 0\n",
+        )]),
+    },
     Runs {
         words: &["info --initial 2"],
         over: &[
@@ -112,8 +136,8 @@ static TWO_LAYERS: [Runs; 2] = [
 ];
 
 #[test]
-fn two_layers_tell_their_format(rt: HostRuntime) -> Result<(), Fail> {
-    hold(&rt, &TWO_LAYERS)
+fn disks_tell_their_format(rt: HostRuntime) -> Result<(), Fail> {
+    hold(&rt, &DISKS)
 }
 
 // Over so many zeros.

@@ -1,7 +1,7 @@
-//! Captures that state their layout: their bytes, and that they are read as the plain and the marked captures of the same blocks.
+//! Captures that state their layout: they are read as the plain and the marked captures of the same blocks.
 use crate::cases::{Alike, Runs, Written, are_alike, hold};
 use crate::fixture::{BLOCK, NO_FAULT};
-use crate::making::{Run, Stated, Step, made};
+use crate::making::{Run, Stated, Step};
 use crate::reading::{Hit, Hits, ONE};
 use dvd_top::Status;
 use std::test::Fail;
@@ -253,25 +253,4 @@ static SURVEYED: [Alike; 3] = [
 #[test]
 fn each_layout_is_surveyed_the_same(rt: HostRuntime) -> Result<(), Fail> {
     are_alike(&rt, &SURVEYED)
-}
-
-// How the listed capture of a block begins.
-const FRONT: [u8; 32] = [
-    0x44, 0x56, 0x44, 0x45, 0x43, 0x43, 0, 2, 0, 0, 0, 0, 0, 0, 0, 16, 0, 0, 0, 0, 0, 0, 0, 0, 0,
-    0, 0, 16, 0, 0, 0, 0,
-];
-
-// How it ends without runs, and where all places are marked.
-const ALL_MARKED: [u8; 6] = [0x00, 0x01, 0x00, 0x00, 0x93, 0xE0];
-
-#[test]
-fn a_listed_capture_has_these_bytes(rt: HostRuntime) -> Result<(), Fail> {
-    let bytes = made(&rt, &[Step::Bytes(BLOCK, 0), Step::Listed(SIXTEEN, &[])])?;
-    assert!(rt; bytes.len() == 37_890 && bytes.starts_with(&FRONT) && bytes.ends_with(&[0, 0]));
-    let bytes = made(
-        &rt,
-        &[Step::Bytes(BLOCK, 0), Step::Listed(SIXTEEN, &[(0, 37_856)])],
-    )?;
-    assert!(rt; bytes.len() == 37_894 && bytes.ends_with(&ALL_MARKED));
-    Ok(())
 }

@@ -63,16 +63,6 @@ fn master<R: AllocGlobal + Threads + Sync>(
     ))
 }
 
-#[test]
-fn the_loop_of_master_records_as_the_command_does(rt: HostRuntime) -> Result<(), Fail> {
-    let image = made(&rt, &IMAGE)?;
-    let mut out = sink(rt.alloc(), (BLOCK, NEVER, BLOCKS * BLOCK))?;
-    assert_eq!(rt; master(&rt, &image, &mut out)?, LoopEnd::Done);
-    let stream = made(&rt, &STREAM)?;
-    assert!(rt; stream.as_slice() == out.held());
-    Ok(())
-}
-
 // Reads back a stream.
 fn recover<R: AllocGlobal + Threads + Sync>(
     rt: &R,
@@ -90,16 +80,16 @@ fn recover<R: AllocGlobal + Threads + Sync>(
 }
 
 #[test]
-fn the_loop_of_recover_gives_the_image_back(rt: HostRuntime) -> Result<(), Fail> {
+fn the_loops_record_as_the_command_does_and_read_back(rt: HostRuntime) -> Result<(), Fail> {
     let image = made(&rt, &IMAGE)?;
-    let stream = made(&rt, &STREAM)?;
-    let mut out = sink(rt.alloc(), (2048, NEVER, 34_816))?;
+    let mut out = sink(rt.alloc(), (BLOCK, NEVER, BLOCKS * BLOCK))?;
+    let mut back = sink(rt.alloc(), (2048, NEVER, 34_816))?;
     let mut report = sink(rt.alloc(), (64, NEVER, 64))?;
-    assert_eq!(rt;
-        recover(&rt, &stream, &mut out, &mut report)?,
-        LoopEnd::Done
+    assert_eq!(rt; master(&rt, &image, &mut out)?, LoopEnd::Done);
+    let end = recover(&rt, out.held(), &mut back, &mut report)?;
+    assert!(rt;
+        end == LoopEnd::Done && back.held() == image.as_slice() && report.held().is_empty()
     );
-    assert!(rt; image.as_slice() == out.held());
-    assert!(rt; report.held().is_empty());
+    assert!(rt; made(&rt, &STREAM)?.as_slice() == out.held());
     Ok(())
 }

@@ -118,7 +118,7 @@ fn written<R: AllocGlobal + Threads + Sync>(
 ) -> Result<Vec<u8>, Fail> {
     let (status, out, _) = ran(rt, words, bytes, (SOUND, (BLOCK, NEVER, length), SOUND))?;
     if status != Status::Done || out.held().len() != length {
-        Err((status, out.held().len()))?;
+        Err(status)?;
     }
     Ok(out.held().to_vec(rt.alloc())?)
 }
