@@ -1,32 +1,22 @@
 -- One block that `deep` reads.
-use Rattle.std.proofs.Common.{◌≡◌, ◌⊎◌, ◌∙◌, inl, inr, ℕ, ◌+◌, ◌-◌, ◌*◌, ◌≤◌, arith, drop, map, Bool, true, List, [], ◌∷◌, ◌++◌, length, take, slice_get, Some, None, is_some, Result, Ok, refl, ap, sym, subst}
+use Rattle.std.proofs.Common.{◌≡◌, ◌∙◌, inl, ℕ, ◌+◌, ◌-◌, ◌*◌, ◌≤◌, arith, drop, map, Bool, true, List, [], ◌∷◌, ◌++◌, length, take, Some, None, is_some, refl, ap, sym}
 use Rattle.std.specs.declared.option.Option.{Option}
 use Rattle.std.specs.List.{flat_map, range_with_len}
 use Rattle.std.proofs.lemmas.List.{take_all, take_at}
 use Rattle.std.proofs.lemmas.List.FromFn.{length-map-range_with_len}
 use Rattle.dvd_block.specs.Product.{IsProduct}
-use Rattle.dvd_capture.specs.Captured.{captured_marks, captured_rows}
 use Rattle.dvd_capture.specs.TwoPass.{answers_of}
 use Rattle.dvd_capture.specs.Works.{rows_of}
-use Rattle.dvd_capture.specs.declared.form.Form.{Form}
 use Rattle.dvd_capture.specs.declared.work.Work.{Work}
 use Rattle.dvd_capture.proofs.Columns.{length-answers_of}
-use Rattle.dvd_deep.specs.Reading.{deep_cause}
 use Rattle.dvd_deep.specs.Rounds.{deep_block, deep_round}
 use Rattle.dvd_deep.proofs.Products.{found_is_product}
 use Rattle.dvd_deep.proofs.Readings.{deep-refused, read-deep}
 use Rattle.dvd_layout.specs.Place.{image_sectors}
-use Rattle.dvd_layout.specs.Plan.{plan_of}
 use Rattle.dvd_layout.specs.declared.entry.BlockPlan.{BlockPlan}
-use Rattle.dvd_layout.specs.declared.entry.Content.{Content}
-use Rattle.dvd_layout.specs.declared.entry.Content.TheVariants.{Control, Reference, Zero}
 use Rattle.dvd_layout.specs.declared.layout.Layout.{Layout}
-use Rattle.dvd_layout.specs.declared.layout.Zones.{Zones}
 use Rattle.dvd_loop.specs.Machine.{Step}
 use Rattle.dvd_loop.specs.Machine.Step.{Tell, Write}
-use Rattle.dvd_loop.specs.Streams.{Streams}
-use Rattle.dvd_loop.specs.Turns.{AreDone}
-use Rattle.dvd_loop.specs.declared.ends.LoopEnd.{LoopEnd}
 use Rattle.dvd_loop.specs.declared.ends.Turn.{Turn}
 use Rattle.dvd_loop.specs.declared.ends.Turn.TheVariants.{Good}
 use Rattle.dvd_read.specs.Causes.{two_pass_cause}
@@ -35,42 +25,11 @@ use Rattle.dvd_read.specs.Reading.{IsReadAs, block_cause}
 use Rattle.dvd_read.specs.declared.cause.Cause.{Cause}
 use Rattle.dvd_read.proofs.Outcomes.{agrees-no_cause}
 use Rattle.dvd_report.specs.Lines.{round_line}
-use Rattle.dvd_top.specs.Commands.Deep.{IsDeepened, IsReadDeep, round_told}
-use Rattle.dvd_top.specs.Inner.Performing.{IsFoundBy, IsImageRead, IsRefusedFor, TellsAndWrites, sectors_out}
-use Rattle.dvd_top.proofs.RecoverBlocks.{passed_over}
+use Rattle.dvd_top.specs.Commands.Deep.{IsImageRead, round_told}
+use Rattle.dvd_top.specs.Inner.Performing.{IsFoundBy, TellsAndWrites, sectors_out}
 use Rattle.dvd_top.proofs.Recovered.{sectors_front}
 use Rattle.dvd_top.proofs.RecoveredWidths.{length-sectors_out}
 use Rattle.dvd_top.proofs.Repairs.{few-sectors}
-
--- a block that holds no image is passed over
-pub passed_by : (content : Content) → (content ≡ Zero) ⊎ ((content ≡ Reference) ⊎ (content ≡ Control))
-    → (layout : Layout) (k : ℕ) (entry : BlockPlan) (rows : List (List ℕ)) (marks : List (List Bool)) (old : Streams)
-    → AreDone (IsReadDeep content layout k entry rows marks) old old (Ok Good)
-passed_by content is layout k entry rows marks old = elim is [
-  | inl zero_is ↦ subst (λ c. AreDone (IsReadDeep c layout k entry rows marks) old old (Ok Good)) (sym zero_is) (passed_over old)
-  | inr others ↦ elim others [
-    | inl reference_is ↦ subst (λ c. AreDone (IsReadDeep c layout k entry rows marks) old old (Ok Good)) (sym reference_is) (passed_over old)
-    | inr control_is ↦ subst (λ c. AreDone (IsReadDeep c layout k entry rows marks) old old (Ok Good)) (sym control_is) (passed_over old)
-  ]
-]
-
--- what is done for the rows and marks of captured bytes is done for the block of the plan
-pub deepened : (layout : Layout) (zones : Zones) (form : Form) (k : ℕ) (entry : BlockPlan) → slice_get (plan_of layout zones) k ≡ Some entry
-    → (own : List ℕ) (rows : List (List ℕ)) (marks : List (List Bool)) → rows ≡ captured_rows form own → marks ≡ captured_marks form own
-    → (old new : Streams) (answer : Result Turn LoopEnd) → AreDone (IsReadDeep entry.content layout k entry rows marks) old new answer
-    → AreDone (IsDeepened layout zones form k own) old new answer
-deepened layout zones form k entry stands own rows marks rows_are marks_are old new answer done = record {
-  steps = done.steps;
-  turn = done.turn;
-  may = record {
-    entry = entry;
-    stands = stands;
-    does = subst (λ m. IsReadDeep entry.content layout k entry (captured_rows form own) m done.steps done.turn) marks_are
-        (subst (λ r. IsReadDeep entry.content layout k entry r marks done.steps done.turn) rows_are done.may);
-  };
-  done = done.done;
-  is = done.is;
-}
 
 -- the line of a round is told exactly where the two passes have a cause
 pub told_none : (k : ℕ) (entry : BlockPlan) (round : ℕ) (cause : Option Cause) → cause ≡ None → round_told cause k entry round ≡ []
@@ -109,11 +68,6 @@ module _ (layout : Layout) (k : ℕ) (entry : BlockPlan) (rows : List (List ℕ)
         ∙ sym (ap (λ (l : List Step). l ++ Write (sectors_out (image_sectors layout entry.content) found.sectors) ∷ []) (told_some k entry round (two_pass_cause (answers_of rows marks)) found.refused));
     good = done.1;
   })
-
-  -- a block that rounds have a cause for is lost
-  pub lost : (cause : Cause) → deep_cause rows marks entry ≡ Some cause → (steps : List Step) (turn : Turn) → IsRefusedFor layout k entry rows marks cause steps turn
-      → IsImageRead layout k entry rows marks steps turn
-  lost cause first steps turn is = inr (record { cause = cause; first = first; tells = is.0; bad = is.1 })
 
 -- ---- what rounds found
 

@@ -1,5 +1,5 @@
 -- What each command does for an input is determined.
-use Rattle.std.proofs.Common.{◌≡◌, inl, inr, ℕ, ◌+◌, List, ◌∷◌, ◌++◌, [], length, take, Bool, Some, None, refl, ap, sym, subst, ◌∙◌}
+use Rattle.std.proofs.Common.{◌≡◌, inl, inr, ℕ, ◌+◌, List, ◌∷◌, ◌++◌, [], length, take, Bool, Some, None, refl, ap, sym, subst, ◌∙◌, ◌⊎◌, Option}
 use Rattle.std.proofs.lemmas.List.FromFn.{length-map-range_with_len}
 use Rattle.dvd_block.proofs.OneBlock.{one_block_at_most}
 use Rattle.dvd_block.specs.Product.{IsBlockOf, line}
@@ -15,8 +15,11 @@ use Rattle.dvd_layout.specs.declared.entry.Content.TheVariants.{Zero, Reference,
 use Rattle.dvd_layout.specs.declared.layout.Layout.{Layout}
 use Rattle.dvd_layout.specs.declared.layout.Zones.{Zones}
 use Rattle.dvd_layout.proofs.SameLengths.{same_lengths-same}
+use Rattle.dvd_deep.specs.Reading.{deep_cause}
+use Rattle.dvd_read.specs.declared.cause.Cause.{Cause}
 use Rattle.dvd_top.proofs.CdSectors.{made_is_one, read_is_one}
 use Rattle.dvd_top.proofs.ExerciseRuns.{exercised_is_one}
+use Rattle.dvd_top.proofs.EntryBlocks.{done_at}
 use Rattle.dvd_top.proofs.PlanEntries.{one_entry}
 use Rattle.dvd_top.proofs.CapturedBlocks.{blocks_determined}
 use Rattle.dvd_top.proofs.ConvertedBlocks.{converted_is_one, opening_once}
@@ -38,19 +41,19 @@ use Rattle.dvd_top.specs.Commands.CdMake.{cdmake_units}
 use Rattle.dvd_top.specs.Commands.CdRead.{cdread_units}
 use Rattle.dvd_top.specs.Commands.Exercise.{exercise_units}
 use Rattle.dvd_top.specs.Commands.Frames.{frames_units, sector_frame}
-use Rattle.dvd_top.specs.Commands.Info.{IsAnswer, IsAsked, IsNoAnswer, IsSought, format_lines, info_units}
+use Rattle.dvd_top.specs.Commands.Info.{IsAnswer, IsAsked, IsControlDone, IsNoAnswer, IsSought, format_lines, info_units}
 use Rattle.dvd_top.specs.Commands.Master.{IsMastered, filled, frames_of, master_units}
 use Rattle.dvd_capture.specs.TwoPass.{answers_of}
 use Rattle.dvd_deep.proofs.Readings.{deep-no_cause, deep-once}
 use Rattle.dvd_read.specs.Causes.{two_pass_cause}
-use Rattle.dvd_top.specs.Commands.Deep.{IsDeepened, IsGivenBack, IsLost, IsReadDeep, deep_units, round_told}
-use Rattle.dvd_top.specs.Commands.Recover.{IsDone, IsGiven, IsRecovered, IsRefused, recover_units}
+use Rattle.dvd_top.specs.Commands.Deep.{IsDeepened, IsGivenBack, IsImageRead, IsReadDeep, deep_units, round_told}
+use Rattle.dvd_top.specs.Commands.Recover.{IsDone, IsGiven, IsImageDone, IsRecovered, IsRefused, recover_units}
 use Rattle.dvd_top.specs.Commands.Merge.{merge_units}
 use Rattle.dvd_top.specs.Commands.Assemble.{assemble_units}
 use Rattle.dvd_top.specs.Commands.Convert.{convert_units}
 use Rattle.dvd_top.specs.Commands.Survey.{IsSurveyed, found_in, survey_units, turn_by}
-use Rattle.dvd_top.specs.Inner.Performing.{IsControlDone, IsImageDone, IsImageRead, IsPassedOver, sectors_out}
-use Rattle.dvd_top.specs.Captured.{captured_part}
+use Rattle.dvd_top.specs.Inner.Performing.{sectors_out}
+use Rattle.dvd_top.specs.Captured.{IfImage, IsDoneByEntry, IsPassedOver, captured_part}
 use Rattle.dvd_top.specs.Headline.{GoesOver}
 use Rattle.dvd_top.specs.Laws.{WhatIsDoneIsDetermined}
 use Rattle.dvd_words.specs.Settings.{IsLayoutOf}
@@ -115,6 +118,40 @@ pub length-captured_marks : (form : Form) (own : List ℕ) → length (captured_
 unfolding captured_marks
 length-captured_marks form own = length-map-range_with_len (λ i. record_marks form own (record_at i)) 0 208
 
+-- two ways that exclude each other are one, where each is
+either_is_one : {A B : List Step → Turn → Type 0} → MayOne A → MayOne B
+    → ((steps others : List Step) (turn other : Turn) → A steps turn → B others other → ⊥) → MayOne (λ steps turn. A steps turn ⊎ B steps turn)
+either_is_one one two apart steps others turn other (inl p) (inl q) = one steps others turn other p q
+either_is_one one two apart steps others turn other (inl p) (inr q) = absurd (apart steps others turn other p q)
+either_is_one one two apart steps others turn other (inr p) (inl q) = absurd (apart others steps other turn q p)
+either_is_one one two apart steps others turn other (inr p) (inr q) = two steps others turn other p q
+
+-- for a block that is passed over nothing is done, and the turn is good
+passed_is_one : MayOne IsPassedOver
+passed_is_one steps others turn other p q = (p.0 ∙ sym q.0, p.1 ∙ sym q.1)
+
+-- so where one thing alone is done for image, it is whatever a block holds
+if_image_is_one : (Does : List Step → Turn → Type 0) → MayOne Does → (content : Content) → MayOne (IfImage Does content)
+if_image_is_one Does one (Image sector) = one
+if_image_is_one Does one Zero = passed_is_one
+if_image_is_one Does one Reference = passed_is_one
+if_image_is_one Does one Control = passed_is_one
+
+-- what is done for a block is one thing, where what is done for its entry is
+entry_is_one : (entries : List BlockPlan) (Does : BlockPlan → List (List ℕ) → List (List Bool) → List Step → Turn → Type 0)
+    → ((entry : BlockPlan) (rows : List (List ℕ)) (marks : List (List Bool)) → length rows ≡ 208 → length marks ≡ 208 → MayOne (Does entry rows marks))
+    → (form : Form) (k : ℕ) (own : List ℕ) → MayOne (IsDoneByEntry entries Does form k own)
+entry_is_one entries Does one form k own steps others turn other p q =
+    one p.entry (captured_rows form own) (captured_marks form own) (length-captured_rows form own) (length-captured_marks form own) steps others turn other
+    p.does (done_at entries Does form k p.entry p.stands own others other q)
+
+-- a refused block has one first cause, so one line and one set of saved sectors
+refused_is_one : (has : Option Cause) (layout : Layout) (k : ℕ) (entry : BlockPlan) (rows : List (List ℕ)) (marks : List (List Bool))
+    → MayOne (IsRefused has layout k entry rows marks)
+refused_is_one has layout k entry rows marks steps others turn other p q =
+    let cause : p.cause ≡ q.cause = (let is : Some p.cause ≡ Some q.cause = sym p.first ∙ q.first in cc) in
+    (p.tells ∙ ap (λ c. Tell (damage_line k entry c (saved_in rows marks entry)) ∷ Write (sectors_out (image_sectors layout entry.content) (block_out rows marks entry)) ∷ []) cause ∙ sym q.tells, p.bad ∙ sym q.bad)
+
 -- What is read of it is one, and where something is read it has no cause.
 module _ (layout : Layout) (k : ℕ) (entry : BlockPlan) (rows : List (List ℕ)) (marks : List (List Bool)) (size : length rows ≡ 208) (marks_size : length marks ≡ 208) where
   -- what two passes give of a block is one set of sectors, so what is written of it is one thing
@@ -124,49 +161,17 @@ module _ (layout : Layout) (k : ℕ) (entry : BlockPlan) (rows : List (List ℕ)
       (read-determined rows marks entry p.sectors size marks_size p.read).1 ∙ sym (read-determined rows marks entry q.sectors size marks_size q.read).1 in
       (p.writes ∙ ap (λ s. Write (sectors_out (image_sectors layout entry.content) s) ∷ []) sectors ∙ sym q.writes, p.good ∙ sym q.good)
 
-  -- a refused block has one first cause, so one line and one set of saved sectors
-  refused_is_one : MayOne (IsRefused layout k entry rows marks)
-  refused_is_one steps others turn other p q =
-      let cause : p.cause ≡ q.cause = (let is : Some p.cause ≡ Some q.cause = sym p.first ∙ q.first in cc) in
-      (p.tells ∙ ap (λ c. Tell (damage_line k entry c (saved_in rows marks entry)) ∷ Write (sectors_out (image_sectors layout entry.content) (block_out rows marks entry)) ∷ []) cause ∙ sym q.tells, p.bad ∙ sym q.bad)
-
-  -- a block that is given isn't refused, as it has no cause
-  not_both : (steps others : List Step) (turn other : Turn) → IsGiven layout entry rows marks steps turn
-      → IsRefused layout k entry rows marks others other → ⊥
-  not_both steps others turn other p q = let no : None ≡ Some q.cause = sym (read-determined rows marks entry p.sectors size marks_size p.read).0 ∙ q.first in cc
-
-  -- so a block of image sectors is given in one way, or refused in one
+  -- a block that is given has no cause, so it isn't refused
   image_is_one : MayOne (IsImageDone layout k entry rows marks)
-  image_is_one steps others turn other p q = elim p [
-    | inl given ↦ elim q [
-      | inl same ↦ given_is_one steps others turn other given same
-      | inr refused ↦ absurd (not_both steps others turn other given refused)
-    ]
-    | inr refused ↦ elim q [
-      | inl given ↦ absurd (not_both others steps other turn given refused)
-      | inr same ↦ refused_is_one steps others turn other refused same
-    ]
-  ]
-
-  -- for a block without an image nothing is done, and the turn is good
-  passed_is_one : MayOne IsPassedOver
-  passed_is_one steps others turn other p q = (p.0 ∙ sym q.0, p.1 ∙ sym q.1)
-
-  -- whatever a block holds, one thing alone is done for it
-  done_is_one : (content : Content) → MayOne (IsDone content layout k entry rows marks)
-  done_is_one (Image sector) = image_is_one
-  done_is_one Zero = passed_is_one
-  done_is_one Reference = passed_is_one
-  done_is_one Control = passed_is_one
+  image_is_one =
+      either_is_one given_is_one (refused_is_one (block_cause rows marks entry) layout k entry rows marks)
+      (λ steps others turn other p q. let no : None ≡ Some q.cause = sym (read-determined rows marks entry p.sectors size marks_size p.read).0 ∙ q.first in cc)
 
 -- so what `recover` does for a block is one thing
 recovered_is_one : (layout : Layout) (zones : Zones) (form : Form) (k : ℕ) (own : List ℕ) → MayOne (IsRecovered layout zones form k own)
-recovered_is_one layout zones form k own steps others turn other p q =
-    let rows = captured_rows form own in
-    let marks = captured_marks form own in
-    let entry : q.entry ≡ p.entry = one_entry (plan_of layout zones) k q.entry p.entry q.stands p.stands in
-    done_is_one layout k p.entry rows marks (length-captured_rows form own) (length-captured_marks form own) p.entry.content steps others turn other
-    p.does (subst (λ (e : BlockPlan). IsDone e.content layout k e rows marks others other) entry q.does)
+recovered_is_one layout zones form k =
+    entry_is_one (plan_of layout zones) (λ e. IsDone e.content layout k e)
+    (λ e rows marks size marks_size. if_image_is_one (IsImageDone layout k e rows marks) (image_is_one layout k e rows marks size marks_size) e.content) form k
 
 -- DEEP. What rounds read of a block is one, and it has no cause.
 module _ (layout : Layout) (k : ℕ) (entry : BlockPlan) (rows : List (List ℕ)) (marks : List (List Bool)) where
@@ -181,44 +186,17 @@ module _ (layout : Layout) (k : ℕ) (entry : BlockPlan) (rows : List (List ℕ)
         p.good ∙ sym q.good,
       )
 
-  -- a block that rounds lose has one first cause, so one line and one set of saved sectors
-  lost_is_one : MayOne (IsLost layout k entry rows marks)
-  lost_is_one steps others turn other p q =
-      let cause : p.cause ≡ q.cause = (let is : Some p.cause ≡ Some q.cause = sym p.first ∙ q.first in cc) in
-      (p.tells ∙ ap (λ c. Tell (damage_line k entry c (saved_in rows marks entry)) ∷ Write (sectors_out (image_sectors layout entry.content) (block_out rows marks entry)) ∷ []) cause ∙ sym q.tells, p.bad ∙ sym q.bad)
-
-  -- a block that rounds give back isn't lost, as it has no cause
-  not_lost : (steps others : List Step) (turn other : Turn) → IsGivenBack layout k entry rows marks steps turn → IsLost layout k entry rows marks others other → ⊥
-  not_lost steps others turn other p q = let no : None ≡ Some q.cause = sym (deep-no_cause rows marks entry p.round p.sectors p.read) ∙ q.first in cc
-
-  -- so a block of image sectors is given back in one way, or lost in one
+  -- a block that rounds give back has no cause, so it isn't refused
   image_read_is_one : MayOne (IsImageRead layout k entry rows marks)
-  image_read_is_one steps others turn other p q = elim p [
-    | inl given ↦ elim q [
-      | inl same ↦ given_back_is_one steps others turn other given same
-      | inr lost ↦ absurd (not_lost steps others turn other given lost)
-    ]
-    | inr lost ↦ elim q [
-      | inl given ↦ absurd (not_lost others steps other turn given lost)
-      | inr same ↦ lost_is_one steps others turn other lost same
-    ]
-  ]
-
-  -- whatever a block holds, rounds do one thing alone for it
-  read_deep_is_one : (content : Content) → MayOne (IsReadDeep content layout k entry rows marks)
-  read_deep_is_one (Image sector) = image_read_is_one
-  read_deep_is_one Zero = λ steps others turn other p q. (p.0 ∙ sym q.0, p.1 ∙ sym q.1)
-  read_deep_is_one Reference = λ steps others turn other p q. (p.0 ∙ sym q.0, p.1 ∙ sym q.1)
-  read_deep_is_one Control = λ steps others turn other p q. (p.0 ∙ sym q.0, p.1 ∙ sym q.1)
+  image_read_is_one =
+      either_is_one given_back_is_one (refused_is_one (deep_cause rows marks entry) layout k entry rows marks)
+      (λ steps others turn other p q. let no : None ≡ Some q.cause = sym (deep-no_cause rows marks entry p.round p.sectors p.read) ∙ q.first in cc)
 
 -- so what `deep` does for a block is one thing
 deepened_is_one : (layout : Layout) (zones : Zones) (form : Form) (k : ℕ) (own : List ℕ) → MayOne (IsDeepened layout zones form k own)
-deepened_is_one layout zones form k own steps others turn other p q =
-    let rows = captured_rows form own in
-    let marks = captured_marks form own in
-    let entry : q.entry ≡ p.entry = one_entry (plan_of layout zones) k q.entry p.entry q.stands p.stands in
-    read_deep_is_one layout k p.entry rows marks p.entry.content steps others turn other
-    p.does (subst (λ (e : BlockPlan). IsReadDeep e.content layout k e rows marks others other) entry q.does)
+deepened_is_one layout zones form k =
+    entry_is_one (plan_of layout zones) (λ e. IsReadDeep e.content layout k e)
+    (λ e rows marks size marks_size. if_image_is_one (IsImageRead layout k e rows marks) (image_read_is_one layout k e rows marks) e.content) form k
 
 -- INFO. A block answers with one format or with none.
 module _ (entry : BlockPlan) (rows : List (List ℕ)) (marks : List (List Bool)) (size : length rows ≡ 208) (marks_size : length marks ≡ 208) where
@@ -242,32 +220,20 @@ module _ (entry : BlockPlan) (rows : List (List ℕ)) (marks : List (List Bool))
 
   -- so a block of control data answers in one way, or not at all
   control_is_one : MayOne (IsControlDone entry rows marks)
-  control_is_one steps others turn other p q = elim p [
-    | inl answer ↦ elim q [
-      | inl same ↦ answer_is_one steps others turn other answer same
-      | inr none ↦ absurd (not_answered steps others turn other answer none)
-    ]
-    | inr none ↦ elim q [
-      | inl answer ↦ absurd (not_answered others steps other turn answer none)
-      | inr same ↦ (none.nothing ∙ sym same.nothing, none.good ∙ sym same.good)
-    ]
-  ]
+  control_is_one =
+      either_is_one answer_is_one (λ steps others turn other p q. (p.nothing ∙ sym q.nothing, p.good ∙ sym q.good)) not_answered
 
   -- whatever a block holds, one thing alone is done when it is asked for its format
   asked_is_one : (content : Content) → MayOne (IsAsked content entry rows marks)
   asked_is_one Control = control_is_one
-  asked_is_one Zero = λ steps others turn other p q. (p.0 ∙ sym q.0, p.1 ∙ sym q.1)
-  asked_is_one Reference = λ steps others turn other p q. (p.0 ∙ sym q.0, p.1 ∙ sym q.1)
-  asked_is_one (Image sector) = λ steps others turn other p q. (p.0 ∙ sym q.0, p.1 ∙ sym q.1)
+  asked_is_one Zero = passed_is_one
+  asked_is_one Reference = passed_is_one
+  asked_is_one (Image sector) = passed_is_one
 
 -- so what `info` does for a block is one thing
 sought_is_one : (initial : ℕ) (form : Form) (k : ℕ) (own : List ℕ) → MayOne (IsSought initial form k own)
-sought_is_one initial form k own steps others turn other p q =
-    let rows = captured_rows form own in
-    let marks = captured_marks form own in
-    let entry : q.entry ≡ p.entry = one_entry (lead_in_blocks initial) k q.entry p.entry q.stands p.stands in
-    asked_is_one p.entry rows marks (length-captured_rows form own) (length-captured_marks form own) p.entry.content steps others turn other
-    p.does (subst (λ (e : BlockPlan). IsAsked e.content e rows marks others other) entry q.does)
+sought_is_one initial =
+    entry_is_one (lead_in_blocks initial) (λ e. IsAsked e.content e) (λ e rows marks size marks_size. asked_is_one e rows marks size marks_size e.content)
 
 -- SURVEY. The line of each block is one.
 surveyed_is_one : (layout : Layout) (zones : Zones) (form : Form) (k : ℕ) (before : List (List ℕ)) (own : List ℕ) → MayOne (IsSurveyed layout zones form k before own)

@@ -1,10 +1,9 @@
 -- One block that `info` asks.
-use Rattle.std.proofs.Common.{◌≡◌, ◌⊎◌, inl, inr, ℕ, Bool, List, [], ◌∷◌, slice_get, None, Some, Result, Ok, Err, IfErr, OnOk, refl, sym, subst}
+use Rattle.std.proofs.Common.{◌≡◌, ◌⊎◌, inl, inr, ℕ, Bool, List, [], ◌∷◌, None, Some, Result, Ok, Err, IfErr, OnOk, refl, sym, subst}
 use Rattle.std.specs.Result.{result_ok}
 use Rattle.dvd_capture.specs.Captured.{captured_marks, captured_rows}
 use Rattle.dvd_capture.specs.declared.form.Form.{Form}
 use Rattle.dvd_control.specs.Format.{Fields}
-use Rattle.dvd_layout.specs.Plan.{lead_in_blocks}
 use Rattle.dvd_layout.specs.declared.entry.BlockPlan.{BlockPlan}
 use Rattle.dvd_layout.specs.declared.entry.Content.{Content}
 use Rattle.dvd_layout.specs.declared.entry.Content.TheVariants.{Control, Image, Reference, Zero}
@@ -13,13 +12,11 @@ use Rattle.dvd_loop.specs.Machine.{Step}
 use Rattle.dvd_loop.specs.Machine.Step.{Write}
 use Rattle.dvd_loop.specs.Streams.{Streams}
 use Rattle.dvd_loop.specs.Turns.{AreDone}
-use Rattle.dvd_loop.specs.declared.ends.LoopEnd.{LoopEnd}
-use Rattle.dvd_loop.specs.declared.ends.Turn.{Turn}
 use Rattle.dvd_loop.specs.declared.ends.Turn.TheVariants.{Bad, Good, Last}
 use Rattle.dvd_loop.proofs.StreamLemmas.{stays}
-use Rattle.dvd_top.specs.Commands.Info.{IsAsked, IsSought, format_lines, info_units}
-use Rattle.dvd_top.specs.Inner.Performing.{AnswersNothing, IsControlDone, Tells}
-use Rattle.dvd_top.proofs.RecoverBlocks.{passed_over}
+use Rattle.dvd_top.specs.Commands.Info.{IsAsked, IsControlDone, format_lines, info_units}
+use Rattle.dvd_top.specs.Inner.Performing.{AnswersNothing, Tells}
+use Rattle.dvd_top.proofs.EntryBlocks.{passed_over}
 
 -- what holds of a result that is none once its error is dropped, and of one that is some
 pub not_ok : {A B : Type 0} (r : Result A B) (P : B → Type 0) → result_ok r ≡ None → IfErr r P → (e : B) × P e
@@ -47,31 +44,9 @@ silent entry rows marks old none = record { steps = []; turn = Good; may = inr n
 pub passed : (content : Content) → (content ≡ Zero) ⊎ ((content ≡ Reference) ⊎ ((sector : ℕ) × (content ≡ Image sector)))
     → (entry : BlockPlan) (rows : List (List ℕ)) (marks : List (List Bool)) (old : Streams)
     → AreDone (IsAsked content entry rows marks) old old (Ok Good)
-passed content is entry rows marks old = elim is [
-  | inl zero_is ↦ subst (λ c. AreDone (IsAsked c entry rows marks) old old (Ok Good)) (sym zero_is) (passed_over old)
-  | inr others ↦ elim others [
-    | inl reference_is ↦ subst (λ c. AreDone (IsAsked c entry rows marks) old old (Ok Good)) (sym reference_is) (passed_over old)
-    | inr (sector, image_is) ↦ subst (λ c. AreDone (IsAsked c entry rows marks) old old (Ok Good)) (sym image_is) (passed_over old)
-  ]
-]
-
--- what is done for the rows and marks of captured bytes is done for the block of the lead-in
-pub sought : (initial : ℕ) (form : Form) (k : ℕ) (entry : BlockPlan) → slice_get (lead_in_blocks initial) k ≡ Some entry
-    → (own : List ℕ) (rows : List (List ℕ)) (marks : List (List Bool)) → rows ≡ captured_rows form own → marks ≡ captured_marks form own
-    → (old new : Streams) (answer : Result Turn LoopEnd) → AreDone (IsAsked entry.content entry rows marks) old new answer
-    → AreDone (IsSought initial form k own) old new answer
-sought initial form k entry stands own rows marks rows_are marks_are old new answer done = record {
-  steps = done.steps;
-  turn = done.turn;
-  may = record {
-    entry = entry;
-    stands = stands;
-    does = subst (λ m. IsAsked entry.content entry (captured_rows form own) m done.steps done.turn) marks_are
-        (subst (λ r. IsAsked entry.content entry r marks done.steps done.turn) rows_are done.may);
-  };
-  done = done.done;
-  is = done.is;
-}
+passed content (inl is) entry rows marks = passed_over (λ c. IsAsked c entry rows marks) content Zero is (refl, refl)
+passed content (inr (inl is)) entry rows marks = passed_over (λ c. IsAsked c entry rows marks) content Reference is (refl, refl)
+passed content (inr (inr (sector, is))) entry rows marks = passed_over (λ c. IsAsked c entry rows marks) content (Image sector) is (refl, refl)
 
 -- no block that `info` asks counts as damaged
 asked_never_bad : (content : Content) (entry : BlockPlan) (rows : List (List ℕ)) (marks : List (List Bool)) (steps : List Step)

@@ -15,6 +15,7 @@ pub mod ConvertedRead
 pub mod CdKept
 pub mod CdSectors
 pub mod Determined
+pub mod EntryBlocks
 pub mod ExerciseBlocks
 pub mod ExerciseRuns
 pub mod ExerciseTrials

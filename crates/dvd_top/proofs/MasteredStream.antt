@@ -28,13 +28,13 @@ use Rattle.dvd_loop.proofs.Sizes.{sized_whole}
 use Rattle.dvd_loop.proofs.Over.{AreGood, InPieces, over, over_is, start-le, start-suc}
 use Rattle.dvd_top.specs.Commands.Master.{IsMastered, bytes_of_block, filled, frames_of, image_bytes, master_units}
 use Rattle.dvd_top.specs.Commands.Recover.{IsDone, IsRecovered, recover_units}
-use Rattle.dvd_top.specs.Inner.Performing.{IsPassedOver}
+use Rattle.dvd_top.specs.Captured.{IsPassedOver}
 use Rattle.dvd_top.specs.Laws.{MasteredStreamIsRecovered}
 use Rattle.dvd_top.proofs.MasterBlocks.{size_is}
 use Rattle.dvd_top.proofs.OnlyThese.{only_these, runs_only}
 use Rattle.dvd_top.proofs.Pieces.{length-pieces, piece-at, pieces-front}
 use Rattle.dvd_top.proofs.PlanBytes.{start-all}
-use Rattle.dvd_top.proofs.PlanEntries.{one_entry}
+use Rattle.dvd_top.proofs.EntryBlocks.{done_at}
 use Rattle.dvd_top.proofs.Repaired.{repaired}
 
 -- the rows of a block are 182 bytes wide
@@ -84,8 +84,7 @@ block_back : (layout : Layout) (zones : Zones) (cpr : List ℕ) (k : ℕ) (entry
 block_back layout zones cpr k entry image block steps turn stands cpr_size size is does =
     let rows = captured_rows Plain (recording block) in
     let marks = captured_marks Plain (recording block) in
-    let done : IsDone entry.content layout k entry rows marks steps turn =
-    subst (λ e. IsDone e.content layout k e rows marks steps turn) (one_entry (plan_of layout zones) k does.entry entry does.stands stands) does.does in
+    let done = done_at (plan_of layout zones) (λ e. IsDone e.content layout k e) Plain k entry stands (recording block) steps turn does in
     elim (passed_back layout entry.content k entry rows marks image steps turn size done) [
       | inr back ↦ back
       | inl is_image ↦

@@ -1,33 +1,23 @@
 -- One block that `recover` reads: its image sectors are written, or its line is told and what is saved of them is written.
-use Rattle.std.proofs.Common.{◌≡◌, ◌⊎◌, inl, inr, ℕ, ◌≤◌, Bool, List, [], ◌∷◌, ap, slice_get, Some, Result, Ok, refl, sym, subst, ◌∙◌}
-use Rattle.dvd_capture.specs.Captured.{captured_marks, captured_rows}
-use Rattle.dvd_capture.specs.declared.form.Form.{Form}
+use Rattle.std.proofs.Common.{◌≡◌, inl, ℕ, ◌≤◌, Bool, List, [], ◌∷◌, ap, Option, Some, refl, sym, subst, ◌∙◌}
 use Rattle.dvd_capture.specs.Parts.{marks_rows, received_rows}
 use Rattle.dvd_capture.specs.Works.{marks_of_work, rows_of}
 use Rattle.dvd_capture.specs.declared.work.Work.{Work}
 use Rattle.dvd_capture.proofs.WorkParts.{marks-height}
 use Rattle.dvd_layout.specs.Place.{image_sectors}
-use Rattle.dvd_layout.specs.Plan.{plan_of}
 use Rattle.dvd_layout.specs.declared.entry.BlockPlan.{BlockPlan}
-use Rattle.dvd_layout.specs.declared.entry.Content.{Content}
-use Rattle.dvd_layout.specs.declared.entry.Content.TheVariants.{Control, Reference, Zero}
 use Rattle.dvd_layout.specs.declared.layout.Layout.{Layout}
-use Rattle.dvd_layout.specs.declared.layout.Zones.{Zones}
 use Rattle.dvd_loop.specs.Machine.{Step}
 use Rattle.dvd_loop.specs.Machine.Step.{Write}
-use Rattle.dvd_loop.specs.Streams.{Streams}
-use Rattle.dvd_loop.specs.Turns.{AreDone}
-use Rattle.dvd_loop.specs.declared.ends.LoopEnd.{LoopEnd}
 use Rattle.dvd_loop.specs.declared.ends.Turn.{Turn}
 use Rattle.dvd_loop.specs.declared.ends.Turn.TheVariants.{Good}
-use Rattle.dvd_loop.proofs.StreamLemmas.{stays}
-use Rattle.dvd_read.specs.Reading.{IsReadAs, block_cause}
+use Rattle.dvd_read.specs.Reading.{IsReadAs}
 use Rattle.dvd_read.specs.Salvage.{saved_in}
 use Rattle.dvd_read.specs.declared.cause.Cause.{Cause}
 use Rattle.dvd_read.proofs.SavedLaws.{sixteen-sectors}
 use Rattle.dvd_report.specs.Lines.{damage_line}
-use Rattle.dvd_top.specs.Commands.Recover.{IsDone, IsRecovered}
-use Rattle.dvd_top.specs.Inner.Performing.{IsImageDone, IsPassedOver, IsRefusedFor, sectors_out}
+use Rattle.dvd_top.specs.Commands.Recover.{IsImageDone, IsRefused}
+use Rattle.dvd_top.specs.Inner.Performing.{IsRefusedFor, sectors_out}
 
 -- the line of a refused block and its sectors, by the numbers that were told
 pub line_same : (k number : ℕ) (entry : BlockPlan) (cause : Cause) (saved frames : ℕ) → number ≡ k → saved ≡ frames
@@ -49,47 +39,13 @@ pub few_saved : (work : Work) (entry : BlockPlan) → saved_in (rows_of work) (m
 few_saved work entry =
     (sixteen-sectors (rows_of work) (marks_of_work work) (sym work.received.rows.ok.0 ∙ work.received.size) (marks-height work.marks) entry).2
 
--- nothing is done for a block that holds no image
-pub passed_over : (old : Streams) → AreDone IsPassedOver old old (Ok Good)
-passed_over old = record { steps = []; turn = Good; may = (refl, refl); done = stays old; is = λ value is. cc }
-
--- a block that holds no image is passed over
-pub passed_by : (content : Content) → (content ≡ Zero) ⊎ ((content ≡ Reference) ⊎ (content ≡ Control))
-    → (layout : Layout) (k : ℕ) (entry : BlockPlan) (rows : List (List ℕ)) (marks : List (List Bool)) (old : Streams)
-    → AreDone (IsDone content layout k entry rows marks) old old (Ok Good)
-passed_by content is layout k entry rows marks old = elim is [
-  | inl zero_is ↦ subst (λ c. AreDone (IsDone c layout k entry rows marks) old old (Ok Good)) (sym zero_is) (passed_over old)
-  | inr others ↦ elim others [
-    | inl reference_is ↦ subst (λ c. AreDone (IsDone c layout k entry rows marks) old old (Ok Good)) (sym reference_is) (passed_over old)
-    | inr control_is ↦ subst (λ c. AreDone (IsDone c layout k entry rows marks) old old (Ok Good)) (sym control_is) (passed_over old)
-  ]
-]
-
--- what is done for the rows and marks of captured bytes is done for the block of the plan
-pub recovered : (layout : Layout) (zones : Zones) (form : Form) (k : ℕ) (entry : BlockPlan) → slice_get (plan_of layout zones) k ≡ Some entry
-    → (own : List ℕ) (rows : List (List ℕ)) (marks : List (List Bool)) → rows ≡ captured_rows form own → marks ≡ captured_marks form own
-    → (old new : Streams) (answer : Result Turn LoopEnd) → AreDone (IsDone entry.content layout k entry rows marks) old new answer
-    → AreDone (IsRecovered layout zones form k own) old new answer
-recovered layout zones form k entry stands own rows marks rows_are marks_are old new answer done = record {
-  steps = done.steps;
-  turn = done.turn;
-  may = record {
-    entry = entry;
-    stands = stands;
-    does = subst (λ m. IsDone entry.content layout k entry (captured_rows form own) m done.steps done.turn) marks_are
-        (subst (λ r. IsDone entry.content layout k entry r marks done.steps done.turn) rows_are done.may);
-  };
-  done = done.done;
-  is = done.is;
-}
-
 module _ (layout : Layout) (k : ℕ) (entry : BlockPlan) (rows : List (List ℕ)) (marks : List (List Bool)) where
   -- a block of which sectors are read: they are written, and the turn is good
   pub given : (sectors : List (List ℕ)) → IsReadAs rows marks entry sectors
       → IsImageDone layout k entry rows marks (Write (sectors_out (image_sectors layout entry.content) sectors) ∷ []) Good
   given sectors read = inl (record { sectors = sectors; read = read; writes = refl; good = refl })
 
-  -- a block that is refused for its cause: what is done for it is what `recover` may do
-  pub refused : (cause : Cause) → block_cause rows marks entry ≡ Some cause → (steps : List Step) (turn : Turn) → IsRefusedFor layout k entry rows marks cause steps turn
-      → IsImageDone layout k entry rows marks steps turn
-  refused cause first steps turn is = inr (record { cause = cause; first = first; tells = is.0; bad = is.1 })
+  -- a block that is refused for its cause
+  pub refused : (has : Option Cause) (cause : Cause) → has ≡ Some cause → (steps : List Step) (turn : Turn) → IsRefusedFor layout k entry rows marks cause steps turn
+      → IsRefused has layout k entry rows marks steps turn
+  refused has cause first steps turn is = record { cause = cause; first = first; tells = is.0; bad = is.1 }

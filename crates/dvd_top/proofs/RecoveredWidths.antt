@@ -30,11 +30,13 @@ use Rattle.dvd_capture.specs.TwoPass.{answers_of}
 use Rattle.dvd_read.specs.Frames.{frame_of, main_data}
 use Rattle.dvd_read.specs.Salvage.{block_out}
 use Rattle.dvd_read.proofs.SavedLaws.{sixteen-sectors}
-use Rattle.dvd_top.specs.Captured.{captured_units}
+use Rattle.dvd_deep.specs.Reading.{deep_cause}
+use Rattle.dvd_read.specs.Reading.{block_cause}
+use Rattle.dvd_top.specs.Captured.{IfImage, IsDoneByEntry, IsPassedOver, captured_units}
 use Rattle.dvd_top.specs.Commands.Master.{bytes_of_block, image_bytes}
-use Rattle.dvd_top.specs.Commands.Deep.{IsDeepened, IsReadDeep, round_told}
-use Rattle.dvd_top.specs.Commands.Recover.{IsDone, IsRecovered}
-use Rattle.dvd_top.specs.Inner.Performing.{IsImageDone, IsImageRead, IsPassedOver, sectors_out}
+use Rattle.dvd_top.specs.Commands.Deep.{IsDeepened, IsImageRead, round_told}
+use Rattle.dvd_top.specs.Commands.Recover.{IsImageDone, IsRecovered, IsRefused}
+use Rattle.dvd_top.specs.Inner.Performing.{sectors_out}
 use Rattle.dvd_top.proofs.Determined.{length-captured_marks, length-captured_rows}
 use Rattle.dvd_top.proofs.MasterBlocks.{size_is}
 use Rattle.dvd_top.proofs.Pieces.{length-pieces, start-same}
@@ -89,20 +91,28 @@ length-out sectors (suc count) widths =
 abbrev pub IsWide : ℕ → List Step → Turn → Type 0
 IsWide count steps turn = (length (written steps) ≡ count) × (turn ≢ Last)
 
-module _ (layout : Layout) (k : ℕ) (entry : BlockPlan) (rows : List (List ℕ)) (marks : List (List Bool)) (size : length rows ≡ 208) (marks_size : length marks ≡ 208) (steps : List Step) (turn : Turn) where
-  -- one write of some bytes writes as many
-  write-wide : (bytes : List ℕ) → steps ≡ Write bytes ∷ [] → length (written steps) ≡ length bytes
-  write-wide bytes is = ap (λ s. length (written s)) is ∙ ap length (append-nil bytes)
+-- what the line of a round leaves to be written
+written-behind : (cause : Option Cause) (k : ℕ) (entry : BlockPlan) (round : ℕ) (bytes : List ℕ) → written (round_told cause k entry round ++ Write bytes ∷ []) ≡ bytes ++ []
+written-behind None k entry round bytes = refl
+written-behind (Some cause) k entry round bytes = refl
 
-  -- for a block of image sectors, given or refused, as many bytes are written as these have
-  image-wide : IsImageDone layout k entry rows marks steps turn → IsWide (image_bytes layout entry) steps turn
-  image-wide (inl given) =
-      let count = image_sectors layout entry.content in (
-        write-wide (sectors_out count given.sectors) given.writes ∙ ap (λ l. length (sectors_out count l)) given.read.main
-            ∙ length-sectors_out given.read.block entry count given.read.agrees.product (few-sectors layout entry.content),
-        λ last. let no : Good ≡ Last = sym given.good ∙ last in cc,
-      )
-  image-wide (inr refused) =
+-- for a block without image sectors none is written
+passed-wide : {count : ℕ} {steps : List Step} {turn : Turn} → count ≡ 0 → IsPassedOver steps turn → IsWide count steps turn
+passed-wide none (nothing, good) = (ap (λ s. length (written s)) nothing ∙ sym none, λ last. let no : Good ≡ Last = sym good ∙ last in cc)
+
+-- where as many bytes are written for image as its sectors have, so it is whatever a block holds
+if_image-wide : (Does : List Step → Turn → Type 0) (layout : Layout) (held content : Content) (steps : List Step) (turn : Turn)
+    → (Does steps turn → IsWide (2048 * image_sectors layout held) steps turn)
+    → held ≡ content → IfImage Does content steps turn → IsWide (2048 * image_sectors layout held) steps turn
+if_image-wide Does layout held (Image sector) steps turn wide is done = wide done
+if_image-wide Does layout held Zero steps turn wide is done = passed-wide (ap (λ c. 2048 * image_sectors layout c) is) done
+if_image-wide Does layout held Reference steps turn wide is done = passed-wide (ap (λ c. 2048 * image_sectors layout c) is) done
+if_image-wide Does layout held Control steps turn wide is done = passed-wide (ap (λ c. 2048 * image_sectors layout c) is) done
+
+module _ (layout : Layout) (k : ℕ) (entry : BlockPlan) (rows : List (List ℕ)) (marks : List (List Bool)) (size : length rows ≡ 208) (marks_size : length marks ≡ 208) (steps : List Step) (turn : Turn) where
+  -- for a block that is refused as many bytes are written as its image sectors have
+  refused-wide : (has : Option Cause) → IsRefused has layout k entry rows marks steps turn → IsWide (image_bytes layout entry) steps turn
+  refused-wide has refused =
       let count = image_sectors layout entry.content in
       let saved = sectors_out count (block_out rows marks entry) in
       let widths = (sixteen-sectors rows marks size marks_size entry).1 in
@@ -112,32 +122,17 @@ module _ (layout : Layout) (k : ℕ) (entry : BlockPlan) (rows : List (List ℕ)
         λ last. let no : Bad ≡ Last = sym refused.bad ∙ last in cc,
       )
 
-  -- for a block without image sectors none is written
-  passed-wide : image_bytes layout entry ≡ 0 → IsPassedOver steps turn → IsWide (image_bytes layout entry) steps turn
-  passed-wide none (nothing, good) = (ap (λ s. length (written s)) nothing ∙ sym none, λ last. let no : Good ≡ Last = sym good ∙ last in cc)
+  -- and so they are for one that two passes give
+  image-wide : IsImageDone layout k entry rows marks steps turn → IsWide (image_bytes layout entry) steps turn
+  image-wide (inl given) =
+      let count = image_sectors layout entry.content in (
+        ap (λ s. length (written s)) given.writes ∙ ap length (append-nil (sectors_out count given.sectors)) ∙ ap (λ l. length (sectors_out count l)) given.read.main
+            ∙ length-sectors_out given.read.block entry count given.read.agrees.product (few-sectors layout entry.content),
+        λ last. let no : Good ≡ Last = sym given.good ∙ last in cc,
+      )
+  image-wide (inr refused) = refused-wide (block_cause rows marks entry) refused
 
-  -- so whatever a block holds, `recover` writes as many bytes as its image sectors have
-  done-wide : (content : Content) → entry.content ≡ content → IsDone content layout k entry rows marks steps turn
-      → IsWide (image_bytes layout entry) steps turn
-  done-wide (Image sector) is done = image-wide done
-  done-wide Zero is done = passed-wide (ap (λ c. 2048 * image_sectors layout c) is) done
-  done-wide Reference is done = passed-wide (ap (λ c. 2048 * image_sectors layout c) is) done
-  done-wide Control is done = passed-wide (ap (λ c. 2048 * image_sectors layout c) is) done
-
--- what `recover` writes for a block is as long as its image sectors
-pub recovered-wide : (layout : Layout) (zones : Zones) (form : Form) (k : ℕ) (own : List ℕ) (steps : List Step) (turn : Turn) → IsRecovered layout zones form k own steps turn
-    → IsWide (bytes_of_block layout zones k) steps turn
-recovered-wide layout zones form k own steps turn r =
-    subst (λ n. IsWide n steps turn) (sym (size_is layout zones k r.entry r.stands))
-    (done-wide layout k r.entry (captured_rows form own) (captured_marks form own) (length-captured_rows form own) (length-captured_marks form own) steps turn r.entry.content refl r.does)
-
--- what the line of a round leaves to be written
-written-behind : (cause : Option Cause) (k : ℕ) (entry : BlockPlan) (round : ℕ) (bytes : List ℕ) → written (round_told cause k entry round ++ Write bytes ∷ []) ≡ bytes ++ []
-written-behind None k entry round bytes = refl
-written-behind (Some cause) k entry round bytes = refl
-
-module _ (layout : Layout) (k : ℕ) (entry : BlockPlan) (rows : List (List ℕ)) (marks : List (List Bool)) (size : length rows ≡ 208) (marks_size : length marks ≡ 208) (steps : List Step) (turn : Turn) where
-  -- for a block of image sectors that rounds give back or lose, as many bytes are written as these have
+  -- and for one that rounds give back
   read-wide : IsImageRead layout k entry rows marks steps turn → IsWide (image_bytes layout entry) steps turn
   read-wide (inl given) =
       let count = image_sectors layout entry.content in
@@ -148,30 +143,32 @@ module _ (layout : Layout) (k : ℕ) (entry : BlockPlan) (rows : List (List ℕ)
             ∙ length-sectors_out given.read.block entry count (found_is_product rows marks given.read.block given.read.gives) (few-sectors layout entry.content),
         λ last. let no : Good ≡ Last = sym given.good ∙ last in cc,
       )
-  read-wide (inr lost) =
-      let count = image_sectors layout entry.content in
-      let saved = sectors_out count (block_out rows marks entry) in
-      let widths = (sixteen-sectors rows marks size marks_size entry).1 in
-      let few = few-sectors layout entry.content in (
-        ap (λ s. length (written s)) lost.tells ∙ ap length (append-nil saved)
-            ∙ length-out (block_out rows marks entry) count (λ f below. widths f (omega arith)),
-        λ last. let no : Bad ≡ Last = sym lost.bad ∙ last in cc,
-      )
+  read-wide (inr refused) = refused-wide (deep_cause rows marks entry) refused
 
-  -- so whatever a block holds, `deep` writes as many bytes as its image sectors have
-  deep-wide : (content : Content) → entry.content ≡ content → IsReadDeep content layout k entry rows marks steps turn
-      → IsWide (image_bytes layout entry) steps turn
-  deep-wide (Image sector) is done = read-wide done
-  deep-wide Zero is done = passed-wide layout k entry rows marks size marks_size steps turn (ap (λ c. 2048 * image_sectors layout c) is) done
-  deep-wide Reference is done = passed-wide layout k entry rows marks size marks_size steps turn (ap (λ c. 2048 * image_sectors layout c) is) done
-  deep-wide Control is done = passed-wide layout k entry rows marks size marks_size steps turn (ap (λ c. 2048 * image_sectors layout c) is) done
+-- What is done for block k of the plan writes as many bytes as its image sectors have, where it does for each entry.
+entry-wide : (layout : Layout) (zones : Zones) (form : Form) (k : ℕ) (own : List ℕ) (steps : List Step) (turn : Turn)
+    (Does : BlockPlan → List (List ℕ) → List (List Bool) → List Step → Turn → Type 0)
+    → ((e : BlockPlan) (rows : List (List ℕ)) (marks : List (List Bool)) → length rows ≡ 208 → length marks ≡ 208 → Does e rows marks steps turn → IsWide (image_bytes layout e) steps turn)
+    → IsDoneByEntry (plan_of layout zones) (λ e rows marks. IfImage (Does e rows marks) e.content) form k own steps turn
+    → IsWide (bytes_of_block layout zones k) steps turn
+entry-wide layout zones form k own steps turn Does wide r =
+    let rows = captured_rows form own in
+    let marks = captured_marks form own in
+    subst (λ n. IsWide n steps turn) (sym (size_is layout zones k r.entry r.stands))
+    (if_image-wide (Does r.entry rows marks) layout r.entry.content r.entry.content steps turn
+    (wide r.entry rows marks (length-captured_rows form own) (length-captured_marks form own)) refl r.does)
+
+-- what `recover` writes for a block is as long as its image sectors
+pub recovered-wide : (layout : Layout) (zones : Zones) (form : Form) (k : ℕ) (own : List ℕ) (steps : List Step) (turn : Turn) → IsRecovered layout zones form k own steps turn
+    → IsWide (bytes_of_block layout zones k) steps turn
+recovered-wide layout zones form k own steps turn =
+    entry-wide layout zones form k own steps turn (λ e. IsImageDone layout k e) (λ e rows marks size marks_size. image-wide layout k e rows marks size marks_size steps turn)
 
 -- and what `deep` writes is
 pub deepened-wide : (layout : Layout) (zones : Zones) (form : Form) (k : ℕ) (own : List ℕ) (steps : List Step) (turn : Turn) → IsDeepened layout zones form k own steps turn
     → IsWide (bytes_of_block layout zones k) steps turn
-deepened-wide layout zones form k own steps turn r =
-    subst (λ n. IsWide n steps turn) (sym (size_is layout zones k r.entry r.stands))
-    (deep-wide layout k r.entry (captured_rows form own) (captured_marks form own) (length-captured_rows form own) (length-captured_marks form own) steps turn r.entry.content refl r.does)
+deepened-wide layout zones form k own steps turn =
+    entry-wide layout zones form k own steps turn (λ e. IsImageRead layout k e) (λ e rows marks size marks_size. read-wide layout k e rows marks size marks_size steps turn)
 
 -- Units that are the captured blocks of a plan, and write the image bytes that stand in each.
 abbrev pub block_units : Layout → Zones → Form → (ℕ → List ℕ → List Step → Turn → Type 0) → Units

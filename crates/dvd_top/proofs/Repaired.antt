@@ -18,8 +18,6 @@ use Rattle.dvd_layout.specs.Content.{IsImage}
 use Rattle.dvd_layout.specs.Lengths.{has_two_layers}
 use Rattle.dvd_layout.specs.Plan.{plan_of}
 use Rattle.dvd_layout.specs.declared.entry.BlockPlan.{BlockPlan}
-use Rattle.dvd_layout.specs.declared.entry.Content.{Content}
-use Rattle.dvd_layout.specs.declared.entry.Content.TheVariants.{Zero, Reference, Control, Image}
 use Rattle.dvd_layout.specs.declared.layout.Layout.{Layout}
 use Rattle.dvd_layout.specs.declared.layout.Zones.{Zones}
 use Rattle.dvd_deep.proofs.Readings.{deep-no_cause, deep-once, read-deep}
@@ -37,13 +35,14 @@ use Rattle.dvd_read.proofs.Outcomes.{agrees-no_cause}
 use Rattle.dvd_read.proofs.Mastered.{within-read}
 use Rattle.dvd_top.specs.Captured.{captured_part}
 use Rattle.dvd_top.specs.Commands.Master.{cpr_in, filled, frames_of, image_bytes}
-use Rattle.dvd_top.specs.Commands.Deep.{IsDeepened, IsReadDeep}
-use Rattle.dvd_top.specs.Commands.Recover.{IsDone}
-use Rattle.dvd_top.specs.Inner.Performing.{IsImageDone, IsImageRead, sectors_out}
+use Rattle.dvd_top.specs.Commands.Deep.{IsDeepened, IsImageRead, IsReadDeep}
+use Rattle.dvd_top.specs.Commands.Recover.{IsDone, IsImageDone, IsRecovered}
+use Rattle.dvd_top.specs.Inner.Performing.{sectors_out}
 use Rattle.dvd_top.specs.Laws.{DamageWithinTheBoundIsRepaired}
 use Rattle.dvd_top.proofs.CapturedParts.{whole_enough}
 use Rattle.dvd_top.proofs.DeepBlocks.{told_none}
-use Rattle.dvd_top.proofs.PlanEntries.{has_numbers, one_entry}
+use Rattle.dvd_top.proofs.EntryBlocks.{done_at, of_image}
+use Rattle.dvd_top.proofs.PlanEntries.{has_numbers}
 use Rattle.dvd_top.proofs.Repairs.{data_block-made, few-sectors, sector, sectors_list, written-image}
 
 -- the rows and marks of the bytes of a block are received ones
@@ -89,13 +88,13 @@ captured-received form own whole = record {
     marks_height : length (captured_marks form own) ≡ 208
     marks_height = length-map-range_with_len (row_marks_in form own) 0 208
 
--- what is done for a data block is done for image sectors
-pub image_done : (content : Content) (layout : Layout) (k : ℕ) (entry : BlockPlan) (rows : List (List ℕ)) (marks : List (List Bool)) (steps : List Step) (turn : Turn)
-    → IsImage content → IsDone content layout k entry rows marks steps turn → IsImageDone layout k entry rows marks steps turn
-image_done (Image a) layout k entry rows marks steps turn is done = done
-image_done Zero layout k entry rows marks steps turn is done = absurd is
-image_done Reference layout k entry rows marks steps turn is done = absurd is
-image_done Control layout k entry rows marks steps turn is done = absurd is
+-- what is done for a block that holds image
+pub recovered_at : (layout : Layout) (zones : Zones) (form : Form) (k : ℕ) (entry : BlockPlan) (own : List ℕ) (steps : List Step) (turn : Turn)
+    → slice_get (plan_of layout zones) k ≡ Some entry → IsImage entry.content → IsRecovered layout zones form k own steps turn
+    → IsImageDone layout k entry (captured_rows form own) (captured_marks form own) steps turn
+recovered_at layout zones form k entry own steps turn stands is_image does =
+    of_image (IsImageDone layout k entry (captured_rows form own) (captured_marks form own)) entry.content is_image steps turn
+    (done_at (plan_of layout zones) (λ e. IsDone e.content layout k e) form k entry stands own steps turn does)
 
 -- the law: of damage within the bound recovery gives back the image sectors of the block
 pub repaired : DamageWithinTheBoundIsRepaired
@@ -108,9 +107,7 @@ repaired layout zones form cpr k entry image own block steps turn stands is_imag
     let made = data_block-made layout entry cpr image is_image cpr_size (omega (arith, image_size, few)) in
     let read = within-read entry (has_two_layers layout.shape) (cpr_in entry.area cpr) (sector (filled image)) (frames_of layout entry cpr (filled image)) block rows marks
     (has_numbers layout zones k entry stands) made is_block received within in
-    let done : IsDone entry.content layout k entry rows marks steps turn =
-    subst (λ e. IsDone e.content layout k e rows marks steps turn) (one_entry (plan_of layout zones) k does.entry entry does.stands stands) does.does in
-    elim (image_done entry.content layout k entry rows marks steps turn is_image done) [
+    elim (recovered_at layout zones form k entry own steps turn stands is_image does) [
       | inr refused ↦ let first = refused.first in let none = read.0 in cc
       | inl given ↦
           let sectors : given.sectors ≡ sectors_list (filled image) = (read-determined rows marks entry given.sectors received.height received.marks_height given.read).1 ∙ read.1 in (
@@ -118,14 +115,6 @@ repaired layout zones form cpr k entry image own block steps turn stands is_imag
             given.good,
           )
     ]
-
--- what rounds read for a data block is read for image sectors
-image_read : (content : Content) (layout : Layout) (k : ℕ) (entry : BlockPlan) (rows : List (List ℕ)) (marks : List (List Bool)) (steps : List Step) (turn : Turn)
-    → IsImage content → IsReadDeep content layout k entry rows marks steps turn → IsImageRead layout k entry rows marks steps turn
-image_read (Image a) layout k entry rows marks steps turn is done = done
-image_read Zero layout k entry rows marks steps turn is done = absurd is
-image_read Reference layout k entry rows marks steps turn is done = absurd is
-image_read Control layout k entry rows marks steps turn is done = absurd is
 
 -- The same holds of `deep`.
 pub repaired_deep : (layout : Layout) (zones : Zones) (form : Form) (cpr : List ℕ) (k : ℕ) (entry : BlockPlan) (image own : List ℕ) (block : List (List ℕ)) (steps : List Step) (turn : Turn)
@@ -146,9 +135,8 @@ repaired_deep layout zones form cpr k entry image own block steps turn stands is
     let deep = read-deep rows marks entry (block_sectors rows marks entry) received.height received.marks_height read in
     let none : two_pass_cause (answers_of rows marks) ≡ None =
     agrees-no_cause (answers_of rows marks) read.block (length-answers_of rows marks 208 received.height received.marks_height) read.agrees in
-    let done : IsReadDeep entry.content layout k entry rows marks steps turn =
-    subst (λ e. IsReadDeep e.content layout k e rows marks steps turn) (one_entry (plan_of layout zones) k does.entry entry does.stands stands) does.does in
-    elim (image_read entry.content layout k entry rows marks steps turn is_image done) [
+    let done = done_at (plan_of layout zones) (λ e. IsReadDeep e.content layout k e) form k entry stands own steps turn does in
+    elim (of_image (IsImageRead layout k entry rows marks) entry.content is_image steps turn done) [
       | inr lost ↦ let first = lost.first in let no = deep-no_cause rows marks entry 1 (block_sectors rows marks entry) deep in cc
       | inl given ↦
           let sectors : given.sectors ≡ sectors_list (filled image) = (deep-once rows marks entry given.round 1 given.sectors (block_sectors rows marks entry) given.read deep).1 ∙ within_read.1 in (

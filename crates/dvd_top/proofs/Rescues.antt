@@ -1,5 +1,5 @@
 -- Of a data block that two passes refuse the good frames are given.
-use Rattle.std.proofs.Common.{◌≡◌, ◌∙◌, inl, inr, ℕ, ◌+◌, ◌-◌, ◌*◌, ◌<◌, ◌≤◌, Bool, true, false, nat_le, if◌then◌else◌, List, ◌++◌, length, length-append, take, drop, replicate, ap, sym, subst, append-nil, arith}
+use Rattle.std.proofs.Common.{◌≡◌, ◌∙◌, inl, inr, ℕ, ◌+◌, ◌-◌, ◌*◌, ◌<◌, ◌≤◌, Bool, true, false, nat_le, if◌then◌else◌, List, ◌++◌, length, length-append, take, drop, replicate, ap, sym, append-nil, arith}
 use Rattle.std.specs.List.{flat_map}
 use Rattle.std.proofs.lemmas.Bool.Decides.{leb_tells}
 use Rattle.dvd_block.specs.Product.{line}
@@ -9,7 +9,6 @@ use Rattle.dvd_capture.proofs.Columns.{length-answers_of}
 use Rattle.dvd_capture.proofs.Fetching.{part-append, part-behind}
 use Rattle.dvd_layout.specs.Lengths.{has_two_layers}
 use Rattle.dvd_layout.specs.Place.{image_sectors}
-use Rattle.dvd_layout.specs.Plan.{plan_of}
 use Rattle.dvd_layout.specs.declared.layout.Layout.{Layout}
 use Rattle.dvd_layout.specs.declared.entry.BlockPlan.{BlockPlan}
 use Rattle.dvd_loop.specs.Machine.{Step}
@@ -18,14 +17,15 @@ use Rattle.dvd_loop.specs.declared.ends.Turn.{Turn}
 use Rattle.dvd_read.specs.Salvage.{block_out}
 use Rattle.dvd_read.proofs.Outcomes.{agrees-no_cause}
 use Rattle.dvd_read.proofs.SavedLaws.{good_rows-saved, sixteen-sectors}
+use Rattle.dvd_read.specs.Reading.{block_cause}
 use Rattle.dvd_top.specs.Commands.Master.{cpr_in, filled, frames_of}
-use Rattle.dvd_top.specs.Commands.Recover.{IsDone, IsRefused}
+use Rattle.dvd_top.specs.Commands.Recover.{IsRefused}
 use Rattle.dvd_top.specs.Laws.{GoodFramesOfARefusedBlockAreGiven}
 use Rattle.dvd_top.specs.Inner.Performing.{sectors_out}
-use Rattle.dvd_top.proofs.PlanEntries.{has_numbers, one_entry}
+use Rattle.dvd_top.proofs.PlanEntries.{has_numbers}
 use Rattle.dvd_top.proofs.Recovered.{sectors_front, sectors_more}
 use Rattle.dvd_top.proofs.RecoveredWidths.{length-out}
-use Rattle.dvd_top.proofs.Repaired.{captured-received, image_done}
+use Rattle.dvd_top.proofs.Repaired.{captured-received, recovered_at}
 use Rattle.dvd_top.proofs.Repairs.{data_block-made, few-sectors, sector}
 
 -- what a row weighs, by whether it is cheap and whether it is lost
@@ -64,7 +64,7 @@ sector-filled image f inside = part-append image (replicate (32768 - length imag
 
 -- what is written of a refused block
 refused-written : (layout : Layout) (k : ℕ) (entry : BlockPlan) (rows : List (List ℕ)) (marks : List (List Bool)) (steps : List Step) (turn : Turn)
-    → IsRefused layout k entry rows marks steps turn → written steps ≡ sectors_out (image_sectors layout entry.content) (block_out rows marks entry)
+    → IsRefused (block_cause rows marks entry) layout k entry rows marks steps turn → written steps ≡ sectors_out (image_sectors layout entry.content) (block_out rows marks entry)
 refused-written layout k entry rows marks steps turn refused =
     ap written refused.tells ∙ append-nil (sectors_out (image_sectors layout entry.content) (block_out rows marks entry))
 
@@ -80,9 +80,7 @@ given_good layout zones form cpr k f entry image own block cause steps turn stan
     let saved = good_rows-saved entry (has_two_layers layout.shape) (cpr_in entry.area cpr) (sector (filled image)) (frames_of layout entry cpr (filled image)) block rows marks cause f
     (has_numbers layout zones k entry stands) made is_block received first (omega arith) (λ q lt. weightless _ _ (good q lt)) in
     let widths = (sixteen-sectors rows marks received.height received.marks_height entry).1 in
-    let done : IsDone entry.content layout k entry rows marks steps turn =
-    subst (λ e. IsDone e.content layout k e rows marks steps turn) (one_entry (plan_of layout zones) k does.entry entry does.stands stands) does.does in
-    elim (image_done entry.content layout k entry rows marks steps turn is_image done) [
+    elim (recovered_at layout zones form k entry own steps turn stands is_image does) [
       | inl given ↦
           let none = agrees-no_cause (answers_of rows marks) given.read.block (length-answers_of rows marks 208 received.height received.marks_height) given.read.agrees in
           cc

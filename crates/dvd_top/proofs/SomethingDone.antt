@@ -48,17 +48,17 @@ use Rattle.dvd_top.specs.Commands.Assemble.{assemble_units}
 use Rattle.dvd_top.specs.Commands.Convert.{IsConverted, convert_units}
 use Rattle.dvd_assemble.specs.Frames.{frame_size}
 use Rattle.dvd_top.specs.Commands.Frames.{frames_units, sector_frame}
-use Rattle.dvd_top.specs.Commands.Info.{IsAsked, IsSought, format_lines, info_units}
+use Rattle.dvd_top.specs.Commands.Info.{IsAsked, IsControlDone, IsSought, format_lines, info_units}
 use Rattle.dvd_top.specs.Commands.Master.{IsMastered, bytes_of_block, bytes_of_entry, cpr_in, filled, frames_of, main_for, master_units}
 use Rattle.dvd_capture.specs.TwoPass.{answers_of}
 use Rattle.dvd_deep.specs.Reading.{deep_cause}
 use Rattle.dvd_deep.proofs.Readings.{deep-some}
 use Rattle.dvd_read.specs.Causes.{two_pass_cause}
-use Rattle.dvd_top.specs.Commands.Deep.{IsDeepened, IsReadDeep, deep_units, round_told}
-use Rattle.dvd_top.specs.Commands.Recover.{IsDone, IsRecovered, recover_units}
+use Rattle.dvd_top.specs.Commands.Deep.{IsDeepened, IsImageRead, IsReadDeep, deep_units, round_told}
+use Rattle.dvd_top.specs.Commands.Recover.{IsDone, IsImageDone, IsRecovered, IsRefused, recover_units}
 use Rattle.dvd_top.specs.Commands.Survey.{IsSurveyed, survey_units}
-use Rattle.dvd_top.specs.Inner.Performing.{IsControlDone, IsImageDone, IsImageRead, IsPassedOver, sectors_out}
-use Rattle.dvd_top.specs.Captured.{captured_part}
+use Rattle.dvd_top.specs.Inner.Performing.{sectors_out}
+use Rattle.dvd_top.specs.Captured.{IfImage, IsDoneByEntry, IsPassedOver, captured_part}
 use Rattle.dvd_top.specs.Headline.{GoesOver, breaks_in}
 use Rattle.dvd_top.specs.Laws.{SomethingIsDone}
 use Rattle.dvd_top.specs.Opening.{IsHeaderOf, Opens}
@@ -197,6 +197,35 @@ mastered_some layout zones cpr six k own within are =
       record { entry = entry; stands = some.1; block = block.0; is_block = block.1; writes = refl; good = refl },
     )
 
+-- a block may be passed over
+passed_some : MaySome IsPassedOver
+passed_some = ([], Good, (refl, refl))
+
+-- where something may be done for image, something may whatever a block holds
+if_image_some : (Does : List Step → Turn → Type 0) → MaySome Does → (content : Content) → MaySome (IfImage Does content)
+if_image_some Does some (Image sector) = some
+if_image_some Does some Zero = passed_some
+if_image_some Does some Reference = passed_some
+if_image_some Does some Control = passed_some
+
+-- something may be done for a block, where something may for each entry
+entry_some : (entries : List BlockPlan) (Does : BlockPlan → List (List ℕ) → List (List Bool) → List Step → Turn → Type 0)
+    → ((entry : BlockPlan) (rows : List (List ℕ)) (marks : List (List Bool)) → length rows ≡ 208 → length marks ≡ 208 → MaySome (Does entry rows marks))
+    → (form : Form) (k : ℕ) (own : List ℕ) → k < length entries → MaySome (IsDoneByEntry entries Does form k own)
+entry_some entries Does some form k own within =
+    let at = some_entry entries k within in
+    let done = some at.0 (captured_rows form own) (captured_marks form own) (length-captured_rows form own) (length-captured_marks form own) in
+    (done.0, done.1, record { entry = at.0; stands = at.1; does = done.2 })
+
+-- a block may be refused for a cause that it has
+refused_some : (has : Option Cause) (cause : Cause) → has ≡ Some cause → (layout : Layout) (k : ℕ) (entry : BlockPlan) (rows : List (List ℕ)) (marks : List (List Bool))
+    → (steps : List Step) × (turn : Turn) × IsRefused has layout k entry rows marks steps turn
+refused_some has cause first layout k entry rows marks = (
+  Tell (damage_line k entry cause (saved_in rows marks entry)) ∷ Write (sectors_out (image_sectors layout entry.content) (block_out rows marks entry)) ∷ [],
+  Bad,
+  record { cause = cause; first = first; tells = refl; bad = refl },
+)
+
 -- RECOVER. A captured block has a cause, or it is read.
 module _ (layout : Layout) (k : ℕ) (entry : BlockPlan) (rows : List (List ℕ)) (marks : List (List Bool)) (size : length rows ≡ 208) (marks_size : length marks ≡ 208) where
   -- a block of image sectors without a cause may be given, and one with a cause may be refused for it
@@ -206,34 +235,20 @@ module _ (layout : Layout) (k : ℕ) (entry : BlockPlan) (rows : List (List ℕ)
     Good,
     inl (record { sectors = block_sectors rows marks entry; read = no_cause-read rows marks entry size marks_size none; writes = refl; good = refl }),
   )
-  image_some (Some cause) first = (
-    Tell (damage_line k entry cause (saved_in rows marks entry)) ∷ Write (sectors_out (image_sectors layout entry.content) (block_out rows marks entry)) ∷ [],
-    Bad,
-    inr (record { cause = cause; first = first; tells = refl; bad = refl }),
-  )
-
-  -- a block without image sectors may be passed over
-  passed_some : MaySome IsPassedOver
-  passed_some = ([], Good, (refl, refl))
-
-  -- whatever a block holds, something may be done for it
-  done_some : (content : Content) → MaySome (IsDone content layout k entry rows marks)
-  done_some (Image sector) = image_some (block_cause rows marks entry) refl
-  done_some Zero = passed_some
-  done_some Reference = passed_some
-  done_some Control = passed_some
+  image_some (Some cause) first =
+      let some = refused_some (block_cause rows marks entry) cause first layout k entry rows marks in
+      (some.0, some.1, inr some.2)
 
 -- so something is done for each block that `recover` reads
 recovered_some : (layout : Layout) (zones : Zones) (form : Form) (k : ℕ) (own : List ℕ) → k < length (plan_of layout zones)
     → MaySome (IsRecovered layout zones form k own)
-recovered_some layout zones form k own within =
-    let some = some_entry (plan_of layout zones) k within in
-    let done = done_some layout k some.0 (captured_rows form own) (captured_marks form own) (length-captured_rows form own) (length-captured_marks form own) some.0.content in
-    (done.0, done.1, record { entry = some.0; stands = some.1; does = done.2 })
+recovered_some layout zones form k =
+    entry_some (plan_of layout zones) (λ e. IsDone e.content layout k e)
+    (λ e rows marks size marks_size. if_image_some (IsImageDone layout k e rows marks) (image_some layout k e rows marks size marks_size (block_cause rows marks e) refl) e.content) form k
 
 -- DEEP. A captured block has a cause, or rounds give it back.
 module _ (layout : Layout) (k : ℕ) (entry : BlockPlan) (rows : List (List ℕ)) (marks : List (List Bool)) (size : length rows ≡ 208) (marks_size : length marks ≡ 208) where
-  -- a block without a cause may be given back by rounds, and one with a cause may be lost for it
+  -- a block without a cause may be given back by rounds, and one with a cause may be refused for it
   image_read_some : (cause : Option Cause) → deep_cause rows marks entry ≡ cause → MaySome (IsImageRead layout k entry rows marks)
   image_read_some None none =
       let some = deep-some rows marks entry size marks_size none in (
@@ -241,26 +256,16 @@ module _ (layout : Layout) (k : ℕ) (entry : BlockPlan) (rows : List (List ℕ)
         Good,
         inl (record { round = some.0; sectors = some.1; read = some.2; writes = refl; good = refl }),
       )
-  image_read_some (Some cause) first = (
-    Tell (damage_line k entry cause (saved_in rows marks entry)) ∷ Write (sectors_out (image_sectors layout entry.content) (block_out rows marks entry)) ∷ [],
-    Bad,
-    inr (record { cause = cause; first = first; tells = refl; bad = refl }),
-  )
-
-  -- whatever a block holds, rounds may do something for it
-  read_deep_some : (content : Content) → MaySome (IsReadDeep content layout k entry rows marks)
-  read_deep_some (Image sector) = image_read_some (deep_cause rows marks entry) refl
-  read_deep_some Zero = ([], Good, (refl, refl))
-  read_deep_some Reference = ([], Good, (refl, refl))
-  read_deep_some Control = ([], Good, (refl, refl))
+  image_read_some (Some cause) first =
+      let some = refused_some (deep_cause rows marks entry) cause first layout k entry rows marks in
+      (some.0, some.1, inr some.2)
 
 -- so something is done for each block that `deep` reads
 deepened_some : (layout : Layout) (zones : Zones) (form : Form) (k : ℕ) (own : List ℕ) → k < length (plan_of layout zones)
     → MaySome (IsDeepened layout zones form k own)
-deepened_some layout zones form k own within =
-    let some = some_entry (plan_of layout zones) k within in
-    let done = read_deep_some layout k some.0 (captured_rows form own) (captured_marks form own) (length-captured_rows form own) (length-captured_marks form own) some.0.content in
-    (done.0, done.1, record { entry = some.0; stands = some.1; does = done.2 })
+deepened_some layout zones form k =
+    entry_some (plan_of layout zones) (λ e. IsReadDeep e.content layout k e)
+    (λ e rows marks size marks_size. if_image_some (IsImageRead layout k e rows marks) (image_read_some layout k e rows marks size marks_size (deep_cause rows marks e) refl) e.content) form k
 
 -- INFO. A block of control data answers or it doesn't.
 module _ (entry : BlockPlan) (rows : List (List ℕ)) (marks : List (List Bool)) (size : length rows ≡ 208) (marks_size : length marks ≡ 208) where
@@ -286,16 +291,15 @@ module _ (entry : BlockPlan) (rows : List (List ℕ)) (marks : List (List Bool))
   -- whatever a block holds, something may be done when it is asked for its format
   asked_some : (content : Content) → MaySome (IsAsked content entry rows marks)
   asked_some Control = control_some (block_cause rows marks entry) refl
-  asked_some Zero = ([], Good, (refl, refl))
-  asked_some Reference = ([], Good, (refl, refl))
-  asked_some (Image sector) = ([], Good, (refl, refl))
+  asked_some Zero = passed_some
+  asked_some Reference = passed_some
+  asked_some (Image sector) = passed_some
 
 -- so something is done for each block that `info` asks
 sought_some : (initial : ℕ) (form : Form) (k : ℕ) (own : List ℕ) → k < initial + 224 → MaySome (IsSought initial form k own)
 sought_some initial form k own within =
-    let some = some_entry (lead_in_blocks initial) k (let size = length-lead_in_blocks initial in omega arith) in
-    let asked = asked_some some.0 (captured_rows form own) (captured_marks form own) (length-captured_rows form own) (length-captured_marks form own) some.0.content in
-    (asked.0, asked.1, record { entry = some.0; stands = some.1; does = asked.2 })
+    entry_some (lead_in_blocks initial) (λ e. IsAsked e.content e) (λ e rows marks size marks_size. asked_some e rows marks size marks_size e.content) form k own
+    (let size = length-lead_in_blocks initial in omega arith)
 
 -- SURVEY. Every block has a line.
 surveyed_some : (layout : Layout) (zones : Zones) (form : Form) (before : List (List ℕ)) (own : List ℕ) → length before < length (plan_of layout zones)

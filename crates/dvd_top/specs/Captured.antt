@@ -1,9 +1,13 @@
--- Ours: captured blocks in a stream, as units of a command: how the bytes of one begin, and where each stands.
-use Rattle.std.specs.Prelude.{◌≡◌, ℕ, zero, suc, ◌+◌, ◌*◌, ◌-◌, ◌<◌, nat_le, nat_lt, ◌==◌, ◌&&◌, ◌||◌, if◌then◌else◌, List, [], length, take, drop, Option, Some, None}
-use Rattle.dvd_capture.specs.Captured.{block_size, unit_size}
+-- Ours: captured blocks in a stream, as units of a command: how the bytes of one begin, where each stands, and what is done for
+-- one by the entry that it stands for.
+use Rattle.std.specs.Prelude.{◌≡◌, ℕ, zero, suc, ◌+◌, ◌*◌, ◌-◌, ◌<◌, nat_le, nat_lt, ◌==◌, ◌&&◌, ◌||◌, if◌then◌else◌, Bool, List, [], length, take, drop, slice_get, Option, Some, None}
+use Rattle.dvd_capture.specs.Captured.{block_size, captured_marks, captured_rows, unit_size}
 use Rattle.dvd_capture.specs.Listed.{end_of, length_of, listed_size, run_count, start_of}
 use Rattle.dvd_capture.specs.declared.form.Form.{Form}
 use Rattle.dvd_capture.specs.declared.form.Form.TheVariants.{Plain, Marked, Listed}
+use Rattle.dvd_layout.specs.declared.entry.BlockPlan.{BlockPlan}
+use Rattle.dvd_layout.specs.declared.entry.Content.{Content}
+use Rattle.dvd_layout.specs.declared.entry.Content.TheVariants.{Zero, Reference, Control, Image}
 use Rattle.dvd_loop.specs.Machine.{Part, Step, Units, sized}
 use Rattle.dvd_loop.specs.Machine.Part.{Whole, Broken}
 use Rattle.dvd_loop.specs.declared.ends.Behind.TheVariants.{Asks}
@@ -11,6 +15,7 @@ use Rattle.dvd_loop.specs.Laws.{IsDamageEnd, IsSearchEnd}
 use Rattle.dvd_loop.specs.declared.ends.LoopEnd.{LoopEnd}
 use Rattle.dvd_loop.specs.declared.ends.LoopEnd.TheVariants.{BadMarks}
 use Rattle.dvd_loop.specs.declared.ends.Turn.{Turn}
+use Rattle.dvd_loop.specs.declared.ends.Turn.TheVariants.{Good}
 
 -- the first of two places, where there are such
 abbrev pub or_later : Option ℕ → Option ℕ → Option ℕ
@@ -84,3 +89,21 @@ IsCaptureEnd form count end = IsDamageEnd count end
 abbrev pub IsSoughtEnd : Form → ℕ → LoopEnd → Type 0
 IsSoughtEnd Listed count (BadMarks block at) = block < count
 IsSoughtEnd form count end = IsSearchEnd count end
+
+-- What is done for captured block k, whose bytes are its own: this, by the entry that stands there and by the rows and marks of
+-- the block.
+pub record IsDoneByEntry (entries : List BlockPlan) (Does : BlockPlan → List (List ℕ) → List (List Bool) → List Step → Turn → Type 0) (form : Form) (k : ℕ) (own : List ℕ) (steps : List Step) (turn : Turn) : Type 0 where
+  pub entry : BlockPlan
+  pub stands : slice_get entries k ≡ Some entry
+  pub does : Does entry (captured_rows form own) (captured_marks form own) steps turn
+
+-- nothing is done for a block that is passed over
+abbrev pub IsPassedOver : List Step → Turn → Type 0
+IsPassedOver steps turn = (steps ≡ []) × (turn ≡ Good)
+
+-- this is done for a block that holds image, and any other is passed over
+abbrev pub IfImage : (List Step → Turn → Type 0) → Content → List Step → Turn → Type 0
+IfImage Does (Image sector) steps turn = Does steps turn
+IfImage Does Zero steps turn = IsPassedOver steps turn
+IfImage Does Reference steps turn = IsPassedOver steps turn
+IfImage Does Control steps turn = IsPassedOver steps turn

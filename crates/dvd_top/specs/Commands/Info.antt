@@ -1,7 +1,6 @@
 -- The command `info`: the physical format that the lead-in of a disk tells (ECMA-267, control data).
-use Rattle.std.specs.Prelude.{◌≡◌, ◌⊎◌, ℕ, ◌+◌, Bool, Some, None, List, [], ◌∷◌, ◌++◌, codes, decimal, slice_get, if◌then◌else◌}
+use Rattle.std.specs.Prelude.{◌≡◌, ◌⊎◌, ℕ, ◌+◌, Bool, Some, None, List, [], ◌∷◌, ◌++◌, codes, decimal, if◌then◌else◌}
 use Rattle.dvd_block.specs.Product.{line}
-use Rattle.dvd_capture.specs.Captured.{captured_rows, captured_marks}
 use Rattle.dvd_capture.specs.declared.form.Form.{Form}
 use Rattle.dvd_control.specs.Format.{Fields, control_fault, fields_in}
 use Rattle.dvd_control.specs.declared.format.ControlFault.{ControlFault}
@@ -18,7 +17,7 @@ use Rattle.dvd_loop.specs.declared.ends.Turn.TheVariants.{Good, Last}
 use Rattle.dvd_read.specs.Reading.{IsReadAs, block_cause}
 use Rattle.dvd_read.specs.declared.cause.Cause.{Cause}
 use Rattle.dvd_report.specs.Lines.{hexadecimal}
-use Rattle.dvd_top.specs.Captured.{captured_units}
+use Rattle.dvd_top.specs.Captured.{IsDoneByEntry, IsPassedOver, captured_units}
 use Rattle.dvd_top.specs.Meaning.{Meaning}
 
 -- a line with a name and a number in decimal
@@ -59,18 +58,20 @@ pub record IsNoAnswer (entry : BlockPlan) (rows : List (List ℕ)) (marks : List
   pub nothing : steps ≡ []
   pub good : turn ≡ Good
 
--- a block that holds no control data is passed over
+-- what is done for a block of control data
+abbrev pub IsControlDone : BlockPlan → List (List ℕ) → List (List Bool) → List Step → Turn → Type 0
+IsControlDone entry rows marks steps turn = IsAnswer entry rows marks steps turn ⊎ IsNoAnswer entry rows marks steps turn
+
+-- a block that holds none is passed over
 abbrev pub IsAsked : Content → BlockPlan → List (List ℕ) → List (List Bool) → List Step → Turn → Type 0
-IsAsked Control entry rows marks steps turn = IsAnswer entry rows marks steps turn ⊎ IsNoAnswer entry rows marks steps turn
-IsAsked Zero entry rows marks steps turn = (steps ≡ []) × (turn ≡ Good)
-IsAsked Reference entry rows marks steps turn = (steps ≡ []) × (turn ≡ Good)
-IsAsked (Image sector) entry rows marks steps turn = (steps ≡ []) × (turn ≡ Good)
+IsAsked Control entry rows marks steps turn = IsControlDone entry rows marks steps turn
+IsAsked Zero entry rows marks steps turn = IsPassedOver steps turn
+IsAsked Reference entry rows marks steps turn = IsPassedOver steps turn
+IsAsked (Image sector) entry rows marks steps turn = IsPassedOver steps turn
 
 -- what is done for block k of the lead-in, whose captured bytes are its own
-pub record IsSought (initial : ℕ) (form : Form) (k : ℕ) (own : List ℕ) (steps : List Step) (turn : Turn) : Type 0 where
-  pub entry : BlockPlan
-  pub stands : slice_get (lead_in_blocks initial) k ≡ Some entry
-  pub does : IsAsked entry.content entry (captured_rows form own) (captured_marks form own) steps turn
+abbrev pub IsSought : ℕ → Form → ℕ → List ℕ → List Step → Turn → Type 0
+IsSought initial = IsDoneByEntry (lead_in_blocks initial) (λ entry. IsAsked entry.content entry)
 
 -- The blocks up to the last of control data: the Initial Zone, 2 of reference code, 30 of a buffer zone, and 192. The first
 -- that answers is the last that is read, and behind all of them no control block has answered.

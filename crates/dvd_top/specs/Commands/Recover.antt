@@ -1,14 +1,12 @@
 -- The command `recover`: the image sectors that are read from a stream of captured blocks. Where a block is refused a line names
 -- it, and the frames of it that are right by themselves are saved.
-use Rattle.std.specs.Prelude.{◌≡◌, ◌⊎◌, ℕ, Bool, Some, List, [], ◌∷◌, codes, length, take, slice_get}
+use Rattle.std.specs.Prelude.{◌≡◌, ◌⊎◌, ℕ, Bool, Option, Some, List, [], ◌∷◌, codes, length, take}
 use Rattle.std.specs.List.{flat_map}
-use Rattle.dvd_capture.specs.Captured.{captured_rows, captured_marks}
 use Rattle.dvd_capture.specs.declared.form.Form.{Form}
 use Rattle.dvd_layout.specs.Place.{image_sectors}
 use Rattle.dvd_layout.specs.Plan.{plan_of}
 use Rattle.dvd_layout.specs.declared.entry.BlockPlan.{BlockPlan}
 use Rattle.dvd_layout.specs.declared.entry.Content.{Content}
-use Rattle.dvd_layout.specs.declared.entry.Content.TheVariants.{Zero, Reference, Control, Image}
 use Rattle.dvd_layout.specs.declared.layout.Layout.{Layout}
 use Rattle.dvd_layout.specs.declared.layout.Zones.{Zones}
 use Rattle.dvd_loop.specs.Machine.{Step, Units}
@@ -19,7 +17,7 @@ use Rattle.dvd_read.specs.Reading.{IsReadAs, block_cause}
 use Rattle.dvd_read.specs.Salvage.{block_out, saved_in}
 use Rattle.dvd_read.specs.declared.cause.Cause.{Cause}
 use Rattle.dvd_report.specs.Lines.{damage_line}
-use Rattle.dvd_top.specs.Captured.{captured_units}
+use Rattle.dvd_top.specs.Captured.{IfImage, IsDoneByEntry, captured_units}
 use Rattle.dvd_top.specs.Meaning.{Meaning}
 use Rattle.dvd_words.specs.Settings.{IsLayoutOf, broken_rule}
 
@@ -30,26 +28,26 @@ pub record IsGiven (layout : Layout) (entry : BlockPlan) (rows : List (List ℕ)
   pub writes : steps ≡ Write (flat_map (λ sector. sector) (take (image_sectors layout entry.content) sectors)) ∷ []
   pub good : turn ≡ Good
 
--- Or the block is refused for its first cause: its line is told with the number of frames that are rescued, and then its image
--- sectors are written, zeros in the place of those that are lost.
-pub record IsRefused (layout : Layout) (k : ℕ) (entry : BlockPlan) (rows : List (List ℕ)) (marks : List (List Bool)) (steps : List Step) (turn : Turn) : Type 0 where
+-- Or the block is refused for the first cause that it has: its line is told with the number of frames that are rescued, and then
+-- its image sectors are written, zeros in the place of those that are lost.
+pub record IsRefused (has : Option Cause) (layout : Layout) (k : ℕ) (entry : BlockPlan) (rows : List (List ℕ)) (marks : List (List Bool)) (steps : List Step) (turn : Turn) : Type 0 where
   pub cause : Cause
-  pub first : block_cause rows marks entry ≡ Some cause
+  pub first : has ≡ Some cause
   pub tells : steps ≡ Tell (damage_line k entry cause (saved_in rows marks entry)) ∷ Write (flat_map (λ sector. sector) (take (image_sectors layout entry.content) (block_out rows marks entry))) ∷ []
   pub bad : turn ≡ Bad
 
--- a block that holds no image is passed over
+-- what is done for a block that holds image
+abbrev pub IsImageDone : Layout → ℕ → BlockPlan → List (List ℕ) → List (List Bool) → List Step → Turn → Type 0
+IsImageDone layout k entry rows marks steps turn =
+    IsGiven layout entry rows marks steps turn ⊎ IsRefused (block_cause rows marks entry) layout k entry rows marks steps turn
+
+-- a block that holds none is passed over
 abbrev pub IsDone : Content → Layout → ℕ → BlockPlan → List (List ℕ) → List (List Bool) → List Step → Turn → Type 0
-IsDone (Image sector) layout k entry rows marks steps turn = IsGiven layout entry rows marks steps turn ⊎ IsRefused layout k entry rows marks steps turn
-IsDone Zero layout k entry rows marks steps turn = (steps ≡ []) × (turn ≡ Good)
-IsDone Reference layout k entry rows marks steps turn = (steps ≡ []) × (turn ≡ Good)
-IsDone Control layout k entry rows marks steps turn = (steps ≡ []) × (turn ≡ Good)
+IsDone content layout k entry rows marks = IfImage (IsImageDone layout k entry rows marks) content
 
 -- what is done for block k of the plan, whose captured bytes are its own
-pub record IsRecovered (layout : Layout) (zones : Zones) (form : Form) (k : ℕ) (own : List ℕ) (steps : List Step) (turn : Turn) : Type 0 where
-  pub entry : BlockPlan
-  pub stands : slice_get (plan_of layout zones) k ≡ Some entry
-  pub does : IsDone entry.content layout k entry (captured_rows form own) (captured_marks form own) steps turn
+abbrev pub IsRecovered : Layout → Zones → Form → ℕ → List ℕ → List Step → Turn → Type 0
+IsRecovered layout zones form k = IsDoneByEntry (plan_of layout zones) (λ entry. IsDone entry.content layout k entry) form k
 
 -- the units are the captured blocks of the plan
 abbrev pub recover_units : Layout → Zones → Form → Units

@@ -13,8 +13,7 @@ use Rattle.dvd_loop.specs.Machine.{EndsWithin, Step}
 use Rattle.dvd_loop.specs.Machine.Step.{Tell, Write}
 use Rattle.dvd_loop.specs.declared.ends.Turn.{Turn}
 use Rattle.dvd_loop.specs.declared.ends.Turn.TheVariants.{Bad, Good}
-use Rattle.dvd_top.specs.Commands.Info.{IsAnswer, IsNoAnswer}
-use Rattle.dvd_top.specs.Commands.Recover.{IsGiven, IsRefused}
+use Rattle.dvd_top.specs.Commands.Info.{IsNoAnswer}
 use Rattle.dvd_loop.specs.Streams.{Comes, HaveCauses, IsTold, Streams}
 use Rattle.dvd_loop.specs.declared.ends.LoopEnd.{LoopEnd}
 use Rattle.dvd_loop.specs.declared.ends.LoopEnd.TheVariants.{ReadFault, Short}
@@ -24,7 +23,6 @@ use Rattle.dvd_read.specs.Reading.{IsReadAs, block_cause}
 use Rattle.dvd_report.specs.Survey.{survey_line, surveyed}
 use Rattle.dvd_report.specs.declared.counts.Surveyed.{Surveyed}
 use Rattle.dvd_top.specs.Commands.Merge.{tables_in}
-use Rattle.dvd_top.specs.Commands.Deep.{IsGivenBack, IsLost}
 use Rattle.dvd_capture.specs.TwoPass.{answers_of}
 use Rattle.dvd_deep.specs.Reading.{IsDeep}
 use Rattle.dvd_layout.specs.Place.{image_sectors}
@@ -84,14 +82,6 @@ pub record EndsCaptured (form : Form) (k : ℕ) (old new : Seen) (end : LoopEnd)
 abbrev pub sectors_out : ℕ → List (List ℕ) → List ℕ
 sectors_out count sectors = flat_map (λ sector. sector) (take count sectors)
 
--- what is done for a block that holds image
-abbrev pub IsImageDone : Layout → ℕ → BlockPlan → List (List ℕ) → List (List Bool) → List Step → Turn → Type 0
-IsImageDone layout k entry rows marks steps turn = IsGiven layout entry rows marks steps turn ⊎ IsRefused layout k entry rows marks steps turn
-
--- the same by rounds
-abbrev pub IsImageRead : Layout → ℕ → BlockPlan → List (List ℕ) → List (List Bool) → List Step → Turn → Type 0
-IsImageRead layout k entry rows marks steps turn = IsGivenBack layout k entry rows marks steps turn ⊎ IsLost layout k entry rows marks steps turn
-
 -- a line is told, these bytes are written, and the unit is this
 abbrev pub TellsAndWrites : List ℕ → List ℕ → Turn → List Step → Turn → Type 0
 TellsAndWrites line bytes is steps turn = (steps ≡ Tell line ∷ Write bytes ∷ []) × (turn ≡ is)
@@ -119,18 +109,10 @@ pub record Tells (entry : BlockPlan) (rows : List (List ℕ)) (marks : List (Lis
 abbrev pub AnswersNothing : BlockPlan → List (List ℕ) → List (List Bool) → Type 0
 AnswersNothing entry rows marks = IsNoAnswer entry rows marks [] Good
 
--- what is done for a block of control data
-abbrev pub IsControlDone : BlockPlan → List (List ℕ) → List (List Bool) → List Step → Turn → Type 0
-IsControlDone entry rows marks steps turn = IsAnswer entry rows marks steps turn ⊎ IsNoAnswer entry rows marks steps turn
-
 -- what is done for a block that is surveyed behind those
 pub record IsLineDone (entry : BlockPlan) (blocks : List Surveyed) (rows : List (List ℕ)) (marks : List (List Bool)) (steps : List Step) (turn : Turn) : Type 0 where
   pub writes : steps ≡ Write (survey_line (length blocks) entry (blocks ++ surveyed rows marks entry ∷ [])) ∷ []
   pub answers : turn ≡ turn_by (block_cause rows marks entry)
-
--- nothing is done for a block that is passed over
-abbrev pub IsPassedOver : List Step → Turn → Type 0
-IsPassedOver steps turn = (steps ≡ []) × (turn ≡ Good)
 
 -- A source gave so many captures of a block, and this is the join of what they know of it.
 pub record AreTaken (captures : ℕ) (form : Form) (old new : Option (List ℕ)) (table : Table) : Type 0 where

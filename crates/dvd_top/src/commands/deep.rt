@@ -19,8 +19,8 @@ ghost use Rattle.dvd_report.specs.Lines.{round_line};
 ghost use Rattle.dvd_top.specs.Captured.{IsCaptureEnd};
 ghost use Rattle.dvd_top.specs.Headline.{GoesOver};
 ghost use Rattle.dvd_top.specs.Opening.{IsOpened};
-ghost use Rattle.dvd_top.specs.Commands.Deep.{IsReadDeep, deep_units};
-ghost use Rattle.dvd_top.specs.Inner.Performing.{IsFoundBy, IsImageRead, IsPerformed, TellsAndWrites};
+ghost use Rattle.dvd_top.specs.Commands.Deep.{IsImageRead, IsReadDeep, deep_units};
+ghost use Rattle.dvd_top.specs.Inner.Performing.{IsFoundBy, IsPerformed, TellsAndWrites};
 ghost use Rattle.dvd_words.specs.Settings.{IsLayoutOf};
 
 use crate::commands::captured::{fetch_block, refuse_block, write_sectors};

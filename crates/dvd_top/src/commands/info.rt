@@ -13,8 +13,8 @@ ghost use Rattle.dvd_ports.specs.Seen.{Seen};
 ghost use Rattle.dvd_top.specs.Captured.{IsSoughtEnd};
 ghost use Rattle.dvd_top.specs.Headline.{GoesOver};
 ghost use Rattle.dvd_top.specs.Opening.{IsOpened};
-ghost use Rattle.dvd_top.specs.Commands.Info.{IsAsked, info_units};
-ghost use Rattle.dvd_top.specs.Inner.Performing.{AnswersNothing, Tells, IsControlDone, IsPerformed};
+ghost use Rattle.dvd_top.specs.Commands.Info.{IsAsked, IsControlDone, info_units};
+ghost use Rattle.dvd_top.specs.Inner.Performing.{AnswersNothing, Tells, IsPerformed};
 
 use crate::commands::captured::fetch_block;
 use crate::format::format_lines;

@@ -15,8 +15,8 @@ ghost use Rattle.dvd_loop.specs.Turns.{AreDone, HaveCausesFor};
 ghost use Rattle.dvd_top.specs.Captured.{IsCaptureEnd};
 ghost use Rattle.dvd_top.specs.Headline.{GoesOver};
 ghost use Rattle.dvd_top.specs.Opening.{IsOpened};
-ghost use Rattle.dvd_top.specs.Commands.Recover.{IsDone, recover_units};
-ghost use Rattle.dvd_top.specs.Inner.Performing.{IsPerformed, IsImageDone};
+ghost use Rattle.dvd_top.specs.Commands.Recover.{IsDone, IsImageDone, recover_units};
+ghost use Rattle.dvd_top.specs.Inner.Performing.{IsPerformed};
 ghost use Rattle.dvd_top.specs.Inner.Workers.{IsBlockRead, IsReader};
 ghost use Rattle.dvd_words.specs.Settings.{IsLayoutOf};
 

@@ -1,4 +1,4 @@
-use Rattle.std.proofs.Common.{◌≡◌, ◌∙◌, ◌*◌, ℕ, List, Some, take, ap, subst}
+use Rattle.std.proofs.Common.{◌≡◌, ◌∙◌, ◌*◌, inr, ℕ, List, Some, take, ap, subst}
 use Rattle.std.specs.Io.KnownBytes.{Appends}
 use Rattle.dvd_block.specs.Buffers.{piece_bytes}
 use Rattle.dvd_capture.proofs.WorkParts.{marks-height}
@@ -9,8 +9,8 @@ use Rattle.dvd_loop.specs.declared.ends.LoopEnd.TheVariants.{WriteFault}
 use Rattle.dvd_loop.proofs.TurnLemmas.{err_is, write_begun, write_done}
 use Rattle.dvd_ports.specs.Whole.{AppendsPrefix}
 use Rattle.dvd_top.specs.Inner.Performing.{IsFoundBy, IsRefusedFor, sectors_out}
-use Rattle.dvd_top.proofs.DeepBlocks.{found_given, height, lost, read_given}
-use Rattle.dvd_top.proofs.RecoverBlocks.{same_work}
+use Rattle.dvd_top.proofs.DeepBlocks.{found_given, height, read_given}
+use Rattle.dvd_top.proofs.RecoverBlocks.{refused, same_work}
 use Rattle.dvd_top.proofs.TwoSteps.{done_as}
 use Rattle.dvd_top.proofs.commands.deep.deep_image.Goals as goal
 
@@ -59,7 +59,7 @@ returns-in-Err-search_block-clause-done g c = λ source.
     c.in-Err-search_block.ensures.refused in
     done_as _ _
     (λ steps turn is.
-    lost layout c.args.k entry (rows_of work) (marks_of_work work) cause first steps turn
-    (same_work (λ rows marks. IsRefusedFor layout c.args.k entry rows marks cause steps turn) work c.read_block.new.work c.read_block.ensures.received c.read_block.ensures.marks is))
+    inr (refused layout c.args.k entry (rows_of work) (marks_of_work work) _ cause first steps turn
+    (same_work (λ rows marks. IsRefusedFor layout c.args.k entry rows marks cause steps turn) work c.read_block.new.work c.read_block.ensures.received c.read_block.ensures.marks is)))
     (streams source (g.K.Sink.seen c.args.out.now) (g.E.Sink.seen c.args.report.now))
     (streams source (g.K.Sink.seen c.refuse_block.new.out) (g.E.Sink.seen c.refuse_block.new.report)) c.refuse_block.result (c.refuse_block.ensures.done source)

@@ -2,14 +2,14 @@ use Rattle.std.proofs.Common.{refl, sym, subst}
 use Rattle.dvd_capture.specs.Works.{marks_of_work, rows_of}
 use Rattle.dvd_loop.specs.Streams.{streams}
 use Rattle.dvd_loop.specs.Turns.{AreDone}
-use Rattle.dvd_top.specs.Commands.Recover.{IsDone}
-use Rattle.dvd_top.proofs.RecoverBlocks.{passed_by}
+use Rattle.dvd_top.specs.Commands.Recover.{IsDone, IsImageDone}
+use Rattle.dvd_top.proofs.EntryBlocks.{no_image}
 use Rattle.dvd_top.proofs.commands.recover.recover_block.Goals as goal
 
 pub returns-in-Zero : goal.returns-in-Zero
 returns-in-Zero g c = record {
   done = λ source.
-      passed_by c.args.entry.now.content c.in-Zero.is c.args.layout.now c.args.k c.args.entry.now (rows_of c.args.work.now) (marks_of_work c.args.work.now)
+      no_image (IsImageDone c.args.layout.now c.args.k c.args.entry.now (rows_of c.args.work.now) (marks_of_work c.args.work.now)) c.args.entry.now.content c.in-Zero.is
       (streams source (g.K.Sink.seen c.args.out.now) (g.E.Sink.seen c.args.report.now));
   causes = λ source. record { source = refl; output = refl; report = refl };
 }

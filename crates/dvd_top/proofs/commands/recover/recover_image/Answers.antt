@@ -1,4 +1,4 @@
-use Rattle.std.proofs.Common.{subst}
+use Rattle.std.proofs.Common.{inr, subst}
 use Rattle.std.specs.Io.KnownBytes.{Appends}
 use Rattle.dvd_ports.specs.Whole.{AppendsPrefix}
 use Rattle.dvd_capture.specs.Works.{marks_of_work, rows_of, sectors_of}
@@ -35,7 +35,7 @@ returns-in-Err-clause-done g c = λ source.
     let work = c.args.work.now in
     done_as _ _
     (λ steps turn is.
-    refused layout c.args.k entry (rows_of work) (marks_of_work work) c.in-Err.cause c.in-Err.ensures.refused steps turn
-    (same_work (λ rows marks. IsRefusedFor layout c.args.k entry rows marks c.in-Err.cause steps turn) work c.read_by.new.work c.read_by.ensures.received c.read_by.ensures.marks is))
+    inr (refused layout c.args.k entry (rows_of work) (marks_of_work work) _ c.in-Err.cause c.in-Err.ensures.refused steps turn
+    (same_work (λ rows marks. IsRefusedFor layout c.args.k entry rows marks c.in-Err.cause steps turn) work c.read_by.new.work c.read_by.ensures.received c.read_by.ensures.marks is)))
     (streams source (g.K.Sink.seen c.args.out.now) (g.E.Sink.seen c.args.report.now))
     (streams source (g.K.Sink.seen c.refuse_block.new.out) (g.E.Sink.seen c.refuse_block.new.report)) c.refuse_block.result (c.refuse_block.ensures.done source)
