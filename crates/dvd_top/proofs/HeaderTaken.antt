@@ -1,11 +1,11 @@
 -- A run over a capture that opens with a header, and one over bytes that open with none.
-use Rattle.std.proofs.Common.{◌≡◌, ◌∙◌, inl, inr, ℕ, List, [], ◌++◌, refl, sym, ap, subst, append-nil}
+use Rattle.std.proofs.Common.{◌≡◌, ◌∙◌, inl, inr, ℕ, List, [], ◌++◌, refl, sym, ap, subst, append-nil, None}
 use Rattle.std.specs.Io.KnownBytes.{Consumes}
 use Rattle.dvd_capture.specs.Captured.{HasSize}
 use Rattle.dvd_capture.specs.declared.form.Form.{Form}
 use Rattle.dvd_capture.specs.declared.form.Form.TheVariants.{Plain, Marked, Listed}
 use Rattle.dvd_layout.specs.declared.layout.Layout.{Layout}
-use Rattle.dvd_loop.specs.Machine.{Outcome, ended, taking}
+use Rattle.dvd_loop.specs.Machine.{Outcome, ended, taking, IsOutcome, Units}
 use Rattle.dvd_loop.specs.Streams.{Comes, HaveCauses, Streams, streams}
 use Rattle.dvd_loop.specs.declared.ends.LoopEnd.{LoopEnd}
 use Rattle.dvd_loop.proofs.StreamLemmas.{comes_after, comes_as, told_before}
@@ -16,6 +16,7 @@ use Rattle.dvd_top.specs.Headline.{GoesOver, IsLoop, breaks_in}
 use Rattle.dvd_top.specs.Inner.Opened.{EndsInHeader, HasOpened, NoLoop}
 use Rattle.dvd_top.specs.Inner.Performing.{HasGoneOver, HasLooped}
 use Rattle.dvd_top.specs.Opening.{ComesBehind, IsOpened, Opens}
+use Rattle.dvd_words.specs.declared.settings.Command.{Command}
 use Rattle.dvd_words.specs.declared.settings.Settings.{Settings}
 
 -- WORDS. What holds of a command by its words alone holds of its run, where no header comes first.
@@ -38,7 +39,25 @@ breaks_by_words Plain sized settings = refl
 breaks_by_words Marked sized settings = refl
 breaks_by_words Listed sized settings = absurd (sized refl)
 
--- so a command that has gone over its units has run
+-- A loop over the units that a command has by its settings goes over them,
+pub goes_over : (command : Command) (settings : Settings) → settings.command ≡ command
+    → (units : Units) → ((P : Units → Type 0) → P units → (meaning command).OfUnits settings P)
+    → (old new : Streams) (end : LoopEnd) → Comes (IsOutcome units) old new end → Comes (GoesOver settings) old new end
+goes_over command settings is units has old new end =
+    comes_as (IsOutcome units) (GoesOver settings) old new end
+    (λ bytes outcome runs. subst (λ c. (meaning c).OfUnits settings (λ u. IsOutcome u bytes outcome)) (sym is) (has (λ u. IsOutcome u bytes outcome) runs))
+
+-- so that this is all that the command does, where it breaks no rule
+pub gone_over : (command : Command) (settings : Settings) → settings.command ≡ command → (meaning command).breaks settings ≡ None
+    → (units : Units) → ((P : Units → Type 0) → P units → (meaning command).OfUnits settings P)
+    → (old new : Streams) (end : LoopEnd) → Comes (IsOutcome units) old new end → HaveCauses end end old new → HasGoneOver settings old new end
+gone_over command settings is lawful units has old new end comes causes = record {
+  lawful = subst (λ c. (meaning c).breaks settings ≡ None) (sym is) lawful;
+  comes = goes_over command settings is units has old new end comes;
+  causes = causes;
+}
+
+-- and a command that has gone over its units has run
 pub looped_by_words : (settings : Settings) → HasSize settings.form → (old new : Streams) (end : LoopEnd) → HasGoneOver settings old new end
     → HasLooped settings old new end
 looped_by_words settings sized old new end gone = record {
@@ -63,6 +82,15 @@ opened_on Loops settings stated layout old read output report new end opened com
       takes = refl;
     })
     comes
+
+-- and where its units are those of the settings that the header states, the command has opened on them
+pub opened_over : (command : Command) (settings stated : Settings) (layout : Layout) → settings.command ≡ command
+    → (old read output report : Seen) (new : Streams) (end : LoopEnd) → HasOpened settings old read stated layout
+    → (units : Units) → ((P : Units → Type 0) → P units → (meaning command).OfUnits stated P)
+    → Comes (IsOutcome units) (streams read output report) new end → Comes (IsOpened GoesOver settings) (streams old output report) new end
+opened_over command settings stated layout is old read output report new end opened units has comes =
+    opened_on GoesOver settings stated layout old read output report new end opened
+    (goes_over command stated (ap (λ s. s.command) opened.header.states.all ∙ is) units has (streams read output report) new end comes)
 
 -- no loop comes behind one in which the run ends
 behind_none : (Loops : Settings → List ℕ → Outcome → Type 0) (settings : Settings) (own left : List ℕ) (after : Outcome)

@@ -1,22 +1,16 @@
-use Rattle.std.proofs.Common.{◌≡◌, None, refl, sym, subst, arith}
-use Rattle.dvd_loop.specs.Machine.{IsOutcome}
-use Rattle.dvd_loop.proofs.StreamLemmas.{comes_as}
-use Rattle.dvd_top.specs.Commands.{meaning}
+use Rattle.std.proofs.Common.{refl, arith}
 use Rattle.dvd_top.specs.Commands.Assemble.{assemble_units}
-use Rattle.dvd_top.specs.Headline.{GoesOver}
 use Rattle.dvd_top.proofs.AssembleFrames.{blocks_few}
+use Rattle.dvd_words.specs.declared.settings.Command.TheVariants.{Assemble}
+use Rattle.dvd_top.proofs.HeaderTaken.{gone_over}
 use Rattle.dvd_top.proofs.commands.assemble.run_assemble.Goals as goal
 
 pub returns-clause-performed : goal.returns-clause-performed
 returns-clause-performed g c =
     let settings = c.args.settings.now in
-    let layout = c.in_ok-layout.layout in record {
-      lawful = subst (λ command. (meaning command).breaks settings ≡ None) (sym c.requires.command) (c.in_ok-layout.ensures.lawful refl);
-      comes = comes_as (IsOutcome (assemble_units layout settings.form settings.frames)) (GoesOver settings) _ _ c.assemble_loop.result
-          (λ bytes outcome runs. subst (λ command. (meaning command).OfUnits settings (λ units. IsOutcome units bytes outcome)) (sym c.requires.command) (layout, c.in_ok-layout.ensures.lengths, runs))
-          c.assemble_loop.ensures.follows;
-      causes = c.assemble_loop.ensures.causes;
-    }
+    let layout = c.in_ok-layout.layout in
+    gone_over Assemble settings c.requires.command (c.in_ok-layout.ensures.lawful refl) (assemble_units layout settings.form settings.frames) (λ P units. (layout, c.in_ok-layout.ensures.lengths, units))
+    _ _ c.assemble_loop.result c.assemble_loop.ensures.follows c.assemble_loop.ensures.causes
 
 pub overflow_cast-blocks : goal.overflow_cast-blocks
 overflow_cast-blocks g c =

@@ -1,25 +1,16 @@
-use Rattle.std.proofs.Common.{◌≡◌, None, sym, subst}
-use Rattle.dvd_loop.specs.Machine.{IsOutcome}
-use Rattle.dvd_loop.proofs.StreamLemmas.{comes_as}
-use Rattle.dvd_top.specs.Commands.{meaning}
+use Rattle.std.proofs.Common.{subst}
 use Rattle.dvd_top.specs.Commands.Deep.{deep_units}
-use Rattle.dvd_top.specs.Headline.{GoesOver}
 use Rattle.dvd_top.specs.Inner.Opened.{IsWorded}
-use Rattle.dvd_top.proofs.HeaderTaken.{looped_by_words, looped_listed}
+use Rattle.dvd_words.specs.declared.settings.Command.TheVariants.{Deep}
+use Rattle.dvd_top.proofs.HeaderTaken.{gone_over, looped_by_words, looped_listed}
 use Rattle.dvd_top.proofs.commands.deep.run_deep.Goals as goal
 
 pub returns-in-Some-clause-performed : goal.returns-in-Some-clause-performed
 returns-in-Some-clause-performed g c =
     let settings = c.args.settings.now in
-    let layout = c.in-Some.layout in
     let worded = subst (IsWorded settings) c.in-Some.is c.in_ok-worded.ensures.worded in
-    looped_by_words settings worded.0 _ _ c.deep_loop.result (record {
-      lawful = subst (λ command. (meaning command).breaks settings ≡ None) (sym c.requires) worded.2;
-      comes = comes_as (IsOutcome (deep_units layout settings.zones settings.form)) (GoesOver settings) _ _ c.deep_loop.result
-          (λ bytes outcome runs. subst (λ command. (meaning command).OfUnits settings (λ units. IsOutcome units bytes outcome)) (sym c.requires) (layout, worded.1, runs))
-          c.deep_loop.ensures.follows;
-      causes = c.deep_loop.ensures.causes;
-    })
+    looped_by_words settings worded.0 _ _ c.deep_loop.result
+    (gone_over Deep settings c.requires worded.2 (deep_units c.in-Some.layout settings.zones settings.form) (λ P units. (c.in-Some.layout, worded.1, units)) _ _ c.deep_loop.result c.deep_loop.ensures.follows c.deep_loop.ensures.causes)
 
 pub returns-clause-performed : goal.returns-clause-performed
 returns-clause-performed g c =

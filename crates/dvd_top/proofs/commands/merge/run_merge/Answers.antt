@@ -1,18 +1,12 @@
-use Rattle.std.proofs.Common.{◌≡◌, None, refl, sym, subst}
-use Rattle.dvd_loop.specs.Machine.{IsOutcome}
-use Rattle.dvd_loop.proofs.StreamLemmas.{comes_as}
-use Rattle.dvd_top.specs.Commands.{meaning}
+use Rattle.std.proofs.Common.{refl}
 use Rattle.dvd_top.specs.Commands.Merge.{merge_units}
-use Rattle.dvd_top.specs.Headline.{GoesOver}
+use Rattle.dvd_words.specs.declared.settings.Command.TheVariants.{Merge}
+use Rattle.dvd_top.proofs.HeaderTaken.{gone_over}
 use Rattle.dvd_top.proofs.commands.merge.run_merge.Goals as goal
 
 pub returns-clause-performed : goal.returns-clause-performed
 returns-clause-performed g c =
     let settings = c.args.settings.now in
-    let layout = c.in_ok-layout.layout in record {
-      lawful = subst (λ command. (meaning command).breaks settings ≡ None) (sym c.requires.command) (c.in_ok-layout.ensures.lawful refl);
-      comes = comes_as (IsOutcome (merge_units layout settings.zones settings.form settings.captures)) (GoesOver settings) _ _ c.merge_stream.result
-          (λ bytes outcome runs. subst (λ command. (meaning command).OfUnits settings (λ units. IsOutcome units bytes outcome)) (sym c.requires.command) (layout, c.in_ok-layout.ensures.lengths, runs))
-          c.merge_stream.ensures.follows;
-      causes = c.merge_stream.ensures.causes;
-    }
+    let layout = c.in_ok-layout.layout in
+    gone_over Merge settings c.requires.command (c.in_ok-layout.ensures.lawful refl) (merge_units layout settings.zones settings.form settings.captures) (λ P units. (layout, c.in_ok-layout.ensures.lengths, units))
+    _ _ c.merge_stream.result c.merge_stream.ensures.follows c.merge_stream.ensures.causes

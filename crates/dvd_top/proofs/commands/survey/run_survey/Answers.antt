@@ -1,25 +1,16 @@
-use Rattle.std.proofs.Common.{◌≡◌, None, sym, subst}
-use Rattle.dvd_loop.specs.Machine.{IsOutcome}
-use Rattle.dvd_loop.proofs.StreamLemmas.{comes_as}
-use Rattle.dvd_top.specs.Commands.{meaning}
+use Rattle.std.proofs.Common.{subst}
 use Rattle.dvd_top.specs.Commands.Survey.{survey_units}
-use Rattle.dvd_top.specs.Headline.{GoesOver}
 use Rattle.dvd_top.specs.Inner.Opened.{IsWorded}
-use Rattle.dvd_top.proofs.HeaderTaken.{looped_by_words, looped_listed}
+use Rattle.dvd_words.specs.declared.settings.Command.TheVariants.{Survey}
+use Rattle.dvd_top.proofs.HeaderTaken.{gone_over, looped_by_words, looped_listed}
 use Rattle.dvd_top.proofs.commands.survey.run_survey.Goals as goal
 
 pub returns-in-Some-clause-performed : goal.returns-in-Some-clause-performed
 returns-in-Some-clause-performed g c =
     let settings = c.args.settings.now in
-    let layout = c.in-Some.layout in
     let worded = subst (IsWorded settings) c.in-Some.is c.in_ok-worded.ensures.worded in
-    looped_by_words settings worded.0 _ _ c.survey_stream.result (record {
-      lawful = subst (λ command. (meaning command).breaks settings ≡ None) (sym c.requires.command) worded.2;
-      comes = comes_as (IsOutcome (survey_units layout settings.zones settings.form)) (GoesOver settings) _ _ c.survey_stream.result
-          (λ bytes outcome runs. subst (λ command. (meaning command).OfUnits settings (λ units. IsOutcome units bytes outcome)) (sym c.requires.command) (layout, worded.1, runs))
-          c.survey_stream.ensures.follows;
-      causes = c.survey_stream.ensures.causes;
-    })
+    looped_by_words settings worded.0 _ _ c.survey_stream.result
+    (gone_over Survey settings c.requires.command worded.2 (survey_units c.in-Some.layout settings.zones settings.form) (λ P units. (c.in-Some.layout, worded.1, units)) _ _ c.survey_stream.result c.survey_stream.ensures.follows c.survey_stream.ensures.causes)
 
 pub returns-clause-performed : goal.returns-clause-performed
 returns-clause-performed g c =
