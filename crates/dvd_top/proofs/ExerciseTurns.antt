@@ -1,5 +1,5 @@
 -- A turn of `exercise`, and how its loop ends.
-use Rattle.std.proofs.Common.{◌≡◌, ◌≢◌, ◌∙◌, ◌⊎◌, inl, inr, ℕ, ◌+◌, ◌^◌, ◌<◌, ◌≤◌, List, replicate, slice_get, Some, refl, sym, ap, subst, arith}
+use Rattle.std.proofs.Common.{◌≡◌, ◌≢◌, ◌∙◌, ◌⊎◌, inl, inr, ℕ, ◌+◌, ◌^◌, ◌<◌, ◌≤◌, List, replicate, slice_get, None, Some, refl, sym, ap, subst, arith}
 use Rattle.dvd_block.specs.Product.{IsBlockOf}
 use Rattle.dvd_capture.specs.Parts.{marks_rows, received_rows}
 use Rattle.dvd_capture.specs.Works.{marks_of_work, rows_of, sectors_of, stage_of}
@@ -21,7 +21,7 @@ use Rattle.dvd_loop.specs.declared.ends.LoopEnd.TheVariants.{BadHeader, BadMarks
 use Rattle.dvd_loop.proofs.PlainEnds.{never_bad_header, never_bad_marks, never_damaged, never_long, never_no_control, never_short, never_short_header}
 use Rattle.dvd_loop.proofs.Sizes.{sized_enough, sized_never_broken}
 use Rattle.dvd_ports.specs.Seen.{Seen}
-use Rattle.dvd_read.specs.Reading.{IsReadAs}
+use Rattle.dvd_read.specs.Reading.{IsReadAs, block_cause}
 use Rattle.dvd_top.specs.Commands.Exercise.{IsHurtBlock, IsLeft, drawn_sectors, exercise_units, no_marks, state_at}
 use Rattle.dvd_top.specs.Commands.Master.{frames_of}
 use Rattle.dvd_top.specs.Inner.Exercising.{CountsOne, IsBehind}
@@ -49,6 +49,10 @@ module _ (blocks k x : ℕ) (layout : Layout) (single : layout.shape ≡ Single)
   -- so no cause is found of it, and the block and its sectors are found again
   pub found_block : IsFound k (bytes_from x 32768) block (rows_of work) (marks_of_work work)
   found_block = is_found k x block (rows_of work) (marks_of_work work) (omega (arith, within, few)) hurt_block
+
+  -- nor of its entry
+  pub no_cause : block_cause (rows_of work) (marks_of_work work) entry ≡ None
+  no_cause = ap (block_cause (rows_of work) (marks_of_work work)) entry_is ∙ found_block.cause
 
   -- It is read, and counted.
   module _ (seed : ℕ) (image : List ℕ) (image_is : image ≡ piece) (old new : Counts) (old_work new_work : Work) (new_state : ℕ)

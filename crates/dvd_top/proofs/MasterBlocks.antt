@@ -22,15 +22,18 @@ module _ (layout : Layout) (zones : Zones) (k : ℕ) (entry : BlockPlan) (stands
   pub size_is : bytes_of_block layout zones k ≡ image_bytes layout entry
   size_is = ap (bytes_of_entry layout) stands
 
-  -- for a piece of the image, filled with zeros, the recording of its frames' block is what mastering may write
-  pub mastered : (cpr piece : List ℕ) (size : ℕ) → length piece ≡ 32768 → size ≤ 32768 → drop size piece ≡ replicate (32768 - size) 0
-      → (block : List (List ℕ))
-      → IsBlockOf (frames_of layout entry cpr piece) block → IsMastered layout zones cpr k (take size piece) (Write (recording block) ∷ []) Good
-  mastered cpr piece size long most zeros block is_block = record {
-    entry = entry;
-    stands = stands;
-    block = block;
-    is_block = subst (λ sectors. IsBlockOf (frames_of layout entry cpr sectors) block) (sym (filled_is piece size long most zeros)) is_block;
-    writes = refl;
-    good = refl;
-  }
+  -- as many bytes of a piece that is filled with zeros as block k takes: their frames' block is what mastering may write for them
+  pub mastered : (cpr piece sectors : List ℕ) (size : ℕ) → size ≡ image_bytes layout entry → length piece ≡ 32768 → size ≤ 32768 → drop size piece ≡ replicate (32768 - size) 0
+      → sectors ≡ piece → (block : List (List ℕ)) → IsBlockOf (frames_of layout entry cpr sectors) block
+      → (length (take size piece) ≡ bytes_of_block layout zones k) × IsMastered layout zones cpr k (take size piece) (Write (recording block) ∷ []) Good
+  mastered cpr piece sectors size is long most zeros same block is_block = (
+    length-take-le size piece (omega arith) ∙ is ∙ sym size_is,
+    record {
+      entry = entry;
+      stands = stands;
+      block = block;
+      is_block = subst (λ l. IsBlockOf (frames_of layout entry cpr l) block) (same ∙ sym (filled_is piece size long most zeros)) is_block;
+      writes = refl;
+      good = refl;
+    },
+  )

@@ -91,19 +91,33 @@ ends_over settings bytes within outcome old new c ends moved =
       moved = subst (λ l. HaveMoved old new b.taken b.out (l ++ closing ReadFault)) (sym lines_are) out;
     }
 
+-- the statuses of ends that no fault made
+abbrev IsSound : Status → Type 0
+IsSound status.ReadFault = ⊥
+IsSound status.WriteFault = ⊥
+IsSound status.ReportFault = ⊥
+IsSound other = Unit {0}
+
+-- What is so of the three faults is so of every end, if it is of each that has no fault and whose status is such.
+by_fault : (P : LoopEnd → Type 0) → P ReadFault → P WriteFault → P ReportFault → ((end : LoopEnd) → IsFaultless end → IsSound (status_of end) → P end)
+    → (end : LoopEnd) → P end
+by_fault P read write report other ReadFault = read
+by_fault P read write report other WriteFault = write
+by_fault P read write report other ReportFault = report
+by_fault P read write report other Done = other Done tt tt
+by_fault P read write report other (Short k held) = other (Short k held) tt tt
+by_fault P read write report other Long = other Long tt tt
+by_fault P read write report other (Damaged bad) = other (Damaged bad) tt tt
+by_fault P read write report other NoControl = other NoControl tt tt
+by_fault P read write report other (BadMarks k at) = other (BadMarks k at) tt tt
+by_fault P read write report other (ShortHeader held) = other (ShortHeader held) tt tt
+by_fault P read write report other (BadHeader at) = other (BadHeader at) tt tt
+
 -- only the end of a failed read has its status
 read_end : (end : LoopEnd) → status.ReadFault ≡ status_of end → end ≡ ReadFault
-read_end ReadFault is = refl
-read_end Done is = cc
-read_end WriteFault is = cc
-read_end ReportFault is = cc
-read_end (Short k held) is = cc
-read_end Long is = cc
-read_end (Damaged bad) is = cc
-read_end NoControl is = cc
-read_end (BadMarks k at) is = cc
-read_end (ShortHeader held) is = cc
-read_end (BadHeader at) is = cc
+read_end =
+    by_fault (λ end. status.ReadFault ≡ status_of end → end ≡ ReadFault) (λ is. refl) (λ is. cc) (λ is. cc)
+    (λ end none sound is. absurd (subst IsSound (sym is) sound))
 
 -- a run of that status did what one whose input ended there does, but for the closing line
 pub ends_there_run : (settings : Settings) (old new : Streams) (result : Status) → HasRun settings old new result → result ≡ status.ReadFault
@@ -113,40 +127,13 @@ ends_there_run settings old new result run is =
     let ends : comes.outcome.end ≡ ReadFault = comes.ends ∙ read_end run.end (sym is ∙ run.is_status) in
     ends_over settings comes.bytes run.within comes.outcome old new comes.holds ends comes.moved
 
--- the statuses of ends that no fault made
-abbrev IsSound : Status → Type 0
-IsSound status.ReadFault = ⊥
-IsSound status.WriteFault = ⊥
-IsSound status.ReportFault = ⊥
-IsSound other = Unit {0}
-
 -- an end without a fault has such a status
 sound_status : (end : LoopEnd) → IsFaultless end → IsSound (status_of end)
-sound_status ReadFault none = none
-sound_status WriteFault none = none
-sound_status ReportFault none = none
-sound_status Done none = tt
-sound_status (Short k held) none = tt
-sound_status Long none = tt
-sound_status (Damaged bad) none = tt
-sound_status NoControl none = tt
-sound_status (BadMarks k at) none = tt
-sound_status (ShortHeader held) none = tt
-sound_status (BadHeader at) none = tt
+sound_status = by_fault (λ end. IsFaultless end → IsSound (status_of end)) absurd absurd absurd (λ end none sound is. sound)
 
 -- and an end of such a status has no fault
 faultless_by : (end : LoopEnd) → IsSound (status_of end) → IsFaultless end
-faultless_by ReadFault sound = sound
-faultless_by WriteFault sound = sound
-faultless_by ReportFault sound = sound
-faultless_by Done sound = tt
-faultless_by (Short k held) sound = tt
-faultless_by Long sound = tt
-faultless_by (Damaged bad) sound = tt
-faultless_by NoControl sound = tt
-faultless_by (BadMarks k at) sound = tt
-faultless_by (ShortHeader held) sound = tt
-faultless_by (BadHeader at) sound = tt
+faultless_by = by_fault (λ end. IsSound (status_of end) → IsFaultless end) absurd absurd absurd (λ end none sound is. none)
 
 -- what holds of every run of a command that no fault ended holds of this one
 run_keeps : (Is : Settings → Type 0) (Keeps : Settings → List ℕ → Outcome → Type 0)
@@ -223,17 +210,11 @@ risen within end old new same causes = risen_by end old new (λ not. subst (λ w
 -- where no count rose, no fault ended it
 pub sound_end : (end : LoopEnd) (old new : Streams) → HaveRisen (status_of end) old new → (Rose old.source.faults new.source.faults → ⊥)
     → (Rose old.output.faults new.output.faults → ⊥) → (Rose old.report.faults new.report.faults → ⊥) → IsFaultless end
-sound_end ReadFault old new risen source output report = source risen
-sound_end WriteFault old new risen source output report = output risen
-sound_end ReportFault old new risen source output report = report risen
-sound_end Done old new risen source output report = tt
-sound_end (Short k held) old new risen source output report = tt
-sound_end Long old new risen source output report = tt
-sound_end (Damaged bad) old new risen source output report = tt
-sound_end NoControl old new risen source output report = tt
-sound_end (BadMarks k at) old new risen source output report = tt
-sound_end (ShortHeader held) old new risen source output report = tt
-sound_end (BadHeader at) old new risen source output report = tt
+sound_end =
+    by_fault (λ end. (old new : Streams) → HaveRisen (status_of end) old new → (Rose old.source.faults new.source.faults → ⊥)
+    → (Rose old.output.faults new.output.faults → ⊥) → (Rose old.report.faults new.report.faults → ⊥) → IsFaultless end)
+    (λ old new risen source output report. source risen) (λ old new risen source output report. output risen) (λ old new risen source output report. report risen)
+    (λ end none sound old new risen source output report. none)
 
 -- and the run ends as its loop does
 pub complete_run : (settings : Settings) (old new : Streams) (result : Status) → HasRun settings old new result → HaveRisen result old new

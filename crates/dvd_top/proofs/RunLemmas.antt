@@ -18,33 +18,19 @@ use Rattle.dvd_top.specs.declared.status.Status.{Status}
 pub same_settings : (read : Option Settings) (a b : Settings) → read ≡ Some a → read ≡ Some b → a ≡ b
 same_settings read a b p q = cc
 
--- an end is that of a failed line, or it isn't
-report_or_not : (end : LoopEnd) → (end ≡ ReportFault) ⊎ (end ≢ ReportFault)
+-- an end is that of a failed line, or it isn't and the faults of the report stay as many
+report_or_not : (end : LoopEnd) → (end ≡ ReportFault) ⊎ ((end ≢ ReportFault) × ((old new : ℕ) → Counts (is_report_fault end) old new → new ≡ old))
 report_or_not ReportFault = inl refl
-report_or_not Done = inr (λ is. cc)
-report_or_not ReadFault = inr (λ is. cc)
-report_or_not WriteFault = inr (λ is. cc)
-report_or_not (Short k held) = inr (λ is. cc)
-report_or_not Long = inr (λ is. cc)
-report_or_not (Damaged bad) = inr (λ is. cc)
-report_or_not NoControl = inr (λ is. cc)
-report_or_not (BadMarks k at) = inr (λ is. cc)
-report_or_not (ShortHeader held) = inr (λ is. cc)
-report_or_not (BadHeader at) = inr (λ is. cc)
-
--- where no line failed the faults of the report stay as many
-stayed : (end : LoopEnd) → end ≢ ReportFault → (old new : ℕ) → Counts (is_report_fault end) old new → new ≡ old
-stayed ReportFault not old new counts = absurd (not refl)
-stayed Done not old new counts = counts
-stayed ReadFault not old new counts = counts
-stayed WriteFault not old new counts = counts
-stayed (Short k held) not old new counts = counts
-stayed Long not old new counts = counts
-stayed (Damaged bad) not old new counts = counts
-stayed NoControl not old new counts = counts
-stayed (BadMarks k at) not old new counts = counts
-stayed (ShortHeader held) not old new counts = counts
-stayed (BadHeader at) not old new counts = counts
+report_or_not Done = inr (λ is. cc, λ old new stays. stays)
+report_or_not ReadFault = inr (λ is. cc, λ old new stays. stays)
+report_or_not WriteFault = inr (λ is. cc, λ old new stays. stays)
+report_or_not (Short k held) = inr (λ is. cc, λ old new stays. stays)
+report_or_not Long = inr (λ is. cc, λ old new stays. stays)
+report_or_not (Damaged bad) = inr (λ is. cc, λ old new stays. stays)
+report_or_not NoControl = inr (λ is. cc, λ old new stays. stays)
+report_or_not (BadMarks k at) = inr (λ is. cc, λ old new stays. stays)
+report_or_not (ShortHeader held) = inr (λ is. cc, λ old new stays. stays)
+report_or_not (BadHeader at) = inr (λ is. cc, λ old new stays. stays)
 
 module _ (settings : Settings) (old : Streams) (source output mid_report new_report : Seen) (within end : LoopEnd) (loop : HasLooped settings old (streams source output mid_report) within)
     (line : Comes (λ bytes. Closes (closing_line settings.command) within) (streams source output mid_report) (streams source output new_report) end)
@@ -62,7 +48,7 @@ module _ (settings : Settings) (old : Streams) (source output mid_report new_rep
     | inl is ↦ subst (λ e. Counts (is_report_fault e) old.report.faults new_report.faults) (sym (end_is is))
         (subst (λ (s : Seen). Counts (is_report_fault ReportFault) old.report.faults s.faults) (sym (none is))
         (subst (λ w. Counts (is_report_fault w) old.report.faults mid_report.faults) is loop.causes.report))
-    | inr not ↦ subst (λ n. Counts (is_report_fault end) n new_report.faults) (stayed within not old.report.faults mid_report.faults loop.causes.report) (cause not)
+    | inr (not, stays) ↦ subst (λ n. Counts (is_report_fault end) n new_report.faults) (stays old.report.faults mid_report.faults loop.causes.report) (cause not)
   ]
 
   -- so the loop and its closing line are a run, with the status of its end

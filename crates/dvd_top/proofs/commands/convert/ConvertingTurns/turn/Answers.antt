@@ -10,45 +10,29 @@ use Rattle.dvd_top.proofs.commands.convert.ConvertingTurns.turn.Goals as goal
 
 pub returns-in_err-fetch_block-clause-turn : goal.returns-in_err-fetch_block-clause-turn
 returns-in_err-fetch_block-clause-turn g c = λ before number ready.
-    let end = c.in_err-fetch_block.field-0.0 in
-    captured_short _ c.args.self.now.form (λ k own. refl) c.args.k before number _ (g.S.Source.seen c.args.src.now) (g.S.Source.seen c.fetch_block.new.src) (g.K.Sink.seen c.args.out.now) (g.E.Sink.seen c.args._report.now)
-    c.from_residual.result end (err_is c.from_residual.result end c.from_residual.ensures.1) c.in_err-fetch_block.ensures.ended
+    captured_short _ c.args.self.now.form (λ k own. refl) c.args.k before number _ _ _ _ _ _ _ (err_is _ _ c.from_residual.ensures.1) c.in_err-fetch_block.ensures.ended
 
 pub returns-in_err-write_listed-clause-turn : goal.returns-in_err-write_listed-clause-turn
 returns-in_err-write_listed-clause-turn g c = λ before number ready.
     let m = c.args.self.now in
     let fetched = c.in_ok-fetch_block.ensures.full in
     let part = c.in_err-write_listed.ensures.begun in
-    let answer = c.from_residual-in_err-write_listed.result in
-    let read = g.S.Source.seen c.fetch_block.new.src in
-    let output = g.K.Sink.seen c.args.out.now in
-    let new_output = g.K.Sink.seen c.write_listed.new.out in
-    let report = g.E.Sink.seen c.args._report.now in
-    captured_done _ m.form (λ k own. refl) c.args.k before number _ (g.S.Source.seen c.args.src.now) read output report _ _ fetched new_output report answer
-    (write_begun _ part.unit Good (converted m.form fetched.bytes (rows_of c.fetch_block.new.work) (marks_of_work c.fetch_block.new.work) fetched.rows_are fetched.marks_are part.unit part.is_unit)
-    read output new_output report answer (err_is answer WriteFault c.from_residual-in_err-write_listed.ensures.1) part.part) tt
+    captured_done _ m.form (λ k own. refl) c.args.k before number _ _ _ _ _ _ _ fetched _ _ _
+    (write_begun _ part.unit Good (converted m.form fetched.bytes _ _ fetched.rows_are fetched.marks_are part.unit part.is_unit)
+    _ _ _ _ _ (err_is _ _ c.from_residual-in_err-write_listed.ensures.1) part.part) tt
 
 pub returns-in_err-write_listed-clause-causes : goal.returns-in_err-write_listed-clause-causes
 returns-in_err-write_listed-clause-causes g c =
-    let read = g.S.Source.seen c.fetch_block.new.src in
-    let output = g.K.Sink.seen c.args.out.now in
-    let report = g.E.Sink.seen c.args._report.now in
-    causes_written c.from_residual-in_err-write_listed.result (streams (g.S.Source.seen c.args.src.now) output report)
-    read output (g.K.Sink.seen c.write_listed.new.out) report (err_is c.from_residual-in_err-write_listed.result WriteFault c.from_residual-in_err-write_listed.ensures.1)
-    (c.in_ok-fetch_block.ensures.causes output report) c.in_err-write_listed.ensures.cause.failed
+    causes_written _ _ _ _ _ _ (err_is _ _ c.from_residual-in_err-write_listed.ensures.1)
+    (c.in_ok-fetch_block.ensures.causes (g.K.Sink.seen c.args.out.now) (g.E.Sink.seen c.args._report.now)) c.in_err-write_listed.ensures.cause.failed
 
 pub returns-clause-turn : goal.returns-clause-turn
 returns-clause-turn g c = λ before number ready.
     let m = c.args.self.now in
     let fetched = c.in_ok-fetch_block.ensures.full in
     let whole = c.in_ok-write_listed.ensures.written in
-    let read = g.S.Source.seen c.fetch_block.new.src in
-    let output = g.K.Sink.seen c.args.out.now in
-    let new_output = g.K.Sink.seen c.write_listed.new.out in
-    let report = g.E.Sink.seen c.args._report.now in
-    captured_done _ m.form (λ k own. refl) c.args.k before number _ (g.S.Source.seen c.args.src.now) read output report _ _ fetched new_output report _
-    (write_done _ whole.unit Good (converted m.form fetched.bytes (rows_of c.fetch_block.new.work) (marks_of_work c.fetch_block.new.work) fetched.rows_are fetched.marks_are whole.unit whole.is_unit)
-    read output new_output report whole.grows) tt
+    captured_done _ m.form (λ k own. refl) c.args.k before number _ _ _ _ _ _ _ fetched _ _ _
+    (write_done _ whole.unit Good (converted m.form fetched.bytes _ _ fetched.rows_are fetched.marks_are whole.unit whole.is_unit) _ _ _ _ whole.grows) tt
 
 pub returns-clause-causes : goal.returns-clause-causes
 returns-clause-causes g c = record {

@@ -8,7 +8,7 @@ use Rattle.dvd_loop.proofs.StreamLemmas.{stays}
 use Rattle.dvd_read.specs.Reading.{block_cause}
 use Rattle.dvd_top.specs.Inner.Exercising.{IsBehind}
 use Rattle.dvd_top.proofs.ExerciseBlocks.{length-data_plan}
-use Rattle.dvd_top.proofs.ExerciseTurns.{entry_is, found_block, turn_behind}
+use Rattle.dvd_top.proofs.ExerciseTurns.{no_cause, turn_behind}
 use Rattle.dvd_top.proofs.PlanEntries.{has_numbers}
 use Rattle.dvd_top.proofs.commands.exercise.ExerciseTurns.turn.Goals as goal
 
@@ -26,22 +26,16 @@ read_back-requires-clause-numbers g c = has_numbers c.args.self.now.layout DataO
 pub read_back-requires-clause-right : goal.read_back-requires-clause-right
 read_back-requires-clause-right g c =
     let e = c.args.self.now in
-    let k = c.args.k in
-    let entry = c.plan-entry.result in
-    let stands : slice_get (plan_of e.layout DataOnly) k ≡ Some entry = ap (slice_get (plan_of e.layout DataOnly)) (sym c.from.ensures) ∙ c.plan-entry.ensures in
-    let piece = piece_bytes c.draw_block.new.piece in
-    let block = block_rows c.draw_block.new.block in
-    let work = c.draw_block.new.work in
     let made = c.draw_block.ensures in
-    ap (block_cause (rows_of work) (marks_of_work work)) (entry_is e.blocks k (state_of e.rand) e.layout e.shape c.requires.unit e.few entry stands piece block work made.drawn made.made made.hurt)
-    ∙ (found_block e.blocks k (state_of e.rand) e.layout e.shape c.requires.unit e.few entry stands piece block work made.drawn made.made made.hurt).cause
+    let stands : slice_get (plan_of e.layout DataOnly) c.args.k ≡ Some c.plan-entry.result = ap (slice_get (plan_of e.layout DataOnly)) (sym c.from.ensures) ∙ c.plan-entry.ensures in
+    no_cause e.blocks c.args.k (state_of e.rand) e.layout e.shape c.requires.unit e.few c.plan-entry.result stands (piece_bytes c.draw_block.new.piece) (block_rows c.draw_block.new.block) c.draw_block.new.work made.drawn made.made made.hurt
 
 pub returns-clause-turn : goal.returns-clause-turn
 returns-clause-turn g c = λ before number ready.
     let e = c.args.self.now in
     let k = c.args.k in
     let entry = c.plan-entry.result in
-    let stands : slice_get (plan_of e.layout DataOnly) k ≡ Some entry = ap (slice_get (plan_of e.layout DataOnly)) (sym c.from.ensures) ∙ c.plan-entry.ensures in
+    let stands : slice_get (plan_of e.layout DataOnly) c.args.k ≡ Some c.plan-entry.result = ap (slice_get (plan_of e.layout DataOnly)) (sym c.from.ensures) ∙ c.plan-entry.ensures in
     let piece = piece_bytes c.draw_block.new.piece in
     let block = block_rows c.draw_block.new.block in
     let work = c.draw_block.new.work in

@@ -9,39 +9,24 @@ use Rattle.dvd_top.proofs.commands.merge.MergingLoneTurns.turn.Goals as goal
 
 pub returns-in_err-take_captures-clause-turn : goal.returns-in_err-take_captures-clause-turn
 returns-in_err-take_captures-clause-turn g c = λ before number.
-    let end = c.in_err-take_captures.field-0.0 in
-    sized_short _ _ (λ k own. refl) c.args.k before number _ (g.S.Source.seen c.args.src.now) (g.S.Source.seen c.take_captures.new.src) (g.K.Sink.seen c.args.out.now) (g.E.Sink.seen c.args._report.now)
-    c.from_residual.result end (err_is c.from_residual.result end c.from_residual.ensures.1) c.in_err-take_captures.ensures.short
+    sized_short _ _ (λ k own. refl) c.args.k before number _ _ _ _ _ _ _ (err_is _ _ c.from_residual.ensures.1) c.in_err-take_captures.ensures.short
 
 pub returns-in_err-write_marked-clause-turn : goal.returns-in_err-write_marked-clause-turn
 returns-in_err-write_marked-clause-turn g c = λ before number.
     let taken = c.in_ok-take_captures.ensures.taken in
-    let answer = c.from_residual-in_err-write_marked.result in
-    let read = g.S.Source.seen c.take_captures.new.src in
-    let output = g.K.Sink.seen c.args.out.now in
-    let new_output = g.K.Sink.seen c.write_marked.new.out in
-    let report = g.E.Sink.seen c.args._report.now in
-    sized_done _ _ (λ k own. refl) c.args.k before number _ (g.S.Source.seen c.args.src.now) read output report taken.bytes taken.size taken.taken new_output report answer
-    (write_begun _ (marked_text (table_of c.take_captures.new.merge)) _ (ap (λ table. Write (marked_text table) ∷ []) taken.joins, refl) read output new_output report answer (err_is answer WriteFault c.from_residual-in_err-write_marked.ensures.1) c.in_err-write_marked.ensures.begun) tt
+    sized_done _ _ (λ k own. refl) c.args.k before number _ _ _ _ _ taken.bytes taken.size taken.taken _ _ _
+    (write_begun _ (marked_text (table_of c.take_captures.new.merge)) _ (ap (λ table. Write (marked_text table) ∷ []) taken.joins, refl) _ _ _ _ _ (err_is _ _ c.from_residual-in_err-write_marked.ensures.1) c.in_err-write_marked.ensures.begun) tt
 
 pub returns-in_err-write_marked-clause-causes : goal.returns-in_err-write_marked-clause-causes
 returns-in_err-write_marked-clause-causes g c =
-    let read = g.S.Source.seen c.take_captures.new.src in
-    let output = g.K.Sink.seen c.args.out.now in
-    let report = g.E.Sink.seen c.args._report.now in
-    causes_written c.from_residual-in_err-write_marked.result (streams (g.S.Source.seen c.args.src.now) output report)
-    read output (g.K.Sink.seen c.write_marked.new.out) report (err_is c.from_residual-in_err-write_marked.result WriteFault c.from_residual-in_err-write_marked.ensures.1)
-    (c.in_ok-take_captures.ensures.causes output report) c.in_err-write_marked.ensures.cause.failed
+    causes_written _ _ _ _ _ _ (err_is _ _ c.from_residual-in_err-write_marked.ensures.1)
+    (c.in_ok-take_captures.ensures.causes (g.K.Sink.seen c.args.out.now) (g.E.Sink.seen c.args._report.now)) c.in_err-write_marked.ensures.cause.failed
 
 pub returns-clause-turn : goal.returns-clause-turn
 returns-clause-turn g c = λ before number.
     let taken = c.in_ok-take_captures.ensures.taken in
-    let read = g.S.Source.seen c.take_captures.new.src in
-    let output = g.K.Sink.seen c.args.out.now in
-    let new_output = g.K.Sink.seen c.write_marked.new.out in
-    let report = g.E.Sink.seen c.args._report.now in
-    sized_done _ _ (λ k own. refl) c.args.k before number _ (g.S.Source.seen c.args.src.now) read output report taken.bytes taken.size taken.taken new_output report _
-    (write_done _ (marked_text (table_of c.take_captures.new.merge)) _ (ap (λ table. Write (marked_text table) ∷ []) taken.joins, refl) read output new_output report c.in_ok-write_marked.ensures.written) tt
+    sized_done _ _ (λ k own. refl) c.args.k before number _ _ _ _ _ taken.bytes taken.size taken.taken _ _ _
+    (write_done _ (marked_text (table_of c.take_captures.new.merge)) _ (ap (λ table. Write (marked_text table) ∷ []) taken.joins, refl) _ _ _ _ c.in_ok-write_marked.ensures.written) tt
 
 pub returns-clause-causes : goal.returns-clause-causes
 returns-clause-causes g c = record {

@@ -13,9 +13,7 @@ use Rattle.dvd_top.proofs.commands.survey.SurveyingTurns.turn.Goals as goal
 
 pub returns-in_err-fetch_block-clause-turn : goal.returns-in_err-fetch_block-clause-turn
 returns-in_err-fetch_block-clause-turn g c = λ before number ready.
-    let end = c.in_err-fetch_block.field-0.0 in
-    captured_short _ c.args.self.now.form (λ k own. refl) c.args.k before number _ (g.S.Source.seen c.args.src.now) (g.S.Source.seen c.fetch_block.new.src) (g.K.Sink.seen c.args.out.now) (g.E.Sink.seen c.args._report.now)
-    c.from_residual.result end (err_is c.from_residual.result end c.from_residual.ensures.1) c.in_err-fetch_block.ensures.ended
+    captured_short _ c.args.self.now.form (λ k own. refl) c.args.k before number _ _ _ _ _ _ _ (err_is _ _ c.from_residual.ensures.1) c.in_err-fetch_block.ensures.ended
 
 pub survey_block-requires-clause-numbers : goal.survey_block-requires-clause-numbers
 survey_block-requires-clause-numbers g c =
@@ -38,28 +36,19 @@ survey_block-requires-clause-room g c =
 pub returns-clause-turn : goal.returns-clause-turn
 returns-clause-turn g c = λ before number ready.
     let m = c.args.self.now in
-    let stands : slice_get (plan_of m.layout m.zones) c.args.k ≡ Some c.plan-entry.result = ap (slice_get (plan_of m.layout m.zones)) (sym c.from.ensures) ∙ c.plan-entry.ensures in
+    let entry = c.plan-entry.result in
+    let stands : slice_get (plan_of m.layout m.zones) c.args.k ≡ Some entry = ap (slice_get (plan_of m.layout m.zones)) (sym c.from.ensures) ∙ c.plan-entry.ensures in
     let fetched = c.in_ok-fetch_block.ensures.full in
-    let rows = rows_of c.fetch_block.new.work in
-    let marks = marks_of_work c.fetch_block.new.work in
-    let read = g.S.Source.seen c.fetch_block.new.src in
-    let output = g.K.Sink.seen c.args.out.now in
-    let report = g.E.Sink.seen c.args._report.now in
-    let new_output = g.K.Sink.seen c.survey_block.new.out in
     let found = found_in m.layout m.zones m.form before in
-    captured_done _ m.form (λ k own. refl) c.args.k before number _ (g.S.Source.seen c.args.src.now) read output report _ _ fetched new_output report c.survey_block.result
-    (line_done m.layout m.zones m.form c.args.k before number fetched.bytes c.plan-entry.result stands rows marks fetched.rows_are fetched.marks_are c.requires.unit
-    (streams read output report) (streams read new_output report) c.survey_block.result (c.survey_block.ensures.done read report found ready.0)) (
-      next_stands m.layout m.zones m.form c.args.k before number fetched.bytes c.plan-entry.result stands rows marks fetched.rows_are fetched.marks_are
+    captured_done _ m.form (λ k own. refl) c.args.k before number _ _ _ _ _ _ _ fetched _ _ _
+    (line_done m.layout m.zones m.form c.args.k before number fetched.bytes entry stands _ _ fetched.rows_are fetched.marks_are c.requires.unit
+    _ _ _ (c.survey_block.ensures.done (g.S.Source.seen c.fetch_block.new.src) (g.E.Sink.seen c.args._report.now) found ready.0)) (
+      next_stands m.layout m.zones m.form c.args.k before number fetched.bytes entry stands _ _ fetched.rows_are fetched.marks_are
           c.survey_block.new.survey (c.survey_block.ensures.survey found ready.0),
       ready.1,
     )
 
 pub returns-clause-causes : goal.returns-clause-causes
 returns-clause-causes g c =
-    let read = g.S.Source.seen c.fetch_block.new.src in
-    let output = g.K.Sink.seen c.args.out.now in
-    let report = g.E.Sink.seen c.args._report.now in
-    causes_after c.survey_block.result (streams (g.S.Source.seen c.args.src.now) output report) (streams read output report)
-    (streams read (g.K.Sink.seen c.survey_block.new.out) report)
-    (c.in_ok-fetch_block.ensures.causes output report) (c.survey_block.ensures.causes read report)
+    causes_after c.survey_block.result _ _ _ (c.in_ok-fetch_block.ensures.causes (g.K.Sink.seen c.args.out.now) (g.E.Sink.seen c.args._report.now))
+    (c.survey_block.ensures.causes (g.S.Source.seen c.fetch_block.new.src) (g.E.Sink.seen c.args._report.now))
