@@ -29,7 +29,12 @@ module _ (Does : List Step → Turn → Type 0) where
   no_image content (inr (inl is)) = passed_over (IfImage Does) content Reference is (refl, refl)
   no_image content (inr (inr is)) = passed_over (IfImage Does) content Control is (refl, refl)
 
-  -- and where it holds image, that is done for it
+  -- where it holds image, what is done for that is done for it,
+  pub an_image : (content : Content) (sector : ℕ) → content ≡ Image sector → (old new : Streams) (answer : Result Turn LoopEnd) → AreDone Does old new answer
+      → AreDone (IfImage Does content) old new answer
+  an_image content sector is old new answer = subst (λ c. AreDone (IfImage Does c) old new answer) (sym is)
+
+  -- and nothing else is
   pub of_image : (content : Content) → IsImage content → (steps : List Step) (turn : Turn) → IfImage Does content steps turn → Does steps turn
   of_image (Image sector) is steps turn does = does
   of_image Zero is steps turn does = absurd is

@@ -29,7 +29,7 @@ use Rattle.dvd_loop.specs.declared.ends.Turn.{Turn}
 use Rattle.dvd_loop.specs.declared.ends.Turn.TheVariants.{Good}
 use Rattle.dvd_read.specs.Made.{IsReceived}
 use Rattle.dvd_read.specs.Causes.{two_pass_cause}
-use Rattle.dvd_read.specs.Reading.{block_sectors}
+use Rattle.dvd_read.specs.Reading.{block_cause, block_sectors}
 use Rattle.dvd_read.proofs.BlockRead.{no_cause-read, read-determined}
 use Rattle.dvd_read.proofs.Outcomes.{agrees-no_cause}
 use Rattle.dvd_read.proofs.Mastered.{within-read}
@@ -96,22 +96,31 @@ recovered_at layout zones form k entry own steps turn stands is_image does =
     of_image (IsImageDone layout k entry (captured_rows form own) (captured_marks form own)) entry.content is_image steps turn
     (done_at (plan_of layout zones) (λ e. IsDone e.content layout k e) form k entry stands own steps turn does)
 
+-- Of damage within the bound the block is read, and it is that which was mastered.
+within_is_read : (layout : Layout) (zones : Zones) (form : Form) (cpr : List ℕ) (k : ℕ) (entry : BlockPlan) (image own : List ℕ) (block : List (List ℕ))
+    → slice_get (plan_of layout zones) k ≡ Some entry → IsImage entry.content → length cpr ≡ 6 → length image ≡ image_bytes layout entry
+    → IsBlockOf (frames_of layout entry cpr (filled image)) block
+    → captured_part form own ≡ Whole (length own) → IsWithin block (captured_rows form own) (captured_marks form own)
+    → (block_cause (captured_rows form own) (captured_marks form own) entry ≡ None)
+    × (block_sectors (captured_rows form own) (captured_marks form own) entry ≡ sectors_list (filled image))
+within_is_read layout zones form cpr k entry image own block stands is_image cpr_size image_size is_block size within =
+    let few = few-sectors layout entry.content in
+    let made = data_block-made layout entry cpr image is_image cpr_size (omega (arith, image_size, few)) in
+    within-read entry (has_two_layers layout.shape) (cpr_in entry.area cpr) (sector (filled image)) (frames_of layout entry cpr (filled image)) block
+    (captured_rows form own) (captured_marks form own) (has_numbers layout zones k entry stands) made is_block (captured-received form own size) within
+
 -- the law: of damage within the bound recovery gives back the image sectors of the block
 pub repaired : DamageWithinTheBoundIsRepaired
 repaired layout zones form cpr k entry image own block steps turn stands is_image cpr_size image_size is_block size within does =
-    let few = few-sectors layout entry.content in
     let rows = captured_rows form own in
     let marks = captured_marks form own in
-    let count = image_sectors layout entry.content in
     let received = captured-received form own size in
-    let made = data_block-made layout entry cpr image is_image cpr_size (omega (arith, image_size, few)) in
-    let read = within-read entry (has_two_layers layout.shape) (cpr_in entry.area cpr) (sector (filled image)) (frames_of layout entry cpr (filled image)) block rows marks
-    (has_numbers layout zones k entry stands) made is_block received within in
+    let read = within_is_read layout zones form cpr k entry image own block stands is_image cpr_size image_size is_block size within in
     elim (recovered_at layout zones form k entry own steps turn stands is_image does) [
       | inr refused ↦ let first = refused.first in let none = read.0 in cc
       | inl given ↦
           let sectors : given.sectors ≡ sectors_list (filled image) = (read-determined rows marks entry given.sectors received.height received.marks_height given.read).1 ∙ read.1 in (
-            given.writes ∙ ap (λ l. Write l ∷ []) (ap (sectors_out count) sectors ∙ written-image layout entry.content image few image_size),
+            given.writes ∙ ap (λ l. Write l ∷ []) (ap (sectors_out (image_sectors layout entry.content)) sectors ∙ written-image layout entry.content image (few-sectors layout entry.content) image_size),
             given.good,
           )
     ]
@@ -123,14 +132,10 @@ pub repaired_deep : (layout : Layout) (zones : Zones) (form : Form) (cpr : List 
     → captured_part form own ≡ Whole (length own) → IsWithin block (captured_rows form own) (captured_marks form own)
     → IsDeepened layout zones form k own steps turn → (steps ≡ Write image ∷ []) × (turn ≡ Good)
 repaired_deep layout zones form cpr k entry image own block steps turn stands is_image cpr_size image_size is_block size within does =
-    let few = few-sectors layout entry.content in
     let rows = captured_rows form own in
     let marks = captured_marks form own in
-    let count = image_sectors layout entry.content in
     let received = captured-received form own size in
-    let made = data_block-made layout entry cpr image is_image cpr_size (omega (arith, image_size, few)) in
-    let within_read = within-read entry (has_two_layers layout.shape) (cpr_in entry.area cpr) (sector (filled image)) (frames_of layout entry cpr (filled image)) block rows marks
-    (has_numbers layout zones k entry stands) made is_block received within in
+    let within_read = within_is_read layout zones form cpr k entry image own block stands is_image cpr_size image_size is_block size within in
     let read = no_cause-read rows marks entry received.height received.marks_height within_read.0 in
     let deep = read-deep rows marks entry (block_sectors rows marks entry) received.height received.marks_height read in
     let none : two_pass_cause (answers_of rows marks) ≡ None =
@@ -141,8 +146,8 @@ repaired_deep layout zones form cpr k entry image own block steps turn stands is
       | inl given ↦
           let sectors : given.sectors ≡ sectors_list (filled image) = (deep-once rows marks entry given.round 1 given.sectors (block_sectors rows marks entry) given.read deep).1 ∙ within_read.1 in (
             given.writes
-                ∙ ap (λ (l : List Step). l ++ Write (sectors_out count given.sectors) ∷ []) (told_none k entry given.round (two_pass_cause (answers_of rows marks)) none)
-                ∙ ap (λ l. Write l ∷ []) (ap (sectors_out count) sectors ∙ written-image layout entry.content image few image_size),
+                ∙ ap (λ (l : List Step). l ++ Write (sectors_out (image_sectors layout entry.content) given.sectors) ∷ []) (told_none k entry given.round (two_pass_cause (answers_of rows marks)) none)
+                ∙ ap (λ l. Write l ∷ []) (ap (sectors_out (image_sectors layout entry.content)) sectors ∙ written-image layout entry.content image (few-sectors layout entry.content) image_size),
             given.good,
           )
     ]

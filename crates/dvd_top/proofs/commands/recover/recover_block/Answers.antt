@@ -1,23 +1,12 @@
-use Rattle.std.proofs.Common.{refl, sym, subst}
-use Rattle.dvd_capture.specs.Works.{marks_of_work, rows_of}
-use Rattle.dvd_loop.specs.Streams.{streams}
-use Rattle.dvd_loop.specs.Turns.{AreDone}
-use Rattle.dvd_top.specs.Commands.Recover.{IsDone, IsImageDone}
-use Rattle.dvd_top.proofs.EntryBlocks.{no_image}
+use Rattle.std.proofs.Common.{refl}
+use Rattle.dvd_top.proofs.EntryBlocks.{an_image, no_image}
 use Rattle.dvd_top.proofs.commands.recover.recover_block.Goals as goal
 
 pub returns-in-Zero : goal.returns-in-Zero
 returns-in-Zero g c = record {
-  done = λ source.
-      no_image (IsImageDone c.args.layout.now c.args.k c.args.entry.now (rows_of c.args.work.now) (marks_of_work c.args.work.now)) c.args.entry.now.content c.in-Zero.is
-      (streams source (g.K.Sink.seen c.args.out.now) (g.E.Sink.seen c.args.report.now));
+  done = λ source. no_image _ c.args.entry.now.content c.in-Zero.is _;
   causes = λ source. record { source = refl; output = refl; report = refl };
 }
 
 pub returns-in-Image-clause-done : goal.returns-in-Image-clause-done
-returns-in-Image-clause-done g c = λ source.
-    let entry = c.args.entry.now in
-    let old = streams source (g.K.Sink.seen c.args.out.now) (g.E.Sink.seen c.args.report.now) in
-    let new = streams source (g.K.Sink.seen c.recover_image.new.out) (g.E.Sink.seen c.recover_image.new.report) in
-    subst (λ content. AreDone (IsDone content c.args.layout.now c.args.k entry (rows_of c.args.work.now) (marks_of_work c.args.work.now)) old new c.recover_image.result) (sym c.in-Image.is)
-    (c.recover_image.ensures.done source)
+returns-in-Image-clause-done g c = λ source. an_image _ _ _ c.in-Image.is _ _ _ (c.recover_image.ensures.done source)

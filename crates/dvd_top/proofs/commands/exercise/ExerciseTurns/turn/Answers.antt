@@ -27,7 +27,7 @@ pub read_back-requires-clause-right : goal.read_back-requires-clause-right
 read_back-requires-clause-right g c =
     let e = c.args.self.now in
     let made = c.draw_block.ensures in
-    let stands : slice_get (plan_of e.layout DataOnly) c.args.k ≡ Some c.plan-entry.result = ap (slice_get (plan_of e.layout DataOnly)) (sym c.from.ensures) ∙ c.plan-entry.ensures in
+    let stands = rw c.from.ensures at c.plan-entry.ensures in
     no_cause e.blocks c.args.k (state_of e.rand) e.layout e.shape c.requires.unit e.few c.plan-entry.result stands (piece_bytes c.draw_block.new.piece) (block_rows c.draw_block.new.block) c.draw_block.new.work made.drawn made.made made.hurt
 
 pub returns-clause-turn : goal.returns-clause-turn
@@ -35,7 +35,7 @@ returns-clause-turn g c = λ before number ready.
     let e = c.args.self.now in
     let k = c.args.k in
     let entry = c.plan-entry.result in
-    let stands : slice_get (plan_of e.layout DataOnly) c.args.k ≡ Some c.plan-entry.result = ap (slice_get (plan_of e.layout DataOnly)) (sym c.from.ensures) ∙ c.plan-entry.ensures in
+    let stands = rw c.from.ensures at c.plan-entry.ensures in
     let piece = piece_bytes c.draw_block.new.piece in
     let block = block_rows c.draw_block.new.block in
     let work = c.draw_block.new.work in

@@ -18,7 +18,7 @@ use Rattle.dvd_top.proofs.commands.master.MasterLoneTurns.turn.Goals as goal
 pub returns-in_err-read_image-clause-turn : goal.returns-in_err-read_image-clause-turn
 returns-in_err-read_image-clause-turn g c = λ before number.
     let m = c.args.self.now in
-    let stands : slice_get (plan_of m.layout m.zones) c.args.k ≡ Some c.plan-entry.result = ap (slice_get (plan_of m.layout m.zones)) (sym c.from.ensures) ∙ c.plan-entry.ensures in
+    let stands = rw c.from.ensures at c.plan-entry.ensures in
     let size : c.image_size-size.result ≡ bytes_of_block m.layout m.zones c.args.k = c.image_size-size.ensures.value ∙ sym (size_is m.layout m.zones c.args.k c.plan-entry.result stands) in
     sized_short _ _ (λ k own. refl) c.args.k before number _ _ _ _ _ _ _ (err_is _ _ c.from_residual.ensures.1) (rw size at c.in_err-read_image.ensures.short)
 
@@ -28,7 +28,7 @@ fill_block-requires-clause-numbers g c = has_numbers c.args.self.now.layout c.ar
 pub returns-in_err-write_recording-clause-turn : goal.returns-in_err-write_recording-clause-turn
 returns-in_err-write_recording-clause-turn g c = λ before number.
     let m = c.args.self.now in
-    let stands : slice_get (plan_of m.layout m.zones) c.args.k ≡ Some c.plan-entry.result = ap (slice_get (plan_of m.layout m.zones)) (sym c.from.ensures) ∙ c.plan-entry.ensures in
+    let stands = rw c.from.ensures at c.plan-entry.ensures in
     let read = c.in_ok-read_image.ensures in
     let is = mastered m.layout m.zones c.args.k c.plan-entry.result stands m.cpr (piece_bytes c.read_image.new.piece) _ _ c.image_size-size.ensures.value read.length
     c.image_size-size.ensures.most read.zeros c.bytes.ensures.bytes _ c.fill_block.ensures in
@@ -43,7 +43,7 @@ returns-in_err-write_recording-clause-causes g c =
 pub returns-clause-turn : goal.returns-clause-turn
 returns-clause-turn g c = λ before number.
     let m = c.args.self.now in
-    let stands : slice_get (plan_of m.layout m.zones) c.args.k ≡ Some c.plan-entry.result = ap (slice_get (plan_of m.layout m.zones)) (sym c.from.ensures) ∙ c.plan-entry.ensures in
+    let stands = rw c.from.ensures at c.plan-entry.ensures in
     let read = c.in_ok-read_image.ensures in
     let is = mastered m.layout m.zones c.args.k c.plan-entry.result stands m.cpr (piece_bytes c.read_image.new.piece) _ _ c.image_size-size.ensures.value read.length
     c.image_size-size.ensures.most read.zeros c.bytes.ensures.bytes _ c.fill_block.ensures in

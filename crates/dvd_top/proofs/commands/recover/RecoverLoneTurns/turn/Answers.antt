@@ -14,14 +14,13 @@ returns-in_err-fetch_block-clause-turn g c = λ before number.
 pub recover_block-requires-clause-numbers : goal.recover_block-requires-clause-numbers
 recover_block-requires-clause-numbers g c =
     let m = c.args.self.now in
-    let stands : slice_get (plan_of m.layout m.zones) c.from.result ≡ Some c.plan-entry.result = c.plan-entry.ensures in
-    has_numbers m.layout m.zones c.from.result c.plan-entry.result stands
+    has_numbers m.layout m.zones c.from.result c.plan-entry.result c.plan-entry.ensures
 
 pub returns-clause-turn : goal.returns-clause-turn
 returns-clause-turn g c = λ before number.
     let m = c.args.self.now in
     let fetched = c.in_ok-fetch_block.ensures.full in
-    let stands : slice_get (plan_of m.layout m.zones) c.args.k ≡ Some c.plan-entry.result = ap (slice_get (plan_of m.layout m.zones)) (sym c.from.ensures) ∙ c.plan-entry.ensures in
+    let stands = rw c.from.ensures at c.plan-entry.ensures in
     captured_done _ m.form (λ k own. refl) c.args.k before number _ _ _ _ _ _ _ fetched _ _ _
     (done_by_entry (plan_of m.layout m.zones) (λ e. IsDone e.content m.layout c.args.k e) m.form c.args.k c.plan-entry.result stands fetched.bytes _ _ fetched.rows_are fetched.marks_are
     _ _ _ (c.recover_block.ensures.done (g.S.Source.seen c.fetch_block.new.src))) tt

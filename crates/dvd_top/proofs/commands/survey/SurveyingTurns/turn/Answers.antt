@@ -18,8 +18,7 @@ returns-in_err-fetch_block-clause-turn g c = λ before number ready.
 pub survey_block-requires-clause-numbers : goal.survey_block-requires-clause-numbers
 survey_block-requires-clause-numbers g c =
     let m = c.args.self.now in
-    let stands : slice_get (plan_of m.layout m.zones) c.from.result ≡ Some c.plan-entry.result = c.plan-entry.ensures in
-    has_numbers m.layout m.zones c.from.result c.plan-entry.result stands
+    has_numbers m.layout m.zones c.from.result c.plan-entry.result c.plan-entry.ensures
 
 pub survey_block-requires-clause-room : goal.survey_block-requires-clause-room
 survey_block-requires-clause-room g c =
@@ -37,7 +36,7 @@ pub returns-clause-turn : goal.returns-clause-turn
 returns-clause-turn g c = λ before number ready.
     let m = c.args.self.now in
     let entry = c.plan-entry.result in
-    let stands : slice_get (plan_of m.layout m.zones) c.args.k ≡ Some entry = ap (slice_get (plan_of m.layout m.zones)) (sym c.from.ensures) ∙ c.plan-entry.ensures in
+    let stands = rw c.from.ensures at c.plan-entry.ensures in
     let fetched = c.in_ok-fetch_block.ensures.full in
     let found = found_in m.layout m.zones m.form before in
     captured_done _ m.form (λ k own. refl) c.args.k before number _ _ _ _ _ _ _ fetched _ _ _
