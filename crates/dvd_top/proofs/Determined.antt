@@ -149,8 +149,11 @@ entry_is_one entries Does one form k own steps others turn other p q =
 refused_is_one : (has : Option Cause) (layout : Layout) (k : ℕ) (entry : BlockPlan) (rows : List (List ℕ)) (marks : List (List Bool))
     → MayOne (IsRefused has layout k entry rows marks)
 refused_is_one has layout k entry rows marks steps others turn other p q =
-    let cause : p.cause ≡ q.cause = (let is : Some p.cause ≡ Some q.cause = sym p.first ∙ q.first in cc) in
-    (p.tells ∙ ap (λ c. Tell (damage_line k entry c (saved_in rows marks entry)) ∷ Write (sectors_out (image_sectors layout entry.content) (block_out rows marks entry)) ∷ []) cause ∙ sym q.tells, p.bad ∙ sym q.bad)
+    let cause : p.cause ≡ q.cause = (let is : Some p.cause ≡ Some q.cause = sym p.first ∙ q.first in cc) in (
+      p.tells
+          ∙ ap (λ c. Tell (damage_line k entry c (saved_in rows marks entry)) ∷ Write (sectors_out (image_sectors layout entry.content) (block_out rows marks entry)) ∷ []) cause ∙ sym q.tells,
+      p.bad ∙ sym q.bad,
+    )
 
 -- What is read of it is one, and where something is read it has no cause.
 module _ (layout : Layout) (k : ℕ) (entry : BlockPlan) (rows : List (List ℕ)) (marks : List (List Bool)) (size : length rows ≡ 208) (marks_size : length marks ≡ 208) where

@@ -62,7 +62,7 @@ use Rattle.dvd_top.specs.Captured.{IfImage, IsDoneByEntry, IsPassedOver, capture
 use Rattle.dvd_top.specs.Headline.{GoesOver, breaks_in}
 use Rattle.dvd_top.specs.Laws.{SomethingIsDone}
 use Rattle.dvd_top.specs.Opening.{IsHeaderOf, Opens}
-use Rattle.dvd_words.specs.Settings.{broken_rule}
+use Rattle.dvd_words.specs.Settings.{IsLayoutOf, broken_rule}
 use Rattle.dvd_words.specs.declared.settings.Command.{Command}
 use Rattle.dvd_words.specs.declared.settings.Command.TheVariants as command
 use Rattle.dvd_words.specs.declared.settings.Settings.{Settings}
@@ -337,6 +337,13 @@ convert_total units form begins may closing = record {
 }
 
 module _ (settings : Settings) (bytes : List ℕ) (six : HasBytes 6 settings.cpr) (are : All IsByte bytes) where
+  -- where the units of each layout have an outcome, those of the layout of the settings have
+  with_layout : (units : Layout → Units) → broken_rule settings ≡ None → ((layout : Layout) → Exists (IsOutcome (units layout) bytes))
+      → Exists (λ outcome. (layout : Layout) × IsLayoutOf settings layout × IsOutcome (units layout) bytes outcome)
+  with_layout units none some =
+      let (layout, is) = layout_for settings none in
+      let (outcome, runs, faultless) = some layout in (outcome, (layout, is, runs), faultless)
+
   -- where no rule of the words is broken, each command has an outcome for these bytes
   by_command : (word : Command) → (meaning word).breaks settings ≡ None → (word ≡ command.CdMake → HasAddresses settings)
       → Exists (λ outcome. (meaning word).OfUnits settings (λ units. IsOutcome units bytes outcome))
@@ -344,23 +351,20 @@ module _ (settings : Settings) (bytes : List ℕ) (six : HasBytes 6 settings.cpr
       runs_exist (frames_units settings.first settings.sectors) (λ k. 2048) (λ k own. refl)
       (λ before own lt is. (Write (sector_frame (settings.first + length before) own) ∷ [], Good, (refl, refl))) (λ before all. no_closing) bytes are
   by_command command.Master none addresses =
-      let layout = layout_for settings none in
-      let exists = runs_exist (master_units layout.0 settings.zones settings.cpr) (bytes_of_block layout.0 settings.zones) (λ k own. refl)
-      (λ before own. mastered_some layout.0 settings.zones settings.cpr six (length before) own) (λ before all. no_closing) bytes are in
-      (exists.0, (layout.0, layout.1, exists.1), exists.2)
+      with_layout (λ l. master_units l settings.zones settings.cpr) none
+      (λ l. runs_exist (master_units l settings.zones settings.cpr) (bytes_of_block l settings.zones) (λ k own. refl)
+      (λ before own. mastered_some l settings.zones settings.cpr six (length before) own) (λ before all. no_closing) bytes are)
   by_command command.Recover none addresses =
-      let layout = layout_for settings none in
-      let exists = captures_exist (recover_units layout.0 settings.zones settings.form) settings.form (λ k own. refl)
-      (λ before own. recovered_some layout.0 settings.zones settings.form (length before) own) (λ before all. no_closing) bytes in
-      (exists.0, (layout.0, layout.1, exists.1), exists.2)
+      with_layout (λ l. recover_units l settings.zones settings.form) none
+      (λ l. captures_exist (recover_units l settings.zones settings.form) settings.form (λ k own. refl)
+      (λ before own. recovered_some l settings.zones settings.form (length before) own) (λ before all. no_closing) bytes)
   by_command command.Info none addresses =
       captures_exist (info_units settings.initial settings.form) settings.form (λ k own. refl)
       (λ before own. sought_some settings.initial settings.form (length before) own) (λ before all. no_closing) bytes
   by_command command.Survey none addresses =
-      let layout = layout_for settings none in
-      let exists = captures_exist (survey_units layout.0 settings.zones settings.form) settings.form (λ k own. refl)
-      (λ before own. surveyed_some layout.0 settings.zones settings.form before own) (λ before all. (_, refl)) bytes in
-      (exists.0, (layout.0, layout.1, exists.1), exists.2)
+      with_layout (λ l. survey_units l settings.zones settings.form) none
+      (λ l. captures_exist (survey_units l settings.zones settings.form) settings.form (λ k own. refl)
+      (λ before own. surveyed_some l settings.zones settings.form before own) (λ before all. (_, refl)) bytes)
   by_command command.Exercise none addresses =
       runs_exist (exercise_units settings.seed settings.blocks) (λ k. 0) (λ k own. refl) (λ before own lt is. ([], Good, (refl, refl)))
       (λ before all. exercised_some settings.seed settings.blocks) bytes are
@@ -372,20 +376,17 @@ module _ (settings : Settings) (bytes : List ℕ) (six : HasBytes 6 settings.cpr
       runs_exist (cdread_units settings.address settings.sectors) (λ k. 2352) (λ k own. refl)
       (λ before own within is. read_some (settings.address + length before) (length before) own) (λ before all. no_closing) bytes are
   by_command command.Merge none addresses =
-      let layout = layout_for settings none in
-      let exists = runs_exist (merge_units layout.0 settings.zones settings.form settings.captures) (λ k. settings.captures * block_size settings.form) (λ k own. refl)
-      (λ before own lt is. (Write (marked_text (joined (tables_in settings.captures settings.form own))) ∷ [], Good, (refl, refl))) (λ before all. no_closing) bytes are in
-      (exists.0, (layout.0, layout.1, exists.1), exists.2)
+      with_layout (λ l. merge_units l settings.zones settings.form settings.captures) none
+      (λ l. runs_exist (merge_units l settings.zones settings.form settings.captures) (λ k. settings.captures * block_size settings.form) (λ k own. refl)
+      (λ before own lt is. (Write (marked_text (joined (tables_in settings.captures settings.form own))) ∷ [], Good, (refl, refl))) (λ before all. no_closing) bytes are)
   by_command command.Deep none addresses =
-      let layout = layout_for settings none in
-      let exists = captures_exist (deep_units layout.0 settings.zones settings.form) settings.form (λ k own. refl)
-      (λ before own. deepened_some layout.0 settings.zones settings.form (length before) own) (λ before all. no_closing) bytes in
-      (exists.0, (layout.0, layout.1, exists.1), exists.2)
+      with_layout (λ l. deep_units l settings.zones settings.form) none
+      (λ l. captures_exist (deep_units l settings.zones settings.form) settings.form (λ k own. refl)
+      (λ before own. deepened_some l settings.zones settings.form (length before) own) (λ before all. no_closing) bytes)
   by_command command.Assemble none addresses =
-      let layout = layout_for settings none in
-      let exists = runs_exist (assemble_units layout.0 settings.form settings.frames) (λ k. frame_size settings.form) (λ k own. refl)
-      (λ before own lt is. ([], Good, (refl, refl))) (λ before all. (_, refl)) bytes are in
-      (exists.0, (layout.0, layout.1, exists.1), exists.2)
+      with_layout (λ l. assemble_units l settings.form settings.frames) none
+      (λ l. runs_exist (assemble_units l settings.form settings.frames) (λ k. frame_size settings.form) (λ k own. refl)
+      (λ before own lt is. ([], Good, (refl, refl))) (λ before all. (_, refl)) bytes are)
   by_command command.Convert none addresses =
       let layout = layout_for settings none in
       let opening = some_opening settings none in

@@ -1,11 +1,6 @@
 use Rattle.std.proofs.Common.{◌≤◌, Err, refl, sym, subst}
-use Rattle.std.specs.Io.KnownBytes.{Appends}
-use Rattle.dvd_ports.specs.Whole.{AppendsPrefix}
-use Rattle.dvd_capture.specs.Works.{marks_of_work, rows_of, sectors_of}
-use Rattle.dvd_layout.specs.Place.{image_sectors}
-use Rattle.dvd_loop.specs.declared.ends.LoopEnd.TheVariants.{ReportFault, WriteFault}
+use Rattle.dvd_loop.specs.declared.ends.LoopEnd.TheVariants.{ReportFault}
 use Rattle.dvd_loop.proofs.TurnLemmas.{err_is}
-use Rattle.dvd_read.specs.Salvage.{block_out, saved_in}
 use Rattle.dvd_top.proofs.RecoverBlocks.{few_saved, line_same, sectors_same}
 use Rattle.dvd_top.proofs.TwoSteps.{both_done, bytes_fail, line_fails}
 use Rattle.dvd_top.proofs.commands.captured.refuse_block.Goals as goal

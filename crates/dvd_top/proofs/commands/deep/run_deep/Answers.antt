@@ -10,7 +10,8 @@ returns-in-Some-clause-performed g c =
     let settings = c.args.settings.now in
     let worded = subst (IsWorded settings) c.in-Some.is c.in_ok-worded.ensures.worded in
     looped_by_words settings worded.0 _ _ c.deep_loop.result
-    (gone_over Deep settings c.requires worded.2 (deep_units c.in-Some.layout settings.zones settings.form) (λ P units. (c.in-Some.layout, worded.1, units)) _ _ c.deep_loop.result c.deep_loop.ensures.follows c.deep_loop.ensures.causes)
+    (gone_over Deep settings c.requires worded.2 (deep_units c.in-Some.layout settings.zones settings.form) (λ P units. (c.in-Some.layout, worded.1, units))
+    _ _ c.deep_loop.result c.deep_loop.ensures.follows c.deep_loop.ensures.causes)
 
 pub returns-clause-performed : goal.returns-clause-performed
 returns-clause-performed g c =

@@ -10,7 +10,8 @@ returns-in-Ok-clause-opens g c =
     let stated = c.in-Ok.stated.settings in
     let layout = c.in-Ok.stated.layout in
     let opened = c.in-Ok.ensures.opened in
-    opened_over Info c.args.settings.now stated layout c.requires _ _ _ _ _ _ opened (info_units stated.initial stated.form) (λ P units. units) c.seek_format.ensures.follows
+    opened_over Info c.args.settings.now stated layout c.requires _ _ _ _ _ _ opened
+    (info_units stated.initial stated.form) (λ P units. units) c.seek_format.ensures.follows
 
 pub returns-in-Ok-clause-causes : goal.returns-in-Ok-clause-causes
 returns-in-Ok-clause-causes g c =

@@ -10,7 +10,8 @@ returns-in-Some-clause-performed g c =
     let settings = c.args.settings.now in
     let worded = subst (IsWordedInitial settings) c.in-Some.is c.in_ok-worded.ensures.worded in
     looped_by_words settings worded.0 _ _ c.seek_format.result
-    (gone_over Info settings c.requires worded.2 (info_units settings.initial settings.form) (λ P units. units) _ _ c.seek_format.result c.seek_format.ensures.follows c.seek_format.ensures.causes)
+    (gone_over Info settings c.requires worded.2 (info_units settings.initial settings.form) (λ P units. units)
+    _ _ c.seek_format.result c.seek_format.ensures.follows c.seek_format.ensures.causes)
 
 pub returns-clause-performed : goal.returns-clause-performed
 returns-clause-performed g c =

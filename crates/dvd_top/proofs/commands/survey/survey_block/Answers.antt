@@ -1,8 +1,5 @@
-use Rattle.std.proofs.Common.{◌≡◌, ◌∙◌, ◌-◌, List, [], ◌∷◌, ◌++◌, length, length-append, refl, ap, subst, arith}
-use Rattle.std.specs.Io.KnownBytes.{Appends}
-use Rattle.dvd_ports.specs.Whole.{AppendsPrefix}
+use Rattle.std.proofs.Common.{◌≡◌, ◌∙◌, ◌-◌, List, [], ◌∷◌, ◌++◌, length, length-append, refl, ap, arith}
 use Rattle.dvd_capture.specs.Works.{marks_of_work, rows_of}
-use Rattle.dvd_loop.specs.declared.ends.LoopEnd.TheVariants.{WriteFault}
 use Rattle.dvd_loop.proofs.TurnLemmas.{err_is, write_begun, write_done}
 use Rattle.dvd_read.specs.Reading.{block_cause}
 use Rattle.dvd_report.specs.Survey.{surveyed}

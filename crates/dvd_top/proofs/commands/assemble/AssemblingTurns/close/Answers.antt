@@ -1,9 +1,6 @@
 use Rattle.std.proofs.Common.{◌≡◌, ◌∙◌, ◌-◌, [], ◌∷◌, Ok, Err, ap, sym, subst, arith}
-use Rattle.std.specs.Io.KnownBytes.{Appends}
 use Rattle.dvd_assemble.specs.Shelves.{tables_of}
-use Rattle.dvd_ports.specs.Whole.{AppendsPrefix}
 use Rattle.dvd_loop.specs.Machine.Step.{Tell}
-use Rattle.dvd_loop.specs.Streams.{streams}
 use Rattle.dvd_loop.specs.Turns.{AreSteps}
 use Rattle.dvd_loop.specs.declared.ends.LoopEnd.TheVariants.{ReportFault, WriteFault}
 use Rattle.dvd_loop.proofs.TurnLemmas.{err_is, line_begun, step_begun, step_told, step_written}

@@ -1,6 +1,4 @@
-use Rattle.std.proofs.Common.{◌≡◌, length, subst, refl, arith}
-use Rattle.dvd_loop.specs.Streams.{streams}
-use Rattle.dvd_loop.specs.Turns.{EndsShort}
+use Rattle.std.proofs.Common.{◌≡◌, length, refl, arith}
 use Rattle.dvd_loop.proofs.TurnLemmas.{causes_after, err_is, sized_done, sized_short}
 use Rattle.dvd_top.proofs.commands.cd_read.CdReadLoneTurns.turn.Goals as goal
 

@@ -1,7 +1,4 @@
 use Rattle.std.proofs.Common.{refl}
-use Rattle.dvd_capture.specs.Works.{marks_of_work, rows_of}
-use Rattle.dvd_loop.specs.Streams.{streams}
-use Rattle.dvd_loop.specs.declared.ends.LoopEnd.TheVariants.{WriteFault}
 use Rattle.dvd_loop.specs.declared.ends.Turn.TheVariants.{Good}
 use Rattle.dvd_loop.proofs.TurnLemmas.{causes_written, err_is, write_begun, write_done}
 use Rattle.dvd_top.proofs.CapturedTurns.{captured_done, captured_short}

@@ -1,11 +1,8 @@
-use Rattle.std.proofs.Common.{◌≡◌, ◌∙◌, ◌+◌, [], ◌∷◌, length-append, slice_get, Some, refl, sym, ap, subst, arith}
+use Rattle.std.proofs.Common.{◌∙◌, ◌+◌, [], ◌∷◌, length-append, refl, sym, ap, subst, arith}
 use Rattle.dvd_block.specs.Buffers.{block_rows, piece_bytes}
-use Rattle.dvd_capture.specs.Works.{marks_of_work, rows_of}
 use Rattle.dvd_exercise.specs.Generator.{state_of}
-use Rattle.dvd_layout.specs.Plan.{plan_of}
 use Rattle.dvd_layout.specs.declared.layout.Zones.TheVariants.{DataOnly}
 use Rattle.dvd_loop.proofs.StreamLemmas.{stays}
-use Rattle.dvd_read.specs.Reading.{block_cause}
 use Rattle.dvd_top.specs.Inner.Exercising.{IsBehind}
 use Rattle.dvd_top.proofs.ExerciseBlocks.{length-data_plan}
 use Rattle.dvd_top.proofs.ExerciseTurns.{no_cause, turn_behind}
@@ -28,7 +25,8 @@ read_back-requires-clause-right g c =
     let e = c.args.self.now in
     let made = c.draw_block.ensures in
     let stands = rw c.from.ensures at c.plan-entry.ensures in
-    no_cause e.blocks c.args.k (state_of e.rand) e.layout e.shape c.requires.unit e.few c.plan-entry.result stands (piece_bytes c.draw_block.new.piece) (block_rows c.draw_block.new.block) c.draw_block.new.work made.drawn made.made made.hurt
+    no_cause e.blocks c.args.k (state_of e.rand) e.layout e.shape c.requires.unit e.few c.plan-entry.result stands
+    (piece_bytes c.draw_block.new.piece) (block_rows c.draw_block.new.block) c.draw_block.new.work made.drawn made.made made.hurt
 
 pub returns-clause-turn : goal.returns-clause-turn
 returns-clause-turn g c = λ before number ready.

@@ -1,8 +1,5 @@
-use Rattle.std.proofs.Common.{◌≡◌, [], ◌∷◌, length, refl, ap, subst, arith}
+use Rattle.std.proofs.Common.{◌≡◌, [], ◌∷◌, length, refl, ap, arith}
 use Rattle.dvd_loop.specs.Machine.Step.{Write}
-use Rattle.dvd_loop.specs.Streams.{streams}
-use Rattle.dvd_loop.specs.Turns.{EndsShort}
-use Rattle.dvd_loop.specs.declared.ends.LoopEnd.TheVariants.{WriteFault}
 use Rattle.dvd_loop.proofs.TurnLemmas.{causes_written, err_is, sized_done, sized_short, write_begun}
 use Rattle.dvd_top.proofs.commands.frames.FramesLoneTurns.turn.Goals as goal
 
@@ -15,7 +12,8 @@ returns-in_err-read_unit-clause-turn g c = λ before number.
 pub returns-in_err-write_whole-clause-turn : goal.returns-in_err-write_whole-clause-turn
 returns-in_err-write_whole-clause-turn g c = λ before number.
     sized_done _ _ (λ k own. refl) c.args.k before number _ _ _ _ _ c.read_unit.new.unit (omega (arith, c.read_unit.auto.unit)) c.in_ok-read_unit.ensures.whole _ _ _
-    (write_begun _ c.write_frame.new.frame _ (ap (λ l. Write l ∷ []) c.write_frame.ensures, refl) _ _ _ _ _ (err_is _ _ c.from_residual-in_err-write_whole.ensures.1) c.in_err-write_whole.ensures.begun) tt
+    (write_begun _ c.write_frame.new.frame _ (ap (λ l. Write l ∷ []) c.write_frame.ensures, refl)
+    _ _ _ _ _ (err_is _ _ c.from_residual-in_err-write_whole.ensures.1) c.in_err-write_whole.ensures.begun) tt
 
 pub returns-in_err-write_whole-clause-causes : goal.returns-in_err-write_whole-clause-causes
 returns-in_err-write_whole-clause-causes g c =

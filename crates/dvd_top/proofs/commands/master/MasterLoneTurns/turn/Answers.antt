@@ -1,16 +1,7 @@
-use Rattle.std.proofs.Common.{◌≡◌, ◌≤◌, ℕ, List, [], ◌∷◌, length, slice_get, take, Ok, Some, refl, ap, sym, subst, ◌∙◌, arith}
-use Rattle.std.proofs.lemmas.List.{length-take-le}
-use Rattle.dvd_block.specs.Buffers.{block_rows, piece_bytes}
-use Rattle.dvd_block.specs.Product.{IsBlockOf}
-use Rattle.dvd_block.specs.Recording.{recording}
-use Rattle.dvd_layout.specs.Plan.{plan_of}
-use Rattle.dvd_loop.specs.Machine.Step.{Write}
-use Rattle.dvd_loop.specs.Streams.{streams}
-use Rattle.dvd_loop.specs.Turns.{EndsShort}
-use Rattle.dvd_loop.specs.declared.ends.LoopEnd.TheVariants.{WriteFault}
-use Rattle.dvd_loop.specs.declared.ends.Turn.TheVariants.{Good}
+use Rattle.std.proofs.Common.{◌≡◌, refl, sym, ◌∙◌}
+use Rattle.dvd_block.specs.Buffers.{piece_bytes}
 use Rattle.dvd_loop.proofs.TurnLemmas.{causes_written, err_is, sized_done, sized_short, write_begun, write_done}
-use Rattle.dvd_top.specs.Commands.Master.{IsMastered, bytes_of_block, frames_of}
+use Rattle.dvd_top.specs.Commands.Master.{bytes_of_block}
 use Rattle.dvd_top.proofs.MasterBlocks.{mastered, size_is}
 use Rattle.dvd_top.proofs.PlanEntries.{has_numbers}
 use Rattle.dvd_top.proofs.commands.master.MasterLoneTurns.turn.Goals as goal

@@ -1,7 +1,5 @@
 use Rattle.std.proofs.Common.{[], ◌∷◌, refl, ap}
 use Rattle.dvd_loop.specs.Machine.Step.{Write}
-use Rattle.dvd_loop.specs.Streams.{streams}
-use Rattle.dvd_loop.specs.declared.ends.LoopEnd.TheVariants.{WriteFault}
 use Rattle.dvd_loop.proofs.TurnLemmas.{causes_written, err_is, sized_done, sized_short, write_begun, write_done}
 use Rattle.dvd_merge.specs.MarkedText.{marked_text}
 use Rattle.dvd_merge.specs.Merges.{table_of}
@@ -15,7 +13,8 @@ pub returns-in_err-write_marked-clause-turn : goal.returns-in_err-write_marked-c
 returns-in_err-write_marked-clause-turn g c = λ before number.
     let taken = c.in_ok-take_captures.ensures.taken in
     sized_done _ _ (λ k own. refl) c.args.k before number _ _ _ _ _ taken.bytes taken.size taken.taken _ _ _
-    (write_begun _ (marked_text (table_of c.take_captures.new.merge)) _ (ap (λ table. Write (marked_text table) ∷ []) taken.joins, refl) _ _ _ _ _ (err_is _ _ c.from_residual-in_err-write_marked.ensures.1) c.in_err-write_marked.ensures.begun) tt
+    (write_begun _ (marked_text (table_of c.take_captures.new.merge)) _ (ap (λ table. Write (marked_text table) ∷ []) taken.joins, refl)
+    _ _ _ _ _ (err_is _ _ c.from_residual-in_err-write_marked.ensures.1) c.in_err-write_marked.ensures.begun) tt
 
 pub returns-in_err-write_marked-clause-causes : goal.returns-in_err-write_marked-clause-causes
 returns-in_err-write_marked-clause-causes g c =

@@ -1,4 +1,4 @@
-use Rattle.std.proofs.Common.{◌≡◌, slice_get, Some, ap, sym, ◌∙◌, refl}
+use Rattle.std.proofs.Common.{refl}
 use Rattle.dvd_layout.specs.Plan.{plan_of}
 use Rattle.dvd_loop.proofs.TurnLemmas.{causes_after, err_is}
 use Rattle.dvd_top.specs.Commands.Recover.{IsDone}

@@ -1,7 +1,5 @@
-use Rattle.std.proofs.Common.{◌≡◌, ◌≤◌, ◌<◌, length, slice_get, Some, refl, ap, sym, ◌∙◌, arith}
-use Rattle.dvd_capture.specs.Works.{marks_of_work, rows_of}
+use Rattle.std.proofs.Common.{◌≤◌, ◌<◌, length, refl, arith}
 use Rattle.dvd_layout.specs.Plan.{plan_of}
-use Rattle.dvd_loop.specs.Streams.{streams}
 use Rattle.dvd_loop.proofs.TurnLemmas.{causes_after, err_is}
 use Rattle.dvd_report.proofs.Answered.{blocks-counted}
 use Rattle.dvd_top.specs.Commands.Survey.{found_in}
