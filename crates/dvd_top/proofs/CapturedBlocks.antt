@@ -79,9 +79,10 @@ blocks_determined units form begins one closing = record {
   closes = closing;
 }
 
--- and whatever bytes there are, they begin somehow
+-- and whatever bytes there are, they begin somehow: where something may be done for each whole block, it may for all
 pub blocks_total : (units : Units) (form : Form) → ((k : ℕ) (own : List ℕ) → units.begins k own ≡ captured_part form own)
-    → ((before : List (List ℕ)) (own : List ℕ) → length before < units.count → (steps : List Step) × (turn : Turn) × units.does (length before) before own steps turn)
+    → ((before : List (List ℕ)) (own : List ℕ) → length before < units.count → captured_part form own ≡ Whole (length own)
+    → (steps : List Step) × (turn : Turn) × units.does (length before) before own steps turn)
     → ((before : List (List ℕ)) → length before ≡ units.count → (steps : List Step) × units.closes before steps)
     → AreTotal units
 blocks_total units form begins may closing = record {
@@ -90,7 +91,7 @@ blocks_total units form begins may closing = record {
     | inr (inl cut) ↦ inr (inl (begins k bytes ∙ cut))
     | inr (inr (own, left, at, front, broken)) ↦ inr (inr (own, left, at, front, begins k own ∙ broken))
   ];
-  does = λ before own lt whole. may before own lt;
+  does = λ before own lt whole. may before own lt (sym (begins (length before) own) ∙ whole);
   closes = closing;
 }
 

@@ -22,7 +22,6 @@ use Rattle.dvd_layout.specs.declared.entry.Content.TheVariants.{Zero, Reference,
 use Rattle.dvd_layout.specs.declared.fault.LayoutFault.TheVariants.{InitialTooLong}
 use Rattle.dvd_layout.specs.declared.layout.Layout.{Layout}
 use Rattle.dvd_layout.specs.declared.layout.Zones.{Zones}
-use Rattle.dvd_loop.specs.Laws.{AreTotal}
 use Rattle.dvd_loop.specs.Machine.Part.{Whole}
 use Rattle.dvd_loop.specs.Machine.{EndsBehind, EndsWithin, Goes, GoesOn, IsOutcome, Step, Units, bad_of, ended, sized, taking}
 use Rattle.dvd_loop.specs.Machine.Step.{Write, Tell}
@@ -68,7 +67,6 @@ use Rattle.dvd_words.specs.declared.settings.Command.TheVariants as command
 use Rattle.dvd_words.specs.declared.settings.Settings.{Settings}
 use Rattle.dvd_top.proofs.BlockFrames.{line-frames_of}
 use Rattle.dvd_top.proofs.CapturedBlocks.{blocks_total}
-use Rattle.dvd_top.proofs.CapturedParts.{begins_somehow}
 use Rattle.dvd_top.proofs.ConvertedBlocks.{some_opening}
 use Rattle.dvd_top.proofs.Repaired.{captured-received}
 use Rattle.dvd_capture.proofs.ListedWritten.{some_spelling}
@@ -166,7 +164,7 @@ captures_exist : (units : Units) (form : Form) → ((k : ℕ) (own : List ℕ) �
     → ((before : List (List ℕ)) (own : List ℕ) → length before < units.count → MaySome (units.does (length before) before own))
     → ((before : List (List ℕ)) → length before ≡ units.count → (steps : List Step) × units.closes before steps)
     → (bytes : List ℕ) → Exists (IsOutcome units bytes)
-captures_exist units form begins may closing bytes = exists units (blocks_total units form begins may closing) bytes
+captures_exist units form begins may closing bytes = exists units (blocks_total units form begins (λ before own lt whole. may before own lt) closing) bytes
 
 -- nothing closes these
 no_closing : (steps : List Step) × (steps ≡ [])
@@ -321,21 +319,6 @@ converted_some form own whole =
     let unit = some_spelling (captured_rows form own) (captured_marks form own) received.height received.widths received.marks_height received.marks_widths in
     (Write unit.0 ∷ [], Good, record { unit = unit.0; is_unit = unit.1; writes = refl; good = refl })
 
--- units that are captured blocks have an outcome for every input, where something may be done for each whole one
-convert_total : (units : Units) (form : Form) → ((k : ℕ) (own : List ℕ) → units.begins k own ≡ captured_part form own)
-    → ((k : ℕ) (before : List (List ℕ)) (own : List ℕ) → captured_part form own ≡ Whole (length own) → MaySome (units.does k before own))
-    → ((before : List (List ℕ)) → length before ≡ units.count → (steps : List Step) × units.closes before steps)
-    → AreTotal units
-convert_total units form begins may closing = record {
-  begins = λ k bytes lt. elim (begins_somehow form bytes) [
-    | inl (own, left, front, whole) ↦ inl (own, left, front, begins k own ∙ whole)
-    | inr (inl cut) ↦ inr (inl (begins k bytes ∙ cut))
-    | inr (inr (own, left, at, front, broken)) ↦ inr (inr (own, left, at, front, begins k own ∙ broken))
-  ];
-  does = λ before own lt whole. may (length before) before own (sym (begins (length before) own) ∙ whole);
-  closes = closing;
-}
-
 module _ (settings : Settings) (bytes : List ℕ) (six : HasBytes 6 settings.cpr) (are : All IsByte bytes) where
   -- where the units of each layout have an outcome, those of the layout of the settings have
   with_layout : (units : Layout → Units) → broken_rule settings ≡ None → ((layout : Layout) → Exists (IsOutcome (units layout) bytes))
@@ -391,7 +374,7 @@ module _ (settings : Settings) (bytes : List ℕ) (six : HasBytes 6 settings.cpr
       let layout = layout_for settings none in
       let opening = some_opening settings none in
       let units = convert_units layout.0 settings.zones settings.form opening.0 in
-      let exists = exists units (convert_total units settings.form (λ k own. refl) (λ k before own whole. converted_some settings.form own whole) (λ before all. no_closing)) bytes in
+      let exists = exists units (blocks_total units settings.form (λ k own. refl) (λ before own lt whole. converted_some settings.form own whole) (λ before all. no_closing)) bytes in
       (exists.0, (layout.0, layout.1, (opening.0, opening.1, exists.1)), exists.2)
 
 -- lengths that are those of a layout break no rule of any command
