@@ -1,13 +1,13 @@
 -- A run of `cdread` gives back the user data of each CD-ROM sector whose damage is borne.
-use Rattle.std.proofs.Common.{◌≡◌, ◌≢◌, ◌∙◌, inl, inr, ℕ, ◌+◌, ◌*◌, ◌≤◌, List, [], ◌∷◌, ◌++◌, length, take, drop, refl, ap, sym, subst, append-nil, length-append, take-append-drop, arith}
+use Rattle.std.proofs.Common.{◌≡◌, ◌≢◌, ◌∙◌, inl, inr, ℕ, ◌+◌, ◌*◌, ◌≤◌, List, [], ◌∷◌, ◌++◌, length, take, drop, refl, ap, sym, subst, append-nil, length-append, arith}
 use Rattle.std.specs.Prelude.{replicate}
-use Rattle.std.proofs.lemmas.List.{append_assoc, length-drop, length-replicate, length-take-le, take_at}
+use Rattle.std.proofs.lemmas.List.{length-drop, length-replicate, length-take-le, take_at}
 use Rattle.cd_sector.specs.Causes.{IsFaultless as IsRight}
 use Rattle.cd_sector.specs.Edc.{edc_of}
 use Rattle.cd_sector.specs.Laws.{IsBorne}
 use Rattle.cd_sector.specs.Repair.{repaired, with_p_words, with_q_words}
-use Rattle.cd_sector.specs.Sector.{IsSector, covered, data_part, sync}
-use Rattle.cd_sector.proofs.Faultless.{faultless}
+use Rattle.cd_sector.specs.Sector.{IsSector, covered, sync}
+use Rattle.cd_sector.proofs.Faultless.{faultless, made_whole}
 use Rattle.cd_sector.proofs.GivenBack.{given_back}
 use Rattle.cd_sector.proofs.OneSector.{no_cause}
 use Rattle.cd_sector.proofs.Passes.{length-with_p_words, length-with_q_words}
@@ -38,15 +38,9 @@ data_of address user rest size = take_at user rest 2048 size
 
 -- and are what the sector was made of
 made_data : (address : ℕ) (user sector : List ℕ) → length user ≡ 2048 → IsSector address user sector → user_data sector ≡ user
-unfolding data_part
 made_data address user sector size made =
-    let front : List ℕ = covered address user in
-    let edc : List ℕ = edc_of front in
-    let rest : List ℕ = edc ++ (replicate 8 0 ++ drop 2076 sector) in
-    let whole : sector ≡ front ++ rest =
-    sym (take-append-drop 2076 sector) ∙ ap (λ (l : List ℕ). l ++ drop 2076 sector) made.begins
-    ∙ append_assoc (front ++ edc) (replicate 8 0) (drop 2076 sector) ∙ append_assoc front edc (replicate 8 0 ++ drop 2076 sector) in
-    ap user_data whole ∙ data_of address user rest size
+    let rest : List ℕ = edc_of (covered address user) ++ (replicate 8 0 ++ drop 2076 sector) in
+    ap user_data (made_whole address user sector made) ∙ data_of address user rest size
 
 -- ONE SECTOR. Damage that is borne is repaired, and what was made has no cause.
 pub borne_given : (address k : ℕ) (user sector read : List ℕ) (steps : List Step) (turn : Turn) → length user ≡ 2048 → IsSector address user sector

@@ -11,8 +11,7 @@ use Rattle.dvd_layout.specs.declared.layout.Zones.{Zones}
 use Rattle.dvd_layout.specs.declared.layout.Zones.TheVariants.{DataOnly, All}
 use Rattle.dvd_loop.specs.Streams.{HaveCauses, Streams}
 use Rattle.dvd_loop.specs.declared.ends.LoopEnd.TheVariants as ends
-use Rattle.dvd_top.specs.HeaderEnds.{AnswersHeader, with_layout}
-use Rattle.dvd_top.specs.Inner.Opened.{end_in}
+use Rattle.dvd_top.specs.HeaderEnds.{AnswersHeader, end_in, with_layout}
 use Rattle.dvd_top.specs.Opening.{BreaksHeader, IsHeaderOf, place_of, shape_number, zones_number}
 use Rattle.dvd_top.specs.declared.opening.HeaderEnd.{HeaderEnd}
 use Rattle.dvd_top.specs.declared.opening.HeaderEnd.TheVariants as found

@@ -8,11 +8,8 @@ use Rattle.dvd_layout.specs.declared.layout.Layout.{Layout}
 use Rattle.dvd_loop.specs.Machine.{Outcome, ended}
 use Rattle.dvd_loop.specs.Streams.{IsTold}
 use Rattle.dvd_loop.specs.declared.ends.LoopEnd.{LoopEnd}
-use Rattle.dvd_loop.specs.declared.ends.LoopEnd.TheVariants as ends
 use Rattle.dvd_ports.specs.Seen.{Seen}
 use Rattle.dvd_top.specs.Opening.{ComesBehind, IsHeaderOf}
-use Rattle.dvd_top.specs.declared.opening.HeaderEnd.{HeaderEnd}
-use Rattle.dvd_top.specs.declared.opening.HeaderEnd.TheVariants as header
 use Rattle.dvd_words.specs.Settings.{IsLayoutOf, broken_rule}
 use Rattle.dvd_words.specs.declared.settings.Settings.{Settings}
 
@@ -25,13 +22,6 @@ IsWorded settings None = settings.form ≡ Listed
 abbrev pub IsWordedInitial : Settings → Option ℕ → Type 0
 IsWordedInitial settings (Some initial) = HasSize settings.form × (initial ≡ settings.initial) × (initial_fault settings.initial ≡ None)
 IsWordedInitial settings None = settings.form ≡ Listed
-
--- how a loop ends by what is answered of its header, where that isn't found
-abbrev pub end_in : HeaderEnd → LoopEnd
-end_in (header.Found layout zones) = ends.Done
-end_in (header.BadHeader at) = ends.BadHeader at
-end_in (header.Short bytes) = ends.ShortHeader bytes
-end_in header.ReadFault = ends.ReadFault
 
 -- The header of a listed capture was taken: it states these settings, which have this layout.
 pub record HasOpened (settings : Settings) (old new : Seen) (stated : Settings) (layout : Layout) : Type 0 where
