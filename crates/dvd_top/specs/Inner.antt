@@ -1,4 +1,4 @@
--- What only the private functions of this crate promise; but the clause `causes` of `listed_layout` cites Opened too.
+-- What only the private functions of this crate promise.
 pub mod Exercising
 pub mod Opened
 pub mod Performing
