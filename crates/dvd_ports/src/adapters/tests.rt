@@ -1,6 +1,6 @@
 //! Readers and writers that move a part of a piece, move nothing, or fail.
 use super::{StdSink, StdSource};
-use crate::{Failed, Sink, Source, WriteFault, read_whole, write_whole};
+use crate::{Failed, Sink, Source, read_whole, write_whole};
 use std::alloc::{AllocError, Global};
 use std::io;
 use std::io::{ErrorKind, Read, Write};
@@ -9,8 +9,11 @@ use std::test::Fail;
 // The number of no call.
 const NEVER: usize = usize::MAX;
 
-// The errors that a call may fail with: std's own loops try again after the first.
-const KINDS: [ErrorKind; 2] = [ErrorKind::Interrupted, ErrorKind::Other];
+// The error after which std's own loops try again.
+const AGAIN: ErrorKind = ErrorKind::Interrupted;
+
+// Another one.
+const OTHER: ErrorKind = ErrorKind::Other;
 
 // Gives at most `step` bytes a call and fails at one call.
 #[derive(Drop)]
@@ -20,6 +23,18 @@ struct Reader<'a> {
     fails: usize,
     kind: ErrorKind,
     calls: usize,
+}
+
+impl<'a> Reader<'a> {
+    fn new(rest: &'a [u8], step: usize, fails: usize, kind: ErrorKind) -> Reader<'a> {
+        Reader {
+            rest,
+            step,
+            fails,
+            kind,
+            calls: 0,
+        }
+    }
 }
 
 impl<'a> Read for Reader<'a> {
@@ -104,7 +119,9 @@ fn stream(alloc: Global, count: usize) -> Result<Vec<u8>, AllocError> {
 }
 
 // Bytes of the input, length of the buffer, bytes a call of the reader, and the call that fails.
-const READS: [(usize, usize, usize, usize); 9] = [
+type Reads = (usize, usize, usize, usize);
+
+static READS: [Reads; 9] = [
     (0, 1, 1, 0),
     (5, 1, 9, NEVER),
     (5, 1, 1, 3),
@@ -116,44 +133,72 @@ const READS: [(usize, usize, usize, usize); 9] = [
     (25_000, 32_768, 2366, 7),
 ];
 
+// An error where a call gives or counts something else. What it gives comes behind what came.
+fn reads(
+    source: &mut StdSource<Reader>,
+    buf: &mut [u8],
+    got: &mut Vec<u8>,
+    case: &Reads,
+    call: usize,
+) -> Result<(), Fail> {
+    let left = case.0.saturating_sub(got.len());
+    let answer = source.read(buf);
+    let wanted = if call == case.3 {
+        Err(Failed)
+    } else {
+        Ok(case.2.min(case.1.min(left)))
+    };
+    let calls = call.saturating_add(1);
+    let faults = u64::from(case.3 <= call);
+    if answer != wanted || source.reader.calls != calls || source.faults != faults {
+        Err((case.0, call))?;
+    }
+    if let Ok(count) = answer {
+        got.extend_from_slice(&buf[..count])?;
+    }
+    Ok(())
+}
+
+// All bytes come, by fourteen calls.
+fn gives(
+    source: &mut StdSource<Reader>,
+    buf: &mut [u8],
+    got: &mut Vec<u8>,
+    case: &Reads,
+) -> Result<(), Fail> {
+    for call in 0..14 {
+        reads(source, buf, got, case, call)?;
+    }
+    Ok(())
+}
+
+// They do, where the error is of that kind.
+fn come(alloc: Global, case: &Reads, kind: ErrorKind) -> Result<(), Fail> {
+    let input = stream(alloc, case.0)?;
+    let mut source = StdSource::new(Reader::new(&input, case.2, case.3, kind));
+    let mut buf = vec![in alloc; 0u8; case.1]?;
+    let mut got = Vec::new(alloc);
+    gives(&mut source, &mut buf, &mut got, case)?;
+    if got.as_slice() != input.as_slice() {
+        Err(case.0)?;
+    }
+    Ok(())
+}
+
 #[test]
 fn a_source_reads_once_a_call_and_counts_each_error(rt: HostRuntime) -> Result<(), Fail> {
     let alloc = rt.alloc();
-    for (size, length, step, fails) in READS {
-        for kind in KINDS {
-            let input = stream(alloc, size)?;
-            let mut source = StdSource::new(Reader {
-                rest: &input,
-                step,
-                fails,
-                kind,
-                calls: 0,
-            });
-            let mut buf = vec![in alloc; 0u8; length]?;
-            let mut got = Vec::new(alloc);
-            for call in 0..14 {
-                let left = size.saturating_sub(got.len());
-                let answer = source.read(&mut buf);
-                let want = if call == fails {
-                    Err(Failed)
-                } else {
-                    Ok(step.min(length.min(left)))
-                };
-                assert_eq!(rt; answer, want, "{size} bytes, call {call}");
-                if let Ok(count) = answer {
-                    got.extend_from_slice(&buf[..count])?;
-                }
-                assert_eq!(rt; source.reader.calls, call + 1);
-                assert_eq!(rt; source.faults, u64::from(fails <= call));
-            }
-            assert_eq!(rt; got.as_slice(), input.as_slice());
-        }
+    for case in &READS {
+        come(alloc, case, AGAIN)?;
+        come(alloc, case, OTHER)?;
     }
     Ok(())
 }
 
 // Length of the piece, bytes a call of the writer, and the write and the flush that fail.
-const WRITES: [(usize, usize, usize, usize); 9] = [
+type Writes = (usize, usize, usize, usize);
+
+static WRITES: [Writes; 9] = [
     (1, 1, NEVER, NEVER),
     (1, 9, 0, 2),
     (1, 0, 3, NEVER),
@@ -165,80 +210,139 @@ const WRITES: [(usize, usize, usize, usize); 9] = [
     (32_768, 2366, 1, 3),
 ];
 
+// What a writer has to have, and a sink to count.
+#[derive(Drop)]
+struct Wanted {
+    held: Vec<u8>,
+    calls: usize,
+    flushes: usize,
+    faults: u64,
+}
+
+impl Wanted {
+    // One call more, and what it answers.
+    fn write(&mut self, piece: &[u8], case: &Writes) -> Result<Result<usize, Failed>, AllocError> {
+        let taken = if self.calls == case.2 {
+            0
+        } else {
+            case.1.min(piece.len())
+        };
+        let fault = taken == 0 || self.flushes == case.3;
+        self.calls = self.calls.saturating_add(1);
+        self.flushes = self.flushes.saturating_add(usize::from(taken > 0));
+        self.faults = self.faults.saturating_add(u64::from(fault));
+        self.held.extend_from_slice(&piece[..taken])?;
+        Ok(if fault { Err(Failed) } else { Ok(taken) })
+    }
+
+    // Whether the sink and its writer have and count that.
+    fn is_in(&self, sink: &StdSink<Writer>) -> bool {
+        sink.writer.held.as_slice() == self.held.as_slice()
+            && sink.writer.calls == self.calls
+            && sink.writer.flushes == self.flushes
+            && sink.faults == self.faults
+    }
+}
+
+// An error where a call answers, leaves or counts something else.
+fn writes(
+    sink: &mut StdSink<Writer>,
+    piece: &[u8],
+    wanted: &mut Wanted,
+    case: &Writes,
+) -> Result<(), Fail> {
+    let answer = wanted.write(piece, case)?;
+    if sink.write(piece) != answer || !wanted.is_in(sink) {
+        Err((case.0, wanted.calls))?;
+    }
+    if answer.is_ok() && sink.writer.flushed != wanted.held.len() {
+        Err((case.0, wanted.calls))?;
+    }
+    Ok(())
+}
+
+// Six calls do what they have to.
+fn takes(alloc: Global, case: &Writes, kind: ErrorKind) -> Result<(), Fail> {
+    let piece = stream(alloc, case.0)?;
+    let mut sink = StdSink::new(Writer::new(alloc, case.1, case.2, case.3, kind));
+    let mut wanted = Wanted {
+        held: Vec::new(alloc),
+        calls: 0,
+        flushes: 0,
+        faults: 0,
+    };
+    for _ in 0..6 {
+        writes(&mut sink, &piece, &mut wanted, case)?;
+    }
+    Ok(())
+}
+
 #[test]
 fn a_sink_writes_and_flushes_once_a_call_and_counts_each_error(
     rt: HostRuntime,
 ) -> Result<(), Fail> {
     let alloc = rt.alloc();
-    for (length, step, fails, flush_fails) in WRITES {
-        for kind in KINDS {
-            let piece = stream(alloc, length)?;
-            let mut sink = StdSink::new(Writer::new(alloc, step, fails, flush_fails, kind));
-            let mut held = Vec::new(alloc);
-            let (mut flushes, mut faults) = (0usize, 0u64);
-            for call in 0..6 {
-                let taken = if call == fails {
-                    0
-                } else {
-                    step.min(piece.len())
-                };
-                let fault = taken == 0 || flushes == flush_fails;
-                flushes = flushes.saturating_add(usize::from(taken > 0));
-                faults = faults.saturating_add(u64::from(fault));
-                held.extend_from_slice(&piece[..taken])?;
-                let want = if fault { Err(Failed) } else { Ok(taken) };
-                assert_eq!(rt; sink.write(&piece), want, "{length} bytes, call {call}");
-                assert_eq!(rt; sink.writer.held.as_slice(), held.as_slice());
-                assert_eq!(rt;
-                    (sink.writer.calls, sink.writer.flushes),
-                    (call + 1, flushes)
-                );
-                assert_eq!(rt; sink.faults, faults);
-                if !fault {
-                    assert_eq!(rt; sink.writer.flushed, held.len());
-                }
-            }
-        }
+    for case in &WRITES {
+        takes(alloc, case, AGAIN)?;
+        takes(alloc, case, OTHER)?;
     }
     Ok(())
 }
 
 // Bytes a call, the call that fails, and how many calls a piece of 32,768 bytes then takes.
-const WHOLE: [(usize, usize, usize); 4] = [
+type Whole = (usize, usize, usize);
+
+static WHOLE: [Whole; 4] = [
     (32_768, NEVER, 1),
     (2366, NEVER, 14),
     (2366, 5, 6),
     (1, 32_767, 32_768),
 ];
 
+// A piece is read whole, or until the call that fails.
+fn is_read(alloc: Global, piece: &[u8], case: &Whole, kind: ErrorKind) -> Result<(), Fail> {
+    let mut source = StdSource::new(Reader::new(piece, case.0, case.1, kind));
+    let mut buf = vec![in alloc; 0u8; 32_768]?;
+    let read = read_whole(&mut source, &mut buf);
+    let is_right = if case.1 == NEVER {
+        read == Ok(32_768) && buf.as_slice() == piece && source.faults == 0
+    } else {
+        read == Err(Failed) && source.faults == 1
+    };
+    if !is_right || source.reader.calls != case.2 {
+        Err(*case)?;
+    }
+    Ok(())
+}
+
+// A piece is written whole, or until the call that fails.
+fn is_written(alloc: Global, piece: &[u8], case: &Whole, kind: ErrorKind) -> Result<(), Fail> {
+    let mut sink = StdSink::new(Writer::new(alloc, case.0, case.1, NEVER, kind));
+    let written = write_whole(&mut sink, piece);
+    let is_right = if case.1 == NEVER {
+        written.is_ok() && sink.writer.held.as_slice() == piece && sink.faults == 0
+    } else {
+        written.is_err() && sink.faults == 1
+    };
+    if !is_right || sink.writer.calls != case.2 {
+        Err(*case)?;
+    }
+    Ok(())
+}
+
+// It is both, where the error is of that kind.
+fn ends(alloc: Global, piece: &[u8], case: &Whole, kind: ErrorKind) -> Result<(), Fail> {
+    is_read(alloc, piece, case, kind)?;
+    is_written(alloc, piece, case, kind)
+}
+
 #[test]
 fn a_whole_piece_ends_at_its_first_fault(rt: HostRuntime) -> Result<(), Fail> {
     let alloc = rt.alloc();
     let piece = stream(alloc, 32_768)?;
-    for (step, fails, calls) in WHOLE {
-        for kind in KINDS {
-            let mut source = StdSource::new(Reader {
-                rest: &piece,
-                step,
-                fails,
-                kind,
-                calls: 0,
-            });
-            let mut buf = vec![in alloc; 0u8; 32_768]?;
-            let read = read_whole(&mut source, &mut buf);
-            let mut sink = StdSink::new(Writer::new(alloc, step, fails, NEVER, kind));
-            let written = write_whole(&mut sink, &piece);
-            if fails == NEVER {
-                assert_eq!(rt; (read, written), (Ok(32_768), Ok(())));
-                assert_eq!(rt; buf.as_slice(), piece.as_slice());
-                assert_eq!(rt; sink.writer.held.as_slice(), piece.as_slice());
-            } else {
-                assert_eq!(rt; (read, written), (Err(Failed), Err(WriteFault)));
-            }
-            let faults = u64::from(fails != NEVER);
-            assert_eq!(rt; (source.reader.calls, source.faults), (calls, faults));
-            assert_eq!(rt; (sink.writer.calls, sink.faults), (calls, faults));
-        }
+    for case in &WHOLE {
+        ends(alloc, &piece, case, AGAIN)?;
+        ends(alloc, &piece, case, OTHER)?;
     }
     Ok(())
 }
