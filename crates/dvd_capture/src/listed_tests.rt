@@ -1,19 +1,27 @@
 //! Worked headers and units, from outside the program.
+ghost use Rattle.std.specs.Prelude.{◌≡◌, ◌<◌, OnOk};
+ghost use Rattle.dvd_capture.specs.Rule.{HasBlock};
+ghost use Rattle.dvd_capture.specs.Works.{stage_of};
+ghost use Rattle.dvd_capture.specs.declared.capture.FetchAnswer.TheVariants.{Full};
+ghost use Rattle.dvd_capture.specs.declared.stage.Stage.TheVariants.{Fetched};
 
-use crate::{FetchAnswer, Form, Header, HeaderFault, Stage, Work, fetch, write_listed};
+use crate::tests::{gives, stream};
+use crate::{FetchAnswer, Form, Header, HeaderFault, Work, write_listed};
 use dvd_block::Block;
-use dvd_ports::{MemSink, MemSource, WriteFault};
+use dvd_ports::{MemSink, MemSource};
 use std::alloc::{AllocError, Global};
 use std::test::Fail;
 
 // The header of a single layer with 16 sectors and a tail of 16 blocks.
-const HEADER: [u8; 32] = [
+static HEADER: [u8; 32] = [
     0x44, 0x56, 0x44, 0x45, 0x43, 0x43, 0, 2, 0, 0, 0, 0, 0, 0, 0, 16, 0, 0, 0, 0, 0, 0, 0, 0, 0,
     0, 0, 16, 0, 0, 0, 0,
 ];
 
 // Fields behind the rows, and what the unit is.
-const UNITS: [(&[u16], FetchAnswer); 14] = [
+type Unit = (&'static [u16], FetchAnswer);
+
+static UNITS: [Unit; 14] = [
     (&[0], FetchAnswer::Full),
     (&[1, 0, 37856], FetchAnswer::Full),
     (&[2, 3, 2, 6, 1], FetchAnswer::Full),
@@ -30,8 +38,74 @@ const UNITS: [(&[u16], FetchAnswer); 14] = [
     (&[2, 9, 2, 12, 65535], FetchAnswer::BadMarks { at: 37864 }),
 ];
 
-// Row, place and mark of a unit with the runs (0, 3), (181, 2), (2183, 1), (2366, 2) and (37855, 1), by another program.
-const MARKED: [(usize, usize, bool); 13] = [
+// The bytes of rows, byte k being 7k + k/182 modulo 256, and then these fields.
+fn unit(alloc: Global, fields: &[u16]) -> Result<Vec<u8>, AllocError> {
+    let mut bytes = stream(alloc, 37856, 182)?;
+    for field in fields {
+        bytes.extend_from_slice(&field.to_be_bytes())?;
+    }
+    Ok(bytes)
+}
+
+// An error where these bytes, at most `step` of them a call, give something else.
+fn give(
+    alloc: Global,
+    bytes: &[u8],
+    step: usize,
+    work: &mut Work,
+    wanted: FetchAnswer,
+) -> Result<(), Fail>
+    requires { 0 < step }
+    ensures { OnOk result (wanted ≡ Full → stage_of work.new ≡ Fetched) }
+{
+    let mut source = MemSource::new(bytes.to_vec(alloc)?, step, Vec::new(alloc));
+    gives(&mut source, Form::Listed, work, wanted)
+}
+
+// A unit is fetched, or broken as it should be.
+fn is_unit(alloc: Global, case: &Unit, work: &mut Work) -> Result<(), Fail> {
+    let bytes = unit(alloc, case.0)?;
+    give(alloc, &bytes, 1000, work, case.1)
+}
+
+#[test]
+fn units_are_fetched_or_broken(rt: HostRuntime) -> Result<(), Fail> {
+    let alloc = rt.alloc();
+    let mut work = Work::new(alloc)?;
+    for case in &UNITS {
+        is_unit(alloc, case, &mut work)?;
+    }
+    Ok(())
+}
+
+// So many bytes of a unit are too few.
+fn is_short(alloc: Global, whole: &[u8], count: u32, work: &mut Work) -> Result<(), Fail> {
+    let bytes = &whole[..whole.len().min(count as usize)];
+    give(alloc, bytes, 7, work, FetchAnswer::Short { bytes: count })
+}
+
+// The bytes of a unit's list are missing, one after the other.
+fn is_cut(alloc: Global, whole: &[u8], work: &mut Work) -> Result<(), Fail> {
+    for count in 37850..37866 {
+        is_short(alloc, whole, count, work)?;
+    }
+    Ok(())
+}
+
+#[test]
+fn a_unit_is_cut_at_each_byte_of_its_list(rt: HostRuntime) -> Result<(), Fail> {
+    let alloc = rt.alloc();
+    let mut work = Work::new(alloc)?;
+    let whole = unit(alloc, &[2, 3, 2, 6, 1])?;
+    is_cut(alloc, &whole, &mut work)
+}
+
+static RUNS: [u16; 11] = [5, 0, 3, 181, 2, 2183, 1, 2366, 2, 37855, 1];
+
+// Row, place and mark of the unit with these runs, by another program.
+type Mark = (usize, usize, bool);
+
+static MARKED: [Mark; 13] = [
     (0, 0, true),
     (0, 2, true),
     (0, 3, false),
@@ -47,99 +121,110 @@ const MARKED: [(usize, usize, bool); 13] = [
     (207, 181, true),
 ];
 
-// The bytes of rows, byte k being 7k + k/182 modulo 256, and then these fields.
-fn unit(alloc: Global, fields: &[u16]) -> Result<Vec<u8>, AllocError> {
-    let mut bytes = Vec::new(alloc);
-    for k in 0..37856usize {
-        bytes.push(((k * 7 + k / 182) % 256) as u8)?;
-    }
-    for field in fields {
-        bytes.extend_from_slice(&field.to_be_bytes())?;
-    }
-    Ok(bytes)
-}
-
-#[test]
-fn units_are_fetched_or_broken(rt: HostRuntime) -> Result<(), Fail> {
-    let alloc = rt.alloc();
-    let mut work = Work::new(alloc)?;
-    for (fields, answer) in UNITS {
-        let mut source = MemSource::new(unit(alloc, fields)?, 1000, Vec::new(alloc));
-        assert_eq!(rt; fetch(&mut source, Form::Listed, &mut work), answer);
-        assert!(rt; (work.stage() == Stage::Fetched) == (answer == FetchAnswer::Full));
+// A place is marked so.
+fn has(work: &Work, mark: &Mark) -> Result<(), Fail>
+    requires { HasBlock (stage_of work.now) }
+{
+    if work.marked(mark.0.min(207), mark.1.min(181)) != mark.2 {
+        Err(*mark)?;
     }
     Ok(())
 }
 
-#[test]
-fn a_unit_is_cut_at_each_byte_of_its_list(rt: HostRuntime) -> Result<(), Fail> {
-    let alloc = rt.alloc();
-    let mut work = Work::new(alloc)?;
-    let whole = unit(alloc, &[2, 3, 2, 6, 1])?;
-    for left in 37850usize..37866 {
-        if left <= whole.len() {
-            let bytes = whole[..left].to_vec(alloc)?;
-            let mut source = MemSource::new(bytes, 7, Vec::new(alloc));
-            assert_eq!(rt;
-                fetch(&mut source, Form::Listed, &mut work),
-                FetchAnswer::Short { bytes: left as u32 }
-            );
-        }
+// Each place is, and the bytes are those of the rows.
+fn has_runs(work: &Work) -> Result<(), Fail>
+    requires { HasBlock (stage_of work.now) }
+{
+    for mark in &MARKED {
+        has(work, mark)?;
+    }
+    if work.received(0, 181) != 243 || work.received(207, 181) != 232 {
+        Err("other bytes")?;
     }
     Ok(())
+}
+
+// An error where the unit that is written has another length or other bytes at its end.
+fn writes(work: &Work, sink: &mut MemSink, size: usize, end: &[u8]) -> Result<(), Fail>
+    requires { HasBlock (stage_of work.now) }
+{
+    write_listed(work, sink)?;
+    let held = sink.held();
+    if held.len() != size || !held.ends_with(end) {
+        Err(held.len())?;
+    }
+    Ok(())
+}
+
+// A unit is read, and written as it was read.
+fn comes_back(alloc: Global, bytes: &[u8], work: &mut Work) -> Result<(), Fail> {
+    give(alloc, bytes, 1, work, FetchAnswer::Full)?;
+    has_runs(work)?;
+    let mut sink = MemSink::new(alloc, 40000, 999, Vec::new(alloc))?;
+    writes(work, &mut sink, bytes.len(), bytes)
 }
 
 #[test]
 fn runs_mark_their_places(rt: HostRuntime) -> Result<(), Fail> {
     let alloc = rt.alloc();
     let mut work = Work::new(alloc)?;
-    let fields = [5, 0, 3, 181, 2, 2183, 1, 2366, 2, 37855, 1];
-    let bytes = unit(alloc, &fields)?;
-    let mut source = MemSource::new(bytes.clone()?, 1, Vec::new(alloc));
-    assert!(rt; fetch(&mut source, Form::Listed, &mut work) == FetchAnswer::Full);
-    for (i, j, mark) in MARKED {
-        assert!(rt; i < 208 && j < 182);
-        assert_eq!(rt; work.marked(i, j), mark, "row {i} place {j}");
-    }
-    assert_eq!(rt;
-        (work.received(0, 181), work.received(207, 181)),
-        (243, 232)
-    );
-    let mut sink = MemSink::new(alloc, 40000, 999, Vec::new(alloc))?;
-    write_listed(&work, &mut sink)?;
-    assert!(rt; sink.held() == bytes.as_slice());
+    let bytes = unit(alloc, &RUNS)?;
+    comes_back(alloc, &bytes, &mut work)
+}
+
+// Receives a block of zeros.
+fn receive_zeros(alloc: Global, work: &mut Work) -> Result<(), Fail>
+    ensures { OnOk result (stage_of work.new ≡ Fetched) }
+{
+    let block = Block::new(alloc)?;
+    work.load_block(&block);
     Ok(())
+}
+
+// Marks the last of each so many places, and no other.
+fn mark(work: &mut Work, every: usize)
+    requires number { 0 < every }
+    requires stage { stage_of work.old ≡ Fetched }
+    ensures { stage_of work.new ≡ Fetched }
+{
+    for place in 0..37856 {
+        work.damage(place / 182, place % 182, 0, place % every == every - 1);
+    }
+}
+
+// Units with no run, with one that is as long as can be, and with as many as can be.
+fn write_units(alloc: Global, work: &mut Work) -> Result<(), Fail>
+    requires { stage_of work.old ≡ Fetched }
+{
+    let mut sink = MemSink::new(alloc, 200_000, 1000, Vec::new(alloc))?;
+    writes(work, &mut sink, 37858, &[0, 0, 0])?;
+    mark(work, 1);
+    writes(work, &mut sink, 37858 + 37862, &[0, 1, 0, 0, 0x93, 0xE0])?;
+    mark(work, 2);
+    writes(
+        work,
+        &mut sink,
+        37858 + 37862 + 37858 + 4 * 18928,
+        &[0x93, 0xDD, 0, 1, 0x93, 0xDF, 0, 1],
+    )
 }
 
 #[test]
 fn units_are_written(rt: HostRuntime) -> Result<(), Fail> {
     let alloc = rt.alloc();
     let mut work = Work::new(alloc)?;
-    work.load_block(&Block::new(alloc)?);
-    let mut sink = MemSink::new(alloc, 200_000, 1000, Vec::new(alloc))?;
-    write_listed(&work, &mut sink)?;
-    assert_eq!(rt; sink.held().len(), 37858);
-    assert!(rt; sink.held().ends_with(&[0, 0, 0]));
-    for i in 0..208 {
-        for j in 0..182 {
-            assert!(rt; work.stage() == Stage::Fetched);
-            work.damage(i, j, 0, true);
-        }
+    receive_zeros(alloc, &mut work)?;
+    write_units(alloc, &mut work)
+}
+
+// A sink whose room ends within the list has what comes before.
+fn is_cut_off(alloc: Global, work: &Work) -> Result<(), Fail>
+    requires { HasBlock (stage_of work.now) }
+{
+    let mut sink = MemSink::new(alloc, 37861, 40000, Vec::new(alloc))?;
+    if write_listed(work, &mut sink).is_ok() || !sink.held().ends_with(&[0, 0, 1, 0, 5, 0]) {
+        Err(sink.held().len())?;
     }
-    assert!(rt; work.stage() == Stage::Fetched);
-    write_listed(&work, &mut sink)?;
-    assert_eq!(rt; sink.held().len(), 37858 + 37862);
-    assert!(rt; sink.held().ends_with(&[0, 1, 0, 0, 0x93, 0xE0]));
-    for i in 0..208 {
-        for j in 0..182 {
-            assert!(rt; work.stage() == Stage::Fetched);
-            work.damage(i, j, 0, j % 2 == 1);
-        }
-    }
-    assert!(rt; work.stage() == Stage::Fetched);
-    write_listed(&work, &mut sink)?;
-    assert_eq!(rt; sink.held().len(), 37858 + 37862 + 37858 + 4 * 18928);
-    assert!(rt; sink.held().ends_with(&[0x93, 0xDD, 0, 1, 0x93, 0xDF, 0, 1]));
     Ok(())
 }
 
@@ -147,30 +232,28 @@ fn units_are_written(rt: HostRuntime) -> Result<(), Fail> {
 fn a_fault_leaves_a_prefix_of_the_unit(rt: HostRuntime) -> Result<(), Fail> {
     let alloc = rt.alloc();
     let mut work = Work::new(alloc)?;
-    work.load_block(&Block::new(alloc)?);
+    receive_zeros(alloc, &mut work)?;
     work.damage(0, 5, 9, true);
-    let mut sink = MemSink::new(alloc, 37861, 40000, Vec::new(alloc))?;
-    assert_eq!(rt; write_listed(&work, &mut sink), Err(WriteFault));
-    assert!(rt; sink.held().ends_with(&[0, 0, 1, 0, 5, 0]));
-    Ok(())
+    is_cut_off(alloc, &work)
 }
 
-#[test]
-fn headers_are_written_and_read(rt: HostRuntime) -> Result<(), Fail> {
-    let read = Header::from_bytes(&HEADER);
-    assert!(rt; read.is_ok());
-    if let Ok(header) = read {
-        assert_eq!(rt; (header.shape, header.zones), (0, 0));
-        assert_eq!(rt;
-            (
-                header.sectors0,
-                header.sectors1,
-                header.initial,
-                header.tail
-            ),
-            (16, 0, 0, 16)
-        );
-    }
+// Whether a header states what stands in `HEADER`.
+fn is_stated(header: &Header) -> bool {
+    header.shape == 0
+        && header.zones == 0
+        && header.sectors0 == 16
+        && header.sectors1 == 0
+        && header.initial == 0
+        && header.tail == 16
+}
+
+// The bytes behind the first eight of a header whose fields are numbers of the bytes 1 to 16.
+static FIELDS: [u8; 20] = [
+    2, 1, 0, 0, 1, 2, 3, 4, 5, 6, 7, 8, 9, 10, 11, 12, 13, 14, 15, 16,
+];
+
+// Whether that header is written so, and read again.
+fn is_counted() -> bool {
     let header = Header {
         shape: 2,
         zones: 1,
@@ -181,25 +264,33 @@ fn headers_are_written_and_read(rt: HostRuntime) -> Result<(), Fail> {
     };
     let mut bytes = [255; 32];
     header.to_bytes(&mut bytes);
-    assert!(rt; bytes[8..12] == [2, 1, 0, 0]);
-    for k in 12..28usize {
-        assert_eq!(rt; usize::from(bytes[k]), k - 11);
-    }
-    assert_eq!(rt; Header::from_bytes(&bytes), Ok(header));
-    Ok(())
+    bytes[8..28] == FIELDS[..] && Header::from_bytes(&bytes) == Ok(header)
 }
 
 #[test]
-fn each_byte_of_a_header_is_looked_at(rt: HostRuntime) -> Result<(), Fail> {
-    for at in 0..32usize {
-        let mut bytes = HEADER;
-        bytes[at] = bytes[at].wrapping_add(3);
-        let read = Header::from_bytes(&bytes);
-        if at < 12 || at >= 28 {
-            assert_eq!(rt; read, Err(HeaderFault::Place { at: at as u8 }));
-        } else {
-            assert!(rt; read.is_ok());
-        }
-    }
+fn headers_are_written_and_read(rt: HostRuntime) -> Result<(), Fail> {
+    assert!(rt; is_stated(&Header::from_bytes(&HEADER)?));
+    assert!(rt; is_counted());
     Ok(())
+}
+
+// Whether another byte there is refused, or read where there may be others.
+fn is_looked_at(at: usize) -> bool
+    requires { at < 32 }
+{
+    let mut bytes = HEADER;
+    bytes[at] = bytes[at].wrapping_add(3);
+    let read = Header::from_bytes(&bytes);
+    if at < 12 || at >= 28 {
+        read == Err(HeaderFault::Place { at: at as u8 })
+    } else {
+        read.is_ok()
+    }
+}
+
+#[test]
+fn each_byte_of_a_header_is_looked_at(rt: HostRuntime) {
+    for at in 0..32 {
+        assert!(rt; is_looked_at(at), "place {at}");
+    }
 }

@@ -1,6 +1,11 @@
 //! Worked values from outside the program.
-ghost use Rattle.std.specs.Prelude.{◌≤◌, ◌<◌};
+ghost use Rattle.std.specs.Prelude.{◌≡◌, ◌≤◌, ◌<◌, OnOk};
+ghost use Rattle.dvd_capture.specs.Rule.{HasBlock};
+ghost use Rattle.dvd_capture.specs.Works.{stage_of};
+ghost use Rattle.dvd_capture.specs.declared.capture.FetchAnswer.TheVariants.{Full};
+ghost use Rattle.dvd_capture.specs.declared.stage.Stage.TheVariants.{Fetched};
 
+use crate::parts::{Answers, Columns};
 use crate::{FetchAnswer, Form, Stage, Work, fetch};
 use dvd_block::Block;
 use dvd_ports::MemSource;
@@ -8,8 +13,11 @@ use rs_decode::Fix;
 use std::alloc::{AllocError, Global};
 use std::test::Fail;
 
-// Row, place, byte and mark in the first block of `stream` at 205 bytes a recorded row, computed by another program.
-const MARKED: [(usize, usize, u8, bool); 10] = [
+// Row, place, byte and mark.
+type Place = (usize, usize, u8, bool);
+
+// Places of the first block of `stream` at 205 bytes a recorded row, computed by another program.
+static MARKED: [Place; 10] = [
     (0, 0, 0, true),
     (0, 181, 243, true),
     (11, 7, 229, false),
@@ -22,18 +30,107 @@ const MARKED: [(usize, usize, u8, bool); 10] = [
     (207, 181, 23, false),
 ];
 
-// Row, place and byte in the first block of `stream` at 182 bytes a recorded row.
-const PLAIN: [(usize, usize, u8); 6] = [
-    (0, 181, 243),
-    (12, 8, 247),
-    (13, 100, 118),
-    (191, 3, 15),
-    (192, 0, 196),
-    (207, 181, 232),
+// Places of the first block of `stream` at 182 bytes a recorded row.
+static PLAIN: [Place; 6] = [
+    (0, 181, 243, false),
+    (12, 8, 247, false),
+    (13, 100, 118, false),
+    (191, 3, 15, false),
+    (192, 0, 196, false),
+    (207, 181, 232, false),
 ];
 
-// Bytes of a stream and what it gives as one block of each form; the calls of the source that fail.
-const CUT: [(usize, &[u64], FetchAnswer, FetchAnswer); 6] = [
+// So many bytes: byte k is 7k + k/size, modulo 256.
+pub(crate) fn stream(alloc: Global, count: usize, size: usize) -> Result<Vec<u8>, AllocError>
+    requires size { 0 < size }
+    requires count { count ≤ 100_000 }
+{
+    let mut bytes = Vec::new(alloc);
+    for k in 0..count {
+        bytes.push(((k * 7 + k / size) % 256) as u8)?;
+    }
+    Ok(bytes)
+}
+
+// The stage of a block that a source gave so.
+fn stage(answer: FetchAnswer) -> Stage {
+    match answer {
+        FetchAnswer::Full => Stage::Fetched,
+        _ => Stage::Empty,
+    }
+}
+
+// An error where a source gives something else.
+pub(crate) fn gives(
+    source: &mut MemSource,
+    form: Form,
+    work: &mut Work,
+    wanted: FetchAnswer,
+) -> Result<(), Fail>
+    ensures { OnOk result (wanted ≡ Full → stage_of work.new ≡ Fetched) }
+{
+    let answer = fetch(source, form, work);
+    if answer != wanted || work.stage() != stage(wanted) {
+        Err(answer)?;
+    }
+    Ok(())
+}
+
+// An error where another byte stands at a place, or another mark.
+fn has(work: &Work, place: &Place) -> Result<(), Fail>
+    requires { HasBlock (stage_of work.now) }
+{
+    let (i, j, byte, mark) = *place;
+    let (row, column) = (i.min(207), j.min(181));
+    if work.received(row, column) != byte || work.marked(row, column) != mark {
+        Err((i, j))?;
+    }
+    Ok(())
+}
+
+// The same of each of these places.
+fn has_all(work: &Work, places: &[Place]) -> Result<(), Fail>
+    requires { HasBlock (stage_of work.now) }
+{
+    for place in places {
+        has(work, place)?;
+    }
+    Ok(())
+}
+
+// A stream of one byte more gives a block, and then that byte.
+fn gives_more(alloc: Global, work: &mut Work) -> Result<(), Fail> {
+    let mut source = MemSource::new(stream(alloc, 42641, 205)?, 1000, Vec::new(alloc));
+    gives(&mut source, Form::Marked, work, FetchAnswer::Full)?;
+    has_all(work, &MARKED)?;
+    gives(
+        &mut source,
+        Form::Marked,
+        work,
+        FetchAnswer::Short { bytes: 1 },
+    )
+}
+
+#[test]
+fn a_marked_block_is_fetched(rt: HostRuntime) -> Result<(), Fail> {
+    let alloc = rt.alloc();
+    let mut work = Work::new(alloc)?;
+    gives_more(alloc, &mut work)
+}
+
+#[test]
+fn a_plain_block_is_fetched_by_single_bytes(rt: HostRuntime) -> Result<(), Fail> {
+    let alloc = rt.alloc();
+    let mut work = Work::new(alloc)?;
+    let mut source = MemSource::new(stream(alloc, Form::Plain.size(), 182)?, 1, Vec::new(alloc));
+    gives(&mut source, Form::Plain, &mut work, FetchAnswer::Full)?;
+    has_all(&work, &PLAIN)
+}
+
+// Bytes of a stream, the calls of the source that fail, and what it gives as one block of the plain and of the marked form.
+type Cut = (usize, &'static [u64], FetchAnswer, FetchAnswer);
+
+static CUT: [Cut; 6] = [
     (0, &[], FetchAnswer::End, FetchAnswer::End),
     (
         1,
@@ -57,76 +154,83 @@ const CUT: [(usize, &[u64], FetchAnswer, FetchAnswer); 6] = [
     (42640, &[5], FetchAnswer::ReadFault, FetchAnswer::ReadFault),
 ];
 
-// So many bytes: byte k is 7k + k/size, modulo 256.
-fn stream(alloc: Global, count: usize, size: usize) -> Result<Vec<u8>, AllocError>
-    requires size { 0 < size }
-    requires count { count ≤ 100_000 }
-{
-    let mut bytes = Vec::new(alloc);
-    for k in 0..count {
-        bytes.push(((k * 7 + k / size) % 256) as u8)?;
-    }
-    Ok(bytes)
-}
-
-#[test]
-fn a_marked_block_is_fetched(rt: HostRuntime) -> Result<(), Fail> {
-    let alloc = rt.alloc();
-    let mut work = Work::new(alloc)?;
-    let mut source = MemSource::new(stream(alloc, 42641, 205)?, 1000, Vec::new(alloc));
-    assert!(rt; fetch(&mut source, Form::Marked, &mut work) == FetchAnswer::Full);
-    for (i, j, byte, mark) in MARKED {
-        assert!(rt; i < 208 && j < 182);
-        assert_eq!(rt; work.received(i, j), byte);
-        assert_eq!(rt; work.marked(i, j), mark);
-    }
-    assert_eq!(rt;
-        fetch(&mut source, Form::Marked, &mut work),
-        FetchAnswer::Short { bytes: 1 }
-    );
-    assert_eq!(rt; work.stage(), Stage::Empty);
-    Ok(())
-}
-
-#[test]
-fn a_plain_block_is_fetched_by_single_bytes(rt: HostRuntime) -> Result<(), Fail> {
-    let alloc = rt.alloc();
-    let mut work = Work::new(alloc)?;
-    let mut source = MemSource::new(stream(alloc, Form::Plain.size(), 182)?, 1, Vec::new(alloc));
-    assert!(rt; fetch(&mut source, Form::Plain, &mut work) == FetchAnswer::Full);
-    for (i, j, byte) in PLAIN {
-        assert!(rt; i < 208 && j < 182);
-        assert_eq!(rt; work.received(i, j), byte);
-        assert!(rt; !work.marked(i, j));
-    }
-    Ok(())
+// A cut stream gives that, in one form.
+fn is_cut(
+    alloc: Global,
+    cut: &Cut,
+    form: Form,
+    work: &mut Work,
+    wanted: FetchAnswer,
+) -> Result<(), Fail> {
+    let bytes = stream(alloc, cut.0.min(100_000), 182)?;
+    let mut source = MemSource::new(bytes, 4000, cut.1.to_vec(alloc)?);
+    gives(&mut source, form, work, wanted)
 }
 
 #[test]
 fn a_stream_ends_or_fails_within_a_block(rt: HostRuntime) -> Result<(), Fail> {
     let alloc = rt.alloc();
     let mut work = Work::new(alloc)?;
-    for (count, fails, plain, marked) in CUT {
-        assert!(rt; count <= 100_000);
-        for (form, answer) in [(Form::Plain, plain), (Form::Marked, marked)] {
-            let mut source = MemSource::new(stream(alloc, count, 182)?, 4000, fails.to_vec(alloc)?);
-            assert_eq!(rt; fetch(&mut source, form, &mut work), answer);
-        }
+    for cut in &CUT {
+        is_cut(alloc, cut, Form::Plain, &mut work, cut.2)?;
+        is_cut(alloc, cut, Form::Marked, &mut work, cut.3)?;
     }
     Ok(())
+}
+
+// A source that gives a block whole is called once for it.
+fn is_one_call(alloc: Global, form: Form, work: &mut Work) -> Result<(), Fail> {
+    let bytes = stream(alloc, 85280, 205)?;
+    let mut source = MemSource::new(bytes, 100_000, vec![in alloc; 1; 1]?);
+    gives(&mut source, form, work, FetchAnswer::Full)?;
+    gives(&mut source, form, work, FetchAnswer::ReadFault)
 }
 
 #[test]
 fn a_block_is_one_call_of_a_source_that_gives_it_whole(rt: HostRuntime) -> Result<(), Fail> {
     let alloc = rt.alloc();
     let mut work = Work::new(alloc)?;
-    for form in [Form::Plain, Form::Marked] {
-        let bytes = stream(alloc, 85280, 205)?;
-        let mut source = MemSource::new(bytes, 100_000, vec![in alloc; 1; 1]?);
-        assert_eq!(rt; fetch(&mut source, form, &mut work), FetchAnswer::Full);
-        assert_eq!(rt; fetch(&mut source, form, &mut work), FetchAnswer::ReadFault);
+    is_one_call(alloc, Form::Plain, &mut work)?;
+    is_one_call(alloc, Form::Marked, &mut work)
+}
+
+// Places of a block whose first row has nines, where three of them are damaged.
+static DAMAGED: [Place; 4] = [
+    (0, 169, 9, false),
+    (0, 170, 4, true),
+    (0, 171, 5, false),
+    (207, 181, 6, true),
+];
+
+// Damages them.
+fn damage(work: &mut Work)
+    requires { HasBlock (stage_of work.old) }
+    ensures { stage_of work.new ≡ Fetched }
+{
+    work.damage(0, 170, 4, true);
+    work.damage(0, 171, 5, false);
+    work.damage(207, 181, 6, true);
+}
+
+// Place 170 is the only one of row 0 that is marked.
+fn has_one_mark(work: &Work) -> bool {
+    let mut marks = [false; 182];
+    work.marks.row(0, &mut marks);
+    let mut wanted = [false; 182];
+    wanted[170] = true;
+    marks == wanted
+}
+
+// They are damaged until the block is loaded again.
+fn is_damaged(work: &mut Work, block: &Block) -> Result<(), Fail> {
+    work.load_block(block);
+    damage(work);
+    has_all(work, &DAMAGED)?;
+    if !has_one_mark(work) {
+        Err("other marks")?;
     }
-    Ok(())
+    work.load_block(block);
+    has(work, &(0, 170, 9, false))
 }
 
 #[test]
@@ -135,74 +239,43 @@ fn places_are_damaged_and_marked(rt: HostRuntime) -> Result<(), Fail> {
     let mut work = Work::new(alloc)?;
     let mut block = Block::new(alloc)?;
     block.put_frame(0, &[9; 2064]);
-    work.load_block(&block);
-    work.damage(0, 170, 4, true);
-    work.damage(0, 171, 5, false);
-    work.damage(207, 181, 6, true);
-    assert_eq!(rt;
-        (
-            work.received(0, 169),
-            work.received(0, 170),
-            work.received(0, 171)
-        ),
-        (9, 4, 5)
-    );
-    assert_eq!(rt;
-        (
-            work.marked(0, 169),
-            work.marked(0, 170),
-            work.marked(0, 171)
-        ),
-        (false, true, false)
-    );
-    assert_eq!(rt; (work.received(207, 181), work.marked(207, 181)), (6, true));
-    let mut marks = [false; 182];
-    work.marks.row(0, &mut marks);
-    assert_eq!(rt; marks.iter().filter(|mark| **mark).count(), 1);
-    work.load_block(&block);
-    assert_eq!(rt;
-        (work.received.row(0)[170], work.marked(0, 170)),
-        (9, false)
-    );
-    Ok(())
+    is_damaged(&mut work, &block)
 }
 
-#[test]
-fn parts_are_set(rt: HostRuntime) -> Result<(), Fail> {
-    let alloc = rt.alloc();
-    let mut work = Work::new(alloc)?;
+// What is set of the last row stands there.
+fn a_row_is_set(answers: &mut Answers) -> bool {
     let fix = Some(Fix {
         errors: 2,
         erased: 3,
     });
-    work.answers.rows_mut()[207].set(&[7; 182], fix);
-    work.columns.all_mut()[181].set(&[8; 208], true);
-    assert_eq!(rt;
-        (
-            work.answers.rows()[207].bytes[181],
-            work.answers.rows()[207].fix
-        ),
-        (7, fix)
-    );
-    assert_eq!(rt;
-        (
-            work.columns.all()[181].bytes[207],
-            work.columns.all()[181].answered
-        ),
-        (8, true)
-    );
+    answers.rows_mut()[207].set(&[7; 182], fix);
+    let row = &answers.rows()[207];
+    row.bytes[181] == 7 && row.fix == fix
+}
+
+// What is set of the last column stands there.
+fn a_column_is_set(columns: &mut Columns) -> bool {
+    columns.all_mut()[181].set(&[8; 208], true);
+    let column = &columns.all()[181];
+    column.bytes[207] == 8 && column.answered
+}
+
+// What is set of the last sector stands there, until the sectors are blank.
+fn a_sector_is_set(work: &mut Work) -> bool {
     work.sectors.set(15, &[9; 2048]);
-    assert_eq!(rt;
-        (
-            work.sector(14)[2047],
-            work.sector(15).len(),
-            work.sector(15)[2047]
-        ),
-        (0, 2048, 9)
-    );
+    let is_set = work.sector(14)[2047] == 0 && work.sector(15)[2047] == 9;
+    let size = work.sector(15).len();
     work.blank();
-    assert_eq!(rt; work.sector(15)[2047], 0);
+    is_set && size == 2048 && work.sector(15)[2047] == 0
+}
+
+#[test]
+fn parts_are_set(rt: HostRuntime) -> Result<(), Fail> {
+    let mut work = Work::new(rt.alloc())?;
+    assert!(rt; a_row_is_set(&mut work.answers));
+    assert!(rt; a_column_is_set(&mut work.columns));
+    assert!(rt; a_sector_is_set(&mut work));
     work.set_stage(Stage::Fetched);
-    assert_eq!(rt; work.stage(), Stage::Fetched);
+    assert!(rt; work.stage() == Stage::Fetched);
     Ok(())
 }
