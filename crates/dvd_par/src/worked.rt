@@ -1,7 +1,7 @@
 //! Both passes with several workers, over blocks whose answers were worked out from the standard.
+use crate::{OpenGate, two_pass_par};
 use dvd_block::Block;
 use dvd_capture::{Stage, Work};
-use dvd_par::{OpenGate, two_pass_par};
 use dvd_read::{Cause, Fixed};
 use std::alloc::Global;
 use std::test::Fail;
