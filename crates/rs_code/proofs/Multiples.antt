@@ -36,84 +36,38 @@ all_words [] all factor = omega arith
 all_words (entry ∷ table) all zero = ltb-true entry (2 ^ 128) (and_parts (nat_lt entry (2 ^ 128)) (list_all (λ e. nat_lt e (2 ^ 128)) table) all).0
 all_words (entry ∷ table) all (suc factor) = all_words table (and_parts (nat_lt entry (2 ^ 128)) (list_all (λ e. nat_lt e (2 ^ 128)) table) all).1 factor
 
--- the generator of the inner parity, multiplied out
-PI-generator : generator_of 10 ≡ 0xD8 ∷ 0xC2 ∷ 0x9F ∷ 0x6F ∷ 0xC7 ∷ 0x5E ∷ 0x5F ∷ 0x71 ∷ 0x9D ∷ 0xC1 ∷ []
-unfolding generator_of times_root sum_of scaled power product partial_product shifted shift
-PI-generator = refl
+-- what the checker computes of a code: its generator multiplied out, each entry of the first table the generator times its factor,
+-- in 128 bits, and the entries of each further table those of the one before a byte later
+record AreComputed (r : ℕ) (generator : List ℕ) (tables : List (List ℕ)) : Type 0 where
+  multiplied : generator_of r ≡ generator
+  rows : map (bytes_of 16) (place tables 0) ≡ map (multiple_at generator) (range_with_len 0 256)
+  words : list_all (λ entry. nat_lt entry (2 ^ 128)) (place tables 0) ≡ true
+  size0 : length (place tables 0) ≡ 256
+  size1 : length (place tables 1) ≡ 256
+  size2 : length (place tables 2) ≡ 256
+  one : place tables 1 ≡ map (λ entry. after_byte (place tables 0) entry 0) (place tables 0)
+  two : place tables 2 ≡ map (λ entry. after_byte (place tables 0) entry 0) (place tables 1)
+  three : place tables 3 ≡ map (λ entry. after_byte (place tables 0) entry 0) (place tables 2)
 
--- each entry of the first table of the inner parity is the generator times its factor
-PI-rows : map (bytes_of 16) (place PI_TABLES 0) ≡ map (multiple_at (0xD8 ∷ 0xC2 ∷ 0x9F ∷ 0x6F ∷ 0xC7 ∷ 0x5E ∷ 0x5F ∷ 0x71 ∷ 0x9D ∷ 0xC1 ∷ [])) (range_with_len 0 256)
-unfolding place bytes_of multiple_at scaled product partial_product shifted shift
-PI-rows = refl
-
--- its second table has the entries one byte later
-PI-one : place PI_TABLES 1 ≡ map (λ entry. after_byte (place PI_TABLES 0) entry 0) (place PI_TABLES 0)
-unfolding place after_byte
-PI-one = refl
-
--- its third table has the entries two bytes later
-PI-two : place PI_TABLES 2 ≡ map (λ entry. after_byte (place PI_TABLES 0) entry 0) (place PI_TABLES 1)
-unfolding place after_byte
-PI-two = refl
-
--- its fourth table has the entries three bytes later
-PI-three : place PI_TABLES 3 ≡ map (λ entry. after_byte (place PI_TABLES 0) entry 0) (place PI_TABLES 2)
-unfolding place after_byte
-PI-three = refl
-
--- the entries of its first table are numbers of 128 bits
-PI-words : list_all (λ entry. nat_lt entry (2 ^ 128)) (place PI_TABLES 0) ≡ true
+-- so the four tables are right for the generator
+tables_of : (r : ℕ) (generator : List ℕ) (tables : List (List ℕ)) → AreComputed r generator tables → AreTables (generator_of r) tables
 unfolding place
-PI-words = refl
+tables_of r generator tables are = record {
+  words = all_words (place tables 0) are.words;
+  multiples = rw are.multiplied (by_rows generator (place tables 0) are.size0 are.rows);
+  one = by_entries (place tables 0) (place tables 0) (place tables 1) are.size0 are.one;
+  two = by_entries (place tables 0) (place tables 1) (place tables 2) are.size1 are.two;
+  three = by_entries (place tables 0) (place tables 2) (place tables 3) are.size2 are.three;
+}
 
--- so the four tables of the inner parity are right for its generator
+-- those of the inner parity
 pub PI-tables : AreTables (generator_of 10) PI_TABLES
-unfolding place
-PI-tables = record {
-  words = all_words (place PI_TABLES 0) PI-words;
-  multiples = rw PI-generator (by_rows (0xD8 ∷ 0xC2 ∷ 0x9F ∷ 0x6F ∷ 0xC7 ∷ 0x5E ∷ 0x5F ∷ 0x71 ∷ 0x9D ∷ 0xC1 ∷ []) (place PI_TABLES 0) refl PI-rows);
-  one = by_entries (place PI_TABLES 0) (place PI_TABLES 0) (place PI_TABLES 1) refl PI-one;
-  two = by_entries (place PI_TABLES 0) (place PI_TABLES 1) (place PI_TABLES 2) refl PI-two;
-  three = by_entries (place PI_TABLES 0) (place PI_TABLES 2) (place PI_TABLES 3) refl PI-three;
-}
+unfolding generator_of times_root sum_of scaled power product partial_product shifted shift multiple_at bytes_of after_byte place
+PI-tables = tables_of 10 (0xD8 ∷ 0xC2 ∷ 0x9F ∷ 0x6F ∷ 0xC7 ∷ 0x5E ∷ 0x5F ∷ 0x71 ∷ 0x9D ∷ 0xC1 ∷ []) PI_TABLES
+    (record { multiplied = refl; rows = refl; words = refl; size0 = refl; size1 = refl; size2 = refl; one = refl; two = refl; three = refl })
 
--- the generator of the outer parity, multiplied out
-PO-generator : generator_of 16 ≡ 0x3B ∷ 0x0D ∷ 0x68 ∷ 0xBD ∷ 0x44 ∷ 0xD1 ∷ 0x1E ∷ 0x08 ∷ 0xA3 ∷ 0x41 ∷ 0x29 ∷ 0xE5 ∷ 0x62 ∷ 0x32 ∷ 0x24 ∷ 0x3B ∷ []
-unfolding generator_of times_root sum_of scaled power product partial_product shifted shift
-PO-generator = refl
-
--- each entry of the first table of the outer parity is the generator times its factor
-PO-rows : map (bytes_of 16) (place PO_TABLES 0) ≡ map (multiple_at (0x3B ∷ 0x0D ∷ 0x68 ∷ 0xBD ∷ 0x44 ∷ 0xD1 ∷ 0x1E ∷ 0x08 ∷ 0xA3 ∷ 0x41 ∷ 0x29 ∷ 0xE5 ∷ 0x62 ∷ 0x32 ∷ 0x24 ∷ 0x3B ∷ [])) (range_with_len 0 256)
-unfolding place bytes_of multiple_at scaled product partial_product shifted shift
-PO-rows = refl
-
--- its second table has the entries one byte later
-PO-one : place PO_TABLES 1 ≡ map (λ entry. after_byte (place PO_TABLES 0) entry 0) (place PO_TABLES 0)
-unfolding place after_byte
-PO-one = refl
-
--- its third table has the entries two bytes later
-PO-two : place PO_TABLES 2 ≡ map (λ entry. after_byte (place PO_TABLES 0) entry 0) (place PO_TABLES 1)
-unfolding place after_byte
-PO-two = refl
-
--- its fourth table has the entries three bytes later
-PO-three : place PO_TABLES 3 ≡ map (λ entry. after_byte (place PO_TABLES 0) entry 0) (place PO_TABLES 2)
-unfolding place after_byte
-PO-three = refl
-
--- the entries of its first table are numbers of 128 bits
-PO-words : list_all (λ entry. nat_lt entry (2 ^ 128)) (place PO_TABLES 0) ≡ true
-unfolding place
-PO-words = refl
-
--- so the four tables of the outer parity are right for its generator
+-- those of the outer parity
 pub PO-tables : AreTables (generator_of 16) PO_TABLES
-unfolding place
-PO-tables = record {
-  words = all_words (place PO_TABLES 0) PO-words;
-  multiples = rw PO-generator (by_rows (0x3B ∷ 0x0D ∷ 0x68 ∷ 0xBD ∷ 0x44 ∷ 0xD1 ∷ 0x1E ∷ 0x08 ∷ 0xA3 ∷ 0x41 ∷ 0x29 ∷ 0xE5 ∷ 0x62 ∷ 0x32 ∷ 0x24 ∷ 0x3B ∷ []) (place PO_TABLES 0) refl PO-rows);
-  one = by_entries (place PO_TABLES 0) (place PO_TABLES 0) (place PO_TABLES 1) refl PO-one;
-  two = by_entries (place PO_TABLES 0) (place PO_TABLES 1) (place PO_TABLES 2) refl PO-two;
-  three = by_entries (place PO_TABLES 0) (place PO_TABLES 2) (place PO_TABLES 3) refl PO-three;
-}
+unfolding generator_of times_root sum_of scaled power product partial_product shifted shift multiple_at bytes_of after_byte place
+PO-tables = tables_of 16 (0x3B ∷ 0x0D ∷ 0x68 ∷ 0xBD ∷ 0x44 ∷ 0xD1 ∷ 0x1E ∷ 0x08 ∷ 0xA3 ∷ 0x41 ∷ 0x29 ∷ 0xE5 ∷ 0x62 ∷ 0x32 ∷ 0x24 ∷ 0x3B ∷ []) PO_TABLES
+    (record { multiplied = refl; rows = refl; words = refl; size0 = refl; size1 = refl; size2 = refl; one = refl; two = refl; three = refl })
