@@ -1,11 +1,11 @@
 -- Words of five bytes at the fifth roots of one: value-five, the roots (root-one to root-four), and the sums by which `fifths` has
--- the five values (fifth-zero to fifth-four, each_of_five). The five pieces of a third: value-turned of bytes multiplied by powers
+-- the five values (FifthSums, fifth_sums, each_of_five). The five pieces of a third: value-turned of bytes multiplied by powers
 -- first, folded-five, folded-exponent. The exponents below 15: all_exponents.
 use Rattle.std.proofs.Common.{◌≡◌, ℕ, zero, suc, ◌+◌, ◌*◌, ◌/◌, ◌%◌, ◌<◌, List, [], ◌∷◌, length, get_or, refl, sym, ap, subst, ◌∙◌, inl, inr, arith}
 use Rattle.std.proofs.lemmas.Bool.{cases_eq}
-use Rattle.gf_field.specs.Field.{alpha, plus, shift, shifted, partial_product, product, power}
+use Rattle.gf_field.specs.Field.{alpha, plus, shift, shifted, product, power}
 use Rattle.gf_field.specs.Words.{value}
-use Rattle.gf_field.proofs.FieldLaws.{product-plus, product-one, product-assoc, product-power, plus-zero, power-zero, power-suc, power-one, power-byte, power-add, power-mul, power-alpha-mod, power-alpha-shifted, one-power}
+use Rattle.gf_field.proofs.FieldLaws.{product-plus, product-one, product-assoc, product-power, plus-zero, power-zero, power-suc, power-one, power-byte, power-add, power-mul, power-alpha-mod, power-alpha-shifted}
 use Rattle.rs_code.proofs.Ring.{ring}
 use Rattle.rs_code.proofs.Values.{value-nil, value-cons}
 use Rattle.rs_lanes.specs.Inner.Thirds.{exponent_at, folded}
@@ -45,64 +45,66 @@ product-0a a = product-plus a 0xDD 0xD7
 product-44 : (a : ℕ) → a < 256 → product a 0x44 ≡ plus (product a 0x92) (plus (product a 0xD7) a)
 product-44 a byte = product-plus a 0x92 0xD6 ∙ ap (plus (product a 0x92)) (product-plus a 0xD7 1 ∙ ap (plus (product a 0xD7)) (product-one a byte))
 
+-- the sums of five bytes that are their word's values at the fifth roots of one. 0x92 is the inverse of 0x44 and 0xDD that of 0x0A, so
+-- the values there come from those at their inverses
+pub record FifthSums (a0 a1 a2 a3 a4 : ℕ) : Type 0 where
+  pub zero : plus a0 (plus (plus a1 a4) (plus a2 a3)) ≡ value (a4 ∷ a3 ∷ a2 ∷ a1 ∷ a0 ∷ []) (power alpha 0)
+  pub one : plus (plus (plus a0 (product (plus a1 a2) 0xD7)) a2) (plus (product (plus a1 a4) 0xDD) (product (plus a2 a3) 0x92))
+      ≡ value (a4 ∷ a3 ∷ a2 ∷ a1 ∷ a0 ∷ []) (power alpha 51)
+  pub two : plus (plus (plus a0 (product (plus a1 a2) 0xD7)) a1) (plus (product (plus a2 a3) 0x0A) (product (plus a1 a4) 0x92))
+      ≡ value (a4 ∷ a3 ∷ a2 ∷ a1 ∷ a0 ∷ []) (power alpha 102)
+  pub three : plus (value (a4 ∷ a3 ∷ a2 ∷ a1 ∷ a0 ∷ []) (power alpha 102)) (plus (product (plus (plus a1 a4) (plus a2 a3)) 0xD7) (plus a1 a4))
+      ≡ value (a4 ∷ a3 ∷ a2 ∷ a1 ∷ a0 ∷ []) (power alpha 153)
+  pub four : plus (value (a4 ∷ a3 ∷ a2 ∷ a1 ∷ a0 ∷ []) (power alpha 51)) (plus (product (plus (plus a1 a4) (plus a2 a3)) 0xD7) (plus a2 a3))
+      ≡ value (a4 ∷ a3 ∷ a2 ∷ a1 ∷ a0 ∷ []) (power alpha 204)
+
 module _ (a0 a1 a2 a3 a4 : ℕ) (byte0 : a0 < 256) (byte1 : a1 < 256) (byte2 : a2 < 256) (byte3 : a3 < 256) (byte4 : a4 < 256) where
-  -- the value at a root, whose powers are roots again
-  at-root : (x x2 x3 x4 e : ℕ) → power alpha e ≡ x → power x 1 ≡ x → power x 2 ≡ x2 → power x 3 ≡ x3 → power x 4 ≡ x4
-      → value (a4 ∷ a3 ∷ a2 ∷ a1 ∷ a0 ∷ []) (power alpha e)
-      ≡ plus (product a4 x4) (plus (product a3 x3) (plus (product a2 x2) (plus (product a1 x) a0)))
-  at-root x x2 x3 x4 e is one two three four =
-      ap (value (a4 ∷ a3 ∷ a2 ∷ a1 ∷ a0 ∷ [])) is ∙ value-five a0 a1 a2 a3 a4 x byte0 ∙ rw (one, two, three, four) refl
+  -- the value at alpha^(51 m), whose powers are roots again
+  at-root : (m x1 x2 x3 x4 : ℕ)
+      → power alpha (51 * m * 1 % 255) ≡ x1 → power alpha (51 * m * 2 % 255) ≡ x2
+      → power alpha (51 * m * 3 % 255) ≡ x3 → power alpha (51 * m * 4 % 255) ≡ x4
+      → value (a4 ∷ a3 ∷ a2 ∷ a1 ∷ a0 ∷ []) (power alpha (51 * m))
+      ≡ plus (product a4 x4) (plus (product a3 x3) (plus (product a2 x2) (plus (product a1 x1) a0)))
+  at-root m x1 x2 x3 x4 one two three four =
+      let root : (n x : ℕ) → power alpha (51 * m * n % 255) ≡ x → power (power alpha (51 * m)) n ≡ x = λ n x is.
+      sym (power-alpha-mod (51 * m * n) ∙ power-mul alpha (51 * m) n) ∙ is in
+      value-five a0 a1 a2 a3 a4 (power alpha (51 * m)) byte0 ∙ rw (root 4 x4 four, root 3 x3 three, root 2 x2 two, root 1 x1 one) refl
 
   -- the value at 1
-  pub fifth-zero : plus a0 (plus (plus a1 a4) (plus a2 a3)) ≡ value (a4 ∷ a3 ∷ a2 ∷ a1 ∷ a0 ∷ []) (power alpha 0)
-  fifth-zero = sym (ap (value (a4 ∷ a3 ∷ a2 ∷ a1 ∷ a0 ∷ [])) (power-zero alpha) ∙ value-five a0 a1 a2 a3 a4 1 byte0 ∙
-      rw (one-power 4, one-power 3, one-power 2, one-power 1, product-one a4 byte4, product-one a3 byte3, product-one a2 byte2, product-one a1 byte1) (simp ring))
-
-  -- the value at 0x0A, term by term
-  value-one : value (a4 ∷ a3 ∷ a2 ∷ a1 ∷ a0 ∷ []) (power alpha 51)
-      ≡ plus (product a4 0xDD) (plus (product a3 0x92) (plus (product a2 0x44) (plus (product a1 0x0A) a0)))
-  unfolding power product partial_product shifted shift
-  value-one = at-root 0x0A 0x44 0x92 0xDD 51 root-one refl refl refl refl
+  value-zero : value (a4 ∷ a3 ∷ a2 ∷ a1 ∷ a0 ∷ []) (power alpha 0) ≡ plus a4 (plus a3 (plus a2 (plus a1 a0)))
+  value-zero =
+      at-root 0 1 1 1 1 (power-zero alpha) (power-zero alpha) (power-zero alpha) (power-zero alpha)
+      ∙ rw (product-one a4 byte4, product-one a3 byte3, product-one a2 byte2, product-one a1 byte1) refl
 
   -- the value at 0x0A
-  pub fifth-one : plus (plus (plus a0 (product (plus a1 a2) 0xD7)) a2) (plus (product (plus a1 a4) 0xDD) (product (plus a2 a3) 0x92))
-      ≡ value (a4 ∷ a3 ∷ a2 ∷ a1 ∷ a0 ∷ []) (power alpha 51)
-  fifth-one = sym (value-one ∙ rw (product-0a a1, product-44 a2 byte2) (simp ring))
-
-  -- the value at 0x44, term by term
-  value-two : value (a4 ∷ a3 ∷ a2 ∷ a1 ∷ a0 ∷ []) (power alpha 102)
-      ≡ plus (product a4 0x92) (plus (product a3 0x0A) (plus (product a2 0xDD) (plus (product a1 0x44) a0)))
-  unfolding power product partial_product shifted shift
-  value-two = at-root 0x44 0xDD 0x0A 0x92 102 root-two refl refl refl refl
+  value-one : value (a4 ∷ a3 ∷ a2 ∷ a1 ∷ a0 ∷ []) (power alpha 51)
+      ≡ plus (product a4 0xDD) (plus (product a3 0x92) (plus (product a2 0x44) (plus (product a1 0x0A) a0)))
+  value-one = at-root 1 0x0A 0x44 0x92 0xDD root-one root-two root-three root-four
 
   -- the value at 0x44
-  pub fifth-two : plus (plus (plus a0 (product (plus a1 a2) 0xD7)) a1) (plus (product (plus a2 a3) 0x0A) (product (plus a1 a4) 0x92))
-      ≡ value (a4 ∷ a3 ∷ a2 ∷ a1 ∷ a0 ∷ []) (power alpha 102)
-  fifth-two = sym (value-two ∙ rw (product-44 a1 byte1, product-0a a3, product-0a (plus a2 a3)) (simp ring))
+  value-two : value (a4 ∷ a3 ∷ a2 ∷ a1 ∷ a0 ∷ []) (power alpha 102)
+      ≡ plus (product a4 0x92) (plus (product a3 0x0A) (plus (product a2 0xDD) (plus (product a1 0x44) a0)))
+  value-two = at-root 2 0x44 0xDD 0x0A 0x92 root-two root-four root-one root-three
 
-  -- the value at 0x92, term by term
+  -- the value at 0x92
   value-three : value (a4 ∷ a3 ∷ a2 ∷ a1 ∷ a0 ∷ []) (power alpha 153)
       ≡ plus (product a4 0x44) (plus (product a3 0xDD) (plus (product a2 0x0A) (plus (product a1 0x92) a0)))
-  unfolding power product partial_product shifted shift
-  value-three = at-root 0x92 0x0A 0xDD 0x44 153 root-three refl refl refl refl
+  value-three = at-root 3 0x92 0x0A 0xDD 0x44 root-three root-one root-four root-two
 
-  -- the value at 0x92, the inverse of 0x44
-  pub fifth-three : plus (plus (plus (plus a0 (product (plus a1 a2) 0xD7)) a1) (plus (product (plus a2 a3) 0x0A) (product (plus a1 a4) 0x92)))
-      (plus (product (plus (plus a1 a4) (plus a2 a3)) 0xD7) (plus a1 a4))
-      ≡ value (a4 ∷ a3 ∷ a2 ∷ a1 ∷ a0 ∷ []) (power alpha 153)
-  fifth-three = sym (value-three ∙ rw (product-44 a4 byte4, product-0a a2, product-0a (plus a2 a3)) (simp ring))
-
-  -- the value at 0xDD, term by term
+  -- the value at 0xDD
   value-four : value (a4 ∷ a3 ∷ a2 ∷ a1 ∷ a0 ∷ []) (power alpha 204)
       ≡ plus (product a4 0x0A) (plus (product a3 0x44) (plus (product a2 0x92) (plus (product a1 0xDD) a0)))
-  unfolding power product partial_product shifted shift
-  value-four = at-root 0xDD 0x92 0x44 0x0A 204 root-four refl refl refl refl
+  value-four = at-root 4 0xDD 0x92 0x44 0x0A root-four root-three root-two root-one
 
-  -- the value at 0xDD, the inverse of 0x0A
-  pub fifth-four : plus (plus (plus (plus a0 (product (plus a1 a2) 0xD7)) a2) (plus (product (plus a1 a4) 0xDD) (product (plus a2 a3) 0x92)))
-      (plus (product (plus (plus a1 a4) (plus a2 a3)) 0xD7) (plus a2 a3))
-      ≡ value (a4 ∷ a3 ∷ a2 ∷ a1 ∷ a0 ∷ []) (power alpha 204)
-  fifth-four = sym (value-four ∙ rw (product-0a a4, product-44 a3 byte3) (simp ring))
+  -- the sums are these values
+  pub fifth_sums : FifthSums a0 a1 a2 a3 a4
+  fifth_sums = record {
+    zero = rw value-zero (simp ring);
+    one = rw (value-one, product-0a a1, product-44 a2 byte2) (simp ring);
+    two = rw (value-two, product-44 a1 byte1, product-0a a3, product-0a (plus a2 a3)) (simp ring);
+    three = rw (value-two, value-three, product-44 a1 byte1, product-44 a4 byte4, product-0a a2, product-0a a3) (simp ring);
+    four = rw (value-one, value-four, product-0a a1, product-0a a4, product-44 a2 byte2, product-44 a3 byte3) (simp ring);
+  }
 
 -- what holds of the first five numbers
 pub each_of_five : (P : ℕ → Type 0) → P 0 → P 1 → P 2 → P 3 → P 4 → (m : ℕ) → m < 5 → P m

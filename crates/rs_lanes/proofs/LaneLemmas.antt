@@ -1,6 +1,7 @@
 -- What the operations on vectors of bytes hold in each lane: HoldsLanes-zip2 of two vectors, HoldsLanes-splat of a vector and one
--- byte, HoldsLanes-low_nibbles and high_nibble-small of the two nibbles, HoldsLanes-look_up of a table of sixteen at positions
--- below sixteen, whole_table of a table in one vector, HasLanes-zeros of vectors of zeros, and either-zero of two lanes joined.
+-- byte, byte_lane of one lane, HoldsLanes-low_nibbles and high_nibble-small of the two nibbles, HoldsLanes-look_up of a table of
+-- sixteen at positions below sixteen, whole_table of a table in one vector, HasLanes-zeros of vectors of zeros, and either-zero of
+-- two lanes joined.
 use Rattle.std.proofs.Common.{◌≡◌, ◌↔◌, ℕ, ◌+◌, ◌*◌, ◌/◌, ◌%◌, ◌<◌, List, [], length, get_or, replicate, take, get_or-take, length-take-le, sym, ap, subst, ◌∙◌, arith, w8, Fits, bit_and, bit_or}
 use Rattle.std.specs.Int.Bits.{or_zero_r}
 use Rattle.std.specs.Simd.Lanes.{Each1, zip2}
@@ -32,9 +33,13 @@ HoldsLanes-low_nibbles count lanes size =
     let masked = HoldsLanes-splat count bit_and lanes 15 size in
     record { size = masked.size; each = λ k below. masked.each k below ∙ and_mask (get_or lanes k 0) 4 }
 
+-- each lane is a byte
+pub byte_lane : (count : ℕ) (lanes : List ℕ) → (length lanes ≡ count) × Each1 (Fits w8) lanes → (k : ℕ) → k < count → get_or lanes k 0 < 256
+byte_lane count lanes fits k below = (Each1-get_or (Fits w8) lanes k 0 (omega (arith, fits.0)) fits.1).fits
+
 -- the high nibble of a byte is below sixteen
 pub high_nibble-small : (count : ℕ) (lanes : List ℕ) → length lanes ≡ count → Each1 (Fits w8) lanes → (k : ℕ) → k < count → get_or lanes k 0 / 16 < 16
-high_nibble-small count lanes size fits k below = omega (arith, (Each1-get_or (Fits w8) lanes k 0 (omega arith) fits).fits)
+high_nibble-small count lanes size fits k below = omega (arith, byte_lane count lanes (size, fits) k below)
 
 module _ (halves : ℕ) (positions : List ℕ) (f : ℕ → ℕ) (are : HoldsLanes (16 * halves) positions f) (small : (k : ℕ) → k < 16 * halves → f k < 16) where
   -- positions below sixteen may be looked up

@@ -1,5 +1,5 @@
 -- Words cut into pieces of one size that are added up (length-folded, get_or-folded_zero, get_or-folded_suc, value-folded), zeros in
--- front of a word (behind_zeros), and the thirds of words in 32 lanes (third-zero, third-one, third-two, HasThirds with
+-- front of a word (behind_zeros, zeros_in_front), and the thirds of words in 32 lanes (third-zero, third-one, third-two, each_of_three, HasThirds with
 -- thirds_more, thirds_bytes, thirds_told).
 use Rattle.std.proofs.Common.{◌≡◌, ℕ, zero, suc, ◌+◌, ◌-◌, ◌*◌, ◌/◌, ◌%◌, ◌<◌, ◌≤◌, List, [], length, get_or, set, take, drop, replicate, All, refl, sym, ap, subst, ◌∙◌, inl, inr, arith, length-append, length-drop, length-take-le, length-set, get_or-take, get_or-drop, get_or-set_other}
 use Rattle.std.proofs.Math.ListN.{get_or-map}
@@ -110,6 +110,11 @@ unfolding behind_zeros
 get_or-behind_zeros_front count word p under =
     get_or_append_left (replicate {A = ℕ} count 0) word 0 p (omega (arith, length-replicate {A = ℕ} count 0)) ∙ get_or-replicate {A = ℕ} count p 0 0 under
 
+-- a lane of zeros is one of these places
+pub zeros_in_front : (count : ℕ) (word lanes : List ℕ) (p j : ℕ) → lanes ≡ replicate 32 0 → p < count → j < 32 → get_or lanes j 0 ≡ get_or (behind_zeros count word) p 0
+zeros_in_front count word lanes p j zeros under below =
+    ap (λ l. get_or l j 0) zeros ∙ get_or-replicate {A = ℕ} 32 j 0 0 below ∙ sym (get_or-behind_zeros_front count word p under)
+
 -- a place of the word behind them
 pub get_or-behind_zeros_back : (count : ℕ) (word : List ℕ) (p : ℕ) → count ≤ p → get_or (behind_zeros count word) p 0 ≡ get_or word (p - count) 0
 unfolding behind_zeros
@@ -181,6 +186,13 @@ pub third-two : (a b c : ℕ) → a < 256 → b < 256
     → plus (product (plus a b) 0xD6) (plus b c) ≡ third_byte 2 a b c
 third-two a b c byte_a byte_b =
     rw power-alpha-170 (third-by_root 0xD6 0xD7 a b c (sym (product-assoc 0xD7 0xD7 a) ∙ ap (λ f. product f a) square-d7) (product-d7 b byte_b))
+
+-- what holds of the first three numbers
+pub each_of_three : (P : ℕ → Type 0) → P 0 → P 1 → P 2 → (i : ℕ) → i < 3 → P i
+each_of_three P p0 p1 p2 zero below = p0
+each_of_three P p0 p1 p2 (suc zero) below = p1
+each_of_three P p0 p1 p2 (suc (suc zero)) below = p2
+each_of_three P p0 p1 p2 (suc (suc (suc i))) below = absurd (omega arith)
 
 -- a third whose places are the pieces' sums has the word's values
 pub IsThird-folded : (zeros i : ℕ) (word sums : List ℕ) → zeros + length word ≡ 255 → length sums ≡ 85

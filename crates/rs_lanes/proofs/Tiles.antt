@@ -1,9 +1,31 @@
--- Tiles of sixteen vectors: what their pairs of rows hold (HasPairs, pairs_more, pairs_wide), and vectors by places: what holds
--- below a place, and of sixteen vectors from it on, holds of all of them (places_more).
-use Rattle.std.proofs.Common.{◌≡◌, ℕ, ◌+◌, ◌-◌, ◌*◌, ◌/◌, ◌%◌, ◌<◌, List, [], length, get_or, set, sym, ap, subst, ◌∙◌, inl, inr, arith, length-set, get_or-set_other}
+-- Tiles of sixteen vectors: lanes of two vectors in turns (in_turns), what their pairs of rows hold (HasPairs, pairs_more,
+-- pairs_wide), and vectors by places: what holds below a place, and of sixteen vectors from it on, holds of all of them
+-- (places_more).
+use Rattle.std.proofs.Common.{◌≡◌, ℕ, ◌+◌, ◌-◌, ◌*◌, ◌/◌, ◌%◌, ◌<◌, List, [], ◌++◌, length, get_or, map, set, sym, ap, subst, ◌∙◌, inl, inr, arith, length-set, get_or-set_other}
 use Rattle.std.proofs.lemmas.Bool.{cases_eq, cases_lt}
+use Rattle.std.specs.List.{range_with_len}
 use Rattle.std.proofs.lemmas.Grind.{get_or-set_at}
+use Rattle.std.proofs.lemmas.List.FromFn.{get_or-map-range_with_len}
+use Rattle.std.proofs.lemmas.List.{get_or_append_left, get_or-append-add}
 use Rattle.rs_lanes.specs.Rows.{line, place}
+
+-- lanes of two vectors in turns, lane n from lane f n
+abbrev in_turns : (ℕ → ℕ) → List ℕ → List ℕ → List ℕ
+in_turns f a b = map (λ n. get_or (a ++ b) (32 * (n % 2) + f n) 0) (range_with_len 0 32)
+
+-- the even ones are those of the first vector
+pub in_turns-even : (f : ℕ → ℕ) (a b : List ℕ) (n : ℕ) → length a ≡ 32 → n < 32 → f n < 32 → n % 2 ≡ 0 → get_or (in_turns f a b) n 0 ≡ get_or a (f n) 0
+in_turns-even f a b n size below inside even =
+    get_or-map-range_with_len (λ j. get_or (a ++ b) (32 * (j % 2) + f j) 0) 0 32 n n 0 below (omega arith)
+    ∙ ap (λ m. get_or (a ++ b) m 0) (omega arith)
+    ∙ get_or_append_left a b 0 (f n) (omega arith)
+
+-- the odd ones are those of the second
+pub in_turns-odd : (f : ℕ → ℕ) (a b : List ℕ) (n : ℕ) → length a ≡ 32 → n < 32 → n % 2 ≡ 1 → get_or (in_turns f a b) n 0 ≡ get_or b (f n) 0
+in_turns-odd f a b n size below odd =
+    get_or-map-range_with_len (λ j. get_or (a ++ b) (32 * (j % 2) + f j) 0) 0 32 n n 0 below (omega arith)
+    ∙ ap (λ m. get_or (a ++ b) m 0) (omega arith)
+    ∙ get_or-append-add a b (f n) 0
 
 -- the vectors below `to` have the places of 32 rows from `top` on
 pub record HasPlaces (rows : List (List ℕ)) (top to : ℕ) (turned : List (List ℕ)) : Type 0 where

@@ -37,6 +37,23 @@ fn empty_rows(alloc: Global, count: usize) -> Result<Vec<[u8; 182]>, AllocError>
     vec![in alloc; [0; 182]; count]
 }
 
+// Rows whose first `size` bytes are drawn, with zeros behind them.
+fn drawn_rows(
+    alloc: Global,
+    count: usize,
+    state: u64,
+    size: usize,
+) -> Result<Vec<[u8; 182]>, AllocError>
+    ensures { IfOk result (λ rows. vec_len rows ≡ count) }
+{
+    let mut rows = empty_rows(alloc, count)?;
+    let mut drawn = Drawn { state };
+    for row in rows.iter_mut() {
+        drawn.fill_front(row, size);
+    }
+    Ok(rows)
+}
+
 fn put_byte(rows: &mut [[u8; 182]], i: usize, j: usize, byte: u8)
     requires row { i < length rows.old }
     requires place { j < 182 }
@@ -81,6 +98,17 @@ fn parity_of_columns(rows: &[[u8; 182]], count: usize) -> [u8; 32]
     hasher.finalize()
 }
 
+// Whether lane `n` of the vectors has these bytes.
+fn lane_has(vectors: &[u8x32], n: usize, bytes: &[u8]) -> bool
+    requires { n < 32 }
+{
+    let mut same = vectors.len() == bytes.len();
+    for (lanes, byte) in vectors.iter().zip(bytes) {
+        same = same && lanes.to_array()[n] == *byte;
+    }
+    same
+}
+
 // Whether lane `n` is the only one that isn't zero.
 fn is_alone(lanes: u8x32, n: usize) -> bool {
     let mut alone = true;
@@ -92,11 +120,7 @@ fn is_alone(lanes: u8x32, n: usize) -> bool {
 
 #[test]
 fn rows_get_the_parity_of_drawn_words(rt: HostRuntime) -> Result<(), Fail> {
-    let mut rows = empty_rows(rt.alloc(), 100)?;
-    let mut drawn = Drawn { state: 2 };
-    for row in rows.iter_mut() {
-        drawn.fill_front(row, 172);
-    }
+    let mut rows = drawn_rows(rt.alloc(), 100, 2, 172)?;
     let mut encoded = rows[99];
     Pi::new().encode(&mut encoded);
     inner_parity(&mut rows, 0);
@@ -107,29 +131,18 @@ fn rows_get_the_parity_of_drawn_words(rt: HostRuntime) -> Result<(), Fail> {
     assert!(rt; rows[99] == encoded);
     assert_eq!(rt;
         parity_of_rows(&rows),
-        [
-            0x27, 0xD5, 0xDA, 0x99, 0xDE, 0x4A, 0xA7, 0x92, 0x32, 0xBD, 0x17, 0x8F, 0x9F, 0x4A,
-            0x7E, 0x2B, 0xCE, 0x3C, 0x43, 0xE8, 0x90, 0x9A, 0x2B, 0x7E, 0x53, 0xA1, 0x72, 0xB8,
-            0x8E, 0x5D, 0x19, 0x7B
-        ]
+        *b"\x27\xD5\xDA\x99\xDE\x4A\xA7\x92\x32\xBD\x17\x8F\x9F\x4A\x7E\x2B\xCE\x3C\x43\xE8\x90\x9A\x2B\x7E\x53\xA1\x72\xB8\x8E\x5D\x19\x7B"
     );
     Ok(())
 }
 
 #[test]
 fn rows_have_the_values_of_drawn_words(rt: HostRuntime) -> Result<(), Fail> {
-    let mut rows = empty_rows(rt.alloc(), 40)?;
-    let mut drawn = Drawn { state: 5 };
-    for row in rows.iter_mut() {
-        drawn.fill_front(row, 182);
-    }
+    let mut rows = drawn_rows(rt.alloc(), 40, 5, 182)?;
     let values = row_values(&rows, 7);
     for n in 0..32 {
         let syndromes = Pi::new().syndromes(&rows[7 + n]);
-        assert_eq!(rt; syndromes.len(), 10);
-        for (lanes, syndrome) in values.iter().zip(syndromes.as_slice()) {
-            assert!(rt; lanes.to_array()[n] == *syndrome);
-        }
+        assert!(rt; lane_has(&values, n, &syndromes), "at {n}");
     }
     inner_parity(&mut rows, 7);
     assert!(rt; any_of(&row_values(&rows, 7)) == u8x32::splat(0));
@@ -152,29 +165,18 @@ fn columns_get_the_parity_of_drawn_words(rt: HostRuntime) -> Result<(), Fail> {
     assert!(rt; column(&rows, 99) == encoded);
     assert_eq!(rt;
         parity_of_columns(&rows, 100),
-        [
-            0xDE, 0x6E, 0x4C, 0x02, 0x0E, 0x93, 0x0A, 0x1D, 0x8C, 0xA3, 0x93, 0x6C, 0x57, 0xC4,
-            0x4C, 0x86, 0xC2, 0x40, 0x22, 0x59, 0x13, 0x22, 0x41, 0x9B, 0x14, 0x9B, 0xCF, 0x3F,
-            0x24, 0x71, 0xE3, 0xB7
-        ]
+        *b"\xDE\x6E\x4C\x02\x0E\x93\x0A\x1D\x8C\xA3\x93\x6C\x57\xC4\x4C\x86\xC2\x40\x22\x59\x13\x22\x41\x9B\x14\x9B\xCF\x3F\x24\x71\xE3\xB7"
     );
     Ok(())
 }
 
 #[test]
 fn columns_have_the_values_of_drawn_words(rt: HostRuntime) -> Result<(), Fail> {
-    let mut rows = empty_rows(rt.alloc(), 208)?;
-    let mut drawn = Drawn { state: 6 };
-    for row in rows.iter_mut() {
-        drawn.fill_front(row, 182);
-    }
+    let mut rows = drawn_rows(rt.alloc(), 208, 6, 182)?;
     let values = column_values(&rows, 150);
     for n in 0..32 {
         let syndromes = Po::new().syndromes(&column(&rows, 150 + n));
-        assert_eq!(rt; syndromes.len(), 16);
-        for (lanes, syndrome) in values.iter().zip(syndromes.as_slice()) {
-            assert!(rt; lanes.to_array()[n] == *syndrome);
-        }
+        assert!(rt; lane_has(&values, n, &syndromes), "at {n}");
     }
     let (upper, lower) = rows.split_at_mut(192);
     outer_parity(upper, lower);

@@ -1,10 +1,10 @@
-use Rattle.std.proofs.Common.{◌≡◌, ◌*◌, ◌%◌, get_or, sym, ap, subst, ◌∙◌, arith, w8, Fits}
-use Rattle.std.proofs.lemmas.Simd.{Each1-get_or}
+use Rattle.std.proofs.Common.{◌≡◌, ◌*◌, ◌%◌, get_or, sym, ap, subst, ◌∙◌, arith}
 use Rattle.gf_field.specs.Field.{alpha, product, power}
 use Rattle.gf_field.proofs.FieldLaws.{power-zero, product-one}
 use Rattle.rs_lanes.specs.Inner.Lanes.{HasLanes}
 use Rattle.rs_lanes.proofs.FactorLemmas.{POWERS-tables}
 use Rattle.rs_lanes.proofs.FifthLemmas.{power-alpha-same}
+use Rattle.rs_lanes.proofs.LaneLemmas.{byte_lane}
 use Rattle.rs_lanes.proofs.fifths.turned.Goals.{then-rest-eq0, else-rest-eq0}
 use Rattle.rs_lanes.proofs.fifths.turned.Goals as goal
 
@@ -21,7 +21,7 @@ returns-clause-turned c =
             size = c.if-rest-eq0.auto.result.0;
             each = λ j below.
                 ap (λ row. get_or row j 0) w.result-is
-                ∙ sym (product-one (get_or lanes j 0) (Each1-get_or (Fits w8) lanes j 0 (omega (arith, c.fits-lanes.0)) c.fits-lanes.1).fits)
+                ∙ sym (product-one (get_or lanes j 0) (byte_lane 32 lanes c.fits-lanes j below))
                 ∙ ap (product (get_or lanes j 0)) (sym one);
           }
       | else-rest-eq0 w ↦

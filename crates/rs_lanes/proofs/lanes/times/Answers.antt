@@ -1,5 +1,5 @@
-use Rattle.std.proofs.Common.{get_or, ◌∙◌, arith, w8, Fits}
-use Rattle.std.proofs.lemmas.Simd.{Each1-get_or}
+use Rattle.std.proofs.Common.{get_or, ◌∙◌, arith}
+use Rattle.rs_lanes.proofs.LaneLemmas.{byte_lane}
 use Rattle.rs_lanes.proofs.Nibbles.{product-nibbles}
 use Rattle.rs_lanes.proofs.lanes.times.Goals as goal
 
@@ -7,7 +7,7 @@ pub returns : goal.returns
 returns c = λ factor is. record {
   size = c.mixed.ensures.size;
   each = λ k below.
-      let fits = (Each1-get_or (Fits w8) c.args.lanes k 0 (omega (arith, c.fits-lanes.0)) c.fits-lanes.1).fits in
+      let fits = byte_lane 32 c.args.lanes c.fits-lanes k below in
       c.mixed.ensures.each k below
       ∙ rw (c.by_low_nibble.ensures.each k below, c.by_high_nibble.ensures.each k below)
       (product-nibbles factor c.args.table.now (get_or c.args.lanes k 0) (omega arith) is);

@@ -1,8 +1,7 @@
-use Rattle.std.proofs.Common.{get_or, ◌∙◌, arith, w8, Fits}
-use Rattle.std.proofs.lemmas.Simd.{Each1-get_or}
+use Rattle.std.proofs.Common.{get_or, ◌∙◌, arith}
 use Rattle.gf_field.specs.Field.{plus}
 use Rattle.rs_lanes.proofs.FactorLemmas.{PRODUCTS-tables}
-use Rattle.rs_lanes.proofs.LaneLemmas.{HoldsLanes-zip2}
+use Rattle.rs_lanes.proofs.LaneLemmas.{HoldsLanes-zip2, byte_lane}
 use Rattle.rs_lanes.proofs.Nibbles.{product-nibbles}
 use Rattle.rs_lanes.proofs.points.scaled.Goals as goal
 
@@ -11,7 +10,7 @@ returns-clause-size c = (HoldsLanes-zip2 16 plus c.at_low_nibbles.result c.at_hi
 
 pub returns-clause-each : goal.returns-clause-each
 returns-clause-each c = λ k below.
-    let fits = (Each1-get_or (Fits w8) c.args.lanes k 0 (omega (arith, c.fits-lanes.0)) c.fits-lanes.1).fits in
+    let fits = byte_lane 16 c.args.lanes c.fits-lanes k below in
     (HoldsLanes-zip2 16 plus c.at_low_nibbles.result c.at_high_nibbles.result c.at_low_nibbles.ensures.size c.at_high_nibbles.ensures.size).each k below
     ∙ rw (c.at_low_nibbles.ensures.each k below, c.at_high_nibbles.ensures.each k below)
     (product-nibbles c.args.factor _ (get_or c.args.lanes k 0) (omega arith) (PRODUCTS-tables c.args.factor (omega (arith, c.ranges.factor.fits))))

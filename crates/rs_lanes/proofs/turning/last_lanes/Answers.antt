@@ -1,20 +1,9 @@
-use Rattle.std.proofs.Common.{◌+◌, ◌*◌, ◌/◌, ◌%◌, get_or, ◌++◌, ap, ◌∙◌, arith}
-use Rattle.std.proofs.lemmas.List.FromFn.{get_or-map-range_with_len}
-use Rattle.std.proofs.lemmas.List.{get_or_append_left, get_or-append-add}
+use Rattle.std.proofs.Common.{◌+◌, ◌*◌, ◌/◌, ◌%◌, arith}
+use Rattle.rs_lanes.proofs.Tiles.{in_turns-even, in_turns-odd}
 use Rattle.rs_lanes.proofs.turning.last_lanes.Goals as goal
 
 pub returns-clause-even : goal.returns-clause-even
-returns-clause-even c = λ n below even.
-    let both = c.args.a ++ c.args.b in
-    let size = c.requires.a in
-    get_or-map-range_with_len (λ j. get_or both (32 * (j % 2) + (16 * (j / 16) + (8 + j % 16 / 2))) 0) 0 32 n n 0 below (omega arith)
-    ∙ ap (λ m. get_or both m 0) (omega arith)
-    ∙ get_or_append_left c.args.a c.args.b 0 (16 * (n / 16) + (8 + n % 16 / 2)) (omega arith)
+returns-clause-even c = λ n below even. in_turns-even (λ n. 16 * (n / 16) + (8 + n % 16 / 2)) c.args.a c.args.b n c.requires.a below (omega arith) even
 
 pub returns-clause-odd : goal.returns-clause-odd
-returns-clause-odd c = λ n below odd.
-    let both = c.args.a ++ c.args.b in
-    let size = c.requires.a in
-    get_or-map-range_with_len (λ j. get_or both (32 * (j % 2) + (16 * (j / 16) + (8 + j % 16 / 2))) 0) 0 32 n n 0 below (omega arith)
-    ∙ ap (λ m. get_or both m 0) (omega arith)
-    ∙ get_or-append-add c.args.a c.args.b (16 * (n / 16) + (8 + n % 16 / 2)) 0
+returns-clause-odd c = λ n below odd. in_turns-odd (λ n. 16 * (n / 16) + (8 + n % 16 / 2)) c.args.a c.args.b n c.requires.a below odd
