@@ -104,27 +104,6 @@ no_error e d l byte_e byte_d byte_l apart no_root vanishes =
       | inr root ↦ absurd (no_root root)
     ]
 
--- the bytes with the marked places taken out are as few as the errors
-weight-masked : (n r : ℕ) (received word : List ℕ) (marks : List Bool)
-    → n ≤ 255
-    → IsNear n r received marks word
-    → weight (at_points (distances (picked marks (points_of n))) (sum_of received word) (points_of n)) ≤ error_count received word marks
-weight-masked n r received word marks short near =
-    let points = points_of n in
-    let others = picked marks points in
-    let errors = sum_of received word in
-    let same : length received ≡ length word = near.received_size ∙ sym near.codeword.size in
-    let size : length errors ≡ n = length-sum_of received word same ∙ near.received_size in
-    let long : length points ≡ n = length-points_of n in
-    let masked_size : length (at_points (distances others) errors points) ≡ n = length-at_points (distances others) errors points (size ∙ sym long) ∙ size in
-    weight-error_count (at_points (distances others) errors points) received word marks (near.received_size ∙ sym masked_size) (near.codeword.size ∙ sym masked_size) (near.marks_size ∙ sym masked_size)
-    (λ k below mark_is.
-    get_or-at_points (distances others) errors points k (size ∙ sym long) (omega arith)
-    ∙ rw (distances-marked marks points k (omega arith) mark_is) (product-zero (get_or errors k 0)))
-    (λ k below clear agree.
-    get_or-at_points (distances others) errors points k (size ∙ sym long) (omega arith)
-    ∙ rw (get_or-sum_of received word k same, agree, plus-self) (zero-product (distances others (get_or points k 0))))
-
 -- the locator takes every byte that is left to 0
 all_located : (n len : ℕ) (masked sums locator : List ℕ) → n ≤ 255 → length masked ≡ n → len ≤ weight masked → 2 * weight masked ≤ length sums
     → AreSums (points_of n) masked sums → Generates len locator sums → at_points (value locator) masked (points_of n) ≡ replicate n 0
@@ -148,61 +127,90 @@ or_right true l clear = absurd (false≢true (sym clear))
 or_right false zero clear = absurd (false≢true (sym clear))
 or_right false (suc l) clear = λ is. absurd (omega arith)
 
--- no error is left at a place that is neither marked nor a zero
-agrees_elsewhere : (n r : ℕ) (received word : List ℕ) (marks : List Bool) (locator : List ℕ)
-    → n ≤ 255
-    → IsNear n r received marks word
-    → All IsByte received
-    → at_points (value locator) (at_points (distances (picked marks (points_of n))) (sum_of received word) (points_of n)) (points_of n) ≡ replicate n 0
-    → (k : ℕ) → k < n
-    → get_or (with_zeros locator marks (points_of n)) k false ≡ false
-    → get_or word k 0 ≡ get_or received k 0
-agrees_elsewhere n r received word marks locator short near received_bytes hidden_is k inside clear =
-    let points = points_of n in
-    let others = picked marks points in
-    let errors = sum_of received word in
-    let same : length received ≡ length word = near.received_size ∙ sym near.codeword.size in
-    let size : length errors ≡ n = length-sum_of received word same ∙ near.received_size in
-    let long : length points ≡ n = length-points_of n in
-    let masked = at_points (distances others) errors points in
-    let masked_size : length masked ≡ n = length-at_points (distances others) errors points (size ∙ sym long) ∙ size in
-    let parts = sym (get_or-with_zeros locator marks points k (near.marks_size ∙ sym long) (omega (arith, near.marks_size))) ∙ clear in
-    let byte_point = All-get_or IsByte points k 0 (omega arith) (All-points_of n) in
-    let vanishes : product (product (get_or errors k 0) (distances others (get_or points k 0))) (value locator (get_or points k 0)) ≡ 0 =
-    sym (get_or-at_points (value locator) masked points k (masked_size ∙ sym long) (omega arith)
-    ∙ ap (λ b. product b (value locator (get_or points k 0))) (get_or-at_points (distances others) errors points k (size ∙ sym long) (omega arith)))
-    ∙ ap (λ xs. get_or xs k 0) hidden_is ∙ get_or-replicate n k 0 0 inside in
-    let none = no_error (get_or errors k 0) (distances others (get_or points k 0)) (value locator (get_or points k 0))
-    (All-get_or IsByte errors k 0 (omega arith) (All-sum_of received word received_bytes near.codeword.bytes))
-    (distances-byte others (get_or points k 0)) (value-byte locator (get_or points k 0))
-    (distances-unmarked marks points k (AreDistinct-points_of n short) (All-points_of n) (omega arith) (or_left (get_or marks k false) (value locator (get_or points k 0)) parts))
-    (or_right (get_or marks k false) (value locator (get_or points k 0)) parts) vanishes in
-    sym (plus-zero_same (get_or received k 0) (get_or word k 0) (sym (get_or-sum_of received word k same) ∙ none))
+-- the errors at the points, the marked places taken out
+abbrev masked : ℕ → List ℕ → List ℕ → List Bool → List ℕ
+masked n received word marks = at_points (distances (picked marks (points_of n))) (sum_of received word) (points_of n)
+
+module _ (n r : ℕ) (received word : List ℕ) (marks : List Bool) (near : IsNear n r received marks word) where
+  -- both words have one length
+  near-same : length received ≡ length word
+  near-same = near.received_size ∙ sym near.codeword.size
+
+  -- there is an error for each point
+  errors-size : length (sum_of received word) ≡ length (points_of n)
+  errors-size = length-sum_of received word near-same ∙ near.received_size ∙ sym (length-points_of n)
+
+  -- and so it is with the marked places taken out
+  masked-size : length (masked n received word marks) ≡ n
+  masked-size = length-at_points (distances (picked marks (points_of n))) (sum_of received word) (points_of n) errors-size ∙ errors-size ∙ length-points_of n
+
+  -- the error at one place, times its distances from the marked ones
+  get_or-masked : (k : ℕ) → k < n
+      → get_or (masked n received word marks) k 0 ≡ product (get_or (sum_of received word) k 0) (distances (picked marks (points_of n)) (get_or (points_of n) k 0))
+  get_or-masked k inside =
+      get_or-at_points (distances (picked marks (points_of n))) (sum_of received word) (points_of n) k errors-size (omega (arith, errors-size, length-points_of n))
+
+  -- these are as few as the errors
+  weight-masked : weight (masked n received word marks) ≤ error_count received word marks
+  weight-masked =
+      let size = masked-size in
+      let long = length-points_of n in
+      weight-error_count (masked n received word marks) received word marks (near.received_size ∙ sym size) (near.codeword.size ∙ sym size) (near.marks_size ∙ sym size)
+      (λ k below mark_is.
+      get_or-masked k (omega arith)
+      ∙ rw (distances-marked marks (points_of n) k (omega arith) mark_is) (product-zero (get_or (sum_of received word) k 0)))
+      (λ k below clear agree.
+      get_or-masked k (omega arith)
+      ∙ rw (get_or-sum_of received word k near-same, agree, plus-self) (zero-product (distances (picked marks (points_of n)) (get_or (points_of n) k 0))))
+
+  -- no error is left at a place that is neither marked nor a zero
+  agrees_elsewhere : (locator : List ℕ)
+      → n ≤ 255
+      → All IsByte received
+      → at_points (value locator) (masked n received word marks) (points_of n) ≡ replicate n 0
+      → (k : ℕ) → k < n
+      → get_or (with_zeros locator marks (points_of n)) k false ≡ false
+      → get_or word k 0 ≡ get_or received k 0
+  agrees_elsewhere locator short received_bytes hidden_is k inside clear =
+      let points = points_of n in
+      let others = picked marks points in
+      let errors = sum_of received word in
+      let size = errors-size in
+      let long : length points ≡ n = length-points_of n in
+      let parts = sym (get_or-with_zeros locator marks points k (near.marks_size ∙ sym long) (omega (arith, near.marks_size))) ∙ clear in
+      let vanishes : product (product (get_or errors k 0) (distances others (get_or points k 0))) (value locator (get_or points k 0)) ≡ 0 =
+      sym (get_or-at_points (value locator) (masked n received word marks) points k (masked-size ∙ sym long) (omega (arith, masked-size))
+      ∙ ap (λ b. product b (value locator (get_or points k 0))) (get_or-masked k inside))
+      ∙ ap (λ xs. get_or xs k 0) hidden_is ∙ get_or-replicate n k 0 0 inside in
+      let none = no_error (get_or errors k 0) (distances others (get_or points k 0)) (value locator (get_or points k 0))
+      (All-get_or IsByte errors k 0 (omega arith) (All-sum_of received word received_bytes near.codeword.bytes))
+      (distances-byte others (get_or points k 0)) (value-byte locator (get_or points k 0))
+      (distances-unmarked marks points k (AreDistinct-points_of n short) (All-points_of n) (omega arith) (or_left (get_or marks k false) (value locator (get_or points k 0)) parts))
+      (or_right (get_or marks k false) (value locator (get_or points k 0)) parts) vanishes in
+      sym (plus-zero_same (get_or received k 0) (get_or word k 0) (sym (get_or-sum_of received word k near-same) ∙ none))
 
 -- a near codeword fills the places that are marked or zeros of the locator
 located : (n r len : ℕ) (received word : List ℕ) (marks : List Bool) (sums locator : List ℕ) → n ≤ 255 → IsNear n r received marks word → All IsByte received
-    → length sums + marked marks ≡ r → AreSums (points_of n) (at_points (distances (picked marks (points_of n))) (sum_of received word) (points_of n)) sums
+    → length sums + marked marks ≡ r → AreSums (points_of n) (masked n received word marks) sums
     → Generates len locator sums → IsLeast len sums → IsFilling n r received (with_zeros locator marks (points_of n)) word
 located n r len received word marks sums locator short near received_bytes left are generates least =
     let points = points_of n in
     let long : length points ≡ n = length-points_of n in
-    let same : length received ≡ length word = near.received_size ∙ sym near.codeword.size in
-    let parts = cost-parts received word marks same (near.marks_size ∙ sym near.codeword.size) in
+    let parts = cost-parts received word marks (near-same n r received word marks near) (near.marks_size ∙ sym near.codeword.size) in
     let within = near.within in
-    let masked = at_points (distances (picked marks points)) (sum_of received word) points in
-    let few : weight masked ≤ error_count received word marks = weight-masked n r received word marks short near in
-    let size : length (sum_of received word) ≡ n = length-sum_of received word same ∙ near.received_size in
-    let masked_size : length masked ≡ n = length-at_points (distances (picked marks points)) (sum_of received word) points (size ∙ sym long) ∙ size in
-    let half : 2 * weight masked ≤ length sums = omega arith in
-    let no_longer : len ≤ weight masked = shortest-few len sums masked points (masked_size ∙ sym long) (omega arith) are least in
-    let hidden_is = all_located n len masked sums locator short masked_size no_longer half are generates in
+    let errors = masked n received word marks in
+    let few : weight errors ≤ error_count received word marks = weight-masked n r received word marks near in
+    let size : length errors ≡ n = masked-size n r received word marks near in
+    let half : 2 * weight errors ≤ length sums = omega arith in
+    let no_longer : len ≤ weight errors = shortest-few len sums errors points (size ∙ sym long) (omega arith) are least in
+    let hidden_is = all_located n len errors sums locator short size no_longer half are generates in
     let width : length locator ≡ len + 1 = generates.size in
     let roots : zeros_among (value locator) points + 1 ≤ length locator =
     few_zeros points locator (AreDistinct-points_of n short) (All-points_of n) generates.bytes (omega arith) generates.first in
     record {
       codeword = near.codeword;
       agrees = λ k below clear.
-          agrees_elsewhere n r received word marks locator short near received_bytes hidden_is k
+          agrees_elsewhere n r received word marks near locator short received_bytes hidden_is k
           (omega (arith, length-with_zeros locator marks points (near.marks_size ∙ sym long), near.marks_size)) clear;
       within = omega (arith, marked-with_zeros locator marks points);
     }

@@ -99,47 +99,30 @@ first_sum point others first total divided is_byte size is_total =
     ∙ ap (λ x. plus x (power_sum divided others 0)) (product-one (plus first total) (plus-byte first total is_byte total_byte))
     ∙ ap (plus (plus first total)) (sym is_total) ∙ plus-assoc first total total ∙ ap (plus first) (plus-self total) ∙ plus-zero first
 
--- The step: with the point's byte, the sums of all are the old ones.
--- The next sum is what was taken out plus the point times this one.
-solved_sum : (point : ℕ) (others : List ℕ) (first total : ℕ) (divided solved rest taken : List ℕ)
-    → first < 256
-    → length divided ≡ length others
-    → shifted_by point divided others ≡ solved
-    → total ≡ power_sum divided others 0
-    → HasSums others solved taken
-    → length taken ≡ length rest
-    → ((k : ℕ) → k < length taken → get_or taken k 0 ≡ plus (get_or rest k 0) (product point (get_or (first ∷ rest) k 0)))
-    → (k : ℕ) → k < suc (length rest)
-    → power_sum (plus first total ∷ divided) (point ∷ others) k ≡ get_or (first ∷ rest) k 0
-solved_sum point others first total divided solved rest taken is_byte size is_divided is_total sums taken_size taken_out zero below =
-    first_sum point others first total divided is_byte size is_total
-solved_sum point others first total divided solved rest taken is_byte size is_divided is_total sums taken_size taken_out (suc k) below =
-    let word = plus first total ∷ divided in
-    let points = point ∷ others in
-    let this : power_sum word points k ≡ get_or (first ∷ rest) k 0 = solved_sum point others first total divided solved rest taken is_byte size is_divided is_total sums taken_size taken_out k (omega arith) in
-    let next : plus (power_sum word points (suc k)) (product point (power_sum word points k)) ≡ plus (get_or rest k 0) (product point (get_or (first ∷ rest) k 0)) =
-    sym (power_sum-shifted_by point word points k) ∙ taken_sum point (plus first total) divided others k ∙ ap (λ xs. power_sum xs others k) is_divided ∙ sums.sums_are k (omega arith) ∙ taken_out k (omega arith) in
-    plus-cancel_right (product point (get_or (first ∷ rest) k 0)) (power_sum word points (suc k)) (get_or rest k 0)
-    (ap (λ x. plus (power_sum word points (suc k)) (product point x)) (sym this) ∙ next)
+module _ (point : ℕ) (others : List ℕ) (first total : ℕ) (divided solved rest taken : List ℕ) (is_byte : first < 256) (size : length divided ≡ length others)
+    (is_divided : shifted_by point divided others ≡ solved) (is_total : total ≡ power_sum divided others 0) (sums : HasSums others solved taken) (taken_size : length taken ≡ length rest)
+    (taken_out : (k : ℕ) → k < length taken → get_or taken k 0 ≡ plus (get_or rest k 0) (product point (get_or (first ∷ rest) k 0))) where
+  -- The step: with the point's byte, the sums of all are the old ones.
+  -- The next sum is what was taken out plus the point times this one.
+  solved_sum : (k : ℕ) → k < suc (length rest) → power_sum (plus first total ∷ divided) (point ∷ others) k ≡ get_or (first ∷ rest) k 0
+  solved_sum zero below = first_sum point others first total divided is_byte size is_total
+  solved_sum (suc k) below =
+      let word = plus first total ∷ divided in
+      let points = point ∷ others in
+      let this : power_sum word points k ≡ get_or (first ∷ rest) k 0 = solved_sum k (omega arith) in
+      let next : plus (power_sum word points (suc k)) (product point (power_sum word points k)) ≡ plus (get_or rest k 0) (product point (get_or (first ∷ rest) k 0)) =
+      sym (power_sum-shifted_by point word points k) ∙ taken_sum point (plus first total) divided others k ∙ ap (λ xs. power_sum xs others k) is_divided ∙ sums.sums_are k (omega arith) ∙ taken_out k (omega arith) in
+      plus-cancel_right (product point (get_or (first ∷ rest) k 0)) (power_sum word points (suc k)) (get_or rest k 0)
+      (ap (λ x. plus (power_sum word points (suc k)) (product point x)) (sym this) ∙ next)
 
--- as `solve` has it, of lists that were split
-pub HasSums-solved : (points sums : List ℕ) (point : ℕ) (others : List ℕ) (first total : ℕ) (divided solved rest taken : List ℕ)
-    → points ≡ point ∷ others
-    → sums ≡ first ∷ rest
-    → first < 256
-    → length divided ≡ length others
-    → shifted_by point divided others ≡ solved
-    → total ≡ power_sum divided others 0
-    → HasSums others solved taken
-    → length taken ≡ length rest
-    → length rest ≡ length others
-    → ((k : ℕ) → k < length taken → get_or taken k 0 ≡ plus (get_or rest k 0) (product point (get_or (first ∷ rest) k 0)))
-    → HasSums points (plus first total ∷ divided) sums
-HasSums-solved points sums point others first total divided solved rest taken points_are sums_are is_byte size is_divided is_total has_sums taken_size rest_size taken_out =
-    subst (λ xs. HasSums xs (plus first total ∷ divided) sums) (sym points_are) (subst (HasSums (point ∷ others) (plus first total ∷ divided)) (sym sums_are) (record {
-      size = omega arith;
-      sums_are = λ k below. solved_sum point others first total divided solved rest taken is_byte size is_divided is_total has_sums taken_size taken_out k below;
-    }))
+  -- as `solve` has it, of lists that were split
+  pub HasSums-solved : (points bytes : List ℕ) → points ≡ point ∷ others → bytes ≡ first ∷ rest → length rest ≡ length others
+      → HasSums points (plus first total ∷ divided) bytes
+  HasSums-solved points bytes points_are bytes_are rest_size =
+      subst (λ xs. HasSums xs (plus first total ∷ divided) bytes) (sym points_are) (subst (HasSums (point ∷ others) (plus first total ∷ divided)) (sym bytes_are) (record {
+        size = omega arith;
+        sums_are = solved_sum;
+      }))
 
 -- the first of several lanes, and the others
 take-first : (m : ℕ) (lanes : List ℕ) → 0 < length lanes → take (suc m) lanes ≡ get_or lanes 0 0 ∷ take m (drop 1 lanes)
@@ -168,9 +151,10 @@ HasSums-solved_lanes points lanes next point others total divided solved points_
     let split : take (length points) lanes ≡ first ∷ rest = ap (λ n. take n lanes) count ∙ take-first m lanes (omega arith) in
     let rest_size : length rest ≡ m = length-take-le m (drop 1 lanes) (omega (arith, length-drop 1 lanes)) in
     let taken_size : length taken ≡ m = length-take-le m next (omega arith) in
-    HasSums-solved points (take (length points) lanes) point others first total divided solved rest taken points_are split is_byte same is_divided is_total has_sums (omega arith) rest_size
+    HasSums-solved point others first total divided solved rest taken is_byte same is_divided is_total has_sums (omega arith)
     (λ k below.
     let inside : k < m = omega arith in
     let at_rest : get_or rest k 0 ≡ get_or lanes (k + 1) 0 = get_or-take m (drop 1 lanes) k 0 inside ∙ get_or-drop 1 lanes k 0 ∙ ap (λ i. get_or lanes i 0) (omega arith) in
     let at_all : get_or (first ∷ rest) k 0 ≡ get_or lanes k 0 = ap (λ xs. get_or xs k 0) (sym split) ∙ get_or-take (length points) lanes k 0 (omega arith) in
     get_or-take m next k 0 inside ∙ taken_out k (omega arith) ∙ rw (at_rest, at_all) refl)
+    points (take (length points) lanes) points_are split rest_size

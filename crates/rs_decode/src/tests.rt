@@ -55,6 +55,11 @@ fn fills_as_many_places_as_there_are_parity_bytes(rt: HostRuntime) {
     }
 }
 
+// What is answered where so many errors and erased bytes were corrected.
+fn fixed(errors: u16, erased: u16) -> Result<Fix, Beyond> {
+    Ok(Fix { errors, erased })
+}
+
 /// Each word with its marked places, and what is answered and left.
 #[test]
 fn decodes_as_worked(rt: HostRuntime) {
@@ -62,36 +67,12 @@ fn decodes_as_worked(rt: HostRuntime) {
     let zeros = [0; 182];
     // Errors and marks that are wrong, and marks at right bytes: (wrong, wrong and marked, right and marked).
     for ((wrong, lost, doubted), want) in [
-        (
-            (5usize, 0usize, 0usize),
-            Ok(Fix {
-                errors: 5,
-                erased: 0,
-            }),
-        ),
-        (
-            (0, 10, 0),
-            Ok(Fix {
-                errors: 0,
-                erased: 10,
-            }),
-        ),
-        (
-            (4, 2, 0),
-            Ok(Fix {
-                errors: 4,
-                erased: 2,
-            }),
-        ),
+        ((5usize, 0usize, 0usize), fixed(5, 0)),
+        ((0, 10, 0), fixed(0, 10)),
+        ((4, 2, 0), fixed(4, 2)),
         ((1, 0, 9), Err(Beyond)),
         ((0, 0, 11), Err(Beyond)),
-        (
-            (0, 0, 0),
-            Ok(Fix {
-                errors: 0,
-                erased: 0,
-            }),
-        ),
+        ((0, 0, 0), fixed(0, 0)),
     ] {
         let mut word = zeros;
         let mut marks = [false; 182];
@@ -116,38 +97,20 @@ fn decodes_as_worked(rt: HostRuntime) {
     code.encode(&mut codeword);
     let mut word = zeros;
     word[171..177].copy_from_slice(b"\x01\xD8\xC2\x9F\x6F\xC7");
-    assert_eq!(rt;
-        decode(&code, &mut word, &[false; 182]),
-        Ok(Fix {
-            errors: 5,
-            erased: 0
-        })
-    );
+    assert_eq!(rt; decode(&code, &mut word, &[false; 182]), fixed(5, 0));
     assert!(rt; word == codeword);
 }
 
 #[test]
 fn decodes_the_shortest_words(rt: HostRuntime) {
     let mut id = [0x00, 0x03, 0x00, 0x00, 0x11, 0x13];
-    assert_eq!(rt;
-        decode(&Ied::new(), &mut id, &[false; 6]),
-        Ok(Fix {
-            errors: 1,
-            erased: 0
-        })
-    );
+    assert_eq!(rt; decode(&Ied::new(), &mut id, &[false; 6]), fixed(1, 0));
     assert_eq!(rt; id, [0x00, 0x03, 0x00, 0x00, 0x11, 0x12]);
     let code = Code::<2, 1>::new();
     let mut pair = [0x05, 0x04];
     assert_eq!(rt; decode(&code, &mut pair, &[false, false]), Err(Beyond));
     assert_eq!(rt; pair, [0x05, 0x04]);
-    assert_eq!(rt;
-        decode(&code, &mut pair, &[false, true]),
-        Ok(Fix {
-            errors: 0,
-            erased: 1
-        })
-    );
+    assert_eq!(rt; decode(&code, &mut pair, &[false, true]), fixed(0, 1));
     assert_eq!(rt; pair, [0x05, 0x05]);
 }
 
@@ -229,32 +192,17 @@ fn answers_digest<const N: usize, const R: usize>(
 
 #[test]
 fn decodes_drawn_words(rt: HostRuntime) {
-    let rows = answers_digest(&Pi::new(), &mut Drawn { state: 4 });
     assert_eq!(rt;
-        rows,
-        [
-            0x45, 0x27, 0xB5, 0x46, 0xCA, 0xC6, 0xD8, 0x20, 0x47, 0xB4, 0x14, 0xCD, 0xC4, 0xE3,
-            0x4E, 0x10, 0x8A, 0x2D, 0x3E, 0xDF, 0xDF, 0xCF, 0x0F, 0xEA, 0xCC, 0xE4, 0x71, 0x98,
-            0xDA, 0xA4, 0xE0, 0xB1
-        ]
+        answers_digest(&Pi::new(), &mut Drawn { state: 4 }),
+        *b"\x45\x27\xB5\x46\xCA\xC6\xD8\x20\x47\xB4\x14\xCD\xC4\xE3\x4E\x10\x8A\x2D\x3E\xDF\xDF\xCF\x0F\xEA\xCC\xE4\x71\x98\xDA\xA4\xE0\xB1"
     );
-    let columns = answers_digest(&Po::new(), &mut Drawn { state: 5 });
     assert_eq!(rt;
-        columns,
-        [
-            0x32, 0x3E, 0x86, 0x74, 0xBC, 0xEF, 0xFA, 0xD2, 0xA3, 0x29, 0xD8, 0x63, 0x88, 0x2A,
-            0xE8, 0x52, 0x0F, 0x32, 0x55, 0x03, 0x1F, 0x2A, 0x29, 0x3C, 0x31, 0xBE, 0x2A, 0x86,
-            0xD3, 0x9F, 0xEC, 0x92
-        ]
+        answers_digest(&Po::new(), &mut Drawn { state: 5 }),
+        *b"\x32\x3E\x86\x74\xBC\xEF\xFA\xD2\xA3\x29\xD8\x63\x88\x2A\xE8\x52\x0F\x32\x55\x03\x1F\x2A\x29\x3C\x31\xBE\x2A\x86\xD3\x9F\xEC\x92"
     );
-    let ids = answers_digest(&Ied::new(), &mut Drawn { state: 6 });
     assert_eq!(rt;
-        ids,
-        [
-            0xC7, 0x80, 0x88, 0x1F, 0xDF, 0x68, 0x02, 0xDC, 0xCF, 0xA9, 0x14, 0x43, 0x42, 0xA6,
-            0xB1, 0x58, 0xA2, 0x17, 0xC2, 0xD3, 0x4D, 0x3C, 0x0C, 0x0E, 0xFE, 0xAC, 0xA4, 0xFB,
-            0x6E, 0xB4, 0xD3, 0x05
-        ]
+        answers_digest(&Ied::new(), &mut Drawn { state: 6 }),
+        *b"\xC7\x80\x88\x1F\xDF\x68\x02\xDC\xCF\xA9\x14\x43\x42\xA6\xB1\x58\xA2\x17\xC2\xD3\x4D\x3C\x0C\x0E\xFE\xAC\xA4\xFB\x6E\xB4\xD3\x05"
     );
 }
 
@@ -312,10 +260,6 @@ fn finds_shortest_registers_of_drawn_lists(rt: HostRuntime) {
     }
     assert_eq!(rt;
         hasher.finalize(),
-        [
-            0xB8, 0x6E, 0x08, 0xDE, 0xDE, 0x99, 0x59, 0x6B, 0x6E, 0x80, 0xB0, 0x70, 0xAD, 0xF9,
-            0x98, 0x13, 0x41, 0x52, 0x7E, 0x05, 0x9C, 0xA4, 0x1E, 0xD5, 0xE2, 0x97, 0xD3, 0x9E,
-            0x72, 0xE3, 0x31, 0x70
-        ]
+        *b"\xB8\x6E\x08\xDE\xDE\x99\x59\x6B\x6E\x80\xB0\x70\xAD\xF9\x98\x13\x41\x52\x7E\x05\x9C\xA4\x1E\xD5\xE2\x97\xD3\x9E\x72\xE3\x31\x70"
     );
 }

@@ -13,5 +13,6 @@ pub returns : goal.returns
 returns t c =
     let split : length c.in-Some.others.now + 1 ≡ length c.args.points.now = c.in-Some.ensures.cases.1 in
     let sums_split : length c.in-Some-split_first_mut.rest.now + 1 ≡ length c.args.sums.now = c.in-Some-split_first_mut.ensures.cases.1 in
-    HasSums-solved c.args.points.now c.args.sums.now c.in-Some.point.now c.in-Some.others.now c.in-Some-split_first_mut.first.now c.put_back.result c.put_back.new.bytes c.solve.new.sums c.in-Some-split_first_mut.rest.now c.take_out.new.sums
-    c.in-Some.ensures.cases.0 c.in-Some-split_first_mut.ensures.cases.0 (omega arith) (omega arith) c.put_back.ensures.divided c.put_back.ensures.total c.solve.ensures (omega arith) (omega arith) c.take_out.ensures
+    HasSums-solved c.in-Some.point.now c.in-Some.others.now c.in-Some-split_first_mut.first.now c.put_back.result c.put_back.new.bytes c.solve.new.sums c.in-Some-split_first_mut.rest.now c.take_out.new.sums
+    (omega arith) (omega arith) c.put_back.ensures.divided c.put_back.ensures.total c.solve.ensures (omega arith) c.take_out.ensures
+    c.args.points.now c.args.sums.now c.in-Some.ensures.cases.0 c.in-Some-split_first_mut.ensures.cases.0 (omega arith)
