@@ -1,70 +1,45 @@
 //! Worked values from outside the program.
-use crate::{BlockPlan, Content, Layout, LayoutFault, Shape, Zones, id_of, rule_of};
+use crate::LayoutFault::{
+    EmptyLayer, InitialTooLong, LayerLonger, LayerTooLong, OddLayer, SecondLayer, TailTooLong,
+};
+use crate::Shape::{Opposite, Parallel, Single};
+use crate::{BlockPlan, Content, Layout, LayoutFault, Zones, id_of, rule_of};
 use dvd_frame::{Area, Rule};
 
 // A disk of two layers with the opposite track path: 32 and 16 sectors.
 fn opposite() -> Result<Layout, LayoutFault> {
-    Layout::new(Shape::Opposite, 32, 16, 0, 16)
+    Layout::new(Opposite, 32, 16, 0, 16)
+}
+
+// The fault of a layer that ends there.
+fn too_long(layer: u8, end: u64) -> LayoutFault {
+    LayerTooLong { layer, end }
 }
 
 #[test]
 fn each_rule_refuses_with_its_number(rt: HostRuntime) {
+    // Shape, sectors of both layers, blocks of the initial zone and of the tail, and the rule that these break.
     let refusals = [
+        ((Single, 0, 0, 0, 16), EmptyLayer { layer: 0 }),
+        ((Parallel, 16, 0, 0, 16), EmptyLayer { layer: 1 }),
+        ((Opposite, 17, 16, 0, 16), OddLayer { sectors: 17 }),
+        ((Single, 16, 16, 0, 16), SecondLayer { sectors: 16 }),
+        ((Opposite, 16, 17, 0, 16), LayerLonger { sectors: 17 }),
         (
-            Layout::new(Shape::Single, 0, 0, 0, 16),
-            LayoutFault::EmptyLayer { layer: 0 },
+            (Single, 16, 0, 12_032, 12_289),
+            InitialTooLong { blocks: 12_032 },
         ),
-        (
-            Layout::new(Shape::Parallel, 16, 0, 0, 16),
-            LayoutFault::EmptyLayer { layer: 1 },
-        ),
-        (
-            Layout::new(Shape::Opposite, 17, 16, 0, 16),
-            LayoutFault::OddLayer { sectors: 17 },
-        ),
-        (
-            Layout::new(Shape::Single, 16, 16, 0, 16),
-            LayoutFault::SecondLayer { sectors: 16 },
-        ),
-        (
-            Layout::new(Shape::Opposite, 16, 17, 0, 16),
-            LayoutFault::LayerLonger { sectors: 17 },
-        ),
-        (
-            Layout::new(Shape::Single, 16, 0, 12_032, 12_289),
-            LayoutFault::InitialTooLong { blocks: 12_032 },
-        ),
-        (
-            Layout::new(Shape::Single, 16, 0, 0, 12_289),
-            LayoutFault::TailTooLong { blocks: 12_289 },
-        ),
-        (
-            Layout::new(Shape::Single, 8_192_000, 0, 0, 16),
-            LayoutFault::LayerTooLong {
-                layer: 0,
-                end: 8_388_864,
-            },
-        ),
-        (
-            Layout::new(Shape::Single, 8_191_745, 0, 0, 16),
-            LayoutFault::LayerTooLong {
-                layer: 0,
-                end: 8_388_624,
-            },
-        ),
-        (
-            Layout::new(Shape::Parallel, 16, 8_192_000, 0, 16),
-            LayoutFault::LayerTooLong {
-                layer: 1,
-                end: 8_388_864,
-            },
-        ),
+        ((Single, 16, 0, 0, 12_289), TailTooLong { blocks: 12_289 }),
+        ((Single, 8_192_000, 0, 0, 16), too_long(0, 8_388_864)),
+        ((Single, 8_191_745, 0, 0, 16), too_long(0, 8_388_624)),
+        ((Parallel, 16, 8_192_000, 0, 16), too_long(1, 8_388_864)),
     ];
-    for (answer, fault) in refusals {
+    for ((shape, sectors0, sectors1, initial, tail), fault) in refusals {
+        let answer = Layout::new(shape, sectors0, sectors1, initial, tail);
         assert_eq!(rt; answer, Err(fault));
     }
-    assert!(rt; Layout::new(Shape::Single, 8_192_000, 0, 0, 0).is_ok());
-    assert!(rt; Layout::new(Shape::Single, 8_191_744, 0, 0, 16).is_ok());
+    assert!(rt; Layout::new(Single, 8_192_000, 0, 0, 0).is_ok());
+    assert!(rt; Layout::new(Single, 8_191_744, 0, 0, 16).is_ok());
 }
 
 #[test]
@@ -72,7 +47,7 @@ fn plan_follows_the_zone_table(rt: HostRuntime) -> Result<(), LayoutFault> {
     let layout = opposite()?;
     assert_eq!(rt; layout.blocks(Zones::All), 307);
     assert_eq!(rt; layout.blocks(Zones::DataOnly), 3);
-    let parallel = Layout::new(Shape::Parallel, 32, 16, 0, 16)?;
+    let parallel = Layout::new(Parallel, 32, 16, 0, 16)?;
     assert_eq!(rt; parallel.blocks(Zones::All), 547);
     let entries = [
         (0, 0x02_F000, Area::LeadIn, 0, Content::Reference),
@@ -122,7 +97,7 @@ fn image_sectors_have_places(rt: HostRuntime) -> Result<(), LayoutFault> {
 
 #[test]
 fn blocks_hold_their_image_sectors(rt: HostRuntime) -> Result<(), LayoutFault> {
-    let single = Layout::new(Shape::Single, 33, 0, 0, 16)?;
+    let single = Layout::new(Single, 33, 0, 0, 16)?;
     let opposite = opposite()?;
     let counts = [
         (single, Content::Image(16), 16),
