@@ -5,15 +5,7 @@ use Rattle.std.proofs.lemmas.List.{get_or-set_same, get_or-set_other}
 use Rattle.dvd_block.specs.Recording.{record_at, row_at}
 use Rattle.dvd_capture.specs.Answers.{marks_line}
 use Rattle.dvd_capture.specs.Listed.{mark_of}
-use Rattle.dvd_capture.specs.Parts.{marks_rows}
-use Rattle.dvd_capture.specs.declared.parts.Marks.{Marks}
 use Rattle.dvd_capture.proofs.Fetching.{record_at-row_at, row_at-lt}
-use Rattle.dvd_capture.proofs.MarkLists.{length-marks_of, line-marks}
-
--- each row has 182 marks
-pub marks-width : (marks : Marks) (i : ℕ) → i < 208 → length (marks_line (marks_rows marks) i) ≡ 182
-marks-width marks i below =
-    ap length (line-marks marks.rows.items i (omega (arith, marks.size, marks.rows.ok.0))) ∙ length-marks_of (get_or marks.rows.items i [])
 
 module _ (marks : List (List Bool)) (place : ℕ) (value : Bool) (height : length marks ≡ 208)
     (width : length (marks_line marks (row_at (place / 182))) ≡ 182) (below : place < 37_856) where

@@ -1,7 +1,7 @@
 use Rattle.std.proofs.Common.{rules, ◌≡◌, ◌≤◌, ◌∙◌, length, sym, subst, arith}
 use Rattle.std.proofs.lemmas.List.{length-take-le}
 use Rattle.dvd_capture.proofs.Fetching.{all_fetched, sized-most}
-use Rattle.dvd_capture.proofs.WorkParts.{marks-height}
+use Rattle.dvd_capture.proofs.WorkParts.{marks-height, rows-height}
 use Rattle.dvd_capture.proofs.capture.fetch_rows.Goals as goal
 
 pub returns-in-Ok-2-clause-fetches : goal.returns-in-Ok-2-clause-fetches
@@ -11,7 +11,7 @@ returns-in-Ok-2-clause-fetches g c =
     record {
       full = λ _.
           all_fetched c.args.form c.requires _ _ _ _ c.in-Ok.count c.read_whole.new.buf
-          (sym c.put_rows.new.received.rows.ok.0 ∙ c.put_rows.new.received.size) (marks-height c.put_rows.new.marks) (size ∙ c.size-size.ensures)
+          (rows-height c.put_rows.new.received) (marks-height c.put_rows.new.marks) (size ∙ c.size-size.ensures)
           (omega (arith, c.if-count-size.false, c.size-size.ensures)) c.in-Ok.ensures.taken c.put_rows.ensures;
       end = search rules;
       short = search rules;

@@ -2,8 +2,7 @@ use Rattle.std.proofs.Common.{◌≡◌, ◌∙◌, sym, arith}
 use Rattle.dvd_capture.specs.Parts.{marks_rows}
 use Rattle.dvd_capture.specs.declared.capture.FetchAnswer.TheVariants.{Full, ReadFault}
 use Rattle.dvd_capture.proofs.ListedUnit.{rows-ended, rows-failed, rows-unmarked, unit-broken, unit-end, unit-fault, unit-full, unit-short}
-use Rattle.dvd_capture.proofs.MarkPlaces.{marks-width}
-use Rattle.dvd_capture.proofs.WorkParts.{marks-height}
+use Rattle.dvd_capture.proofs.WorkParts.{marks-height, marks-width}
 use Rattle.dvd_capture.proofs.listed.fetch_listed.Goals as goal
 
 pub returns-in-Full : goal.returns-in-Full

@@ -1,4 +1,4 @@
-use Rattle.std.proofs.Common.{◌∙◌, Result, Ok, Err, subst, sym}
+use Rattle.std.proofs.Common.{Result, Ok, Err, subst}
 use Rattle.std.specs.Result.{OnErr, OnOk}
 use Rattle.std.specs.Io.KnownBytes.{Appends}
 use Rattle.dvd_ports.specs.Whole.{AppendsPrefix}
@@ -6,8 +6,7 @@ use Rattle.dvd_block.specs.Recording.{recording}
 use Rattle.dvd_block.proofs.Recorded.{on_err}
 use Rattle.dvd_capture.specs.Works.{marks_of_work, rows_of}
 use Rattle.dvd_capture.proofs.ListedWritten.{recording_size, rows-begun, runs-begun, unit-written}
-use Rattle.dvd_capture.proofs.MarkPlaces.{marks-width}
-use Rattle.dvd_capture.proofs.WorkParts.{marks-height}
+use Rattle.dvd_capture.proofs.WorkParts.{marks-height, marks-width, rows-height}
 use Rattle.dvd_capture.proofs.listed.write_listed.Goals as goal
 
 -- what holds of an answer in each case
@@ -19,29 +18,27 @@ on_err-map : {T E : Type 0} (r : Result T E) (P Q : Type 0) → (P → Q) → On
 on_err-map (Ok v) P Q f p = p
 on_err-map (Err e) P Q f p = f p
 
+-- the rows were written before the runs
+rows-grown : (g : _) (c : goal.After-write_runs g) → Appends (g.K.Sink.seen c.args.out.now).bytes (g.K.Sink.seen c.write_rows.new.out).bytes (recording (rows_of c.args.work.now))
+rows-grown g c = subst (λ rows. Appends (g.K.Sink.seen c.args.out.now).bytes (g.K.Sink.seen c.write_rows.new.out).bytes (recording rows)) c.rows.ensures.rows c.in_ok-write_rows.ensures.written
+
 pub returns-clause-written : goal.returns-clause-written
 returns-clause-written g c =
     let work = c.args.work.now in
-    let height = sym work.received.rows.ok.0 ∙ work.received.size in
-    let widths = c.see_rows.ensures in
     on_ok-map c.write_runs.result _ _
-    (unit-written (rows_of work) height widths (marks_of_work work) (marks-height work.marks) (marks-width work.marks) _ _ _
-    (subst (λ rows. Appends (g.K.Sink.seen c.args.out.now).bytes (g.K.Sink.seen c.write_rows.new.out).bytes (recording rows)) c.rows.ensures.rows c.in_ok-write_rows.ensures.written))
-    (c.write_runs.ensures.written _ (recording_size (rows_of work) height widths))
+    (unit-written (rows_of work) (rows-height work.received) c.see_rows.ensures (marks_of_work work) (marks-height work.marks) (marks-width work.marks) _ _ _ (rows-grown g c))
+    (c.write_runs.ensures.written _ (recording_size (rows_of work) (rows-height work.received) c.see_rows.ensures))
 
 pub returns-clause-begun : goal.returns-clause-begun
 returns-clause-begun g c =
     let work = c.args.work.now in
-    let height = sym work.received.rows.ok.0 ∙ work.received.size in
-    let widths = c.see_rows.ensures in
     on_err-map c.write_runs.result _ _
-    (runs-begun (rows_of work) height widths (marks_of_work work) (marks-height work.marks) (marks-width work.marks) _ _ _
-    (subst (λ rows. Appends (g.K.Sink.seen c.args.out.now).bytes (g.K.Sink.seen c.write_rows.new.out).bytes (recording rows)) c.rows.ensures.rows c.in_ok-write_rows.ensures.written))
-    (c.write_runs.ensures.begun _ (recording_size (rows_of work) height widths))
+    (runs-begun (rows_of work) (rows-height work.received) c.see_rows.ensures (marks_of_work work) (marks-height work.marks) (marks-width work.marks) _ _ _ (rows-grown g c))
+    (c.write_runs.ensures.begun _ (recording_size (rows_of work) (rows-height work.received) c.see_rows.ensures))
 
 pub returns-in_err-write_rows-clause-begun : goal.returns-in_err-write_rows-clause-begun
 returns-in_err-write_rows-clause-begun g c =
     let work = c.args.work.now in
     on_err c.from_residual.result _
-    (rows-begun (rows_of work) (sym work.received.rows.ok.0 ∙ work.received.size) c.see_rows.ensures (marks_of_work work) (marks-height work.marks) (marks-width work.marks) _ _
+    (rows-begun (rows_of work) (rows-height work.received) c.see_rows.ensures (marks_of_work work) (marks-height work.marks) (marks-width work.marks) _ _
     (subst (λ rows. AppendsPrefix (g.K.Sink.seen c.args.out.now).bytes (g.K.Sink.seen c.write_rows.new.out).bytes (recording rows)) c.rows.ensures.rows c.in_err-write_rows.ensures.begun))

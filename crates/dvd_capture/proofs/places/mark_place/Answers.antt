@@ -4,8 +4,8 @@ use Rattle.dvd_capture.specs.Answers.{marks_line}
 use Rattle.dvd_capture.specs.Listed.{mark_of}
 use Rattle.dvd_capture.specs.Parts.{marks_rows}
 use Rattle.dvd_capture.proofs.Fetching.{row_at-lt}
-use Rattle.dvd_capture.proofs.MarkPlaces.{mark-set_other, mark-set_same, marks-width}
-use Rattle.dvd_capture.proofs.WorkParts.{marks-height}
+use Rattle.dvd_capture.proofs.MarkPlaces.{mark-set_other, mark-set_same}
+use Rattle.dvd_capture.proofs.WorkParts.{marks-height, marks-width}
 use Rattle.dvd_capture.proofs.places.mark_place.Goals as goal
 
 pub returns-clause-others : goal.returns-clause-others

@@ -1,7 +1,7 @@
-use Rattle.std.proofs.Common.{◌∙◌, ℕ, List, sym, ap}
+use Rattle.std.proofs.Common.{◌∙◌, ℕ, List, ap}
 use Rattle.dvd_block.specs.Product.{place}
 use Rattle.dvd_capture.proofs.Columns.{two_pass_once}
-use Rattle.dvd_capture.proofs.WorkParts.{block-place, marks-height}
+use Rattle.dvd_capture.proofs.WorkParts.{block-place, marks-height, rows-height}
 use Rattle.dvd_capture.proofs.work.Work.block_byte.Goals as goal
 
 pub returns-clause-column : goal.returns-clause-column
@@ -12,4 +12,4 @@ pub returns-clause-fixed : goal.returns-clause-fixed
 returns-clause-fixed c = λ block agrees.
     returns-clause-column c
     ∙ ap (λ (rows : List (List ℕ)). place rows c.args.i c.args.j)
-    (two_pass_once _ _ _ block (sym c.args.self.now.received.rows.ok.0 ∙ c.args.self.now.received.size) (marks-height c.args.self.now.marks) (c.args.self.now.fixed c.requires.stage) agrees)
+    (two_pass_once _ _ _ block (rows-height c.args.self.now.received) (marks-height c.args.self.now.marks) (c.args.self.now.fixed c.requires.stage) agrees)
