@@ -1,5 +1,6 @@
 -- What clap makes of the words of a command.
 use Rattle.std.proofs.Common.{◌≡◌, true, false, List, [], ◌∷◌, Some, None, refl, arith}
+use Rattle.std.proofs.lemmas.Bool.{and_parts}
 use Rattle.clap.specs.Words.{IsAmong, Kinds, Row, Text, fault_of, is_simple, is_simple_and_free, matches_of}
 use Rattle.clap.specs.Walk.{is_empty}
 use Rattle.clap.specs.declared.error.kind.ErrorKind.{ErrorKind}
@@ -25,18 +26,7 @@ free Convert = refl
 
 -- and the words give the matches of each
 pub simple : (command : Command) → is_simple (app_for command) ≡ true
-simple Frames = refl
-simple Master = refl
-simple Recover = refl
-simple Info = refl
-simple Survey = refl
-simple Exercise = refl
-simple CdMake = refl
-simple CdRead = refl
-simple Merge = refl
-simple Deep = refl
-simple Assemble = refl
-simple Convert = refl
+simple command = (and_parts (is_simple (app_for command)) _ (free command)).0
 
 -- words with no fault have these rows
 pub rows_taken : (command : Command) (words : List Text) (rows : List Row) → fault_of (app_for command) words ≡ [] → rows ≡ matches_of (app_for command) words
