@@ -1,12 +1,13 @@
 use Rattle.std.proofs.Common.{◌≡◌, ◌∙◌, ℕ, ◌/◌, ◌^◌, ◌<◌, slice_index, bit_xor, refl, sym, ap, arith}
 use Rattle.dvd_block.specs.Product.{line, place}
 use Rattle.dvd_capture.specs.Works.{rows_of}
+use Rattle.dvd_capture.proofs.WorkParts.{rows-height}
 use Rattle.dvd_exercise.specs.Damage.{combined}
 use Rattle.dvd_exercise.specs.Generator.{byte_at, state_of, step}
 use Rattle.dvd_exercise.proofs.Changed.{line_more, line_none, line_untouched, line_whole}
 use Rattle.dvd_exercise.proofs.Draws.{byte_more, state_more, state_none}
 use Rattle.dvd_exercise.proofs.Rows.{get_or-combined, length-combined}
-use Rattle.dvd_exercise.proofs.Works.{rows_height, rest-same, rest-then}
+use Rattle.dvd_exercise.proofs.Works.{rest-same, rest-then}
 use Rattle.dvd_exercise.proofs.damage.combine_row.Goals as goal
 
 pub loop-j-init : goal.loop-j-init
@@ -27,7 +28,7 @@ loop-j-preserved c =
     let byte : c.byte-byte.result ≡ byte_at y j = c.byte-byte.ensures.byte ∙ ap (λ (x : ℕ). step x / 2 ^ 56) c.loop-j.invariant.drawn ∙ byte_more y j in
     let untouched = line_untouched 0 c.args.i j (λ k. k) (λ k. bit_xor (place rows c.args.i k) (byte_at y k)) rows (rows_of c.loop-j.work) new c.loop-j.invariant.row in record {
       row = line_more 0 c.args.i j (λ k. k) (λ k. bit_xor (place rows c.args.i k) (byte_at y k)) rows (rows_of c.loop-j.work) (rows_of c.combine.new.work) _
-          (omega (arith, rows_height c.args.work.now, c.requires.row)) new c.loop-j.invariant.row c.combine.ensures.received (omega (arith, c.combine.ensures.width))
+          (omega (arith, rows-height c.args.work.now.received, c.requires.row)) new c.loop-j.invariant.row c.combine.ensures.received (omega (arith, c.combine.ensures.width))
           (ap (λ (b : ℕ). bit_xor b c.byte-byte.result) untouched ∙ ap (bit_xor (place rows c.args.i j)) byte);
       width = λ more. c.combine.ensures.width;
       drawn = c.byte-byte.ensures.state ∙ ap step c.loop-j.invariant.drawn ∙ state_more y j;

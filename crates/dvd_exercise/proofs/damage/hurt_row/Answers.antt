@@ -1,12 +1,13 @@
 use Rattle.std.proofs.Common.{◌≡◌, ◌∙◌, ℕ, ◌+◌, ◌*◌, ◌/◌, ◌%◌, ◌^◌, ◌<◌, List, set, bit_or, bit_xor, refl, ap, subst, arith, add_assoc}
 use Rattle.dvd_block.specs.Product.{line, place}
 use Rattle.dvd_capture.specs.Works.{rows_of}
+use Rattle.dvd_capture.proofs.WorkParts.{rows-height}
 use Rattle.dvd_exercise.specs.Damage.{IsChanged, error_byte, error_count, error_place}
 use Rattle.dvd_exercise.specs.Generator.{byte_at, state_after, state_of, step}
 use Rattle.dvd_exercise.proofs.Changed.{line_more, line_none, line_untouched}
 use Rattle.dvd_exercise.proofs.Draws.{byte_more, state_more, two_words, state_one}
 use Rattle.dvd_exercise.proofs.Rows.{place-new}
-use Rattle.dvd_exercise.proofs.Works.{rows_height, rest-same, rest-then}
+use Rattle.dvd_exercise.proofs.Works.{rest-same, rest-then}
 use Rattle.dvd_exercise.proofs.damage.hurt_row.Goals as goal
 
 -- what the two words say
@@ -39,7 +40,7 @@ loop-u-preserved c =
     let untouched = line_untouched 0 i u (error_place y) (λ u. bit_xor (place rows i (error_place y u)) (error_byte y u)) rows (rows_of c.loop-u.work) new c.loop-u.invariant.row in record {
       row = line_more 0 i u (error_place y) (λ u. bit_xor (place rows i (error_place y u)) (error_byte y u)) rows (rows_of c.loop-u.work) (rows_of c.combine.new.work)
           (bit_xor (place (rows_of c.loop-u.work) i (error_place y u)) (error_byte y u))
-          (omega (arith, rows_height c.args.work.now, c.requires.row)) new c.loop-u.invariant.row
+          (omega (arith, rows-height c.args.work.now.received, c.requires.row)) new c.loop-u.invariant.row
           (c.combine.ensures.received ∙ at_place (rows_of c.loop-u.work) i _ (error_place y u) _ (error_byte y u) here (ap (λ (b : ℕ). bit_or b 1) byte))
           (omega (arith, c.combine.ensures.width)) (ap (λ (b : ℕ). bit_xor b (error_byte y u)) untouched);
       drawn = c.byte-byte.ensures.state ∙ ap step c.loop-u.invariant.drawn ∙ state_more y (2 + u) ∙ ap (state_after y) (add_assoc 2 u 1);

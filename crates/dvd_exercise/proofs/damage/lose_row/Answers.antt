@@ -1,8 +1,9 @@
 use Rattle.std.proofs.Common.{◌≡◌, ◌∙◌, ℕ, true, false, replicate, refl, sym, arith}
 use Rattle.std.proofs.lemmas.List.{get_or-replicate, length-replicate}
 use Rattle.dvd_capture.specs.Works.{marks_of_work, rows_of}
+use Rattle.dvd_capture.proofs.WorkParts.{marks-height, marks-width, rows-height}
 use Rattle.dvd_exercise.proofs.Changed.{line_more, line_none, line_whole}
-use Rattle.dvd_exercise.proofs.Works.{marks_width, rows_height, marks_height, rest-same, rest-then}
+use Rattle.dvd_exercise.proofs.Works.{rest-same, rest-then}
 use Rattle.dvd_exercise.proofs.damage.lose_row.Goals as goal
 
 pub loop-j-init : goal.loop-j-init
@@ -15,11 +16,11 @@ loop-j-init c = record {
 
 pub loop-j-preserved : goal.loop-j-preserved
 loop-j-preserved c = record {
-  row = line_more 0 c.args.i c.loop-j.j (λ k. k) (λ _. 0) _ _ _ 0 (omega (arith, rows_height c.args.work.now, c.requires.row)) (λ t below same. omega arith)
+  row = line_more 0 c.args.i c.loop-j.j (λ k. k) (λ _. 0) _ _ _ 0 (omega (arith, rows-height c.args.work.now.received, c.requires.row)) (λ t below same. omega arith)
       c.loop-j.invariant.row c.damage.ensures.received (omega (arith, c.damage.ensures.width)) refl;
   width = λ more. c.damage.ensures.width;
-  marks = line_more false c.args.i c.loop-j.j (λ k. k) (λ _. true) _ _ _ true (omega (arith, marks_height c.args.work.now, c.requires.row)) (λ t below same. omega arith)
-      c.loop-j.invariant.marks c.damage.ensures.marks (omega (arith, marks_width c.damage.new.self c.args.i c.requires.row)) refl;
+  marks = line_more false c.args.i c.loop-j.j (λ k. k) (λ _. true) _ _ _ true (omega (arith, marks-height c.args.work.now.marks, c.requires.row)) (λ t below same. omega arith)
+      c.loop-j.invariant.marks c.damage.ensures.marks (omega (arith, marks-width c.damage.new.self.marks c.args.i c.requires.row)) refl;
   rest = rest-then c.args.work.now c.loop-j.work c.damage.new.self c.loop-j.invariant.rest
       (record { stage = c.damage.ensures.stage; answers = c.damage.ensures.answers; columns = c.damage.ensures.columns; sectors = c.damage.ensures.sectors });
 }
@@ -34,4 +35,4 @@ pub returns-clause-marks : goal.returns-clause-marks
 returns-clause-marks c =
     let all : c.loop-j.j ≡ 182 = omega arith in
     line_whole false c.args.i c.loop-j.j (λ _. true) (marks_of_work c.args.work.now) (marks_of_work c.loop-j.work) (replicate 182 true) c.loop-j.invariant.marks
-    (marks_width c.loop-j.work c.args.i c.requires.row ∙ sym all) (length-replicate 182 true ∙ sym all) (λ k below. get_or-replicate 182 k true false (omega arith))
+    (marks-width c.loop-j.work.marks c.args.i c.requires.row ∙ sym all) (length-replicate 182 true ∙ sym all) (λ k below. get_or-replicate 182 k true false (omega arith))
