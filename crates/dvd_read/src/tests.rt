@@ -43,6 +43,13 @@ fn lose_row(work: &mut Work, i: usize) {
     }
 }
 
+// Loses every so many of the first rows, from row 0 on.
+fn lose_rows(work: &mut Work, step: usize, count: usize) {
+    for t in 0..count {
+        lose_row(work, step.wrapping_mul(t));
+    }
+}
+
 // Puts a multiple of the generator's codeword into row `i` from place `j` on.
 fn put_codeword(work: &mut Work, i: usize, j: usize, factor: u8) {
     for (k, byte) in GENERATOR.iter().enumerate() {
@@ -50,6 +57,20 @@ fn put_codeword(work: &mut Work, i: usize, j: usize, factor: u8) {
             put(work, i, j + k, mul(factor, *byte), false);
         }
     }
+}
+
+// Eight rows of a block of zeros are those of another codeword.
+fn eight_rows(alloc: Global) -> Result<Work, Fail> {
+    let mut work = zero_block(alloc)?;
+    for t in 0..8usize {
+        put_codeword(&mut work, 20 * t, 171, 1);
+    }
+    Ok(work)
+}
+
+// What is answered of a received block that both passes fixed.
+fn fixed(bytes: u32, failed_rows: u16) -> Option<Result<Fixed, Cause>> {
+    Some(Ok(Fixed { bytes, failed_rows }))
 }
 
 // Both passes, where a block was received.
@@ -73,6 +94,11 @@ fn read(work: &mut Work) -> Option<Result<Fixed, Cause>> {
 // Whether all bytes of sector `f` are `byte`.
 fn is_sector_of(work: &Work, f: usize, byte: u8) -> bool {
     f < 16 && work.sector(f).iter().all(|b| *b == byte)
+}
+
+// Whether all bytes of all sectors are zeros.
+fn are_zeros(work: &Work) -> bool {
+    (0..16usize).all(|f| is_sector_of(work, f, 0))
 }
 
 // The checks of the first data block's frames, where both passes fixed it.
@@ -105,39 +131,21 @@ fn all_but(work: &Work, lost: [usize; 2]) -> bool {
 #[test]
 fn sixteen_lost_rows_are_filled_and_seventeen_are_not(rt: HostRuntime) -> Result<(), Fail> {
     let mut work = zero_block(rt.alloc())?;
-    for t in 0..16usize {
-        lose_row(&mut work, 13 * t);
-    }
-    let fixed = Fixed {
-        bytes: 0,
-        failed_rows: 16,
-    };
-    assert_eq!(rt; decode(&mut work), Some(Ok(fixed)));
+    lose_rows(&mut work, 13, 16);
+    assert_eq!(rt; decode(&mut work), fixed(0, 16));
     let mut work = zero_block(rt.alloc())?;
-    for t in 0..17usize {
-        lose_row(&mut work, 12 * t);
-    }
+    lose_rows(&mut work, 12, 17);
     assert_eq!(rt; decode(&mut work), Some(Err(Cause::Rows { failed: 17 })));
     Ok(())
 }
 
 #[test]
 fn eight_rows_of_another_codeword_are_fixed(rt: HostRuntime) -> Result<(), Fail> {
-    let mut work = zero_block(rt.alloc())?;
-    for t in 0..8usize {
-        put_codeword(&mut work, 20 * t, 171, 1);
-    }
-    let fixed = Fixed {
-        bytes: 88,
-        failed_rows: 0,
-    };
-    assert_eq!(rt; decode(&mut work), Some(Ok(fixed)));
+    let mut work = eight_rows(rt.alloc())?;
+    assert_eq!(rt; decode(&mut work), fixed(88, 0));
 
     // A lost row more is too much for the columns.
-    let mut work = zero_block(rt.alloc())?;
-    for t in 0..8usize {
-        put_codeword(&mut work, 20 * t, 171, 1);
-    }
+    let mut work = eight_rows(rt.alloc())?;
     lose_row(&mut work, 207);
     assert_eq!(rt; decode(&mut work), Some(Err(Cause::Column { j: 171 })));
     Ok(())
@@ -178,13 +186,9 @@ fn data_block(alloc: Global, edc: Option<u32>, ied: Option<u32>) -> Result<Work,
 
 #[test]
 fn the_first_frame_with_a_fault_is_named(rt: HostRuntime) -> Result<(), Fail> {
-    let whole = Fixed {
-        bytes: 0,
-        failed_rows: 0,
-    };
     for (edc, cause) in [(Some(2), Cause::Edc { f: 2 }), (None, Cause::Ied { f: 3 })] {
         let mut work = data_block(rt.alloc(), edc, Some(3))?;
-        assert_eq!(rt; decode(&mut work), Some(Ok(whole)));
+        assert_eq!(rt; decode(&mut work), fixed(0, 0));
         assert_eq!(rt; check(&mut work), Some(Err(cause)));
         assert!(rt; work.sector(15).iter().all(|byte| *byte == 0));
     }
@@ -202,12 +206,8 @@ fn a_block_of_zeros_names_no_place(rt: HostRuntime) -> Result<(), Fail> {
 
 #[test]
 fn sectors_are_read_back_or_are_zeros(rt: HostRuntime) -> Result<(), Fail> {
-    let whole = Fixed {
-        bytes: 0,
-        failed_rows: 0,
-    };
     let mut work = data_block(rt.alloc(), None, None)?;
-    assert_eq!(rt; read(&mut work), Some(Ok(whole)));
+    assert_eq!(rt; read(&mut work), fixed(0, 0));
     for f in 0..16u8 {
         assert!(rt; is_sector_of(&work, usize::from(f), f));
     }
@@ -216,19 +216,13 @@ fn sectors_are_read_back_or_are_zeros(rt: HostRuntime) -> Result<(), Fail> {
     work.load_block(&Block::new(rt.alloc())?);
     let cause = Cause::Address { f: 0, found: 0 };
     assert_eq!(rt; read(&mut work), Some(Err(cause)));
-    for f in 0..16usize {
-        assert!(rt; is_sector_of(&work, f, 0));
-    }
+    assert!(rt; are_zeros(&work));
     let mut work = data_block(rt.alloc(), None, None)?;
-    assert_eq!(rt; read(&mut work), Some(Ok(whole)));
+    assert_eq!(rt; read(&mut work), fixed(0, 0));
     work.load_block(&Block::new(rt.alloc())?);
-    for t in 0..17usize {
-        lose_row(&mut work, 12 * t);
-    }
+    lose_rows(&mut work, 12, 17);
     assert_eq!(rt; read(&mut work), Some(Err(Cause::Rows { failed: 17 })));
-    for f in 0..16usize {
-        assert!(rt; is_sector_of(&work, f, 0));
-    }
+    assert!(rt; are_zeros(&work));
     Ok(())
 }
 
@@ -257,9 +251,7 @@ fn frames_without_a_fault_are_saved(rt: HostRuntime) -> Result<(), Fail> {
 fn frames_of_answered_rows_are_saved(rt: HostRuntime) -> Result<(), Fail> {
     // Rows 0 to 16 are those of frame 0 and the first five of frame 1.
     let mut work = data_block(rt.alloc(), None, None)?;
-    for i in 0..17usize {
-        lose_row(&mut work, i);
-    }
+    lose_rows(&mut work, 1, 17);
     assert_eq!(rt; read(&mut work), Some(Err(Cause::Rows { failed: 17 })));
     assert_eq!(rt; save(&mut work), Some(14));
     assert!(rt; all_but(&work, [0, 1]));
@@ -278,13 +270,9 @@ fn frames_of_answered_rows_are_saved(rt: HostRuntime) -> Result<(), Fail> {
 
     // One row of each frame and one of parity: nothing is saved.
     let mut work = data_block(rt.alloc(), None, None)?;
-    for t in 0..17usize {
-        lose_row(&mut work, 12 * t);
-    }
+    lose_rows(&mut work, 12, 17);
     assert_eq!(rt; decode(&mut work), Some(Err(Cause::Rows { failed: 17 })));
     assert_eq!(rt; save(&mut work), Some(0));
-    for f in 0..16usize {
-        assert!(rt; is_sector_of(&work, f, 0));
-    }
+    assert!(rt; are_zeros(&work));
     Ok(())
 }

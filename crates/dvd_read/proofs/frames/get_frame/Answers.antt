@@ -5,6 +5,7 @@ use Rattle.dvd_capture.specs.Parts.{received_rows}
 use Rattle.dvd_capture.specs.TwoPass.{from_columns}
 use Rattle.dvd_capture.specs.declared.parts.ColumnAnswer.{ColumnAnswer}
 use Rattle.dvd_capture.proofs.Columns.{from_columns-line, length-from_columns}
+use Rattle.dvd_capture.proofs.WorkParts.{rows-height}
 use Rattle.dvd_read.specs.Inner.Found.{words_of}
 use Rattle.dvd_read.proofs.Differences.{rows-same}
 use Rattle.dvd_read.proofs.FrameFaults.{frames-same}
@@ -14,7 +15,7 @@ pub returns-then-as_received : goal.returns-then-as_received
 returns-then-as_received c =
     let rows : List (List ℕ) = received_rows c.args.received.now in
     let words : List (List ℕ) = words_of c.args.columns.now in
-    let height : length rows ≡ 208 = omega (arith, c.args.received.now.size, c.args.received.now.rows.ok.0) in
+    let height : length rows ≡ 208 = rows-height c.args.received.now in
     c.copy_received.ensures.frame
     ∙ frames-same rows (from_columns words) c.args.f
     (λ q below.

@@ -1,12 +1,11 @@
 use Rattle.std.proofs.Common.{◌≡◌, ◌∙◌, List, length, map, sym, ap, arith, is_none}
-use Rattle.std.proofs.lemmas.List.{length-map}
-use Rattle.dvd_capture.specs.MarkBits.{marks_of}
 use Rattle.dvd_capture.specs.TwoPass.{answers_of, from_columns}
 use Rattle.dvd_capture.specs.Works.{answers_of_work, block_of, marks_of_work, rows_of, stage_of}
 use Rattle.dvd_capture.specs.Rule.{HasAnswers}
 use Rattle.dvd_capture.specs.declared.parts.AnswerRow.{AnswerRow}
 use Rattle.dvd_capture.specs.declared.parts.ColumnAnswer.{ColumnAnswer}
 use Rattle.dvd_capture.specs.declared.work.Work.{Work}
+use Rattle.dvd_capture.proofs.WorkParts.{marks-height, rows-height}
 use Rattle.dvd_read.specs.Causes.{two_pass_cause}
 use Rattle.dvd_read.specs.Found.{block_found}
 use Rattle.dvd_read.specs.Parts.{answer_word}
@@ -16,15 +15,7 @@ use Rattle.dvd_read.proofs.RowAnswers.{block_answers}
 use Rattle.dvd_read.proofs.SavedLaws.{fixed-found, fixed-told}
 use Rattle.dvd_read.proofs.rescue.salvage.Goals as goal
 
--- the rows of a captured block are 208
-rows_size : (work : Work) → length (rows_of work) ≡ 208
-rows_size work = omega (arith, work.received.size, work.received.rows.ok.0)
-
--- so are their marks
-marks_size : (work : Work) → length (marks_of_work work) ≡ 208
-marks_size work = length-map work.marks.rows.items marks_of ∙ omega (arith, work.marks.size, work.marks.rows.ok.0)
-
--- and their answers
+-- there are 208 answers of rows
 answers_size : (work : Work) → length (answers_of_work work) ≡ 208
 answers_size work = omega (arith, work.answers.size, work.answers.rows.ok.0)
 
@@ -41,12 +32,12 @@ save_frames-requires-clause-held c =
     record {
       columns = c.all.ensures.size;
       rows = c.rows.ensures.size;
-      fixed = fixed-told (rows_of work) (marks_of_work work) (rows_size work) (marks_size work) (stage_of work) c.is_fixed.result c.is_fixed.ensures (block_of work)
+      fixed = fixed-told (rows_of work) (marks_of_work work) (rows-height work.received) (marks-height work.marks) (stage_of work) c.is_fixed.result c.is_fixed.ensures (block_of work)
           c.requires.stage work.refused work.fixed
           ∙ ap (λ answers. is_none (two_pass_cause answers)) same;
       block = λ found.
           ap (λ (columns : List ColumnAnswer). from_columns (words_of columns)) c.all.ensures.columns
-          ∙ fixed-found (rows_of work) (marks_of_work work) (rows_size work) (marks_size work) (stage_of work) c.is_fixed.result c.is_fixed.ensures (block_of work)
+          ∙ fixed-found (rows_of work) (marks_of_work work) (rows-height work.received) (marks-height work.marks) (stage_of work) c.is_fixed.result c.is_fixed.ensures (block_of work)
           work.fixed found
           ∙ ap block_found same;
     }
@@ -54,13 +45,11 @@ save_frames-requires-clause-held c =
 pub returns-clause-out : goal.returns-clause-out
 unfolding block_out
 returns-clause-out c =
-    let work = c.args.work.now in
     c.save_frames.ensures.out
-    ∙ ap (λ answers. sectors_saved answers c.args.plan.now) (words work c.rows.result.now c.rows.ensures.rows c.requires.stage)
+    ∙ ap (λ answers. sectors_saved answers c.args.plan.now) (words c.args.work.now c.rows.result.now c.rows.ensures.rows c.requires.stage)
 
 pub returns-clause-saved : goal.returns-clause-saved
 unfolding saved_in
 returns-clause-saved c =
-    let work = c.args.work.now in
     c.save_frames.ensures.saved
-    ∙ ap (λ answers. frames_saved answers c.args.plan.now) (words work c.rows.result.now c.rows.ensures.rows c.requires.stage)
+    ∙ ap (λ answers. frames_saved answers c.args.plan.now) (words c.args.work.now c.rows.result.now c.rows.ensures.rows c.requires.stage)
