@@ -11,10 +11,7 @@ use Rattle.std.proofs.lemmas.Grind.{same_number_lists}
 use Rattle.rs_decode.specs.Nearest.{near_of}
 use Rattle.dvd_block.specs.Product.{column, line, place}
 use Rattle.dvd_capture.specs.Answers.{marks_line}
-use Rattle.dvd_capture.specs.Parts.{marks_rows}
 use Rattle.dvd_capture.specs.TwoPass.{from_columns}
-use Rattle.dvd_capture.specs.declared.parts.Marks.{Marks}
-use Rattle.dvd_capture.proofs.MarkLists.{length-marks_of, line-marks}
 use Rattle.dvd_capture.proofs.Columns.{from_columns-line, length-from_columns}
 use Rattle.dvd_deep.specs.Rounds.{State, column_marks, column_near, column_step, mark_in, state_in}
 use Rattle.dvd_deep.specs.Inner.Steps.{AreMarksTaken, AreWide, IsColumnPut}
@@ -176,8 +173,3 @@ unanswered-put None rows j height none = record {
   others = λ i k below inside other. refl;
 }
 unanswered-put (Some word) rows j height none = absurd (true≢false none)
-
--- each row of marks has 182
-pub marks-width : (marks : Marks) (i : ℕ) → i < 208 → length (marks_line (marks_rows marks) i) ≡ 182
-marks-width marks i below =
-    ap length (line-marks marks.rows.items i (omega (arith, marks.size, marks.rows.ok.0))) ∙ length-marks_of (line marks.rows.items i)

@@ -1,5 +1,5 @@
 -- Where two passes determine a block, round 1 finishes with it.
-use Rattle.std.proofs.Common.{◌≡◌, ◌∙◌, ℕ, suc, ◌+◌, ◌<◌, ◌≤◌, Bool, true, false, ◌&&◌, ◌==◌, true≢false, if◌then◌else◌, List, [], ◌∷◌, length, get_or, slice_index, unwrap_or, refl, sym, ap, subst, arith, Some, None, is_none, is_some}
+use Rattle.std.proofs.Common.{◌≡◌, ◌∙◌, ℕ, ◌+◌, ◌<◌, ◌≤◌, Bool, true, false, ◌&&◌, true≢false, List, [], length, get_or, slice_index, unwrap_or, refl, sym, ap, subst, arith, Some, None, is_none, is_some}
 use Rattle.std.specs.List.{list_all, range_with_len}
 use Rattle.std.specs.Option.{option_map, option_or}
 use Rattle.std.specs.declared.option.Option.{Option}
@@ -8,6 +8,7 @@ use Rattle.std.proofs.lemmas.List.FromFn.{fill_by_all, length-map-range_with_len
 use Rattle.std.proofs.lemmas.List.Sums.{list_all-from_AllPass}
 use Rattle.gf_field.specs.Words.{IsNear, cost}
 use Rattle.rs_decode.specs.Nearest.{near_of, vanishes_at_all}
+use Rattle.rs_decode.proofs.Near.{cost-alike}
 use Rattle.rs_decode.proofs.Nearest.{codeword-vanishes, near_of-some}
 use Rattle.dvd_block.specs.Product.{IsProduct, column, line}
 use Rattle.dvd_capture.specs.TwoPass.{IsTwoPass, answer_column, answers_of, byte_at, failed_of}
@@ -19,27 +20,6 @@ use Rattle.dvd_deep.proofs.ColumnStep.{column_then, column-byte, length-column}
 use Rattle.dvd_deep.proofs.RowStep.{row_then}
 use Rattle.dvd_deep.proofs.Products.{length-failed, round-rows, row_step-height, word-then, words_then}
 use Rattle.dvd_deep.proofs.Searches.{after-next, finishes-by, first-found, nothing-played}
-
--- ---- costs
-
--- one place more costs the same against bytes that agree where it isn't marked
-same-cost : (mark : Bool) (x y z c d : ℕ) → (mark ≡ false → y ≡ z) → c ≡ d
-    → (if mark then 1 else if x == y then 0 else 2) + c ≡ (if mark then 1 else if x == z then 0 else 2) + d
-same-cost true x y z c d same rest = ap (λ n. 1 + n) rest
-same-cost false x y z c d same rest = ap (λ n. (if x == n then 0 else 2) + c) (same refl) ∙ ap (λ n. (if x == z then 0 else 2) + n) rest
-
--- a word costs the same against words that agree at all unmarked places
-pub cost-agree : (word a b : List ℕ) (marks : List Bool) → length a ≡ length b → ((k : ℕ) → k < length a → get_or marks k false ≡ false → get_or a k 0 ≡ get_or b k 0)
-    → cost word a marks ≡ cost word b marks
-unfolding cost
-cost-agree [] a b marks size agree = refl
-cost-agree (x ∷ word) [] [] marks size agree = refl
-cost-agree (x ∷ word) [] (z ∷ b) marks size agree = absurd (omega arith)
-cost-agree (x ∷ word) (y ∷ a) [] marks size agree = absurd (omega arith)
-cost-agree (x ∷ word) (y ∷ a) (z ∷ b) [] size agree = refl
-cost-agree (x ∷ word) (y ∷ a) (z ∷ b) (mark ∷ marks) size agree =
-    same-cost mark x y z (cost word a marks) (cost word b marks) (agree 0 (omega arith))
-    (cost-agree word a b marks (omega arith) (λ k within. agree (suc k) (omega arith)))
 
 -- ---- the row step and the first pass
 
@@ -96,8 +76,8 @@ column-near-block received marks block j height marks_height agrees below =
     let width : length (column (row_step state).rows j) ≡ 208 = length-column (row_step state).rows j ∙ row_step-height state in
     let answers_width : length (answer_column answers j) ≡ 208 = length-answer_column answers j ∙ size in
     let costs : cost (column block j) (answer_column answers j) (failed_of answers) ≡ cost (column block j) (column (row_step state).rows j) (failed_of answers) =
-    cost-agree (column block j) (answer_column answers j) (column (row_step state).rows j) (failed_of answers) (answers_width ∙ sym width)
-    (λ k within. column-agrees received marks j k height marks_height (omega (arith, answers_width))) in
+    cost-alike (column block j) (answer_column answers j) (column (row_step state).rows j) (failed_of answers) (answers_width ∙ sym width)
+    (λ k within clear. sym (column-agrees received marks j k height marks_height (omega (arith, length-map answers is_none)) clear)) in
     record {
       codeword = agrees.product.columns j below;
       received_size = width;

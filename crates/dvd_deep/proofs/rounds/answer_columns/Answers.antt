@@ -1,17 +1,17 @@
 use Rattle.std.proofs.Common.{◌≡◌, ◌∙◌, ℕ, List, Bool, length, is_some, ◌&&◌, sym, ap, subst, arith}
 use Rattle.std.specs.List.{list_all, range_with_len}
 use Rattle.dvd_capture.specs.Parts.{marks_rows, received_rows}
-use Rattle.dvd_capture.proofs.WorkParts.{marks-height}
+use Rattle.dvd_capture.proofs.WorkParts.{marks-height, marks-width, rows-height}
 use Rattle.dvd_deep.specs.Inner.Buffers.{state_of}
 use Rattle.dvd_deep.specs.Rounds.{State, are_answered, column_near}
-use Rattle.dvd_deep.proofs.ColumnStep.{AreStepped, columns-all, columns-next, list_all-next, marks-width, next-near}
+use Rattle.dvd_deep.proofs.ColumnStep.{AreStepped, columns-all, columns-next, list_all-next, next-near}
 use Rattle.dvd_deep.proofs.rounds.answer_columns.Goals as goal
 
 pub returns-clause-state : goal.returns-clause-state
 returns-clause-state c =
     let last : c.loop-j.j ≡ 182 = omega arith in
     columns-all c.args.failed.now (state_of c.args.rows.now c.args.marks.now) (received_rows c.loop-j.rows) (marks_rows c.loop-j.marks)
-    (omega (arith, c.loop-j.rows.size, c.loop-j.rows.rows.ok.0)) (marks-height c.loop-j.marks) (marks-width c.loop-j.marks)
+    (rows-height c.loop-j.rows) (marks-height c.loop-j.marks) (marks-width c.loop-j.marks)
     (subst (AreStepped c.args.failed.now (state_of c.args.rows.now c.args.marks.now) (received_rows c.loop-j.rows) (marks_rows c.loop-j.marks)) last c.loop-j.invariant.part)
 
 pub returns-clause-answered : goal.returns-clause-answered
@@ -25,8 +25,8 @@ loop-j-preserved c =
     let state : State = state_of c.args.rows.now c.args.marks.now in
     let rows : List (List ℕ) = received_rows c.loop-j.rows in
     let marks : List (List Bool) = marks_rows c.loop-j.marks in
-    let height : length (received_rows c.args.rows.now) ≡ 208 = omega (arith, c.args.rows.now.size, c.args.rows.now.rows.ok.0) in
-    let rows_height : length rows ≡ 208 = omega (arith, c.loop-j.rows.size, c.loop-j.rows.rows.ok.0) in
+    let height : length (received_rows c.args.rows.now) ≡ 208 = rows-height c.args.rows.now in
+    let rows_height : length rows ≡ 208 = rows-height c.loop-j.rows in
     let next = next-near c.args.failed.now state rows marks c.loop-j.j height rows_height (omega arith) c.loop-j.invariant.part in
     let answer = c.answer_column-all.ensures in
     record {

@@ -1,6 +1,6 @@
 use Rattle.std.proofs.Common.{◌≡◌, subst, arith}
 use Rattle.dvd_capture.specs.Parts.{marks_rows, received_rows}
-use Rattle.dvd_capture.proofs.WorkParts.{marks-height}
+use Rattle.dvd_capture.proofs.WorkParts.{marks-height, rows-height}
 use Rattle.dvd_deep.specs.Inner.Buffers.{state_of}
 use Rattle.dvd_deep.specs.Rounds.{failed_rows, row_step}
 use Rattle.dvd_deep.proofs.RowStep.{IsStepped, stepped-all}
@@ -10,7 +10,7 @@ both : (c : goal.After-loop-i) → (state_of c.loop-i.rows c.loop-i.marks ≡ ro
 both c =
     let last : c.loop-i.i ≡ 208 = omega arith in
     stepped-all (state_of c.args.rows.now c.args.marks.now) (received_rows c.loop-i.rows) (marks_rows c.loop-i.marks) c.loop-i.failed
-    (omega (arith, c.loop-i.rows.size, c.loop-i.rows.rows.ok.0)) (marks-height c.loop-i.marks) c.loop-i.invariant.size
+    (rows-height c.loop-i.rows) (marks-height c.loop-i.marks) c.loop-i.invariant.size
     (subst (IsStepped (state_of c.args.rows.now c.args.marks.now) (received_rows c.loop-i.rows) (marks_rows c.loop-i.marks) c.loop-i.failed) last c.loop-i.invariant.part)
 
 pub returns-clause-state : goal.returns-clause-state

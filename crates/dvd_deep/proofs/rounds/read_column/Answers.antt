@@ -1,6 +1,7 @@
 use Rattle.std.proofs.Common.{◌≡◌, ◌∙◌, ◌<◌, ℕ, List, length, sym, arith}
 use Rattle.std.proofs.lemmas.Grind.{same_number_lists}
 use Rattle.dvd_block.specs.Product.{column}
+use Rattle.dvd_capture.proofs.WorkParts.{rows-height}
 use Rattle.dvd_capture.specs.Parts.{received_rows}
 use Rattle.dvd_deep.proofs.ColumnStep.{column-byte, length-column}
 use Rattle.dvd_deep.proofs.rounds.read_column.Goals as goal
@@ -8,7 +9,7 @@ use Rattle.dvd_deep.proofs.rounds.read_column.Goals as goal
 pub returns : goal.returns
 returns c =
     let rows : List (List ℕ) = received_rows c.args.rows.now in
-    let height : length rows ≡ 208 = omega (arith, c.args.rows.now.size, c.args.rows.now.rows.ok.0) in
+    let height : length rows ≡ 208 = rows-height c.args.rows.now in
     same_number_lists c.loop-i.word (column rows c.args.j) (c.loop-i.invariant.size ∙ sym (length-column rows c.args.j ∙ height))
     (λ k within.
     let below : k < 208 = omega (arith, c.loop-i.invariant.size) in
