@@ -3,6 +3,7 @@ use crate::{OpenGate, two_pass_par};
 use dvd_block::Block;
 use dvd_capture::{Stage, Work};
 use dvd_read::{Cause, Fixed};
+use gf_field::mul;
 use std::alloc::Global;
 use std::test::Fail;
 use std::thread::Threads;
@@ -14,38 +15,8 @@ const GENERATOR: [u8; 11] = [
     0x01, 0xD8, 0xC2, 0x9F, 0x6F, 0xC7, 0x5E, 0x5F, 0x71, 0x9D, 0xC1,
 ];
 
-// Multiples of it, one for each of rows 191 to 198, whose last places are the first coefficients of a codeword of columns.
-static MULTIPLES: [[u8; 11]; 8] = [
-    [
-        0xC1, 0xD4, 0x81, 0xA3, 0x34, 0x63, 0x7C, 0xBD, 0x42, 0x3C, 0xDF,
-    ],
-    [
-        0x91, 0xD1, 0xF7, 0xB2, 0x48, 0x18, 0xEB, 0x7A, 0x10, 0x8D, 0x59,
-    ],
-    [
-        0xA4, 0x4D, 0xC3, 0x64, 0x59, 0xCD, 0x56, 0xF2, 0x7D, 0x31, 0x32,
-    ],
-    [
-        0x49, 0x52, 0x56, 0x07, 0xF2, 0x26, 0x8A, 0xC3, 0xCF, 0x95, 0x8D,
-    ],
-    [
-        0x39, 0x55, 0x45, 0x1C, 0xEF, 0x98, 0x12, 0x2B, 0x1B, 0x6E, 0x0E,
-    ],
-    [
-        0x29, 0x54, 0xF9, 0x19, 0x51, 0x74, 0x9B, 0xB2, 0x58, 0x4B, 0x82,
-    ],
-    [
-        0x53, 0x70, 0x2D, 0xAD, 0xCD, 0x2F, 0x75, 0x26, 0xC1, 0x0B, 0xD8,
-    ],
-    [
-        0x76, 0xED, 0xA5, 0x7E, 0x62, 0x16, 0x41, 0x37, 0xEF, 0x92, 0x3F,
-    ],
-];
-
-// The multiple in row 199, which begins ten places earlier.
-const LAST: [u8; 11] = [
-    0x08, 0x8E, 0x5E, 0x8C, 0x5F, 0x76, 0xCA, 0xC2, 0xAF, 0x9C, 0x46,
-];
+// Factors of it for rows 191 to 198: the last places of these rows are the first coefficients of a codeword of columns.
+static FACTORS: [u8; 8] = [0xC1, 0x91, 0xA4, 0x49, 0x39, 0x29, 0x53, 0x76];
 
 // A received block of zeros.
 fn zero_block(alloc: Global) -> Result<Work, Fail> {
@@ -60,11 +31,11 @@ fn put(work: &mut Work, i: usize, j: usize, byte: u8, mark: bool) {
     }
 }
 
-// Puts these bytes into row `i` from place `j` on.
-fn put_bytes(work: &mut Work, i: usize, j: usize, bytes: &[u8; 11]) {
-    for (k, byte) in bytes.iter().enumerate() {
+// Puts a multiple of the generator's codeword into row `i` from place `j` on.
+fn put_codeword(work: &mut Work, i: usize, j: usize, factor: u8) {
+    for (k, byte) in GENERATOR.iter().enumerate() {
         if j <= 181 {
-            put(work, i, j + k, *byte, false);
+            put(work, i, j + k, mul(factor, *byte), false);
         }
     }
 }
@@ -91,7 +62,7 @@ fn lost_rows(alloc: Global, count: usize) -> Result<Work, Fail> {
 fn eight_rows(alloc: Global) -> Result<Work, Fail> {
     let mut work = zero_block(alloc)?;
     for t in 0..8usize {
-        put_bytes(&mut work, 20 * t, 171, &GENERATOR);
+        put_codeword(&mut work, 20 * t, 171, 1);
     }
     Ok(work)
 }
@@ -100,9 +71,9 @@ fn eight_rows(alloc: Global) -> Result<Work, Fail> {
 fn wrong_row(alloc: Global) -> Result<Work, Fail> {
     let mut work = zero_block(alloc)?;
     for t in 0..8usize {
-        put_bytes(&mut work, 191 + t, 171, &MULTIPLES[t]);
+        put_codeword(&mut work, 191 + t, 171, FACTORS[t]);
     }
-    put_bytes(&mut work, 199, 161, &LAST);
+    put_codeword(&mut work, 199, 161, 0x08);
     Ok(work)
 }
 
