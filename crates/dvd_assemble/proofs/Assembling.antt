@@ -72,7 +72,7 @@ length-settled_by : (tables : List Table) (frame : Frame) (place : Option ℕ) �
 length-settled_by tables frame None = refl
 length-settled_by tables frame (Some n) = length-set tables (n / 16) (with_frame (n % 16) frame (get_or tables (n / 16) unseen))
 
--- one block
+-- each block is joined with what the frame tells of it
 settled-at : (tables : List Table) (frame : Frame) (place : Option ℕ) (k : ℕ) → k < length tables → IsShaped (get_or tables k unseen)
     → get_or (settled_by tables frame place) k unseen ≡ join_tables (get_or tables k unseen) (told_by k frame place)
 settled-at tables frame None k within shape = sym (join_none (get_or tables k unseen) shape)

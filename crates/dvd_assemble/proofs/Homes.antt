@@ -31,7 +31,7 @@ use Rattle.dvd_layout.proofs.Blocks.{length-entries_of}
 use Rattle.dvd_layout.proofs.Ranges.{plan_of-numbers}
 use Rattle.dvd_assemble.specs.Home.{block_and_frame, block_words, home_in, words_of}
 
--- the blocks of both Data Zones; that of layer 1 is empty where there is none
+-- the Data Zone of layer 1 has no blocks where there is no such layer
 no_entries : (layout : Layout) → layout.sectors1 ≡ 0 → entries_of (second_data layout) ≡ []
 no_entries layout none = rw none refl
 
@@ -129,7 +129,7 @@ word-at layout k f e within below =
     piece-at (block_words layout) (sixteen_words layout) (plan_of layout DataOnly) k f e 0 within below
     ∙ get_or-map-range_with_len (word_of layout (get_or (plan_of layout DataOnly) k e)) 0 16 f f 0 below (omega arith)
 
--- IDs of one place have one sector number and one layer
+-- IDs of one place have one sector number
 same_number : (a b : ℕ) → IsSamePlace a b → a % 2 ^ 24 ≡ b % 2 ^ 24
 same_number a b same =
     sym (masked a) ∙ ap (λ n. n % 2 ^ 24) same ∙ masked b
@@ -144,12 +144,12 @@ same_layer a b same = sym (masked a) ∙ ap (λ n. bit_at n 24) same ∙ masked 
     masked : (n : ℕ) → bit_at (bit_and n 0x0DFFFFFF) 24 ≡ bit_at n 24
     masked n = bit_at_and n 0x0DFFFFFF 24 ∙ omega (arith, bit_at-lt n 24)
 
--- those of an ID word
+-- an ID word tells the sector number that it was made for
 word_number : (area : Area) (layer number : ℕ) (dim : Bool) → layer < 2 → number < 2 ^ 24 → id_word area layer dim number % 2 ^ 24 ≡ number
 word_number area layer number true two low = omega arith
 word_number area layer number false two low = omega arith
 
--- an ID word tells the layer that it was made for
+-- and the layer
 word_layer : (area : Area) (layer number : ℕ) (dim : Bool) → layer < 2 → number < 2 ^ 24 → id_word area layer dim number / 2 ^ 24 % 2 ≡ layer
 word_layer area layer number true two low = omega arith
 word_layer area layer number false two low = omega arith
@@ -258,7 +258,7 @@ number_behind layout word n entry stands at = by_side (sides layout word n at)
         let begins = in_second is zone in
         omega (arith, second.1, second.2, is, begins)
 
--- the first frame that has the place
+-- where no frame has the place of a word, the word has no home
 pub home_none : (layout : Layout) (word : ℕ) → ((n : ℕ) → IsAt layout word n → ⊥) → home_in layout word ≡ None
 unfolding home_in
 home_none layout word none = by_answer (position (is_same_place word) (words_of layout)) refl
@@ -287,7 +287,7 @@ pub home_some : (layout : Layout) (word n : ℕ) → IsAt layout word n → ((m 
 unfolding home_in
 home_some layout word n at only = first_place (is_same_place word) (words_of layout) n 0 at.0 at.1 (λ m within passes. only m (within, passes))
 
--- a test by the bits
+-- a test of whether two IDs have one place answers as `is_same_place` does
 pub tells_place : (answer : Bool) (a b : ℕ) → IsTrue answer ↔ IsSamePlace a b → answer ≡ is_same_place a b
 tells_place answer a b decides = by_test answer (eqb_tells (bit_and a 0x0DFFFFFF) (bit_and b 0x0DFFFFFF)) decides
   where

@@ -42,7 +42,7 @@ length-join : (a b : Table) → length a ≡ length b → length (join_tables a 
 unfolding join_tables
 length-join a b same = length-zip2 join_rows a b same
 
--- what isn't seen
+-- a table that is joined with one in which nothing is seen stays as it is
 pub join_none : (table : Table) → IsShaped table → join_tables table unseen ≡ table
 join_none table shaped =
     ext_get_or [] (join_tables table unseen) table (heights)
