@@ -15,7 +15,7 @@ use Rattle.dvd_top.proofs.BrokenFields.{broken_found}
 
 -- FIELDS of listed bytes, and of more bytes that begin with them.
 module _ (own more : List ℕ) where
-  -- each has its number in both
+  -- the number of runs, where it stands in the first bytes, is the same in both
   number_same : 37_858 ≤ length own → run_count (own ++ more) ≡ run_count own
   number_same enough = field_at-append own more 37_856 (omega (arith, enough))
 
@@ -165,7 +165,7 @@ size_cut Plain bytes fewer lawful = sized_fewer 37_856 bytes fewer
 size_cut Marked bytes fewer lawful = sized_fewer 42_640 bytes fewer
 size_cut Listed bytes fewer lawful = listed_sized bytes lawful ∙ sized_fewer (listed_size bytes) bytes fewer
 
--- the first size bytes of a whole block are the block
+-- what comes behind a whole block doesn't change its size
 more_same : (form : Form) (own more : List ℕ) → unit_size form own ≤ length own → unit_size form (own ++ more) ≡ unit_size form own
 more_same Plain own more enough = refl
 more_same Marked own more enough = refl
@@ -177,7 +177,7 @@ lawful_on Plain own more enough lawful = tt
 lawful_on Marked own more enough lawful = tt
 lawful_on Listed own more enough lawful = unbroken_on own more enough lawful
 
--- and so do bytes with which lawful ones begin
+-- and so are bytes with which lawful ones begin
 lawful_back : (form : Form) (own more : List ℕ) → IsLawful form (own ++ more) → IsLawful form own
 lawful_back Plain own more lawful = tt
 lawful_back Marked own more lawful = tt

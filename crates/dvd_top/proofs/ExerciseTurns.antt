@@ -50,7 +50,7 @@ module _ (blocks k x : ℕ) (layout : Layout) (single : layout.shape ≡ Single)
   pub found_block : IsFound k (bytes_from x 32768) block (rows_of work) (marks_of_work work)
   found_block = is_found k x block (rows_of work) (marks_of_work work) (omega (arith, within, few)) hurt_block
 
-  -- nor of its entry
+  -- nor is one found of it as the entry that the plan has there
   pub no_cause : block_cause (rows_of work) (marks_of_work work) entry ≡ None
   no_cause = ap (block_cause (rows_of work) (marks_of_work work)) entry_is ∙ found_block.cause
 

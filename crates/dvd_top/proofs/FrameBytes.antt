@@ -97,7 +97,7 @@ bytes-edc : (bytes : List ℕ) → HasBytes 4 (edc_of bytes)
 unfolding edc_of
 bytes-edc bytes = bytes-word _
 
--- of six bytes CPR_MAI and 2,048 bytes Main Data
+-- so a data frame of six bytes CPR_MAI and 2,048 bytes Main Data is 2,064 bytes
 pub bytes-frame : (word : ℕ) (cpr : List ℕ) (rule : Rule) (main : List ℕ) → HasBytes 6 cpr → HasBytes 2048 main
     → HasBytes 2064 (data_frame word cpr rule main)
 bytes-frame word cpr rule main six whole =

@@ -33,7 +33,7 @@ use Rattle.dvd_top.proofs.Rescues.{given_good}
 part-front : (xs : List ℕ) (m a n : ℕ) → a + n ≤ length (take m xs) → take n (drop a (take m xs)) ≡ take n (drop a xs)
 part-front xs m a n inside = sym (part-append (take m xs) (drop m xs) a n inside) ∙ ap (λ l. take n (drop a l)) (take-append-drop m xs)
 
--- a part of a list that stands behind a bytes
+-- a part of the second of two lists, in what begins with both
 part-further : (xs ys left out : List ℕ) (a b n : ℕ) → length xs ≡ a → b + n ≤ length ys → out ≡ (xs ++ ys) ++ left
     → take n (drop (a + b) out) ≡ take n (drop b ys)
 part-further xs ys left out a b n size inside is =

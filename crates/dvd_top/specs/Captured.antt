@@ -79,13 +79,12 @@ block_bytes form bytes k = take (unit_size form (from_block form bytes k)) (from
 abbrev pub HasBlocks : Form → List ℕ → ℕ → Type 0
 HasBlocks form bytes n = (j : ℕ) → j < n → captured_part form (from_block form bytes j) ≡ Whole (unit_size form (from_block form bytes j))
 
--- The ends of a loop over so many captured blocks of this form, and of one that looks for a first block: a listed block may break
--- a rule.
+-- the ends of a loop over so many captured blocks of this form: a listed block may break a rule
 abbrev pub IsCaptureEnd : Form → ℕ → LoopEnd → Type 0
 IsCaptureEnd Listed count (BadMarks block at) = block < count
 IsCaptureEnd form count end = IsDamageEnd count end
 
--- that of a loop that looks for a first block
+-- those of a loop that looks for a first block
 abbrev pub IsSoughtEnd : Form → ℕ → LoopEnd → Type 0
 IsSoughtEnd Listed count (BadMarks block at) = block < count
 IsSoughtEnd form count end = IsSearchEnd count end

@@ -110,7 +110,7 @@ BoundIsKept =
     (settings : Settings) (within : LoopEnd) (bytes : List ℕ) (outcome : Outcome) → Rescues settings.command → IsRun settings within bytes outcome → IsFaultless outcome.end
     → Behind settings.form (λ stated left. KeepsBound stated left outcome) settings bytes
 
--- And of such a run: the good frames of the blocks that two passes refuse are kept.
+-- Of a run of `recover` that no fault ended: the good frames of the blocks that two passes refuse are kept.
 abbrev pub GoodFramesAreKept : Type 0
 GoodFramesAreKept =
     (settings : Settings) (within : LoopEnd) (bytes : List ℕ) (outcome : Outcome) → settings.command ≡ Recover → IsRun settings within bytes outcome → IsFaultless outcome.end

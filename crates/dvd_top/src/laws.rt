@@ -1,7 +1,7 @@
 //! What holds of every run of a command: each function's contract is one law, and its body is empty.
 ghost use Rattle.dvd_top.specs.Laws.{WhatIsDoneIsDetermined, SomethingIsDone, ImageIsTakenInOrder, ImageIsTakenWhole, DamageWithinTheBoundIsRepaired, GoodFramesOfARefusedBlockAreGiven, BoundIsKept, GoodFramesAreKept, DrawnFramesAreMastered, MasteredStreamIsRecovered, InfoFindsTheFirstAnswer, BorneSectorsAreKept, CapturedFramesAreAssembled, BrokenFieldIsFound, ConvertedIsRead};
 
-/// What is done for an input is determined.
+/// What is done for an input is determined, but for how much is taken of a listed block that breaks a rule.
 pub fn what_is_done_is_determined()
     ensures { WhatIsDoneIsDetermined }
 {}
@@ -36,12 +36,12 @@ pub fn bound_is_kept()
     ensures { BoundIsKept }
 {}
 
-/// A run of recovery keeps the good frames of each of its blocks that two passes refuse.
+/// A run of `recover` keeps the good frames of each of its blocks that two passes refuse.
 pub fn good_frames_are_kept()
     ensures { GoodFramesAreKept }
 {}
 
-/// The blocks of the self-test are those of a disk with one layer.
+/// The blocks of `exercise` are those of a disk with one layer.
 pub fn drawn_frames_are_mastered()
     ensures { DrawnFramesAreMastered }
 {}
