@@ -3,7 +3,7 @@ use Rattle.std.proofs.Common.{◌≡◌, ℕ, List, [], ◌++◌, Option, Some, 
 use Rattle.std.specs.Io.KnownBytes.{Consumes, IsAtEnd}
 use Rattle.dvd_ports.proofs.KnownLemmas.{Appends-none, Appends-then, Consumes-then}
 use Rattle.dvd_loop.specs.Machine.{Outcome}
-use Rattle.dvd_loop.specs.Streams.{Comes, Counts, HaveCauses, HaveMoved, IsTold, Streams, is_read_fault, is_report_fault, is_write_fault}
+use Rattle.dvd_loop.specs.Streams.{Comes, Counts, HasEnded, HaveCauses, HaveMoved, IsTold, Streams, is_read_fault, is_report_fault, is_write_fault}
 use Rattle.dvd_loop.specs.declared.ends.LoopEnd.{LoopEnd}
 use Rattle.dvd_loop.specs.declared.ends.LoopEnd.TheVariants.{Done}
 use Rattle.dvd_loop.proofs.StepLemmas.{and_then, onto}
@@ -64,17 +64,21 @@ causes_first old now new within end first next = record {
   report = subst (λ n. Counts (is_report_fault end) n new.report.faults) first.report next.report;
 }
 
--- what a loop has come to may be said otherwise
-pub comes_as : (P Q : List ℕ → Outcome → Type 0) (old new : Streams) (end : LoopEnd)
-    → ((bytes : List ℕ) (outcome : Outcome) → P bytes outcome → Q bytes outcome) → Comes P old new end → Comes Q old new end
-comes_as P Q old new end to comes = record {
-  bytes = comes.bytes;
-  told = comes.told;
-  outcome = comes.outcome;
-  holds = to comes.bytes comes.outcome comes.holds;
-  ends = comes.ends;
-  moved = comes.moved;
-}
+-- what a loop has ended with may be said otherwise
+pub ended_as : (P Q : List ℕ → Outcome → Type 0) (old new : Streams) (end : LoopEnd)
+    → ((bytes : List ℕ) (outcome : Outcome) → P bytes outcome → Q bytes outcome) → HasEnded P old new end → HasEnded Q old new end
+ended_as P Q old new end to ended =
+    let comes = ended.comes in record {
+      comes = record {
+        bytes = comes.bytes;
+        told = comes.told;
+        outcome = comes.outcome;
+        holds = to comes.bytes comes.outcome comes.holds;
+        ends = comes.ends;
+        moved = comes.moved;
+      };
+      causes = ended.causes;
+    }
 
 -- A loop and then its closing line: what both have come to.
 pub comes_then : (P : List ℕ → Outcome → Type 0) (Q : Outcome → Type 0) (R : List ℕ → Outcome → Type 0) (old mid new : Streams) (within end : LoopEnd)

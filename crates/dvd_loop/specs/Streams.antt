@@ -68,3 +68,9 @@ pub record HaveCauses (within end : LoopEnd) (old new : Streams) : Type 0 where
   pub source : Counts (is_read_fault within) old.source.faults new.source.faults
   pub output : Counts (is_write_fault within) old.output.faults new.output.faults
   pub report : Counts (is_report_fault end) old.report.faults new.report.faults
+
+-- A loop has ended so: with an outcome of P, to which the streams have come, and each fault has raised the count of its
+-- stream.
+pub record HasEnded (P : List ℕ → Outcome → Type 0) (old new : Streams) (end : LoopEnd) : Type 0 where
+  pub comes : Comes P old new end
+  pub causes : HaveCauses end end old new

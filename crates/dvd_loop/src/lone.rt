@@ -1,7 +1,7 @@
 //! A command whose units stand alone: nothing opens or closes them, and the input has to end behind the last.
 ghost use Rattle.std.specs.Prelude.{◌≡◌, ◌<◌};
 ghost use Rattle.dvd_loop.specs.Machine.{IsOutcome, Units};
-ghost use Rattle.dvd_loop.specs.Streams.{streams, Comes, HaveCauses};
+ghost use Rattle.dvd_loop.specs.Streams.{streams, HasEnded};
 ghost use Rattle.dvd_loop.specs.Turns.{HaveCausesFor, StandAlone, TakesLoneTurn};
 
 use crate::{Behind, LoopEnd, Turn, Turns, follow};
@@ -100,12 +100,9 @@ pub fn follow_lone<P: LoneTurns + Drop, S: Source, K: Sink, E: Sink>(
     report: &mut E,
 ) -> LoopEnd
     requires { P.ready command }
-    ensures follows { Comes (IsOutcome (P.units (P.key command)))
+    ensures { HasEnded (IsOutcome (P.units (P.key command)))
         (streams (S.seen src.old) (K.seen out.old) (E.seen report.old))
         (streams (S.seen src.new) (K.seen out.new) (E.seen report.new)) result }
-    ensures causes { HaveCauses result result
-        (streams (S.seen src.old) (K.seen out.old) (E.seen report.old))
-        (streams (S.seen src.new) (K.seen out.new) (E.seen report.new)) }
 {
     follow(&mut Lone { command }, src, out, report)
 }

@@ -2,7 +2,7 @@
 ghost use Rattle.std.specs.Prelude.{◌≡◌, ◌≢◌, ℕ, List, [], true, false};
 ghost use Rattle.dvd_ports.specs.Seen.{Seen};
 ghost use Rattle.dvd_loop.specs.Machine.{Closes, EndsBehind, IsOutcome};
-ghost use Rattle.dvd_loop.specs.Streams.{streams, Comes, Counts, HaveCauses, is_report_fault};
+ghost use Rattle.dvd_loop.specs.Streams.{streams, Comes, Counts, HasEnded, HaveCauses, is_report_fault};
 ghost use Rattle.dvd_loop.specs.declared.ends.LoopEnd.{LoopEnd as HowItEnds};
 
 use crate::{Behind, LoopEnd, Turns};
@@ -16,12 +16,9 @@ pub fn follow<C: Turns, S: Source, K: Sink, E: Sink>(
     report: &mut E,
 ) -> LoopEnd
     requires { C.ready command.old [] }
-    ensures follows { Comes (IsOutcome (C.units (C.key command.old)))
+    ensures follows { HasEnded (IsOutcome (C.units (C.key command.old)))
         (streams (S.seen src.old) (K.seen out.old) (E.seen report.old))
         (streams (S.seen src.new) (K.seen out.new) (E.seen report.new)) result }
-    ensures causes { HaveCauses result result
-        (streams (S.seen src.old) (K.seen out.old) (E.seen report.old))
-        (streams (S.seen src.new) (K.seen out.new) (E.seen report.new)) }
     ensures same { C.key command.new ≡ C.key command.old }
     ensures left { C.left command.new result }
 {

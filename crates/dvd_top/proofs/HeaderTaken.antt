@@ -6,9 +6,10 @@ use Rattle.dvd_capture.specs.declared.form.Form.{Form}
 use Rattle.dvd_capture.specs.declared.form.Form.TheVariants.{Plain, Marked, Listed}
 use Rattle.dvd_layout.specs.declared.layout.Layout.{Layout}
 use Rattle.dvd_loop.specs.Machine.{Outcome, ended, taking, IsOutcome, Units}
-use Rattle.dvd_loop.specs.Streams.{Comes, HaveCauses, Streams, streams}
+use Rattle.dvd_loop.specs.Streams.{HasEnded, HaveCauses, Streams, streams}
 use Rattle.dvd_loop.specs.declared.ends.LoopEnd.{LoopEnd}
-use Rattle.dvd_loop.proofs.StreamLemmas.{comes_after, comes_as, told_before}
+use Rattle.dvd_loop.specs.declared.ends.LoopEnd.TheVariants.{Done}
+use Rattle.dvd_loop.proofs.StreamLemmas.{causes_first, comes_after, ended_as, told_before}
 use Rattle.dvd_ports.specs.Seen.{Seen}
 use Rattle.dvd_ports.proofs.KnownLemmas.{Appends-none}
 use Rattle.dvd_top.specs.Commands.{meaning}
@@ -42,19 +43,18 @@ breaks_by_words Listed sized settings = absurd (sized refl)
 -- A loop over the units that a command has by its settings goes over them,
 pub goes_over : (command : Command) (settings : Settings) → settings.command ≡ command
     → (units : Units) → ((P : Units → Type 0) → P units → (meaning command).OfUnits settings P)
-    → (old new : Streams) (end : LoopEnd) → Comes (IsOutcome units) old new end → Comes (GoesOver settings) old new end
+    → (old new : Streams) (end : LoopEnd) → HasEnded (IsOutcome units) old new end → HasEnded (GoesOver settings) old new end
 goes_over command settings is units has old new end =
-    comes_as (IsOutcome units) (GoesOver settings) old new end
+    ended_as (IsOutcome units) (GoesOver settings) old new end
     (λ bytes outcome runs. subst (λ c. (meaning c).OfUnits settings (λ u. IsOutcome u bytes outcome)) (sym is) (has (λ u. IsOutcome u bytes outcome) runs))
 
 -- so that this is all that the command does, where it breaks no rule
 pub gone_over : (command : Command) (settings : Settings) → settings.command ≡ command → (meaning command).breaks settings ≡ None
     → (units : Units) → ((P : Units → Type 0) → P units → (meaning command).OfUnits settings P)
-    → (old new : Streams) (end : LoopEnd) → Comes (IsOutcome units) old new end → HaveCauses end end old new → HasGoneOver settings old new end
-gone_over command settings is lawful units has old new end comes causes = record {
+    → (old new : Streams) (end : LoopEnd) → HasEnded (IsOutcome units) old new end → HasGoneOver settings old new end
+gone_over command settings is lawful units has old new end ended = record {
   lawful = subst (λ c. (meaning c).breaks settings ≡ None) (sym is) lawful;
-  comes = goes_over command settings is units has old new end comes;
-  causes = causes;
+  loop = goes_over command settings is units has old new end ended;
 }
 
 -- and a command that has gone over its units has run
@@ -62,35 +62,30 @@ pub looped_by_words : (settings : Settings) → HasSize settings.form → (old n
     → HasLooped settings old new end
 looped_by_words settings sized old new end gone = record {
   lawful = breaks_by_words settings.form sized settings ∙ gone.lawful;
-  comes = comes_as (GoesOver settings) (IsLoop settings) old new end (opens_by_words settings.form sized GoesOver settings) gone.comes;
-  causes = gone.causes;
+  loop = ended_as (GoesOver settings) (IsLoop settings) old new end (opens_by_words settings.form sized GoesOver settings) gone.loop;
 }
 
--- A HEADER was taken, and a loop came behind it.
-pub opened_on : (Loops : Settings → List ℕ → Outcome → Type 0) (settings stated : Settings) (layout : Layout) (old read output report : Seen) (new : Streams) (end : LoopEnd)
-    → HasOpened settings old read stated layout → Comes (Loops stated) (streams read output report) new end
-    → Comes (IsOpened Loops settings) (streams old output report) new end
-opened_on Loops settings stated layout old read output report new end opened comes =
-    comes_after (Loops stated) (IsOpened Loops settings) (streams old output report) (streams read output report) new end opened.own [] []
-    (record { reads = opened.reads; writes = Appends-none output.bytes; tells = Appends-none report.bytes })
-    (λ left after holds. record {
-      own = opened.own;
-      left = left;
-      front = refl;
-      after = after;
-      comes = inr (opened.whole, inr (stated, opened.header, opened.lawful, holds));
-      takes = refl;
-    })
-    comes
-
--- and where its units are those of the settings that the header states, the command has opened on them
+-- A HEADER was taken, and behind it came a loop over the units that the command has by the settings that the header states.
 pub opened_over : (command : Command) (settings stated : Settings) (layout : Layout) → settings.command ≡ command
     → (old read output report : Seen) (new : Streams) (end : LoopEnd) → HasOpened settings old read stated layout
+    → HaveCauses Done Done (streams old output report) (streams read output report)
     → (units : Units) → ((P : Units → Type 0) → P units → (meaning command).OfUnits stated P)
-    → Comes (IsOutcome units) (streams read output report) new end → Comes (IsOpened GoesOver settings) (streams old output report) new end
-opened_over command settings stated layout is old read output report new end opened units has comes =
-    opened_on GoesOver settings stated layout old read output report new end opened
-    (goes_over command stated (ap (λ s. s.command) opened.header.states.all ∙ is) units has (streams read output report) new end comes)
+    → HasEnded (IsOutcome units) (streams read output report) new end → HasEnded (IsOpened GoesOver settings) (streams old output report) new end
+opened_over command settings stated layout is old read output report new end opened causes units has ended =
+    let over = goes_over command stated (ap (λ s. s.command) opened.header.states.all ∙ is) units has (streams read output report) new end ended in record {
+      comes = comes_after (GoesOver stated) (IsOpened GoesOver settings) (streams old output report) (streams read output report) new end opened.own [] []
+          (record { reads = opened.reads; writes = Appends-none output.bytes; tells = Appends-none report.bytes })
+          (λ left after holds. record {
+            own = opened.own;
+            left = left;
+            front = refl;
+            after = after;
+            comes = inr (opened.whole, inr (stated, opened.header, opened.lawful, holds));
+            takes = refl;
+          })
+          over.comes;
+      causes = causes_first (streams old output report) (streams read output report) new end end causes over.causes;
+    }
 
 -- no loop comes behind one in which the run ends
 behind_none : (Loops : Settings → List ℕ → Outcome → Type 0) (settings : Settings) (own left : List ℕ) (after : Outcome)
@@ -101,32 +96,35 @@ behind_none Loops settings own left after (inr (whole, inr (stated, header, lawf
 
 -- a run that ended in its header is one of a listed capture
 pub opened_ended : (Loops : Settings → List ℕ → Outcome → Type 0) (settings : Settings) (old read output report : Seen) (end : LoopEnd)
-    → EndsInHeader settings old read end → Comes (IsOpened Loops settings) (streams old output report) (streams read output report) end
-opened_ended Loops settings old read output report end ended_in = record {
-  bytes = ended_in.own ++ ended_in.left;
-  told = told_before old.bytes read.bytes ended_in.own ended_in.left ended_in.reads ended_in.told;
-  outcome = taking ended_in.own (ended end);
-  holds = record {
-    own = ended_in.own;
-    left = ended_in.left;
-    front = refl;
-    after = ended end;
-    comes = behind_none Loops settings ended_in.own ended_in.left (ended end) ended_in.ends;
-    takes = refl;
+    → EndsInHeader settings old read end → HaveCauses end end (streams old output report) (streams read output report)
+    → HasEnded (IsOpened Loops settings) (streams old output report) (streams read output report) end
+opened_ended Loops settings old read output report end ended_in causes = record {
+  comes = record {
+    bytes = ended_in.own ++ ended_in.left;
+    told = told_before old.bytes read.bytes ended_in.own ended_in.left ended_in.reads ended_in.told;
+    outcome = taking ended_in.own (ended end);
+    holds = record {
+      own = ended_in.own;
+      left = ended_in.left;
+      front = refl;
+      after = ended end;
+      comes = behind_none Loops settings ended_in.own ended_in.left (ended end) ended_in.ends;
+      takes = refl;
+    };
+    ends = refl;
+    moved = record {
+      reads = subst (Consumes old.bytes read.bytes) (sym (append-nil ended_in.own)) ended_in.reads;
+      writes = Appends-none output.bytes;
+      tells = Appends-none report.bytes;
+    };
   };
-  ends = refl;
-  moved = record {
-    reads = subst (Consumes old.bytes read.bytes) (sym (append-nil ended_in.own)) ended_in.reads;
-    writes = Appends-none output.bytes;
-    tells = Appends-none report.bytes;
-  };
+  causes = causes;
 }
 
 -- so a listed capture has run
-pub looped_listed : (settings : Settings) → settings.form ≡ Listed → (old new : Streams) (end : LoopEnd) → Comes (IsOpened GoesOver settings) old new end
-    → HaveCauses end end old new → HasLooped settings old new end
-looped_listed settings is old new end comes causes = record {
+pub looped_listed : (settings : Settings) → settings.form ≡ Listed → (old new : Streams) (end : LoopEnd) → HasEnded (IsOpened GoesOver settings) old new end
+    → HasLooped settings old new end
+looped_listed settings is old new end ended = record {
   lawful = ap (λ form. breaks_in form settings) is;
-  comes = subst (λ form. Comes (Opens form GoesOver settings) old new end) (sym is) comes;
-  causes = causes;
+  loop = subst (λ form. HasEnded (Opens form GoesOver settings) old new end) (sym is) ended;
 }

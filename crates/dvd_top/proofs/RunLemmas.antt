@@ -32,7 +32,7 @@ report_or_not (BadMarks k at) = inr (λ is. cc, λ old new stays. stays)
 report_or_not (ShortHeader held) = inr (λ is. cc, λ old new stays. stays)
 report_or_not (BadHeader at) = inr (λ is. cc, λ old new stays. stays)
 
-module _ (settings : Settings) (old : Streams) (source output mid_report new_report : Seen) (within end : LoopEnd) (loop : HasLooped settings old (streams source output mid_report) within)
+module _ (settings : Settings) (old : Streams) (source output mid_report new_report : Seen) (within end : LoopEnd) (looped : HasLooped settings old (streams source output mid_report) within)
     (line : Comes (λ bytes. Closes (closing_line settings.command) within) (streams source output mid_report) (streams source output new_report) end)
     (none : within ≡ ReportFault → new_report ≡ mid_report) (cause : within ≢ ReportFault
     → Counts (is_report_fault end) mid_report.faults new_report.faults) where
@@ -47,8 +47,8 @@ module _ (settings : Settings) (old : Streams) (source output mid_report new_rep
   report_counts = elim (report_or_not within) [
     | inl is ↦ subst (λ e. Counts (is_report_fault e) old.report.faults new_report.faults) (sym (end_is is))
         (subst (λ (s : Seen). Counts (is_report_fault ReportFault) old.report.faults s.faults) (sym (none is))
-        (subst (λ w. Counts (is_report_fault w) old.report.faults mid_report.faults) is loop.causes.report))
-    | inr (not, stays) ↦ subst (λ n. Counts (is_report_fault end) n new_report.faults) (stays old.report.faults mid_report.faults loop.causes.report) (cause not)
+        (subst (λ w. Counts (is_report_fault w) old.report.faults mid_report.faults) is looped.loop.causes.report))
+    | inr (not, stays) ↦ subst (λ n. Counts (is_report_fault end) n new_report.faults) (stays old.report.faults mid_report.faults looped.loop.causes.report) (cause not)
   ]
 
   -- so the loop and its closing line are a run, with the status of its end
@@ -59,8 +59,8 @@ module _ (settings : Settings) (old : Streams) (source output mid_report new_rep
     end = end;
     comes = comes_then (IsLoop settings) (Closes (closing_line settings.command) within) (IsRun settings within) old (streams source output mid_report) (streams source output new_report) within end
         (λ bytes loop line loops ends closes none. closed (closing_line settings.command) (IsLoop settings bytes) within loop line loops ends closes)
-        (closes_takes (closing_line settings.command) within) loop.comes line;
+        (closes_takes (closing_line settings.command) within) looped.loop.comes line;
     same_end = same;
-    causes = causes_closed within end old (streams source output mid_report) (streams source output new_report) loop.causes refl refl report_counts;
+    causes = causes_closed within end old (streams source output mid_report) (streams source output new_report) looped.loop.causes refl refl report_counts;
     is_status = is_status;
   }

@@ -14,7 +14,7 @@ use Rattle.dvd_loop.specs.Machine.Step.{Tell, Write}
 use Rattle.dvd_loop.specs.declared.ends.Turn.{Turn}
 use Rattle.dvd_loop.specs.declared.ends.Turn.TheVariants.{Bad, Good}
 use Rattle.dvd_top.specs.Commands.Info.{IsNoAnswer}
-use Rattle.dvd_loop.specs.Streams.{Comes, HaveCauses, IsTold, Streams}
+use Rattle.dvd_loop.specs.Streams.{HasEnded, IsTold, Streams}
 use Rattle.dvd_loop.specs.declared.ends.LoopEnd.{LoopEnd}
 use Rattle.dvd_loop.specs.declared.ends.LoopEnd.TheVariants.{ReadFault, Short}
 use Rattle.dvd_merge.specs.Join.{Table, joined}
@@ -41,8 +41,7 @@ use Rattle.dvd_top.specs.declared.status.Refusal.TheVariants.{Setting, NoMemory}
 -- its layout is lawful, and its loop ended so
 pub record HasLooped (settings : Settings) (old new : Streams) (end : LoopEnd) : Type 0 where
   pub lawful : breaks settings ≡ None
-  pub comes : Comes (IsLoop settings) old new end
-  pub causes : HaveCauses end end old new
+  pub loop : HasEnded (IsLoop settings) old new end
 
 -- why it doesn't begin: its layout breaks a rule, or there is no memory for its buffers
 abbrev pub IsRefusal : Settings → Refusal → Type 0
@@ -57,8 +56,7 @@ IsPerformed settings old new (Err refusal) = IsRefusal settings refusal
 -- The same of a command by its words alone, which no header comes before.
 pub record HasGoneOver (settings : Settings) (old new : Streams) (end : LoopEnd) : Type 0 where
   pub lawful : (meaning settings.command).breaks settings ≡ None
-  pub comes : Comes (GoesOver settings) old new end
-  pub causes : HaveCauses end end old new
+  pub loop : HasEnded (GoesOver settings) old new end
 
 -- why it doesn't begin, by the rules of its command alone
 abbrev pub IsRefusalOfWords : Settings → Refusal → Type 0

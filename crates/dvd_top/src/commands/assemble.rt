@@ -13,7 +13,7 @@ ghost use Rattle.dvd_layout.specs.Plan.{plan_of};
 ghost use Rattle.dvd_layout.specs.declared.layout.Layout.{Layout as DiskLayout};
 ghost use Rattle.dvd_layout.specs.declared.layout.Zones.TheVariants.{DataOnly};
 ghost use Rattle.dvd_loop.specs.Machine.{IsOutcome};
-ghost use Rattle.dvd_loop.specs.Streams.{streams, Comes, HaveCauses};
+ghost use Rattle.dvd_loop.specs.Streams.{streams, HasEnded};
 ghost use Rattle.dvd_loop.specs.Turns.{EndsShort, HaveCausesFor};
 ghost use Rattle.dvd_merge.specs.Join.{unseen};
 ghost use Rattle.dvd_ports.specs.Causes.{HasCause};
@@ -105,12 +105,9 @@ pub fn assemble_loop<S: Source, K: Sink, E: Sink>(
     requires layout { IsLayoutOf settings.now layout.now }
     requires form { HasSize settings.now.form }
     requires unseen { tables_of shelf.old ≡ replicate (length (plan_of layout.now DataOnly)) unseen }
-    ensures follows { Comes (IsOutcome (assemble_units layout.now settings.now.form settings.now.frames))
+    ensures follows { HasEnded (IsOutcome (assemble_units layout.now settings.now.form settings.now.frames))
         (streams (S.seen src.old) (K.seen out.old) (E.seen report.old))
         (streams (S.seen src.new) (K.seen out.new) (E.seen report.new)) result }
-    ensures causes { HaveCauses result result
-        (streams (S.seen src.old) (K.seen out.old) (E.seen report.old))
-        (streams (S.seen src.new) (K.seen out.new) (E.seen report.new)) }
     ensures ends { IsAssembleEnd settings.now.frames result }
 {
     let mut assembling = Assembling {

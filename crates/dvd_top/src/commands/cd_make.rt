@@ -2,7 +2,7 @@
 ghost use Rattle.std.specs.Prelude.{◌≡◌, ◌+◌, ◌≤◌, ℕ, refl};
 ghost use Rattle.dvd_loop.specs.Laws.{IsPlainEnd};
 ghost use Rattle.dvd_loop.specs.Machine.{IsOutcome};
-ghost use Rattle.dvd_loop.specs.Streams.{streams, Comes, HaveCauses, no_stream};
+ghost use Rattle.dvd_loop.specs.Streams.{streams, HasEnded, no_stream};
 ghost use Rattle.dvd_top.specs.Commands.CdMake.{HasAddresses, cdmake_units};
 
 use cd_sector::make;
@@ -50,10 +50,8 @@ impl LoneTurns for CdMake {
 /// Makes the CD-ROM sectors of `sectors` sectors of user data, from `address` on.
 pub fn cdmake_loop<S: Source, K: Sink>(settings: &Settings, src: &mut S, out: &mut K) -> LoopEnd
     requires { HasAddresses settings.now }
-    ensures follows { Comes (IsOutcome (cdmake_units settings.now.address settings.now.sectors))
+    ensures follows { HasEnded (IsOutcome (cdmake_units settings.now.address settings.now.sectors))
         (streams (S.seen src.old) (K.seen out.old) no_stream) (streams (S.seen src.new) (K.seen out.new) no_stream) result }
-    ensures causes { HaveCauses result result
-        (streams (S.seen src.old) (K.seen out.old) no_stream) (streams (S.seen src.new) (K.seen out.new) no_stream) }
     ensures ends { IsPlainEnd settings.now.sectors result }
 {
     run_cdmake(settings, src, out, &mut NullSink::new())
@@ -67,12 +65,9 @@ pub(crate) fn run_cdmake<S: Source, K: Sink, E: Sink>(
     report: &mut E,
 ) -> LoopEnd
     requires { HasAddresses settings.now }
-    ensures follows { Comes (IsOutcome (cdmake_units settings.now.address settings.now.sectors))
+    ensures { HasEnded (IsOutcome (cdmake_units settings.now.address settings.now.sectors))
         (streams (S.seen src.old) (K.seen out.old) (E.seen report.old))
         (streams (S.seen src.new) (K.seen out.new) (E.seen report.new)) result }
-    ensures causes { HaveCauses result result
-        (streams (S.seen src.old) (K.seen out.old) (E.seen report.old))
-        (streams (S.seen src.new) (K.seen out.new) (E.seen report.new)) }
 {
     let making = CdMake {
         address: settings.address,

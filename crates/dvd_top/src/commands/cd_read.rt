@@ -2,7 +2,7 @@
 ghost use Rattle.std.specs.Prelude.{◌≡◌, ◌+◌, ◌<◌, ◌≤◌, ℕ, refl};
 ghost use Rattle.dvd_loop.specs.Laws.{IsDamageEnd};
 ghost use Rattle.dvd_loop.specs.Machine.{IsOutcome};
-ghost use Rattle.dvd_loop.specs.Streams.{streams, Comes, HaveCauses};
+ghost use Rattle.dvd_loop.specs.Streams.{streams, HasEnded};
 ghost use Rattle.dvd_loop.specs.Turns.{AreDone, HaveCausesFor};
 ghost use Rattle.dvd_ports.specs.Seen.{Seen};
 ghost use Rattle.dvd_top.specs.Commands.CdMake.{HasAddresses};
@@ -57,12 +57,9 @@ pub fn cdread_loop<S: Source, K: Sink, E: Sink>(
     report: &mut E,
 ) -> LoopEnd
     requires { HasAddresses settings.now }
-    ensures follows { Comes (IsOutcome (cdread_units settings.now.address settings.now.sectors))
+    ensures follows { HasEnded (IsOutcome (cdread_units settings.now.address settings.now.sectors))
         (streams (S.seen src.old) (K.seen out.old) (E.seen report.old))
         (streams (S.seen src.new) (K.seen out.new) (E.seen report.new)) result }
-    ensures causes { HaveCauses result result
-        (streams (S.seen src.old) (K.seen out.old) (E.seen report.old))
-        (streams (S.seen src.new) (K.seen out.new) (E.seen report.new)) }
     ensures ends { IsDamageEnd settings.now.sectors result }
 {
     let reading = CdRead {

@@ -9,7 +9,7 @@ ghost use Rattle.dvd_layout.specs.declared.layout.Layout.{Layout as DiskLayout};
 ghost use Rattle.dvd_layout.specs.declared.layout.Zones.{Zones as WhichZones};
 ghost use Rattle.dvd_loop.specs.Laws.{IsPlainEnd};
 ghost use Rattle.dvd_loop.specs.Machine.{IsOutcome};
-ghost use Rattle.dvd_loop.specs.Streams.{streams, Comes, HaveCauses, no_stream};
+ghost use Rattle.dvd_loop.specs.Streams.{streams, HasEnded, no_stream};
 ghost use Rattle.dvd_top.specs.Commands.Convert.{OfConverted, convert_units};
 ghost use Rattle.dvd_top.specs.Inner.Performing.{IsPerformedByWords};
 ghost use Rattle.dvd_words.specs.Settings.{IsLayoutOf};
@@ -87,10 +87,8 @@ pub fn convert_loop<S: Source, K: Sink>(
 ) -> LoopEnd
     requires layout { IsLayoutOf settings.now layout.now }
     requires form { HasSize settings.now.form }
-    ensures follows { Comes (λ bytes outcome. OfConverted settings.now layout.now (λ units. IsOutcome units bytes outcome))
+    ensures follows { HasEnded (λ bytes outcome. OfConverted settings.now layout.now (λ units. IsOutcome units bytes outcome))
         (streams (S.seen src.old) (K.seen out.old) no_stream) (streams (S.seen src.new) (K.seen out.new) no_stream) result }
-    ensures causes { HaveCauses result result
-        (streams (S.seen src.old) (K.seen out.old) no_stream) (streams (S.seen src.new) (K.seen out.new) no_stream) }
     ensures ends { IsPlainEnd (length (plan_of layout.now settings.now.zones)) result }
 {
     convert_stream(settings, layout, work, src, out, &mut NullSink::new())
@@ -106,12 +104,9 @@ fn convert_stream<S: Source, K: Sink, E: Sink>(
     report: &mut E,
 ) -> LoopEnd
     requires { IsLayoutOf settings.now layout.now }
-    ensures follows { Comes (λ bytes outcome. OfConverted settings.now layout.now (λ units. IsOutcome units bytes outcome))
+    ensures { HasEnded (λ bytes outcome. OfConverted settings.now layout.now (λ units. IsOutcome units bytes outcome))
         (streams (S.seen src.old) (K.seen out.old) (E.seen report.old))
         (streams (S.seen src.new) (K.seen out.new) (E.seen report.new)) result }
-    ensures causes { HaveCauses result result
-        (streams (S.seen src.old) (K.seen out.old) (E.seen report.old))
-        (streams (S.seen src.new) (K.seen out.new) (E.seen report.new)) }
 {
     let mut converting = Converting {
         layout: *layout,

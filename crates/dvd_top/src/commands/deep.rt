@@ -11,7 +11,7 @@ ghost use Rattle.dvd_layout.specs.Plan.{plan_of};
 ghost use Rattle.dvd_layout.specs.declared.layout.Layout.{Layout as DiskLayout};
 ghost use Rattle.dvd_layout.specs.declared.layout.Zones.{Zones as WhichZones};
 ghost use Rattle.dvd_loop.specs.Machine.{IsOutcome};
-ghost use Rattle.dvd_loop.specs.Streams.{streams, Comes, HaveCauses};
+ghost use Rattle.dvd_loop.specs.Streams.{streams, HasEnded};
 ghost use Rattle.dvd_loop.specs.Turns.{AreDone, HaveCausesFor};
 ghost use Rattle.dvd_loop.specs.declared.ends.Turn.TheVariants.{Good};
 ghost use Rattle.dvd_read.specs.Reading.{block_cause};
@@ -95,12 +95,9 @@ pub fn deep_loop<S: Source, K: Sink, E: Sink>(
     report: &mut E,
 ) -> LoopEnd
     requires layout { IsLayoutOf settings.now layout.now }
-    ensures follows { Comes (IsOutcome (deep_units layout.now settings.now.zones settings.now.form))
+    ensures follows { HasEnded (IsOutcome (deep_units layout.now settings.now.zones settings.now.form))
         (streams (S.seen src.old) (K.seen out.old) (E.seen report.old))
         (streams (S.seen src.new) (K.seen out.new) (E.seen report.new)) result }
-    ensures causes { HaveCauses result result
-        (streams (S.seen src.old) (K.seen out.old) (E.seen report.old))
-        (streams (S.seen src.new) (K.seen out.new) (E.seen report.new)) }
     ensures ends { IsCaptureEnd settings.now.form (length (plan_of layout.now settings.now.zones)) result }
 {
     let turns = Deepening {
@@ -151,12 +148,9 @@ fn deep_listed<S: Source, K: Sink, E: Sink>(
     report: &mut E,
 ) -> LoopEnd
     requires { settings.now.command ≡ Command.Deep }
-    ensures opens { Comes (IsOpened GoesOver settings.now)
+    ensures { HasEnded (IsOpened GoesOver settings.now)
         (streams (S.seen src.old) (K.seen out.old) (E.seen report.old))
         (streams (S.seen src.new) (K.seen out.new) (E.seen report.new)) result }
-    ensures causes { HaveCauses result result
-        (streams (S.seen src.old) (K.seen out.old) (E.seen report.old))
-        (streams (S.seen src.new) (K.seen out.new) (E.seen report.new)) }
 {
     match open_listed(settings, src) {
         Ok(stated) => deep_loop(

@@ -12,7 +12,7 @@ ghost use Rattle.dvd_layout.specs.Place.{HasNumbers};
 ghost use Rattle.dvd_layout.specs.Plan.{IsEntry};
 ghost use Rattle.dvd_layout.specs.declared.layout.Shape.TheVariants.{Single};
 ghost use Rattle.dvd_loop.specs.Machine.{IsOutcome};
-ghost use Rattle.dvd_loop.specs.Streams.{streams, Comes, HaveCauses, no_stream};
+ghost use Rattle.dvd_loop.specs.Streams.{streams, HasEnded, no_stream};
 ghost use Rattle.dvd_read.specs.Reading.{block_cause, IsReadAs};
 ghost use Rattle.dvd_top.specs.Commands.Exercise.{IsLeft, drawn_sector, drawn_sectors, exercise_line, exercise_units, no_marks, state_at};
 ghost use Rattle.dvd_top.specs.Commands.Master.{frames_of};
@@ -158,10 +158,8 @@ pub fn exercise_loop<R: Threads + Sync, G: Gate, K: Sink>(
     requires some { 1 ≤ settings.now.blocks }
     requires few { settings.now.blocks ≤ 4096 }
     requires workers { (1 ≤ settings.now.workers) × (settings.now.workers ≤ 16) }
-    ensures follows { Comes (IsOutcome (exercise_units settings.now.seed settings.now.blocks))
+    ensures follows { HasEnded (IsOutcome (exercise_units settings.now.seed settings.now.blocks))
         (streams no_stream (K.seen out.old) no_stream) (streams no_stream (K.seen out.new) no_stream) result }
-    ensures causes { HaveCauses result result
-        (streams no_stream (K.seen out.old) no_stream) (streams no_stream (K.seen out.new) no_stream) }
     ensures ends { (result ≡ LoopEnd.Done) ⊎ (result ≡ LoopEnd.WriteFault) }
     ensures left { IsLeft settings.now.seed (settings.now.blocks - 1) work.new }
 {
@@ -193,12 +191,9 @@ fn follow_trials<R: Threads + Sync, G: Gate, S: Source, K: Sink, E: Sink>(
     requires some { 1 ≤ settings.now.blocks }
     requires few { settings.now.blocks ≤ 4096 }
     requires workers { (1 ≤ settings.now.workers) × (settings.now.workers ≤ 16) }
-    ensures follows { Comes (IsOutcome (exercise_units settings.now.seed settings.now.blocks))
+    ensures follows { HasEnded (IsOutcome (exercise_units settings.now.seed settings.now.blocks))
         (streams (S.seen src.old) (K.seen out.old) (E.seen report.old))
         (streams (S.seen src.new) (K.seen out.new) (E.seen report.new)) result }
-    ensures causes { HaveCauses result result
-        (streams (S.seen src.old) (K.seen out.old) (E.seen report.old))
-        (streams (S.seen src.new) (K.seen out.new) (E.seen report.new)) }
     ensures left { IsLeft settings.now.seed (settings.now.blocks - 1) work.new }
 {
     let workers = settings.workers;
@@ -242,12 +237,9 @@ fn follow_by<
     requires reader { IsReader F.Fn read.now }
     requires some { 1 ≤ settings.now.blocks }
     requires few { settings.now.blocks ≤ 4096 }
-    ensures follows { Comes (IsOutcome (exercise_units settings.now.seed settings.now.blocks))
+    ensures follows { HasEnded (IsOutcome (exercise_units settings.now.seed settings.now.blocks))
         (streams (S.seen src.old) (K.seen out.old) (E.seen report.old))
         (streams (S.seen src.new) (K.seen out.new) (E.seen report.new)) result }
-    ensures causes { HaveCauses result result
-        (streams (S.seen src.old) (K.seen out.old) (E.seen report.old))
-        (streams (S.seen src.new) (K.seen out.new) (E.seen report.new)) }
     ensures left { IsLeft settings.now.seed (settings.now.blocks - 1) work.new }
 {
     let mut exercise = Exercise {

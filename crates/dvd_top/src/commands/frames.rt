@@ -2,7 +2,7 @@
 ghost use Rattle.std.specs.Prelude.{◌≡◌, ◌+◌, ◌<◌, ◌≤◌, ◌^◌, ℕ, refl};
 ghost use Rattle.dvd_loop.specs.Laws.{IsPlainEnd};
 ghost use Rattle.dvd_loop.specs.Machine.{IsOutcome};
-ghost use Rattle.dvd_loop.specs.Streams.{streams, Comes, HaveCauses, no_stream};
+ghost use Rattle.dvd_loop.specs.Streams.{streams, HasEnded, no_stream};
 ghost use Rattle.dvd_top.specs.Commands.Frames.{frames_units, sector_frame};
 ghost use Rattle.dvd_top.specs.Commands.Frames.{HasSectors};
 
@@ -51,10 +51,8 @@ impl LoneTurns for Frames {
 /// Makes the frames of `sectors` sectors from `first` on.
 pub fn frames_loop<S: Source, K: Sink>(settings: &Settings, src: &mut S, out: &mut K) -> LoopEnd
     requires { HasSectors settings.now }
-    ensures follows { Comes (IsOutcome (frames_units settings.now.first settings.now.sectors))
+    ensures follows { HasEnded (IsOutcome (frames_units settings.now.first settings.now.sectors))
         (streams (S.seen src.old) (K.seen out.old) no_stream) (streams (S.seen src.new) (K.seen out.new) no_stream) result }
-    ensures causes { HaveCauses result result
-        (streams (S.seen src.old) (K.seen out.old) no_stream) (streams (S.seen src.new) (K.seen out.new) no_stream) }
     ensures ends { IsPlainEnd settings.now.sectors result }
 {
     run_frames(settings, src, out, &mut NullSink::new())
@@ -68,12 +66,9 @@ pub(crate) fn run_frames<S: Source, K: Sink, E: Sink>(
     report: &mut E,
 ) -> LoopEnd
     requires { HasSectors settings.now }
-    ensures follows { Comes (IsOutcome (frames_units settings.now.first settings.now.sectors))
+    ensures { HasEnded (IsOutcome (frames_units settings.now.first settings.now.sectors))
         (streams (S.seen src.old) (K.seen out.old) (E.seen report.old))
         (streams (S.seen src.new) (K.seen out.new) (E.seen report.new)) result }
-    ensures causes { HaveCauses result result
-        (streams (S.seen src.old) (K.seen out.old) (E.seen report.old))
-        (streams (S.seen src.new) (K.seen out.new) (E.seen report.new)) }
 {
     let frames = Frames {
         first: settings.first,

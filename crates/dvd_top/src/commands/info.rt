@@ -7,7 +7,7 @@ ghost use Rattle.dvd_capture.specs.declared.form.Form.{Form as CaptureForm};
 ghost use Rattle.dvd_control.specs.Format.{control_fault, fields_in, fields_of};
 ghost use Rattle.dvd_layout.specs.Place.{HasNumbers};
 ghost use Rattle.dvd_loop.specs.Machine.{IsOutcome};
-ghost use Rattle.dvd_loop.specs.Streams.{streams, Comes, HaveCauses, no_stream};
+ghost use Rattle.dvd_loop.specs.Streams.{streams, HasEnded, no_stream};
 ghost use Rattle.dvd_loop.specs.Turns.{AreDone, HaveCausesFor};
 ghost use Rattle.dvd_ports.specs.Seen.{Seen};
 ghost use Rattle.dvd_top.specs.Captured.{IsSoughtEnd};
@@ -89,10 +89,8 @@ pub fn info_loop<S: Source, K: Sink>(
     out: &mut K,
 ) -> LoopEnd
     requires { settings.now.initial ≤ 12031 }
-    ensures follows { Comes (IsOutcome (info_units settings.now.initial settings.now.form))
+    ensures follows { HasEnded (IsOutcome (info_units settings.now.initial settings.now.form))
         (streams (S.seen src.old) (K.seen out.old) no_stream) (streams (S.seen src.new) (K.seen out.new) no_stream) result }
-    ensures causes { HaveCauses result result
-        (streams (S.seen src.old) (K.seen out.old) no_stream) (streams (S.seen src.new) (K.seen out.new) no_stream) }
     ensures ends { IsSoughtEnd settings.now.form (settings.now.initial + 224) result }
 {
     seek_format(settings, work, src, out, &mut NullSink::new())
@@ -107,12 +105,9 @@ fn seek_format<S: Source, K: Sink, E: Sink>(
     report: &mut E,
 ) -> LoopEnd
     requires { settings.now.initial ≤ 12031 }
-    ensures follows { Comes (IsOutcome (info_units settings.now.initial settings.now.form))
+    ensures { HasEnded (IsOutcome (info_units settings.now.initial settings.now.form))
         (streams (S.seen src.old) (K.seen out.old) (E.seen report.old))
         (streams (S.seen src.new) (K.seen out.new) (E.seen report.new)) result }
-    ensures causes { HaveCauses result result
-        (streams (S.seen src.old) (K.seen out.old) (E.seen report.old))
-        (streams (S.seen src.new) (K.seen out.new) (E.seen report.new)) }
 {
     let mut info = Info {
         initial: settings.initial,
@@ -153,12 +148,9 @@ fn info_listed<S: Source, K: Sink, E: Sink>(
     report: &mut E,
 ) -> LoopEnd
     requires { settings.now.command ≡ Command.Info }
-    ensures opens { Comes (IsOpened GoesOver settings.now)
+    ensures { HasEnded (IsOpened GoesOver settings.now)
         (streams (S.seen src.old) (K.seen out.old) (E.seen report.old))
         (streams (S.seen src.new) (K.seen out.new) (E.seen report.new)) result }
-    ensures causes { HaveCauses result result
-        (streams (S.seen src.old) (K.seen out.old) (E.seen report.old))
-        (streams (S.seen src.new) (K.seen out.new) (E.seen report.new)) }
 {
     match open_listed(settings, src) {
         Ok(stated) => seek_format(&stated.settings, work, src, out, report),

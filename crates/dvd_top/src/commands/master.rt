@@ -11,7 +11,7 @@ ghost use Rattle.dvd_layout.specs.declared.layout.Layout.{Layout as DiskLayout};
 ghost use Rattle.dvd_layout.specs.declared.layout.Zones.{Zones as WhichZones};
 ghost use Rattle.dvd_loop.specs.Laws.{IsPlainEnd};
 ghost use Rattle.dvd_loop.specs.Machine.{IsOutcome};
-ghost use Rattle.dvd_loop.specs.Streams.{streams, Comes, HaveCauses, no_stream};
+ghost use Rattle.dvd_loop.specs.Streams.{streams, HasEnded, no_stream};
 ghost use Rattle.dvd_loop.specs.Turns.{EndsShort, HaveCausesFor};
 ghost use Rattle.dvd_top.specs.Commands.Master.{cpr_in, frame_of, frames_of, image_bytes, main_for, master_units};
 ghost use Rattle.dvd_top.specs.Inner.Performing.{IsPerformedByWords};
@@ -93,10 +93,8 @@ pub fn master_loop<R: Threads + Sync, G: Gate, S: Source, K: Sink>(
 ) -> LoopEnd
     requires layout { IsLayoutOf settings.now layout.now }
     requires workers { (1 ≤ settings.now.workers) × (settings.now.workers ≤ 16) }
-    ensures follows { Comes (IsOutcome (master_units layout.now settings.now.zones settings.now.cpr))
+    ensures follows { HasEnded (IsOutcome (master_units layout.now settings.now.zones settings.now.cpr))
         (streams (S.seen src.old) (K.seen out.old) no_stream) (streams (S.seen src.new) (K.seen out.new) no_stream) result }
-    ensures causes { HaveCauses result result
-        (streams (S.seen src.old) (K.seen out.old) no_stream) (streams (S.seen src.new) (K.seen out.new) no_stream) }
     ensures ends { IsPlainEnd (length (plan_of layout.now settings.now.zones)) result }
 {
     follow_blocks(
@@ -125,12 +123,9 @@ fn follow_blocks<R: Threads + Sync, G: Gate, S: Source, K: Sink, E: Sink>(
     report: &mut E,
 ) -> LoopEnd
     requires { (1 ≤ settings.now.workers) × (settings.now.workers ≤ 16) }
-    ensures follows { Comes (IsOutcome (master_units layout.now settings.now.zones settings.now.cpr))
+    ensures { HasEnded (IsOutcome (master_units layout.now settings.now.zones settings.now.cpr))
         (streams (S.seen src.old) (K.seen out.old) (E.seen report.old))
         (streams (S.seen src.new) (K.seen out.new) (E.seen report.new)) result }
-    ensures causes { HaveCauses result result
-        (streams (S.seen src.old) (K.seen out.old) (E.seen report.old))
-        (streams (S.seen src.new) (K.seen out.new) (E.seen report.new)) }
 {
     let workers = settings.workers;
     let add = |block: &mut Block|

@@ -9,7 +9,7 @@ ghost use Rattle.dvd_layout.specs.declared.layout.Layout.{Layout as DiskLayout};
 ghost use Rattle.dvd_layout.specs.declared.layout.Zones.{Zones as WhichZones};
 ghost use Rattle.dvd_loop.specs.Laws.{IsPlainEnd};
 ghost use Rattle.dvd_loop.specs.Machine.{IsOutcome};
-ghost use Rattle.dvd_loop.specs.Streams.{streams, Comes, HaveCauses, no_stream};
+ghost use Rattle.dvd_loop.specs.Streams.{streams, HasEnded, no_stream};
 ghost use Rattle.dvd_loop.specs.Turns.{EndsShort, HaveCausesFor};
 ghost use Rattle.dvd_merge.specs.Merges.{table_of};
 ghost use Rattle.dvd_ports.specs.Seen.{Seen};
@@ -79,10 +79,8 @@ pub fn merge_loop<S: Source, K: Sink>(
     requires layout { IsLayoutOf settings.now layout.now }
     requires form { HasSize settings.now.form }
     requires captures { settings.now.captures ≤ 16 }
-    ensures follows { Comes (IsOutcome (merge_units layout.now settings.now.zones settings.now.form settings.now.captures))
+    ensures follows { HasEnded (IsOutcome (merge_units layout.now settings.now.zones settings.now.form settings.now.captures))
         (streams (S.seen src.old) (K.seen out.old) no_stream) (streams (S.seen src.new) (K.seen out.new) no_stream) result }
-    ensures causes { HaveCauses result result
-        (streams (S.seen src.old) (K.seen out.old) no_stream) (streams (S.seen src.new) (K.seen out.new) no_stream) }
     ensures ends { IsPlainEnd (length (plan_of layout.now settings.now.zones)) result }
 {
     merge_stream(
@@ -109,12 +107,9 @@ fn merge_stream<S: Source, K: Sink, E: Sink>(
     requires layout { IsLayoutOf settings.now layout.now }
     requires form { HasSize settings.now.form }
     requires captures { settings.now.captures ≤ 16 }
-    ensures follows { Comes (IsOutcome (merge_units layout.now settings.now.zones settings.now.form settings.now.captures))
+    ensures { HasEnded (IsOutcome (merge_units layout.now settings.now.zones settings.now.form settings.now.captures))
         (streams (S.seen src.old) (K.seen out.old) (E.seen report.old))
         (streams (S.seen src.new) (K.seen out.new) (E.seen report.new)) result }
-    ensures causes { HaveCauses result result
-        (streams (S.seen src.old) (K.seen out.old) (E.seen report.old))
-        (streams (S.seen src.new) (K.seen out.new) (E.seen report.new)) }
 {
     let merging = Merging {
         layout: *layout,

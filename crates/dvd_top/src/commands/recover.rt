@@ -10,7 +10,7 @@ ghost use Rattle.dvd_layout.specs.Plan.{plan_of};
 ghost use Rattle.dvd_layout.specs.declared.layout.Layout.{Layout as DiskLayout};
 ghost use Rattle.dvd_layout.specs.declared.layout.Zones.{Zones as WhichZones};
 ghost use Rattle.dvd_loop.specs.Machine.{IsOutcome};
-ghost use Rattle.dvd_loop.specs.Streams.{streams, Comes, HaveCauses};
+ghost use Rattle.dvd_loop.specs.Streams.{streams, HasEnded};
 ghost use Rattle.dvd_loop.specs.Turns.{AreDone, HaveCausesFor};
 ghost use Rattle.dvd_top.specs.Captured.{IsCaptureEnd};
 ghost use Rattle.dvd_top.specs.Headline.{GoesOver};
@@ -86,12 +86,9 @@ pub fn recover_loop<R: Threads + Sync, G: Gate, S: Source, K: Sink, E: Sink>(
 ) -> LoopEnd
     requires layout { IsLayoutOf settings.now layout.now }
     requires workers { (1 ≤ settings.now.workers) × (settings.now.workers ≤ 16) }
-    ensures follows { Comes (IsOutcome (recover_units layout.now settings.now.zones settings.now.form))
+    ensures follows { HasEnded (IsOutcome (recover_units layout.now settings.now.zones settings.now.form))
         (streams (S.seen src.old) (K.seen out.old) (E.seen report.old))
         (streams (S.seen src.new) (K.seen out.new) (E.seen report.new)) result }
-    ensures causes { HaveCauses result result
-        (streams (S.seen src.old) (K.seen out.old) (E.seen report.old))
-        (streams (S.seen src.new) (K.seen out.new) (E.seen report.new)) }
     ensures ends { IsCaptureEnd settings.now.form (length (plan_of layout.now settings.now.zones)) result }
 {
     let workers = settings.workers;
@@ -151,12 +148,9 @@ fn recover_listed<R: Threads + Sync, G: Gate, S: Source, K: Sink, E: Sink>(
 ) -> LoopEnd
     requires command { settings.now.command ≡ Command.Recover }
     requires workers { (1 ≤ settings.now.workers) × (settings.now.workers ≤ 16) }
-    ensures opens { Comes (IsOpened GoesOver settings.now)
+    ensures { HasEnded (IsOpened GoesOver settings.now)
         (streams (S.seen src.old) (K.seen out.old) (E.seen report.old))
         (streams (S.seen src.new) (K.seen out.new) (E.seen report.new)) result }
-    ensures causes { HaveCauses result result
-        (streams (S.seen src.old) (K.seen out.old) (E.seen report.old))
-        (streams (S.seen src.new) (K.seen out.new) (E.seen report.new)) }
 {
     match open_listed(settings, src) {
         Ok(stated) => recover_loop(

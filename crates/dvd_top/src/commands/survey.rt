@@ -10,7 +10,7 @@ ghost use Rattle.dvd_layout.specs.Plan.{plan_of};
 ghost use Rattle.dvd_layout.specs.declared.layout.Layout.{Layout as DiskLayout};
 ghost use Rattle.dvd_layout.specs.declared.layout.Zones.{Zones as WhichZones};
 ghost use Rattle.dvd_loop.specs.Machine.{IsOutcome};
-ghost use Rattle.dvd_loop.specs.Streams.{streams, Comes, HaveCauses, no_stream};
+ghost use Rattle.dvd_loop.specs.Streams.{streams, HasEnded, no_stream};
 ghost use Rattle.dvd_loop.specs.Turns.{AreDone, HaveCausesFor};
 ghost use Rattle.dvd_ports.specs.Seen.{Seen};
 ghost use Rattle.dvd_report.specs.Survey.{StandsFor, surveyed};
@@ -104,10 +104,8 @@ pub fn survey_loop<R: Threads + Sync, G: Gate, S: Source, K: Sink>(
     requires layout { IsLayoutOf settings.now layout.now }
     requires workers { (1 ≤ settings.now.workers) × (settings.now.workers ≤ 16) }
     requires empty { StandsFor survey.old [] }
-    ensures follows { Comes (IsOutcome (survey_units layout.now settings.now.zones settings.now.form))
+    ensures follows { HasEnded (IsOutcome (survey_units layout.now settings.now.zones settings.now.form))
         (streams (S.seen src.old) (K.seen out.old) no_stream) (streams (S.seen src.new) (K.seen out.new) no_stream) result }
-    ensures causes { HaveCauses result result
-        (streams (S.seen src.old) (K.seen out.old) no_stream) (streams (S.seen src.new) (K.seen out.new) no_stream) }
     ensures ends { IsCaptureEnd settings.now.form (length (plan_of layout.now settings.now.zones)) result }
 {
     survey_stream(
@@ -138,12 +136,9 @@ fn survey_stream<R: Threads + Sync, G: Gate, S: Source, K: Sink, E: Sink>(
     requires layout { IsLayoutOf settings.now layout.now }
     requires workers { (1 ≤ settings.now.workers) × (settings.now.workers ≤ 16) }
     requires empty { StandsFor survey.old [] }
-    ensures follows { Comes (IsOutcome (survey_units layout.now settings.now.zones settings.now.form))
+    ensures { HasEnded (IsOutcome (survey_units layout.now settings.now.zones settings.now.form))
         (streams (S.seen src.old) (K.seen out.old) (E.seen report.old))
         (streams (S.seen src.new) (K.seen out.new) (E.seen report.new)) result }
-    ensures causes { HaveCauses result result
-        (streams (S.seen src.old) (K.seen out.old) (E.seen report.old))
-        (streams (S.seen src.new) (K.seen out.new) (E.seen report.new)) }
 {
     let workers = settings.workers;
     let read = |work: &mut Work, plan: &BlockPlan| -> Result<Fixed, Cause>
@@ -171,12 +166,9 @@ fn survey_by<'a, F: Fn(&mut Work, &BlockPlan) -> Result<Fixed, Cause>, S: Source
 ) -> LoopEnd
     requires reader { IsReader F.Fn read.now }
     requires empty { StandsFor survey.old [] }
-    ensures follows { Comes (IsOutcome (survey_units layout.now settings.now.zones settings.now.form))
+    ensures { HasEnded (IsOutcome (survey_units layout.now settings.now.zones settings.now.form))
         (streams (S.seen src.old) (K.seen out.old) (E.seen report.old))
         (streams (S.seen src.new) (K.seen out.new) (E.seen report.new)) result }
-    ensures causes { HaveCauses result result
-        (streams (S.seen src.old) (K.seen out.old) (E.seen report.old))
-        (streams (S.seen src.new) (K.seen out.new) (E.seen report.new)) }
 {
     let mut surveying = Surveying {
         layout: *layout,
@@ -239,12 +231,9 @@ fn survey_listed<R: Threads + Sync, G: Gate, S: Source, K: Sink, E: Sink>(
     requires command { settings.now.command ≡ Command.Survey }
     requires workers { (1 ≤ settings.now.workers) × (settings.now.workers ≤ 16) }
     requires empty { StandsFor survey.old [] }
-    ensures opens { Comes (IsOpened GoesOver settings.now)
+    ensures { HasEnded (IsOpened GoesOver settings.now)
         (streams (S.seen src.old) (K.seen out.old) (E.seen report.old))
         (streams (S.seen src.new) (K.seen out.new) (E.seen report.new)) result }
-    ensures causes { HaveCauses result result
-        (streams (S.seen src.old) (K.seen out.old) (E.seen report.old))
-        (streams (S.seen src.new) (K.seen out.new) (E.seen report.new)) }
 {
     match open_listed(settings, src) {
         Ok(stated) => survey_stream(

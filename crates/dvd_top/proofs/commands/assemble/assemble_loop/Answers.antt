@@ -7,5 +7,5 @@ follow-requires g c = none_settled c.args.layout.now c.args.settings.now.form (t
 
 pub returns-clause-ends : goal.returns-clause-ends
 returns-clause-ends g c =
-    let f = c.follow.ensures.follows in
+    let f = c.follow.ensures.follows.comes in
     assemble_end c.args.layout.now c.args.settings.now.form c.args.settings.now.frames f.bytes f.outcome f.holds c.follow.result f.ends

@@ -10,7 +10,7 @@ returns-clause-performed g c =
     let settings = c.args.settings.now in
     let layout = c.in_ok-layout.layout in
     gone_over Assemble settings c.requires.command (c.in_ok-layout.ensures.lawful refl) (assemble_units layout settings.form settings.frames) (λ P units. (layout, c.in_ok-layout.ensures.lengths, units))
-    _ _ c.assemble_loop.result c.assemble_loop.ensures.follows c.assemble_loop.ensures.causes
+    _ _ c.assemble_loop.result c.assemble_loop.ensures.follows
 
 pub overflow_cast-blocks : goal.overflow_cast-blocks
 overflow_cast-blocks g c =

@@ -5,5 +5,5 @@ use Rattle.dvd_top.proofs.commands.cd_read.cdread_loop.Goals as goal
 
 pub returns-clause-ends : goal.returns-clause-ends
 returns-clause-ends g c =
-    let f = c.follow_lone.ensures.follows in
+    let f = c.follow_lone.ensures.comes in
     damage_end (cdread_units c.args.settings.now.address c.args.settings.now.sectors) (λ k. 2352) (λ k own. refl) refl f.bytes f.outcome f.holds c.follow_lone.result f.ends

@@ -7,7 +7,7 @@ use Rattle.dvd_top.proofs.commands.convert.convert_loop.Goals as goal
 
 pub returns-clause-ends : goal.returns-clause-ends
 returns-clause-ends g c =
-    let f = c.convert_stream.ensures.follows in
+    let f = c.convert_stream.ensures.comes in
     let settings = c.args.settings.now in
     plain_end (convert_units c.args.layout.now settings.zones settings.form f.holds.0) (λ k. block_size settings.form) (λ k own. sized_part settings.form c.requires.form own) refl f.bytes f.outcome f.holds.2
     (λ k before own steps does. let no = does.good in cc) c.convert_stream.result f.ends (never_told c.convert_stream.result c.convert_stream.ensures.causes.report)

@@ -1,6 +1,6 @@
 use Rattle.std.proofs.Common.{◌≡◌, None, refl, sym, subst}
 use Rattle.dvd_loop.specs.Machine.{IsOutcome}
-use Rattle.dvd_loop.proofs.StreamLemmas.{comes_as}
+use Rattle.dvd_loop.proofs.StreamLemmas.{ended_as}
 use Rattle.dvd_top.specs.Commands.{meaning}
 use Rattle.dvd_top.specs.Commands.Convert.{OfConverted}
 use Rattle.dvd_top.specs.Headline.{GoesOver}
@@ -11,8 +11,7 @@ returns-clause-performed g c =
     let settings = c.args.settings.now in
     let layout = c.in_ok-layout.layout in record {
       lawful = subst (λ command. (meaning command).breaks settings ≡ None) (sym c.requires) (c.in_ok-layout.ensures.lawful refl);
-      comes = comes_as (λ bytes outcome. OfConverted settings layout (λ units. IsOutcome units bytes outcome)) (GoesOver settings) _ _ c.convert_stream.result
+      loop = ended_as (λ bytes outcome. OfConverted settings layout (λ units. IsOutcome units bytes outcome)) (GoesOver settings) _ _ c.convert_stream.result
           (λ bytes outcome runs. subst (λ command. (meaning command).OfUnits settings (λ units. IsOutcome units bytes outcome)) (sym c.requires) (layout, c.in_ok-layout.ensures.lengths, runs))
-          c.convert_stream.ensures.follows;
-      causes = c.convert_stream.ensures.causes;
+          c.convert_stream.ensures;
     }

@@ -11,9 +11,9 @@ returns-in-Some-clause-performed g c =
     let worded = subst (IsWorded settings) c.in-Some.is c.in_ok-worded.ensures.worded in
     looped_by_words settings worded.0 _ _ c.deep_loop.result
     (gone_over Deep settings c.requires worded.2 (deep_units c.in-Some.layout settings.zones settings.form) (λ P units. (c.in-Some.layout, worded.1, units))
-    _ _ c.deep_loop.result c.deep_loop.ensures.follows c.deep_loop.ensures.causes)
+    _ _ c.deep_loop.result c.deep_loop.ensures.follows)
 
 pub returns-clause-performed : goal.returns-clause-performed
 returns-clause-performed g c =
     let settings = c.args.settings.now in
-    looped_listed settings (subst (IsWorded settings) c.in-None.is c.in_ok-worded.ensures.worded) _ _ c.deep_listed.result c.deep_listed.ensures.opens c.deep_listed.ensures.causes
+    looped_listed settings (subst (IsWorded settings) c.in-None.is c.in_ok-worded.ensures.worded) _ _ c.deep_listed.result c.deep_listed.ensures

@@ -8,4 +8,4 @@ pub returns-clause-performed : goal.returns-clause-performed
 returns-clause-performed g c =
     let settings = c.args.settings.now in
     gone_over Exercise settings c.requires.command refl (exercise_units settings.seed settings.blocks) (λ P units. units)
-    _ _ c.follow_trials.result c.follow_trials.ensures.follows c.follow_trials.ensures.causes
+    _ _ c.follow_trials.result c.follow_trials.ensures.follows

@@ -11,9 +11,9 @@ returns-in-Some-clause-performed g c =
     let worded = subst (IsWordedInitial settings) c.in-Some.is c.in_ok-worded.ensures.worded in
     looped_by_words settings worded.0 _ _ c.seek_format.result
     (gone_over Info settings c.requires worded.2 (info_units settings.initial settings.form) (λ P units. units)
-    _ _ c.seek_format.result c.seek_format.ensures.follows c.seek_format.ensures.causes)
+    _ _ c.seek_format.result c.seek_format.ensures)
 
 pub returns-clause-performed : goal.returns-clause-performed
 returns-clause-performed g c =
     let settings = c.args.settings.now in
-    looped_listed settings (subst (IsWordedInitial settings) c.in-None.is c.in_ok-worded.ensures.worded) _ _ c.info_listed.result c.info_listed.ensures.opens c.info_listed.ensures.causes
+    looped_listed settings (subst (IsWordedInitial settings) c.in-None.is c.in_ok-worded.ensures.worded) _ _ c.info_listed.result c.info_listed.ensures

@@ -9,4 +9,4 @@ returns-clause-performed g c =
     let settings = c.args.settings.now in
     let layout = c.in_ok-layout.layout in
     gone_over Master settings c.requires.command (c.in_ok-layout.ensures.lawful refl) (master_units layout settings.zones settings.cpr) (λ P units. (layout, c.in_ok-layout.ensures.lengths, units))
-    _ _ c.follow_blocks.result c.follow_blocks.ensures.follows c.follow_blocks.ensures.causes
+    _ _ c.follow_blocks.result c.follow_blocks.ensures

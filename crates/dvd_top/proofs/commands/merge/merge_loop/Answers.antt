@@ -6,7 +6,7 @@ use Rattle.dvd_top.proofs.commands.merge.merge_loop.Goals as goal
 
 pub returns-clause-ends : goal.returns-clause-ends
 returns-clause-ends g c =
-    let f = c.merge_stream.ensures.follows in
+    let f = c.merge_stream.ensures.comes in
     let settings = c.args.settings.now in
     plain_end (merge_units c.args.layout.now settings.zones settings.form settings.captures) (λ k. settings.captures * block_size settings.form) (λ k own. refl) refl f.bytes f.outcome f.holds
     (λ k before own steps does. let no = does.1 in cc) c.merge_stream.result f.ends (never_told c.merge_stream.result c.merge_stream.ensures.causes.report)

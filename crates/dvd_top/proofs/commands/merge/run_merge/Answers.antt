@@ -9,4 +9,4 @@ returns-clause-performed g c =
     let settings = c.args.settings.now in
     let layout = c.in_ok-layout.layout in
     gone_over Merge settings c.requires.command (c.in_ok-layout.ensures.lawful refl) (merge_units layout settings.zones settings.form settings.captures) (λ P units. (layout, c.in_ok-layout.ensures.lengths, units))
-    _ _ c.merge_stream.result c.merge_stream.ensures.follows c.merge_stream.ensures.causes
+    _ _ c.merge_stream.result c.merge_stream.ensures

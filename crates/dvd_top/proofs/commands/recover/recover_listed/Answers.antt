@@ -1,24 +1,16 @@
-use Rattle.dvd_loop.proofs.StreamLemmas.{causes_first}
 use Rattle.dvd_top.specs.Commands.Recover.{recover_units}
 use Rattle.dvd_top.specs.Headline.{GoesOver}
 use Rattle.dvd_words.specs.declared.settings.Command.TheVariants.{Recover}
 use Rattle.dvd_top.proofs.HeaderTaken.{opened_ended, opened_over}
 use Rattle.dvd_top.proofs.commands.recover.recover_listed.Goals as goal
 
-pub returns-in-Ok-clause-opens : goal.returns-in-Ok-clause-opens
-returns-in-Ok-clause-opens g c =
+pub returns-in-Ok : goal.returns-in-Ok
+returns-in-Ok g c =
     let stated = c.in-Ok.stated.settings in
     let layout = c.in-Ok.stated.layout in
-    let opened = c.in-Ok.ensures.opened in
-    opened_over Recover c.args.settings.now stated layout c.requires.command _ _ _ _ _ _ opened
-    (recover_units layout stated.zones stated.form) (λ P units. (layout, opened.lengths, units)) c.recover_loop.ensures.follows
+    let e = c.in-Ok.ensures in
+    opened_over Recover c.args.settings.now stated layout c.requires.command _ _ _ _ _ _ e.opened (e.causes _ _)
+    (recover_units layout stated.zones stated.form) (λ P units. (layout, e.opened.lengths, units)) c.recover_loop.ensures.follows
 
-pub returns-in-Ok-clause-causes : goal.returns-in-Ok-clause-causes
-returns-in-Ok-clause-causes g c =
-    causes_first _ _ _ c.recover_loop.result c.recover_loop.result (c.in-Ok.ensures.causes (g.K.Sink.seen c.args.out.now) (g.E.Sink.seen c.args.report.now)) c.recover_loop.ensures.causes
-
-pub returns-in-Err-clause-opens : goal.returns-in-Err-clause-opens
-returns-in-Err-clause-opens g c = opened_ended GoesOver c.args.settings.now _ _ _ _ c.in-Err.end c.in-Err.ensures.ended
-
-pub returns-in-Err-clause-causes : goal.returns-in-Err-clause-causes
-returns-in-Err-clause-causes g c = c.in-Err.ensures.causes (g.K.Sink.seen c.args.out.now) (g.E.Sink.seen c.args.report.now)
+pub returns-in-Err : goal.returns-in-Err
+returns-in-Err g c = opened_ended GoesOver c.args.settings.now _ _ _ _ c.in-Err.end c.in-Err.ensures.ended (c.in-Err.ensures.causes _ _)

@@ -11,9 +11,9 @@ returns-in-Some-clause-performed g c =
     let worded = subst (IsWorded settings) c.in-Some.is c.in_ok-worded.ensures.worded in
     looped_by_words settings worded.0 _ _ c.survey_stream.result
     (gone_over Survey settings c.requires.command worded.2 (survey_units c.in-Some.layout settings.zones settings.form) (λ P units. (c.in-Some.layout, worded.1, units))
-    _ _ c.survey_stream.result c.survey_stream.ensures.follows c.survey_stream.ensures.causes)
+    _ _ c.survey_stream.result c.survey_stream.ensures)
 
 pub returns-clause-performed : goal.returns-clause-performed
 returns-clause-performed g c =
     let settings = c.args.settings.now in
-    looped_listed settings (subst (IsWorded settings) c.in-None.is c.in_ok-worded.ensures.worded) _ _ c.survey_listed.result c.survey_listed.ensures.opens c.survey_listed.ensures.causes
+    looped_listed settings (subst (IsWorded settings) c.in-None.is c.in_ok-worded.ensures.worded) _ _ c.survey_listed.result c.survey_listed.ensures

@@ -5,5 +5,5 @@ use Rattle.dvd_top.proofs.commands.survey.survey_loop.Goals as goal
 
 pub returns-clause-ends : goal.returns-clause-ends
 returns-clause-ends g c =
-    let f = c.survey_stream.ensures.follows in
+    let f = c.survey_stream.ensures.comes in
     capture_end c.args.settings.now.form (survey_units c.args.layout.now c.args.settings.now.zones c.args.settings.now.form) (λ k own. refl) refl f.bytes f.outcome f.holds c.survey_stream.result f.ends
