@@ -1,5 +1,5 @@
 -- What stands behind the last unit, as a loop comes to it.
-use Rattle.std.proofs.Common.{◌≡◌, ◌≢◌, inl, inr, ℕ, ◌<◌, List, [], ◌∷◌, ◌++◌, length, refl, ap, sym, subst, append-nil, arith}
+use Rattle.std.proofs.Common.{◌≡◌, ◌≢◌, inl, inr, ℕ, ◌<◌, List, [], ◌∷◌, ◌++◌, length, refl, ap, sym, subst, arith}
 use Rattle.std.specs.Io.KnownBytes.{Appends, Consumes, IsAtEnd}
 use Rattle.dvd_ports.specs.Seen.{Seen}
 use Rattle.dvd_ports.specs.Whole.{AppendsPrefix}
@@ -11,7 +11,8 @@ use Rattle.dvd_loop.specs.declared.ends.Behind.{Behind}
 use Rattle.dvd_loop.specs.declared.ends.Behind.TheVariants.{Asks}
 use Rattle.dvd_loop.specs.declared.ends.LoopEnd.{LoopEnd}
 use Rattle.dvd_loop.specs.declared.ends.LoopEnd.TheVariants.{BadHeader, BadMarks, Damaged, Done, Long, NoControl, ReadFault, ReportFault, Short, ShortHeader, WriteFault}
-use Rattle.dvd_loop.proofs.StreamLemmas.{Consumes-none, left_of, none_left, stays, told_before}
+use Rattle.dvd_loop.proofs.StreamLemmas.{comes_of_none, left_of, none_left, stays, told_before}
+use Rattle.dvd_loop.proofs.TurnLemmas.{step_told}
 
 -- a list of length 0 is empty
 pub empty : (xs : List ℕ) → length xs ≡ 0 → xs ≡ []
@@ -112,44 +113,19 @@ not_report (BadHeader at) not old new same = same
 
 -- none is tried
 pub closed_none : (closing : LoopEnd → List ℕ) (old : Streams) → Comes (λ bytes. Closes closing ReportFault) old old ReportFault
-closed_none closing old = record {
-  bytes = (left_of old.source.bytes).0;
-  told = (left_of old.source.bytes).1;
-  outcome = ended ReportFault;
-  holds = refl;
-  ends = refl;
-  moved = stays old;
-}
+closed_none closing old = comes_of_none (Closes closing ReportFault) old old (ended ReportFault) refl (stays old)
 
 module _ (closing : LoopEnd → List ℕ) (end : LoopEnd) (not : end ≢ ReportFault) (source output report new_report : Seen) where
   -- the closing line was told: the loop ends as it did before it
   pub closed_line : Appends report.bytes new_report.bytes (closing end)
       → Comes (λ bytes. Closes closing end) (streams source output report) (streams source output new_report) end
-  closed_line tells = record {
-    bytes = (left_of source.bytes).0;
-    told = (left_of source.bytes).1;
-    outcome = stepping (Tell (closing end)) (ended end);
-    holds = closes_as closing end _ not (inr (ended end, refl, refl));
-    ends = refl;
-    moved = record {
-      reads = Consumes-none source.bytes;
-      writes = Appends-none output.bytes;
-      tells = subst (Appends report.bytes new_report.bytes) (sym (append-nil (closing end))) tells;
-    };
-  }
+  closed_line tells =
+      comes_of_none (Closes closing end) (streams source output report) (streams source output new_report) (stepping (Tell (closing end)) (ended end))
+      (closes_as closing end _ not (inr (ended end, refl, refl))) (step_told source output report new_report (closing end) tells)
 
   -- the report failed within the closing line: the loop ends in a fault of the report
   pub closed_fault : AppendsPrefix report.bytes new_report.bytes (closing end)
       → Comes (λ bytes. Closes closing end) (streams source output report) (streams source output new_report) ReportFault
-  closed_fault begun = record {
-    bytes = (left_of source.bytes).0;
-    told = (left_of source.bytes).1;
-    outcome = stepping (Tell begun.taken) (ended ReportFault);
-    holds = closes_as closing end _ not (inl (begun.taken, begun.rest, sym begun.whole, begun.more, refl));
-    ends = refl;
-    moved = record {
-      reads = Consumes-none source.bytes;
-      writes = Appends-none output.bytes;
-      tells = subst (Appends report.bytes new_report.bytes) (sym (append-nil begun.taken)) begun.grows;
-    };
-  }
+  closed_fault begun =
+      comes_of_none (Closes closing end) (streams source output report) (streams source output new_report) (stepping (Tell begun.taken) (ended ReportFault))
+      (closes_as closing end _ not (inl (begun.taken, begun.rest, sym begun.whole, begun.more, refl))) (step_told source output report new_report begun.taken begun.grows)

@@ -42,6 +42,12 @@ pub none_left : (a : Option (List ℕ)) → IsAtEnd a → IsTold a []
 none_left None end = tt
 none_left (Some bytes) end = end
 
+-- An outcome that rests on no bytes of the source.
+pub comes_of_none : (P : Outcome → Type 0) (old new : Streams) (outcome : Outcome) → P outcome → HaveMoved old new outcome.taken outcome.out outcome.lines
+    → Comes (λ bytes. P) old new outcome.end
+comes_of_none P old new outcome holds moved =
+    let left = left_of old.source.bytes in record { bytes = left.0; told = left.1; outcome = outcome; holds = holds; ends = refl; moved = moved }
+
 -- What a loop has come to, where the streams had moved before.
 pub comes_after : (P Q : List ℕ → Outcome → Type 0) (old now new : Streams) (end : LoopEnd) (taken out lines : List ℕ)
     → HaveMoved old now taken out lines

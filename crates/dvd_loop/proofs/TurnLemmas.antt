@@ -8,14 +8,14 @@ use Rattle.dvd_ports.proofs.KnownLemmas.{Appends-none}
 use Rattle.dvd_loop.specs.Machine.{Does, EndsWithin, IsUnit, Step, Units, ended, sized, stepping, taking}
 use Rattle.dvd_loop.specs.Machine.Part.{Cut}
 use Rattle.dvd_loop.specs.Machine.Step.{Write, Tell}
-use Rattle.dvd_loop.specs.Streams.{Comes, HaveCauses, HaveMoved, Streams, streams}
+use Rattle.dvd_loop.specs.Streams.{Comes, HaveCauses, HaveMoved, IsTold, Streams, streams}
 use Rattle.dvd_loop.specs.Turns.{AreDone, AreSteps, EndsAt, EndsShort, HaveCausesFor, IsTurn, Nothing, told, written}
 use Rattle.dvd_loop.specs.declared.ends.LoopEnd.{LoopEnd}
 use Rattle.dvd_loop.specs.declared.ends.LoopEnd.TheVariants.{Done, ReportFault, WriteFault}
 use Rattle.dvd_loop.specs.declared.ends.Turn.{Turn}
 use Rattle.dvd_loop.proofs.Sizes.{sized_fewer, sized_whole}
 use Rattle.dvd_loop.proofs.StepLemmas.{onto}
-use Rattle.dvd_loop.proofs.StreamLemmas.{Consumes-none, causes_first, comes_after, left_of, moves_on, none_left, told_before}
+use Rattle.dvd_loop.proofs.StreamLemmas.{Consumes-none, causes_first, comes_after, comes_of_none, left_of, moves_on, none_left, told_before}
 
 -- an answer that is this error
 pub err_is : {A : Type 0} (answer : Result A LoopEnd) (end : LoopEnd) → IsErrAnd answer (λ e. e ≡ end) → answer ≡ Err end
@@ -23,70 +23,68 @@ err_is (Ok value) end is = absurd is
 err_is (Err e) end is = ap (λ x. Err x) is
 
 module _ (units : Units) (before : List (List ℕ)) where
-  -- the loop ends within the unit
+  -- the loop ends within the unit, after these of its bytes, those being left
+  pub turn_within : (ready : List (List ℕ) → Type 0) (source new_source output report : Seen) (end : LoopEnd) (own left : List ℕ)
+      → Consumes source.bytes new_source.bytes own → IsTold new_source.bytes left
+      → EndsWithin (units.begins (length before) own) (length before) (length own) left end
+      → HaveCauses end end (streams source output report) (streams new_source output report)
+      → IsTurn units before ready (streams source output report) (streams new_source output report) (Err end)
+  turn_within ready source new_source output report end own left reads told ends causes = record {
+    comes = record {
+      bytes = own ++ left;
+      told = told_before source.bytes new_source.bytes own left reads told;
+      outcome = taking own (ended end);
+      holds = inl (record { own = own; left = left; front = refl; ends = ends; takes = refl });
+      ends = refl;
+      moved = record { reads = subst (Consumes source.bytes new_source.bytes) (sym (append-nil own)) reads; writes = Appends-none output.bytes; tells = Appends-none report.bytes };
+    };
+    causes = causes;
+  }
+
+  -- so it does where fewer came than it has
   pub turn_short : (ready : List (List ℕ) → Type 0) (size : ℕ) (source new_source output report : Seen) (end : LoopEnd)
       → ((own : List ℕ) → length own < size → units.begins (length before) own ≡ Cut)
-      → EndsShort (length before) size source new_source end
+      → EndsShort (length before) size source new_source end → HaveCauses end end (streams source output report) (streams new_source output report)
       → IsTurn units before ready (streams source output report) (streams new_source output report) (Err end)
-  turn_short ready size source new_source output report end cut short = elim short.ends [
-    | inl input ↦ record {
-      bytes = short.own ++ [];
-      told = told_before source.bytes new_source.bytes short.own [] short.reads (none_left new_source.bytes input.1);
-      outcome = taking short.own (ended end);
-      holds = inl (record {
-        own = short.own;
-        left = [];
-        front = refl;
-        ends = subst (λ p. EndsWithin p (length before) (length short.own) [] end) (sym (cut short.own short.fewer)) (inl (input.0, refl));
-        takes = refl;
-      });
-      ends = refl;
-      moved = moved;
-    }
-    | inr failed ↦ record {
-      bytes = short.own ++ (left_of new_source.bytes).0;
-      told = told_before source.bytes new_source.bytes short.own (left_of new_source.bytes).0 short.reads (left_of new_source.bytes).1;
-      outcome = taking short.own (ended end);
-      holds = inl (record {
-        own = short.own;
-        left = (left_of new_source.bytes).0;
-        front = refl;
-        ends = subst (λ p. EndsWithin p (length before) (length short.own) (left_of new_source.bytes).0 end) (sym (cut short.own short.fewer)) (inr failed);
-        takes = refl;
-      });
-      ends = refl;
-      moved = moved;
-    }
+  turn_short ready size source new_source output report end cut short causes = elim short.ends [
+    | inl input ↦ within [] (none_left new_source.bytes input.1) (inl (input.0, refl))
+    | inr failed ↦ within (left_of new_source.bytes).0 (left_of new_source.bytes).1 (inr failed)
   ]
     where
-      moved : HaveMoved (streams source output report) (streams new_source output report) (short.own ++ []) [] []
-      moved = record { reads = subst (Consumes source.bytes new_source.bytes) (sym (append-nil short.own)) short.reads; writes = Appends-none output.bytes; tells = Appends-none report.bytes }
+      within : (left : List ℕ) → IsTold new_source.bytes left → EndsWithin Cut (length before) (length short.own) left end
+          → IsTurn units before ready (streams source output report) (streams new_source output report) (Err end)
+      within left told ends =
+          turn_within ready source new_source output report end short.own left short.reads told
+          (subst (λ p. EndsWithin p (length before) (length short.own) left end) (sym (cut short.own short.fewer)) ends) causes
 
   -- the unit was read whole, these steps may be taken for it, and so they were
   pub turn_of : (ready : List (List ℕ) → Type 0) (old now new : Streams) (own : List ℕ) (steps : List Step) (turn : Turn)
-      → IsUnit units before own steps turn → HaveMoved old now own [] [] → ready (before ++ own ∷ [])
-      → (answer : Result Turn LoopEnd) → AreSteps steps now new answer → ((value : Turn) → answer ≡ Ok value → value ≡ turn)
+      → IsUnit units before own steps turn → HaveMoved old now own [] [] → HaveCauses Done Done old now → ready (before ++ own ∷ [])
+      → (answer : Result Turn LoopEnd) → AreSteps steps now new answer → ((value : Turn) → answer ≡ Ok value → value ≡ turn) → HaveCausesFor answer now new
       → IsTurn units before ready old new answer
-  turn_of ready old now new own steps turn unit moved next (Ok value) done same = record {
+  turn_of ready old now new own steps turn unit moved first next (Ok value) done same causes = record {
     own = own;
     steps = steps;
     unit = subst (IsUnit units before own steps) (sym (same value refl)) unit;
     moved = subst (λ l. HaveMoved old new l (written steps) (told steps)) (append-nil own) (moves_on old now new own [] [] [] (written steps) (told steps) moved done);
+    causes = causes_first old now new Done Done first causes;
     next = next;
   }
-  turn_of ready old now new own steps turn unit moved next (Err end) done same =
-      comes_after (λ bytes. Does steps Nothing) (EndsAt units before) old now new end own [] [] moved
-      (λ left after does. inr (record {
-        own = own;
-        left = left;
-        steps = steps;
-        turn = turn;
-        front = refl;
-        unit = unit;
-        after = after;
-        does = does;
-        takes = refl;
-      })) done
+  turn_of ready old now new own steps turn unit moved first next (Err end) done same causes = record {
+    comes = comes_after (λ bytes. Does steps Nothing) (EndsAt units before) old now new end own [] [] moved
+        (λ left after does. inr (record {
+          own = own;
+          left = left;
+          steps = steps;
+          turn = turn;
+          front = refl;
+          unit = unit;
+          after = after;
+          does = does;
+          takes = refl;
+        })) done;
+    causes = causes_first old now new end end first causes;
+  }
 
 module _ (source output new_output report : Seen) where
   -- one write, whole or begun
@@ -101,18 +99,9 @@ module _ (source output new_output report : Seen) where
   -- the output failed within the write: a front of its bytes came, and no step behind it was taken
   pub step_begun : (bytes : List ℕ) (steps : List Step) → AppendsPrefix output.bytes new_output.bytes bytes
       → Comes (λ input. Does (Write bytes ∷ steps) Nothing) (streams source output report) (streams source new_output report) WriteFault
-  step_begun bytes steps begun = record {
-    bytes = (left_of source.bytes).0;
-    told = (left_of source.bytes).1;
-    outcome = stepping (Write begun.taken) (ended WriteFault);
-    holds = inl (begun.taken, begun.rest, sym begun.whole, begun.more, refl);
-    ends = refl;
-    moved = record {
-      reads = Consumes-none source.bytes;
-      writes = subst (Appends output.bytes new_output.bytes) (sym (append-nil begun.taken)) begun.grows;
-      tells = Appends-none report.bytes;
-    };
-  }
+  step_begun bytes steps begun =
+      comes_of_none (Does (Write bytes ∷ steps) Nothing) (streams source output report) (streams source new_output report) (stepping (Write begun.taken) (ended WriteFault))
+      (inl (begun.taken, begun.rest, sym begun.whole, begun.more, refl)) (step_written begun.taken begun.grows)
 
 module _ (source output report new_report : Seen) where
   -- one line, whole or begun
@@ -127,18 +116,9 @@ module _ (source output report new_report : Seen) where
   -- the report failed within the line: a front of it came, and no step behind it was taken
   pub line_begun : (line : List ℕ) (steps : List Step) → AppendsPrefix report.bytes new_report.bytes line
       → Comes (λ input. Does (Tell line ∷ steps) Nothing) (streams source output report) (streams source output new_report) ReportFault
-  line_begun line steps begun = record {
-    bytes = (left_of source.bytes).0;
-    told = (left_of source.bytes).1;
-    outcome = stepping (Tell begun.taken) (ended ReportFault);
-    holds = inl (begun.taken, begun.rest, sym begun.whole, begun.more, refl);
-    ends = refl;
-    moved = record {
-      reads = Consumes-none source.bytes;
-      writes = Appends-none output.bytes;
-      tells = subst (Appends report.bytes new_report.bytes) (sym (append-nil begun.taken)) begun.grows;
-    };
-  }
+  line_begun line steps begun =
+      comes_of_none (Does (Tell line ∷ steps) Nothing) (streams source output report) (streams source output new_report) (stepping (Tell begun.taken) (ended ReportFault))
+      (inl (begun.taken, begun.rest, sym begun.whole, begun.more, refl)) (step_told begun.taken begun.grows)
 
 -- steps behind a line that was told
 pub steps_behind_line : (line : List ℕ) (steps : List Step) (old now new : Streams) {A : Type 0} (answer : Result A LoopEnd)
@@ -149,60 +129,57 @@ steps_behind_line line steps old now new (Err end) told_line done =
     comes_after (λ bytes. Does steps Nothing) (λ bytes. Does (Tell line ∷ steps) Nothing) old now new end [] [] (line ++ []) told_line
     (λ left after does. inr (after, does, ap (λ l. onto [] [] l after) (append-nil line))) done
 
--- no count has moved, and then the output's rose
-pub causes_written : {A : Type 0} (answer : Result A LoopEnd) (old : Streams) (source output new_output report : Seen) → answer ≡ Err WriteFault
-    → HaveCauses Done Done old (streams source output report) → Rose output.faults new_output.faults
-    → HaveCausesFor answer old (streams source new_output report)
-causes_written answer old source output new_output report is first rose =
-    subst (λ a. HaveCausesFor a old (streams source new_output report)) (sym is)
-    (causes_first old (streams source output report) (streams source new_output report) WriteFault WriteFault first (record { source = refl; output = rose; report = refl }))
-
--- no count has moved, and then what the answer says
-pub causes_after : {A : Type 0} (answer : Result A LoopEnd) (old now new : Streams) → HaveCauses Done Done old now → HaveCausesFor answer now new
-    → HaveCausesFor answer old new
-causes_after (Ok value) old now new first next = causes_first old now new Done Done first next
-causes_after (Err end) old now new first next = causes_first old now new end end first next
-
 -- one write is all that is done for a unit that is then this
 module _ (May : List Step → Turn → Type 0) (bytes : List ℕ) (turn : Turn) (may : May (Write bytes ∷ []) turn) (source output new_output report : Seen) where
   -- the write was whole, so all was done for the unit
-  pub write_done : Appends output.bytes new_output.bytes bytes
+  pub write_done : Appends output.bytes new_output.bytes bytes → new_output.faults ≡ output.faults
       → AreDone May (streams source output report) (streams source new_output report) (Ok turn)
-  write_done writes = record { steps = Write bytes ∷ []; turn = turn; may = may; done = step_written source output new_output report bytes writes; is = λ value is. cc }
-
-  -- the output failed within the write, which ends the loop
-  pub write_begun : (answer : Result Turn LoopEnd) → answer ≡ Err WriteFault → AppendsPrefix output.bytes new_output.bytes bytes
-      → AreDone May (streams source output report) (streams source new_output report) answer
-  write_begun answer is begun = record {
+  write_done writes steady = record {
     steps = Write bytes ∷ [];
     turn = turn;
     may = may;
-    done = subst (AreSteps (Write bytes ∷ []) (streams source output report) (streams source new_output report)) (sym is) (step_begun source output new_output report bytes [] begun);
-    is = λ value ok. cc;
+    done = step_written source output new_output report bytes writes;
+    is = λ value is. cc;
+    causes = record { source = refl; output = steady; report = refl };
   }
+
+  -- the output failed within the write, which ends the loop
+  pub write_begun : (answer : Result Turn LoopEnd) → answer ≡ Err WriteFault → AppendsPrefix output.bytes new_output.bytes bytes → Rose output.faults new_output.faults
+      → AreDone May (streams source output report) (streams source new_output report) answer
+  write_begun answer is begun rose =
+      subst (AreDone May (streams source output report) (streams source new_output report)) (sym is) (record {
+        steps = Write bytes ∷ [];
+        turn = turn;
+        may = may;
+        done = step_begun source output new_output report bytes [] begun;
+        is = λ value ok. cc;
+        causes = record { source = refl; output = rose; report = refl };
+      })
 
 -- Units of given sizes: a turn by what was read and by what was done.
 module _ (units : Units) (size : ℕ → ℕ) (begins : (k : ℕ) (own : List ℕ) → units.begins k own ≡ sized (size k) own) (k : ℕ)
     (before : List (List ℕ)) (number : length before ≡ k) (ready : List (List ℕ) → Type 0) (source new_source output report : Seen) where
   -- a unit of which too few bytes came ends the loop, as its source did
   pub sized_short : (answer : Result Turn LoopEnd) (end : LoopEnd) → answer ≡ Err end → EndsShort k (size k) source new_source end
+      → HaveCauses end end (streams source output report) (streams new_source output report)
       → IsTurn units before ready (streams source output report) (streams new_source output report) answer
-  sized_short answer end is short =
+  sized_short answer end is short causes =
       subst (IsTurn units before ready (streams source output report) (streams new_source output report)) (sym is)
       (turn_short units before ready (size k) source new_source output report end
       (λ own fewer. begins (length before) own ∙ ap (λ j. sized (size j) own) number ∙ sized_fewer (size k) own fewer)
-      (subst (λ j. EndsShort j (size k) source new_source end) (sym number) short))
+      (subst (λ j. EndsShort j (size k) source new_source end) (sym number) short) causes)
 
   -- a unit of which all bytes came, and what was done for it, is a turn
   pub sized_done : (own : List ℕ) → length own ≡ size k → Consumes source.bytes new_source.bytes own
+      → HaveCauses Done Done (streams source output report) (streams new_source output report)
       → (new_output new_report : Seen) (answer : Result Turn LoopEnd)
       → AreDone (units.does k before own) (streams new_source output report) (streams new_source new_output new_report) answer → ready (before ++ own ∷ [])
       → IsTurn units before ready (streams source output report) (streams new_source new_output new_report) answer
-  sized_done own whole reads new_output new_report answer done next =
+  sized_done own whole reads causes new_output new_report answer done next =
       turn_of units before ready (streams source output report) (streams new_source output report) (streams new_source new_output new_report) own done.steps done.turn
       (record {
         whole = begins (length before) own ∙ ap (λ j. sized (size j) own) number ∙ (sized_whole (size k) own).1 whole;
         does = subst (λ j. units.does j before own done.steps done.turn) (sym number) done.may;
       })
       (record { reads = reads; writes = Appends-none output.bytes; tells = Appends-none report.bytes })
-      next answer done.done done.is
+      causes next answer done.done done.is done.causes

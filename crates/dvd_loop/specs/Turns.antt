@@ -4,7 +4,7 @@ use Rattle.std.specs.Io.KnownBytes.{Consumes, IsAtEnd}
 use Rattle.dvd_ports.specs.Seen.{Seen}
 use Rattle.dvd_loop.specs.Machine.{Does, IsUnit, IsTaken, IsWithin, Outcome, Step, Units}
 use Rattle.dvd_loop.specs.Machine.Step.{Write, Tell}
-use Rattle.dvd_loop.specs.Streams.{Comes, HaveCauses, HaveMoved, Streams}
+use Rattle.dvd_loop.specs.Streams.{Comes, HasEnded, HaveCauses, HaveMoved, Streams}
 use Rattle.dvd_loop.specs.declared.ends.Behind.TheVariants.{Asks}
 use Rattle.dvd_loop.specs.declared.ends.LoopEnd.{LoopEnd}
 use Rattle.dvd_loop.specs.declared.ends.LoopEnd.TheVariants.{Done, ReadFault, Short}
@@ -31,13 +31,20 @@ abbrev pub AreSteps : {A : Type 0} → List Step → Streams → Streams → Res
 AreSteps steps old new (Ok value) = HaveMoved old new [] (written steps) (told steps)
 AreSteps steps old new (Err end) = Comes (λ bytes. Does steps Nothing) old new end
 
--- Steps that may be taken, for a unit that is then this: these were taken, and the answer says what the unit is.
+-- the counts of faults by a call's answer
+abbrev pub HaveCausesFor : {A : Type 0} → Result A LoopEnd → Streams → Streams → Type 0
+HaveCausesFor (Ok value) old new = HaveCauses Done Done old new
+HaveCausesFor (Err end) old new = HaveCauses end end old new
+
+-- Steps that may be taken, for a unit that is then this: these were taken, the answer says what the unit is, and a fault has
+-- raised the count of its stream.
 pub record AreDone (May : List Step → Turn → Type 0) (old new : Streams) (answer : Result Turn LoopEnd) : Type 0 where
   pub steps : List Step
   pub turn : Turn
   pub may : May steps turn
   pub done : AreSteps steps old new answer
   pub is : (value : Turn) → answer ≡ Ok value → value ≡ turn
+  pub causes : HaveCausesFor answer old new
 
 -- A source gave a part of unit k, which has so many bytes, and the loop ends so: the input has ended, or a read failed.
 pub record EndsShort (k size : ℕ) (old new : Seen) (end : LoopEnd) : Type 0 where
@@ -46,12 +53,13 @@ pub record EndsShort (k size : ℕ) (old new : Seen) (end : LoopEnd) : Type 0 wh
   pub fewer : length own < size
   pub ends : ((end ≡ Short k (length own)) × IsAtEnd new.bytes) ⊎ (end ≡ ReadFault)
 
--- The unit was taken and done, it is this, and the command is ready for the one behind it.
+-- The unit was taken and done without a fault, it is this, and the command is ready for the one behind it.
 pub record IsTurnDone (units : Units) (before : List (List ℕ)) (ready : List (List ℕ) → Type 0) (old new : Streams) (turn : Turn) : Type 0 where
   pub own : List ℕ
   pub steps : List Step
   pub unit : IsUnit units before own steps turn
   pub moved : HaveMoved old new own (written steps) (told steps)
+  pub causes : HaveCauses Done Done old new
   pub next : ready (before ++ own ∷ [])
 
 -- the loop ends within the unit behind those, or within its steps
@@ -65,7 +73,7 @@ IsReadyFor k ready = (before : List (List ℕ)) × (length before ≡ k) × read
 -- A turn answers what its unit is, or how it ends the loop.
 abbrev pub IsTurn : Units → List (List ℕ) → (List (List ℕ) → Type 0) → Streams → Streams → Result Turn LoopEnd → Type 0
 IsTurn units before ready old new (Ok turn) = IsTurnDone units before ready old new turn
-IsTurn units before ready old new (Err end) = Comes (EndsAt units before) old new end
+IsTurn units before ready old new (Err end) = HasEnded (EndsAt units before) old new end
 
 -- The same for all that may stand before unit k, where the command is ready for it.
 abbrev pub TakesTurn : Units → ℕ → (List (List ℕ) → Type 0) → (List (List ℕ) → Type 0) → Streams → Streams → Result Turn LoopEnd → Type 0
@@ -85,8 +93,3 @@ TakesLoneTurn units k old new answer = (before : List (List ℕ)) → length bef
 abbrev pub TakesClosing : Units → (List (List ℕ) → Type 0) → Streams → Streams → Result (Unit {0}) LoopEnd → Type 0
 TakesClosing units ready old new answer =
     (before : List (List ℕ)) → length before ≡ units.count → ready before → (steps : List Step) × units.closes before steps × AreSteps steps old new answer
-
--- the counts of faults by a call's answer
-abbrev pub HaveCausesFor : {A : Type 0} → Result A LoopEnd → Streams → Streams → Type 0
-HaveCausesFor (Ok value) old new = HaveCauses Done Done old new
-HaveCausesFor (Err end) old new = HaveCauses end end old new

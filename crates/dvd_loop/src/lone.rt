@@ -2,7 +2,7 @@
 ghost use Rattle.std.specs.Prelude.{◌≡◌, ◌<◌};
 ghost use Rattle.dvd_loop.specs.Machine.{IsOutcome, Units};
 ghost use Rattle.dvd_loop.specs.Streams.{streams, HasEnded};
-ghost use Rattle.dvd_loop.specs.Turns.{HaveCausesFor, StandAlone, TakesLoneTurn};
+ghost use Rattle.dvd_loop.specs.Turns.{StandAlone, TakesLoneTurn};
 
 use crate::{Behind, LoopEnd, Turn, Turns, follow};
 use dvd_ports::{Sink, Source};
@@ -42,10 +42,7 @@ pub trait LoneTurns {
         ensures ready { ready self.new }
         ensures turn { TakesLoneTurn (units (key self.old)) k
             (streams (S.seen src.old) (K.seen out.old) (E.seen report.old))
-            (streams (S.seen src.new) (K.seen out.new) (E.seen report.new)) result }
-        ensures causes { HaveCausesFor result
-            (streams (S.seen src.old) (K.seen out.old) (E.seen report.old))
-            (streams (S.seen src.new) (K.seen out.new) (E.seen report.new)) };
+            (streams (S.seen src.new) (K.seen out.new) (E.seen report.new)) result };
 }
 
 // Such a command, seen from the loop.

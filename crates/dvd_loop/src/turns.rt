@@ -56,9 +56,6 @@ pub trait Turns {
         ensures turn { TakesTurn (units (key self.old)) k (ready self.old) (ready self.new)
             (streams (S.seen src.old) (K.seen out.old) (E.seen report.old))
             (streams (S.seen src.new) (K.seen out.new) (E.seen report.new)) result }
-        ensures causes { HaveCausesFor result
-            (streams (S.seen src.old) (K.seen out.old) (E.seen report.old))
-            (streams (S.seen src.new) (K.seen out.new) (E.seen report.new)) }
         ensures left { IfErr result (left self.new) }
         ensures last { result ≡ Ok Turn.Last → left self.new LoopEnd.Done };
 

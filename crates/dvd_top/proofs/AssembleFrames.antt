@@ -27,13 +27,12 @@ use Rattle.dvd_loop.specs.Laws.{IsPlainEnd}
 use Rattle.dvd_loop.specs.Machine.{Does, IsOutcome, Outcome, Step}
 use Rattle.dvd_loop.specs.Machine.Step.{Tell, Write}
 use Rattle.dvd_loop.specs.Streams.{HaveMoved, Streams}
-use Rattle.dvd_loop.specs.Turns.{AreDone, AreSteps, Nothing, told, written}
+use Rattle.dvd_loop.specs.Turns.{AreSteps, Nothing, told, written}
 use Rattle.dvd_loop.specs.declared.ends.LoopEnd.{LoopEnd}
 use Rattle.dvd_loop.specs.declared.ends.LoopEnd.TheVariants.{BadHeader, BadMarks, Damaged, Done, Long, NoControl, ReadFault, ReportFault, Short, ShortHeader, WriteFault}
-use Rattle.dvd_loop.specs.declared.ends.Turn.TheVariants.{Good}
 use Rattle.dvd_loop.proofs.LoopEnds.{plain_end}
 use Rattle.dvd_loop.proofs.StepLemmas.{onto}
-use Rattle.dvd_loop.proofs.StreamLemmas.{comes_after, moves_on, stays}
+use Rattle.dvd_loop.proofs.StreamLemmas.{comes_after, moves_on}
 use Rattle.dvd_top.specs.Commands.Assemble.{IsAssembleEnd, IsShelfOf, assemble_units, assembled_steps, frames_in, placed_line, placed_of, text_of}
 
 -- a frame that has a home counts one
@@ -165,10 +164,6 @@ steps_behind_write bytes steps old now new (Ok value) wrote done =
 steps_behind_write bytes steps old now new (Err end) wrote done =
     comes_after (λ input. Does steps Nothing) (λ input. Does (Write bytes ∷ steps) Nothing) old now new end [] (bytes ++ []) [] wrote
     (λ left after does. inr (after, does, ap (λ l. onto [] l [] after) (append-nil bytes))) done
-
--- nothing is done for a frame
-pub frame_read : (old : Streams) → AreDone (λ steps turn. (steps ≡ []) × (turn ≡ Good)) old old (Ok Good)
-frame_read old = record { steps = []; turn = Good; may = (refl, refl); done = stays old; is = λ value is. cc }
 
 -- the closing of a shelf
 abbrev pub closing_of : List Table → ℕ → ℕ → List Step

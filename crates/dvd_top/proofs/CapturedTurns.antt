@@ -1,20 +1,19 @@
 -- A turn by what was read of a captured block and by what was done for it.
-use Rattle.std.proofs.Common.{◌≡◌, ◌<◌, ◌∙◌, inl, inr, ℕ, Bool, List, [], ◌∷◌, ◌++◌, length, Option, Some, None, Result, Err, refl, ap, sym, subst, append-nil, arith}
-use Rattle.std.specs.Io.KnownBytes.{Consumes}
+use Rattle.std.proofs.Common.{◌≡◌, ◌<◌, ◌∙◌, inl, inr, ℕ, Bool, List, [], ◌∷◌, ◌++◌, length, Option, Some, None, Result, Err, refl, ap, sym, subst, arith}
 use Rattle.dvd_capture.specs.Captured.{BreaksAt, Captures, EndsAfter, FailsWithin, IsLawful, unit_size}
 use Rattle.dvd_capture.specs.Listed.{IsBrokenAt, listed_size}
 use Rattle.dvd_capture.specs.declared.form.Form.{Form}
 use Rattle.dvd_capture.specs.declared.form.Form.TheVariants.{Plain, Marked, Listed}
-use Rattle.dvd_loop.specs.Machine.{EndsWithin, Units, ended, taking}
+use Rattle.dvd_loop.specs.Machine.{EndsWithin, Units}
 use Rattle.dvd_loop.specs.Machine.Part.{Whole, Broken}
-use Rattle.dvd_loop.specs.Streams.{streams}
+use Rattle.dvd_loop.specs.Streams.{HaveCauses, streams}
 use Rattle.dvd_loop.specs.Turns.{AreDone, IsTurn}
 use Rattle.dvd_loop.specs.declared.ends.LoopEnd.{LoopEnd}
-use Rattle.dvd_loop.specs.declared.ends.LoopEnd.TheVariants.{BadMarks, ReadFault, Short}
+use Rattle.dvd_loop.specs.declared.ends.LoopEnd.TheVariants.{BadMarks, Done, ReadFault, Short}
 use Rattle.dvd_loop.specs.declared.ends.Turn.{Turn}
 use Rattle.dvd_loop.proofs.Sizes.{sized_fewer}
-use Rattle.dvd_loop.proofs.StreamLemmas.{left_of, none_left, told_before}
-use Rattle.dvd_loop.proofs.TurnLemmas.{turn_of}
+use Rattle.dvd_loop.proofs.StreamLemmas.{left_of, none_left}
+use Rattle.dvd_loop.proofs.TurnLemmas.{turn_of, turn_within}
 use Rattle.dvd_ports.specs.Seen.{Seen}
 use Rattle.dvd_ports.proofs.KnownLemmas.{Appends-none}
 use Rattle.dvd_top.specs.Captured.{broken_at, captured_part, listed_part}
@@ -81,39 +80,26 @@ module _ (units : Units) (form : Form) (begins : (k : ℕ) (own : List ℕ) → 
     (before : List (List ℕ)) (number : length before ≡ k) (ready : List (List ℕ) → Type 0) (source new_source output report : Seen) where
   -- a block that isn't read whole ends the loop, as its source did
   pub captured_short : (answer : Result Turn LoopEnd) (end : LoopEnd) → answer ≡ Err end → EndsCaptured form k source new_source end
+      → HaveCauses end end (streams source output report) (streams new_source output report)
       → IsTurn units before ready (streams source output report) (streams new_source output report) answer
-  captured_short answer end is short =
-      subst (IsTurn units before ready (streams source output report) (streams new_source output report)) (sym is) (record {
-        bytes = short.own ++ short.left;
-        told = told_before source.bytes new_source.bytes short.own short.left short.reads short.told;
-        outcome = taking short.own (ended end);
-        holds = inl (record {
-          own = short.own;
-          left = short.left;
-          front = refl;
-          ends = subst (λ part. EndsWithin part (length before) (length short.own) short.left end) (sym (begins (length before) short.own))
-              (subst (λ j. EndsWithin (captured_part form short.own) j (length short.own) short.left end) (sym number) short.ends);
-          takes = refl;
-        });
-        ends = refl;
-        moved = record {
-          reads = subst (Consumes source.bytes new_source.bytes) (sym (append-nil short.own)) short.reads;
-          writes = Appends-none output.bytes;
-          tells = Appends-none report.bytes;
-        };
-      })
+  captured_short answer end is short causes =
+      subst (IsTurn units before ready (streams source output report) (streams new_source output report)) (sym is)
+      (turn_within units before ready source new_source output report end short.own short.left short.reads short.told
+      (subst (λ part. EndsWithin part (length before) (length short.own) short.left end) (sym (begins (length before) short.own))
+      (subst (λ j. EndsWithin (captured_part form short.own) j (length short.own) short.left end) (sym number) short.ends)) causes)
 
   -- a block that was read whole, and what was done for it, is a turn
   pub captured_done : (rows : List (List ℕ)) (marks : List (List Bool)) → (fetched : Captures form source.bytes new_source.bytes rows marks)
+      → HaveCauses Done Done (streams source output report) (streams new_source output report)
       → (new_output new_report : Seen) (answer : Result Turn LoopEnd)
       → AreDone (units.does k before fetched.bytes) (streams new_source output report) (streams new_source new_output new_report) answer
       → ready (before ++ fetched.bytes ∷ [])
       → IsTurn units before ready (streams source output report) (streams new_source new_output new_report) answer
-  captured_done rows marks fetched new_output new_report answer done next =
+  captured_done rows marks fetched causes new_output new_report answer done next =
       turn_of units before ready (streams source output report) (streams new_source output report) (streams new_source new_output new_report) fetched.bytes done.steps done.turn
       (record {
         whole = begins (length before) fetched.bytes ∙ captured_whole form fetched.bytes fetched.size fetched.lawful;
         does = subst (λ j. units.does j before fetched.bytes done.steps done.turn) (sym number) done.may;
       })
       (record { reads = fetched.taken; writes = Appends-none output.bytes; tells = Appends-none report.bytes })
-      next answer done.done done.is
+      causes next answer done.done done.is done.causes

@@ -12,14 +12,14 @@ use Rattle.dvd_loop.specs.Turns.{AreDone}
 use Rattle.dvd_loop.specs.declared.ends.LoopEnd.{LoopEnd}
 use Rattle.dvd_loop.specs.declared.ends.Turn.{Turn}
 use Rattle.dvd_loop.specs.declared.ends.Turn.TheVariants.{Good}
-use Rattle.dvd_loop.proofs.StreamLemmas.{stays}
 use Rattle.dvd_top.specs.Captured.{IfImage, IsDoneByEntry}
 use Rattle.dvd_top.proofs.PlanEntries.{one_entry}
+use Rattle.dvd_top.proofs.TwoSteps.{done_as, nothing_done}
 
 -- where nothing may be done for what a block holds, it is passed over
 pub passed_over : (May : Content → List Step → Turn → Type 0) (content held : Content) → content ≡ held → May held [] Good → (old : Streams)
     → AreDone (May content) old old (Ok Good)
-passed_over May content held is may old = record { steps = []; turn = Good; may = subst (λ c. May c [] Good) (sym is) may; done = stays old; is = λ value is. cc }
+passed_over May content held is may = nothing_done (May content) Good (subst (λ c. May c [] Good) (sym is) may)
 
 module _ (Does : List Step → Turn → Type 0) where
   -- so it is where it holds no image
@@ -47,17 +47,13 @@ module _ (entries : List BlockPlan) (Does : BlockPlan → List (List ℕ) → Li
   pub done_by_entry : (rows : List (List ℕ)) (marks : List (List Bool)) → rows ≡ captured_rows form own → marks ≡ captured_marks form own
       → (old new : Streams) (answer : Result Turn LoopEnd) → AreDone (Does entry rows marks) old new answer
       → AreDone (IsDoneByEntry entries Does form k own) old new answer
-  done_by_entry rows marks rows_are marks_are old new answer done = record {
-    steps = done.steps;
-    turn = done.turn;
-    may = record {
-      entry = entry;
-      stands = stands;
-      does = subst (λ m. Does entry (captured_rows form own) m done.steps done.turn) marks_are (subst (λ r. Does entry r marks done.steps done.turn) rows_are done.may);
-    };
-    done = done.done;
-    is = done.is;
-  }
+  done_by_entry rows marks rows_are marks_are =
+      done_as (Does entry rows marks) (IsDoneByEntry entries Does form k own)
+      (λ steps turn does. record {
+        entry = entry;
+        stands = stands;
+        does = subst (λ m. Does entry (captured_rows form own) m steps turn) marks_are (subst (λ r. Does entry r marks steps turn) rows_are does);
+      })
 
   -- and what is done for block k is done for the entry that stands there
   pub done_at : (steps : List Step) (turn : Turn) → IsDoneByEntry entries Does form k own steps turn

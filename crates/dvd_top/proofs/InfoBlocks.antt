@@ -13,10 +13,10 @@ use Rattle.dvd_loop.specs.Machine.Step.{Write}
 use Rattle.dvd_loop.specs.Streams.{Streams}
 use Rattle.dvd_loop.specs.Turns.{AreDone}
 use Rattle.dvd_loop.specs.declared.ends.Turn.TheVariants.{Bad, Good, Last}
-use Rattle.dvd_loop.proofs.StreamLemmas.{stays}
 use Rattle.dvd_top.specs.Commands.Info.{IsAsked, IsControlDone, format_lines, info_units}
 use Rattle.dvd_top.specs.Inner.Performing.{AnswersNothing, Tells}
 use Rattle.dvd_top.proofs.EntryBlocks.{passed_over}
+use Rattle.dvd_top.proofs.TwoSteps.{nothing_done}
 
 -- what holds of a result that is none once its error is dropped, and of one that is some
 pub not_ok : {A B : Type 0} (r : Result A B) (P : B → Type 0) → result_ok r ≡ None → IfErr r P → (e : B) × P e
@@ -38,7 +38,7 @@ answers entry rows marks format tells =
 -- where none is told nothing is done
 pub silent : (entry : BlockPlan) (rows : List (List ℕ)) (marks : List (List Bool)) (old : Streams) → AnswersNothing entry rows marks
     → AreDone (IsControlDone entry rows marks) old old (Ok Good)
-silent entry rows marks old none = record { steps = []; turn = Good; may = inr none; done = stays old; is = λ value is. cc }
+silent entry rows marks old none = nothing_done (IsControlDone entry rows marks) Good (inr none) old
 
 -- nothing is done for a block that holds no control data
 pub passed : (content : Content) → (content ≡ Zero) ⊎ ((content ≡ Reference) ⊎ ((sector : ℕ) × (content ≡ Image sector)))

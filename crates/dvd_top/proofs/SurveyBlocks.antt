@@ -12,10 +12,8 @@ use Rattle.dvd_layout.specs.declared.layout.Zones.{Zones}
 use Rattle.dvd_capture.specs.Parts.{marks_rows, received_rows}
 use Rattle.dvd_capture.specs.Works.{marks_of_work, rows_of}
 use Rattle.dvd_capture.specs.declared.work.Work.{Work}
+use Rattle.dvd_loop.specs.Machine.{Step}
 use Rattle.dvd_loop.specs.Machine.Step.{Write}
-use Rattle.dvd_loop.specs.Streams.{Streams}
-use Rattle.dvd_loop.specs.Turns.{AreDone}
-use Rattle.dvd_loop.specs.declared.ends.LoopEnd.{LoopEnd}
 use Rattle.dvd_loop.specs.declared.ends.Turn.{Turn}
 use Rattle.dvd_read.specs.Reading.{block_cause}
 use Rattle.dvd_read.specs.declared.cause.Cause.{Cause}
@@ -96,21 +94,14 @@ module _ (layout : Layout) (zones : Zones) (form : Form) (k : ℕ) (before : Lis
   next_stands after is = subst (StandsFor after) (sym found_with) is
 
   -- and its line
-  pub line_done : k < length (plan_of layout zones) → (old new : Streams) (answer : Result Turn LoopEnd)
-      → AreDone (IsLineDone entry (found_in layout zones form before) rows marks) old new answer
-      → AreDone (IsSurveyed layout zones form k before own) old new answer
-  line_done within old new answer done =
+  pub line_done : k < length (plan_of layout zones) → (steps : List Step) (turn : Turn)
+      → IsLineDone entry (found_in layout zones form before) rows marks steps turn → IsSurveyed layout zones form k before own steps turn
+  line_done within steps turn does =
       let size : length (found_in layout zones form before) ≡ k = length-found layout zones form before (omega (arith, number, within)) ∙ number in record {
-        steps = done.steps;
-        turn = done.turn;
-        may = record {
-          entry = entry;
-          stands = stands;
-          writes = done.may.writes
-              ∙ ap (λ n. Write (survey_line n entry (found_in layout zones form before ++ surveyed rows marks entry ∷ [])) ∷ []) size
-              ∙ ap (λ blocks. Write (survey_line k entry blocks) ∷ []) (sym found_with);
-          answers = done.may.answers ∙ ap (λ r. turn_by (block_cause r marks entry)) rows_are ∙ ap (λ m. turn_by (block_cause (captured_rows form own) m entry)) marks_are;
-        };
-        done = done.done;
-        is = done.is;
+        entry = entry;
+        stands = stands;
+        writes = does.writes
+            ∙ ap (λ n. Write (survey_line n entry (found_in layout zones form before ++ surveyed rows marks entry ∷ [])) ∷ []) size
+            ∙ ap (λ blocks. Write (survey_line k entry blocks) ∷ []) (sym found_with);
+        answers = does.answers ∙ ap (λ r. turn_by (block_cause r marks entry)) rows_are ∙ ap (λ m. turn_by (block_cause (captured_rows form own) m entry)) marks_are;
       }

@@ -1,59 +1,75 @@
--- A unit for which a line is told and then bytes are written.
-use Rattle.std.proofs.Common.{◌≡◌, List, [], ◌∷◌, ℕ, Result, Ok, Err, sym, subst}
+-- A unit for which nothing is done, and one for which a line is told and then bytes are written.
+use Rattle.std.proofs.Common.{◌≡◌, List, [], ◌∷◌, ℕ, Result, Ok, Err, refl, sym, subst}
 use Rattle.std.specs.Io.KnownBytes.{Appends}
+use Rattle.dvd_ports.specs.Causes.{Rose}
 use Rattle.dvd_ports.specs.Seen.{Seen}
 use Rattle.dvd_ports.specs.Whole.{AppendsPrefix}
 use Rattle.dvd_loop.specs.Machine.{Step}
 use Rattle.dvd_loop.specs.Machine.Step.{Tell, Write}
 use Rattle.dvd_loop.specs.Streams.{Streams, streams}
-use Rattle.dvd_loop.specs.Turns.{AreDone, AreSteps}
+use Rattle.dvd_loop.specs.Turns.{AreDone}
 use Rattle.dvd_loop.specs.declared.ends.LoopEnd.{LoopEnd}
 use Rattle.dvd_loop.specs.declared.ends.LoopEnd.TheVariants.{ReportFault, WriteFault}
 use Rattle.dvd_loop.specs.declared.ends.Turn.{Turn}
+use Rattle.dvd_loop.proofs.StreamLemmas.{stays}
 use Rattle.dvd_loop.proofs.TurnLemmas.{line_begun, step_begun, step_told, step_written, steps_behind_line}
 
 -- what may be done may be said otherwise
 pub done_as : (May Other : List Step → Turn → Type 0) → ((steps : List Step) (turn : Turn) → May steps turn → Other steps turn)
     → (old new : Streams) (answer : Result Turn LoopEnd) → AreDone May old new answer → AreDone Other old new answer
 done_as May Other to old new answer done =
-    record { steps = done.steps; turn = done.turn; may = to done.steps done.turn done.may; done = done.done; is = done.is }
+    record { steps = done.steps; turn = done.turn; may = to done.steps done.turn done.may; done = done.done; is = done.is; causes = done.causes }
+
+-- nothing is done, and nothing had to be
+pub nothing_done : (May : List Step → Turn → Type 0) (turn : Turn) → May [] turn → (old : Streams) → AreDone May old old (Ok turn)
+nothing_done May turn may old = record {
+  steps = [];
+  turn = turn;
+  may = may;
+  done = stays old;
+  is = λ value is. cc;
+  causes = record { source = refl; output = refl; report = refl };
+}
 
 module _ (May : List Step → Turn → Type 0) (line bytes : List ℕ) (turn : Turn) (may : May (Tell line ∷ Write bytes ∷ []) turn) where
   -- the report failed within the line
   pub line_fails : (source output report new_report : Seen) (answer : Result Turn LoopEnd) → answer ≡ Err ReportFault
-      → AppendsPrefix report.bytes new_report.bytes line
+      → AppendsPrefix report.bytes new_report.bytes line → Rose report.faults new_report.faults
       → AreDone May (streams source output report) (streams source output new_report) answer
-  line_fails source output report new_report answer is begun = record {
-    steps = Tell line ∷ Write bytes ∷ [];
-    turn = turn;
-    may = may;
-    done = subst (AreSteps (Tell line ∷ Write bytes ∷ []) (streams source output report) (streams source output new_report)) (sym is)
-        (line_begun source output report new_report line (Write bytes ∷ []) begun);
-    is = λ value ok. cc;
-  }
+  line_fails source output report new_report answer is begun rose =
+      subst (AreDone May (streams source output report) (streams source output new_report)) (sym is) (record {
+        steps = Tell line ∷ Write bytes ∷ [];
+        turn = turn;
+        may = may;
+        done = line_begun source output report new_report line (Write bytes ∷ []) begun;
+        is = λ value ok. cc;
+        causes = record { source = refl; output = refl; report = rose };
+      })
 
-  module _ (source output new_output report new_report : Seen) (tells : Appends report.bytes new_report.bytes line) where
+  module _ (source output new_output report new_report : Seen) (tells : Appends report.bytes new_report.bytes line) (steady : new_report.faults ≡ report.faults) where
     -- the line was told, and the output failed within the bytes
-    pub bytes_fail : (answer : Result Turn LoopEnd) → answer ≡ Err WriteFault → AppendsPrefix output.bytes new_output.bytes bytes
+    pub bytes_fail : (answer : Result Turn LoopEnd) → answer ≡ Err WriteFault → AppendsPrefix output.bytes new_output.bytes bytes → Rose output.faults new_output.faults
         → AreDone May (streams source output report) (streams source new_output new_report) answer
-    bytes_fail answer is begun = record {
-      steps = Tell line ∷ Write bytes ∷ [];
-      turn = turn;
-      may = may;
-      done = steps_behind_line line (Write bytes ∷ []) (streams source output report) (streams source output new_report) (streams source new_output new_report) answer
-          (step_told source output report new_report line tells)
-          (subst (AreSteps (Write bytes ∷ []) (streams source output new_report) (streams source new_output new_report)) (sym is) (step_begun source output new_output new_report bytes [] begun));
-      is = λ value ok. cc;
-    }
+    bytes_fail answer is begun rose =
+        subst (AreDone May (streams source output report) (streams source new_output new_report)) (sym is) (record {
+          steps = Tell line ∷ Write bytes ∷ [];
+          turn = turn;
+          may = may;
+          done = steps_behind_line line (Write bytes ∷ []) (streams source output report) (streams source output new_report) (streams source new_output new_report) {A = Turn} (Err WriteFault)
+              (step_told source output report new_report line tells) (step_begun source output new_output new_report bytes [] begun);
+          is = λ value ok. cc;
+          causes = record { source = refl; output = rose; report = steady };
+        })
 
     -- both were done
-    pub both_done : Appends output.bytes new_output.bytes bytes
+    pub both_done : Appends output.bytes new_output.bytes bytes → new_output.faults ≡ output.faults
         → AreDone May (streams source output report) (streams source new_output new_report) (Ok turn)
-    both_done writes = record {
+    both_done writes written = record {
       steps = Tell line ∷ Write bytes ∷ [];
       turn = turn;
       may = may;
       done = steps_behind_line line (Write bytes ∷ []) (streams source output report) (streams source output new_report) (streams source new_output new_report) {A = Turn} (Ok turn)
           (step_told source output report new_report line tells) (step_written source output new_output new_report bytes writes);
       is = λ value is. cc;
+      causes = record { source = refl; output = written; report = steady };
     }

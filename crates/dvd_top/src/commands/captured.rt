@@ -54,10 +54,8 @@ pub(crate) fn refuse_block<K: Sink, E: Sink>(
 ) -> Result<Turn, LoopEnd>
     requires numbers { HasNumbers entry.now }
     requires stage { HasAnswers (stage_of work.old) }
-    ensures done { (source : Seen) → AreDone (IsRefusedFor layout.now k entry.now (rows_of work.old) (marks_of_work work.old) cause.now)
+    ensures { (source : Seen) → AreDone (IsRefusedFor layout.now k entry.now (rows_of work.old) (marks_of_work work.old) cause.now)
         (streams source (K.seen out.old) (E.seen report.old)) (streams source (K.seen out.new) (E.seen report.new)) result }
-    ensures causes { (source : Seen) → HaveCausesFor result
-        (streams source (K.seen out.old) (E.seen report.old)) (streams source (K.seen out.new) (E.seen report.new)) }
 {
     let saved = salvage(work, entry);
     if let Err(WriteFault) = write_cause(u64::from(k), entry, cause, saved, report) {

@@ -3,7 +3,7 @@ ghost use Rattle.std.specs.Prelude.{◌≡◌, ◌+◌, ◌<◌, ◌≤◌, ℕ,
 ghost use Rattle.dvd_loop.specs.Laws.{IsDamageEnd};
 ghost use Rattle.dvd_loop.specs.Machine.{IsOutcome};
 ghost use Rattle.dvd_loop.specs.Streams.{streams, HasEnded};
-ghost use Rattle.dvd_loop.specs.Turns.{AreDone, HaveCausesFor};
+ghost use Rattle.dvd_loop.specs.Turns.{AreDone};
 ghost use Rattle.dvd_ports.specs.Seen.{Seen};
 ghost use Rattle.dvd_top.specs.Commands.CdMake.{HasAddresses};
 ghost use Rattle.dvd_top.specs.Commands.CdRead.{IsSectorRead, cdread_units};
@@ -78,10 +78,8 @@ fn give_sector<K: Sink, E: Sink>(
     report: &mut E,
 ) -> Result<Turn, LoopEnd>
     requires { address < 450000 }
-    ensures done { (source : Seen) → AreDone (IsSectorRead address k sector.old)
+    ensures { (source : Seen) → AreDone (IsSectorRead address k sector.old)
         (streams source (K.seen out.old) (E.seen report.old)) (streams source (K.seen out.new) (E.seen report.new)) result }
-    ensures causes { (source : Seen) → HaveCausesFor result
-        (streams source (K.seen out.old) (E.seen report.old)) (streams source (K.seen out.new) (E.seen report.new)) }
 {
     match repair(sector, address) {
         Ok(_) => {

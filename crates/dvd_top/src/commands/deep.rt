@@ -12,7 +12,7 @@ ghost use Rattle.dvd_layout.specs.declared.layout.Layout.{Layout as DiskLayout};
 ghost use Rattle.dvd_layout.specs.declared.layout.Zones.{Zones as WhichZones};
 ghost use Rattle.dvd_loop.specs.Machine.{IsOutcome};
 ghost use Rattle.dvd_loop.specs.Streams.{streams, HasEnded};
-ghost use Rattle.dvd_loop.specs.Turns.{AreDone, HaveCausesFor};
+ghost use Rattle.dvd_loop.specs.Turns.{AreDone};
 ghost use Rattle.dvd_loop.specs.declared.ends.Turn.TheVariants.{Good};
 ghost use Rattle.dvd_read.specs.Reading.{block_cause};
 ghost use Rattle.dvd_report.specs.Lines.{round_line};
@@ -181,10 +181,8 @@ fn deep_block<K: Sink, E: Sink>(
 ) -> Result<Turn, LoopEnd>
     requires numbers { HasNumbers entry.now }
     requires stage { HasBlock (stage_of work.old) }
-    ensures done { (source : Seen) → AreDone (IsReadDeep entry.now.content layout.now k entry.now (rows_of work.old) (marks_of_work work.old))
+    ensures { (source : Seen) → AreDone (IsReadDeep entry.now.content layout.now k entry.now (rows_of work.old) (marks_of_work work.old))
         (streams source (K.seen out.old) (E.seen report.old)) (streams source (K.seen out.new) (E.seen report.new)) result }
-    ensures causes { (source : Seen) → HaveCausesFor result
-        (streams source (K.seen out.old) (E.seen report.old)) (streams source (K.seen out.new) (E.seen report.new)) }
 {
     match entry.content {
         Content::Image(_) => deep_image(layout, k, entry, deep, piece, work, out, report),
@@ -204,10 +202,8 @@ fn deep_image<K: Sink, E: Sink>(
 ) -> Result<Turn, LoopEnd>
     requires numbers { HasNumbers entry.now }
     requires stage { HasBlock (stage_of work.old) }
-    ensures done { (source : Seen) → AreDone (IsImageRead layout.now k entry.now (rows_of work.old) (marks_of_work work.old))
+    ensures { (source : Seen) → AreDone (IsImageRead layout.now k entry.now (rows_of work.old) (marks_of_work work.old))
         (streams source (K.seen out.old) (E.seen report.old)) (streams source (K.seen out.new) (E.seen report.new)) result }
-    ensures causes { (source : Seen) → HaveCausesFor result
-        (streams source (K.seen out.old) (E.seen report.old)) (streams source (K.seen out.new) (E.seen report.new)) }
 {
     let count = layout.image_sectors(entry.content);
     match read_block(work, entry) {
@@ -256,10 +252,8 @@ fn give_back<K: Sink, E: Sink>(
     report: &mut E,
 ) -> Result<Turn, LoopEnd>
     requires { HasNumbers entry.now }
-    ensures done { (source : Seen) → AreDone (TellsAndWrites (round_line k entry.now round) sectors.now Good)
+    ensures { (source : Seen) → AreDone (TellsAndWrites (round_line k entry.now round) sectors.now Good)
         (streams source (K.seen out.old) (E.seen report.old)) (streams source (K.seen out.new) (E.seen report.new)) result }
-    ensures causes { (source : Seen) → HaveCausesFor result
-        (streams source (K.seen out.old) (E.seen report.old)) (streams source (K.seen out.new) (E.seen report.new)) }
 {
     if let Err(WriteFault) = write_round(u64::from(k), entry, round, report) {
         return Err(LoopEnd::ReportFault);

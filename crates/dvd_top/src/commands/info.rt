@@ -8,7 +8,7 @@ ghost use Rattle.dvd_control.specs.Format.{control_fault, fields_in, fields_of};
 ghost use Rattle.dvd_layout.specs.Place.{HasNumbers};
 ghost use Rattle.dvd_loop.specs.Machine.{IsOutcome};
 ghost use Rattle.dvd_loop.specs.Streams.{streams, HasEnded, no_stream};
-ghost use Rattle.dvd_loop.specs.Turns.{AreDone, HaveCausesFor};
+ghost use Rattle.dvd_loop.specs.Turns.{AreDone};
 ghost use Rattle.dvd_ports.specs.Seen.{Seen};
 ghost use Rattle.dvd_top.specs.Captured.{IsSoughtEnd};
 ghost use Rattle.dvd_top.specs.Headline.{GoesOver};
@@ -162,10 +162,8 @@ fn info_listed<S: Source, K: Sink, E: Sink>(
 fn ask_block<K: Sink>(entry: &BlockPlan, work: &mut Work, out: &mut K) -> Result<Turn, LoopEnd>
     requires numbers { HasNumbers entry.now }
     requires stage { HasBlock (stage_of work.old) }
-    ensures done { (source report : Seen) → AreDone (IsAsked entry.now.content entry.now (rows_of work.old) (marks_of_work work.old))
+    ensures { (source report : Seen) → AreDone (IsAsked entry.now.content entry.now (rows_of work.old) (marks_of_work work.old))
         (streams source (K.seen out.old) report) (streams source (K.seen out.new) report) result }
-    ensures causes { (source report : Seen) → HaveCausesFor result
-        (streams source (K.seen out.old) report) (streams source (K.seen out.new) report) }
 {
     match entry.content {
         Content::Control => ask_control(entry, work, out),
@@ -176,10 +174,8 @@ fn ask_block<K: Sink>(entry: &BlockPlan, work: &mut Work, out: &mut K) -> Result
 fn ask_control<K: Sink>(entry: &BlockPlan, work: &mut Work, out: &mut K) -> Result<Turn, LoopEnd>
     requires numbers { HasNumbers entry.now }
     requires stage { HasBlock (stage_of work.old) }
-    ensures done { (source report : Seen) → AreDone (IsControlDone entry.now (rows_of work.old) (marks_of_work work.old))
+    ensures { (source report : Seen) → AreDone (IsControlDone entry.now (rows_of work.old) (marks_of_work work.old))
         (streams source (K.seen out.old) report) (streams source (K.seen out.new) report) result }
-    ensures causes { (source report : Seen) → HaveCausesFor result
-        (streams source (K.seen out.old) report) (streams source (K.seen out.new) report) }
 {
     let Some(format) = format_in(entry, work) else {
         return Ok(Turn::Good);

@@ -11,7 +11,7 @@ ghost use Rattle.dvd_layout.specs.declared.layout.Layout.{Layout as DiskLayout};
 ghost use Rattle.dvd_layout.specs.declared.layout.Zones.{Zones as WhichZones};
 ghost use Rattle.dvd_loop.specs.Machine.{IsOutcome};
 ghost use Rattle.dvd_loop.specs.Streams.{streams, HasEnded};
-ghost use Rattle.dvd_loop.specs.Turns.{AreDone, HaveCausesFor};
+ghost use Rattle.dvd_loop.specs.Turns.{AreDone};
 ghost use Rattle.dvd_top.specs.Captured.{IsCaptureEnd};
 ghost use Rattle.dvd_top.specs.Headline.{GoesOver};
 ghost use Rattle.dvd_top.specs.Opening.{IsOpened};
@@ -181,10 +181,8 @@ fn recover_block<F: Fn(&mut Work, &BlockPlan) -> Result<Fixed, Cause>, K: Sink, 
     requires reader { IsReader F.Fn read.now }
     requires numbers { HasNumbers entry.now }
     requires stage { HasBlock (stage_of work.old) }
-    ensures done { (source : Seen) → AreDone (IsDone entry.now.content layout.now k entry.now (rows_of work.old) (marks_of_work work.old))
+    ensures { (source : Seen) → AreDone (IsDone entry.now.content layout.now k entry.now (rows_of work.old) (marks_of_work work.old))
         (streams source (K.seen out.old) (E.seen report.old)) (streams source (K.seen out.new) (E.seen report.new)) result }
-    ensures causes { (source : Seen) → HaveCausesFor result
-        (streams source (K.seen out.old) (E.seen report.old)) (streams source (K.seen out.new) (E.seen report.new)) }
 {
     match entry.content {
         Content::Image(_) => recover_image(layout, k, entry, read, work, out, report),
@@ -204,10 +202,8 @@ fn recover_image<F: Fn(&mut Work, &BlockPlan) -> Result<Fixed, Cause>, K: Sink, 
     requires reader { IsReader F.Fn read.now }
     requires numbers { HasNumbers entry.now }
     requires stage { HasBlock (stage_of work.old) }
-    ensures done { (source : Seen) → AreDone (IsImageDone layout.now k entry.now (rows_of work.old) (marks_of_work work.old))
+    ensures { (source : Seen) → AreDone (IsImageDone layout.now k entry.now (rows_of work.old) (marks_of_work work.old))
         (streams source (K.seen out.old) (E.seen report.old)) (streams source (K.seen out.new) (E.seen report.new)) result }
-    ensures causes { (source : Seen) → HaveCausesFor result
-        (streams source (K.seen out.old) (E.seen report.old)) (streams source (K.seen out.new) (E.seen report.new)) }
 {
     let count = layout.image_sectors(entry.content);
     match read_by(read, work, entry) {

@@ -38,11 +38,11 @@ returns-in-Ok-clause-follows g c =
     let now = streams (g.S.Source.seen c.loop-k.src) (g.K.Sink.seen c.loop-k.out) (g.E.Sink.seen c.loop-k.report) in
     let new = streams (g.S.Source.seen c.turn.new.src) (g.K.Sink.seen c.turn.new.out) (g.E.Sink.seen c.turn.new.report) in
     let i = c.loop-k.invariant in
-    let ready = g.C.Turns.ready c.turn.new.self in record {
-      comes = last_ends (g.C.Turns.units (g.C.Turns.key c.args.command.now)) c.loop-k.k i.before old now c.loop-k.bad i.reached ready new c.in-Ok.turn
-          (subst (λ key. IsTurn (g.C.Turns.units key) i.before ready now new (Ok c.in-Ok.turn)) i.same (c.in-Ok.ensures.turn i.before i.reached.number i.ready))
+    let ready = g.C.Turns.ready c.turn.new.self in
+    let done = subst (λ key. IsTurn (g.C.Turns.units key) i.before ready now new (Ok c.in-Ok.turn)) i.same (c.in-Ok.ensures.turn i.before i.reached.number i.ready) in record {
+      comes = last_ends (g.C.Turns.units (g.C.Turns.key c.args.command.now)) c.loop-k.k i.before old now c.loop-k.bad i.reached ready new c.in-Ok.turn done
           (omega (arith, i.last)) (c.is_last.ensures.yes c.if-is_last.true);
-      causes = causes_first old now new Done Done i.causes c.in-Ok.ensures.causes;
+      causes = causes_first old now new Done Done i.causes done.causes;
     }
 
 pub returns-in-Err-turn-clause-follows : goal.returns-in-Err-turn-clause-follows
@@ -50,10 +50,11 @@ returns-in-Err-turn-clause-follows g c =
     let old = streams (g.S.Source.seen c.args.src.now) (g.K.Sink.seen c.args.out.now) (g.E.Sink.seen c.args.report.now) in
     let now = streams (g.S.Source.seen c.loop-k.src) (g.K.Sink.seen c.loop-k.out) (g.E.Sink.seen c.loop-k.report) in
     let new = streams (g.S.Source.seen c.turn.new.src) (g.K.Sink.seen c.turn.new.out) (g.E.Sink.seen c.turn.new.report) in
-    let i = c.loop-k.invariant in record {
-      comes = turn_ends (g.C.Turns.units (g.C.Turns.key c.args.command.now)) c.loop-k.k i.before old now c.loop-k.bad i.reached new c.in-Err-turn.end (omega (arith, i.last))
-          (subst (λ key. IsTurn (g.C.Turns.units key) i.before (g.C.Turns.ready c.turn.new.self) now new (Err c.in-Err-turn.end)) i.same (c.in-Err-turn.ensures.turn i.before i.reached.number i.ready));
-      causes = causes_first old now new c.in-Err-turn.end c.in-Err-turn.end i.causes c.in-Err-turn.ensures.causes;
+    let i = c.loop-k.invariant in
+    let ready = g.C.Turns.ready c.turn.new.self in
+    let ended = subst (λ key. IsTurn (g.C.Turns.units key) i.before ready now new (Err c.in-Err-turn.end)) i.same (c.in-Err-turn.ensures.turn i.before i.reached.number i.ready) in record {
+      comes = turn_ends (g.C.Turns.units (g.C.Turns.key c.args.command.now)) c.loop-k.k i.before old now c.loop-k.bad i.reached new c.in-Err-turn.end (omega (arith, i.last)) ended.comes;
+      causes = causes_first old now new c.in-Err-turn.end c.in-Err-turn.end i.causes ended.causes;
     }
 
 -- a unit raises the number of damaged ones by one at most
@@ -77,7 +78,7 @@ loop-k-preserved g c =
           (omega (arith, i.last)) (c.is_last.ensures.no c.if-is_last.false) (c.loop-k.bad + c.bad-bad.result) (ap (λ n. c.loop-k.bad + n) c.bad-bad.ensures);
       few = omega (arith, i.few, c.bad-bad.ensures, bad-le c.in-Ok.turn);
       last = i.last;
-      causes = causes_first old now new Done Done i.causes c.in-Ok.ensures.causes;
+      causes = causes_first old now new Done Done i.causes done.causes;
     }
 
 pub returns-in-Ok-close-clause-follows : goal.returns-in-Ok-close-clause-follows

@@ -14,8 +14,8 @@ use Rattle.dvd_top.proofs.RecoverBlocks.{refused, same_work}
 use Rattle.dvd_top.proofs.TwoSteps.{done_as}
 use Rattle.dvd_top.proofs.commands.deep.deep_image.Goals as goal
 
-pub returns-in_err-write_sectors-in-Ok-clause-done : goal.returns-in_err-write_sectors-in-Ok-clause-done
-returns-in_err-write_sectors-in-Ok-clause-done g c = λ source.
+pub returns-in_err-write_sectors-in-Ok : goal.returns-in_err-write_sectors-in-Ok
+returns-in_err-write_sectors-in-Ok g c = λ source.
     let work = c.args.work.now in
     let output = g.K.Sink.seen c.args.out.now in
     let new_output = g.K.Sink.seen c.write_sectors.new.out in
@@ -23,9 +23,10 @@ returns-in_err-write_sectors-in-Ok-clause-done g c = λ source.
     write_begun _ _ _ (read_given c.args.layout.now c.args.k c.args.entry.now (rows_of work) (marks_of_work work) sectors (height work) (marks-height work.marks) c.in-Ok.ensures.read)
     source output new_output (g.E.Sink.seen c.args.report.now) c.from_residual.result (err_is c.from_residual.result WriteFault c.from_residual.ensures.1)
     (subst (λ n. AppendsPrefix output.bytes new_output.bytes (sectors_out n sectors)) c.image_sectors-count.ensures.value c.in_err-write_sectors-in-Ok.ensures.begun)
+    c.in_err-write_sectors-in-Ok.ensures.cause.failed
 
-pub returns-in_ok-write_sectors-in-Ok-clause-done : goal.returns-in_ok-write_sectors-in-Ok-clause-done
-returns-in_ok-write_sectors-in-Ok-clause-done g c = λ source.
+pub returns-in_ok-write_sectors-in-Ok : goal.returns-in_ok-write_sectors-in-Ok
+returns-in_ok-write_sectors-in-Ok g c = λ source.
     let work = c.args.work.now in
     let output = g.K.Sink.seen c.args.out.now in
     let new_output = g.K.Sink.seen c.write_sectors.new.out in
@@ -33,9 +34,10 @@ returns-in_ok-write_sectors-in-Ok-clause-done g c = λ source.
     write_done _ _ _ (read_given c.args.layout.now c.args.k c.args.entry.now (rows_of work) (marks_of_work work) sectors (height work) (marks-height work.marks) c.in-Ok.ensures.read)
     source output new_output (g.E.Sink.seen c.args.report.now)
     (subst (λ n. Appends output.bytes new_output.bytes (sectors_out n sectors)) c.image_sectors-count.ensures.value c.in_ok-write_sectors-in-Ok.ensures.written)
+    c.in_ok-write_sectors-in-Ok.ensures.cause.steady
 
-pub returns-in-Ok-search_block-clause-done : goal.returns-in-Ok-search_block-clause-done
-returns-in-Ok-search_block-clause-done g c = λ source.
+pub returns-in-Ok-search_block : goal.returns-in-Ok-search_block
+returns-in-Ok-search_block g c = λ source.
     let layout = c.args.layout.now in
     let entry = c.args.entry.now in
     let work = c.args.work.now in
@@ -47,10 +49,10 @@ returns-in-Ok-search_block-clause-done g c = λ source.
     (found_given layout c.args.k entry (rows_of work) (marks_of_work work) bytes _ round found
     (ap (take (2048 * c.image_sectors-count.result)) c.bytes.ensures.bytes ∙ ap (λ (n : ℕ). take (2048 * n) bytes) c.image_sectors-count.ensures.value))
     (streams source (g.K.Sink.seen c.args.out.now) (g.E.Sink.seen c.args.report.now))
-    (streams source (g.K.Sink.seen c.give_back.new.out) (g.E.Sink.seen c.give_back.new.report)) c.give_back.result (c.give_back.ensures.done source)
+    (streams source (g.K.Sink.seen c.give_back.new.out) (g.E.Sink.seen c.give_back.new.report)) c.give_back.result (c.give_back.ensures source)
 
-pub returns-in-Err-search_block-clause-done : goal.returns-in-Err-search_block-clause-done
-returns-in-Err-search_block-clause-done g c = λ source.
+pub returns-in-Err-search_block : goal.returns-in-Err-search_block
+returns-in-Err-search_block g c = λ source.
     let layout = c.args.layout.now in
     let entry = c.args.entry.now in
     let work = c.args.work.now in
@@ -62,4 +64,4 @@ returns-in-Err-search_block-clause-done g c = λ source.
     inr (refused layout c.args.k entry (rows_of work) (marks_of_work work) _ cause first steps turn
     (same_work (λ rows marks. IsRefusedFor layout c.args.k entry rows marks cause steps turn) work c.read_block.new.work c.read_block.ensures.received c.read_block.ensures.marks is)))
     (streams source (g.K.Sink.seen c.args.out.now) (g.E.Sink.seen c.args.report.now))
-    (streams source (g.K.Sink.seen c.refuse_block.new.out) (g.E.Sink.seen c.refuse_block.new.report)) c.refuse_block.result (c.refuse_block.ensures.done source)
+    (streams source (g.K.Sink.seen c.refuse_block.new.out) (g.E.Sink.seen c.refuse_block.new.report)) c.refuse_block.result (c.refuse_block.ensures source)

@@ -7,25 +7,25 @@ use Rattle.dvd_report.specs.Lines.{round_line}
 use Rattle.dvd_top.proofs.TwoSteps.{both_done, bytes_fail, line_fails}
 use Rattle.dvd_top.proofs.commands.deep.give_back.Goals as goal
 
-pub returns-in-Err-clause-done : goal.returns-in-Err-clause-done
-returns-in-Err-clause-done g c = λ source.
+pub returns-in-Err : goal.returns-in-Err
+returns-in-Err g c = λ source.
     let report = g.E.Sink.seen c.args.report.now in
     let new_report = g.E.Sink.seen c.write_round.new.report in
     line_fails _ _ _ _ (refl, refl) source (g.K.Sink.seen c.args.out.now) report new_report (Err ReportFault) refl
-    (subst (AppendsPrefix report.bytes new_report.bytes) (ap (λ n. round_line n c.args.entry.now c.args.round) c.from.ensures) c.in-Err.ensures.begun)
+    (subst (AppendsPrefix report.bytes new_report.bytes) (ap (λ n. round_line n c.args.entry.now c.args.round) c.from.ensures) c.in-Err.ensures.begun) c.in-Err.ensures.cause.failed
 
-pub returns-in_err-write_whole-clause-done : goal.returns-in_err-write_whole-clause-done
-returns-in_err-write_whole-clause-done g c = λ source.
+pub returns-in_err-write_whole : goal.returns-in_err-write_whole
+returns-in_err-write_whole g c = λ source.
     let report = g.E.Sink.seen c.args.report.now in
     let new_report = g.E.Sink.seen c.write_round.new.report in
     bytes_fail _ _ _ _ (refl, refl) source (g.K.Sink.seen c.args.out.now) (g.K.Sink.seen c.write_whole.new.out) report new_report
-    (subst (Appends report.bytes new_report.bytes) (ap (λ n. round_line n c.args.entry.now c.args.round) c.from.ensures) c.in_default.ensures.written)
-    c.from_residual.result (err_is c.from_residual.result WriteFault c.from_residual.ensures.1) c.in_err-write_whole.ensures.begun
+    (subst (Appends report.bytes new_report.bytes) (ap (λ n. round_line n c.args.entry.now c.args.round) c.from.ensures) c.in_default.ensures.written) c.in_default.ensures.cause.steady
+    c.from_residual.result (err_is c.from_residual.result WriteFault c.from_residual.ensures.1) c.in_err-write_whole.ensures.begun c.in_err-write_whole.ensures.cause.failed
 
-pub returns-clause-done : goal.returns-clause-done
-returns-clause-done g c = λ source.
+pub returns : goal.returns
+returns g c = λ source.
     let report = g.E.Sink.seen c.args.report.now in
     let new_report = g.E.Sink.seen c.write_round.new.report in
     both_done _ _ _ _ (refl, refl) source (g.K.Sink.seen c.args.out.now) (g.K.Sink.seen c.write_whole.new.out) report new_report
-    (subst (Appends report.bytes new_report.bytes) (ap (λ n. round_line n c.args.entry.now c.args.round) c.from.ensures) c.in_default.ensures.written)
-    c.in_ok-write_whole.ensures.written
+    (subst (Appends report.bytes new_report.bytes) (ap (λ n. round_line n c.args.entry.now c.args.round) c.from.ensures) c.in_default.ensures.written) c.in_default.ensures.cause.steady
+    c.in_ok-write_whole.ensures.written c.in_ok-write_whole.ensures.cause.steady

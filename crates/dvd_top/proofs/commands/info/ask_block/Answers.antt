@@ -1,4 +1,4 @@
-use Rattle.std.proofs.Common.{refl, sym, subst}
+use Rattle.std.proofs.Common.{sym, subst}
 use Rattle.dvd_capture.specs.Works.{marks_of_work, rows_of}
 use Rattle.dvd_loop.specs.Streams.{streams}
 use Rattle.dvd_loop.specs.Turns.{AreDone}
@@ -6,17 +6,14 @@ use Rattle.dvd_top.specs.Commands.Info.{IsAsked}
 use Rattle.dvd_top.proofs.InfoBlocks.{passed}
 use Rattle.dvd_top.proofs.commands.info.ask_block.Goals as goal
 
-pub returns-in-Control-clause-done : goal.returns-in-Control-clause-done
-returns-in-Control-clause-done g c = λ source report.
+pub returns-in-Control : goal.returns-in-Control
+returns-in-Control g c = λ source report.
     let old = streams source (g.K.Sink.seen c.args.out.now) report in
     let new = streams source (g.K.Sink.seen c.ask_control.new.out) report in
     subst (λ content. AreDone (IsAsked content c.args.entry.now (rows_of c.args.work.now) (marks_of_work c.args.work.now)) old new c.ask_control.result) (sym c.in-Control.is)
-    (c.ask_control.ensures.done source report)
+    (c.ask_control.ensures source report)
 
 pub returns-in-Zero : goal.returns-in-Zero
-returns-in-Zero g c = record {
-  done = λ source report.
-      passed c.args.entry.now.content c.in-Zero.is c.args.entry.now (rows_of c.args.work.now) (marks_of_work c.args.work.now)
-      (streams source (g.K.Sink.seen c.args.out.now) report);
-  causes = λ source report. record { source = refl; output = refl; report = refl };
-}
+returns-in-Zero g c = λ source report.
+    passed c.args.entry.now.content c.in-Zero.is c.args.entry.now (rows_of c.args.work.now) (marks_of_work c.args.work.now)
+    (streams source (g.K.Sink.seen c.args.out.now) report)

@@ -11,25 +11,25 @@ use Rattle.dvd_top.specs.Commands.Info.{format_lines}
 use Rattle.dvd_top.proofs.InfoBlocks.{answers, silent}
 use Rattle.dvd_top.proofs.commands.info.ask_control.Goals as goal
 
-pub returns-in_default-clause-done : goal.returns-in_default-clause-done
-returns-in_default-clause-done g c = λ source report.
+pub returns-in_default : goal.returns-in_default
+returns-in_default g c = λ source report.
     silent c.args.entry.now (rows_of c.args.work.now) (marks_of_work c.args.work.now) (streams source (g.K.Sink.seen c.args.out.now) report)
     (c.format_in.ensures.none c.in_default.is)
 
-pub returns-in_err-write_whole-clause-done : goal.returns-in_err-write_whole-clause-done
-returns-in_err-write_whole-clause-done g c = λ source report.
+pub returns-in_err-write_whole : goal.returns-in_err-write_whole
+returns-in_err-write_whole g c = λ source report.
     let format = fields_of c.in-Some.format in
     let output = g.K.Sink.seen c.args.out.now in
     let new_output = g.K.Sink.seen c.write_whole.new.out in
     write_begun _ (format_lines format) Last (answers c.args.entry.now (rows_of c.args.work.now) (marks_of_work c.args.work.now) format c.in-Some.ensures.format)
     source output new_output report c.from_residual.result (err_is c.from_residual.result WriteFault c.from_residual.ensures.1)
-    (subst (AppendsPrefix output.bytes new_output.bytes) (c.as_slice.ensures.bytes ∙ c.format_lines.ensures) c.in_err-write_whole.ensures.begun)
+    (subst (AppendsPrefix output.bytes new_output.bytes) (c.as_slice.ensures.bytes ∙ c.format_lines.ensures) c.in_err-write_whole.ensures.begun) c.in_err-write_whole.ensures.cause.failed
 
-pub returns-clause-done : goal.returns-clause-done
-returns-clause-done g c = λ source report.
+pub returns : goal.returns
+returns g c = λ source report.
     let format = fields_of c.in-Some.format in
     let output = g.K.Sink.seen c.args.out.now in
     let new_output = g.K.Sink.seen c.write_whole.new.out in
     write_done _ (format_lines format) Last (answers c.args.entry.now (rows_of c.args.work.now) (marks_of_work c.args.work.now) format c.in-Some.ensures.format)
     source output new_output report
-    (subst (Appends output.bytes new_output.bytes) (c.as_slice.ensures.bytes ∙ c.format_lines.ensures) c.in_ok-write_whole.ensures.written)
+    (subst (Appends output.bytes new_output.bytes) (c.as_slice.ensures.bytes ∙ c.format_lines.ensures) c.in_ok-write_whole.ensures.written) c.in_ok-write_whole.ensures.cause.steady

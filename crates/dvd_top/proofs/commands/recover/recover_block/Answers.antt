@@ -1,12 +1,8 @@
-use Rattle.std.proofs.Common.{refl}
 use Rattle.dvd_top.proofs.EntryBlocks.{an_image, no_image}
 use Rattle.dvd_top.proofs.commands.recover.recover_block.Goals as goal
 
 pub returns-in-Zero : goal.returns-in-Zero
-returns-in-Zero g c = record {
-  done = λ source. no_image _ c.args.entry.now.content c.in-Zero.is _;
-  causes = λ source. record { source = refl; output = refl; report = refl };
-}
+returns-in-Zero g c = λ source. no_image _ c.args.entry.now.content c.in-Zero.is _
 
-pub returns-in-Image-clause-done : goal.returns-in-Image-clause-done
-returns-in-Image-clause-done g c = λ source. an_image _ _ _ c.in-Image.is _ _ _ (c.recover_image.ensures.done source)
+pub returns-in-Image : goal.returns-in-Image
+returns-in-Image g c = λ source. an_image _ _ _ c.in-Image.is _ _ _ (c.recover_image.ensures source)

@@ -23,7 +23,7 @@ returns-in_err-write_line-clause-done g c = λ source report blocks stands.
     let r = c.read_by-answer in
     let begun = c.in_err-write_line.ensures.begun (blocks ++ block ∷ [])
     (stands_more _ c.args.work.now r.new.work c.args.entry.now _ blocks (c.add.ensures.added blocks stands) r.ensures.received r.ensures.marks r.ensures.right r.ensures.refused) in
-    write_begun _ _ _ (record { writes = refl; answers = refl }) _ _ _ _ _ (err_is _ _ c.from_residual.ensures.1) (rw (last_is blocks block) at begun)
+    write_begun _ _ _ (record { writes = refl; answers = refl }) _ _ _ _ _ (err_is _ _ c.from_residual.ensures.1) (rw (last_is blocks block) at begun) c.in_err-write_line.ensures.cause.failed
 
 pub returns-clause-survey : goal.returns-clause-survey
 returns-clause-survey g c = λ blocks stands.
@@ -39,4 +39,4 @@ returns-clause-done g c = λ source report blocks stands.
     let answers = c.turn_of.ensures ∙ ap turn_by (cause_is r.result (block_cause rows marks c.args.entry.now) r.ensures.right r.ensures.refused) in
     let written = c.in_ok-write_line.ensures.written (blocks ++ block ∷ [])
     (stands_more _ c.args.work.now r.new.work c.args.entry.now _ blocks (c.add.ensures.added blocks stands) r.ensures.received r.ensures.marks r.ensures.right r.ensures.refused) in
-    write_done _ _ _ (record { writes = refl; answers = answers }) _ _ _ _ (rw (last_is blocks block) at written)
+    write_done _ _ _ (record { writes = refl; answers = answers }) _ _ _ _ (rw (last_is blocks block) at written) c.in_ok-write_line.ensures.cause.steady

@@ -1,39 +1,28 @@
 use Rattle.std.proofs.Common.{refl}
 use Rattle.dvd_loop.specs.declared.ends.Turn.TheVariants.{Good}
-use Rattle.dvd_loop.proofs.TurnLemmas.{causes_written, err_is, write_begun, write_done}
+use Rattle.dvd_loop.proofs.TurnLemmas.{err_is, write_begun, write_done}
 use Rattle.dvd_top.proofs.CapturedTurns.{captured_done, captured_short}
 use Rattle.dvd_top.proofs.ConvertedBlocks.{converted}
 use Rattle.dvd_top.proofs.commands.convert.ConvertingTurns.turn.Goals as goal
 
 pub returns-in_err-fetch_block-clause-turn : goal.returns-in_err-fetch_block-clause-turn
 returns-in_err-fetch_block-clause-turn g c = λ before number ready.
-    captured_short _ c.args.self.now.form (λ k own. refl) c.args.k before number _ _ _ _ _ _ _ (err_is _ _ c.from_residual.ensures.1) c.in_err-fetch_block.ensures.ended
+    captured_short _ c.args.self.now.form (λ k own. refl) c.args.k before number _ _ _ _ _ _ _ (err_is _ _ c.from_residual.ensures.1)
+    c.in_err-fetch_block.ensures.ended (c.in_err-fetch_block.ensures.causes _ _)
 
 pub returns-in_err-write_listed-clause-turn : goal.returns-in_err-write_listed-clause-turn
 returns-in_err-write_listed-clause-turn g c = λ before number ready.
     let m = c.args.self.now in
     let fetched = c.in_ok-fetch_block.ensures.full in
     let part = c.in_err-write_listed.ensures.begun in
-    captured_done _ m.form (λ k own. refl) c.args.k before number _ _ _ _ _ _ _ fetched _ _ _
+    captured_done _ m.form (λ k own. refl) c.args.k before number _ _ _ _ _ _ _ fetched (c.in_ok-fetch_block.ensures.causes _ _) _ _ _
     (write_begun _ part.unit Good (converted m.form fetched.bytes _ _ fetched.rows_are fetched.marks_are part.unit part.is_unit)
-    _ _ _ _ _ (err_is _ _ c.from_residual-in_err-write_listed.ensures.1) part.part) tt
-
-pub returns-in_err-write_listed-clause-causes : goal.returns-in_err-write_listed-clause-causes
-returns-in_err-write_listed-clause-causes g c =
-    causes_written _ _ _ _ _ _ (err_is _ _ c.from_residual-in_err-write_listed.ensures.1)
-    (c.in_ok-fetch_block.ensures.causes (g.K.Sink.seen c.args.out.now) (g.E.Sink.seen c.args._report.now)) c.in_err-write_listed.ensures.cause.failed
+    _ _ _ _ _ (err_is _ _ c.from_residual-in_err-write_listed.ensures.1) part.part c.in_err-write_listed.ensures.cause.failed) tt
 
 pub returns-clause-turn : goal.returns-clause-turn
 returns-clause-turn g c = λ before number ready.
     let m = c.args.self.now in
     let fetched = c.in_ok-fetch_block.ensures.full in
     let whole = c.in_ok-write_listed.ensures.written in
-    captured_done _ m.form (λ k own. refl) c.args.k before number _ _ _ _ _ _ _ fetched _ _ _
-    (write_done _ whole.unit Good (converted m.form fetched.bytes _ _ fetched.rows_are fetched.marks_are whole.unit whole.is_unit) _ _ _ _ whole.grows) tt
-
-pub returns-clause-causes : goal.returns-clause-causes
-returns-clause-causes g c = record {
-  source = (c.in_ok-fetch_block.ensures.causes (g.K.Sink.seen c.args.out.now) (g.E.Sink.seen c.args._report.now)).source;
-  output = c.in_ok-write_listed.ensures.cause.steady;
-  report = refl;
-}
+    captured_done _ m.form (λ k own. refl) c.args.k before number _ _ _ _ _ _ _ fetched (c.in_ok-fetch_block.ensures.causes _ _) _ _ _
+    (write_done _ whole.unit Good (converted m.form fetched.bytes _ _ fetched.rows_are fetched.marks_are whole.unit whole.is_unit) _ _ _ _ whole.grows c.in_ok-write_listed.ensures.cause.steady) tt

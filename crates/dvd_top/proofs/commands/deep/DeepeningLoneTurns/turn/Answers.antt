@@ -1,6 +1,6 @@
 use Rattle.std.proofs.Common.{refl}
 use Rattle.dvd_layout.specs.Plan.{plan_of}
-use Rattle.dvd_loop.proofs.TurnLemmas.{causes_after, err_is}
+use Rattle.dvd_loop.proofs.TurnLemmas.{err_is}
 use Rattle.dvd_top.specs.Commands.Deep.{IsReadDeep}
 use Rattle.dvd_top.proofs.CapturedTurns.{captured_done, captured_short}
 use Rattle.dvd_top.proofs.PlanEntries.{has_numbers}
@@ -9,7 +9,8 @@ use Rattle.dvd_top.proofs.commands.deep.DeepeningLoneTurns.turn.Goals as goal
 
 pub returns-in_err-fetch_block-clause-turn : goal.returns-in_err-fetch_block-clause-turn
 returns-in_err-fetch_block-clause-turn g c = λ before number.
-    captured_short _ c.args.self.now.form (λ k own. refl) c.args.k before number _ _ _ _ _ _ _ (err_is _ _ c.from_residual.ensures.1) c.in_err-fetch_block.ensures.ended
+    captured_short _ c.args.self.now.form (λ k own. refl) c.args.k before number _ _ _ _ _ _ _ (err_is _ _ c.from_residual.ensures.1)
+    c.in_err-fetch_block.ensures.ended (c.in_err-fetch_block.ensures.causes _ _)
 
 pub deep_block-requires-clause-numbers : goal.deep_block-requires-clause-numbers
 deep_block-requires-clause-numbers g c =
@@ -21,11 +22,6 @@ returns-clause-turn g c = λ before number.
     let m = c.args.self.now in
     let fetched = c.in_ok-fetch_block.ensures.full in
     let stands = rw c.from.ensures at c.plan-entry.ensures in
-    captured_done _ m.form (λ k own. refl) c.args.k before number _ _ _ _ _ _ _ fetched _ _ _
+    captured_done _ m.form (λ k own. refl) c.args.k before number _ _ _ _ _ _ _ fetched (c.in_ok-fetch_block.ensures.causes _ _) _ _ _
     (done_by_entry (plan_of m.layout m.zones) (λ e. IsReadDeep e.content m.layout c.args.k e) m.form c.args.k c.plan-entry.result stands fetched.bytes _ _ fetched.rows_are fetched.marks_are
-    _ _ _ (c.deep_block.ensures.done (g.S.Source.seen c.fetch_block.new.src))) tt
-
-pub returns-clause-causes : goal.returns-clause-causes
-returns-clause-causes g c =
-    causes_after c.deep_block.result _ _ _ (c.in_ok-fetch_block.ensures.causes (g.K.Sink.seen c.args.out.now) (g.E.Sink.seen c.args.report.now))
-    (c.deep_block.ensures.causes (g.S.Source.seen c.fetch_block.new.src))
+    _ _ _ (c.deep_block.ensures (g.S.Source.seen c.fetch_block.new.src))) tt

@@ -52,5 +52,6 @@ returns-clause-turn g c = λ before number ready.
       steps = [];
       unit = record { whole = refl; does = (refl, refl) };
       moved = stays _;
+      causes = record { source = refl; output = refl; report = refl };
       next = (subst (λ n. IsBehind e.seed n new_state counts new_work) (sym (length-append before ([] ∷ []) ∙ ap (λ n. n + 1) number)) next, ready.1, ready.2);
     }

@@ -1,6 +1,6 @@
 use Rattle.std.proofs.Common.{refl}
 use Rattle.dvd_layout.specs.Plan.{lead_in_blocks}
-use Rattle.dvd_loop.proofs.TurnLemmas.{causes_after, err_is}
+use Rattle.dvd_loop.proofs.TurnLemmas.{err_is}
 use Rattle.dvd_top.specs.Commands.Info.{IsAsked}
 use Rattle.dvd_top.proofs.CapturedTurns.{captured_done, captured_short}
 use Rattle.dvd_top.proofs.EntryBlocks.{done_by_entry}
@@ -9,7 +9,8 @@ use Rattle.dvd_top.proofs.commands.info.InfoTurns.turn.Goals as goal
 
 pub returns-in_err-fetch_block-clause-turn : goal.returns-in_err-fetch_block-clause-turn
 returns-in_err-fetch_block-clause-turn g c = λ before number ready.
-    captured_short _ c.args.self.now.form (λ k own. refl) c.args.k before number _ _ _ _ _ _ _ (err_is _ _ c.from_residual.ensures.1) c.in_err-fetch_block.ensures.ended
+    captured_short _ c.args.self.now.form (λ k own. refl) c.args.k before number _ _ _ _ _ _ _ (err_is _ _ c.from_residual.ensures.1)
+    c.in_err-fetch_block.ensures.ended (c.in_err-fetch_block.ensures.causes _ _)
 
 pub ask_block-requires-clause-numbers : goal.ask_block-requires-clause-numbers
 ask_block-requires-clause-numbers g c =
@@ -20,11 +21,6 @@ pub returns-clause-turn : goal.returns-clause-turn
 returns-clause-turn g c = λ before number ready.
     let m = c.args.self.now in
     let fetched = c.in_ok-fetch_block.ensures.full in
-    captured_done _ m.form (λ k own. refl) c.args.k before number _ _ _ _ _ _ _ fetched _ _ _
+    captured_done _ m.form (λ k own. refl) c.args.k before number _ _ _ _ _ _ _ fetched (c.in_ok-fetch_block.ensures.causes _ _) _ _ _
     (done_by_entry (lead_in_blocks m.initial) (λ e. IsAsked e.content e) m.form c.args.k c.lead_in_block-entry.result c.lead_in_block-entry.ensures fetched.bytes _ _ fetched.rows_are fetched.marks_are
-    _ _ _ (c.ask_block.ensures.done (g.S.Source.seen c.fetch_block.new.src) (g.E.Sink.seen c.args._report.now))) tt
-
-pub returns-clause-causes : goal.returns-clause-causes
-returns-clause-causes g c =
-    causes_after c.ask_block.result _ _ _ (c.in_ok-fetch_block.ensures.causes (g.K.Sink.seen c.args.out.now) (g.E.Sink.seen c.args._report.now))
-    (c.ask_block.ensures.causes (g.S.Source.seen c.fetch_block.new.src) (g.E.Sink.seen c.args._report.now))
+    _ _ _ (c.ask_block.ensures (g.S.Source.seen c.fetch_block.new.src) (g.E.Sink.seen c.args._report.now))) tt

@@ -1,6 +1,6 @@
 use Rattle.std.proofs.Common.{◌≡◌, refl, sym, ◌∙◌}
 use Rattle.dvd_block.specs.Buffers.{piece_bytes}
-use Rattle.dvd_loop.proofs.TurnLemmas.{causes_written, err_is, sized_done, sized_short, write_begun, write_done}
+use Rattle.dvd_loop.proofs.TurnLemmas.{err_is, sized_done, sized_short, write_begun, write_done}
 use Rattle.dvd_top.specs.Commands.Master.{bytes_of_block}
 use Rattle.dvd_top.proofs.MasterBlocks.{mastered, size_is}
 use Rattle.dvd_top.proofs.PlanEntries.{has_numbers}
@@ -11,7 +11,8 @@ returns-in_err-read_image-clause-turn g c = λ before number.
     let m = c.args.self.now in
     let stands = rw c.from.ensures at c.plan-entry.ensures in
     let size : c.image_size-size.result ≡ bytes_of_block m.layout m.zones c.args.k = c.image_size-size.ensures.value ∙ sym (size_is m.layout m.zones c.args.k c.plan-entry.result stands) in
-    sized_short _ _ (λ k own. refl) c.args.k before number _ _ _ _ _ _ _ (err_is _ _ c.from_residual.ensures.1) (rw size at c.in_err-read_image.ensures.short)
+    sized_short _ _ (λ k own. refl) c.args.k before number _ _ _ _ _ _ _ (err_is _ _ c.from_residual.ensures.1)
+    (rw size at c.in_err-read_image.ensures.short) (c.in_err-read_image.ensures.causes _ _)
 
 pub fill_block-requires-clause-numbers : goal.fill_block-requires-clause-numbers
 fill_block-requires-clause-numbers g c = has_numbers c.args.self.now.layout c.args.self.now.zones c.from.result c.plan-entry.result c.plan-entry.ensures
@@ -23,13 +24,8 @@ returns-in_err-write_recording-clause-turn g c = λ before number.
     let read = c.in_ok-read_image.ensures in
     let is = mastered m.layout m.zones c.args.k c.plan-entry.result stands m.cpr (piece_bytes c.read_image.new.piece) _ _ c.image_size-size.ensures.value read.length
     c.image_size-size.ensures.most read.zeros c.bytes.ensures.bytes _ c.fill_block.ensures in
-    sized_done _ _ (λ k own. refl) c.args.k before number _ _ _ _ _ _ is.0 c.in_ok-read_image.ensures.whole _ _ _
-    (write_begun _ _ _ is.1 _ _ _ _ _ (err_is _ _ c.from_residual-in_err-write_recording.ensures.1) c.in_err-write_recording.ensures.begun) tt
-
-pub returns-in_err-write_recording-clause-causes : goal.returns-in_err-write_recording-clause-causes
-returns-in_err-write_recording-clause-causes g c =
-    causes_written _ _ _ _ _ _ (err_is _ _ c.from_residual-in_err-write_recording.ensures.1)
-    (c.in_ok-read_image.ensures.causes (g.K.Sink.seen c.args.out.now) (g.E.Sink.seen c.args._report.now)) c.in_err-write_recording.ensures.cause.failed
+    sized_done _ _ (λ k own. refl) c.args.k before number _ _ _ _ _ _ is.0 c.in_ok-read_image.ensures.whole (c.in_ok-read_image.ensures.causes _ _) _ _ _
+    (write_begun _ _ _ is.1 _ _ _ _ _ (err_is _ _ c.from_residual-in_err-write_recording.ensures.1) c.in_err-write_recording.ensures.begun c.in_err-write_recording.ensures.cause.failed) tt
 
 pub returns-clause-turn : goal.returns-clause-turn
 returns-clause-turn g c = λ before number.
@@ -38,12 +34,5 @@ returns-clause-turn g c = λ before number.
     let read = c.in_ok-read_image.ensures in
     let is = mastered m.layout m.zones c.args.k c.plan-entry.result stands m.cpr (piece_bytes c.read_image.new.piece) _ _ c.image_size-size.ensures.value read.length
     c.image_size-size.ensures.most read.zeros c.bytes.ensures.bytes _ c.fill_block.ensures in
-    sized_done _ _ (λ k own. refl) c.args.k before number _ _ _ _ _ _ is.0 c.in_ok-read_image.ensures.whole _ _ _
-    (write_done _ _ _ is.1 _ _ _ _ c.in_ok-write_recording.ensures.written) tt
-
-pub returns-clause-causes : goal.returns-clause-causes
-returns-clause-causes g c = record {
-  source = (c.in_ok-read_image.ensures.causes (g.K.Sink.seen c.args.out.now) (g.E.Sink.seen c.args._report.now)).source;
-  output = c.in_ok-write_recording.ensures.cause.steady;
-  report = refl;
-}
+    sized_done _ _ (λ k own. refl) c.args.k before number _ _ _ _ _ _ is.0 c.in_ok-read_image.ensures.whole (c.in_ok-read_image.ensures.causes _ _) _ _ _
+    (write_done _ _ _ is.1 _ _ _ _ c.in_ok-write_recording.ensures.written c.in_ok-write_recording.ensures.cause.steady) tt

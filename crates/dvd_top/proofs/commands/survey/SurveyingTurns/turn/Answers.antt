@@ -1,17 +1,19 @@
 use Rattle.std.proofs.Common.{◌≤◌, ◌<◌, length, refl, arith}
 use Rattle.dvd_layout.specs.Plan.{plan_of}
-use Rattle.dvd_loop.proofs.TurnLemmas.{causes_after, err_is}
+use Rattle.dvd_loop.proofs.TurnLemmas.{err_is}
 use Rattle.dvd_report.proofs.Answered.{blocks-counted}
 use Rattle.dvd_top.specs.Commands.Survey.{found_in}
 use Rattle.dvd_top.proofs.CapturedTurns.{captured_done, captured_short}
 use Rattle.dvd_top.proofs.Lengths.{plan-few}
 use Rattle.dvd_top.proofs.PlanEntries.{has_numbers}
 use Rattle.dvd_top.proofs.SurveyBlocks.{length-found, line_done, next_stands}
+use Rattle.dvd_top.proofs.TwoSteps.{done_as}
 use Rattle.dvd_top.proofs.commands.survey.SurveyingTurns.turn.Goals as goal
 
 pub returns-in_err-fetch_block-clause-turn : goal.returns-in_err-fetch_block-clause-turn
 returns-in_err-fetch_block-clause-turn g c = λ before number ready.
-    captured_short _ c.args.self.now.form (λ k own. refl) c.args.k before number _ _ _ _ _ _ _ (err_is _ _ c.from_residual.ensures.1) c.in_err-fetch_block.ensures.ended
+    captured_short _ c.args.self.now.form (λ k own. refl) c.args.k before number _ _ _ _ _ _ _ (err_is _ _ c.from_residual.ensures.1)
+    c.in_err-fetch_block.ensures.ended (c.in_err-fetch_block.ensures.causes _ _)
 
 pub survey_block-requires-clause-numbers : goal.survey_block-requires-clause-numbers
 survey_block-requires-clause-numbers g c =
@@ -37,15 +39,10 @@ returns-clause-turn g c = λ before number ready.
     let stands = rw c.from.ensures at c.plan-entry.ensures in
     let fetched = c.in_ok-fetch_block.ensures.full in
     let found = found_in m.layout m.zones m.form before in
-    captured_done _ m.form (λ k own. refl) c.args.k before number _ _ _ _ _ _ _ fetched _ _ _
-    (line_done m.layout m.zones m.form c.args.k before number fetched.bytes entry stands _ _ fetched.rows_are fetched.marks_are c.requires.unit
+    captured_done _ m.form (λ k own. refl) c.args.k before number _ _ _ _ _ _ _ fetched (c.in_ok-fetch_block.ensures.causes _ _) _ _ _
+    (done_as _ _ (line_done m.layout m.zones m.form c.args.k before number fetched.bytes entry stands _ _ fetched.rows_are fetched.marks_are c.requires.unit)
     _ _ _ (c.survey_block.ensures.done (g.S.Source.seen c.fetch_block.new.src) (g.E.Sink.seen c.args._report.now) found ready.0)) (
       next_stands m.layout m.zones m.form c.args.k before number fetched.bytes entry stands _ _ fetched.rows_are fetched.marks_are
           c.survey_block.new.survey (c.survey_block.ensures.survey found ready.0),
       ready.1,
     )
-
-pub returns-clause-causes : goal.returns-clause-causes
-returns-clause-causes g c =
-    causes_after c.survey_block.result _ _ _ (c.in_ok-fetch_block.ensures.causes (g.K.Sink.seen c.args.out.now) (g.E.Sink.seen c.args._report.now))
-    (c.survey_block.ensures.causes (g.S.Source.seen c.fetch_block.new.src) (g.E.Sink.seen c.args._report.now))
