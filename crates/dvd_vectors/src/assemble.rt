@@ -1,10 +1,9 @@
 //! Scattered recording frames put in order: whatever their order, with repeats, gaps and strays.
-use crate::cases::{Runs, Written, hold};
+use crate::cases::{Held, Runs, Written, hold};
 use crate::fixture::{BLOCK, MARKED, NO_FAULT};
 use crate::making::Step;
 use crate::reading::{Hit, ONE};
 use dvd_top::Status;
-use std::test::Fail;
 
 // The bytes of a recording frame.
 const FRAME: usize = 2366;
@@ -120,6 +119,6 @@ static RUNS: [Runs; 7] = [
 ];
 
 #[test]
-fn scattered_frames_are_put_in_order(rt: HostRuntime) -> Result<(), Fail> {
+fn scattered_frames_are_put_in_order(rt: HostRuntime) -> Held {
     hold(&rt, &RUNS)
 }

@@ -1,10 +1,9 @@
 //! CD-ROM sectors that are made, and their user data, by whole runs.
-use crate::cases::{Runs, Written, hold};
+use crate::cases::{Held, Runs, Written, hold};
 use crate::fixture::NO_FAULT;
 use crate::making::Step;
 use crate::reading::{Hit, ONE};
 use dvd_top::Status;
-use std::test::Fail;
 
 const MAKE: &[&str] = &["cdmake --address 150 --sectors 1"];
 
@@ -17,11 +16,9 @@ static MADE: [Runs; 4] = [
         words: MAKE,
         over: &[Step::Bytes(2048, 0)],
         cases: &[(&[], NO_FAULT, (Status::Done, 2352, "done\n"))],
-        writes: Written::Digest([
-            0xB4, 0xF1, 0x8A, 0xB6, 0x67, 0x09, 0xC9, 0xB3, 0xFD, 0xEF, 0x27, 0x21, 0xCC, 0x32,
-            0x3E, 0x03, 0x1B, 0x67, 0x28, 0xF3, 0xCA, 0x6C, 0x57, 0xB7, 0xC4, 0x35, 0xC9, 0x61,
-            0x89, 0x22, 0x22, 0x50,
-        ]),
+        writes: Written::Digest(
+            *b"\xB4\xF1\x8A\xB6\x67\x09\xC9\xB3\xFD\xEF\x27\x21\xCC\x32\x3E\x03\x1B\x67\x28\xF3\xCA\x6C\x57\xB7\xC4\x35\xC9\x61\x89\x22\x22\x50",
+        ),
     },
     // How it begins.
     Runs {
@@ -40,11 +37,9 @@ static MADE: [Runs; 4] = [
         words: MAKE,
         over: &[Step::Counted],
         cases: &[(&[], NO_FAULT, (Status::Done, 2352, "done\n"))],
-        writes: Written::Digest([
-            0x53, 0x5D, 0x2B, 0x4A, 0xE3, 0xC6, 0xB5, 0xDC, 0xF3, 0xBE, 0x1B, 0x31, 0x45, 0xBD,
-            0xBE, 0x0C, 0x67, 0x80, 0x83, 0x98, 0x2D, 0xFB, 0xC7, 0x81, 0xC5, 0x5B, 0xA1, 0x47,
-            0x29, 0x89, 0x6B, 0x47,
-        ]),
+        writes: Written::Digest(
+            *b"\x53\x5D\x2B\x4A\xE3\xC6\xB5\xDC\xF3\xBE\x1B\x31\x45\xBD\xBE\x0C\x67\x80\x83\x98\x2D\xFB\xC7\x81\xC5\x5B\xA1\x47\x29\x89\x6B\x47",
+        ),
     },
     // Its EDC, and parities.
     Runs {
@@ -60,7 +55,7 @@ static MADE: [Runs; 4] = [
 ];
 
 #[test]
-fn the_sectors_of_another_program(rt: HostRuntime) -> Result<(), Fail> {
+fn the_sectors_of_another_program(rt: HostRuntime) -> Held {
     hold(&rt, &MADE)
 }
 
@@ -216,6 +211,6 @@ static ENDS: [Runs; 9] = [
 ];
 
 #[test]
-fn each_run_ends_as_its_input_says(rt: HostRuntime) -> Result<(), Fail> {
+fn each_run_ends_as_its_input_says(rt: HostRuntime) -> Held {
     hold(&rt, &ENDS)
 }

@@ -1,40 +1,20 @@
 //! Captures in the plain and the marked form converted to the form that states its layout.
-use crate::cases::{Alike, Runs, Written, are_alike, hold};
+use crate::cases::{Alike, Held, Runs, Written, are_alike, hold};
 use crate::fixture::{BLOCK, NO_FAULT, SOUND};
-use crate::listed::{MARKS, RUNS, SEVENTEEN, SIXTEEN};
+use crate::listed::{
+    MARKS, OF_ONE_LAYER, OF_OPPOSITE, OF_PARALLEL, ONE_LAYER, OPPOSITE, PARALLEL, RUNS, SEVENTEEN,
+    SIXTEEN,
+};
 use crate::making::Step;
 use crate::reading::{Hit, ONE};
 use dvd_top::Status;
-use std::test::Fail;
 
 const ONE_BLOCK: &[Step] = &[Step::Image(16), Step::Run("master --sectors 16", BLOCK)];
 
 const TWO_BLOCKS: &[Step] = &[Step::Image(17), Step::Run("master --sectors 17", 2 * BLOCK)];
 
-// Damaged streams of disks: every 31st byte is wrong.
-const ONE_LAYER: &[Step] = &[
-    Step::Image(18),
-    Step::Run("master --sectors 18", 2 * BLOCK),
-    Step::Read(&[(0, (2443, 31), ONE, Hit::Wrong(0x55))]),
-];
-
-const PARALLEL: &[Step] = &[
-    Step::Image(33),
-    Step::Run(
-        "master --sectors 16 --sectors1 17 --shape parallel --tail 0",
-        3 * BLOCK,
-    ),
-    Step::Read(&[(0, (3664, 31), ONE, Hit::Wrong(0x55))]),
-];
-
-const OPPOSITE: &[Step] = &[
-    Step::Image(49),
-    Step::Run(
-        "master --sectors 32 --sectors1 17 --shape opposite --initial 12031",
-        4 * BLOCK,
-    ),
-    Step::Read(&[(0, (4885, 31), ONE, Hit::Wrong(0x55))]),
-];
+// Every 31st byte of a stream is wrong.
+const EVERY_31ST: Step = Step::Read(&[(0, (4885, 31), ONE, Hit::Wrong(0x55))]);
 
 static CONVERTED: [Runs; 8] = [
     // How the listed capture of a block begins, and how it ends without runs and where all places are marked.
@@ -57,7 +37,7 @@ static CONVERTED: [Runs; 8] = [
         words: &["convert --sectors 16 --form marked"],
         over: ONE_BLOCK,
         cases: &[(
-            &[Step::Marked(&[&[(0, ONE, (BLOCK, 1), Hit::Doubtful)]])],
+            &[Step::Marked(&[&[(0, ONE, (BLOCK, 1), Hit::Doubtful(0))]])],
             NO_FAULT,
             (Status::Done, 37_894, "done\n"),
         )],
@@ -67,59 +47,38 @@ static CONVERTED: [Runs; 8] = [
         words: &["convert --sectors 16"],
         over: ONE_BLOCK,
         cases: &[(&[], NO_FAULT, (Status::Done, 37_890, "done\n"))],
-        writes: Written::Front(&[
-            Step::Image(16),
-            Step::Run("master --sectors 16", BLOCK),
-            Step::Listed(SIXTEEN, &[]),
-        ]),
+        writes: Written::Made(&[Step::Listed(SIXTEEN, &[])]),
     },
     // All places are marked.
     Runs {
         words: &["convert --sectors 16 --form marked"],
         over: ONE_BLOCK,
         cases: &[(
-            &[Step::Marked(&[&[(0, ONE, (BLOCK, 1), Hit::Doubtful)]])],
+            &[Step::Marked(&[&[(0, ONE, (BLOCK, 1), Hit::Doubtful(0))]])],
             NO_FAULT,
             (Status::Done, 37_894, "done\n"),
         )],
-        writes: Written::Front(&[
-            Step::Image(16),
-            Step::Run("master --sectors 16", BLOCK),
-            Step::Listed(SIXTEEN, &[(0, 37_856)]),
-        ]),
+        writes: Written::Made(&[Step::Listed(SIXTEEN, &[(0, 37_856)])]),
     },
     Runs {
         words: &["convert --form marked --sectors 18"],
         over: ONE_LAYER,
         cases: &[(
-            &[Step::Marked(&[MARKS])],
+            &[EVERY_31ST, Step::Marked(&[MARKS])],
             NO_FAULT,
             (Status::Done, 32 + 2 * 37_874, "done\n"),
         )],
-        writes: Written::Front(&[
-            Step::Image(18),
-            Step::Run("master --sectors 18", 2 * BLOCK),
-            Step::Read(&[(0, (2443, 31), ONE, Hit::Wrong(0x55))]),
-            Step::Listed((0, 0, [18, 0, 0, 16]), RUNS),
-        ]),
+        writes: Written::Made(&[EVERY_31ST, Step::Listed(OF_ONE_LAYER, RUNS)]),
     },
     Runs {
         words: &["convert --form marked --sectors 16 --sectors1 17 --shape parallel --tail 0"],
         over: PARALLEL,
         cases: &[(
-            &[Step::Marked(&[MARKS])],
+            &[EVERY_31ST, Step::Marked(&[MARKS])],
             NO_FAULT,
             (Status::Done, 32 + 3 * 37_874, "done\n"),
         )],
-        writes: Written::Front(&[
-            Step::Image(33),
-            Step::Run(
-                "master --sectors 16 --sectors1 17 --shape parallel --tail 0",
-                3 * BLOCK,
-            ),
-            Step::Read(&[(0, (3664, 31), ONE, Hit::Wrong(0x55))]),
-            Step::Listed((1, 0, [16, 17, 0, 0]), RUNS),
-        ]),
+        writes: Written::Made(&[EVERY_31ST, Step::Listed(OF_PARALLEL, RUNS)]),
     },
     Runs {
         words: &[
@@ -127,19 +86,11 @@ static CONVERTED: [Runs; 8] = [
         ],
         over: OPPOSITE,
         cases: &[(
-            &[Step::Marked(&[MARKS])],
+            &[EVERY_31ST, Step::Marked(&[MARKS])],
             NO_FAULT,
             (Status::Done, 32 + 4 * 37_874, "done\n"),
         )],
-        writes: Written::Front(&[
-            Step::Image(49),
-            Step::Run(
-                "master --sectors 32 --sectors1 17 --shape opposite --initial 12031",
-                4 * BLOCK,
-            ),
-            Step::Read(&[(0, (4885, 31), ONE, Hit::Wrong(0x55))]),
-            Step::Listed((2, 0, [32, 17, 12_031, 16]), RUNS),
-        ]),
+        writes: Written::Made(&[EVERY_31ST, Step::Listed(OF_OPPOSITE, RUNS)]),
     },
     // Streams that aren't whole. The header stands before anything is read.
     Runs {
@@ -172,16 +123,12 @@ static CONVERTED: [Runs; 8] = [
                 (Status::WriteFault, 0, "write fault\n"),
             ),
         ],
-        writes: Written::Front(&[
-            Step::Image(17),
-            Step::Run("master --sectors 17", 2 * BLOCK),
-            Step::Listed(SEVENTEEN, &[]),
-        ]),
+        writes: Written::Made(&[Step::Listed(SEVENTEEN, &[])]),
     },
 ];
 
 #[test]
-fn captures_are_converted(rt: HostRuntime) -> Result<(), Fail> {
+fn captures_are_converted(rt: HostRuntime) -> Held {
     hold(&rt, &CONVERTED)
 }
 
@@ -191,11 +138,11 @@ static READ: [Alike; 3] = [
         pairs: &[(
             (
                 "recover --form marked --sectors 18",
-                &[Step::Marked(&[MARKS])],
+                &[EVERY_31ST, Step::Marked(&[MARKS])],
             ),
             (
                 "recover --form listed",
-                &[Step::Listed((0, 0, [18, 0, 0, 16]), RUNS)],
+                &[EVERY_31ST, Step::Listed(OF_ONE_LAYER, RUNS)],
             ),
         )],
     },
@@ -204,11 +151,11 @@ static READ: [Alike; 3] = [
         pairs: &[(
             (
                 "recover --form marked --sectors 16 --sectors1 17 --shape parallel --tail 0",
-                &[Step::Marked(&[MARKS])],
+                &[EVERY_31ST, Step::Marked(&[MARKS])],
             ),
             (
                 "recover --form listed",
-                &[Step::Listed((1, 0, [16, 17, 0, 0]), RUNS)],
+                &[EVERY_31ST, Step::Listed(OF_PARALLEL, RUNS)],
             ),
         )],
     },
@@ -217,17 +164,17 @@ static READ: [Alike; 3] = [
         pairs: &[(
             (
                 "recover --form marked --sectors 32 --sectors1 17 --shape opposite --initial 12031",
-                &[Step::Marked(&[MARKS])],
+                &[EVERY_31ST, Step::Marked(&[MARKS])],
             ),
             (
                 "recover --form listed",
-                &[Step::Listed((2, 0, [32, 17, 12_031, 16]), RUNS)],
+                &[EVERY_31ST, Step::Listed(OF_OPPOSITE, RUNS)],
             ),
         )],
     },
 ];
 
 #[test]
-fn what_is_converted_is_read_the_same(rt: HostRuntime) -> Result<(), Fail> {
+fn what_is_converted_is_read_the_same(rt: HostRuntime) -> Held {
     are_alike(&rt, &READ)
 }

@@ -1,20 +1,32 @@
 //! Damaged blocks with marks: up to the bound all comes back. A block beyond it is named, and its frames come back whose
 //! rows are all read.
-use crate::cases::{Runs, Written, hold};
+use crate::cases::{Held, Runs, Written, hold};
 use crate::fixture::{BLOCK, NO_FAULT};
 use crate::making::Step;
 use crate::reading::{Hit, Hits, ONE};
 use dvd_top::Status;
-use std::test::Fail;
 
-// Each row of two blocks is damaged as far as its own parity bears: in every second one five bytes are wrong ..
+// Each row of two blocks is damaged as far as its own parity bears. In every second one bytes are wrong, 37 places apart, one place
+// further in each row, and from the first place on again ..
 const FIVE_WRONG: Step = Step::Read(&[
-    (0, (104, 2 * 182 + 1), (5, 15), Hit::Wrong(0x55)),
-    (BLOCK, (104, 2 * 182 + 1), (5, 15), Hit::Wrong(0x55)),
+    (0, (19, 366), (5, 37), Hit::Wrong(0x55)),
+    (38 * 182 + 1, (18, 366), (5, 37), Hit::Wrong(0x55)),
+    (74 * 182, (19, 366), (5, 37), Hit::Wrong(0x55)),
+    (112 * 182 + 1, (18, 366), (5, 37), Hit::Wrong(0x55)),
+    (148 * 182, (19, 366), (5, 37), Hit::Wrong(0x55)),
+    (186 * 182 + 1, (11, 366), (5, 37), Hit::Wrong(0x55)),
+    (BLOCK, (19, 366), (5, 37), Hit::Wrong(0x55)),
+    (BLOCK + 38 * 182 + 1, (18, 366), (5, 37), Hit::Wrong(0x55)),
+    (BLOCK + 74 * 182, (19, 366), (5, 37), Hit::Wrong(0x55)),
+    (BLOCK + 112 * 182 + 1, (18, 366), (5, 37), Hit::Wrong(0x55)),
+    (BLOCK + 148 * 182, (19, 366), (5, 37), Hit::Wrong(0x55)),
+    (BLOCK + 186 * 182 + 1, (11, 366), (5, 37), Hit::Wrong(0x55)),
 ]);
 
-// .. and in each other one ten are lost.
+// .. and in each other one ten are lost. The two spare bits of its marks play no part.
 const TEN_LOST: &[Hits] = &[(182, (208, 2 * 182), (10, 1), Hit::Lost)];
+
+const SPARE_BITS: Step = Step::Read(&[(204, (416, 205), ONE, Hit::Wrong(0b11))]);
 
 // The recordings of 16 and of 17 sectors.
 const SIXTEEN: &[Step] = &[
@@ -42,7 +54,10 @@ static RUNS: [Runs; 5] = [
                 (Status::Done, 34_816, "done\n"),
             ),
             (
-                &[Step::Marked(&[TEN_LOST, &[(0, (2, BLOCK), (16 * 182, 1), Hit::Lost)]])],
+                &[
+                    Step::Marked(&[TEN_LOST, &[(0, (2, BLOCK), (16 * 182, 1), Hit::Lost)]]),
+                    SPARE_BITS,
+                ],
                 NO_FAULT,
                 (Status::Done, 34_816, "done\n"),
             ),
@@ -54,7 +69,10 @@ static RUNS: [Runs; 5] = [
         words: &["recover --sectors 17 --form marked"],
         over: SEVENTEEN,
         cases: &[(
-            &[Step::Marked(&[TEN_LOST, &[(0, (2, BLOCK), (17 * 182, 1), Hit::Lost)]])],
+            &[
+                Step::Marked(&[TEN_LOST, &[(0, (2, BLOCK), (17 * 182, 1), Hit::Lost)]]),
+                SPARE_BITS,
+            ],
             NO_FAULT,
             (
                 Status::Damaged,
@@ -140,6 +158,6 @@ static RUNS: [Runs; 5] = [
 ];
 
 #[test]
-fn what_can_be_read_of_damaged_blocks_comes_back(rt: HostRuntime) -> Result<(), Fail> {
+fn what_can_be_read_of_damaged_blocks_comes_back(rt: HostRuntime) -> Held {
     hold(&rt, &RUNS)
 }

@@ -1,11 +1,10 @@
 //! Disks of every shape with all of their zones, mastered and read back. The digests and the first bytes were computed
 //! by another program from the standard.
-use crate::cases::{Runs, Written, hold};
+use crate::cases::{Held, Runs, Written, hold};
 use crate::fixture::{BLOCK, NEVER, NO_FAULT, Ports, SOUND};
 use crate::making::Step;
 use crate::reading::{Hit, Hits, ONE};
 use dvd_top::Status;
-use std::test::Fail;
 
 // An output with room for the stream of every disk.
 const ROOM: &[Ports] = &[(SOUND, (BLOCK, NEVER, 548 * BLOCK), SOUND)];
@@ -15,11 +14,9 @@ static MASTERED: [Runs; 4] = [
         words: &["master --sectors 17 --zones all --cpr 0102030405ab"],
         over: &[Step::Image(17)],
         cases: &[(&[], ROOM, (Status::Done, 274 * BLOCK, "done\n"))],
-        writes: Written::Digest([
-            0x75, 0x93, 0xF9, 0xF7, 0x51, 0xD3, 0x56, 0xA4, 0x63, 0x7B, 0x1F, 0x39, 0x78, 0xF3,
-            0x0B, 0x3B, 0x2C, 0x1A, 0x03, 0x24, 0x25, 0xC6, 0x7A, 0x83, 0xC2, 0xF0, 0x53, 0x26,
-            0xEB, 0x58, 0x14, 0xCF,
-        ]),
+        writes: Written::Digest(
+            *b"\x75\x93\xF9\xF7\x51\xD3\x56\xA4\x63\x7B\x1F\x39\x78\xF3\x0B\x3B\x2C\x1A\x03\x24\x25\xC6\x7A\x83\xC2\xF0\x53\x26\xEB\x58\x14\xCF",
+        ),
     },
     Runs {
         words: &[
@@ -27,11 +24,9 @@ static MASTERED: [Runs; 4] = [
         ],
         over: &[Step::Image(49)],
         cases: &[(&[], ROOM, (Status::Done, 548 * BLOCK, "done\n"))],
-        writes: Written::Digest([
-            0x37, 0x26, 0x9F, 0xF7, 0x02, 0xDA, 0xA0, 0xB3, 0x89, 0xB3, 0x95, 0xF4, 0x12, 0x84,
-            0x5B, 0xAE, 0x2D, 0xC1, 0x7A, 0xE6, 0x13, 0x1F, 0xAD, 0xA2, 0xA8, 0xE3, 0x51, 0x28,
-            0x8B, 0x27, 0x4F, 0x9B,
-        ]),
+        writes: Written::Digest(
+            *b"\x37\x26\x9F\xF7\x02\xDA\xA0\xB3\x89\xB3\x95\xF4\x12\x84\x5B\xAE\x2D\xC1\x7A\xE6\x13\x1F\xAD\xA2\xA8\xE3\x51\x28\x8B\x27\x4F\x9B",
+        ),
     },
     Runs {
         words: &[
@@ -39,11 +34,9 @@ static MASTERED: [Runs; 4] = [
         ],
         over: &[Step::Image(49)],
         cases: &[(&[], ROOM, (Status::Done, 308 * BLOCK, "done\n"))],
-        writes: Written::Digest([
-            0xBA, 0x11, 0xD7, 0x27, 0x46, 0x02, 0x99, 0x54, 0x2C, 0x3A, 0xE8, 0xD2, 0xD2, 0x01,
-            0x02, 0xB5, 0x31, 0x21, 0x9B, 0x51, 0x2E, 0xF1, 0x86, 0x03, 0xC3, 0x57, 0x5D, 0x84,
-            0xF9, 0x27, 0x75, 0x39,
-        ]),
+        writes: Written::Digest(
+            *b"\xBA\x11\xD7\x27\x46\x02\x99\x54\x2C\x3A\xE8\xD2\xD2\x01\x02\xB5\x31\x21\x9B\x51\x2E\xF1\x86\x03\xC3\x57\x5D\x84\xF9\x27\x75\x39",
+        ),
     },
     // On the opposite track path, where each zone begins, and with which sixteen bytes.
     Runs {
@@ -94,7 +87,7 @@ static MASTERED: [Runs; 4] = [
 ];
 
 #[test]
-fn every_zone_of_every_shape_is_mastered(rt: HostRuntime) -> Result<(), Fail> {
+fn every_zone_of_every_shape_is_mastered(rt: HostRuntime) -> Held {
     hold(&rt, &MASTERED)
 }
 
@@ -144,6 +137,6 @@ static READ_BACK: [Runs; 3] = [
 ];
 
 #[test]
-fn every_zone_of_every_shape_is_read_back(rt: HostRuntime) -> Result<(), Fail> {
+fn every_zone_of_every_shape_is_read_back(rt: HostRuntime) -> Held {
     hold(&rt, &READ_BACK)
 }

@@ -1,8 +1,7 @@
 //! The line of `exercise`, whose numbers another program computed from the standard; it reads nothing.
-use crate::cases::{Runs, Written, hold};
+use crate::cases::{Held, Runs, Written, hold};
 use crate::fixture::{Ports, SOUND};
 use dvd_top::Status;
-use std::test::Fail;
 
 // A source that fails at once.
 const NO_SOURCE: &[Ports] = &[((1, 0, 0), SOUND, SOUND)];
@@ -38,6 +37,6 @@ static RUNS: [Runs; 3] = [
 ];
 
 #[test]
-fn drawn_blocks_are_read_back(rt: HostRuntime) -> Result<(), Fail> {
+fn drawn_blocks_are_read_back(rt: HostRuntime) -> Held {
     hold(&rt, &RUNS)
 }

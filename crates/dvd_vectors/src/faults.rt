@@ -1,9 +1,8 @@
 //! How much exactly is left after a fault, and the lines.
-use crate::cases::{Case, Runs, Written, hold};
+use crate::cases::{Case, Held, Runs, Written, hold};
 use crate::fixture::{BLOCK, NEVER, NO_FAULT, SOUND};
 use crate::making::Step;
 use dvd_top::Status;
-use std::test::Fail;
 
 // Reads of 700 bytes: three for a sector. Then outputs that have no room for both frames, and reports for the closing line.
 const FRAMES: &[Case] = &[
@@ -204,16 +203,13 @@ static RUNS: [Runs; 6] = [
         words: &["frames --first 030000 --sectors 2"],
         over: &[Step::Bytes(4096, 0)],
         cases: FRAMES,
-        writes: Written::Front(&[
-            Step::Bytes(4096, 0),
-            Step::Run("frames --first 030000 --sectors 2", 4128),
-        ]),
+        writes: Written::Made(&[Step::Run("frames --first 030000 --sectors 2", 4128)]),
     },
     Runs {
         words: &["master --sectors 32"],
         over: &[Step::Image(32)],
         cases: MASTERED,
-        writes: Written::Front(&[Step::Image(32), Step::Run("master --sectors 32", 2 * BLOCK)]),
+        writes: Written::Made(&[Step::Run("master --sectors 32", 2 * BLOCK)]),
     },
     Runs {
         words: &["recover --sectors 16"],
@@ -246,6 +242,6 @@ static RUNS: [Runs; 6] = [
 ];
 
 #[test]
-fn a_fault_leaves_the_front_of_what_is_written(rt: HostRuntime) -> Result<(), Fail> {
+fn a_fault_leaves_the_front_of_what_is_written(rt: HostRuntime) -> Held {
     hold(&rt, &RUNS)
 }

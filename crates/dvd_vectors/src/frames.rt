@@ -1,9 +1,8 @@
 //! Frames of a few sectors of zeros.
-use crate::cases::{Case, Runs, Written, hold};
+use crate::cases::{Case, Held, Runs, Written, hold};
 use crate::fixture::{NEVER, Ports, SOUND};
 use crate::making::Step;
 use dvd_top::Status;
-use std::test::Fail;
 
 // Reads of one byte, of seven, and of more than there are.
 const READS: &[Ports] = &[
@@ -79,6 +78,6 @@ static RUNS: [Runs; 6] = [
 ];
 
 #[test]
-fn each_run_ends_as_its_input_says(rt: HostRuntime) -> Result<(), Fail> {
+fn each_run_ends_as_its_input_says(rt: HostRuntime) -> Held {
     hold(&rt, &RUNS)
 }

@@ -1,13 +1,13 @@
 //! Every command over a small input: in pieces of every kind, and with each call of its source, its output and its report
-//! failing in turn. A command has one line here. Each digest was computed by another program.
-use crate::fixture::{BLOCK, End, NEVER, Port, Ports, ran, run_to};
-use crate::making::{Step, made};
+//! failing in turn. Each digest was computed by another program.
+use crate::cases::{Held, Memory, Shown, make_input, put, show};
+use crate::fixture::{BLOCK, End, NEVER, Port, Ports, ends, run_over};
+use crate::making::Step;
 use dvd_top::Status;
 use sha2::{Digest, Sha256};
-use std::test::Fail;
 use std::thread::Threads;
 
-// The calls of a port: the most bytes of one; every how manieth fails in its turn; and how many do. Behind these none fails.
+// The calls of a port: the most bytes of one; how far those are apart that fail in turn; and how many do. Behind these none fails.
 type Calls = (usize, u64, u64);
 
 // A command, its input, the calls of its ports, and what it leaves.
@@ -34,11 +34,7 @@ static COMMANDS: [Command; 13] = [
         report: (2, 1, 3),
         end: (Status::Done, 4128, "done\n"),
         closing: "done\n",
-        digest: [
-            0xE5, 0xFA, 0x46, 0xEF, 0xBF, 0xA6, 0x61, 0x47, 0xC8, 0xE3, 0x19, 0x0F, 0xC0, 0xF9,
-            0x4B, 0x28, 0x73, 0x0E, 0x68, 0x29, 0x79, 0x9E, 0xAA, 0x1D, 0xFE, 0x3E, 0xB7, 0x4B,
-            0x9E, 0xDD, 0x77, 0xDE,
-        ],
+        digest: *b"\xE5\xFA\x46\xEF\xBF\xA6\x61\x47\xC8\xE3\x19\x0F\xC0\xF9\x4B\x28\x73\x0E\x68\x29\x79\x9E\xAA\x1D\xFE\x3E\xB7\x4B\x9E\xDD\x77\xDE",
     },
     Command {
         words: "master --sectors 17",
@@ -48,11 +44,7 @@ static COMMANDS: [Command; 13] = [
         report: (7, 1, 1),
         end: (Status::Done, 2 * BLOCK, "done\n"),
         closing: "done\n",
-        digest: [
-            0xE7, 0x2C, 0x18, 0xC8, 0xA2, 0x80, 0xB7, 0x41, 0xA3, 0x16, 0x3F, 0xA4, 0x5B, 0x59,
-            0xAC, 0xB1, 0x85, 0x4E, 0x77, 0xAC, 0x43, 0xA6, 0x4B, 0x8C, 0x23, 0x63, 0x82, 0x95,
-            0xA6, 0x34, 0xC0, 0x2A,
-        ],
+        digest: *b"\xE7\x2C\x18\xC8\xA2\x80\xB7\x41\xA3\x16\x3F\xA4\x5B\x59\xAC\xB1\x85\x4E\x77\xAC\x43\xA6\x4B\x8C\x23\x63\x82\x95\xA6\x34\xC0\x2A",
     },
     Command {
         words: "recover --sectors 17",
@@ -62,11 +54,7 @@ static COMMANDS: [Command; 13] = [
         report: (7, 1, 1),
         end: (Status::Done, 34_816, "done\n"),
         closing: "done\n",
-        digest: [
-            0x82, 0x16, 0x68, 0xC2, 0x19, 0x64, 0x8D, 0x76, 0x15, 0xF8, 0x2E, 0x4B, 0x86, 0x59,
-            0x3C, 0x1C, 0xF5, 0x7D, 0x7E, 0x05, 0xFB, 0x1A, 0x5D, 0x71, 0xAB, 0xEF, 0x9E, 0x28,
-            0x05, 0x9A, 0x61, 0x62,
-        ],
+        digest: *b"\x82\x16\x68\xC2\x19\x64\x8D\x76\x15\xF8\x2E\x4B\x86\x59\x3C\x1C\xF5\x7D\x7E\x05\xFB\x1A\x5D\x71\xAB\xEF\x9E\x28\x05\x9A\x61\x62",
     },
     // Two blocks, the second before the first: zeros.
     Command {
@@ -85,11 +73,7 @@ static COMMANDS: [Command; 13] = [
             "block 0 sector 030000 layer 0: address 0 found 00030010 saved 0\nblock 1 sector 030010 layer 0: address 0 found 00030000 saved 0\ndamaged: 2 blocks\n",
         ),
         closing: "damaged: 2 blocks\n",
-        digest: [
-            0xDE, 0x2F, 0x25, 0x60, 0x64, 0xA0, 0xAF, 0x79, 0x77, 0x47, 0xC2, 0xB9, 0x75, 0x05,
-            0xDC, 0x0B, 0x9F, 0x3D, 0xF0, 0xDE, 0x4F, 0x48, 0x9E, 0xAC, 0x73, 0x1C, 0x23, 0xAE,
-            0x9C, 0xA9, 0xCC, 0x31,
-        ],
+        digest: *b"\xDE\x2F\x25\x60\x64\xA0\xAF\x79\x77\x47\xC2\xB9\x75\x05\xDC\x0B\x9F\x3D\xF0\xDE\x4F\x48\x9E\xAC\x73\x1C\x23\xAE\x9C\xA9\xCC\x31",
     },
     // The first control block stands behind 32 others, and nothing behind it is read: 33 blocks of eight calls.
     Command {
@@ -104,11 +88,7 @@ static COMMANDS: [Command; 13] = [
         report: (2, 1, 3),
         end: (Status::Done, 110, "done\n"),
         closing: "done\n",
-        digest: [
-            0x0F, 0xDD, 0xB6, 0x48, 0x78, 0xA0, 0x8A, 0xE8, 0x96, 0x06, 0xA5, 0xBE, 0x05, 0x94,
-            0xDE, 0x97, 0x46, 0xE4, 0x77, 0xCB, 0x12, 0x2E, 0xE9, 0x03, 0x07, 0x83, 0x40, 0x0A,
-            0xF8, 0xA5, 0x5E, 0xEA,
-        ],
+        digest: *b"\x0F\xDD\xB6\x48\x78\xA0\x8A\xE8\x96\x06\xA5\xBE\x05\x94\xDE\x97\x46\xE4\x77\xCB\x12\x2E\xE9\x03\x07\x83\x40\x0A\xF8\xA5\x5E\xEA",
     },
     Command {
         words: "survey --sectors 16",
@@ -118,11 +98,7 @@ static COMMANDS: [Command; 13] = [
         report: (2, 1, 3),
         end: (Status::Done, 110, "done\n"),
         closing: "done\n",
-        digest: [
-            0xB0, 0x38, 0xB3, 0xD1, 0xE3, 0x40, 0x16, 0x04, 0x83, 0x79, 0x41, 0x33, 0xFB, 0xAB,
-            0x1E, 0xEE, 0x8C, 0x18, 0x82, 0x0D, 0x22, 0x1B, 0x76, 0x86, 0x80, 0x75, 0x8A, 0x9E,
-            0x83, 0x76, 0xF8, 0x22,
-        ],
+        digest: *b"\xB0\x38\xB3\xD1\xE3\x40\x16\x04\x83\x79\x41\x33\xFB\xAB\x1E\xEE\x8C\x18\x82\x0D\x22\x1B\x76\x86\x80\x75\x8A\x9E\x83\x76\xF8\x22",
     },
     // It reads nothing.
     Command {
@@ -133,11 +109,7 @@ static COMMANDS: [Command; 13] = [
         report: (2, 1, 3),
         end: (Status::Done, 53, "done\n"),
         closing: "done\n",
-        digest: [
-            0x08, 0x3D, 0x42, 0x7D, 0xB4, 0x95, 0x6F, 0x89, 0xBB, 0x40, 0x82, 0xB1, 0x2D, 0x48,
-            0x79, 0x7D, 0x77, 0xE3, 0x41, 0x86, 0x8D, 0xEA, 0x18, 0x04, 0xCA, 0x58, 0x16, 0x44,
-            0xD0, 0xDB, 0x86, 0x8A,
-        ],
+        digest: *b"\x08\x3D\x42\x7D\xB4\x95\x6F\x89\xBB\x40\x82\xB1\x2D\x48\x79\x7D\x77\xE3\x41\x86\x8D\xEA\x18\x04\xCA\x58\x16\x44\xD0\xDB\x86\x8A",
     },
     Command {
         words: "cdmake --address 150 --sectors 2",
@@ -147,11 +119,7 @@ static COMMANDS: [Command; 13] = [
         report: (2, 1, 3),
         end: (Status::Done, 4704, "done\n"),
         closing: "done\n",
-        digest: [
-            0xF0, 0xFA, 0x61, 0x8E, 0x28, 0x27, 0x76, 0x9A, 0x71, 0x0A, 0xCC, 0xC1, 0xA3, 0x9D,
-            0x65, 0x88, 0x6C, 0xFF, 0xAB, 0x0A, 0x3E, 0x0B, 0x2F, 0xF3, 0xF2, 0x14, 0xFD, 0x80,
-            0xE0, 0xC7, 0xD3, 0x21,
-        ],
+        digest: *b"\xF0\xFA\x61\x8E\x28\x27\x76\x9A\x71\x0A\xCC\xC1\xA3\x9D\x65\x88\x6C\xFF\xAB\x0A\x3E\x0B\x2F\xF3\xF2\x14\xFD\x80\xE0\xC7\xD3\x21",
     },
     // Two sectors of zeros, which are of no mode.
     Command {
@@ -166,11 +134,7 @@ static COMMANDS: [Command; 13] = [
             "sector 0: mode 0\nsector 1: mode 0\ndamaged: 2 sectors\n",
         ),
         closing: "damaged: 2 sectors\n",
-        digest: [
-            0xAD, 0x7F, 0xAC, 0xB2, 0x58, 0x6F, 0xC6, 0xE9, 0x66, 0xC0, 0x04, 0xD7, 0xD1, 0xD1,
-            0x6B, 0x02, 0x4F, 0x58, 0x05, 0xFF, 0x7C, 0xB4, 0x7C, 0x7A, 0x85, 0xDA, 0xBD, 0x8B,
-            0x48, 0x89, 0x2C, 0xA7,
-        ],
+        digest: *b"\xAD\x7F\xAC\xB2\x58\x6F\xC6\xE9\x66\xC0\x04\xD7\xD1\xD1\x6B\x02\x4F\x58\x05\xFF\x7C\xB4\x7C\x7A\x85\xDA\xBD\x8B\x48\x89\x2C\xA7",
     },
     // Two blocks that differ nearly everywhere, taken for two captures of one.
     Command {
@@ -181,11 +145,7 @@ static COMMANDS: [Command; 13] = [
         report: (7, 1, 1),
         end: (Status::Done, 42_640, "done\n"),
         closing: "done\n",
-        digest: [
-            0xE6, 0xD8, 0x5C, 0x77, 0xDF, 0x15, 0xC8, 0xCA, 0x1B, 0x9D, 0xF3, 0x98, 0x69, 0x1A,
-            0x56, 0x4A, 0x85, 0x21, 0xF6, 0xF7, 0x0E, 0xE8, 0x4B, 0xE0, 0x5F, 0xC9, 0x0E, 0x6E,
-            0x01, 0x4E, 0xE8, 0x83,
-        ],
+        digest: *b"\xE6\xD8\x5C\x77\xDF\x15\xC8\xCA\x1B\x9D\xF3\x98\x69\x1A\x56\x4A\x85\x21\xF6\xF7\x0E\xE8\x4B\xE0\x5F\xC9\x0E\x6E\x01\x4E\xE8\x83",
     },
     Command {
         words: "deep --sectors 17",
@@ -195,11 +155,7 @@ static COMMANDS: [Command; 13] = [
         report: (7, 1, 1),
         end: (Status::Done, 34_816, "done\n"),
         closing: "done\n",
-        digest: [
-            0x82, 0x16, 0x68, 0xC2, 0x19, 0x64, 0x8D, 0x76, 0x15, 0xF8, 0x2E, 0x4B, 0x86, 0x59,
-            0x3C, 0x1C, 0xF5, 0x7D, 0x7E, 0x05, 0xFB, 0x1A, 0x5D, 0x71, 0xAB, 0xEF, 0x9E, 0x28,
-            0x05, 0x9A, 0x61, 0x62,
-        ],
+        digest: *b"\x82\x16\x68\xC2\x19\x64\x8D\x76\x15\xF8\x2E\x4B\x86\x59\x3C\x1C\xF5\x7D\x7E\x05\xFB\x1A\x5D\x71\xAB\xEF\x9E\x28\x05\x9A\x61\x62",
     },
     // The frames of two blocks from the ninth on, those before it behind them; the disk has the first block alone.
     Command {
@@ -214,11 +170,7 @@ static COMMANDS: [Command; 13] = [
         report: (7, 1, 4),
         end: (Status::Done, 42_640, "placed 16 strays 16\ndone\n"),
         closing: "done\n",
-        digest: [
-            0x11, 0xE3, 0xD0, 0x4B, 0x06, 0x40, 0xE0, 0xB5, 0xCA, 0x69, 0xF4, 0x54, 0x04, 0x6C,
-            0xC7, 0xF0, 0x70, 0x49, 0xC0, 0xE4, 0x82, 0xC3, 0x23, 0xD6, 0x9C, 0x33, 0xC7, 0x2B,
-            0x72, 0x39, 0x65, 0xA4,
-        ],
+        digest: *b"\x11\xE3\xD0\x4B\x06\x40\xE0\xB5\xCA\x69\xF4\x54\x04\x6C\xC7\xF0\x70\x49\xC0\xE4\x82\xC3\x23\xD6\x9C\x33\xC7\x2B\x72\x39\x65\xA4",
     },
     // The header, and of each block its rows and the number of its runs, none.
     Command {
@@ -229,26 +181,20 @@ static COMMANDS: [Command; 13] = [
         report: (7, 1, 1),
         end: (Status::Done, 75_748, "done\n"),
         closing: "done\n",
-        digest: [
-            0x37, 0x88, 0xD2, 0x12, 0x63, 0x23, 0x61, 0x88, 0x0B, 0x89, 0xDA, 0xAB, 0x4E, 0x31,
-            0x24, 0xB1, 0x53, 0x4E, 0x3A, 0x45, 0xB7, 0x43, 0xB6, 0x8D, 0x1F, 0x12, 0x2F, 0x85,
-            0x39, 0x66, 0xBB, 0x4F,
-        ],
+        digest: *b"\x37\x88\xD2\x12\x63\x23\x61\x88\x0B\x89\xDA\xAB\x4E\x31\x24\xB1\x53\x4E\x3A\x45\xB7\x43\xB6\x8D\x1F\x12\x2F\x85\x39\x66\xBB\x4F",
     },
 ];
 
-// What the command leaves with these ports: the whole, or an error.
-fn whole<R: AllocGlobal + Threads + Sync>(
+// Whether the command leaves the whole with these ports.
+fn leaves_whole<R: AllocGlobal + Threads + Sync>(
     rt: &R,
     command: &Command,
-    input: &[u8],
-    ports: Ports,
-) -> Result<Vec<u8>, Fail> {
-    let output = run_to(rt, command.words, input, ports, command.end)?;
-    if Sha256::digest(&output) != command.digest {
-        Err(command.words)?;
-    }
-    Ok(output)
+    ports: &Ports,
+    memory: &mut Memory,
+) -> bool {
+    let bench = &mut memory.bench;
+    ends(rt, command.words, &memory.input, ports, &command.end, bench)
+        && Sha256::digest(bench.written()) == command.digest
 }
 
 // A port of so many bytes a call, whose call of this number fails.
@@ -260,21 +206,33 @@ fn port(step: usize, call: u64) -> Port {
 static STEPS: [usize; 4] = [1, 7, 2047, 40_000];
 
 // They play no part in what a command leaves.
-fn play_no_part<R: AllocGlobal + Threads + Sync>(rt: &R, command: &Command) -> Result<(), Fail> {
-    let input = made(rt, command.over)?;
+fn play_no_part<R: AllocGlobal + Threads + Sync>(
+    rt: &R,
+    command: &Command,
+    memory: &mut Memory,
+) -> bool {
     for step in &STEPS {
         let port = port(*step, NEVER);
-        whole(rt, command, &input, (port, port, port))?;
+        if !leaves_whole(rt, command, &(port, port, port), memory) {
+            return false;
+        }
+    }
+    true
+}
+
+/// Each command leaves the whole, in pieces of every kind.
+pub fn pieces<R: AllocGlobal + Threads + Sync>(rt: &R, memory: &mut Memory) -> Held {
+    for command in &COMMANDS {
+        if !make_input(rt, command.over, memory) || !play_no_part(rt, command, memory) {
+            return Err(command.words);
+        }
     }
     Ok(())
 }
 
 #[test]
-fn pieces_play_no_part(rt: HostRuntime) -> Result<(), Fail> {
-    for command in &COMMANDS {
-        play_no_part(&rt, command)?;
-    }
-    Ok(())
+fn pieces_play_no_part(rt: HostRuntime) -> Held {
+    show(&rt, Shown::Pieces)
 }
 
 // The port whose call fails.
@@ -332,62 +290,63 @@ fn tells_fault(command: &Command, told: &[u8], fault: &[u8]) -> bool {
     }
 }
 
-// Leaves a front of the whole where the call of this number fails.
+// Whether it leaves a front of the whole where the call of this number fails.
 fn leaves_front<R: AllocGlobal + Threads + Sync>(
     rt: &R,
     command: &Command,
-    input: &[u8],
-    output: &[u8],
     side: &Side,
     call: u64,
-) -> Result<(), Fail> {
+    memory: &mut Memory,
+) -> bool {
     let ports = ports_of(command, side, call);
-    let (status, out, told) = ran(rt, command.words, input, ports)?;
-    if status != status_of(side)
-        || !output.starts_with(out.held())
-        || !tells(command, side, told.held())
-    {
-        Err(command.words)?;
-    }
-    Ok(())
+    let bench = &mut memory.bench;
+    run_over(rt, command.words, &memory.input, &ports, bench) == status_of(side)
+        && memory.whole.starts_with(bench.written())
+        && tells(command, side, bench.told())
 }
 
 // Each call fails in turn, and behind the last of them none.
 fn fail_in_turn<R: AllocGlobal + Threads + Sync>(
     rt: &R,
     command: &Command,
-    input: &[u8],
-    output: &[u8],
     side: &Side,
-) -> Result<(), Fail> {
+    memory: &mut Memory,
+) -> bool {
     let (_, apart, runs) = calls_of(command, side);
     for run in 0..runs {
-        leaves_front(rt, command, input, output, side, apart.saturating_mul(run))?;
+        if !leaves_front(rt, command, side, apart.saturating_mul(run), memory) {
+            return false;
+        }
     }
-    whole(
-        rt,
-        command,
-        input,
-        ports_of(command, side, apart.saturating_mul(runs)),
-    )?;
-    Ok(())
+    let ports = ports_of(command, side, apart.saturating_mul(runs));
+    leaves_whole(rt, command, &ports, memory)
 }
 
-// So it is for each of the ports.
-fn each_port_fails<R: AllocGlobal + Threads + Sync>(rt: &R, command: &Command) -> Result<(), Fail> {
+// Whether each call of each port fails so.
+fn each_port_fails<R: AllocGlobal + Threads + Sync>(
+    rt: &R,
+    command: &Command,
+    memory: &mut Memory,
+) -> bool {
     let port = port(40_000, NEVER);
-    let input = made(rt, command.over)?;
-    let output = whole(rt, command, &input, (port, port, port))?;
-    for side in &[Side::Source, Side::Output, Side::Report] {
-        fail_in_turn(rt, command, &input, &output, side)?;
+    leaves_whole(rt, command, &(port, port, port), memory)
+        && put(&mut memory.whole, memory.bench.written())
+        && fail_in_turn(rt, command, &Side::Source, memory)
+        && fail_in_turn(rt, command, &Side::Output, memory)
+        && fail_in_turn(rt, command, &Side::Report, memory)
+}
+
+/// Each call of each command leaves a front where it fails.
+pub fn faults<R: AllocGlobal + Threads + Sync>(rt: &R, memory: &mut Memory) -> Held {
+    for command in &COMMANDS {
+        if !make_input(rt, command.over, memory) || !each_port_fails(rt, command, memory) {
+            return Err(command.words);
+        }
     }
     Ok(())
 }
 
 #[test]
-fn each_call_fails_in_turn(rt: HostRuntime) -> Result<(), Fail> {
-    for command in &COMMANDS {
-        each_port_fails(&rt, command)?;
-    }
-    Ok(())
+fn each_call_fails_in_turn(rt: HostRuntime) -> Held {
+    show(&rt, Shown::Faults)
 }

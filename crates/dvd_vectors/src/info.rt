@@ -1,75 +1,34 @@
 //! The physical format that `info` finds in what `master` wrote of every zone, and what it answers where there is none.
-use crate::cases::{Runs, Written, hold};
-use crate::fixture::{BLOCK, NO_FAULT};
+use crate::cases::{Held, Memory, Runs, Shown, Written, hold, make_input, show};
+use crate::fixture::{ALL_SOUND, BLOCK, NO_FAULT, ends};
 use crate::making::Step;
-use crate::reading::{Hit, ONE};
+use crate::reading::{Hit, ONE, ROW, read};
 use dvd_top::Status;
-use std::test::Fail;
+use std::thread::Threads;
+
+// A disk of one layer with all of its zones, and its lines.
+const ONE_LAYER: &[Step] = &[
+    Step::Image(16),
+    Step::Run("master --sectors 16 --zones all", 273 * BLOCK),
+];
+
+const ITS_LINES: &[u8] =
+    b"version 1\nrate 2\nlayers 1\npath parallel\nkind 1\ndensity 0\npitch 0\nfirst 030000\nlast 03000F\nlayer0 000000\nbca 0\n";
 
 // Of these disks some of the 192 control blocks are destroyed, from the first on: the first that is left answers.
 static DISKS: [Runs; 3] = [
     Runs {
         words: &["info"],
-        over: &[
-            Step::Image(16),
-            Step::Run("master --sectors 16 --zones all", 273 * BLOCK),
-        ],
+        over: ONE_LAYER,
         cases: &[
             (&[], NO_FAULT, (Status::Done, 110, "done\n")),
-            (
-                &[Step::Read(&[(32 * BLOCK, ONE, (BLOCK, 1), Hit::Lost)])],
-                NO_FAULT,
-                (Status::Done, 110, "done\n"),
-            ),
-            (
-                &[Step::Read(&[(32 * BLOCK, ONE, (2 * BLOCK, 1), Hit::Lost)])],
-                NO_FAULT,
-                (Status::Done, 110, "done\n"),
-            ),
-            (
-                &[Step::Read(&[(32 * BLOCK, ONE, (3 * BLOCK, 1), Hit::Lost)])],
-                NO_FAULT,
-                (Status::Done, 110, "done\n"),
-            ),
-            (
-                &[Step::Read(&[(32 * BLOCK, ONE, (31 * BLOCK, 1), Hit::Lost)])],
-                NO_FAULT,
-                (Status::Done, 110, "done\n"),
-            ),
-            (
-                &[Step::Read(&[(32 * BLOCK, ONE, (32 * BLOCK, 1), Hit::Lost)])],
-                NO_FAULT,
-                (Status::Done, 110, "done\n"),
-            ),
-            (
-                &[Step::Read(&[(32 * BLOCK, ONE, (95 * BLOCK, 1), Hit::Lost)])],
-                NO_FAULT,
-                (Status::Done, 110, "done\n"),
-            ),
-            (
-                &[Step::Read(&[(32 * BLOCK, ONE, (96 * BLOCK, 1), Hit::Lost)])],
-                NO_FAULT,
-                (Status::Done, 110, "done\n"),
-            ),
-            (
-                &[Step::Read(&[(32 * BLOCK, ONE, (190 * BLOCK, 1), Hit::Lost)])],
-                NO_FAULT,
-                (Status::Done, 110, "done\n"),
-            ),
-            (
-                &[Step::Read(&[(32 * BLOCK, ONE, (191 * BLOCK, 1), Hit::Lost)])],
-                NO_FAULT,
-                (Status::Done, 110, "done\n"),
-            ),
             (
                 &[Step::Read(&[(32 * BLOCK, ONE, (192 * BLOCK, 1), Hit::Lost)])],
                 NO_FAULT,
                 (Status::NoControl, 0, "no control block\n"),
             ),
         ],
-        writes: Written::Front(&[Step::These(
-            b"version 1\nrate 2\nlayers 1\npath parallel\nkind 1\ndensity 0\npitch 0\nfirst 030000\nlast 03000F\nlayer0 000000\nbca 0\n",
-        )]),
+        writes: Written::Front(&[Step::These(ITS_LINES)]),
     },
     Runs {
         words: &["info --initial 2"],
@@ -136,8 +95,38 @@ static DISKS: [Runs; 3] = [
 ];
 
 #[test]
-fn disks_tell_their_format(rt: HostRuntime) -> Result<(), Fail> {
+fn disks_tell_their_format(rt: HostRuntime) -> Held {
     hold(&rt, &DISKS)
+}
+
+// Whether a control block answers with the lines of the disk.
+fn answers<R: AllocGlobal + Threads + Sync>(rt: &R, memory: &mut Memory) -> bool {
+    let end = (Status::Done, ITS_LINES.len(), "done\n");
+    let bench = &mut memory.bench;
+    ends(rt, "info", &memory.input, &ALL_SOUND, &end, bench) && bench.written() == ITS_LINES
+}
+
+/// Each control block answers, where those before it are destroyed one after the other.
+pub fn control_blocks<R: AllocGlobal + Threads + Sync>(rt: &R, memory: &mut Memory) -> Held {
+    if !make_input(rt, ONE_LAYER, memory) {
+        return Err("no disk");
+    }
+    for k in 32..224usize {
+        if !answers(rt, memory) {
+            return Err("a control block doesn't answer");
+        }
+        read(
+            &mut memory.input,
+            ROW,
+            &[(k * BLOCK, ONE, (BLOCK, 1), Hit::Lost)],
+        );
+    }
+    Ok(())
+}
+
+#[test]
+fn each_control_block_tells_the_format(rt: HostRuntime) -> Held {
+    show(&rt, Shown::ControlBlocks)
 }
 
 // Over so many zeros.
@@ -198,6 +187,6 @@ static ZEROS: [Runs; 5] = [
 ];
 
 #[test]
-fn zeros_tell_no_format(rt: HostRuntime) -> Result<(), Fail> {
+fn zeros_tell_no_format(rt: HostRuntime) -> Held {
     hold(&rt, &ZEROS)
 }

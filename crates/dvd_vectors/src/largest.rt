@@ -1,9 +1,8 @@
-//! The largest disk of each command over an input of five bytes: no memory grows with the disk.
-use crate::cases::{Runs, Written, hold};
+//! The largest disk of commands whose memory doesn't grow with it, over an input of five bytes.
+use crate::cases::{Held, Runs, Written, hold};
 use crate::fixture::NO_FAULT;
 use crate::making::Step;
 use dvd_top::Status;
-use std::test::Fail;
 
 static RUNS: [Runs; 2] = [
     Runs {
@@ -39,6 +38,6 @@ static RUNS: [Runs; 2] = [
 ];
 
 #[test]
-fn the_largest_disk_ends_short(rt: HostRuntime) -> Result<(), Fail> {
+fn the_largest_disk_ends_short(rt: HostRuntime) -> Held {
     hold(&rt, &RUNS)
 }

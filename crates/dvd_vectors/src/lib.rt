@@ -6,6 +6,8 @@ mod assemble; // scattered recording frames put in order
 #[cfg(test)]
 mod cases; // runs that have to end so
 #[cfg(test)]
+mod cd_sectors; // CD-ROM sectors
+#[cfg(test)]
 mod convert; // captures converted to the form that states its layout
 #[cfg(test)]
 mod damage; // blocks within the bound and beyond it
@@ -54,17 +56,15 @@ mod usage; // words that ask for nothing
 #[cfg(test)]
 mod values; // derived equality
 #[cfg(test)]
-mod cd_sectors; // CD-ROM sectors
-#[cfg(test)]
 mod workers; // several workers on one run
 
 use std::alloc::{AllocError, Global};
 
-/// The words of a command line.
-pub fn words(alloc: Global, text: &str) -> Result<Vec<String>, AllocError> {
-    let mut words = Vec::new(alloc);
+/// Puts the words of a command line in the place of those that stand.
+pub fn put_words(alloc: Global, text: &str, words: &mut Vec<String>) -> Result<(), AllocError> {
+    words.clear();
     for word in text.split_whitespace() {
         words.push(String::from_str(alloc, word)?)?;
     }
-    Ok(words)
+    Ok(())
 }

@@ -1,28 +1,52 @@
 //! Captures that state their layout: they are read as the plain and the marked captures of the same blocks.
-use crate::cases::{Alike, Runs, Written, are_alike, hold};
+use crate::cases::{Alike, Held, Runs, Written, are_alike, hold};
 use crate::fixture::{BLOCK, NO_FAULT};
 use crate::making::{Run, Stated, Step};
 use crate::reading::{Hit, Hits, ONE};
 use dvd_top::Status;
-use std::test::Fail;
 
 /// What headers state of one layer of 16 and of 17 sectors, of which a stream has the Data Zone alone.
 pub const SIXTEEN: Stated = (0, 0, [16, 0, 0, 16]);
 
 pub const SEVENTEEN: Stated = (0, 0, [17, 0, 0, 16]);
 
+/// A stream of a disk of each shape, and what a header states of it.
+pub const ONE_LAYER: &[Step] = &[Step::Image(18), Step::Run("master --sectors 18", 2 * BLOCK)];
+
+pub const OF_ONE_LAYER: Stated = (0, 0, [18, 0, 0, 16]);
+
+pub const PARALLEL: &[Step] = &[
+    Step::Image(33),
+    Step::Run(
+        "master --sectors 16 --sectors1 17 --shape parallel --tail 0",
+        3 * BLOCK,
+    ),
+];
+
+pub const OF_PARALLEL: Stated = (1, 0, [16, 17, 0, 0]);
+
+pub const OPPOSITE: &[Step] = &[
+    Step::Image(49),
+    Step::Run(
+        "master --sectors 32 --sectors1 17 --shape opposite --initial 12031",
+        4 * BLOCK,
+    ),
+];
+
+pub const OF_OPPOSITE: Stated = (2, 0, [32, 17, 12_031, 16]);
+
 /// Marks from the first place to the last: two in row 0, all of recorded rows 3 to 14, some of which end in another row, and the last.
 pub const RUNS: &[Run] = &[(0, 2), (546, 2184), (2731, 300), (37_855, 1)];
 
 /// The same marks in each of four blocks.
 pub const MARKS: &[Hits] = &[
-    (0, (4, BLOCK), (2, 1), Hit::Doubtful),
-    (546, (4, BLOCK), (2184, 1), Hit::Doubtful),
-    (2731, (4, BLOCK), (300, 1), Hit::Doubtful),
-    (37_855, (4, BLOCK), ONE, Hit::Doubtful),
+    (0, (4, BLOCK), (2, 1), Hit::Doubtful(0)),
+    (546, (4, BLOCK), (2184, 1), Hit::Doubtful(0)),
+    (2731, (4, BLOCK), (300, 1), Hit::Doubtful(0)),
+    (37_855, (4, BLOCK), ONE, Hit::Doubtful(0)),
 ];
 
-// A stream of two blocks, of which every so manieth byte is wrong.
+// Streams of two blocks, of which the first byte is wrong, or every 300th, 31st or 7th.
 const DAMAGED: &[&[Step]] = &[
     &[
         Step::Image(17),
@@ -46,7 +70,7 @@ const DAMAGED: &[&[Step]] = &[
     ],
 ];
 
-// Each command reads both other forms as the listed one.
+// Each command reads the listed form as both others.
 static READING: [Alike; 1] = [Alike {
     overs: DAMAGED,
     pairs: &[
@@ -84,7 +108,7 @@ static READING: [Alike; 1] = [Alike {
 }];
 
 #[test]
-fn each_form_of_a_damaged_stream_is_read_the_same(rt: HostRuntime) -> Result<(), Fail> {
+fn each_form_of_a_damaged_stream_is_read_the_same(rt: HostRuntime) -> Held {
     are_alike(&rt, &READING)
 }
 
@@ -93,10 +117,10 @@ const EVERY_ZONE: Stated = (0, 1, [16, 0, 1, 16]);
 
 // The same marks in each of 34 blocks.
 const MANY_MARKS: &[Hits] = &[
-    (0, (34, BLOCK), (2, 1), Hit::Doubtful),
-    (546, (34, BLOCK), (2184, 1), Hit::Doubtful),
-    (2731, (34, BLOCK), (300, 1), Hit::Doubtful),
-    (37_855, (34, BLOCK), ONE, Hit::Doubtful),
+    (0, (34, BLOCK), (2, 1), Hit::Doubtful(0)),
+    (546, (34, BLOCK), (2184, 1), Hit::Doubtful(0)),
+    (2731, (34, BLOCK), (300, 1), Hit::Doubtful(0)),
+    (37_855, (34, BLOCK), ONE, Hit::Doubtful(0)),
 ];
 
 // The blocks of such a disk: up to the first control block, up to the one before it, one, and none.
@@ -149,28 +173,9 @@ static FINDING: [Alike; 1] = [Alike {
 }];
 
 #[test]
-fn a_format_is_found_behind_a_header(rt: HostRuntime) -> Result<(), Fail> {
+fn a_format_is_found_behind_a_header(rt: HostRuntime) -> Held {
     are_alike(&rt, &FINDING)
 }
-
-// Streams of disks, and what headers state of them.
-const ONE_LAYER: &[Step] = &[Step::Image(18), Step::Run("master --sectors 18", 2 * BLOCK)];
-
-const PARALLEL: &[Step] = &[
-    Step::Image(33),
-    Step::Run(
-        "master --sectors 16 --sectors1 17 --shape parallel --tail 0",
-        3 * BLOCK,
-    ),
-];
-
-const OPPOSITE: &[Step] = &[
-    Step::Image(49),
-    Step::Run(
-        "master --sectors 32 --sectors1 17 --shape opposite --initial 12031",
-        4 * BLOCK,
-    ),
-];
 
 // Both commands that read a listed capture give the image of the disk whose layout its header states.
 static STATED: [Runs; 3] = [
@@ -178,7 +183,7 @@ static STATED: [Runs; 3] = [
         words: &["recover --form listed", "deep --form listed"],
         over: ONE_LAYER,
         cases: &[(
-            &[Step::Listed((0, 0, [18, 0, 0, 16]), &[])],
+            &[Step::Listed(OF_ONE_LAYER, &[])],
             NO_FAULT,
             (Status::Done, 36_864, "done\n"),
         )],
@@ -188,7 +193,7 @@ static STATED: [Runs; 3] = [
         words: &["recover --form listed", "deep --form listed"],
         over: PARALLEL,
         cases: &[(
-            &[Step::Listed((1, 0, [16, 17, 0, 0]), &[])],
+            &[Step::Listed(OF_PARALLEL, &[])],
             NO_FAULT,
             (Status::Done, 67_584, "done\n"),
         )],
@@ -198,7 +203,7 @@ static STATED: [Runs; 3] = [
         words: &["recover --form listed", "deep --form listed"],
         over: OPPOSITE,
         cases: &[(
-            &[Step::Listed((2, 0, [32, 17, 12_031, 16]), &[])],
+            &[Step::Listed(OF_OPPOSITE, &[])],
             NO_FAULT,
             (Status::Done, 100_352, "done\n"),
         )],
@@ -207,7 +212,7 @@ static STATED: [Runs; 3] = [
 ];
 
 #[test]
-fn a_header_states_every_layout(rt: HostRuntime) -> Result<(), Fail> {
+fn a_header_states_every_layout(rt: HostRuntime) -> Held {
     hold(&rt, &STATED)
 }
 
@@ -216,10 +221,7 @@ static SURVEYED: [Alike; 3] = [
         overs: &[ONE_LAYER],
         pairs: &[(
             ("survey --sectors 18", &[]),
-            (
-                "survey --form listed",
-                &[Step::Listed((0, 0, [18, 0, 0, 16]), &[])],
-            ),
+            ("survey --form listed", &[Step::Listed(OF_ONE_LAYER, &[])]),
         )],
     },
     Alike {
@@ -229,10 +231,7 @@ static SURVEYED: [Alike; 3] = [
                 "survey --sectors 16 --sectors1 17 --shape parallel --tail 0",
                 &[],
             ),
-            (
-                "survey --form listed",
-                &[Step::Listed((1, 0, [16, 17, 0, 0]), &[])],
-            ),
+            ("survey --form listed", &[Step::Listed(OF_PARALLEL, &[])]),
         )],
     },
     Alike {
@@ -242,15 +241,12 @@ static SURVEYED: [Alike; 3] = [
                 "survey --sectors 32 --sectors1 17 --shape opposite --initial 12031",
                 &[],
             ),
-            (
-                "survey --form listed",
-                &[Step::Listed((2, 0, [32, 17, 12_031, 16]), &[])],
-            ),
+            ("survey --form listed", &[Step::Listed(OF_OPPOSITE, &[])]),
         )],
     },
 ];
 
 #[test]
-fn each_layout_is_surveyed_the_same(rt: HostRuntime) -> Result<(), Fail> {
+fn each_layout_is_surveyed_the_same(rt: HostRuntime) -> Held {
     are_alike(&rt, &SURVEYED)
 }

@@ -1,26 +1,25 @@
 //! The loops of `master` and `recover` called by themselves, over a disk of one layer with all of its zones.
 ghost use Rattle.std.specs.Prelude.{◌≤◌};
 
+use crate::cases::{Held, Memory, Shown, make_input, make_over, show};
 use crate::fixture::{BLOCK, NEVER, sink};
-use crate::making::{Step, made};
+use crate::making::Step;
+use crate::values::PLAIN;
 use dvd_block::{Block, Piece};
-use dvd_capture::{Form, Work};
-use dvd_layout::{Shape, Zones};
+use dvd_capture::Work;
+use dvd_layout::Zones;
 use dvd_par::OpenGate;
 use dvd_ports::{MemSink, SliceSource};
 use dvd_top::{Command, LoopEnd, Settings, master_loop, recover_loop};
-use std::test::Fail;
+use std::alloc::Global;
 use std::thread::Threads;
 
 const BLOCKS: usize = 274;
 
-// The image, and the stream of its disk.
+// An image, and how the stream of its disk is made of it.
 static IMAGE: [Step; 1] = [Step::Image(17)];
 
-static STREAM: [Step; 2] = [
-    Step::Image(17),
-    Step::Run("master --sectors 17 --zones all", BLOCKS * BLOCK),
-];
+static STREAM: [Step; 1] = [Step::Run("master --sectors 17 --zones all", BLOCKS * BLOCK)];
 
 // Its settings.
 fn settings(command: Command) -> Settings
@@ -30,36 +29,63 @@ fn settings(command: Command) -> Settings
         command,
         first: 0,
         sectors: 17,
-        sectors1: 0,
-        shape: Shape::Single,
         zones: Zones::All,
-        initial: 0,
-        tail: 16,
-        cpr: [0; 6],
-        form: Form::Plain,
-        workers: 1,
-        seed: 0,
-        blocks: 0,
-        address: 0,
-        captures: 0,
-        frames: 0,
+        ..PLAIN
     }
+}
+
+// The buffers of both loops.
+#[derive(Drop)]
+struct Buffers {
+    block: Block,
+    piece: Piece,
+    work: Work,
+}
+
+fn new_buffers(alloc: Global) -> Option<Buffers> {
+    let block = Block::new(alloc).ok()?;
+    let piece = Piece::new(alloc).ok()?;
+    let work = Work::new(alloc).ok()?;
+    Some(Buffers { block, piece, work })
+}
+
+// What both loops leave.
+#[derive(Drop)]
+struct Left {
+    stream: MemSink,
+    image: MemSink,
+    report: MemSink,
+}
+
+fn nothing_left(alloc: Global) -> Option<Left> {
+    let stream = sink(alloc, (BLOCK, NEVER, BLOCKS * BLOCK))?;
+    let image = sink(alloc, (2048, NEVER, 34_816))?;
+    let report = sink(alloc, (64, NEVER, 64))?;
+    Some(Left {
+        stream,
+        image,
+        report,
+    })
 }
 
 // Masters an image.
 fn master<R: AllocGlobal + Threads + Sync>(
     rt: &R,
     image: &[u8],
-    out: &mut MemSink,
-) -> Result<LoopEnd, Fail> {
-    let alloc = rt.alloc();
+    buffers: &mut Buffers,
+    left: &mut Left,
+) -> Option<LoopEnd> {
     let settings = settings(Command::Master);
-    let layout = settings.layout()?;
-    let mut block = Block::new(alloc)?;
-    let mut piece = Piece::new(alloc)?;
-    let mut src = SliceSource::new(image);
-    Ok(master_loop(
-        rt, &OpenGate, &settings, &layout, &mut block, &mut piece, &mut src, out,
+    let layout = settings.layout().ok()?;
+    Some(master_loop(
+        rt,
+        &OpenGate,
+        &settings,
+        &layout,
+        &mut buffers.block,
+        &mut buffers.piece,
+        &mut SliceSource::new(image),
+        &mut left.stream,
     ))
 }
 
@@ -67,29 +93,54 @@ fn master<R: AllocGlobal + Threads + Sync>(
 fn recover<R: AllocGlobal + Threads + Sync>(
     rt: &R,
     stream: &[u8],
-    out: &mut MemSink,
-    report: &mut MemSink,
-) -> Result<LoopEnd, Fail> {
+    buffers: &mut Buffers,
+    left: &mut Left,
+) -> Option<LoopEnd> {
     let settings = settings(Command::Recover);
-    let layout = settings.layout()?;
-    let mut work = Work::new(rt.alloc())?;
-    let mut src = SliceSource::new(stream);
-    Ok(recover_loop(
-        rt, &OpenGate, &settings, &layout, &mut work, &mut src, out, report,
+    let layout = settings.layout().ok()?;
+    Some(recover_loop(
+        rt,
+        &OpenGate,
+        &settings,
+        &layout,
+        &mut buffers.work,
+        &mut SliceSource::new(stream),
+        &mut left.image,
+        &mut left.report,
     ))
 }
 
+// Whether the loops leave what the command does, and the image that it was given.
+fn leave_both<R: AllocGlobal + Threads + Sync>(
+    rt: &R,
+    buffers: &mut Buffers,
+    left: &mut Left,
+    memory: &mut Memory,
+) -> bool {
+    master(rt, &memory.over, buffers, left) == Some(LoopEnd::Done)
+        && recover(rt, &memory.input, buffers, left) == Some(LoopEnd::Done)
+        && left.stream.held() == memory.input.as_slice()
+        && left.image.held() == memory.over.as_slice()
+        && left.report.held().is_empty()
+}
+
+/// Both loops leave what the command does, and the image that it was given.
+pub fn loops<R: AllocGlobal + Threads + Sync>(rt: &R, memory: &mut Memory) -> Held {
+    let (Some(mut buffers), Some(mut left)) = (new_buffers(rt.alloc()), nothing_left(rt.alloc()))
+    else {
+        return Err("no memory");
+    };
+    if make_over(rt, &IMAGE, memory)
+        && make_input(rt, &STREAM, memory)
+        && leave_both(rt, &mut buffers, &mut left, memory)
+    {
+        Ok(())
+    } else {
+        Err("the loops")
+    }
+}
+
 #[test]
-fn the_loops_record_as_the_command_does_and_read_back(rt: HostRuntime) -> Result<(), Fail> {
-    let image = made(&rt, &IMAGE)?;
-    let mut out = sink(rt.alloc(), (BLOCK, NEVER, BLOCKS * BLOCK))?;
-    let mut back = sink(rt.alloc(), (2048, NEVER, 34_816))?;
-    let mut report = sink(rt.alloc(), (64, NEVER, 64))?;
-    assert_eq!(rt; master(&rt, &image, &mut out)?, LoopEnd::Done);
-    let end = recover(&rt, out.held(), &mut back, &mut report)?;
-    assert!(rt;
-        end == LoopEnd::Done && back.held() == image.as_slice() && report.held().is_empty()
-    );
-    assert!(rt; made(&rt, &STREAM)?.as_slice() == out.held());
-    Ok(())
+fn the_loops_record_as_the_command_does_and_read_back(rt: HostRuntime) -> Held {
+    show(&rt, Shown::Loops)
 }

@@ -1,10 +1,10 @@
 //! How the bytes of a run are made, step by step: an image, what words write over it, what is read of that, and the forms of
 //! captures.
-use crate::fixture::{BLOCK, NEVER, SOUND, ran};
-use crate::reading::{Hits, read, read_all};
+use crate::cases::put;
+use crate::fixture::{BLOCK, Bench, NEVER, SOUND, run_over};
+use crate::reading::{Hits, MARKED_ROW, ROW, read, read_all};
 use dvd_top::Status;
-use std::alloc::{AllocError, Global};
-use std::test::Fail;
+use std::mem::swap;
 use std::thread::Threads;
 
 /// A step: what is done to the bytes that stand.
@@ -17,24 +17,27 @@ pub enum Step {
     Image(usize),
     /// The user data of a sector comes behind them: byte i is 7i + i / 256.
     Counted,
-    /// They become what the words write over them, which are done: so many bytes.
+    /// They become what the words write over them, so many bytes, in a run that ends with Done.
     Run(&'static str, usize),
     /// They begin there; those before come behind the others.
     From(usize),
-    /// The first ones are left alone.
+    /// So many of the first ones stay alone.
     Front(usize),
     /// So many of the last ones are cut off.
     Cut(usize),
     /// So many of the last ones come once more.
     Again(usize),
-    /// Each group of so many comes twice.
-    Twice(usize),
+    /// The groups of so many of the first half and of the second half come in turn.
+    Woven(usize),
     /// The groups of so many come in reverse order.
     Reversed(usize),
     /// Some are read otherwise.
     Read(&'static [Hits]),
     /// They become the capture in the marked form of what was read of them.
     Marked(&'static [&'static [Hits]]),
+    /// The same, where what was read of each row is drawn from this number: about a sixth of them are lost, and each other row has one
+    /// wrong byte without a mark.
+    Drawn(u64),
     /// They become a listed capture: what its header states, and the runs of each block.
     Listed(Stated, &'static [Run]),
 }
@@ -46,97 +49,151 @@ pub type Run = (u16, u16);
 /// tail.
 pub type Stated = (u8, u8, [u32; 4]);
 
-/// The bytes that the steps make of nothing.
-pub fn made<R: AllocGlobal + Threads + Sync>(rt: &R, steps: &[Step]) -> Result<Vec<u8>, Fail> {
-    let mut bytes = Vec::new(rt.alloc());
-    make(rt, steps, &mut bytes)?;
-    Ok(bytes)
-}
-
-/// Does the steps to these bytes.
+/// Does the steps to these bytes, or answers that one can't be done.
 pub fn make<R: AllocGlobal + Threads + Sync>(
     rt: &R,
     steps: &[Step],
+    bench: &mut Bench,
+    spare: &mut Vec<u8>,
     bytes: &mut Vec<u8>,
-) -> Result<(), Fail> {
+) -> bool {
     for step in steps {
-        take(rt, step, bytes)?;
+        if !take(rt, step, bench, spare, bytes) {
+            return false;
+        }
     }
-    Ok(())
+    true
 }
 
 // Takes one step.
 fn take<R: AllocGlobal + Threads + Sync>(
     rt: &R,
     step: &Step,
+    bench: &mut Bench,
+    spare: &mut Vec<u8>,
     bytes: &mut Vec<u8>,
-) -> Result<(), Fail> {
+) -> bool {
     match step {
-        Step::Bytes(count, byte) => bytes.resize(bytes.len().saturating_add(*count), *byte)?,
-        Step::These(these) => bytes.extend_from_slice(these)?,
-        Step::Image(sectors) => put_image(bytes, *sectors)?,
-        Step::Counted => put_counted(bytes)?,
-        Step::Run(words, length) => *bytes = written(rt, words, bytes, *length)?,
+        Step::Run(words, length) => write_over(rt, words, *length, bench, bytes),
+        Step::Marked(lists) => {
+            let is_made = add_marks(bytes, spare);
+            read_all(bytes, MARKED_ROW, lists);
+            is_made
+        }
+        Step::Drawn(seed) => {
+            let is_made = add_marks(bytes, spare);
+            draw_rows(bytes, *seed);
+            is_made
+        }
+        Step::Woven(size) => weave(bytes, spare, *size),
+        Step::Listed(stated, runs) => list(bytes, spare, stated, runs),
+        _ => change(step, bytes),
+    }
+}
+
+// The bytes become what the words write over them.
+fn write_over<R: AllocGlobal + Threads + Sync>(
+    rt: &R,
+    words: &str,
+    length: usize,
+    bench: &mut Bench,
+    bytes: &mut Vec<u8>,
+) -> bool {
+    let ports = (SOUND, (BLOCK, NEVER, length), SOUND);
+    run_over(rt, words, bytes, &ports, bench) == Status::Done
+        && put(bytes, bench.written())
+        && bytes.len() == length
+}
+
+// Takes a step for which nothing else is needed.
+fn change(step: &Step, bytes: &mut Vec<u8>) -> bool {
+    match step {
+        Step::Bytes(count, byte) => add_bytes(bytes, *count, *byte),
+        Step::These(these) => add(bytes, these),
+        Step::Image(sectors) => add_image(bytes, *sectors),
+        Step::Counted => add_counted(bytes),
+        Step::Again(count) => add_again(bytes, *count),
+        _ => rearrange(step, bytes),
+    }
+}
+
+// Takes a step that needs no memory.
+fn rearrange(step: &Step, bytes: &mut Vec<u8>) -> bool {
+    match step {
         Step::From(first) => bytes.rotate_left((*first).min(bytes.len())),
         Step::Front(count) => bytes.truncate(*count),
         Step::Cut(count) => bytes.truncate(bytes.len().saturating_sub(*count)),
-        Step::Again(count) => *bytes = again(rt.alloc(), bytes, *count)?,
-        Step::Twice(size) => *bytes = twice(rt.alloc(), bytes, *size)?,
         Step::Reversed(size) => reverse(bytes, *size),
-        Step::Read(hits) => read(bytes, &mut [], hits),
-        Step::Marked(hits) => *bytes = marked(rt.alloc(), bytes, hits)?,
-        Step::Listed(stated, runs) => *bytes = listed(rt.alloc(), bytes, stated, runs)?,
+        Step::Read(hits) => read(bytes, ROW, hits),
+        _ => return false,
     }
-    Ok(())
+    true
 }
 
-// The bytes of an image are the top eight bits of the words of a 64-bit xorshift generator, from state 8 on.
-fn put_image(bytes: &mut Vec<u8>, sectors: usize) -> Result<(), AllocError> {
-    let mut state: u64 = 8;
-    for _ in 0..sectors.saturating_mul(2048) {
-        state ^= state << 13;
-        state ^= state >> 7;
-        state ^= state << 17;
-        bytes.push((state >> 56 & 0xFF) as u8)?;
-    }
-    Ok(())
+fn add(bytes: &mut Vec<u8>, more: &[u8]) -> bool {
+    bytes.extend_from_slice(more).is_ok()
 }
 
-fn put_counted(bytes: &mut Vec<u8>) -> Result<(), AllocError> {
-    for i in 0..2048u32 {
-        bytes.push(((7 * i + i / 256) % 256) as u8)?;
-    }
-    Ok(())
+fn add_bytes(bytes: &mut Vec<u8>, count: usize, byte: u8) -> bool {
+    bytes
+        .resize(bytes.len().saturating_add(count), byte)
+        .is_ok()
 }
 
-// What the words write over these bytes: so many, or an error.
-fn written<R: AllocGlobal + Threads + Sync>(
-    rt: &R,
-    words: &str,
-    bytes: &[u8],
-    length: usize,
-) -> Result<Vec<u8>, Fail> {
-    let (status, out, _) = ran(rt, words, bytes, (SOUND, (BLOCK, NEVER, length), SOUND))?;
-    if status != Status::Done || out.held().len() != length {
-        Err(status)?;
-    }
-    Ok(out.held().to_vec(rt.alloc())?)
-}
-
-fn again(alloc: Global, bytes: &[u8], count: usize) -> Result<Vec<u8>, AllocError> {
-    let mut more = bytes.to_vec(alloc)?;
+fn add_again(bytes: &mut Vec<u8>, count: usize) -> bool {
     let first = bytes.len().saturating_sub(count);
-    more.extend_from_slice(bytes.get(first..).unwrap_or(&[]))?;
-    Ok(more)
+    bytes.extend_from_within(first..).is_ok()
 }
 
-fn twice(alloc: Global, bytes: &[u8], size: usize) -> Result<Vec<u8>, AllocError> {
-    let mut both = Vec::new(alloc);
-    for group in bytes.chunks_exact(size.max(1)) {
-        both.extend_from_slice(group)?;
-        both.extend_from_slice(group)?;
+// A 64-bit xorshift generator.
+#[derive(Drop)]
+struct Generator(u64);
+
+impl Generator {
+    fn draw(&mut self) -> u64 {
+        self.0 ^= self.0 << 13;
+        self.0 ^= self.0 >> 7;
+        self.0 ^= self.0 << 17;
+        self.0
     }
-    Ok(both)
+}
+
+fn add_image(bytes: &mut Vec<u8>, sectors: usize) -> bool {
+    let first = bytes.len();
+    let is_room = add_bytes(bytes, sectors.saturating_mul(2048), 0);
+    if let Some(image) = bytes.as_mut_slice().get_mut(first..) {
+        draw(image);
+    }
+    is_room
+}
+
+// The bytes of an image are the top eight bits of what is drawn from 8.
+fn draw(image: &mut [u8]) {
+    let mut generator = Generator(8);
+    for byte in image {
+        *byte = (generator.draw() >> 56 & 0xFF) as u8;
+    }
+}
+
+fn add_counted(bytes: &mut Vec<u8>) -> bool {
+    let mut user = [0; 2048];
+    for (i, byte) in user.iter_mut().enumerate() {
+        *byte = (i.wrapping_mul(7).wrapping_add(i / 256) % 256) as u8;
+    }
+    add(bytes, &user)
+}
+
+fn weave(bytes: &mut Vec<u8>, spare: &mut Vec<u8>, size: usize) -> bool {
+    spare.clear();
+    let size = size.max(1);
+    let (first, second) = bytes.split_at(bytes.len() / 2);
+    for (one, other) in first.chunks_exact(size).zip(second.chunks_exact(size)) {
+        if !add(spare, one) || !add(spare, other) {
+            return false;
+        }
+    }
+    swap(bytes, spare);
+    true
 }
 
 fn reverse(bytes: &mut [u8], size: usize) {
@@ -146,53 +203,66 @@ fn reverse(bytes: &mut [u8], size: usize) {
     }
 }
 
-// Each row, and behind it a bit for each of its places.
-fn marked(alloc: Global, rows: &mut [u8], all: &[&'static [Hits]]) -> Result<Vec<u8>, AllocError> {
-    let mut marks = vec![in alloc; 0; rows.len() / 182 * 23]?;
-    read_all(rows, &mut marks, all);
-    let mut bytes = Vec::new(alloc);
-    for (record, row) in rows.chunks_exact(182).enumerate() {
-        bytes.extend_from_slice(row)?;
-        let first = record.saturating_mul(23);
-        bytes.extend_from_slice(marks.get(first..first.saturating_add(23)).unwrap_or(&[]))?;
+// Each row gets its marks behind it, of which none is set.
+fn add_marks(bytes: &mut Vec<u8>, spare: &mut Vec<u8>) -> bool {
+    spare.clear();
+    for row in bytes.chunks_exact(ROW) {
+        if !add(spare, row) || !add(spare, &[0; MARKED_ROW - ROW]) {
+            return false;
+        }
     }
-    Ok(bytes)
+    swap(bytes, spare);
+    true
+}
+
+fn draw_rows(capture: &mut [u8], seed: u64) {
+    let mut generator = Generator(seed);
+    for row in capture.chunks_exact_mut(MARKED_ROW) {
+        read_drawn(row, generator.draw());
+    }
+}
+
+// A row is lost with all its marks, the two spare ones too, or a byte of it is wrong.
+fn read_drawn(row: &mut [u8], drawn: u64) {
+    if drawn >> 56 < 43 {
+        row.fill(0xFF);
+    } else if let Some(byte) = row.get_mut((drawn >> 40 & 0x7F) as usize) {
+        *byte ^= 0x55;
+    }
 }
 
 // The header, and behind each block its runs.
-fn listed(
-    alloc: Global,
-    stream: &[u8],
-    stated: &Stated,
-    runs: &[Run],
-) -> Result<Vec<u8>, AllocError> {
-    let runs = listed_runs(alloc, runs)?;
-    let mut bytes = header(alloc, stated)?;
-    for block in stream.chunks_exact(BLOCK) {
-        bytes.extend_from_slice(block)?;
-        bytes.extend_from_slice(&runs)?;
+fn list(bytes: &mut Vec<u8>, spare: &mut Vec<u8>, stated: &Stated, runs: &[Run]) -> bool {
+    spare.clear();
+    if !add_header(spare, stated) {
+        return false;
     }
-    Ok(bytes)
+    for block in bytes.chunks_exact(BLOCK) {
+        if !add(spare, block) || !add_runs(spare, runs) {
+            return false;
+        }
+    }
+    swap(bytes, spare);
+    true
 }
 
-fn header(alloc: Global, stated: &Stated) -> Result<Vec<u8>, AllocError> {
-    let mut bytes = Vec::new(alloc);
-    bytes.extend_from_slice(b"DVDECC")?;
-    bytes.extend_from_slice(&[0, 2, stated.0, stated.1, 0, 0])?;
-    for number in &stated.2 {
-        bytes.extend_from_slice(&number.to_be_bytes())?;
-    }
-    bytes.extend_from_slice(&[0; 4])?;
-    Ok(bytes)
+fn add_header(bytes: &mut Vec<u8>, stated: &Stated) -> bool {
+    let [first, second, initial, tail] = stated.2;
+    add(bytes, b"DVDECC\x00\x02")
+        && add(bytes, &[stated.0, stated.1, 0, 0])
+        && add(bytes, &first.to_be_bytes())
+        && add(bytes, &second.to_be_bytes())
+        && add(bytes, &initial.to_be_bytes())
+        && add(bytes, &tail.to_be_bytes())
+        && add(bytes, &[0; 4])
 }
 
 // How many runs there are, and each of them.
-fn listed_runs(alloc: Global, runs: &[Run]) -> Result<Vec<u8>, AllocError> {
+fn add_runs(bytes: &mut Vec<u8>, runs: &[Run]) -> bool {
     let count = runs.len().min(65_535) as u16;
-    let mut bytes = count.to_be_bytes().to_vec(alloc)?;
+    let mut is_room = add(bytes, &count.to_be_bytes());
     for (start, length) in runs {
-        bytes.extend_from_slice(&start.to_be_bytes())?;
-        bytes.extend_from_slice(&length.to_be_bytes())?;
+        is_room = is_room && add(bytes, &start.to_be_bytes()) && add(bytes, &length.to_be_bytes());
     }
-    Ok(bytes)
+    is_room
 }

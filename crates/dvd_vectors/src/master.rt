@@ -1,9 +1,8 @@
 //! Recordings of the Data Zone, against the digest that another program computed from the standard.
-use crate::cases::{Runs, Written, hold};
+use crate::cases::{Held, Runs, Written, hold};
 use crate::fixture::{BLOCK, NEVER, Ports, SOUND};
 use crate::making::Step;
 use dvd_top::Status;
-use std::test::Fail;
 
 // The output takes a thousand bytes a call, and has room for two blocks.
 const PIECES: &[Ports] = &[(SOUND, (1000, NEVER, 2 * BLOCK), SOUND)];
@@ -14,11 +13,9 @@ static RUNS: [Runs; 5] = [
         words: &["master --sectors 17"],
         over: &[Step::Image(17)],
         cases: &[(&[], PIECES, (Status::Done, 2 * BLOCK, "done\n"))],
-        writes: Written::Digest([
-            0xE7, 0x2C, 0x18, 0xC8, 0xA2, 0x80, 0xB7, 0x41, 0xA3, 0x16, 0x3F, 0xA4, 0x5B, 0x59,
-            0xAC, 0xB1, 0x85, 0x4E, 0x77, 0xAC, 0x43, 0xA6, 0x4B, 0x8C, 0x23, 0x63, 0x82, 0x95,
-            0xA6, 0x34, 0xC0, 0x2A,
-        ]),
+        writes: Written::Digest(
+            *b"\xE7\x2C\x18\xC8\xA2\x80\xB7\x41\xA3\x16\x3F\xA4\x5B\x59\xAC\xB1\x85\x4E\x77\xAC\x43\xA6\x4B\x8C\x23\x63\x82\x95\xA6\x34\xC0\x2A",
+        ),
     },
     // Images that don't fit.
     Runs {
@@ -72,6 +69,6 @@ static RUNS: [Runs; 5] = [
 ];
 
 #[test]
-fn the_data_zone_is_mastered(rt: HostRuntime) -> Result<(), Fail> {
+fn the_data_zone_is_mastered(rt: HostRuntime) -> Held {
     hold(&rt, &RUNS)
 }

@@ -1,9 +1,8 @@
 //! What the options of `master` change in its stream, by the first bytes of blocks.
-use crate::cases::{Runs, Written, hold};
+use crate::cases::{Held, Runs, Written, hold};
 use crate::fixture::{BLOCK, NEVER, Ports, SOUND};
 use crate::making::Step;
 use dvd_top::Status;
-use std::test::Fail;
 
 // An output with room for every stream.
 const ROOM: &[Ports] = &[(SOUND, (BLOCK, NEVER, 307 * BLOCK), SOUND)];
@@ -60,6 +59,6 @@ static RUNS: [Runs; 7] = [
 ];
 
 #[test]
-fn options_change_the_stream(rt: HostRuntime) -> Result<(), Fail> {
+fn options_change_the_stream(rt: HostRuntime) -> Held {
     hold(&rt, &RUNS)
 }

@@ -1,7 +1,13 @@
-//! What is read of a stream: bytes that are wrong, and rows' places that are lost, at equal distances.
+//! What is read of a stream or of a capture in the marked form: bytes that are wrong, and rows' places that are lost, at equal
+//! distances.
 
-/// Where something else is read: the first place; how many groups of places there are, and how far apart; how many places a group has,
-/// and how far apart. Places behind the end of the stream are none.
+/// The bytes of a row, and of a row with its marks.
+pub const ROW: usize = 182;
+
+pub const MARKED_ROW: usize = 205;
+
+/// Where something else is read: the first place of the stream; how many groups of places there are, and how far apart; how many places
+/// a group has, and how far apart. Places behind the end of the stream are none.
 pub type Hits = (usize, (usize, usize), (usize, usize), Hit);
 
 /// What is read there.
@@ -13,31 +19,31 @@ pub enum Hit {
     Is(u8),
     /// A zero with a mark.
     Lost,
-    /// The byte itself, with a mark.
-    Doubtful,
+    /// These bits are wrong, and a mark tells it.
+    Doubtful(u8),
 }
 
 /// One place.
 pub const ONE: (usize, usize) = (1, 0);
 
-/// Reads all of these in the place of what stands there, and sets the marks, of which each row of 182 bytes has 23 bytes; the high bit
-/// of the first is that of the first place. Of later ones of the same place the last holds.
-pub fn read(bytes: &mut [u8], marks: &mut [u8], hits: &[Hits]) {
+/// Reads all of these in the place of what stands there. A row has so many bytes: 182, or 205 where its marks stand behind it, of
+/// which the high bit of the first byte is that of the first place. Where several are of one place, they follow on each other.
+pub fn read(bytes: &mut [u8], row: usize, hits: &[Hits]) {
     for (first, groups, each, hit) in hits {
-        read_groups(bytes, marks, *first, *groups, *each, *hit);
+        read_groups(bytes, row, *first, *groups, *each, *hit);
     }
 }
 
 /// The same, of several lists in turn.
-pub fn read_all(bytes: &mut [u8], marks: &mut [u8], lists: &[&'static [Hits]]) {
+pub fn read_all(bytes: &mut [u8], row: usize, lists: &[&'static [Hits]]) {
     for hits in lists {
-        read(bytes, marks, hits);
+        read(bytes, row, hits);
     }
 }
 
 fn read_groups(
     bytes: &mut [u8],
-    marks: &mut [u8],
+    row: usize,
     first: usize,
     groups: (usize, usize),
     each: (usize, usize),
@@ -45,37 +51,49 @@ fn read_groups(
 ) {
     for group in 0..groups.0 {
         let first = first.saturating_add(group.saturating_mul(groups.1));
-        read_each(bytes, marks, first, each, hit);
+        read_each(bytes, row, first, each, hit);
     }
 }
 
-fn read_each(bytes: &mut [u8], marks: &mut [u8], first: usize, each: (usize, usize), hit: Hit) {
+fn read_each(bytes: &mut [u8], row: usize, first: usize, each: (usize, usize), hit: Hit) {
     for k in 0..each.0 {
-        let at = first.saturating_add(k.saturating_mul(each.1));
-        if let Some(byte) = bytes.get_mut(at) {
-            *byte = byte_of(hit, *byte);
-        }
-        if let Some(byte) = marks.get_mut(at / 182 * 23 + at % 182 / 8) {
-            *byte = mark_of(hit, *byte, 0x80 >> (at % 182 % 8));
-        }
+        let place = first.saturating_add(k.saturating_mul(each.1));
+        read_place(
+            bytes,
+            (place / ROW).saturating_mul(row),
+            place % ROW,
+            row,
+            hit,
+        );
+    }
+}
+
+// Place `j` of the row that begins there.
+fn read_place(bytes: &mut [u8], start: usize, j: usize, row: usize, hit: Hit) {
+    if let Some(byte) = bytes.get_mut(start.saturating_add(j)) {
+        *byte = byte_of(hit, *byte);
+    }
+    if row == MARKED_ROW
+        && let Some(marks) = bytes.get_mut(start.saturating_add(ROW + j / 8))
+    {
+        *marks = marks_of(hit, *marks, 0x80 >> (j % 8));
     }
 }
 
 // What is read in the place of a byte.
 fn byte_of(hit: Hit, byte: u8) -> u8 {
     match hit {
-        Hit::Wrong(bits) => byte ^ bits,
+        Hit::Wrong(bits) | Hit::Doubtful(bits) => byte ^ bits,
         Hit::Is(other) => other,
         Hit::Lost => 0,
-        Hit::Doubtful => byte,
     }
 }
 
 // Eight marks, where this one is of the place.
-fn mark_of(hit: Hit, marks: u8, mark: u8) -> u8 {
+fn marks_of(hit: Hit, marks: u8, mark: u8) -> u8 {
     match hit {
         Hit::Wrong(_) => marks,
         Hit::Is(_) => marks & !mark,
-        Hit::Lost | Hit::Doubtful => marks | mark,
+        Hit::Lost | Hit::Doubtful(_) => marks | mark,
     }
 }

@@ -1,13 +1,8 @@
 //! Streams that are cut off, followed by more, full of marks or of another place, and what is read back of them.
-use crate::cases::{Runs, Written, hold};
-use crate::fixture::{BLOCK, NO_FAULT, SOUND, sink};
-use crate::making::{Step, made};
-use crate::words;
-use dvd_par::OpenGate;
-use dvd_ports::{MemSink, NullSink, SliceSource};
-use dvd_top::{Status, run};
-use std::alloc::AllocError;
-use std::test::Fail;
+use crate::cases::{Held, Memory, Runs, Shown, Written, hold, make_input, show};
+use crate::fixture::{BLOCK, NO_FAULT, run_to_nothing};
+use crate::making::Step;
+use dvd_top::Status;
 use std::thread::Threads;
 
 // The recordings of 17 and of 32 sectors.
@@ -133,29 +128,24 @@ static RUNS: [Runs; 6] = [
 ];
 
 #[test]
-fn what_stands_in_a_stream_comes_back(rt: HostRuntime) -> Result<(), Fail> {
+fn what_stands_in_a_stream_comes_back(rt: HostRuntime) -> Held {
     hold(&rt, &RUNS)
 }
 
-// Runs the words over a stream, with an output that keeps nothing.
-fn run_to_nothing<R: AllocGlobal + Threads + Sync>(
-    rt: &R,
-    text: &str,
-    stream: &[u8],
-    report: &mut MemSink,
-) -> Result<Status, AllocError> {
-    let alloc = rt.alloc();
-    let words = words(alloc, text)?;
-    let mut src = SliceSource::new(stream);
-    let mut out = NullSink::new();
-    Ok(run(rt, &OpenGate, alloc, &words, &mut src, &mut out, report))
+/// A stream is read back to an output that keeps nothing.
+pub fn to_nothing<R: AllocGlobal + Threads + Sync>(rt: &R, memory: &mut Memory) -> Held {
+    if make_input(rt, SEVENTEEN, memory)
+        && run_to_nothing(rt, "recover --sectors 17", &memory.input, &mut memory.bench)
+            == Status::Done
+        && memory.bench.told() == b"done\n".as_slice()
+    {
+        Ok(())
+    } else {
+        Err("recover --sectors 17")
+    }
 }
 
 #[test]
-fn an_output_may_keep_nothing(rt: HostRuntime) -> Result<(), Fail> {
-    let stream = made(&rt, SEVENTEEN)?;
-    let mut report = sink(rt.alloc(), SOUND)?;
-    let status = run_to_nothing(&rt, "recover --sectors 17", &stream, &mut report)?;
-    assert!(rt; status == Status::Done && report.held() == b"done\n".as_slice());
-    Ok(())
+fn an_output_may_keep_nothing(rt: HostRuntime) -> Held {
+    show(&rt, Shown::ToNothing)
 }

@@ -1,11 +1,10 @@
 //! Captures that state their layout and break a rule, or end where they should not: each is refused by its own line.
-use crate::cases::{Case, Runs, Written, hold};
+use crate::cases::{Case, Held, Runs, Written, hold};
 use crate::fixture::{BLOCK, NO_FAULT};
 use crate::listed::{SEVENTEEN, SIXTEEN};
 use crate::making::Step;
 use crate::reading::{Hit, ONE};
 use dvd_top::Status;
-use std::test::Fail;
 
 // The four commands that read a listed capture.
 const COMMANDS: &[&str] = &[
@@ -279,7 +278,7 @@ static REFUSED: [Runs; 6] = [
 ];
 
 #[test]
-fn a_listed_capture_that_breaks_a_rule_is_refused(rt: HostRuntime) -> Result<(), Fail> {
+fn a_listed_capture_that_breaks_a_rule_is_refused(rt: HostRuntime) -> Held {
     hold(&rt, &REFUSED)
 }
 
@@ -312,6 +311,6 @@ static ENDS: [Runs; 1] = [Runs {
 }];
 
 #[test]
-fn the_end_of_a_listed_capture_is_looked_for(rt: HostRuntime) -> Result<(), Fail> {
+fn the_end_of_a_listed_capture_is_looked_for(rt: HostRuntime) -> Held {
     hold(&rt, &ENDS)
 }

@@ -1,11 +1,10 @@
 //! A disk of 528 blocks as a rescuer meets it: a burst over forty blocks, of which marked rows are lost, and wrong bytes in
 //! every eighth row of all others, which nothing marks. All of it is read back, and the survey counts what stands there.
-use crate::cases::{Runs, Written, hold};
+use crate::cases::{Held, Runs, Written, hold};
 use crate::fixture::{BLOCK, NEVER, NO_FAULT, Ports, SOUND};
 use crate::making::Step;
 use crate::reading::Hit;
 use dvd_top::Status;
-use std::test::Fail;
 
 // An output with room for the image.
 const ROOM: &[Ports] = &[(SOUND, (40_000, NEVER, 8_388_608), SOUND)];
@@ -37,11 +36,9 @@ static RUNS: [Runs; 3] = [
         words: &["survey --sectors 4096 --zones all --form marked"],
         over: DISK,
         cases: &[(&[], NO_FAULT, (Status::Done, 33_220, "done\n"))],
-        writes: Written::Digest([
-            0x21, 0xFC, 0x8E, 0xF8, 0x56, 0x75, 0xD3, 0x48, 0x02, 0xE9, 0x60, 0xE8, 0xB3, 0xCA,
-            0xA7, 0x0E, 0x8B, 0x71, 0x5D, 0xCE, 0xD2, 0x8C, 0x83, 0xB9, 0x4A, 0xED, 0xEE, 0xB6,
-            0xA4, 0x62, 0x3C, 0xEF,
-        ]),
+        writes: Written::Digest(
+            *b"\x21\xFC\x8E\xF8\x56\x75\xD3\x48\x02\xE9\x60\xE8\xB3\xCA\xA7\x0E\x8B\x71\x5D\xCE\xD2\x8C\x83\xB9\x4A\xED\xEE\xB6\xA4\x62\x3C\xEF",
+        ),
     },
     // The totals, its last line.
     Runs {
@@ -56,11 +53,11 @@ static RUNS: [Runs; 3] = [
 ];
 
 #[test]
-fn a_scratched_disk_is_read_back(rt: HostRuntime) -> Result<(), Fail> {
+fn a_scratched_disk_is_read_back(rt: HostRuntime) -> Held {
     hold(&rt, &RUNS[..1])
 }
 
 #[test]
-fn a_scratched_disk_is_surveyed(rt: HostRuntime) -> Result<(), Fail> {
+fn a_scratched_disk_is_surveyed(rt: HostRuntime) -> Held {
     hold(&rt, &RUNS[1..])
 }

@@ -1,11 +1,10 @@
 //! Surveys of streams: the lines of blocks and of totals, for both forms, damage that comes and goes, and streams that
 //! aren't whole.
-use crate::cases::{Runs, Written, hold};
+use crate::cases::{Held, Runs, Written, hold};
 use crate::fixture::{BLOCK, NO_FAULT};
 use crate::making::Step;
 use crate::reading::{Hit, ONE};
 use dvd_top::Status;
-use std::test::Fail;
 
 // A mastered stream of one block, and of two.
 const ONE_BLOCK: &[Step] = &[Step::Image(16), Step::Run("master --sectors 16", BLOCK)];
@@ -67,7 +66,7 @@ static RUNS: [Runs; 8] = [
         words: &["survey --sectors 32 --form marked"],
         over: TWO_BLOCKS,
         cases: &[(
-            &[Step::Marked(&[&[(0, (2, BLOCK), (141, 182), Hit::Doubtful)]])],
+            &[Step::Marked(&[&[(0, (2, BLOCK), (141, 182), Hit::Doubtful(0))]])],
             NO_FAULT,
             (Status::Done, 180, "done\n"),
         )],
@@ -80,7 +79,7 @@ static RUNS: [Runs; 8] = [
         words: &["survey --sectors 32 --form marked"],
         over: TWO_BLOCKS,
         cases: &[(
-            &[Step::Marked(&[&[(0, (2, BLOCK), (140, 182), Hit::Doubtful)]])],
+            &[Step::Marked(&[&[(0, (2, BLOCK), (140, 182), Hit::Doubtful(0))]])],
             NO_FAULT,
             (Status::Done, 180, "done\n"),
         )],
@@ -127,6 +126,6 @@ static RUNS: [Runs; 8] = [
 ];
 
 #[test]
-fn lines_tell_what_stands_in_a_stream(rt: HostRuntime) -> Result<(), Fail> {
+fn lines_tell_what_stands_in_a_stream(rt: HostRuntime) -> Held {
     hold(&rt, &RUNS)
 }

@@ -1,9 +1,8 @@
 //! Words that ask for nothing.
-use crate::cases::{Case, Runs, Written, hold};
+use crate::cases::{Case, Held, Runs, Written, hold};
 use crate::fixture::{ALL_SOUND, NEVER, SOUND};
 use crate::making::Step;
 use dvd_top::Status;
-use std::test::Fail;
 
 const TEXTS: &[&str] = &[
     "",
@@ -94,6 +93,6 @@ static RUNS: [Runs; 2] = [
 ];
 
 #[test]
-fn words_that_ask_for_nothing_are_usage(rt: HostRuntime) -> Result<(), Fail> {
+fn words_that_ask_for_nothing_are_usage(rt: HostRuntime) -> Held {
     hold(&rt, &RUNS)
 }

@@ -64,7 +64,8 @@ static ENDS: [LoopEnd; 18] = [
     LoopEnd::BadHeader { at: 2 },
 ];
 
-const PLAIN: Settings = Settings {
+/// Settings of a run of a few sectors.
+pub const PLAIN: Settings = Settings {
     command: Command::Recover,
     first: 1,
     sectors: 2,

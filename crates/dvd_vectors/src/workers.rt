@@ -1,12 +1,11 @@
 //! Several workers on one run: what comes out is that of one worker, and two workers work at the same time.
-use crate::cases::{Runs, Written, hold};
-use crate::fixture::{ALL_SOUND, BLOCK, NO_FAULT, ran_through};
-use crate::making::{Step, made};
+use crate::cases::{Held, Memory, Runs, Shown, Written, hold, make_input, show};
+use crate::fixture::{ALL_SOUND, BLOCK, NO_FAULT, run_through};
+use crate::making::Step;
 use crate::reading::Hit;
 use dvd_par::Gate;
 use dvd_top::Status;
 use std::sync::atomic::{AtomicU64, Ordering};
-use std::test::Fail;
 use std::thread::Threads;
 
 // How often a piece looks at the counter of the other, at most.
@@ -69,31 +68,32 @@ impl Gate for Meeting {
     }
 }
 
-// Pieces 0 and 1 of each pass meet in one of a few runs over these bytes; there are so many passes.
+// Whether pieces 0 and 1 of each of these passes meet in one of a few runs.
 fn meet<R: AllocGlobal + Threads + Sync>(
     rt: &R,
     text: &str,
-    bytes: &[u8],
     passes: u64,
-) -> Result<(), Fail> {
+    memory: &mut Memory,
+) -> bool {
     for _ in 0..MOST_RUNS {
-        if is_met_once(rt, text, bytes, passes)? {
-            return Ok(());
+        if meet_once(rt, text, passes, memory) {
+            return true;
         }
     }
-    Err(passes)?
+    false
 }
 
 // Whether they do in one run.
-fn is_met_once<R: AllocGlobal + Threads + Sync>(
+fn meet_once<R: AllocGlobal + Threads + Sync>(
     rt: &R,
     text: &str,
-    bytes: &[u8],
     passes: u64,
-) -> Result<bool, Fail> {
+    memory: &mut Memory,
+) -> bool {
     let gate = Meeting::new();
-    let (status, _, _) = ran_through(rt, &gate, text, bytes, ALL_SOUND)?;
-    Ok(status == Status::Done && gate.is_met(passes))
+    let bench = &mut memory.bench;
+    run_through(rt, &gate, text, &memory.input, &ALL_SOUND, bench) == Status::Done
+        && gate.is_met(passes)
 }
 
 // Words, how their input is made, and the passes.
@@ -116,12 +116,19 @@ static MEETINGS: [(&str, &[Step], u64); 4] = [
     ("exercise --seed 1 --blocks 1 --workers 2", &[], 4),
 ];
 
-#[test]
-fn two_workers_work_at_the_same_time(rt: HostRuntime) -> Result<(), Fail> {
+/// The workers of each meeting meet.
+pub fn meetings<R: AllocGlobal + Threads + Sync>(rt: &R, memory: &mut Memory) -> Held {
     for (text, over, passes) in &MEETINGS {
-        meet(&rt, text, &made(&rt, over)?, *passes)?;
+        if !make_input(rt, over, memory) || !meet(rt, text, *passes, memory) {
+            return Err(text);
+        }
     }
     Ok(())
+}
+
+#[test]
+fn two_workers_work_at_the_same_time(rt: HostRuntime) -> Held {
+    show(&rt, Shown::Meetings)
 }
 
 // Three blocks: five bytes of each row of the first are wrong, more than can be fixed of six rows of the second, and of twenty rows of
@@ -176,7 +183,7 @@ static RUNS: [Runs; 4] = [
         ],
         over: &[Step::Image(33)],
         cases: &[(&[], NO_FAULT, (Status::Done, 3 * BLOCK, "done\n"))],
-        writes: Written::Front(&[Step::Image(33), Step::Run("master --sectors 33", 3 * BLOCK)]),
+        writes: Written::Made(&[Step::Run("master --sectors 33", 3 * BLOCK)]),
     },
     Runs {
         words: &[
@@ -191,6 +198,6 @@ static RUNS: [Runs; 4] = [
 ];
 
 #[test]
-fn runs_are_the_same_for_each_number_of_workers(rt: HostRuntime) -> Result<(), Fail> {
+fn runs_are_the_same_for_each_number_of_workers(rt: HostRuntime) -> Held {
     hold(&rt, &RUNS)
 }
