@@ -1,5 +1,5 @@
 //! Runs that have to end so and write so, and runs that have to do the same.
-use crate::fixture::{ALL_SOUND, Bench, End, Ports, ends, new_bench, run_over};
+use crate::fixture::{ALL_SOUND, Bench, End, Ports, SOUND, Through, ends, new_bench, run_over};
 use crate::making::{Step, make};
 use crate::{hostile, info, loops, recover, workers};
 use dvd_top::Status;
@@ -19,7 +19,7 @@ pub struct Runs {
 }
 
 /// More steps, ports, and the end of a run.
-pub type Case = (&'static [Step], &'static [Ports], End);
+pub type Case = (&'static [Step], Through, End);
 
 /// What a run writes.
 pub enum Written {
@@ -227,7 +227,30 @@ fn words_hold<R: AllocGlobal + Threads + Sync>(
     writes: &Written,
     memory: &mut Memory,
 ) -> Held {
-    for ports in case.1 {
+    match case.1 {
+        Through::Each(all) => ports_hold(rt, words, case, all, writes, memory),
+        one => ports_hold(rt, words, case, &[ports_of(one)], writes, memory),
+    }
+}
+
+fn ports_of(through: Through) -> Ports {
+    match through {
+        Through::Source(port) => (port, SOUND, SOUND),
+        Through::Output(port) => (SOUND, port, SOUND),
+        Through::Report(port) => (SOUND, SOUND, port),
+        Through::Sound | Through::Each(_) => ALL_SOUND,
+    }
+}
+
+fn ports_hold<R: AllocGlobal + Threads + Sync>(
+    rt: &R,
+    words: &'static str,
+    case: &Case,
+    all: &[Ports],
+    writes: &Written,
+    memory: &mut Memory,
+) -> Held {
+    for ports in all {
         let bench = &mut memory.bench;
         if !ends(rt, words, &memory.input, ports, &case.2, bench)
             || !is_so(bench.written(), writes, &memory.whole)

@@ -1,6 +1,6 @@
 //! Captures in the plain and the marked form converted to the form that states its layout.
 use crate::cases::{Alike, Held, Runs, Written, are_alike, hold};
-use crate::fixture::{BLOCK, NO_FAULT, SOUND};
+use crate::fixture::{BLOCK, NO_FAULT, Through};
 use crate::listed::{
     MARKS, OF_ONE_LAYER, OF_OPPOSITE, OF_PARALLEL, ONE_LAYER, OPPOSITE, PARALLEL, RUNS, SEVENTEEN,
     SIXTEEN,
@@ -114,12 +114,12 @@ static CONVERTED: [Runs; 8] = [
             ),
             (
                 &[Step::Cut(1)],
-                &[((40_000, 0, 0), SOUND, SOUND)],
+                Through::Source((40_000, 0, 0)),
                 (Status::ReadFault, 32, "read fault\n"),
             ),
             (
                 &[Step::Cut(1)],
-                &[(SOUND, (40_000, 0, 160_000), SOUND)],
+                Through::Output((40_000, 0, 160_000)),
                 (Status::WriteFault, 0, "write fault\n"),
             ),
         ],

@@ -1,13 +1,13 @@
 //! Disks of every shape with all of their zones, mastered and read back. The digests and the first bytes were computed
 //! by another program from the standard.
 use crate::cases::{Held, Runs, Written, hold};
-use crate::fixture::{BLOCK, NEVER, NO_FAULT, Ports, SOUND};
+use crate::fixture::{BLOCK, NEVER, NO_FAULT, Through};
 use crate::making::Step;
 use crate::reading::{Hit, Hits, ONE};
 use dvd_top::Status;
 
 // An output with room for the stream of every disk.
-const ROOM: &[Ports] = &[(SOUND, (BLOCK, NEVER, 548 * BLOCK), SOUND)];
+const ROOM: Through = Through::Output((BLOCK, NEVER, 548 * BLOCK));
 
 static MASTERED: [Runs; 4] = [
     Runs {

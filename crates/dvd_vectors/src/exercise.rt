@@ -1,10 +1,10 @@
 //! The line of `exercise`, whose numbers another program computed from the standard; it reads nothing.
 use crate::cases::{Held, Runs, Written, hold};
-use crate::fixture::{Ports, SOUND};
+use crate::fixture::Through;
 use dvd_top::Status;
 
 // A source that fails at once.
-const NO_SOURCE: &[Ports] = &[((1, 0, 0), SOUND, SOUND)];
+const NO_SOURCE: Through = Through::Source((1, 0, 0));
 
 static RUNS: [Runs; 3] = [
     Runs {

@@ -1,6 +1,6 @@
 //! How much exactly is left after a fault, and the lines.
 use crate::cases::{Case, Held, Runs, Written, hold};
-use crate::fixture::{BLOCK, NEVER, NO_FAULT, SOUND};
+use crate::fixture::{BLOCK, NEVER, NO_FAULT, SOUND, Through};
 use crate::making::Step;
 use dvd_top::Status;
 
@@ -8,65 +8,65 @@ use dvd_top::Status;
 const FRAMES: &[Case] = &[
     (
         &[],
-        &[((700, 2, 0), SOUND, SOUND)],
+        Through::Source((700, 2, 0)),
         (Status::ReadFault, 0, "read fault\n"),
     ),
     (
         &[],
-        &[((700, 3, 0), SOUND, SOUND)],
+        Through::Source((700, 3, 0)),
         (Status::ReadFault, 2064, "read fault\n"),
     ),
     (
         &[],
-        &[((700, 6, 0), SOUND, SOUND)],
+        Through::Source((700, 6, 0)),
         (Status::ReadFault, 4128, "read fault\n"),
     ),
     (
         &[],
-        &[(SOUND, (999, NEVER, 0), SOUND)],
+        Through::Output((999, NEVER, 0)),
         (Status::WriteFault, 0, "write fault\n"),
     ),
     (
         &[],
-        &[(SOUND, (999, NEVER, 1), SOUND)],
+        Through::Output((999, NEVER, 1)),
         (Status::WriteFault, 1, "write fault\n"),
     ),
     (
         &[],
-        &[(SOUND, (999, NEVER, 2063), SOUND)],
+        Through::Output((999, NEVER, 2063)),
         (Status::WriteFault, 2063, "write fault\n"),
     ),
     (
         &[],
-        &[(SOUND, (999, NEVER, 2064), SOUND)],
+        Through::Output((999, NEVER, 2064)),
         (Status::WriteFault, 2064, "write fault\n"),
     ),
     (
         &[],
-        &[(SOUND, (999, NEVER, 4127), SOUND)],
+        Through::Output((999, NEVER, 4127)),
         (Status::WriteFault, 4127, "write fault\n"),
     ),
     (
         &[],
-        &[
+        Through::Each(&[
             (SOUND, (999, NEVER, 4128), SOUND),
             (SOUND, SOUND, (9, NEVER, 5)),
-        ],
+        ]),
         (Status::Done, 4128, "done\n"),
     ),
     (
         &[],
-        &[(SOUND, SOUND, (9, NEVER, 0))],
+        Through::Report((9, NEVER, 0)),
         (Status::ReportFault, 4128, ""),
     ),
     (
         &[],
-        &[(SOUND, SOUND, (9, NEVER, 1))],
+        Through::Report((9, NEVER, 1)),
         (Status::ReportFault, 4128, "d"),
     ),
     (
         &[],
-        &[(SOUND, SOUND, (9, NEVER, 4))],
+        Through::Report((9, NEVER, 4)),
         (Status::ReportFault, 4128, "done"),
     ),
 ];
@@ -75,16 +75,16 @@ const FRAMES: &[Case] = &[
 const MASTERED: &[Case] = &[
     (
         &[],
-        &[((2048, 15, 0), SOUND, SOUND)],
+        Through::Source((2048, 15, 0)),
         (Status::ReadFault, 0, "read fault\n"),
     ),
     (
         &[],
-        &[
+        Through::Each(&[
             ((2048, 16, 0), SOUND, SOUND),
             ((2048, 20, 0), SOUND, SOUND),
             ((2048, 31, 0), SOUND, SOUND),
-        ],
+        ]),
         (Status::ReadFault, BLOCK, "read fault\n"),
     ),
 ];
@@ -92,22 +92,22 @@ const MASTERED: &[Case] = &[
 const ONE_BLOCK: &[Case] = &[
     (
         &[],
-        &[((1000, 5, 0), SOUND, SOUND)],
+        Through::Source((1000, 5, 0)),
         (Status::ReadFault, 0, "read fault\n"),
     ),
     (
         &[],
-        &[(SOUND, (1000, 2, 80_000), SOUND)],
+        Through::Output((1000, 2, 80_000)),
         (Status::WriteFault, 2000, "write fault\n"),
     ),
     (
         &[],
-        &[(SOUND, (1000, NEVER, 2500), SOUND)],
+        Through::Output((1000, NEVER, 2500)),
         (Status::WriteFault, 2500, "write fault\n"),
     ),
     (
         &[],
-        &[(SOUND, SOUND, (9, 0, 80))],
+        Through::Report((9, 0, 80)),
         (Status::ReportFault, 32_768, ""),
     ),
 ];
@@ -116,16 +116,16 @@ const ONE_BLOCK: &[Case] = &[
 const TWO_BLOCKS: &[Case] = &[
     (
         &[],
-        &[((182, 207, 0), SOUND, SOUND)],
+        Through::Source((182, 207, 0)),
         (Status::ReadFault, 0, "read fault\n"),
     ),
     (
         &[],
-        &[
+        Through::Each(&[
             ((182, 208, 0), SOUND, SOUND),
             ((182, 300, 0), SOUND, SOUND),
             ((182, 415, 0), SOUND, SOUND),
-        ],
+        ]),
         (Status::ReadFault, 32_768, "read fault\n"),
     ),
 ];
@@ -143,7 +143,7 @@ const REFUSED: &[Case] = &[
     ),
     (
         &[],
-        &[(SOUND, (2048, 0, 80_000), SOUND)],
+        Through::Output((2048, 0, 80_000)),
         (
             Status::WriteFault,
             0,
@@ -152,7 +152,7 @@ const REFUSED: &[Case] = &[
     ),
     (
         &[],
-        &[(SOUND, (2048, 5, 80_000), SOUND)],
+        Through::Output((2048, 5, 80_000)),
         (
             Status::WriteFault,
             10_240,
@@ -161,17 +161,17 @@ const REFUSED: &[Case] = &[
     ),
     (
         &[],
-        &[(SOUND, SOUND, (64, 0, 80))],
+        Through::Report((64, 0, 80)),
         (Status::ReportFault, 0, ""),
     ),
     (
         &[],
-        &[(SOUND, SOUND, (10, 1, 80))],
+        Through::Report((10, 1, 80)),
         (Status::ReportFault, 0, "block 0 se"),
     ),
     (
         &[],
-        &[(SOUND, SOUND, (64, 1, 80))],
+        Through::Report((64, 1, 80)),
         (
             Status::ReportFault,
             32_768,
@@ -184,7 +184,7 @@ const REFUSED: &[Case] = &[
 const SECOND_REFUSED: &[Case] = &[
     (
         &[],
-        &[(SOUND, (2048, 16, 80_000), SOUND)],
+        Through::Output((2048, 16, 80_000)),
         (
             Status::WriteFault,
             32_768,
@@ -193,7 +193,7 @@ const SECOND_REFUSED: &[Case] = &[
     ),
     (
         &[],
-        &[(SOUND, SOUND, (64, 0, 80))],
+        Through::Report((64, 0, 80)),
         (Status::ReportFault, 32_768, ""),
     ),
 ];

@@ -27,8 +27,23 @@ pub const SOUND: Port = (40_000, NEVER, 1_000_000);
 /// Three of them.
 pub const ALL_SOUND: Ports = (SOUND, SOUND, SOUND);
 
+/// The ports of which each is tried.
+#[derive(Clone, Copy)]
+pub enum Through {
+    /// Those in which nothing fails.
+    Sound,
+    /// This source, and nothing else fails.
+    Source(Port),
+    /// This output.
+    Output(Port),
+    /// This report.
+    Report(Port),
+    /// Each of these.
+    Each(&'static [Ports]),
+}
+
 /// The ports of a run in which nothing fails.
-pub const NO_FAULT: &[Ports] = &[ALL_SOUND];
+pub const NO_FAULT: Through = Through::Sound;
 
 /// The end of a run: its status, how many bytes it wrote, and its report.
 pub type End = (Status, usize, &'static str);

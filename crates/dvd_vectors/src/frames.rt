@@ -1,15 +1,15 @@
 //! Frames of a few sectors of zeros.
 use crate::cases::{Case, Held, Runs, Written, hold};
-use crate::fixture::{NEVER, Ports, SOUND};
+use crate::fixture::{NEVER, SOUND, Through};
 use crate::making::Step;
 use dvd_top::Status;
 
 // Reads of one byte, of seven, and of more than there are.
-const READS: &[Ports] = &[
+const READS: Through = Through::Each(&[
     ((1, NEVER, 0), SOUND, SOUND),
     ((7, NEVER, 0), SOUND, SOUND),
     ((5000, NEVER, 0), SOUND, SOUND),
-];
+]);
 
 // One frame.
 const ONE: &[Case] = &[(

@@ -126,8 +126,10 @@ fn leave_both<R: AllocGlobal + Threads + Sync>(
 
 /// Both loops leave what the command does, and the image that it was given.
 pub fn loops<R: AllocGlobal + Threads + Sync>(rt: &R, memory: &mut Memory) -> Held {
-    let (Some(mut buffers), Some(mut left)) = (new_buffers(rt.alloc()), nothing_left(rt.alloc()))
-    else {
+    let Some(mut buffers) = new_buffers(rt.alloc()) else {
+        return Err("no memory");
+    };
+    let Some(mut left) = nothing_left(rt.alloc()) else {
         return Err("no memory");
     };
     if make_over(rt, &IMAGE, memory)

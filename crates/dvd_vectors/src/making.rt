@@ -31,6 +31,8 @@ pub enum Step {
     Woven(usize),
     /// The groups of so many come in reverse order.
     Reversed(usize),
+    /// This byte stands at this place.
+    Set(usize, u8),
     /// Some are read otherwise.
     Read(&'static [Hits]),
     /// They become the capture in the marked form of what was read of them.
@@ -124,6 +126,7 @@ fn rearrange(step: &Step, bytes: &mut Vec<u8>) -> bool {
         Step::Front(count) => bytes.truncate(*count),
         Step::Cut(count) => bytes.truncate(bytes.len().saturating_sub(*count)),
         Step::Reversed(size) => reverse(bytes, *size),
+        Step::Set(at, byte) => set(bytes, *at, *byte),
         Step::Read(hits) => read(bytes, ROW, hits),
         _ => return false,
     }
@@ -194,6 +197,12 @@ fn weave(bytes: &mut Vec<u8>, spare: &mut Vec<u8>, size: usize) -> bool {
     }
     swap(bytes, spare);
     true
+}
+
+fn set(bytes: &mut [u8], at: usize, byte: u8) {
+    if let Some(it) = bytes.get_mut(at) {
+        *it = byte;
+    }
 }
 
 fn reverse(bytes: &mut [u8], size: usize) {

@@ -1,11 +1,11 @@
 //! Recordings of the Data Zone, against the digest that another program computed from the standard.
 use crate::cases::{Held, Runs, Written, hold};
-use crate::fixture::{BLOCK, NEVER, Ports, SOUND};
+use crate::fixture::{BLOCK, NEVER, Through};
 use crate::making::Step;
 use dvd_top::Status;
 
 // The output takes a thousand bytes a call, and has room for two blocks.
-const PIECES: &[Ports] = &[(SOUND, (1000, NEVER, 2 * BLOCK), SOUND)];
+const PIECES: Through = Through::Output((1000, NEVER, 2 * BLOCK));
 
 static RUNS: [Runs; 5] = [
     // SHA-256 of the stream of 17 sectors.

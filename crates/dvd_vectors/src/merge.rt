@@ -17,26 +17,17 @@ static JOINS: [Runs; 3] = [
         over: ZEROS,
         cases: &[
             (
-                &[Step::Read(&[
-                    (0, ONE, ONE, Hit::Is(1)),
-                    (MARKED + 182, ONE, ONE, Hit::Is(0x80)),
-                ])],
+                &[Step::Set(0, 1), Step::Set(MARKED + 182, 0x80)],
                 NO_FAULT,
                 (Status::Done, MARKED, "done\n"),
             ),
             (
-                &[Step::Read(&[
-                    (182, ONE, ONE, Hit::Is(0x80)),
-                    (MARKED, ONE, ONE, Hit::Is(1)),
-                ])],
+                &[Step::Set(182, 0x80), Step::Set(MARKED, 1)],
                 NO_FAULT,
                 (Status::Done, MARKED, "done\n"),
             ),
         ],
-        writes: Written::Front(&[
-            Step::Bytes(MARKED, 0),
-            Step::Read(&[(0, ONE, ONE, Hit::Is(1))]),
-        ]),
+        writes: Written::Front(&[Step::Bytes(MARKED, 0), Step::Set(0, 1)]),
     },
     // Of two different bytes neither is believed.
     Runs {
@@ -44,26 +35,23 @@ static JOINS: [Runs; 3] = [
         over: ZEROS,
         cases: &[
             (
-                &[Step::Read(&[(0, ONE, ONE, Hit::Is(1))])],
+                &[Step::Set(0, 1)],
                 NO_FAULT,
                 (Status::Done, MARKED, "done\n"),
             ),
             (
-                &[Step::Read(&[(MARKED, ONE, ONE, Hit::Is(1))])],
+                &[Step::Set(MARKED, 1)],
                 NO_FAULT,
                 (Status::Done, MARKED, "done\n"),
             ),
         ],
-        writes: Written::Front(&[
-            Step::Bytes(MARKED, 0),
-            Step::Read(&[(182, ONE, ONE, Hit::Is(0x80))]),
-        ]),
+        writes: Written::Front(&[Step::Bytes(MARKED, 0), Step::Set(182, 0x80)]),
     },
     Runs {
         words: JOIN,
         over: ZEROS,
         cases: &[(
-            &[Step::Read(&[(182, ONE, ONE, Hit::Is(0x80))])],
+            &[Step::Set(182, 0x80)],
             NO_FAULT,
             (Status::Done, MARKED, "done\n"),
         )],

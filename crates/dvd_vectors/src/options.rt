@@ -1,11 +1,11 @@
 //! What the options of `master` change in its stream, by the first bytes of blocks.
 use crate::cases::{Held, Runs, Written, hold};
-use crate::fixture::{BLOCK, NEVER, Ports, SOUND};
+use crate::fixture::{BLOCK, NEVER, Through};
 use crate::making::Step;
 use dvd_top::Status;
 
 // An output with room for every stream.
-const ROOM: &[Ports] = &[(SOUND, (BLOCK, NEVER, 307 * BLOCK), SOUND)];
+const ROOM: Through = Through::Output((BLOCK, NEVER, 307 * BLOCK));
 
 // Over sectors of zeros.
 static RUNS: [Runs; 7] = [

@@ -3,7 +3,6 @@ use crate::cases::{Case, Held, Runs, Written, hold};
 use crate::fixture::{BLOCK, NO_FAULT};
 use crate::listed::{SEVENTEEN, SIXTEEN};
 use crate::making::Step;
-use crate::reading::{Hit, ONE};
 use dvd_top::Status;
 
 // The four commands that read a listed capture.
@@ -17,92 +16,92 @@ const COMMANDS: &[&str] = &[
 // Another byte stands in the header.
 const BAD: &[Case] = &[
     (
-        &[Step::Read(&[(0, ONE, ONE, Hit::Is(0x45))])],
+        &[Step::Set(0, 0x45)],
         NO_FAULT,
         (Status::BadHeader, 0, "bad header: byte 0\n"),
     ),
     (
-        &[Step::Read(&[(5, ONE, ONE, Hit::Is(0x44))])],
+        &[Step::Set(5, 0x44)],
         NO_FAULT,
         (Status::BadHeader, 0, "bad header: byte 5\n"),
     ),
     (
-        &[Step::Read(&[(7, ONE, ONE, Hit::Is(0x03))])],
+        &[Step::Set(7, 0x03)],
         NO_FAULT,
         (Status::BadHeader, 0, "bad header: byte 7\n"),
     ),
     (
-        &[Step::Read(&[(8, ONE, ONE, Hit::Is(0x03))])],
+        &[Step::Set(8, 0x03)],
         NO_FAULT,
         (Status::BadHeader, 0, "bad header: byte 8\n"),
     ),
     (
-        &[Step::Read(&[(9, ONE, ONE, Hit::Is(0x02))])],
+        &[Step::Set(9, 0x02)],
         NO_FAULT,
         (Status::BadHeader, 0, "bad header: byte 9\n"),
     ),
     (
-        &[Step::Read(&[(10, ONE, ONE, Hit::Is(0x01))])],
+        &[Step::Set(10, 0x01)],
         NO_FAULT,
         (Status::BadHeader, 0, "bad header: byte 10\n"),
     ),
     (
-        &[Step::Read(&[(11, ONE, ONE, Hit::Is(0xFF))])],
+        &[Step::Set(11, 0xFF)],
         NO_FAULT,
         (Status::BadHeader, 0, "bad header: byte 11\n"),
     ),
     (
-        &[Step::Read(&[(12, ONE, ONE, Hit::Is(0x01))])],
+        &[Step::Set(12, 0x01)],
         NO_FAULT,
         (Status::BadHeader, 0, "bad header: byte 12\n"),
     ),
     (
-        &[Step::Read(&[(15, ONE, ONE, Hit::Is(0x00))])],
+        &[Step::Set(15, 0x00)],
         NO_FAULT,
         (Status::BadHeader, 0, "bad header: byte 12\n"),
     ),
     (
-        &[Step::Read(&[(19, ONE, ONE, Hit::Is(0x01))])],
+        &[Step::Set(19, 0x01)],
         NO_FAULT,
         (Status::BadHeader, 0, "bad header: byte 16\n"),
     ),
     (
-        &[Step::Read(&[(21, ONE, ONE, Hit::Is(0x01))])],
+        &[Step::Set(21, 0x01)],
         NO_FAULT,
         (Status::BadHeader, 0, "bad header: byte 20\n"),
     ),
     (
-        &[Step::Read(&[(22, ONE, ONE, Hit::Is(0x2F))])],
+        &[Step::Set(22, 0x2F)],
         NO_FAULT,
         (Status::BadHeader, 0, "bad header: byte 20\n"),
     ),
     (
-        &[Step::Read(&[(24, ONE, ONE, Hit::Is(0x80))])],
+        &[Step::Set(24, 0x80)],
         NO_FAULT,
         (Status::BadHeader, 0, "bad header: byte 24\n"),
     ),
     (
-        &[Step::Read(&[(26, ONE, ONE, Hit::Is(0x31))])],
+        &[Step::Set(26, 0x31)],
         NO_FAULT,
         (Status::BadHeader, 0, "bad header: byte 24\n"),
     ),
     (
-        &[Step::Read(&[(28, ONE, ONE, Hit::Is(0x01))])],
+        &[Step::Set(28, 0x01)],
         NO_FAULT,
         (Status::BadHeader, 0, "bad header: byte 28\n"),
     ),
     (
-        &[Step::Read(&[(29, ONE, ONE, Hit::Is(0x01))])],
+        &[Step::Set(29, 0x01)],
         NO_FAULT,
         (Status::BadHeader, 0, "bad header: byte 29\n"),
     ),
     (
-        &[Step::Read(&[(30, ONE, ONE, Hit::Is(0x01))])],
+        &[Step::Set(30, 0x01)],
         NO_FAULT,
         (Status::BadHeader, 0, "bad header: byte 30\n"),
     ),
     (
-        &[Step::Read(&[(31, ONE, ONE, Hit::Is(0x80))])],
+        &[Step::Set(31, 0x80)],
         NO_FAULT,
         (Status::BadHeader, 0, "bad header: byte 31\n"),
     ),

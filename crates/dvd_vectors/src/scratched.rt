@@ -1,13 +1,13 @@
 //! A disk of 528 blocks as a rescuer meets it: a burst over forty blocks, of which marked rows are lost, and wrong bytes in
 //! every eighth row of all others, which nothing marks. All of it is read back, and the survey counts what stands there.
 use crate::cases::{Held, Runs, Written, hold};
-use crate::fixture::{BLOCK, NEVER, NO_FAULT, Ports, SOUND};
+use crate::fixture::{BLOCK, NEVER, NO_FAULT, Through};
 use crate::making::Step;
 use crate::reading::Hit;
 use dvd_top::Status;
 
 // An output with room for the image.
-const ROOM: &[Ports] = &[(SOUND, (40_000, NEVER, 8_388_608), SOUND)];
+const ROOM: Through = Through::Output((40_000, NEVER, 8_388_608));
 
 // The first three bytes of every eighth row are wrong before and behind the burst, in which nothing could be read of the first twelve
 // rows of each block.

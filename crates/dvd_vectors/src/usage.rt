@@ -1,6 +1,6 @@
 //! Words that ask for nothing.
 use crate::cases::{Case, Held, Runs, Written, hold};
-use crate::fixture::{ALL_SOUND, NEVER, SOUND};
+use crate::fixture::{ALL_SOUND, NEVER, SOUND, Through};
 use crate::making::Step;
 use dvd_top::Status;
 
@@ -35,43 +35,43 @@ const TEXTS: &[&str] = &[
 const USAGE: &[Case] = &[
     (
         &[],
-        &[
+        Through::Each(&[
             ((1, NEVER, 0), SOUND, SOUND),
             ((7, NEVER, 0), SOUND, SOUND),
             ALL_SOUND,
             (SOUND, SOUND, (9, NEVER, 6)),
             (SOUND, SOUND, (9, NEVER, 7)),
-        ],
+        ]),
         (Status::Usage, 0, "usage\n"),
     ),
     (
         &[],
-        &[(SOUND, SOUND, (9, NEVER, 0))],
+        Through::Report((9, NEVER, 0)),
         (Status::ReportFault, 0, ""),
     ),
     (
         &[],
-        &[(SOUND, SOUND, (9, NEVER, 1))],
+        Through::Report((9, NEVER, 1)),
         (Status::ReportFault, 0, "u"),
     ),
     (
         &[],
-        &[(SOUND, SOUND, (9, NEVER, 2))],
+        Through::Report((9, NEVER, 2)),
         (Status::ReportFault, 0, "us"),
     ),
     (
         &[],
-        &[(SOUND, SOUND, (9, NEVER, 3))],
+        Through::Report((9, NEVER, 3)),
         (Status::ReportFault, 0, "usa"),
     ),
     (
         &[],
-        &[(SOUND, SOUND, (9, NEVER, 4))],
+        Through::Report((9, NEVER, 4)),
         (Status::ReportFault, 0, "usag"),
     ),
     (
         &[],
-        &[(SOUND, SOUND, (9, NEVER, 5))],
+        Through::Report((9, NEVER, 5)),
         (Status::ReportFault, 0, "usage"),
     ),
 ];
