@@ -8,7 +8,7 @@ use Rattle.std.proofs.lemmas.Nat.{xor_comm, xor_lt, xor_mod, xor_shr, xor_block}
 use Rattle.std.proofs.lemmas.Nat.Bits.{bit_at-lt, bit_at_cat_low}
 use Rattle.gf_field.specs.Field.{alpha, plus, shift, shifted, partial_product, product, power}
 use Rattle.gf_field.specs.Laws.{HasInverse, IsPowerOfAlpha}
-use Rattle.gf_field.proofs.Tables.{shift-parts, shift-byte, product-alpha, product-by_one, product-bits, inverse, inverse_by, inverse_from, product-inverse, shifted-one-255, shifted-one-below, logarithm, shifted-logarithm}
+use Rattle.gf_field.proofs.Tables.{shift-parts, shift-byte, product-alpha, product-by_one, product-bits, inverse, inverse_by, inverse_from, product-inverse, shifted-one-255, shifted-one-below, logarithm, shifted-logarithm, shifted-after_shift}
 
 -- Sums.
 
@@ -32,7 +32,7 @@ zero-plus a = xor_zero_l a
 pub plus-self : (a : ℕ) → plus a a ≡ 0
 plus-self a = xor_self a
 
--- a sum with a number that is in it already
+-- a number that is added twice adds nothing
 pub plus-again : (a b : ℕ) → plus a (plus a b) ≡ b
 plus-again a b = sym (plus-assoc a a b) ∙ ap (λ x. plus x b) (plus-self a) ∙ zero-plus b
 
@@ -194,6 +194,8 @@ pub zero-product : (a : ℕ) → product 0 a ≡ 0
 zero-product a = plus-product 0 0 a ∙ plus-self (product 0 a)
 
 -- Two functions that are linear and agree at the eight bits agree at each byte.
+
+-- the function takes 0 to 0, and each sum to the sum of both values
 record Linear (f : ℕ → ℕ) : Type 0 where
   at_zero : f 0 ≡ 0
   at_sum : (a b : ℕ) → f (plus a b) ≡ plus (f a) (f b)
@@ -256,7 +258,7 @@ partial_product-low a b (suc k) within =
     let bit : bit_at (b % 256) k ≡ bit_at b k = sym (bit_at_cat_low (b / 256) 8 (b % 256) k within) ∙ ap (λ x. bit_at x k) (omega arith) in
     ap (λ x. plus x (bit_at (b % 256) k * shifted a k)) (partial_product-low a b k (omega arith)) ∙ ap (λ x. plus (partial_product a b k) (x * shifted a k)) bit
 
--- nor does the second factor count by more than its lowest eight bits
+-- a product reads the lowest eight bits of its second factor alone
 product-low_right : (a b : ℕ) → product a (b % 256) ≡ product a b
 unfolding product
 product-low_right a b = partial_product-low (a % 256) b 8 (omega arith)
@@ -280,19 +282,13 @@ bit-times-shift zero s bit_p = simp (bit-zero, shift-zero)
 bit-times-shift (suc zero) s bit_p = simp bit-one
 bit-times-shift (suc (suc p)) s bit_p = absurd (omega arith)
 
--- a further factor x may come first or last
-shifted-shift : (a k : ℕ) → shifted (shift a) k ≡ shift (shifted a k)
-unfolding shifted
-shifted-shift a zero = refl
-shifted-shift a (suc k) = ap shift (shifted-shift a k)
-
 -- a factor x comes out of a partial product
 partial_product-shift : (a b n : ℕ) → a < 256 → partial_product (shift a) b n ≡ shift (partial_product a b n)
 unfolding partial_product
 partial_product-shift a b zero byte_a = sym shift-zero
 partial_product-shift a b (suc k) byte_a =
     let term : bit_at b k * shifted (shift a) k ≡ shift (bit_at b k * shifted a k) =
-    ap (λ x. bit_at b k * x) (shifted-shift a k) ∙ sym (bit-times-shift (bit_at b k) (shifted a k) (bit_at-lt b k)) in
+    ap (λ x. bit_at b k * x) (shifted-after_shift a k) ∙ sym (bit-times-shift (bit_at b k) (shifted a k) (bit_at-lt b k)) in
     ap (λ x. plus x (bit_at b k * shifted (shift a) k)) (partial_product-shift a b k byte_a) ∙ ap (plus (shift (partial_product a b k))) term
     ∙ sym (shift-plus (partial_product a b k) (bit_at b k * shifted a k) (partial_product-byte a b k byte_a) (bit-times-byte (bit_at b k) (shifted a k) (bit_at-lt b k) (shifted-byte a k byte_a)))
 
@@ -422,7 +418,7 @@ power-alpha-shifted (suc k) = power-suc alpha k ∙ product-alpha (power alpha k
 pub power-alpha-255 : power alpha 255 ≡ 1
 power-alpha-255 = power-alpha-shifted 255 ∙ shifted-one-255
 
--- none of the powers between is 1
+-- no power of alpha with an exponent from 1 to 254 is 1
 power-alpha-below : (k : ℕ) → 0 < k → k < 255 → power alpha k ≢ 1
 power-alpha-below zero positive below is_one = absurd (omega arith)
 power-alpha-below (suc k) positive below is_one = shifted-one-below k (omega arith) (sym (power-alpha-shifted (suc k)) ∙ is_one)
@@ -431,7 +427,7 @@ power-alpha-below (suc k) positive below is_one = shifted-one-below k (omega ari
 pub alpha-nonzero : alpha ≢ 0
 alpha-nonzero e = absurd (omega arith)
 
--- a later power differs
+-- two powers of alpha whose exponents differ and are below 255 differ
 power-alpha-later : (i j : ℕ) → i < j → j < 255 → power alpha i ≢ power alpha j
 power-alpha-later i j later below same =
     let sum : i + (j - i) ≡ j = omega arith in
@@ -450,7 +446,7 @@ power-alpha-differ i j below_i below_j same =
           elim (cases_lt j i) [ inl later ↦ absurd (power-alpha-later j i later below_i (sym same)) | inr not_earlier ↦ omega arith ]
     ]
 
--- a power of a power
+-- a product of exponents is a power of a power
 pub power-mul : (a j k : ℕ) → power a (j * k) ≡ power (power a j) k
 power-mul a j zero =
     let none : j * 0 ≡ 0 = omega arith in
@@ -493,7 +489,7 @@ power-alpha-logarithm (suc a) byte_a nonzero =
     let table = shifted-logarithm a (omega arith) in
     (table.0, power-alpha-shifted (logarithm (suc a)) ∙ table.1)
 
--- The laws of sum and product as a set for `grind`, a small tactic for rings: it proves equations of up to about five terms.
+-- The laws of sum and product as a set for `grind`, which proves equations of up to about five terms by them.
 pub ruleset field = (plus-comm, plus-assoc, plus-zero, zero-plus, plus-self, product-comm, product-assoc, product-plus, plus-product, product-zero, zero-product)
 
 -- ---- what the module `laws` promises

@@ -30,7 +30,7 @@ shift-byte = every-holds (λ a. nat_lt (shift a) 256) (λ a. shift a < 256) (λ 
 
 -- ---- products
 
--- alpha is the element x
+-- a byte times alpha is that byte times x
 pub product-alpha : (a : ℕ) → a < 256 → product a alpha ≡ shift a
 unfolding every product partial_product shifted shift
 product-alpha = every-holds (λ a. product a alpha == shift a) (λ a. product a alpha ≡ shift a) (λ a. Decides-eqb (product a alpha) (shift a)) 256 refl
@@ -40,7 +40,7 @@ pub product-by_one : (a : ℕ) → a < 256 → product a 1 ≡ a
 unfolding every product partial_product shifted shift
 product-by_one = every-holds (λ a. product a 1 == a) (λ a. product a 1 ≡ a) (λ a. Decides-eqb (product a 1) a) 256 refl
 
--- x^i times x^j is x^j times x^i: products are of both factors' bits
+-- whether x^i times x^j is x^j times x^i
 commutes : ℕ → ℕ → Bool
 commutes i j = product (2 ^ i) (2 ^ j) == product (2 ^ j) (2 ^ i)
 
@@ -112,7 +112,7 @@ shifts_from a zero = []
 shifts_from a (suc n) = a ∷ shifts_from (shift a) n
 
 -- a further factor x may come first or last
-shifted-after_shift : (a k : ℕ) → shifted (shift a) k ≡ shift (shifted a k)
+pub shifted-after_shift : (a k : ℕ) → shifted (shift a) k ≡ shift (shifted a k)
 unfolding shifted
 shifted-after_shift a zero = refl
 shifted-after_shift a (suc k) = ap shift (shifted-after_shift a k)

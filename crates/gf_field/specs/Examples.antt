@@ -18,7 +18,7 @@ power-alpha-255 : power alpha 255 ≡ 0x01
 unfolding power product partial_product shifted shift
 power-alpha-255 = refl
 
--- the six bytes of an ID and its check bytes vanish at 01 and at alpha
+-- the six bytes of an ID and its check bytes vanish at 01
 value-at-one : value (0x00 ∷ 0x03 ∷ 0x00 ∷ 0x00 ∷ 0x11 ∷ 0x12 ∷ []) 1 ≡ 0
 unfolding value power product partial_product shifted shift
 value-at-one = refl

@@ -1,7 +1,7 @@
 -- The field of 256 elements over which the codes of a DVD are defined
 -- (ECMA-267, clauses 16.2 and 18: the primitive polynomial x^8 + x^4 + x^3 + x^2 + 1).
 -- An element is a byte: its bit k is the coefficient of x^k. A product is a sum of shifts here, and the code adds logarithms.
--- The laws hold of all numbers, since a product reads the lowest eight bits of its factors alone.
+-- A law that doesn't say that its numbers are bytes holds of all, since a product reads the lowest eight bits of its factors alone.
 use Rattle.std.specs.Prelude.{ℕ, zero, suc, ◌-◌, ◌*◌, ◌%◌, bit_xor, if◌then◌else◌, nat_lt}
 use Rattle.std.specs.Int.{bit_at}
 

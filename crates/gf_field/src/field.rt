@@ -1,4 +1,4 @@
-//! Sums, products, inverses and powers of elements, by logarithms: to multiply is to add exponents of alpha.
+//! Sums of elements, and products, quotients, inverses and powers by logarithms: to multiply is to add exponents of alpha.
 ghost use Rattle.std.specs.Prelude.{◌≡◌, ◌≢◌, ◌<◌};
 ghost use Rattle.gf_field.specs.Field.{alpha, plus, product, power};
 
