@@ -29,7 +29,7 @@ IsCodeword-from_remainder r generator message register degree roots bytes is =
       vanishes = λ k below. is.vanishes (power alpha k) (roots k below);
     }
 
--- where the generator is the product of its factors, and r is known
+-- the same where the generator is the product of its factors, and r is known to be its degree
 pub IsCodeword-by_tables : (r degree : ℕ) (message register : List ℕ)
     → r ≡ degree
     → All IsByte message
@@ -56,7 +56,7 @@ IsEncoded-from_codeword n r message register size fits codeword =
 at_most_one : (x y d n : ℕ) → d ≤ n → (if x == y then 0 else 1) + d ≤ suc n
 at_most_one x y d n below = grind (arith, nat_tests)
 
--- the remainder of a message and the parity that follows it make a word with the values of the whole, at the roots
+-- the sum of a message's remainder and of the parity that follows it has the values of the whole word at the roots
 pub value-remainder : (message register parity : List ℕ) (x : ℕ) → length register ≡ length parity → value (message ++ register) x ≡ 0 → value (sum_of register parity) x ≡ value (message ++ parity) x
 value-remainder message register parity x same vanishes =
     let was : product (value message x) (power x (length register)) ≡ value register x = plus-zero_same _ _ (sym (value-append message register x) ∙ vanishes) in
@@ -70,7 +70,7 @@ unfolding weight
 weight-within [] = omega arith
 weight-within (byte ∷ word) = at_most_one byte 0 (weight word) (length word) (weight-within word)
 
--- a word is a codeword where its remainder is zero, since r bytes can't hide from r values
+-- a word is a codeword exactly where its remainder is zero, since r bytes can't hide from r values
 pub IsCodeword-remainder : (n r : ℕ) (word remainder : List ℕ)
     → r ≤ 255
     → length word ≡ n

@@ -47,7 +47,7 @@ first_weighs x y w d below =
       | inr differ ↦ grind (arith, nat_tests)
     ]
 
--- a sum has a byte that isn't 0 where the two words differ
+-- a sum has bytes that aren't 0 only where the two words differ
 weight-sum_of : (a b : List ℕ) → length a ≡ length b → weight (sum_of a b) ≤ distance a b
 unfolding sum_of distance weight
 weight-sum_of [] b same = omega arith

@@ -107,6 +107,6 @@ pub HasRoots-more : (r root : ℕ) (generator after : List ℕ) → root ≡ pow
 HasRoots-more r root generator after root_is is roots =
     rw (add-one, is, root_is) (HasRoots-next r generator roots)
 
--- a list of the same length that is written back through a slice
+-- a list of the same length that is written back through a slice replaces the whole
 pub refill-same : (n : ℕ) (before after : List ℕ) → length after ≡ n → refill n before after ≡ after
 refill-same n before after long = take_at after (drop (length after) before) n long

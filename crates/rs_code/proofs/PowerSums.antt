@@ -84,7 +84,7 @@ pub weight-nonzero : (byte : ℕ) (rest : List ℕ) → weight (suc byte ∷ res
 unfolding weight
 weight-nonzero byte rest = grind (arith, nat_tests)
 
--- zeros stay zeros
+-- no more bytes than before aren't 0, since zeros stay zeros
 weight-shifted_by : (a : ℕ) (bytes points : List ℕ) → weight (shifted_by a bytes points) ≤ weight bytes
 unfolding shifted_by weight
 weight-shifted_by a [] points = omega arith

@@ -1,16 +1,16 @@
--- A register of at most sixteen bytes in a number of 128 bits: its bytes after a shift and after a sum,
--- the table of the generator's multiples, and the step of the division.
-use Rattle.std.proofs.Common.{◌≡◌, ℕ, zero, suc, ◌+◌, ◌-◌, ◌*◌, ◌/◌, ◌%◌, ◌^◌, ◌<◌, ◌≤◌, List, [], ◌∷◌, ◌++◌, length, get_or, take, replicate, reverse, refl, sym, ap, subst, ◌∙◌, arith, length-append, append_assoc}
+-- A register of at most sixteen bytes in a number of 128 bits: its bytes after a shift and after a sum, the step of the
+-- division, and that a step of a sum is the sum of two steps.
+use Rattle.std.proofs.Common.{◌≡◌, ℕ, zero, suc, ◌+◌, ◌-◌, ◌*◌, ◌/◌, ◌%◌, ◌^◌, ◌<◌, ◌≤◌, List, [], ◌∷◌, ◌++◌, length, get_or, take, replicate, refl, sym, ap, subst, ◌∙◌, arith, length-append, append_assoc}
 use Rattle.std.specs.Int.{byte_at, to_be_bytes, w128}
 use Rattle.std.proofs.Math.Nat.{div-div-eq-div-mul, pow-succ'}
 use Rattle.std.proofs.lemmas.Nat.{xor_shr, xor_mod, xor_lt, xor_block, shr_below, mod-pow-add}
-use Rattle.std.proofs.lemmas.List.{append_cancel_left, take_at, length-replicate, replicate_more, replicate-append-replicate, reverse-append, length-reverse, take_more}
-use Rattle.gf_field.specs.Field.{plus, product}
-use Rattle.gf_field.proofs.FieldLaws.{plus-byte, plus-product, product-byte, zero-product, plus-comm, plus-zero, zero-plus, plus-self}
+use Rattle.std.proofs.lemmas.List.{append_cancel_left, take_at, length-replicate, replicate_more, replicate-append-replicate}
+use Rattle.gf_field.specs.Field.{plus}
+use Rattle.gf_field.proofs.FieldLaws.{plus-byte, plus-product, plus-pairs, plus-zero, plus-self}
 use Rattle.rs_code.specs.Inner.Polynomials.{sum_of, scaled, IsRemainder}
 use Rattle.rs_code.specs.Inner.Registers.{bytes_of, Holds, HoldsRemainder, HasMultiples, after_byte}
 use Rattle.rs_code.proofs.Ring.{ring}
-use Rattle.rs_code.proofs.Values.{length-sum_of, length-scaled, scaled-cons}
+use Rattle.rs_code.proofs.Values.{length-sum_of, length-scaled}
 use Rattle.rs_code.proofs.Remainders.{next_register, IsRemainder-start, IsRemainder-next}
 
 -- ---- bytes of a number
@@ -51,12 +51,12 @@ sum_of-one : (x y : ℕ) → sum_of (x ∷ []) (y ∷ []) ≡ plus x y ∷ []
 unfolding sum_of
 sum_of-one x y = refl
 
--- an empty word has no sum with another
+-- the sum of the empty word with another is empty
 sum_of-nil : (ys : List ℕ) → sum_of [] ys ≡ []
 unfolding sum_of
 sum_of-nil ys = refl
 
--- no byte of a number is the empty list
+-- the lowest 0 bytes of a number are the empty list
 bytes_of-none : (n : ℕ) → bytes_of 0 n ≡ []
 unfolding bytes_of
 bytes_of-none n = refl
@@ -72,7 +72,7 @@ bytes_of-plus (suc k) a b =
     (sym (sum_of-append (bytes_of k (a / 256)) (bytes_of k (b / 256)) (a % 256 ∷ []) (b % 256 ∷ []) (length-bytes_of k (a / 256) ∙ sym (length-bytes_of k (b / 256)))
     ∙ ap (λ xs. sum_of (bytes_of k (a / 256)) (bytes_of k (b / 256)) ++ xs) (sum_of-one (a % 256) (b % 256))))
 
--- the lowest k bytes don't know the others
+-- the lowest k bytes don't depend on the others
 pub bytes_of-rest : (k n : ℕ) → bytes_of k (n % 2 ^ (8 * k)) ≡ bytes_of k n
 bytes_of-rest zero n = bytes_of-none (n % 2 ^ (8 * 0)) ∙ sym (bytes_of-none n)
 bytes_of-rest (suc k) n =
@@ -89,12 +89,6 @@ pub scaled-plus : (a b : ℕ) (word : List ℕ) → scaled (plus a b) word ≡ s
 unfolding scaled sum_of
 scaled-plus a b [] = refl
 scaled-plus a b (byte ∷ word) = rw (plus-product a b byte, scaled-plus a b word) refl
-
--- nothing of a word is zeros
-pub scaled-zero : (word : List ℕ) → scaled 0 word ≡ replicate (length word) 0
-unfolding scaled
-scaled-zero [] = refl
-scaled-zero (byte ∷ word) = rw (zero-product byte, scaled-zero word) refl
 
 -- a sum of zeros is zeros
 sum_of-zeros_both : (n : ℕ) → sum_of (replicate n 0) (replicate n 0) ≡ replicate n 0
@@ -119,93 +113,12 @@ bytes_of-zero : bytes_of 16 0 ≡ replicate 16 0
 unfolding bytes_of
 bytes_of-zero = refl
 
--- the empty register
+-- the register 0 holds zeros
 pub Holds-zeros : (n : ℕ) → n ≤ 16 → Holds 0 (replicate n 0)
 Holds-zeros n fits =
     let long = length-zeros n in
     let whole : n + (16 - n) ≡ 16 = omega arith in
     rw long (bytes_of-zero ∙ sym (replicate-append-replicate n (16 - n) 0 ∙ ap (λ m. replicate m 0) whole))
-
--- ---- the table of multiples
-
--- a table that begins with 0 has the multiple by 0
-pub HasMultiples-start : (generator : List ℕ) (table : List ℕ) → length generator ≤ 16 → get_or table 0 0 ≡ 0 → HasMultiples generator table 1
-HasMultiples-start generator table fits is_zero factor below =
-    let none : factor ≡ 0 = omega arith in
-    rw (none, is_zero, scaled-zero generator) (Holds-zeros (length generator) fits)
-
--- a power of two and a smaller number
-top_and_lower : (lower bit : ℕ) → lower < 2 ^ bit → plus (2 ^ bit) lower ≡ 2 ^ bit + lower
-top_and_lower lower bit below =
-    let block : plus (1 * 2 ^ bit + 0) (0 * 2 ^ bit + lower) ≡ plus 1 0 * 2 ^ bit + plus 0 lower = xor_block bit 1 0 0 lower (omega (arith, below)) below in
-    let left : 1 * 2 ^ bit + 0 ≡ 2 ^ bit = omega arith in
-    let right : 0 * 2 ^ bit + lower ≡ lower = omega arith in
-    let both : 1 * 2 ^ bit + lower ≡ 2 ^ bit + lower = omega arith in
-    cc (block, left, right, both, plus-zero 1, zero-plus lower)
-
--- an upper place is the sum of the one below it and of the power of two
-pub Holds-upper : (generator : List ℕ) (bit factor lower multiple entry : ℕ)
-    → factor ≡ 2 ^ bit
-    → lower < factor
-    → Holds multiple (scaled factor generator)
-    → Holds entry (scaled lower generator)
-    → Holds (plus entry multiple) (scaled (factor + lower) generator)
-Holds-upper generator bit factor lower multiple entry is_power below in_multiple in_entry =
-    let small : lower < 2 ^ bit = rw (← is_power) below in
-    let split : factor + lower ≡ plus lower factor = rw is_power (sym (top_and_lower lower bit small) ∙ plus-comm (2 ^ bit) lower) in
-    rw (split, scaled-plus lower factor generator)
-    (Holds-plus entry multiple (scaled lower generator) (scaled factor generator) (length-scaled lower generator ∙ sym (length-scaled factor generator)) in_entry in_multiple)
-
--- ---- a byte is put in front
-
--- the byte fits above the others
-front : (v n : ℕ) → v < 256 → n < 2 ^ 128 → plus (n / 256) (v * 2 ^ 120) ≡ v * 2 ^ 120 + n / 256
-front v n is_byte is_word =
-    let block : plus (0 * 2 ^ 120 + n / 256) (v * 2 ^ 120 + 0) ≡ plus 0 v * 2 ^ 120 + plus (n / 256) 0 = xor_block 120 0 v (n / 256) 0 (omega arith) (omega arith) in
-    let left : 0 * 2 ^ 120 + n / 256 ≡ n / 256 = omega arith in
-    let right : v * 2 ^ 120 + 0 ≡ v * 2 ^ 120 = omega arith in
-    cc (block, left, right, zero-plus v, plus-zero (n / 256))
-
--- a byte put above a number shifted down by one byte comes first, and its upper fifteen bytes follow
-bytes_of-front : (v n : ℕ) → v < 256 → n < 2 ^ 128 → bytes_of 16 (plus (n / 256) (v * 2 ^ 120)) ≡ v ∷ bytes_of 15 (n / 256)
-bytes_of-front v n is_byte is_word =
-    let first : byte_at 15 (v * 2 ^ 120 + n / 256) ≡ v = omega arith in
-    let rest : (v * 2 ^ 120 + n / 256) % 2 ^ (8 * 15) ≡ n / 256 = omega arith in
-    ap (bytes_of 16) (front v n is_byte is_word) ∙ bytes_of-first 15 (v * 2 ^ 120 + n / 256)
-    ∙ rw first (ap (λ xs. v ∷ xs) (sym (bytes_of-rest 15 (v * 2 ^ 120 + n / 256)) ∙ ap (bytes_of 15) rest))
-
--- a register shifted down, with a byte put on top, holds its word with that byte in front
-pub Holds-front : (v n : ℕ) (bytes : List ℕ) → v < 256 → n < 2 ^ 128 → length bytes < 16 → Holds n bytes → Holds (plus (n / 256) (v * 2 ^ 120)) (v ∷ bytes)
-Holds-front v n bytes is_byte is_word fits holds =
-    let count : 16 - length bytes ≡ 16 - length (v ∷ bytes) + 1 = omega arith in
-    let padded : bytes ++ replicate (16 - length bytes) 0 ≡ (bytes ++ replicate (16 - length (v ∷ bytes)) 0) ++ 0 ∷ [] =
-    rw count (ap (λ xs. bytes ++ xs) (sym (replicate_more (16 - length (v ∷ bytes)) 0)) ∙ sym (append_assoc bytes (replicate (16 - length (v ∷ bytes)) 0) (0 ∷ []))) in
-    let long : length (bytes ++ replicate (16 - length (v ∷ bytes)) 0) ≡ 15 =
-    length-append bytes (replicate (16 - length (v ∷ bytes)) 0) ∙ omega (arith, length-zeros (16 - length (v ∷ bytes))) in
-    let upper : bytes_of 15 (n / 256) ≡ bytes ++ replicate (16 - length (v ∷ bytes)) 0 =
-    sym (take_at (bytes_of 15 (n / 256)) (n % 256 ∷ []) 15 (length-bytes_of 15 (n / 256)))
-    ∙ ap (take 15) (sym (bytes_of-last 15 n) ∙ holds ∙ padded)
-    ∙ take_at (bytes ++ replicate (16 - length (v ∷ bytes)) 0) (0 ∷ []) 15 long in
-    bytes_of-front v n is_byte is_word ∙ ap (λ xs. v ∷ xs) upper
-
--- one coefficient more, before those that were read
-pub Holds-multiple_more : (factor coefficient byte n : ℕ) (read : List ℕ)
-    → byte ≡ product factor coefficient
-    → n < 2 ^ 128
-    → length read < 16
-    → Holds n (scaled factor (reverse read))
-    → Holds (plus (n / 256) (byte * 2 ^ 120 % 2 ^ 128)) (scaled factor (reverse (read ++ coefficient ∷ [])))
-Holds-multiple_more factor coefficient byte n read is is_word fits holds =
-    let small : byte < 256 = rw is (product-byte factor coefficient) in
-    let kept : byte * 2 ^ 120 % 2 ^ 128 ≡ byte * 2 ^ 120 = omega arith in
-    let order : scaled factor (reverse (read ++ coefficient ∷ [])) ≡ byte ∷ scaled factor (reverse read) =
-    ap (scaled factor) (reverse-append read (coefficient ∷ [])) ∙ scaled-cons factor coefficient (reverse read) ∙ ap (λ b. b ∷ scaled factor (reverse read)) (sym is) in
-    rw (kept, order) (Holds-front byte n (scaled factor (reverse read)) small is_word (omega (arith, length-scaled factor (reverse read), length-reverse read)) holds)
-
--- the register 0 holds each multiple of no coefficients
-pub Holds-multiple_start : (factor : ℕ) → Holds 0 (scaled factor [])
-unfolding scaled
-Holds-multiple_start factor = Holds-zeros 0 (omega arith)
 
 -- ---- a byte leaves the register
 
@@ -216,7 +129,7 @@ bytes_of-left n is_word =
     let lowest : n * 256 % 2 ^ 128 % 256 ≡ 0 = omega arith in
     bytes_of-last 15 (n * 256 % 2 ^ 128) ∙ rw (upper, lowest, bytes_of-rest 15 n) refl
 
--- the first byte, and the others with a zero after them
+-- a register's upper byte is the first that it holds, and its lower fifteen are the others with zeros behind them
 Holds-parts : (n first : ℕ) (rest : List ℕ) → n < 2 ^ 128 → Holds n (first ∷ rest) → (n / 2 ^ 120 ≡ first) × (bytes_of 15 n ≡ rest ++ replicate (16 - length (first ∷ rest)) 0)
 Holds-parts n first rest is_word holds =
     let parts : byte_at 15 n ∷ bytes_of 15 n ≡ first ∷ (rest ++ replicate (16 - length (first ∷ rest)) 0) = sym (bytes_of-first 15 n) ∙ holds in
@@ -284,7 +197,7 @@ next_by_list generator read (first ∷ rest) table n byte is_word is_byte some_d
     (IsRemainder-next generator read first rest byte is_byte is)
     (Holds-next generator n byte (get_or table (plus first byte) 0) first rest is_word is.size holds entry))
 
--- one byte more
+-- one step of the division keeps the remainder
 pub HoldsRemainder-next : (generator read table : List ℕ) (n byte : ℕ)
     → n < 2 ^ 128
     → byte < 256
@@ -296,21 +209,12 @@ unfolding after_byte
 HoldsRemainder-next generator read table n byte is_word is_byte some_degree has before =
     next_by_list generator read (take (length generator) (bytes_of 16 n)) table n byte is_word is_byte some_degree has before.remainder before.zeros
 
--- as a loop over the message has it
-pub HoldsRemainder-more : (generator message table : List ℕ) (i n byte : ℕ)
-    → i < length message
-    → byte ≡ get_or message i 0
-    → HoldsRemainder generator (take i message ++ byte ∷ []) n
-    → HoldsRemainder generator (take (i + 1) message) n
-HoldsRemainder-more generator message table i n byte inside is after =
-    rw (take_more message i 0 inside, ← is) after
-
--- the bytes that are written out
+-- the bytes that are written are the register's first
 pub written_is : (n size : ℕ) (bytes written : List ℕ) → bytes ≡ to_be_bytes w128 n → written ≡ take size bytes → written ≡ take size (bytes_of 16 n)
 unfolding bytes_of
 written_is n size bytes written are is = is ∙ ap (take size) are
 
--- ---- two bytes at once
+-- ---- steps of sums
 
 -- the number is known by its bytes
 bytes_of-same : (k a b : ℕ) → a < 2 ^ (8 * k) → b < 2 ^ (8 * k) → bytes_of k a ≡ bytes_of k b → a ≡ b
@@ -351,10 +255,6 @@ left-plus a b =
     let whole : plus a b * 2 ^ 8 ≡ plus (a * 2 ^ 8) (b * 2 ^ 8) = cc (block, left, right, none, plus-self 0) in
     ap (λ m. m % 2 ^ 128) whole ∙ xor_mod (a * 2 ^ 8) (b * 2 ^ 8) 128
 
--- two sums are summed part by part
-crossed : (a b c d : ℕ) → plus (plus a b) (plus c d) ≡ plus (plus a c) (plus b d)
-crossed a b c d = simp ring
-
 -- the register after one more byte is a number of 128 bits
 pub after_byte-word : (table : List ℕ) (n byte : ℕ) → ((i : ℕ) → get_or table i 0 < 2 ^ 128) → after_byte table n byte < 2 ^ 128
 unfolding after_byte
@@ -381,4 +281,4 @@ after_byte-sum generator table a b byte word_a word_b is_byte words has =
     let factor : plus (plus a b / 2 ^ 120) byte ≡ plus top_a top_b = ap (λ m. plus m byte) (xor_shr a b 120) ∙ last_out (a / 2 ^ 120) top_b byte in
     let entries : get_or table (plus (plus a b / 2 ^ 120) byte) 0 ≡ plus (get_or table top_a 0) (get_or table (plus top_b 0) 0) =
     ap (λ m. get_or table m 0) factor ∙ entry-plus generator table top_a top_b byte_a byte_b words has ∙ ap (λ m. plus (get_or table top_a 0) (get_or table m 0)) (sym (plus-zero top_b)) in
-    rw (left-plus a b, entries) (crossed (a * 2 ^ 8 % 2 ^ 128) (b * 2 ^ 8 % 2 ^ 128) (get_or table top_a 0) (get_or table (plus top_b 0) 0))
+    rw (left-plus a b, entries) (plus-pairs (a * 2 ^ 8 % 2 ^ 128) (b * 2 ^ 8 % 2 ^ 128) (get_or table top_a 0) (get_or table (plus top_b 0) 0))

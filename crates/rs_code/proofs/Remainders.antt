@@ -65,7 +65,7 @@ IsRemainder-next generator read first rest byte is_byte before =
           (turned (value read x) byte first (value rest x) (power x (length rest)) x ∙ ap (λ v. product v x) was ∙ zero-product x);
     }
 
--- byte by byte: the next one, and the factor's share of the generator
+-- a register whose bytes are each the next one plus the factor's share of the generator is the remainder with one byte more
 pub IsRemainder-from_places : (generator read register after : List ℕ) (byte : ℕ)
     → byte < 256
     → 0 < length register
@@ -110,7 +110,7 @@ remainder_of generator read (byte ∷ message) register some_degree all before =
     let after = remainder_of generator (read ++ byte ∷ []) message (next_register generator register byte) some_degree (All-tail IsByte byte message all) next in
     rw append_assoc at after
 
--- as a loop over the message has it
+-- the remainder with the byte at place i is that of the first i + 1 bytes
 pub IsRemainder-more : (generator message register : List ℕ) (i byte : ℕ)
     → i < length message
     → byte ≡ get_or message i 0

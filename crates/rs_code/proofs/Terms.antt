@@ -6,14 +6,14 @@ use Rattle.gf_field.specs.Words.{value}
 use Rattle.gf_field.proofs.FieldLaws.{plus-comm, power-add, power-suc, zero-plus, zero-product}
 use Rattle.rs_code.proofs.Values.{value-cons}
 
--- one term more
+-- the value from a place on is that place's term and the value from the next place on
 pub value-term : (polynomial : List ℕ) (i x : ℕ) → i < length polynomial
     → value (drop i polynomial) x ≡ plus (product (get_or polynomial i 0) (power x (length polynomial - suc i))) (value (drop (suc i) polynomial) x)
 value-term polynomial i x inside =
     ap (λ p. value p x) (drop-cons polynomial i 0 inside) ∙ value-cons (get_or polynomial i 0) (drop (suc i) polynomial) x
     ∙ ap (λ n. plus (product (get_or polynomial i 0) (power x n)) (value (drop (suc i) polynomial) x)) (length-drop (suc i) polynomial)
 
--- whose logarithm is the coefficient's and a multiple of the exponent
+-- a term that isn't 0 is added by its logarithm: the coefficient's, and a multiple of the exponent
 pub value-next : (polynomial : List ℕ) (i e l shift sum : ℕ) → i < length polynomial → power alpha l ≡ get_or polynomial i 0
     → power alpha shift ≡ power (power alpha e) (length polynomial - suc i) → sum ≡ value (drop (suc i) polynomial) (power alpha e)
     → plus sum (power alpha (l + shift)) ≡ value (drop i polynomial) (power alpha e)
@@ -24,7 +24,7 @@ value-next polynomial i e l shift sum inside reaches shifted so_far =
     ∙ ap (plus (product (get_or polynomial i 0) (power (power alpha e) (length polynomial - suc i)))) so_far
     ∙ sym (value-term polynomial i (power alpha e) inside)
 
--- or that is 0
+-- a term that is 0 adds nothing
 pub value-same : (polynomial : List ℕ) (i x sum : ℕ) → i < length polynomial → get_or polynomial i 0 ≡ 0 → sum ≡ value (drop (suc i) polynomial) x → sum ≡ value (drop i polynomial) x
 value-same polynomial i x sum inside none so_far =
     let rest = value (drop (suc i) polynomial) x in

@@ -26,7 +26,7 @@ value-byte (byte ∷ rest) x = rw value-cons (plus-byte _ _ (product-byte byte (
 one_more : (c front back v w : ℕ) → plus (product c (product front back)) (plus (product v back) w) ≡ plus (product (plus (product c front) v) back) w
 one_more c front back v w = simp ring
 
--- a word before another counts as often as the other is long
+-- a word before another counts as often as the power of x by the other's length
 pub value-append : (a b : List ℕ) (x : ℕ) → value (a ++ b) x ≡ plus (product (value a x) (power x (length b))) (value b x)
 value-append [] b x = simp (value-nil, zero-product, zero-plus)
 value-append (byte ∷ a) b x =

@@ -14,7 +14,7 @@ use Rattle.rs_code.specs.Inner.Registers.{bytes_of, HoldsRemainder, HasMultiples
 use Rattle.rs_code.proofs.Registers.{after_byte-sum, after_byte-word, HoldsRemainder-next, HoldsRemainder-start}
 use Rattle.rs_code.proofs.Ring.{ring}
 
--- what is left over of a word goes on
+-- the register after two lists of bytes is the one after the first, and then the second
 pub after_bytes-append : (table : List ℕ) (n : ℕ) (front back : List ℕ) → after_bytes table n (front ++ back) ≡ after_bytes table (after_bytes table n front) back
 unfolding after_bytes
 after_bytes-append table n [] back = refl
@@ -55,7 +55,7 @@ later_sum : (generator table : List ℕ) (a b later_a later_b : ℕ) → a < 2 ^
 later_sum generator table a b later_a later_b word_a word_b words has left_a left_b =
     after_byte-sum generator table a b 0 word_a word_b (omega arith) words has ∙ rw (left_a, left_b) refl
 
--- the step in its own words
+-- the step, written out
 after_byte-is : (table : List ℕ) (n byte : ℕ) → after_byte table n byte ≡ plus (n * 2 ^ 8 % 2 ^ 128) (get_or table (plus (n / 2 ^ 120) byte) 0)
 unfolding after_byte
 after_byte-is table n byte = refl
@@ -170,7 +170,7 @@ next_register_at tables n bytes word =
     plus (plus (n * 2 ^ 32 % 2 ^ 128) (plus (get_or (get_or tables 3 []) (plus (get_or bytes 0 0) (get_or word 0 0)) 0) (get_or (get_or tables 2 []) (plus (get_or bytes 1 0) (get_or word 1 0)) 0)))
     (plus (get_or (get_or tables 1 []) (plus (get_or bytes 2 0) (get_or word 2 0)) 0) (get_or (get_or tables 0 []) (plus (get_or bytes 3 0) (get_or word 3 0)) 0))
 
--- as the function has them
+-- so the sum is the register after the word's four bytes
 pub word_read : (generator : List ℕ) (tables : List (List ℕ)) (n : ℕ) (bytes word rest : List ℕ) → n < 2 ^ 128 → length word ≡ 4 → ((k : ℕ) → get_or word k 0 < 256)
     → bytes ≡ to_be_bytes w32 (n / 2 ^ 96) → AreTables generator tables
     → after_bytes (get_or tables 0 []) (next_register_at tables n bytes word) rest ≡ after_bytes (get_or tables 0 []) n (word ++ rest)
@@ -205,7 +205,7 @@ pub words_done : (table : List ℕ) (words : List (List ℕ)) (start now i : ℕ
 words_done table words start now i rest behind before =
     sym (ap (λ l. after_bytes table now (concat l ++ rest)) (drop_of_length-le words behind)) ∙ before
 
--- as many bytes as whole words have
+-- the whole words and the bytes behind them, joined, are all the bytes
 pub words_joined : (count : ℕ) (bytes : List ℕ) → concat (first_chunks 4 count bytes) ++ drop (count * 4) bytes ≡ bytes
 words_joined zero bytes = refl
 words_joined (suc count) bytes =

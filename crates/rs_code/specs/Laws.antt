@@ -18,7 +18,7 @@ abbrev pub MessageIsEncodable : Type 0
 MessageIsEncodable =
     (n r : ℕ) (message : List ℕ) → 1 ≤ r → r < n → length message ≡ n - r → All IsByte message → (word : List ℕ) × IsEncoded n r message word
 
--- and only one
+-- each message has only one encoded word
 abbrev pub MessageIsEncodedOnce : Type 0
 MessageIsEncodedOnce =
     (n r : ℕ) (message a b : List ℕ) → n ≤ 255 → r ≤ n → IsEncoded n r message a → IsEncoded n r message b → a ≡ b

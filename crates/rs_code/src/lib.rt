@@ -3,7 +3,7 @@
 //!
 //! - [`code`]: a code, with its encoder, its syndromes and its test.
 //! - `division`: the generator polynomial, and the division by it.
-//! - `register`: the division where the remainder fits one word of 128 bits.
+//! - `register`: the division where the remainder fits one number of 128 bits.
 //! - `tables`: the multiples of two generators, for that division.
 //! - `evaluation`: the values of a word at powers of alpha.
 //! - [`laws`]: what holds of every code, as contracts alone.

@@ -1,5 +1,6 @@
-//! Division by a generator of at most sixteen coefficients: the remainder stands in one word of 128 bits, its first byte highest.
-//! A byte is read by one look-up, of the generator times the byte that leaves the register; four bytes by four look-ups at once.
+//! Division by a generator of at most sixteen coefficients: the remainder stands in one number of 128 bits, its first byte highest.
+//! A byte is read by one look-up, of the generator times the sum of that byte and the one that leaves the register; four bytes by
+//! four look-ups at once.
 ghost use Rattle.std.specs.Prelude.{◌≡◌, ℕ, ◌<◌, ◌≤◌, List, [], ◌∷◌, ◌++◌, length, slice_index_or, take, All};
 ghost use Rattle.std.specs.List.{concat};
 ghost use Rattle.gf_field.specs.Words.{IsByte};

@@ -5,7 +5,7 @@ ghost use Rattle.std.specs.Prelude.{◌≡◌, length};
 use crate::{Code, Ied, Pi, Po};
 use sha2::{Digest, Sha256};
 
-/// A generator of drawn words: three shifts of 64 bits a word, of which a byte is the top eight bits.
+/// Drawn bytes: each is the top eight bits of a state of 64 bits, to which three shifts of itself were added.
 #[derive(Drop)]
 struct Drawn {
     state: u64,

@@ -14,7 +14,7 @@ sum_of (x ∷ xs) (y ∷ ys) = plus x y ∷ sum_of xs ys
 unfoldable pub scaled : ℕ → List ℕ → List ℕ
 scaled factor word = map (product factor) word
 
--- a polynomial of this kind times (x + root)
+-- a polynomial with the leading coefficient 1, which isn't written, times (x + root)
 unfoldable pub times_root : List ℕ → ℕ → List ℕ
 times_root generator root = sum_of (generator ++ 0 ∷ []) (scaled root (1 ∷ generator))
 

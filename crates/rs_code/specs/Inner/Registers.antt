@@ -25,7 +25,7 @@ unfoldable pub after_bytes : List ℕ → ℕ → List ℕ → ℕ
 after_bytes table register [] = register
 after_bytes table register (byte ∷ bytes) = after_bytes table (after_byte table register byte) bytes
 
--- what is left of each entry after one byte more
+-- what is left of each entry after one more byte, a zero
 abbrev pub AreLater : List ℕ → List ℕ → List ℕ → Type 0
 AreLater table entries later = (factor : ℕ) → factor < 256 → get_or later factor 0 ≡ after_byte table (get_or entries factor 0) 0
 
