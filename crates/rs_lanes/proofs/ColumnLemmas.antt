@@ -1,5 +1,5 @@
--- Columns of rows and of vectors: get_or-column, same_columns, what holds of a group of 32 more (group_more), and the row that a lane
--- of vectors by places is (turned_row).
+-- Columns of rows and of vectors: get_or-column, same_columns, what holds of a group of 32 more (group_more), and the row that a
+-- lane of vectors by places is (turned_row).
 use Rattle.std.proofs.Common.{◌≡◌, ℕ, ◌+◌, ◌-◌, ◌<◌, List, [], length, get_or, sym, subst, ◌∙◌, inl, inr, arith}
 use Rattle.std.proofs.Math.ListN.{get_or-map}
 use Rattle.std.proofs.lemmas.List.{length-map}
@@ -7,7 +7,7 @@ use Rattle.std.proofs.lemmas.Bool.{cases_lt}
 use Rattle.std.proofs.lemmas.Grind.{same_number_lists}
 use Rattle.rs_lanes.specs.Rows.{place, column}
 
--- a column as long as the rows are many
+-- a column has as many bytes as there are rows
 pub length-column : (rows : List (List ℕ)) (j : ℕ) → length (column rows j) ≡ length rows
 length-column rows j = length-map rows (λ row. get_or row j 0)
 
@@ -21,7 +21,7 @@ same_columns a b i j size same =
     same_number_lists (column a i) (column b j) (length-column a i ∙ size ∙ sym (length-column b j))
     (λ k below. get_or-column a i k ∙ same k (omega (arith, length-column a i)) ∙ sym (get_or-column b j k))
 
--- what holds below a number and of the 32 from it on
+-- what holds below a number, and of the 32 from it on, holds of all these
 pub group_more : (P : ℕ → Type 0) (at : ℕ) → ((j : ℕ) → j < at → P j) → ((j : ℕ) → j < 32 → P (at + j)) → (j : ℕ) → j < at + 32 → P j
 group_more P at before more j below =
     elim (cases_lt j at) [

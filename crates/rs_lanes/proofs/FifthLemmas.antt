@@ -1,5 +1,5 @@
--- Words of five bytes at the fifth roots of one: value-five, the roots (root-one to root-four), and the sums by which `fifths` has
--- the five values (FifthSums, fifth_sums, each_of_five). The five pieces of a third: value-turned of bytes multiplied by powers
+-- Words of five bytes at the fifth roots of one: value-five, the roots (roots), and the sums by which `fifths` has the five
+-- values (FifthSums, fifth_sums, each_of_five). The five pieces of a third: value-turned of bytes multiplied by powers
 -- first, folded-five, folded-exponent. The exponents below 15: all_exponents.
 use Rattle.std.proofs.Common.{◌≡◌, ℕ, zero, suc, ◌+◌, ◌*◌, ◌/◌, ◌%◌, ◌<◌, List, [], ◌∷◌, length, get_or, refl, sym, ap, subst, ◌∙◌, inl, inr, arith}
 use Rattle.std.proofs.lemmas.Bool.{cases_eq}
@@ -17,25 +17,10 @@ value-five : (a0 a1 a2 a3 a4 x : ℕ) → a0 < 256
     ≡ plus (product a4 (power x 4)) (plus (product a3 (power x 3)) (plus (product a2 (power x 2)) (plus (product a1 (power x 1)) a0)))
 value-five a0 a1 a2 a3 a4 x byte = simp (value-cons, value-nil, power-zero, plus-zero, product-one a0 byte)
 
--- alpha^51
-root-one : power alpha 51 ≡ 0x0A
+-- the roots other than 1: alpha^51, and its powers up to the fourth
+roots : (power alpha 51 ≡ 0x0A) × (power alpha 102 ≡ 0x44) × (power alpha 153 ≡ 0x92) × (power alpha 204 ≡ 0xDD)
 unfolding shifted shift
-root-one = power-alpha-shifted 51 ∙ refl
-
--- its square
-root-two : power alpha 102 ≡ 0x44
-unfolding shifted shift
-root-two = power-alpha-shifted 102 ∙ refl
-
--- its third power
-root-three : power alpha 153 ≡ 0x92
-unfolding shifted shift
-root-three = power-alpha-shifted 153 ∙ refl
-
--- its fourth power
-root-four : power alpha 204 ≡ 0xDD
-unfolding shifted shift
-root-four = power-alpha-shifted 204 ∙ refl
+roots = (power-alpha-shifted 51 ∙ refl, power-alpha-shifted 102 ∙ refl, power-alpha-shifted 153 ∙ refl, power-alpha-shifted 204 ∙ refl)
 
 -- 0x0A is 0xDD and 0xD7
 product-0a : (a : ℕ) → product a 0x0A ≡ plus (product a 0xDD) (product a 0xD7)
@@ -45,8 +30,8 @@ product-0a a = product-plus a 0xDD 0xD7
 product-44 : (a : ℕ) → a < 256 → product a 0x44 ≡ plus (product a 0x92) (plus (product a 0xD7) a)
 product-44 a byte = product-plus a 0x92 0xD6 ∙ ap (plus (product a 0x92)) (product-plus a 0xD7 1 ∙ ap (plus (product a 0xD7)) (product-one a byte))
 
--- the sums of five bytes that are their word's values at the fifth roots of one. 0x92 is the inverse of 0x44 and 0xDD that of 0x0A, so
--- the values there come from those at their inverses
+-- the sums of five bytes that are their word's values at the fifth roots of one. 0x92 is the inverse of 0x44 and 0xDD that of
+-- 0x0A, so the values there come from those at their inverses
 pub record FifthSums (a0 a1 a2 a3 a4 : ℕ) : Type 0 where
   pub zero : plus a0 (plus (plus a1 a4) (plus a2 a3)) ≡ value (a4 ∷ a3 ∷ a2 ∷ a1 ∷ a0 ∷ []) (power alpha 0)
   pub one : plus (plus (plus a0 (product (plus a1 a2) 0xD7)) a2) (plus (product (plus a1 a4) 0xDD) (product (plus a2 a3) 0x92))
@@ -79,22 +64,22 @@ module _ (a0 a1 a2 a3 a4 : ℕ) (byte0 : a0 < 256) (byte1 : a1 < 256) (byte2 : a
   -- the value at 0x0A
   value-one : value (a4 ∷ a3 ∷ a2 ∷ a1 ∷ a0 ∷ []) (power alpha 51)
       ≡ plus (product a4 0xDD) (plus (product a3 0x92) (plus (product a2 0x44) (plus (product a1 0x0A) a0)))
-  value-one = at-root 1 0x0A 0x44 0x92 0xDD root-one root-two root-three root-four
+  value-one = at-root 1 0x0A 0x44 0x92 0xDD roots.0 roots.1 roots.2 roots.3
 
   -- the value at 0x44
   value-two : value (a4 ∷ a3 ∷ a2 ∷ a1 ∷ a0 ∷ []) (power alpha 102)
       ≡ plus (product a4 0x92) (plus (product a3 0x0A) (plus (product a2 0xDD) (plus (product a1 0x44) a0)))
-  value-two = at-root 2 0x44 0xDD 0x0A 0x92 root-two root-four root-one root-three
+  value-two = at-root 2 0x44 0xDD 0x0A 0x92 roots.1 roots.3 roots.0 roots.2
 
   -- the value at 0x92
   value-three : value (a4 ∷ a3 ∷ a2 ∷ a1 ∷ a0 ∷ []) (power alpha 153)
       ≡ plus (product a4 0x44) (plus (product a3 0xDD) (plus (product a2 0x0A) (plus (product a1 0x92) a0)))
-  value-three = at-root 3 0x92 0x0A 0xDD 0x44 root-three root-one root-four root-two
+  value-three = at-root 3 0x92 0x0A 0xDD 0x44 roots.2 roots.0 roots.3 roots.1
 
   -- the value at 0xDD
   value-four : value (a4 ∷ a3 ∷ a2 ∷ a1 ∷ a0 ∷ []) (power alpha 204)
       ≡ plus (product a4 0x0A) (plus (product a3 0x44) (plus (product a2 0x92) (plus (product a1 0xDD) a0)))
-  value-four = at-root 4 0xDD 0x92 0x44 0x0A root-four root-three root-two root-one
+  value-four = at-root 4 0xDD 0x92 0x44 0x0A roots.3 roots.2 roots.1 roots.0
 
   -- the sums are these values
   pub fifth_sums : FifthSums a0 a1 a2 a3 a4

@@ -1,7 +1,7 @@
 -- What the operations on vectors of bytes hold in each lane: HoldsLanes-zip2 of two vectors, HoldsLanes-splat of a vector and one
 -- byte, byte_lane of one lane, HoldsLanes-low_nibbles and high_nibble-small of the two nibbles, HoldsLanes-look_up of a table of
--- sixteen at positions below sixteen, whole_table of a table in one vector, HasLanes-zeros of vectors of zeros, and either-zero of
--- two lanes joined.
+-- sixteen at positions below sixteen, whole_table of a table in one vector, HasLanes-zeros of vectors of zeros, and
+-- either-zero of two lanes joined.
 use Rattle.std.proofs.Common.{◌≡◌, ◌↔◌, ℕ, ◌+◌, ◌*◌, ◌/◌, ◌%◌, ◌<◌, List, [], length, get_or, replicate, take, get_or-take, length-take-le, sym, ap, subst, ◌∙◌, arith, w8, Fits, bit_and, bit_or}
 use Rattle.std.specs.Int.Bits.{or_zero_r}
 use Rattle.std.specs.Simd.Lanes.{Each1, zip2}
@@ -10,7 +10,7 @@ use Rattle.std.proofs.lemmas.Simd.{length-zip2, get_or-zip2, get_or-replicate, l
 use Rattle.rs_lanes.specs.Rows.{line}
 use Rattle.rs_lanes.specs.Inner.Lanes.{HoldsLanes, HasLanes}
 
--- an operator on two vectors
+-- an operator on two vectors works lane by lane
 pub HoldsLanes-zip2 : (count : ℕ) (f : ℕ → ℕ → ℕ) (a b : List ℕ) → length a ≡ count → length b ≡ count
     → HoldsLanes count (zip2 f a b) (λ k. f (get_or a k 0) (get_or b k 0))
 HoldsLanes-zip2 count f a b size_a size_b = record {
@@ -18,7 +18,7 @@ HoldsLanes-zip2 count f a b size_a size_b = record {
   each = λ k below. get_or-zip2 f a b k 0 0 0 (omega arith) (omega arith);
 }
 
--- an operator on a vector and one byte
+-- an operator on a vector and one byte works on each lane and that byte
 pub HoldsLanes-splat : (count : ℕ) (f : ℕ → ℕ → ℕ) (a : List ℕ) (x : ℕ) → length a ≡ count → HoldsLanes count (zip2 f a (replicate count x)) (λ k. f (get_or a k 0) x)
 HoldsLanes-splat count f a x size_a =
     let both = HoldsLanes-zip2 count f a (replicate count x) size_a (length-replicate count x) in

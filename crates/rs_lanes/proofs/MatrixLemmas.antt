@@ -8,11 +8,11 @@ use Rattle.rs_lanes.specs.declared.matrices.TheConstants.{PI_MATRIX, PO_MATRIX}
 use Rattle.rs_lanes.specs.Rows.{place, column}
 use Rattle.rs_lanes.specs.Inner.Parity.{IsBasis}
 
--- what is computed for the first columns and the first powers of alpha
+-- a function's values for the first r columns and the first r powers of alpha, a list for each column
 abbrev of_pairs : ℕ → (ℕ → ℕ → ℕ) → List (List ℕ)
 of_pairs r f = map (λ l. map (f l) (range_with_len 0 r)) (range_with_len 0 r)
 
--- one of them
+-- one of these values
 place-of_pairs : (r : ℕ) (f : ℕ → ℕ → ℕ) (l k : ℕ) → l < r → k < r → place (of_pairs r f) l k ≡ f l k
 place-of_pairs r f l k row lane =
     ap (λ values. get_or values k 0) (get_or-map-range_with_len (λ m. map (f m) (range_with_len 0 r)) 0 r l l [] row (omega arith))

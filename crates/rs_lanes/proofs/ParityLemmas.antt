@@ -156,21 +156,21 @@ filled-whole size word whole =
     let none : size - length word ≡ 0 = omega arith in
     ap (λ n. word ++ replicate n 0) none ∙ append-nil word
 
--- as long as asked for
+-- a filled word is as long as asked for
 pub length-filled : (size : ℕ) (word : List ℕ) → length word ≤ size → length (filled size word) ≡ size
 unfolding filled
 length-filled size word fits =
     omega (arith, length-append word (replicate {A = ℕ} (size - length word) 0), length-replicate {A = ℕ} (size - length word) 0)
 
 -- zeros are 0 at each place, and so is what is read past them
-get_or-zeros : (n k : ℕ) → get_or (replicate {A = ℕ} n 0) k 0 ≡ 0
+pub get_or-zeros : (n k : ℕ) → get_or (replicate {A = ℕ} n 0) k 0 ≡ 0
 get_or-zeros n k =
     elim (cases_lt k n) [
       | inl inside ↦ get_or-replicate {A = ℕ} n k 0 0 inside
       | inr past ↦ get_or_past (replicate {A = ℕ} n 0) k 0 (omega (arith, length-replicate {A = ℕ} n 0))
     ]
 
--- a place of it, which is 0 past the word's end as behind any word
+-- a place of a filled word is that of the word: it is 0 past the word's end, as behind any word
 pub get_or-filled : (size : ℕ) (word : List ℕ) (k : ℕ) → get_or (filled size word) k 0 ≡ get_or word k 0
 unfolding filled
 get_or-filled size word k =
@@ -181,7 +181,7 @@ get_or-filled size word k =
           get_or-append_right word zeros (length word) k 0 refl past ∙ get_or-zeros (size - length word) (k - length word) ∙ sym (get_or_past word k 0 past)
     ]
 
--- a place of it behind other zeros
+-- a place of a filled word that stands behind other zeros
 pub get_or-filled_back : (zeros size : ℕ) (word : List ℕ) (p : ℕ) → zeros ≤ p → get_or (behind_zeros zeros (filled size word)) p 0 ≡ get_or word (p - zeros) 0
 get_or-filled_back zeros size word p behind = get_or-behind_zeros_back zeros (filled size word) p behind ∙ get_or-filled size word (p - zeros)
 
@@ -217,7 +217,7 @@ encoded_by_values n r message parity size fits long bytes parity_bytes same =
           ∙ plus-self front;
     })
 
--- the parity of a column whose bytes stay
+-- a column whose parity's bytes stay is encoded still
 pub encoded_kept : (rows before after : List (List ℕ)) (j : ℕ) → length before ≡ length after → ((k : ℕ) → place after k j ≡ place before k j)
     → IsEncoded 208 16 (column rows j) (column rows j ++ column before j)
     → IsEncoded 208 16 (column rows j) (column rows j ++ column after j)

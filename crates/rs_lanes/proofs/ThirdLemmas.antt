@@ -1,6 +1,6 @@
--- Words cut into pieces of one size that are added up (length-folded, get_or-folded_zero, get_or-folded_suc, value-folded), zeros in
--- front of a word (behind_zeros, zeros_in_front), and the thirds of words in 32 lanes (third-zero, third-one, third-two, each_of_three, HasThirds with
--- thirds_more, thirds_bytes, thirds_told).
+-- Words cut into pieces of one size that are added up (length-folded, get_or-folded_zero, get_or-folded_suc, value-folded), zeros
+-- in front of a word (behind_zeros, zeros_in_front), and the thirds of words in 32 lanes (third-zero, third-one, third-two,
+-- each_of_three, HasThirds with thirds_more, thirds_bytes, thirds_told).
 use Rattle.std.proofs.Common.{◌≡◌, ℕ, zero, suc, ◌+◌, ◌-◌, ◌*◌, ◌/◌, ◌%◌, ◌<◌, ◌≤◌, List, [], length, get_or, set, take, drop, replicate, All, refl, sym, ap, subst, ◌∙◌, inl, inr, arith, length-append, length-drop, length-take-le, length-set, get_or-take, get_or-drop, get_or-set_other}
 use Rattle.std.proofs.Math.ListN.{get_or-map}
 use Rattle.std.proofs.Math.Seq.{take-add, take-length}
@@ -99,7 +99,7 @@ value-fives_more x word q sum next long below byte is_sum is_next =
 
 -- ---- zeros in front
 
--- as long as both together
+-- a word with zeros in front is as long as both together
 pub length-behind_zeros : (count : ℕ) (word : List ℕ) → length (behind_zeros count word) ≡ count + length word
 unfolding behind_zeros
 length-behind_zeros count word = length-append (replicate {A = ℕ} count 0) word ∙ ap (λ n. n + length word) (length-replicate {A = ℕ} count 0)

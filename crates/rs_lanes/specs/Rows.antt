@@ -1,4 +1,4 @@
--- Ours: lists of rows, by row and by column. The vectors of a register are such rows too.
+-- Ours: lists of rows, by row and by column. Vectors are such rows too, and their lanes are the places.
 use Rattle.std.specs.Prelude.{ℕ, List, [], map, slice_index, slice_index_or}
 
 -- row i

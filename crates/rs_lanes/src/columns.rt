@@ -74,7 +74,7 @@ fn put_vectors(vectors: &[u8x32; 16], at: usize, parity: &mut [[u8; 182]])
     }
 }
 
-// Sets places 32 from `at` on in a row whose length is told.
+// Sets the 32 places from `at` on in a row, whose length is told.
 #[inline(always)]
 fn put_lanes(lanes: u8x32, row: &mut [u8; 182], at: usize)
     requires { at + 32 ≤ 182 }

@@ -10,7 +10,7 @@
 //! - `thirds`: the values of words, in each lane.
 //! - `fifths`: the pieces of a third, added up for five values at once.
 //! - `parity`: the parity of words by their values, in each lane.
-//! - `matrices`: what parity is of each value, for both codes.
+//! - `matrices`: the parity that has one value 1 and all others 0, for each value of both codes.
 //! - `factors`: the products of each byte with each nibble, and the powers of each power of alpha.
 #![tactic(auto)]
 

@@ -1,5 +1,5 @@
 //! The parity of drawn words, as a program computed it that solves the parity checks as linear equations and knows no
-//! generator, and as the encoder of one word has it.
+//! generator, and as the encoder of one word has it; and values, products and powers as they are without vectors.
 ghost use Rattle.std.specs.Prelude.{◌≡◌, ◌<◌, ◌≤◌, length, vec_len, IfOk};
 
 use crate::{any_of, column_values, inner_parity, outer_parity, powers, row_values, scaled};
@@ -9,7 +9,7 @@ use std::alloc::{AllocError, Global};
 use std::simd::prelude::*;
 use std::test::Fail;
 
-/// A generator of drawn words: three shifts of 64 bits a word, of which a byte is the top eight bits.
+/// Drawn bytes: each is the top eight bits of a state of 64 bits, to which three shifts of itself were added.
 #[derive(Drop)]
 struct Drawn {
     state: u64,

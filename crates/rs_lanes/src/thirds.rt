@@ -97,7 +97,8 @@ fn last_value(thirds: &[[u8x32; 3]; 85]) -> u8x32
     value
 }
 
-// A step of Horner's rule at each power of alpha of a third that is below alpha^`count`. That the next lanes are bytes is told too.
+// A step of Horner's rule at each power of alpha of a third that is below alpha^`count`. That the next lanes are bytes is
+// told too.
 #[inline(always)]
 fn read_places(values: &mut [u8x32; 5], next: &[u8x32; 5], i: usize, count: usize)
     requires { i < 3 }

@@ -28,6 +28,7 @@ pub record IsThird (i : ℕ) (word third : List ℕ) : Type 0 where
   pub size : length third ≡ 85
   pub values : (k : ℕ) → k % 3 ≡ i → value third (power alpha k) ≡ value word (power alpha k)
 
--- the five exponents below 15 that are i mod 3: their 17th powers of alpha are alpha^(170 i) times the fifth roots of one, in order
+-- the five exponents k below 15 that are i mod 3: the 17th powers of alpha^k are alpha^(170 i) times the fifth roots of one,
+-- in order
 abbrev pub exponent_at : ℕ → ℕ → ℕ
 exponent_at i m = (10 * i + 3 * m) % 15
