@@ -99,7 +99,7 @@ tap-mended : (factor : ℕ) (taps others sums : List ℕ) → HasLanes sums (λ 
 tap-mended factor taps others sums is zero below = sym (ap (plus 1) (product-zero factor) ∙ plus-zero 1)
 tap-mended factor taps others sums is (suc k) below = is.each k (omega arith) ∙ ap (plus (get_or taps k 0)) (product-comm (get_or others k 0) factor)
 
--- all of them
+-- all taps with the multiple of another's
 pub taps_mended : (factor : ℕ) (taps others sums : List ℕ) → length taps ≡ 32 → length others ≡ 32
     → HasLanes sums (λ k. plus (get_or taps k 0) (product (get_or others k 0) factor)) → 1 ∷ sums ≡ sum_of (1 ∷ taps) (scaled factor (0 ∷ others))
 taps_mended factor taps others sums size others_size is =
@@ -127,7 +127,7 @@ taps_scaled factor taps multiples byte size is =
     (λ k inside. is.each k (omega (arith, is.size)) ∙ product-comm (get_or taps k 0) factor ∙ sym (get_or-scaled factor taps k)) in
     rw (scaled-cons factor 1 taps, product-one factor byte, rest) refl
 
--- the place after a byte in front
+-- with a byte in front each number stands one place later
 pub get_or-behind : (first : ℕ) (lanes : List ℕ) (k : ℕ) → get_or (first ∷ lanes) (k + 1) 0 ≡ get_or lanes k 0
 get_or-behind first lanes k = rw (add-one k) refl
 
@@ -178,7 +178,7 @@ IsAt-next n len first taps earlier seq connections others down up few inside is_
 
 module _ (n len : ℕ) (taps earlier seq connections others : List ℕ) (few : length seq ≤ 32) (inside : n < length seq)
     (at : IsAt n len taps earlier seq connections others) where
-  -- what it fails by
+  -- the first connection is what the register fails by
   found_is : get_or connections 0 0 ≡ connection len (1 ∷ taps) seq n
   found_is = HasConnections-here n len (1 ∷ taps) seq connections at.shortest inside at.connections_are
 

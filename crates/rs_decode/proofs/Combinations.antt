@@ -6,7 +6,7 @@ use Rattle.std.proofs.lemmas.List.Elements.{All-cons, All-nil}
 use Rattle.std.proofs.lemmas.Bool.Decides.{nat_tests}
 use Rattle.gf_field.specs.Field.{plus, product, power}
 use Rattle.gf_field.specs.Words.{IsByte, value}
-use Rattle.gf_field.proofs.FieldLaws.{plus-zero, product-assoc, product-byte, product-zero, zero-product, power-add}
+use Rattle.gf_field.proofs.FieldLaws.{plus-zero, product-byte, product-zero, zero-product, power-add}
 use Rattle.rs_code.specs.Distance.{weight}
 use Rattle.rs_code.proofs.Ring.{ring}
 use Rattle.rs_code.proofs.Values.{value-nil, value-cons}
@@ -43,16 +43,6 @@ get_or-at_points f (byte ∷ bytes) [] j same inside = absurd (omega arith)
 get_or-at_points f (byte ∷ bytes) (point ∷ points) zero same inside = refl
 get_or-at_points f (byte ∷ bytes) (point ∷ points) (suc j) same inside = get_or-at_points f bytes points j (omega arith) (omega arith)
 
--- one after the other is the product
-pub at_points-twice : (f g : ℕ → ℕ) (bytes points : List ℕ) → at_points g (at_points f bytes points) points ≡ at_points (λ x. product (f x) (g x)) bytes points
-unfolding at_points
-at_points-twice f g [] points = refl
-at_points-twice f g (byte ∷ bytes) [] = refl
-at_points-twice f g (byte ∷ bytes) (point ∷ points) =
-    let here = product-assoc byte (f point) (g point) in
-    let rest = at_points-twice f g bytes points in
-    cc
-
 -- a function that is 0 wherever a byte isn't takes all bytes, and their power sums, to 0
 pub power_sum-taken : (f : ℕ → ℕ) (bytes points : List ℕ) (k : ℕ)
     → ((j : ℕ) → j < length bytes → get_or bytes j 0 ≢ 0 → f (get_or points j 0) ≡ 0) → power_sum (at_points f bytes points) points k ≡ 0
@@ -68,7 +58,7 @@ power_sum-taken f (byte ∷ bytes) (point ∷ points) k taken =
     let rest = power_sum-taken f bytes points k (λ j below. taken (suc j) (omega arith)) in
     rw (here, rest, zero-product (power point k)) (plus-zero 0)
 
--- functions that agree
+-- functions that agree give the same power sums
 pub power_sum-alike : (f g : ℕ → ℕ) (bytes points : List ℕ) (k : ℕ) → ((x : ℕ) → f x ≡ g x)
     → power_sum (at_points f bytes points) points k ≡ power_sum (at_points g bytes points) points k
 unfolding at_points power_sum
@@ -122,7 +112,7 @@ connection-sums len taps sums bytes points n size reached inside are =
     ap (λ j. product (get_or taps i 0) (get_or sums j 0)) place)
     ∙ total-sums taps sums bytes points (n - len) (omega arith) are
 
--- zeros stay zeros
+-- no more bytes than before aren't 0, since zeros stay zeros
 pub weight-at_points : (f : ℕ → ℕ) (bytes points : List ℕ) → weight (at_points f bytes points) ≤ weight bytes
 unfolding at_points weight
 weight-at_points f [] points = omega arith

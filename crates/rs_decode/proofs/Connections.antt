@@ -8,7 +8,7 @@ use Rattle.rs_decode.specs.Register.{total, connection}
 use Rattle.rs_decode.specs.Inner.Steps.{Makes}
 use Rattle.rs_decode.proofs.Totals.{total-exchange, total-first, total-byte, total-later, total-longer, total-plus, total-product, total-same, total-zeros}
 
--- the definition
+-- a connection, written out
 pub connection-total : (len : ℕ) (taps seq : List ℕ) (n : ℕ)
     → connection len taps seq n ≡ total (len + 1) (λ i. product (get_or taps i 0) (get_or seq (n - i) 0))
 unfolding connection
@@ -28,7 +28,7 @@ connection-same len taps others seq n same =
     total-same (len + 1) (λ i. product (get_or taps i 0) (get_or seq (n - i) 0)) (λ i. product (get_or others i 0) (get_or seq (n - i) 0))
     (λ i below. ap (λ x. product x (get_or seq (n - i) 0)) (same i (omega arith)))
 
--- further taps that are 0
+-- further taps that are 0 add nothing
 pub connection-longer : (len longer : ℕ) (taps seq : List ℕ) (n : ℕ) → len ≤ longer → ((c : ℕ) → len < c → get_or taps c 0 ≡ 0)
     → connection longer taps seq n ≡ connection len taps seq n
 unfolding connection

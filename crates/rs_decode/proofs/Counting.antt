@@ -34,7 +34,7 @@ error_count-no_marks (got ∷ received) (byte ∷ word) = refl
 pub error_count-end : (received word : List ℕ) (marks : List Bool) (n : ℕ) → length marks ≤ n → error_count (drop n received) (drop n word) (drop n marks) ≡ 0
 error_count-end received word marks n past = rw (drop_all n marks past) (error_count-no_marks (drop n received) (drop n word))
 
--- the same as a number from a test
+-- a place's share is the number that the code adds
 pub error_at-number : (mark : Bool) (byte got : ℕ) → bool_byte (not mark && not (byte == got)) ≡ error_at mark byte got
 unfolding error_at
 error_at-number true byte got = refl
@@ -49,13 +49,13 @@ unfolding error_at
 error_at-one true byte got = omega arith
 error_at-one false byte got = grind (arith, nat_tests)
 
--- a byte that stayed
+-- a byte that stayed is no error
 error_same : (mark : Bool) (byte : ℕ) → error_at mark byte byte ≡ 0
 unfolding error_at
 error_same true byte = refl
 error_same false byte = grind (arith, nat_tests)
 
--- a word against itself
+-- against itself a word has no errors
 pub error_count-self : (word : List ℕ) (marks : List Bool) → error_count word word marks ≡ 0
 unfolding error_count error_at
 error_count-self [] marks = refl

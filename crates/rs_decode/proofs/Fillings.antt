@@ -1,6 +1,5 @@
 -- Words that were filled at their marked places.
 use Rattle.std.proofs.Common.{◌≡◌, ◌≢◌, ℕ, zero, suc, ◌<◌, ◌≤◌, Bool, true, false, List, [], ◌∷◌, length, take, get_or, All, refl, sym, ap, subst, ◌∙◌, arith, get_or-take, length-take}
-use Rattle.std.proofs.lemmas.List.Elements.{All-head, All-tail, All-cons, All-nil}
 use Rattle.gf_field.specs.Field.{alpha, plus, product, power}
 use Rattle.gf_field.specs.Words.{IsByte, IsCodeword, value}
 use Rattle.gf_field.proofs.FieldLaws.{plus-assoc, plus-pairs, plus-self, plus-zero, plus-product, power-swap}
@@ -13,18 +12,10 @@ use Rattle.rs_code.proofs.Values.{value-cons}
 use Rattle.rs_decode.specs.Filling.{IsFilling, HasNoFilling, AgreeUnmarked, marked}
 use Rattle.rs_decode.specs.Inner.Places.{picked, patched}
 use Rattle.rs_decode.specs.Inner.Sums.{HasSums}
-use Rattle.rs_decode.proofs.Marks.{length-picked}
+use Rattle.rs_decode.proofs.Marks.{All-picked, length-picked}
 use Rattle.rs_decode.proofs.Near.{distance-unmarked}
 
 -- ---- the points of marked places differ
-
--- what holds of each number holds of those at marked places
-All-picked : (P : ℕ → Type 0) (marks : List Bool) (xs : List ℕ) → All P xs → All P (picked marks xs)
-unfolding picked
-All-picked P [] xs all = All-nil P
-All-picked P (mark ∷ marks) [] all = All-nil P
-All-picked P (true ∷ marks) (x ∷ xs) all = All-cons P x (picked marks xs) (All-head P x xs all) (All-picked P marks xs (All-tail P x xs all))
-All-picked P (false ∷ marks) (x ∷ xs) all = All-picked P marks xs (All-tail P x xs all)
 
 -- of distinct numbers those at marked places are distinct
 AreDistinct-picked : (marks : List Bool) (xs : List ℕ) → AreDistinct xs → AreDistinct (picked marks xs)
@@ -38,7 +29,7 @@ AreDistinct-picked (false ∷ marks) (x ∷ xs) distinct = AreDistinct-picked ma
 pub marked_points-distinct : (marks : List Bool) (points : List ℕ) → length marks ≤ 255 → points ≡ picked marks (points_of (length marks)) → AreDistinct points
 marked_points-distinct marks points short is = subst AreDistinct (sym is) (AreDistinct-picked marks (points_of (length marks)) (AreDistinct-points_of (length marks) short))
 
--- there are as many as places are marked, and no more than syndromes
+-- there are as many points as places are marked
 pub points-few : (marks : List Bool) (points : List ℕ) → points ≡ picked marks (points_of (length marks)) → length points ≡ marked marks
 points-few marks points are = ap length are ∙ length-picked marks (points_of (length marks)) (length-points_of (length marks))
 

@@ -33,7 +33,7 @@ power_sum-term : (bytes points : List ℕ) (i k : ℕ) → i < length bytes → 
 unfolding power_sum
 power_sum-term bytes points i k inside within = rw (drop-cons bytes i 0 inside, drop-cons points i 0 within) refl
 
--- past the end there is none
+-- past the last place the power sums are 0
 pub power_sum-end : (bytes points : List ℕ) (k : ℕ) → length bytes ≡ length points → power_sum (drop (length points) bytes) (drop (length points) points) k ≡ 0
 unfolding power_sum
 power_sum-end bytes points k fits = rw (drop_all (length points) bytes (omega arith)) refl

@@ -2,7 +2,7 @@
 use Rattle.std.proofs.Common.{◌≡◌, ◌≢◌, ℕ, zero, suc, ◌+◌, ◌-◌, ◌<◌, ◌≤◌, Bool, true, false, inl, inr, List, [], ◌∷◌, ◌++◌, length, take, replicate, get_or, set, All, refl, sym, ap, ◌∙◌, arith, add-one, zero-add}
 use Rattle.std.proofs.lemmas.Bool.{cases_eq}
 use Rattle.std.proofs.lemmas.List.{get_or-set_other}
-use Rattle.std.proofs.lemmas.List.Elements.{All-set}
+use Rattle.std.proofs.lemmas.List.Elements.{All-head, All-tail, All-cons, All-nil, All-set}
 use Rattle.std.proofs.lemmas.Grind.{get_or-set_at}
 use Rattle.std.proofs.Math.Seq.{take-suc}
 use mir.Val.{bool_byte}
@@ -15,6 +15,14 @@ use Rattle.rs_decode.specs.Filling.{marked}
 use Rattle.rs_decode.specs.Inner.Places.{ArePlaces, picked, patched, place_of_mark}
 
 -- ---- the numbers at marked places
+
+-- what holds of all numbers holds of those at marked places
+pub All-picked : (P : ℕ → Type 0) (marks : List Bool) (xs : List ℕ) → All P xs → All P (picked marks xs)
+unfolding picked
+All-picked P [] xs all = All-nil P
+All-picked P (mark ∷ marks) [] all = All-nil P
+All-picked P (true ∷ marks) (x ∷ xs) all = All-cons P x (picked marks xs) (All-head P x xs all) (All-picked P marks xs (All-tail P x xs all))
+All-picked P (false ∷ marks) (x ∷ xs) all = All-picked P marks xs (All-tail P x xs all)
 
 -- ---- how many they are
 
@@ -132,7 +140,7 @@ point-next marks places i count place inside all are same =
 
 -- ---- words with bytes added at marked places
 
--- with no bytes
+-- a word stays when no bytes are added
 pub patched-none : (word : List ℕ) (marks : List Bool) → patched word marks [] ≡ word
 unfolding patched
 patched-none [] marks = refl
@@ -144,7 +152,7 @@ patched-none (byte ∷ word) (true ∷ marks) = ap (λ w. byte ∷ w) (patched-n
 abbrev added : List ℕ → ℕ → ℕ → List ℕ
 added word place byte = set word place (plus (get_or word place 0) byte)
 
--- the same bytes added twice
+-- the same bytes added twice give the word back
 pub patched-twice : (word : List ℕ) (marks : List Bool) (bytes : List ℕ) → patched (patched word marks bytes) marks bytes ≡ word
 unfolding patched
 patched-twice [] marks bytes = refl
@@ -155,7 +163,7 @@ patched-twice (byte ∷ word) (true ∷ marks) (first ∷ rest) =
     let back : plus (plus byte first) first ≡ byte = plus-assoc byte first first ∙ ap (plus byte) (plus-self first) ∙ plus-zero byte in
     ap (λ b. b ∷ patched (patched word marks rest) marks rest) back ∙ ap (λ w. byte ∷ w) (patched-twice word marks rest)
 
--- with one byte more
+-- one byte more is added at the place of its mark
 patched-suc : (word : List ℕ) (marks : List Bool) (bytes : List ℕ) (i : ℕ) → length word ≡ length marks → i < length bytes → i < marked marks
     → patched word marks (take (suc i) bytes) ≡ added (patched word marks (take i bytes)) (place_of_mark marks i) (get_or bytes i 0)
 unfolding patched place_of_mark marked
@@ -179,7 +187,7 @@ patched-next word now marks points bytes i e short size are fits inside below re
     ∙ ap (λ w. added w (place_of_mark marks i) (get_or bytes i 0)) now_is
     ∙ sym (patched-suc word marks bytes i (sym size) (omega arith) few) ∙ ap (λ n. patched word marks (take n bytes)) (sym (add-one i))
 
--- each point of a marked place has a logarithm, of a place in the word
+-- no point of a marked place is 0, so that each has a logarithm
 pub point-nonzero : (marks : List Bool) (points : List ℕ) (i : ℕ) → points ≡ picked marks (points_of (length marks)) → i < length points → get_or points i 0 ≢ 0
 point-nonzero marks points i are inside is_zero =
     let at = point-at marks points i are inside in

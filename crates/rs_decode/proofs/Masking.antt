@@ -15,6 +15,7 @@ use Rattle.rs_decode.specs.Errors.{error_count}
 use Rattle.rs_decode.specs.Inner.Places.{picked}
 use Rattle.rs_decode.specs.Inner.Locator.{at_points, distances}
 use Rattle.rs_decode.specs.Inner.Sums.{AreSums}
+use Rattle.rs_decode.proofs.Marks.{All-picked}
 
 -- a product of distances is a byte
 pub distances-byte : (others : List ℕ) (x : ℕ) → distances others x < 256
@@ -29,7 +30,7 @@ distances-push [] a x = product-comm (plus x a) 1
 distances-push (b ∷ others) a x =
     ap (product (plus x b)) (distances-push others a x) ∙ sym (product-assoc (plus x b) (distances others x) (plus x a))
 
--- one marked point more
+-- one point more is one factor more for each byte
 pub at_points-push : (others : List ℕ) (a : ℕ) (bytes points : List ℕ) → at_points (distances (others ++ a ∷ [])) bytes points ≡ shifted_by a (at_points (distances others) bytes points) points
 unfolding at_points shifted_by
 at_points-push others a [] points = refl
@@ -62,13 +63,13 @@ power_sum-whole (byte ∷ bytes) (point ∷ points) k =
     product-assoc byte 1 (power point k) ∙ ap (product byte) (one-product (power point k) (power-byte point k)) in
     rw (once, power_sum-whole bytes points k) refl
 
--- with no points taken out
+-- with no points taken out the sums stay
 pub AreSums-all : (points bytes sums : List ℕ) → AreSums points bytes sums → AreSums points (at_points (distances []) bytes points) sums
 AreSums-all points bytes sums are = record {
   sums_are = λ k below. power_sum-whole bytes points k ∙ are.sums_are k below;
 }
 
--- as a loop that takes the last sum off has it
+-- the sums with one point more taken out, as a loop that takes the last sum off has them
 pub AreSums-next : (points bytes sums shifted after others : List ℕ) (i : ℕ)
     → i < length others
     → 0 < length sums
@@ -85,7 +86,7 @@ AreSums-next points bytes sums shifted after others i inside some same are_shift
     (AreSums-shifted_by (get_or others i 0) points (at_points (distances (take i others)) bytes points) sums after size
     (λ k below. ap (λ xs. get_or xs k 0) after_is ∙ get_or-take (length shifted - 1) shifted k 0 (omega arith) ∙ are_shifted k (omega arith)) are)
 
--- as a loop over lanes has it, of which the first have the sums
+-- the same as a loop over lanes has it, of which the first have the sums
 pub AreSums-next_lanes : (points bytes lanes next others : List ℕ) (n i : ℕ)
     → i < length others
     → length others ≤ n
@@ -119,15 +120,6 @@ distances-apart (a ∷ others) x byte_x all apart is_zero =
       | inr rest ↦ distances-apart others x byte_x (All-tail IsByte a others all) (All-tail (λ b. x ≢ b) a others apart) rest
     ]
 
--- what holds of each point holds of those at marked places
-All-picked : (P : ℕ → Type 0) (marks : List Bool) (points : List ℕ) → All P points → All P (picked marks points)
-unfolding picked
-All-picked P [] points all = All-nil P
-All-picked P (mark ∷ marks) [] all = All-nil P
-All-picked P (true ∷ marks) (point ∷ points) all =
-    All-cons P point (picked marks points) (All-head P point points all) (All-picked P marks points (All-tail P point points all))
-All-picked P (false ∷ marks) (point ∷ points) all = All-picked P marks points (All-tail P point points all)
-
 -- the point of an unmarked place is none of the marked ones
 picked-apart : (marks : List Bool) (points : List ℕ) (k : ℕ) → AreDistinct points → k < length points → get_or marks k false ≡ false → All (λ a. get_or points k 0 ≢ a) (picked marks points)
 unfolding picked AreDistinct
@@ -141,7 +133,7 @@ picked-apart (true ∷ marks) (point ∷ points) (suc k) distinct inside clear =
     (picked-apart marks points k distinct.1 (omega arith) clear)
 picked-apart (false ∷ marks) (point ∷ points) (suc k) distinct inside clear = picked-apart marks points k distinct.1 (omega arith) clear
 
--- at a marked place
+-- at a marked place the product of distances is 0
 pub distances-marked : (marks : List Bool) (points : List ℕ) (k : ℕ) → k < length points → get_or marks k false ≡ true → distances (picked marks points) (get_or points k 0) ≡ 0
 unfolding picked distances
 distances-marked [] points k inside mark_is = absurd (false≢true mark_is)
@@ -152,7 +144,7 @@ distances-marked (true ∷ marks) (point ∷ points) (suc k) inside mark_is =
     rw (distances-marked marks points k (omega arith) mark_is) (product-zero (plus (get_or points k 0) point))
 distances-marked (false ∷ marks) (point ∷ points) (suc k) inside mark_is = distances-marked marks points k (omega arith) mark_is
 
--- at an unmarked place
+-- at an unmarked place it isn't 0
 pub distances-unmarked : (marks : List Bool) (points : List ℕ) (k : ℕ)
     → AreDistinct points
     → All IsByte points

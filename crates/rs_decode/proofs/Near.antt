@@ -7,7 +7,7 @@ use Rattle.rs_code.proofs.Distance.{IsCodeword-close}
 use Rattle.rs_decode.specs.Filling.{AgreeUnmarked, marked}
 use Rattle.rs_decode.specs.Laws.{NearCodewordIsOnlyOne, FillingIsOnlyOne, FillingIsNear}
 
--- the costs at one place
+-- at a marked place two words cost one each, whether or not they differ there
 marked_costs : (x y d first second : ℕ) → 2 * d ≤ first + second → 2 * ((if x == y then 0 else 1) + d) ≤ 1 + first + (1 + second)
 marked_costs x y d first second rest = grind (arith, nat_tests)
 
@@ -45,7 +45,7 @@ agree-rest mark marks x y a b agree k below clear = agree (suc k) (omega arith) 
 same_cost : (x y more d : ℕ) → x ≡ y → (if x == y then 0 else more) + d ≡ d
 same_cost x y more d same = grind (arith, nat_tests)
 
--- and differ in no more places than are marked
+-- words that agree at all unmarked places differ in no more places than are marked
 pub distance-unmarked : (a b : List ℕ) (marks : List Bool) → length a ≡ length marks → length b ≡ length marks → AgreeUnmarked marks a b → distance a b ≤ marked marks
 unfolding distance marked
 distance-unmarked [] b marks a_size b_size agree = omega arith
@@ -65,7 +65,7 @@ filling_once n r received marks a b short marks_size filling_a filling_b =
     let few = distance-unmarked a b marks (filling_a.codeword.size ∙ sym marks_size) (filling_b.codeword.size ∙ sym marks_size) agree in
     IsCodeword-close n r a b short filling_a.codeword filling_b.codeword (omega (arith, filling_a.within))
 
--- they cost one for each marked place
+-- a word that agrees at all unmarked places costs one for each marked place
 cost-unmarked : (word received : List ℕ) (marks : List Bool) → length word ≡ length marks → length received ≡ length marks → AgreeUnmarked marks received word → cost word received marks ≡ marked marks
 unfolding cost marked
 cost-unmarked [] received [] size received_size agree = refl

@@ -109,7 +109,7 @@ tests_all test r each =
     let below : k < r = subst (λ n. k < n) (length-range_with_len 0 r) within in
     subst (λ n. test n ≡ true) (sym (get_or-range_with_len 0 r k d below ∙ zero-add k)) (each k below))
 
--- the test is the fact
+-- a word that passes the test is near
 near-from_test : (n r : ℕ) (received word : List ℕ) (marks : List Bool) → length received ≡ n → length marks ≡ n
     → is_near n r received marks word ≡ true → IsNear n r received marks word
 unfolding is_near vanishes_at_all
@@ -173,7 +173,7 @@ found_none n r received marks None received_size marks_size nothing is = refl
 found_none n r received marks (Some word) received_size marks_size nothing is =
     absurd (nothing word (near_of-is_near n r received word marks received_size marks_size is))
 
--- and nothing where none is near
+-- where no codeword is near, nothing is found
 pub none-near_of : (n r : ℕ) (received : List ℕ) (marks : List Bool) → length received ≡ n → length marks ≡ n
     → HasNoneNear n r received marks → near_of n r received marks ≡ None
 none-near_of n r received marks received_size marks_size nothing =
@@ -188,7 +188,7 @@ near_of-alike n r received other marks size agree =
     ap (λ c. (length word == n) && list_all (λ byte. nat_lt byte 256) word && vanishes_at_all r word && nat_le c r) (cost-alike word received other marks size agree) i in
     ap (λ test. find test (all_words n)) same
 
--- a codeword passes the test of its values, and bytes that pass it are a codeword
+-- a codeword passes the test of its values
 pub codeword-vanishes : (n r : ℕ) (word : List ℕ) → IsCodeword n r word → vanishes_at_all r word ≡ true
 unfolding vanishes_at_all
 codeword-vanishes n r word codeword =

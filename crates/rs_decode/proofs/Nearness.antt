@@ -31,7 +31,7 @@ use Rattle.rs_decode.proofs.Roots.{zeros_among, few_zeros}
 one_place : (byte got c e m : ℕ) → c ≡ 2 * e + m → (if byte == got then 0 else 2) + c ≡ 2 * ((if byte == got then 0 else 1) + e) + (0 + m)
 one_place byte got c e m parts = grind (arith, nat_tests)
 
--- the cost has two parts
+-- the cost is twice the number of errors and the number of marked places
 pub cost-parts : (received word : List ℕ) (marks : List Bool)
     → length received ≡ length word
     → length marks ≡ length word

@@ -1,7 +1,7 @@
 -- The steps of Berlekamp and Massey: a register stays, or is mended by a multiple of an earlier one, and is the shortest.
 use Rattle.std.proofs.Common.{◌≡◌, ◌≢◌, ℕ, zero, suc, ◌+◌, ◌-◌, ◌*◌, ◌<◌, ◌≤◌, List, ◌∷◌, length, get_or, take, replicate, refl, sym, ap, subst, ◌∙◌, arith, inl, inr, below_more, get_or-take, length-take}
 use Rattle.std.proofs.lemmas.Bool.{cases_lt}
-use Rattle.std.proofs.lemmas.List.{length-replicate, get_or-replicate, get_or_past}
+use Rattle.std.proofs.lemmas.List.{length-replicate, get_or_past}
 use Rattle.std.proofs.lemmas.List.Elements.{All-cons, All-replicate, All-take}
 use Rattle.gf_field.specs.Field.{plus, product}
 use Rattle.gf_field.specs.Words.{IsByte}
@@ -10,22 +10,15 @@ use Rattle.rs_code.specs.Inner.Polynomials.{sum_of, scaled}
 use Rattle.rs_code.proofs.Distance.{All-sum_of}
 use Rattle.rs_code.proofs.Remainders.{All-scaled}
 use Rattle.rs_code.proofs.Values.{length-sum_of, length-scaled, get_or-sum_of, get_or-scaled}
+use Rattle.rs_lanes.proofs.ParityLemmas.{get_or-zeros}
 use Rattle.rs_decode.specs.Register.{Generates, IsLeast, connection}
 use Rattle.rs_decode.specs.Inner.Steps.{Makes, IsShortestTo, FailsAt}
 use Rattle.rs_decode.proofs.Connections.{connection-byte, connection-same, connection-longer, connection-later, connection-sum_of, connection-scaled, connections-agree}
 
--- no place of a list of zeros holds another number
-zeros_anywhere : (n k : ℕ) → get_or {A = ℕ} (replicate n 0) k 0 ≡ 0
-zeros_anywhere n k =
-    elim (cases_lt k n) [
-      | inl inside ↦ get_or-replicate n k 0 0 inside
-      | inr past ↦ get_or_past (replicate n 0) k 0 (omega (arith, length-replicate {A = ℕ} n 0))
-    ]
-
 -- behind the first tap at the start there are zeros
 pub zeros-start : (c : ℕ) → 0 < c → get_or {A = ℕ} (1 ∷ replicate 32 0) c 0 ≡ 0
 zeros-start zero above = absurd (omega arith)
-zeros-start (suc c) above = zeros_anywhere 32 c
+zeros-start (suc c) above = get_or-zeros 32 c
 
 -- before the first number, the register of length 0 is the shortest
 pub IsShortestTo-start : (seq : List ℕ) → IsShortestTo 0 0 (1 ∷ replicate 32 0) seq

@@ -25,18 +25,19 @@ unfolding polynomial_at
 polynomial_at-byte [] x all = omega arith
 polynomial_at-byte (c ∷ cs) x all = plus-byte c (product x (polynomial_at cs x)) (All-head IsByte c cs all) (product-byte x (polynomial_at cs x))
 
--- the values at a of the polynomial without its lowest coefficients: the quotient by (x + a), and a 0 at its end
+-- the values at a of the coefficients from each place on. Where a is a zero of a polynomial, and these are its coefficients but
+-- for the lowest, they are the quotient by (x + a).
 quotient : ℕ → List ℕ → List ℕ
 quotient a [] = []
 quotient a (c ∷ cs) = polynomial_at (c ∷ cs) a ∷ quotient a cs
 
--- the quotient, with the 0 at its end, is as long as the polynomial
+-- there are as many such values as coefficients
 length-quotient : (a : ℕ) (cs : List ℕ) → length (quotient a cs) ≡ length cs
 unfolding quotient
 length-quotient a [] = refl
 length-quotient a (c ∷ cs) = ap suc (length-quotient a cs)
 
--- the coefficients of the quotient are bytes
+-- they are bytes
 All-quotient : (a : ℕ) (cs : List ℕ) → All IsByte cs → All IsByte (quotient a cs)
 unfolding quotient
 All-quotient a [] all = All-nil IsByte
@@ -162,7 +163,7 @@ few_lowest_first (x ∷ points) (c ∷ cs) distinct all_points all nonzero =
 pushed : (d c x p u : ℕ) → plus d (product x (plus p (product c u))) ≡ plus (plus d (product x p)) (product c (product u x))
 pushed d c x p u = simp ring
 
--- a polynomial with one coefficient more
+-- one coefficient more at the end adds its term to the value
 polynomial_at-push : (cs : List ℕ) (c x : ℕ) → c < 256 → polynomial_at (cs ++ c ∷ []) x ≡ plus (polynomial_at cs x) (product c (power x (length cs)))
 unfolding polynomial_at
 polynomial_at-push [] c x byte =
@@ -194,7 +195,7 @@ All-reverse xs all = All-from_get_or IsByte (reverse xs) 0 (λ k inside.
     let long : length (reverse xs) ≡ length xs = length-reverse xs in
     subst IsByte (sym (get_or-reverse xs k 0 (omega arith))) (All-get_or IsByte xs (length xs - 1 - k) 0 (omega arith) all))
 
--- a leading 1 isn't 0, and stands last
+-- a polynomial with the leading coefficient 1, turned round, isn't all zeros
 led-nonzero : (taps : List ℕ) → 0 < length taps → get_or taps 0 0 ≡ 1 → reverse taps ≡ replicate (length (reverse taps)) 0 → ⊥
 led-nonzero taps some first zeros =
     let long : length (reverse taps) ≡ length taps = length-reverse taps in

@@ -12,7 +12,7 @@ use Rattle.rs_decode.specs.Inner.Locator.{with_zeros}
 use Rattle.rs_decode.proofs.Marks.{get_or-points_of}
 use Rattle.rs_decode.proofs.Nearness.{get_or-with_zeros, length-with_zeros}
 
--- place by place
+-- marks that are right at each place are the marks with the zeros
 pub with_zeros-from_places : (locator : List ℕ) (marks after : List Bool)
     → length after ≡ length marks
     → ((k : ℕ) → k < length marks → get_or after k false ≡ (get_or marks k false || (value locator (power alpha (length marks - 1 - k)) == 0)))

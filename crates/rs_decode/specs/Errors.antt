@@ -1,4 +1,4 @@
--- What a decoder counts.
+-- What a decoder counts, and when it refuses.
 use Rattle.std.specs.Prelude.{ℕ, ◌+◌, Bool, List, ◌∷◌, ◌==◌, if◌then◌else◌}
 use Rattle.gf_field.specs.Words.{IsNear}
 

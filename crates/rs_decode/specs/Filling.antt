@@ -19,6 +19,6 @@ pub record IsFilling (n r : ℕ) (received : List ℕ) (marks : List Bool) (word
   pub agrees : AgreeUnmarked marks received word
   pub within : marked marks ≤ r
 
--- no codeword does
+-- no codeword fills the received word in this way
 abbrev pub HasNoFilling : ℕ → ℕ → List ℕ → List Bool → Type 0
 HasNoFilling n r received marks = (word : List ℕ) → IsFilling n r received marks word → ⊥

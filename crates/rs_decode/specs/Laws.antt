@@ -15,7 +15,7 @@ abbrev pub FillingIsOnlyOne : Type 0
 FillingIsOnlyOne =
     (n r : ℕ) (received : List ℕ) (marks : List Bool) (a b : List ℕ) → n ≤ 255 → length marks ≡ n → IsFilling n r received marks a → IsFilling n r received marks b → a ≡ b
 
--- it costs one for each marked place
+-- a codeword that agrees at all unmarked places is near, since it costs one for each marked place
 abbrev pub FillingIsNear : Type 0
 FillingIsNear =
     (n r : ℕ) (received : List ℕ) (marks : List Bool) (word : List ℕ) → length received ≡ n → length marks ≡ n → IsFilling n r received marks word → IsNear n r received marks word

@@ -14,7 +14,7 @@ pub fn filling_is_only_one()
     ensures { FillingIsOnlyOne }
 {}
 
-/// It is near, too.
+/// A codeword that agrees with a word at all but at most r marked places is near it.
 pub fn filling_is_near()
     ensures { FillingIsNear }
 {}

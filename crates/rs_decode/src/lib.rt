@@ -1,4 +1,4 @@
-//! Decoding of words of Reed-Solomon codes (ECMA-267, clauses 16.2 and 18) in place, without memory of their own.
+//! Decoding of words of Reed-Solomon codes (ECMA-267, clauses 16.2 and 18) in place, by functions that take no memory.
 //!
 //! - [`erasures`]: `fill` finds the codeword that agrees with a word at all places that aren't marked.
 //! - [`errors`]: `decode` finds the codeword that is near a word with marks, and `decode_from` does so by syndromes and marked
@@ -8,7 +8,7 @@
 //! - [`register`]: `shortest` finds the shortest linear feedback register that generates a list.
 //! - `combining`: sixteen bytes added to others at once.
 //! - `sums`: the bytes at given points that have given power sums.
-//! - `syndromes`: the syndromes of a word, as vectors of sixteen.
+//! - `syndromes`: the syndromes of a word, and power sums of bytes at points, sixteen at once.
 //! - `values`: the values of a polynomial at the powers of alpha.
 //! - [`laws`]: what holds of every word, as contracts alone.
 #![tactic(auto)]

@@ -1,5 +1,5 @@
 //! Worked values from outside, and the answers for drawn words as another decoder gives them: one by the Berlekamp-Massey
-//! algorithm and Forney's formula, which has nothing in common with this one but the code.
+//! algorithm and Forney's formula.
 ghost use Rattle.std.specs.Prelude.{◌≡◌, ◌<◌, ◌≤◌, length};
 
 use crate::{Beyond, Fix, NoCodeword, decode, fill, shortest};
@@ -60,12 +60,12 @@ fn fixed(errors: u16, erased: u16) -> Result<Fix, Beyond> {
     Ok(Fix { errors, erased })
 }
 
-/// Each word with its marked places, and what is answered and left.
+/// What is answered for words with errors and marks, and which word is left.
 #[test]
 fn decodes_as_worked(rt: HostRuntime) {
     let code = Pi::new();
     let zeros = [0; 182];
-    // Errors and marks that are wrong, and marks at right bytes: (wrong, wrong and marked, right and marked).
+    // How many bytes are wrong, wrong and marked, right and marked; and what is answered.
     for ((wrong, lost, doubted), want) in [
         ((5usize, 0usize, 0usize), fixed(5, 0)),
         ((0, 10, 0), fixed(0, 10)),
@@ -114,7 +114,7 @@ fn decodes_the_shortest_words(rt: HostRuntime) {
     assert_eq!(rt; pair, [0x05, 0x05]);
 }
 
-/// A generator of drawn numbers by three shifts of 64 bits.
+/// Drawn numbers: each is a state of 64 bits, to which three shifts of itself were added.
 #[derive(Drop)]
 struct Drawn {
     state: u64,

@@ -21,7 +21,7 @@ pub fn values_at_powers(polynomial: &[u8], count: usize) -> [u8; 256]
     values
 }
 
-// Adds the values of `coefficient` x^`exponent` to as many groups of sixteen.
+// Adds the values of `coefficient` x^`exponent` to the first `groups` groups of sixteen.
 fn add_term(values: &mut [u8], groups: usize, coefficient: u8, exponent: usize)
     requires room { 16 * groups ≤ length values.old }
     requires short { exponent < 255 }
