@@ -1,5 +1,5 @@
-//! Vectors added to bytes.
-ghost use Rattle.std.specs.Prelude.{◌≡◌, ℕ, ◌+◌, ◌<◌, ◌≤◌, length, slice_index};
+//! Vectors and lists: vectors added to bytes, and lists in the first lanes of vectors.
+ghost use Rattle.std.specs.Prelude.{◌≡◌, ℕ, ◌+◌, ◌<◌, ◌≤◌, length, slice_index, take};
 ghost use Rattle.gf_field.specs.Field.{plus};
 
 use std::simd::prelude::*;
@@ -15,4 +15,14 @@ pub fn add_lanes(bytes: &mut [u8], at: usize, lanes: u8x16)
 {
     let sum = u8x16::from_slice(&bytes[at..]) ^ lanes;
     sum.copy_to_slice(&mut bytes[at..]);
+}
+
+/// The lanes of a vector that begins with a list. The others are zeros.
+pub fn in_front<const N: usize>(list: &[u8]) -> [u8; N]
+    requires { length list.now ≤ N }
+    ensures { take (length list.now) result ≡ list.now }
+{
+    let mut bytes = [0; N];
+    bytes[..list.len()].copy_from_slice(list);
+    bytes
 }

@@ -6,7 +6,7 @@
 //! - `locating`: the places where errors may be, from power sums and a locator.
 //! - `places`: the marked places of a word, [`Erasures`].
 //! - [`register`]: `shortest` finds the shortest linear feedback register that generates a list.
-//! - `combining`: sixteen bytes added to others at once.
+//! - `combining`: sixteen bytes added to others at once, and lists in the first lanes of vectors.
 //! - `sums`: the bytes at given points that have given power sums.
 //! - `syndromes`: the syndromes of a word, and power sums of bytes at points, sixteen at once.
 //! - `values`: the values of a polynomial at the powers of alpha.

@@ -7,6 +7,7 @@ ghost use Rattle.gf_field.specs.Field.{plus, product};
 ghost use Rattle.rs_lanes.specs.Inner.Lanes.{HasLanes};
 ghost use Rattle.rs_decode.specs.Register.{Generates, IsLeast};
 
+use crate::combining::in_front;
 use arrayvec::ArrayVec;
 use gf_field::inv;
 use rs_lanes::{multiple, store, with_multiple};
@@ -42,7 +43,7 @@ pub fn shortest(seq: &[u8]) -> Register
     // Of length 0, it fails by each number itself.
     let mut register = Candidate {
         taps: u8x32::splat(0),
-        connections: in_front(seq),
+        connections: u8x32::from_array(in_front(seq)),
     };
     // The register from before the length last changed, shifted to fail at the place at hand, and multiplied to fail by 1.
     // While the length is 0 there is none, and x stands for it.
@@ -126,17 +127,6 @@ fn moved_down(lanes: u8x32) -> u8x32
             25, 26, 27, 28, 29, 30, 31, 32,
         ],
     )
-}
-
-// A list in the first lanes of a vector.
-fn in_front(list: &[u8]) -> u8x32
-    requires { length list.now ≤ 32 }
-    ensures size { length result ≡ 32 }
-    ensures list { take (length list.now) result ≡ list.now }
-{
-    let mut lanes = [0; 32];
-    lanes[..list.len()].copy_from_slice(list);
-    u8x32::from_array(lanes)
 }
 
 // The taps of a register of length `len`, of which the first is 1.

@@ -5,6 +5,7 @@ ghost use Rattle.rs_code.specs.Inner.PowerSums.{AreDistinct, power_sum, shifted_
 ghost use Rattle.rs_decode.specs.Inner.Locator.{at_points, distances};
 ghost use Rattle.rs_decode.specs.Inner.Sums.{AreSums, HasSums};
 
+use crate::combining::in_front;
 use gf_field::{div, mul};
 use rs_lanes::scaled;
 use std::simd::prelude::*;
@@ -18,7 +19,7 @@ pub fn solve(points: &[u8], sums: &mut [u8])
     ensures { HasSums points.now sums.new sums.old }
 {
     if points.len() <= 16 {
-        solve_lanes(points, in_front(sums), sums);
+        solve_lanes(points, u8x16::from_array(in_front(sums)), sums);
         return;
     }
     let Some((point, others)) = points.split_first() else {
@@ -59,7 +60,7 @@ pub fn without_points(points: &[u8], sums: &[u8]) -> u8x16
     ensures are { (places bytes : List ℕ) → AreSums places bytes sums.now
         → AreSums places (at_points (distances points.now) bytes places) (take (length sums.now - length points.now) result) }
 {
-    let mut left = in_front(sums);
+    let mut left = u8x16::from_array(in_front(sums));
     for point in points {
         left = without(left, *point);
     }
@@ -78,17 +79,6 @@ fn without(sums: u8x16, point: u8) -> u8x16
         [1, 2, 3, 4, 5, 6, 7, 8, 9, 10, 11, 12, 13, 14, 15, 16],
     );
     next ^ scaled(sums, point)
-}
-
-/// Numbers in the first lanes of a vector.
-fn in_front(numbers: &[u8]) -> u8x16
-    requires { length numbers.now ≤ 16 }
-    ensures size { length result ≡ 16 }
-    ensures numbers { take (length numbers.now) result ≡ numbers.now }
-{
-    let mut lanes = [0; 16];
-    lanes[..numbers.len()].copy_from_slice(numbers);
-    u8x16::from_array(lanes)
 }
 
 /// Takes `point` out of the sums after `first`.

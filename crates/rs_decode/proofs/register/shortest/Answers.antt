@@ -8,8 +8,8 @@ use Rattle.rs_decode.proofs.register.shortest.Goals.{then-found-ne0+then-len-pla
 
 pub loop-place-init : goal.loop-place-init
 loop-place-init c = record {
-  lanes = c.in_front.ensures.size;
-  is_at = IsAt-start c.moved_up.result c.args.seq.now c.in_front.result c.moved_up-2.result c.requires (λ k below. omega (arith, c.type_inv.seq k)) c.in_front.ensures.list
+  lanes = omega arith;
+  is_at = IsAt-start c.moved_up.result c.args.seq.now c.in_front.result c.moved_up-2.result c.requires (λ k below. omega (arith, c.type_inv.seq k)) c.in_front.ensures
       c.moved_up.ensures c.moved_up-2.ensures;
 }
 

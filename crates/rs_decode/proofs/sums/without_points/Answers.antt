@@ -8,9 +8,9 @@ loop-point-init c =
     let sums = c.args.sums.now in
     let left = c.in_front-left.result in
     let none : length sums - 0 ≡ length sums = omega arith in
-    let all : take (length sums - 0) left ≡ sums = ap (λ n. take n left) none ∙ c.in_front-left.ensures.numbers in
+    let all : take (length sums - 0) left ≡ sums = ap (λ n. take n left) none ∙ c.in_front-left.ensures in
     record {
-      size = c.in_front-left.ensures.size;
+      size = omega arith;
       are = λ places bytes are. AreSums-all places bytes (take (length sums - 0) left) (subst (AreSums places bytes) (sym all) are);
     }
 
