@@ -1,5 +1,5 @@
 -- The errors counted place by place, and what a near codeword costs.
-use Rattle.std.proofs.Common.{◌≡◌, ℕ, zero, suc, ◌+◌, ◌*◌, ◌<◌, ◌≤◌, Bool, true, false, not, ◌&&◌, ◌==◌, inl, inr, List, [], ◌∷◌, length, get_or, drop, if◌then◌else◌, refl, sym, ap, ◌∙◌, arith}
+use Rattle.std.proofs.Common.{◌≡◌, ℕ, ◌+◌, ◌*◌, ◌<◌, ◌≤◌, Bool, true, false, not, ◌&&◌, ◌==◌, inl, inr, List, [], ◌∷◌, length, get_or, drop, if◌then◌else◌, refl, sym, ap, ◌∙◌, arith}
 use Rattle.std.proofs.lemmas.List.{drop_all, drop_more}
 use Rattle.std.proofs.lemmas.Bool.{cases_eq}
 use mir.Val.{bool_byte}
@@ -83,8 +83,3 @@ pub counts-from_near : (n r : ℕ) (received word : List ℕ) (marks : List Bool
 counts-from_near n r received word marks near =
     let parts = cost-parts received word marks (near.received_size ∙ sym near.codeword.size) (near.marks_size ∙ sym near.codeword.size) in
     omega (arith, near.within)
-
--- a length that passes the test for 0 is 0
-pub empty_length : (n : ℕ) → (n == 0) ≡ true → n ≡ 0
-empty_length zero is = refl
-empty_length (suc n) is = grind (arith, nat_tests, is)

@@ -2,7 +2,7 @@
 use Rattle.std.proofs.Common.{◌≡◌, ◌⊎◌, ◌∙◌, ℕ, zero, suc, ◌<◌, ◌≤◌, Bool, true, false, cond, ◌&&◌, ◌==◌, nat_eq, nat_lt, nat_le, List, [], ◌∷◌, ◌++◌, length, map, find, get_or, All, inl, inr, refl, sym, ap, subst, arith, zero-add, Some, None}
 use Rattle.std.specs.List.{flat_map, range_with_len, list_all}
 use Rattle.std.specs.declared.option.Option.{Option}
-use Rattle.std.proofs.lemmas.Bool.{false≢true, eqb-true, eq-eqb, ltb-true, lt-ltb, leb-true, le-leb}
+use Rattle.std.proofs.lemmas.Bool.{and_from, and_parts, eqb-true, eq-eqb, ltb-true, lt-ltb, leb-true, le-leb}
 use Rattle.std.proofs.lemmas.List.Elements.{All-tail}
 use Rattle.std.proofs.lemmas.List.FromFn.{length-range_with_len, get_or-range_with_len}
 use Rattle.std.proofs.lemmas.List.Sums.{AllPass-from_list_all, list_all-from_AllPass}
@@ -85,15 +85,6 @@ member-all_words (suc n) (byte ∷ word) size bytes =
     let rest = member-all_words n word (omega arith) (All-tail IsByte byte word bytes) in
     member-flat_map (λ b. map (λ w. b ∷ w) (all_words n)) byte (byte ∷ word) (range_with_len 0 256) is (member-map (λ w. byte ∷ w) word (all_words n) rest)
 
--- where a conjunction is true, both its parts are
-both : (a b : Bool) → (a && b) ≡ true → (a ≡ true) × (b ≡ true)
-both true b is = (refl, is)
-both false b is = absurd (false≢true is)
-
--- where both parts are true, the conjunction is
-and_both : (a b : Bool) → a ≡ true → b ≡ true → (a && b) ≡ true
-and_both a b is_a is_b = rw (is_a, is_b) refl
-
 -- a test of all numbers below r tests each
 tested_at : (test : ℕ → Bool) (r k : ℕ) → k < r → list_all test (range_with_len 0 r) ≡ true → test k ≡ true
 tested_at test r k below passes =
@@ -114,9 +105,9 @@ near-from_test : (n r : ℕ) (received word : List ℕ) (marks : List Bool) → 
     → is_near n r received marks word ≡ true → IsNear n r received marks word
 unfolding is_near vanishes_at_all
 near-from_test n r received word marks received_size marks_size passes =
-    let cheap = both _ _ passes in
-    let vanishing = both _ _ cheap.0 in
-    let sized = both _ _ vanishing.0 in
+    let cheap = and_parts _ _ passes in
+    let vanishing = and_parts _ _ cheap.0 in
+    let sized = and_parts _ _ vanishing.0 in
     let test : ℕ → Bool = λ k. nat_eq (value word (power alpha k)) 0 in
     let at_each : (k : ℕ) → k < r → test k ≡ true = λ k below. tested_at test r k below vanishing.1 in
     record {
@@ -134,9 +125,9 @@ near-from_test n r received word marks received_size marks_size passes =
 test-from_near : (n r : ℕ) (received word : List ℕ) (marks : List Bool) → IsNear n r received marks word → is_near n r received marks word ≡ true
 unfolding is_near vanishes_at_all
 test-from_near n r received word marks near =
-    and_both _ _
-    (and_both _ _
-    (and_both _ _ (eq-eqb (length word) n near.codeword.size)
+    and_from _ _
+    (and_from _ _
+    (and_from _ _ (eq-eqb (length word) n near.codeword.size)
     (list_all-from_AllPass (λ byte. nat_lt byte 256) word (λ k d within. lt-ltb _ _ (near.codeword.bytes k d within))))
     (tests_all (λ k. nat_eq (value word (power alpha k)) 0) r (λ k below. eq-eqb _ _ (near.codeword.vanishes k below))))
     (le-leb (cost word received marks) r near.within)

@@ -1,7 +1,7 @@
 -- The search for a polynomial's zeros: the marks place by place.
 use Rattle.std.proofs.Common.{◌≡◌, ◌≢◌, ℕ, ◌-◌, ◌<◌, Bool, true, false, ◌||◌, ◌==◌, List, [], ◌∷◌, length, get_or, refl, sym, ap, ◌∙◌, arith}
 use Rattle.std.proofs.lemmas.List.{ext_get_or}
-use Rattle.std.proofs.lemmas.Bool.Decides.{nat_tests}
+use Rattle.std.proofs.lemmas.Bool.{ne_eqb}
 use Rattle.gf_field.specs.Field.{alpha, power}
 use Rattle.gf_field.specs.Words.{value}
 use Rattle.gf_field.proofs.FieldLaws.{plus-zero, power-zero, product-one}
@@ -33,10 +33,6 @@ pub or_false : (mark test : Bool) → test ≡ false → mark ≡ (mark || test)
 or_false true test none = refl
 or_false false test none = sym none
 
--- a number other than 0 fails the test for 0
-pub is_not_zero : (n : ℕ) → n ≢ 0 → (n == 0) ≡ false
-is_not_zero n nonzero = grind (arith, nat_tests)
-
 -- the polynomial 1 has no zero
 one-nonzero : (xs : List ℕ) (x : ℕ) → length xs ≡ 1 → get_or xs 0 0 ≡ 1 → value xs x ≢ 0
 one-nonzero [] x single led vanishes = absurd (omega arith)
@@ -50,4 +46,4 @@ one-nonzero (c ∷ []) x single led vanishes =
 pub with_zeros-one : (locator : List ℕ) (marks : List Bool) → length locator ≡ 1 → get_or locator 0 0 ≡ 1 → marks ≡ with_zeros locator marks (points_of (length marks))
 with_zeros-one locator marks single led = with_zeros-from_places locator marks marks refl (λ k below.
     let x = power alpha (length marks - 1 - k) in
-    or_false (get_or marks k false) (value locator x == 0) (is_not_zero (value locator x) (one-nonzero locator x single led)))
+    or_false (get_or marks k false) (value locator x == 0) (ne_eqb (value locator x) 0 (one-nonzero locator x single led)))
