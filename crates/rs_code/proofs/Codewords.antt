@@ -57,7 +57,8 @@ at_most_one : (x y d n : ℕ) → d ≤ n → (if x == y then 0 else 1) + d ≤ 
 at_most_one x y d n below = grind (arith, nat_tests)
 
 -- the sum of a message's remainder and of the parity that follows it has the values of the whole word at the roots
-pub value-remainder : (message register parity : List ℕ) (x : ℕ) → length register ≡ length parity → value (message ++ register) x ≡ 0 → value (sum_of register parity) x ≡ value (message ++ parity) x
+pub value-remainder : (message register parity : List ℕ) (x : ℕ) → length register ≡ length parity → value (message ++ register) x ≡ 0
+    → value (sum_of register parity) x ≡ value (message ++ parity) x
 value-remainder message register parity x same vanishes =
     let was : product (value message x) (power x (length register)) ≡ value register x = plus-zero_same _ _ (sym (value-append message register x) ∙ vanishes) in
     value-sum_of register parity x same

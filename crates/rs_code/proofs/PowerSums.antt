@@ -63,11 +63,13 @@ All-shifted_by a (byte ∷ bytes) (point ∷ points) =
     All-cons IsByte (product byte (plus point a)) (shifted_by a bytes points) (product-byte byte (plus point a)) (All-shifted_by a bytes points)
 
 -- the share of the first byte in the sum that follows, multiplied out
-one_more : (a byte point up sum next : ℕ) → plus (product (product byte (plus point a)) up) (plus next (product a sum)) ≡ plus (plus (product byte (product up point)) next) (product a (plus (product byte up) sum))
+one_more : (a byte point up sum next : ℕ) → plus (product (product byte (plus point a)) up) (plus next (product a sum))
+    ≡ plus (plus (product byte (product up point)) next) (product a (plus (product byte up) sum))
 one_more a byte point up sum next = simp ring
 
 -- a factor (point + a) for each byte: the next sum, and a times this one
-pub power_sum-shifted_by : (a : ℕ) (bytes points : List ℕ) (k : ℕ) → power_sum (shifted_by a bytes points) points k ≡ plus (power_sum bytes points (suc k)) (product a (power_sum bytes points k))
+pub power_sum-shifted_by : (a : ℕ) (bytes points : List ℕ) (k : ℕ) → power_sum (shifted_by a bytes points) points k
+    ≡ plus (power_sum bytes points (suc k)) (product a (power_sum bytes points k))
 unfolding power_sum shifted_by
 power_sum-shifted_by a [] points k = simp product-zero
 power_sum-shifted_by a (byte ∷ bytes) [] k = simp product-zero

@@ -32,7 +32,8 @@ IsRemainder-start generator = record {
 }
 
 -- Horner's step of the message and the register's shift, with the factor's share of the generator, multiplied out
-turned : (v byte first t p x : ℕ) → plus (product (plus (product v x) byte) (product p x)) (plus (plus (product t x) 0) (product (plus first byte) (product p x))) ≡ product (plus (product v (product p x)) (plus (product first p) t)) x
+turned : (v byte first t p x : ℕ) → plus (product (plus (product v x) byte) (product p x)) (plus (plus (product t x) 0) (product (plus first byte) (product p x)))
+    ≡ product (plus (product v (product p x)) (plus (product first p) t)) x
 turned v byte first t p x = simp ring
 
 -- the register after one more byte is the remainder of what was read with that byte

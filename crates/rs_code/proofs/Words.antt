@@ -73,12 +73,15 @@ pub after_word : (generator : List ℕ) (tables : List (List ℕ)) (n a b c d : 
 unfolding after_bytes
 after_word generator tables n a b c d is_word byte_a byte_b byte_c byte_d are = sym (fourth ∙ turned r4 (t 0 f0) (t 1 f1) (t 2 f2) (t 3 f3))
   where
+    -- the first table
     table : List ℕ
     table = get_or tables 0 []
 
+    -- the entry of a factor in the table with number k
     t : ℕ → ℕ → ℕ
     t k factor = get_or (get_or tables k []) factor 0
 
+    -- the register shifted by one byte, and below by two, three and four
     r1 : ℕ
     r1 = n * 2 ^ 8 % 2 ^ 128
 
@@ -91,6 +94,7 @@ after_word generator tables n a b c d is_word byte_a byte_b byte_c byte_d are = 
     r4 : ℕ
     r4 = n * 2 ^ 32 % 2 ^ 128
 
+    -- the factors: the bytes that leave the register, from the first on, each plus the byte that comes
     f3 : ℕ
     f3 = plus (n / 2 ^ 120) a
 
@@ -103,6 +107,7 @@ after_word generator tables n a b c d is_word byte_a byte_b byte_c byte_d are = 
     f0 : ℕ
     f0 = plus (n / 2 ^ 96 % 256) d
 
+    -- the first three of them are bytes
     byte_f3 : f3 < 256
     byte_f3 = plus-byte (n / 2 ^ 120) a (omega arith) byte_a
 
@@ -112,6 +117,7 @@ after_word generator tables n a b c d is_word byte_a byte_b byte_c byte_d are = 
     byte_f1 : f1 < 256
     byte_f1 = plus-byte (n / 2 ^ 104 % 256) c (omega arith) byte_c
 
+    -- the entries of the tables are numbers of 128 bits, and so are sums of such
     word_0 : (factor : ℕ) → t 0 factor < 2 ^ 128
     word_0 factor = are.words factor
 
@@ -124,31 +130,38 @@ after_word generator tables n a b c d is_word byte_a byte_b byte_c byte_d are = 
     sum_word : (x y : ℕ) → x < 2 ^ 128 → y < 2 ^ 128 → plus x y < 2 ^ 128
     sum_word x y word_x word_y = xor_lt 128 x y word_x word_y
 
+    -- a step of a shifted register to which entries were added
     step : (r e byte next factor later : ℕ) → r < 2 ^ 128 → e < 2 ^ 128 → byte < 256
         → r * 2 ^ 8 % 2 ^ 128 ≡ next → plus (r / 2 ^ 120) byte ≡ factor → after_byte table e 0 ≡ later
         → after_byte table (plus r e) byte ≡ plus next (plus (t 0 factor) later)
     step r e byte next factor later word_r word_e is_byte shifted leaves left =
         next_sum generator table r e byte next factor later word_r word_e is_byte are.words are.multiples shifted leaves left
 
+    -- the register after one byte
     first : after_byte table n a ≡ plus r1 (t 0 f3)
     first = after_byte-is table n a
 
+    -- after two bytes
     second : after_byte table (after_byte table n a) b ≡ plus r2 (plus (t 0 f2) (t 1 f3))
     second = rw first
         (step r1 (t 0 f3) b r2 f2 (t 1 f3) (omega arith) (word_0 f3) byte_b (omega arith) (ap (λ m. plus m b) (omega arith)) (sym (are.one f3 byte_f3)))
 
+    -- what is left of the entries of two bytes
     later2 : after_byte table (plus (t 0 f2) (t 1 f3)) 0 ≡ plus (t 1 f2) (t 2 f3)
     later2 = later_sum generator table (t 0 f2) (t 1 f3) (t 1 f2) (t 2 f3) (word_0 f2) (word_1 f3 byte_f3) are.words are.multiples (sym (are.one f2 byte_f2)) (sym (are.two f3 byte_f3))
 
+    -- after three bytes
     third : after_byte table (after_byte table (after_byte table n a) b) c ≡ plus r3 (plus (t 0 f1) (plus (t 1 f2) (t 2 f3)))
     third = rw second
         (step r2 (plus (t 0 f2) (t 1 f3)) c r3 f1 (plus (t 1 f2) (t 2 f3)) (omega arith) (sum_word (t 0 f2) (t 1 f3) (word_0 f2) (word_1 f3 byte_f3)) byte_c (omega arith) (ap (λ m. plus m c) (omega arith)) later2)
 
+    -- what is left of the entries of three bytes
     later3 : after_byte table (plus (t 0 f1) (plus (t 1 f2) (t 2 f3))) 0 ≡ plus (t 1 f1) (plus (t 2 f2) (t 3 f3))
     later3 = later_sum generator table (t 0 f1) (plus (t 1 f2) (t 2 f3)) (t 1 f1) (plus (t 2 f2) (t 3 f3)) (word_0 f1) (sum_word (t 1 f2) (t 2 f3) (word_1 f2 byte_f2) (word_2 f3 byte_f3)) are.words are.multiples
         (sym (are.one f1 byte_f1))
         (later_sum generator table (t 1 f2) (t 2 f3) (t 2 f2) (t 3 f3) (word_1 f2 byte_f2) (word_2 f3 byte_f3) are.words are.multiples (sym (are.two f2 byte_f2)) (sym (are.three f3 byte_f3)))
 
+    -- after four bytes
     fourth : after_byte table (after_byte table (after_byte table (after_byte table n a) b) c) d ≡ plus r4 (plus (t 0 f0) (plus (t 1 f1) (plus (t 2 f2) (t 3 f3))))
     fourth = rw third
         (step r3 (plus (t 0 f1) (plus (t 1 f2) (t 2 f3))) d r4 f0 (plus (t 1 f1) (plus (t 2 f2) (t 3 f3))) (omega arith)
@@ -186,7 +199,8 @@ word_read generator tables n bytes (a ∷ b ∷ c ∷ []) rest is_word size smal
 word_read generator tables n bytes (a ∷ b ∷ c ∷ d ∷ e ∷ others) rest is_word size small are_bytes are = absurd (omega arith)
 
 -- the words that are left begin with this one
-pub words_left : (words : List (List ℕ)) (i : ℕ) (word rest : List ℕ) → i < length words → word ≡ get_or words i [] → concat (drop i words) ++ rest ≡ word ++ (concat (drop (i + 1) words) ++ rest)
+pub words_left : (words : List (List ℕ)) (i : ℕ) (word rest : List ℕ) → i < length words → word ≡ get_or words i []
+    → concat (drop i words) ++ rest ≡ word ++ (concat (drop (i + 1) words) ++ rest)
 words_left words i word rest inside is =
     ap (λ l. concat l ++ rest) (drop-cons words i [] inside) ∙ rw (is, add-one) (append_assoc (get_or words i []) (concat (drop (suc i) words)) rest)
 

@@ -5,6 +5,7 @@ use Rattle.gf_field.specs.Field.{alpha, power}
 use Rattle.rs_code.specs.Polynomials.{HasRoots}
 use Rattle.rs_code.proofs.division.generator.Given as goal
 
+-- as many roots as turns, and the next root at hand
 abbrev pub invariant-loop-k : goal.invariant-loop-k
 invariant-loop-k l = record {
   root_is : l.root ≡ power alpha l._k;

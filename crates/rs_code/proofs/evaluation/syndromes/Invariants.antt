@@ -4,6 +4,7 @@ use Rattle.arrayvec.specs.ArrayVec.{array_vec_len}
 use Rattle.rs_code.specs.Syndromes.{syndromes_of}
 use Rattle.rs_code.proofs.evaluation.syndromes.Given as goal
 
+-- the syndromes so far
 abbrev pub invariant-loop-k : goal.invariant-loop-k
 invariant-loop-k l = record {
   filled : array_vec_len l.syndromes ≡ l.k;
