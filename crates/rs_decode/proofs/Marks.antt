@@ -107,7 +107,8 @@ place_of_mark-at (false ∷ marks) (suc place) below is =
     ap (λ i. suc (place_of_mark marks i)) (zero-add (marked (take place marks))) ∙ ap suc (place_of_mark-at marks place (omega arith) is)
 
 -- a place that is written behind those of the marks in front of it stays where it is marked itself
-pub ArePlaces-next : (marks : List Bool) (place count : ℕ) (places : List ℕ) → place < length marks → count < length places → count ≡ marked (take place marks) → ArePlaces marks count places
+pub ArePlaces-next : (marks : List Bool) (place count : ℕ) (places : List ℕ) → place < length marks → count < length places → count ≡ marked (take place marks)
+    → ArePlaces marks count places
     → (mark : Bool) → get_or marks place false ≡ mark → ArePlaces marks (count + bool_byte mark) (set places count place)
 ArePlaces-next marks place count places below room counted before true is = λ i inside. elim (cases_eq i count) [
   | inl same ↦ get_or-set_at places count i place 0 same room ∙ sym (place_of_mark-at marks place below is) ∙ ap (place_of_mark marks) (sym counted ∙ sym same)

@@ -31,7 +31,8 @@ distances-push (b ∷ others) a x =
     ap (product (plus x b)) (distances-push others a x) ∙ sym (product-assoc (plus x b) (distances others x) (plus x a))
 
 -- one point more is one factor more for each byte
-pub at_points-push : (others : List ℕ) (a : ℕ) (bytes points : List ℕ) → at_points (distances (others ++ a ∷ [])) bytes points ≡ shifted_by a (at_points (distances others) bytes points) points
+pub at_points-push : (others : List ℕ) (a : ℕ) (bytes points : List ℕ) → at_points (distances (others ++ a ∷ [])) bytes points
+    ≡ shifted_by a (at_points (distances others) bytes points) points
 unfolding at_points shifted_by
 at_points-push others a [] points = refl
 at_points-push others a (byte ∷ bytes) [] = refl
@@ -121,7 +122,8 @@ distances-apart (a ∷ others) x byte_x all apart is_zero =
     ]
 
 -- the point of an unmarked place is none of the marked ones
-picked-apart : (marks : List Bool) (points : List ℕ) (k : ℕ) → AreDistinct points → k < length points → get_or marks k false ≡ false → All (λ a. get_or points k 0 ≢ a) (picked marks points)
+picked-apart : (marks : List Bool) (points : List ℕ) (k : ℕ) → AreDistinct points → k < length points → get_or marks k false ≡ false
+    → All (λ a. get_or points k 0 ≢ a) (picked marks points)
 unfolding picked AreDistinct
 picked-apart [] points k distinct inside clear = All-nil (λ a. get_or points k 0 ≢ a)
 picked-apart (mark ∷ marks) [] k distinct inside clear = absurd (omega arith)

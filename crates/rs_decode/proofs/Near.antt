@@ -12,7 +12,8 @@ marked_costs : (x y d first second : ℕ) → 2 * d ≤ first + second → 2 * (
 marked_costs x y d first second rest = grind (arith, nat_tests)
 
 -- two words that differ at an unmarked place can't both be free of cost there
-unmarked_costs : (x y got d first second : ℕ) → 2 * d ≤ first + second → 2 * ((if x == y then 0 else 1) + d) ≤ (if x == got then 0 else 2) + first + ((if y == got then 0 else 2) + second)
+unmarked_costs : (x y got d first second : ℕ) → 2 * d ≤ first + second
+    → 2 * ((if x == y then 0 else 1) + d) ≤ (if x == got then 0 else 2) + first + ((if y == got then 0 else 2) + second)
 unmarked_costs x y got d first second rest = grind (arith, nat_tests)
 
 -- where two words differ, they cost at least two together
@@ -66,7 +67,8 @@ filling_once n r received marks a b short marks_size filling_a filling_b =
     IsCodeword-close n r a b short filling_a.codeword filling_b.codeword (omega (arith, filling_a.within))
 
 -- a word that agrees at all unmarked places costs one for each marked place
-cost-unmarked : (word received : List ℕ) (marks : List Bool) → length word ≡ length marks → length received ≡ length marks → AgreeUnmarked marks received word → cost word received marks ≡ marked marks
+cost-unmarked : (word received : List ℕ) (marks : List Bool) → length word ≡ length marks → length received ≡ length marks
+    → AgreeUnmarked marks received word → cost word received marks ≡ marked marks
 unfolding cost marked
 cost-unmarked [] received [] size received_size agree = refl
 cost-unmarked [] received (mark ∷ marks) size received_size agree = absurd (omega arith)

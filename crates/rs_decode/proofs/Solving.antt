@@ -82,7 +82,8 @@ shifted_by-from_places point (byte ∷ bytes) (other ∷ others) (x ∷ old) siz
     cc (divided 0 (omega arith), rest)
 
 -- the sums of all but the first byte, whose distance to its own point is 0
-taken_sum : (point byte : ℕ) (bytes others : List ℕ) (k : ℕ) → power_sum (shifted_by point (byte ∷ bytes) (point ∷ others)) (point ∷ others) k ≡ power_sum (shifted_by point bytes others) others k
+taken_sum : (point byte : ℕ) (bytes others : List ℕ) (k : ℕ) → power_sum (shifted_by point (byte ∷ bytes) (point ∷ others)) (point ∷ others) k
+    ≡ power_sum (shifted_by point bytes others) others k
 unfolding power_sum shifted_by
 taken_sum point byte bytes others k = simp (plus-self, product-zero, zero-product, zero-plus)
 
