@@ -1,14 +1,14 @@
 -- Words cut into pieces of one size that are added up (length-folded, get_or-folded_zero, get_or-folded_suc, value-folded), zeros
 -- in front of a word (behind_zeros, zeros_in_front), and the thirds of words in 32 lanes (third-zero, third-one, third-two,
 -- each_of_three, HasThirds with thirds_more, thirds_bytes, thirds_told).
-use Rattle.std.proofs.Common.{◌≡◌, ℕ, zero, suc, ◌+◌, ◌-◌, ◌*◌, ◌/◌, ◌%◌, ◌<◌, ◌≤◌, List, [], length, get_or, set, take, drop, replicate, All, refl, sym, ap, subst, ◌∙◌, inl, inr, arith, length-append, length-drop, length-take-le, length-set, get_or-take, get_or-drop, get_or-set_other}
+use Rattle.std.proofs.Common.{◌≡◌, ℕ, zero, suc, ◌+◌, ◌-◌, ◌*◌, ◌/◌, ◌%◌, ◌<◌, ◌≤◌, List, [], length, get_or, set, take, drop, replicate, All, refl, sym, ap, subst, ◌∙◌, inl, inr, arith, length-append, length-take-le, length-set, get_or-take, get_or-drop, get_or-set_other}
 use Rattle.std.proofs.Math.ListN.{get_or-map}
 use Rattle.std.proofs.Math.Seq.{take-add, take-length}
 use Rattle.std.proofs.lemmas.Bool.{cases_eq}
 use Rattle.std.proofs.lemmas.Grind.{get_or-set_at, same_number_lists}
 use Rattle.std.proofs.lemmas.List.Elements.{All-from_get_or}
 use Rattle.std.proofs.lemmas.List.{length-map, get_or_append_left, get_or-append_right}
-use Rattle.std.proofs.lemmas.Simd.{length-replicate, get_or-replicate}
+use Rattle.std.proofs.lemmas.Simd.{length-chunk, length-replicate, get_or-replicate}
 use Rattle.gf_field.specs.Field.{alpha, plus, shift, shifted, partial_product, product, power}
 use Rattle.gf_field.specs.Words.{IsByte, value}
 use Rattle.gf_field.proofs.FieldLaws.{plus-byte, plus-product, product-plus, product-comm, product-assoc, one-product, power-zero, power-mul, power-alpha-mod, power-alpha-shifted, zero-product, zero-plus}
@@ -19,10 +19,6 @@ use Rattle.rs_lanes.specs.Rows.{line, place}
 use Rattle.rs_lanes.specs.Inner.Lanes.{HasLanes}
 use Rattle.rs_lanes.specs.Inner.Thirds.{behind_zeros, folded, third_byte, third, IsThird}
 
--- a piece has its size
-length-piece : (size at : ℕ) (word : List ℕ) → at + size ≤ length word → length (take size (drop at word)) ≡ size
-length-piece size at word fits = length-take-le size (drop at word) (omega (arith, length-drop at word))
-
 -- pieces that are added up have the size of one
 pub length-folded : (size factor : ℕ) (word : List ℕ) (i : ℕ) → size * i + size ≤ length word → length (folded size factor word i) ≡ size
 unfolding folded
@@ -31,7 +27,7 @@ length-folded size factor word (suc i) fits =
     let more : size * suc i ≡ size * i + size = omega arith in
     let before = length-folded size factor word i (omega arith) in
     let as_long : length (scaled factor (folded size factor word i)) ≡ size = length-scaled factor (folded size factor word i) ∙ before in
-    length-sum_of (scaled factor (folded size factor word i)) (take size (drop (size * suc i) word)) (as_long ∙ sym (length-piece size (size * suc i) word fits)) ∙ as_long
+    length-sum_of (scaled factor (folded size factor word i)) (take size (drop (size * suc i) word)) (as_long ∙ sym (length-chunk (size * suc i) size word fits)) ∙ as_long
 
 -- a place of the first piece
 pub get_or-folded_zero : (size factor : ℕ) (word : List ℕ) (q : ℕ) → q < size → get_or (folded size factor word 0) q 0 ≡ get_or word q 0
@@ -46,7 +42,7 @@ get_or-folded_suc size factor word i q below fits =
     let more : size * suc i ≡ size * i + size = omega arith in
     let before = length-folded size factor word i (omega arith) in
     let as_long : length (scaled factor (folded size factor word i)) ≡ size = length-scaled factor (folded size factor word i) ∙ before in
-    get_or-sum_of (scaled factor (folded size factor word i)) (take size (drop (size * suc i) word)) q (as_long ∙ sym (length-piece size (size * suc i) word fits))
+    get_or-sum_of (scaled factor (folded size factor word i)) (take size (drop (size * suc i) word)) q (as_long ∙ sym (length-chunk (size * suc i) size word fits))
     ∙ rw (get_or-scaled factor (folded size factor word i) q, get_or-take size (drop (size * suc i) word) q 0 below, get_or-drop (size * suc i) word q 0) refl
 
 -- a place after one step more, as a step of Horner's rule has it
@@ -69,7 +65,7 @@ value-folded size x word (suc i) fits =
     let before = folded size factor word i in
     let piece = take size (drop at word) in
     let as_long : length (scaled factor before) ≡ size = length-scaled factor before ∙ length-folded size factor word i (omega arith) in
-    let long : length piece ≡ size = length-piece size at word fits in
+    let long : length piece ≡ size = length-chunk at size word fits in
     let same : value before x ≡ value (take at word) x = value-folded size x word i (omega arith) ∙ ap (λ n. value (take n word) x) more in
     value-sum_of (scaled factor before) piece x (as_long ∙ sym long)
     ∙ ap (λ v. plus v (value piece x)) (value-scaled factor before x ∙ ap (product factor) same ∙ product-comm factor (value (take at word) x)
