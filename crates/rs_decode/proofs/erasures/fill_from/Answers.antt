@@ -29,7 +29,7 @@ pub solve-requires-clause-distinct : goal.solve-requires-clause-distinct
 solve-requires-clause-distinct g c =
     marked_points-distinct c.args.erasures.now.marks c.deref-2.result.now (omega (arith, c.args.code.now.bounds)) (c.deref-2.ensures.0 ∙ c.args.erasures.now.gathered)
 
--- as many as points
+-- there are as many sums as points
 sums-fit : (g : _) (c : After-deref_mut g) → length c.deref_mut.result.now ≡ length c.args.erasures.now.points.items
 sums-fit g c =
     let few : c.len-count.result ≤ g.row.R = omega (arith, points-few c.args.erasures.now.marks c.args.erasures.now.points.items c.args.erasures.now.gathered, c.len-count.ensures.value, c.if-count.false) in
@@ -48,7 +48,7 @@ pub patch-requires-clause-fits : goal.patch-requires-clause-fits
 patch-requires-clause-fits g c =
     ap length (corrected g (goal.at.patch-requires-clause-fits g c).After-deref-4) ∙ c.solve.ensures.size ∙ sums-fit g (goal.at.patch-requires-clause-fits g c).After-deref_mut ∙ ap length (sym c.deref-3.ensures.0)
 
--- the points are those of the marked places
+-- the bytes are added at the marked places, since the points are theirs
 patched_word : (g : _) (c : After-patch g) → c.patch.new.word ≡ patched c.args.word.now c.args.erasures.now.marks c.deref-4.result.now
 patched_word g c = c.patch.ensures.patched c.args.erasures.now.marks (c.args.erasures.now.size ∙ sym c.told-word) (c.deref-3.ensures.0 ∙ c.args.erasures.now.gathered)
 

@@ -11,7 +11,7 @@ use Rattle.rs_lanes.proofs.columns.put_thirds.Goals as goal
 short : {A : Type 0} (word : A → List ℕ) (rows : List A) (j : ℕ) → length rows ≤ 208 → length (column (map word rows) j) ≤ 208
 short word rows j few = omega (arith, length-column (map word rows) j, length-map rows word)
 
--- and 47 zeros are all places
+-- filled up with zeros, and with 47 in front, it has 255 places
 whole : {A : Type 0} (word : A → List ℕ) (rows : List A) (j : ℕ) → length rows ≤ 208 → 47 + length (filled 208 (column (map word rows) j)) ≡ 255
 whole word rows j few = omega (arith, length-filled 208 (column (map word rows) j) (short word rows j few))
 
