@@ -57,7 +57,7 @@ plus_front_ending (suc n) number (x ∷ rest) below =
     let half : number / 2 < 2 ^ n = omega (arith, pow-suc 2 n) in
     ap (λ (l : List ℕ). bit_xor x (number % 2) ∷ l) (plus_front_ending n (number / 2) rest half)
 
--- the bit above a number's 31 is a zero
+-- a number below 2^31 adds the same by 32 bits as by 31
 pub plus_front_halved : (rest : List ℕ) (number : ℕ) → number < 2 ^ 31 → plus_front rest (bits 32 number) ≡ plus_front rest (bits 31 number)
 plus_front_halved rest number below = plus_front_ending 31 number rest below
 

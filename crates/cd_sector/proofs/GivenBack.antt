@@ -36,7 +36,7 @@ p_near sector read word below right wrong =
           };
     }
 
--- a byte of a word that two sectors have in common
+-- two sectors that have a word in common have each byte of it in common
 pub by_word : (a b : List ℕ) (word m : ℕ) → m < word_size word → word_in a word ≡ word_in b word → get_or a (place word m) 0 ≡ get_or b (place word m) 0
 by_word a b word m within same =
     sym (get_or-word_in a word m within) ∙ ap (λ (l : List ℕ). get_or l m 0) same ∙ get_or-word_in b word m within
@@ -95,7 +95,7 @@ q_near sector read word j size above below right found first second =
     word_long : word_size word ≡ 45
     word_long = word_size-q word above
 
-    -- the P word of a byte on the diagonal
+    -- the P word of each byte on the diagonal but one is found
     found_at : (m : ℕ) → m < 43 → m ≢ j → IsFound sector read ((place word m - 12) % 86)
     found_at m covered other = subst (IsFound sector read) (sym (p_of_q word m above covered)) (found m covered other)
 
@@ -118,7 +118,7 @@ q_near sector read word j size above below right found first second =
         marked m (is_lost read ((place word m - 12) % 86)) covered ∙ not_lost sector read ((place word m - 12) % 86) (found_at m covered other)
     mark m (inr from) other = unmarked m (is_lost read ((place word m - 12) % 86)) from
 
--- a Q word of a half whose damage is borne
+-- a Q word of a half whose damage is borne is found
 q_borne : (sector read : List ℕ) (word : ℕ) → length read ≡ 2352 → ((k : ℕ) → k < 138 → IsRight sector k) → 86 ≤ word → word < 138 → IsBorne (word % 2) sector read
     → near_word (with_p_words read 86) word (marks_of read word) ≡ Some (word_in sector word)
 q_borne sector read word size right above below (inl scattered) = either (scattered.q_words word above below refl)
@@ -139,7 +139,7 @@ q_borne sector read word size right above below (inr (bad, burst)) =
     (burst.p_words (2 * m + word % 2) (omega arith) (omega arith) (λ is. other (omega (arith, is)))))
     (λ _. burst.first_own word above below refl) (λ _. burst.second_own word above below refl)
 
--- a half is one of two
+-- where the damage of both halves is borne, that of either is
 of_half : (sector read : List ℕ) (half : ℕ) → half < 2 → IsBorne 0 sector read → IsBorne 1 sector read → IsBorne half sector read
 of_half sector read half below low high = either (cases_lt half 1)
   where

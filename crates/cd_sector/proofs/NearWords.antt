@@ -16,7 +16,7 @@ use Rattle.cd_sector.specs.Repair.{with_bytes, with_word, near_word, is_lost, wi
 use Rattle.cd_sector.specs.Sector.{sync}
 use Rattle.cd_sector.specs.declared.checking.CdCause.{CdCause}
 use Rattle.cd_sector.specs.Words.{place, word_size, word_in}
-use Rattle.cd_sector.proofs.Places.{whole_word, length-word_in, get_or-word_in}
+use Rattle.cd_sector.proofs.Places.{same_word, length-word_in}
 use Rattle.cd_sector.proofs.Spread.{apart-p}
 
 -- one byte more
@@ -30,7 +30,7 @@ pub with_bytes-none : (sector : List ℕ) (word : ℕ) (bytes : List ℕ) → se
 unfolding with_bytes
 with_bytes-none sector word bytes = refl
 
--- a place where no byte of the word stands
+-- setting bytes of a word leaves a place where none of them stands
 with_bytes-other : (sector : List ℕ) (word : ℕ) (bytes : List ℕ) (count at : ℕ) → ((m : ℕ) → m < count → at ≢ place word m)
     → get_or (with_bytes sector word bytes count) at 0 ≡ get_or sector at 0
 unfolding with_bytes
@@ -46,13 +46,6 @@ unfolding with_word
 with_word-other sector word None at apart = refl
 with_word-other sector word (Some bytes) at apart = with_bytes-other sector word bytes (word_size word) at apart
 
--- a word all of whose bytes are as they were
-pub same_word : (old new : List ℕ) (word : ℕ) → ((m : ℕ) → m < word_size word → get_or new (place word m) 0 ≡ get_or old (place word m) 0)
-    → word_in new word ≡ word_in old word
-same_word old new word kept =
-    sym (whole_word new word (word_in old word) (length-word_in old word)
-    (λ m below. let within : m < word_size word = omega (arith, length-word_in old word) in get_or-word_in old word m within ∙ sym (kept m within)))
-
 -- P words that weren't repaired yet are as they were
 pub later_p : (sector : List ℕ) (n word : ℕ) → n ≤ word → word < 86 → word_in (with_p_words sector n) word ≡ word_in sector word
 unfolding with_p_words
@@ -63,7 +56,7 @@ later_p sector (suc n) word from below =
     (λ m _. with_word-other before n (near_word before n (replicate 26 false)) (place word m) (λ k _. apart-p word n m k below (omega arith) (omega arith)))
     ∙ later_p sector n word (omega arith) below
 
--- so one of them is lost where it was
+-- so a P word is lost when its turn comes if and only if it was lost as read
 pub lost_then : (sector : List ℕ) (word : ℕ) → word < 86 → is_none (near_word (with_p_words sector word) word (replicate 26 false)) ≡ is_lost sector word
 unfolding near_word is_lost
 lost_then sector word below =
@@ -101,7 +94,7 @@ short : (word : ℕ) → word_size word ≤ 255
 unfolding word_size
 short word = grind (arith, nat_tests)
 
--- what the decoder finds is the codeword near the word that was read
+-- a codeword that is near a word of a sector is the one that is found
 pub near_found : (n word : ℕ) (sector bytes found : List ℕ) (marks : List Bool) → n ≡ word_size word → bytes ≡ word_in sector word
     → IsNear n 2 bytes marks found → near_word sector word marks ≡ Some found
 unfolding near_word
@@ -109,7 +102,7 @@ near_found n word sector bytes found marks size is near =
     ap₂ (λ (k : ℕ) (l : List ℕ). near_of k 2 l marks) (sym size) (sym is)
     ∙ near_of-some n 2 bytes found marks (omega (arith, short word)) near
 
--- where the decoder shows that no codeword is near, there is none to be found
+-- where no codeword is near a word of a sector, none is found
 pub near_none : (n word : ℕ) (sector bytes : List ℕ) (marks : List Bool) → n ≡ word_size word → bytes ≡ word_in sector word
     → length marks ≡ n → HasNoneNear n 2 bytes marks → near_word sector word marks ≡ None
 unfolding near_word
@@ -125,7 +118,7 @@ marked m lost below = grind (arith, nat_tests)
 pub unmarked : (m : ℕ) (lost : Bool) → 43 ≤ m → (nat_lt m 43 && lost) ≡ false
 unmarked m lost above = grind (arith, nat_tests)
 
--- marks that are told by the table of the P words that are lost
+-- marks that follow the table of lost P words are those of the definition
 pub marks_told : (read : List ℕ) (word : ℕ) (lost marks : List Bool) → length marks ≡ 45 → ((p : ℕ) → p < 86 → get_or lost p false ≡ is_lost read p)
     → ((m : ℕ) → m < 43 → get_or marks m false ≡ get_or lost ((place word m - 12) % 86) false) → ((m : ℕ) → 43 ≤ m → get_or marks m false ≡ false)
     → marks ≡ marks_of read word
@@ -152,7 +145,7 @@ no_mark zero m = refl
 no_mark (suc n) zero = refl
 no_mark (suc n) (suc m) = no_mark n m
 
--- the repaired sector, put together
+-- a sync, and behind it what the two passes leave, are the repaired sector
 pub repaired_is : (read front p_repaired whole : List ℕ) (lost : List Bool) → front ≡ sync → p_repaired ≡ with_p_words read 86
     → ((p : ℕ) → p < 86 → get_or lost p false ≡ is_lost read p)
     → ((was : List ℕ) → ((p : ℕ) → p < 86 → get_or lost p false ≡ is_lost was p) → whole ≡ with_q_words was p_repaired 52)
@@ -161,7 +154,7 @@ unfolding repaired
 repaired_is read front p_repaired whole lost front_is p_is lost_are q_is =
     ap₂ (λ (f w : List ℕ). f ++ drop 12 w) front_is (q_is read lost_are ∙ ap (λ (l : List ℕ). with_q_words read l 52) p_is)
 
--- an error of this cause
+-- what holds of a cause holds of the error of an answer that has this cause
 pub refused : {A : Type 0} (answer : Result A CdCause) (P : CdCause → Type 0) (cause : CdCause) → IsErrAnd answer (λ e. e ≡ cause) → P cause → IfErr answer P
 refused (Ok value) P cause is holds = absurd is
 refused (Err e) P cause is holds = subst P (sym is) holds

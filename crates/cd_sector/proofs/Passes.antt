@@ -6,8 +6,8 @@ use Rattle.std.proofs.lemmas.List.{length-set, get_or-set_same, get_or-set_other
 use Rattle.rs_decode.specs.Nearest.{near_of}
 use Rattle.cd_sector.specs.Repair.{with_bytes, with_word, near_word, with_p_words, marks_of, with_q_words}
 use Rattle.cd_sector.specs.Words.{place, word_size, word_in}
-use Rattle.cd_sector.proofs.Places.{whole_word, place-p, word_size-p}
-use Rattle.cd_sector.proofs.NearWords.{with_word-other, same_word, later_p}
+use Rattle.cd_sector.proofs.Places.{whole_word, same_word, place-p, word_size-p}
+use Rattle.cd_sector.proofs.NearWords.{with_word-other, later_p}
 use Rattle.cd_sector.proofs.Spread.{apart-p, apart-qq, distinct, place-inside}
 
 -- bytes that are set leave the sector's length
@@ -63,7 +63,7 @@ length-with_p_words read zero = refl
 length-with_p_words read (suc n) =
     length-with_word (with_p_words read n) n (near_word (with_p_words read n) n (replicate 26 false)) ∙ length-with_p_words read n
 
--- bytes that are in no P word
+-- bytes that are in no P word stay as they were read
 pub beside_p : (read : List ℕ) (n at : ℕ) → n ≤ 86 → (at < 12) ⊎ (2248 ≤ at) → get_or (with_p_words read n) at 0 ≡ get_or read at 0
 unfolding with_p_words
 beside_p read zero at within beside = refl

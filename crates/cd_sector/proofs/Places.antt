@@ -51,12 +51,15 @@ whole_word sector word bytes size each =
     same_number_lists bytes (word_in sector word) (omega (arith, length-word_in sector word))
     (λ m below. each m below ∙ sym (get_or-word_in sector word m (omega arith)))
 
--- a word all of whose bytes are as they were
+-- a word all of whose bytes are as they were is as it was
+pub same_word : (old new : List ℕ) (word : ℕ) → ((m : ℕ) → m < word_size word → get_or new (place word m) 0 ≡ get_or old (place word m) 0)
+    → word_in new word ≡ word_in old word
+same_word old new word kept =
+    sym (whole_word new word (word_in old word) (length-word_in old word)
+    (λ m below. let within : m < word_size word = omega (arith, length-word_in old word) in get_or-word_in old word m within ∙ sym (kept m within)))
+
+-- so it is right where it was
 pub kept_right : (old new : List ℕ) (word : ℕ) → ((m : ℕ) → m < word_size word → get_or new (place word m) 0 ≡ get_or old (place word m) 0)
     → IsRight old word → IsRight new word
 unfolding IsRight
-kept_right old new word kept right =
-    subst (IsCodeword (word_size word) 2)
-    (whole_word new word (word_in old word) (length-word_in old word)
-    (λ m below. let within : m < word_size word = omega (arith, length-word_in old word) in get_or-word_in old word m within ∙ sym (kept m within)))
-    right
+kept_right old new word kept right = subst (IsCodeword (word_size word) 2) (sym (same_word old new word kept)) right

@@ -172,7 +172,7 @@ bytes-covered address user below bytes =
     (All-append IsByte (header address ++ 0x01 ∷ []) user
     (four_bytes (digits (address / 4500)) (digits (address / 75 % 60)) (digits (address % 75)) 0x01 (omega arith) (omega arith) (omega arith) (omega arith)) bytes)
 
--- each address and user data have a sector
+-- each address below 450,000 and 2,048 bytes of user data have a sector
 pub some_sector : (address : ℕ) (user : List ℕ) → address < 450000 → length user ≡ 2048 → All IsByte user → (sector : List ℕ) × IsSector address user sector
 unfolding data_part
 some_sector address user below size bytes = (

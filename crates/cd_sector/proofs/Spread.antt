@@ -8,7 +8,7 @@ use Rattle.cd_sector.proofs.Places.{word_size-p, word_size-q, place-p, place-q, 
 pub apart-p : (v word m k : ℕ) → v < 86 → word < 86 → v ≢ word → place v m ≢ place word k
 apart-p v word m k v_below below other same = other (omega (arith, same, place-p v m v_below, place-p word k below))
 
--- the parity bytes of Q words stand behind all that the words cover
+-- what Q words cover stands before their parity
 pub covered-q : (word m : ℕ) → 86 ≤ word → m < 43 → place word m < 2248
 covered-q word m above below = omega (arith, place-q word m above below)
 
@@ -79,15 +79,15 @@ place-inside word m below within = either (cases_lt word 86)
     either (inl p) = (omega (arith, place-p word m p), omega (arith, place-p word m p, word_size-p word p))
     either (inr q) = of_q q (cases_lt m 43)
 
--- where a byte stands in its P word
+-- a byte stands at this place of its P word
 pub p_place : (at : ℕ) → 12 ≤ at → place ((at - 12) % 86) ((at - 12) / 86) ≡ at
 p_place at behind = omega (arith, place-p ((at - 12) % 86) ((at - 12) / 86) (omega arith))
 
--- a byte's Q word, and where it stands there
+-- the number of the Q word that a byte before the Q parity stands in
 unfoldable pub q_word : ℕ → ℕ
 q_word at = 86 + 2 * (((at - 12) / 86 + 52 - (at - 12) / 2 % 43) % 26) + at % 2
 
--- a byte before the Q parity stands at this place of this Q word
+-- a byte before the Q parity stands at this place of its Q word
 pub q_place : (at : ℕ) → 12 ≤ at → at < 2248 → place (q_word at) ((at - 12) / 2 % 43) ≡ at
 unfolding q_word
 q_place at behind before =

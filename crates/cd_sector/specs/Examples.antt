@@ -10,11 +10,11 @@ edc-80 : edc_of (0x80 ∷ []) ≡ 0x01 ∷ 0x80 ∷ 0x01 ∷ 0xD8 ∷ []
 unfolding edc_of remainder plus_front bits_of bits number_of
 edc-80 = refl
 
--- the first sector behind the pause of two seconds, and the last of all
+-- the first sector behind the pause of two seconds: minute 0, second 2, frame 0
 header-150 : header 150 ≡ 0x00 ∷ 0x02 ∷ 0x00 ∷ []
 header-150 = refl
 
--- minute 99, second 59, sector 74
+-- the last sector of all: minute 99, second 59, frame 74
 header-last : header 449999 ≡ 0x99 ∷ 0x59 ∷ 0x74 ∷ []
 header-last = refl
 

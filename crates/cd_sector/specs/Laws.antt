@@ -25,13 +25,13 @@ pub record IsScattered (half : ℕ) (sector read : List ℕ) : Type 0 where
   pub p_words : (word : ℕ) → word < 86 → IsOfHalf half word → HasAtMostOneWrong sector read word
   pub q_words : (word : ℕ) → 86 ≤ word → word < 138 → IsOfHalf half word → HasRightByte sector read word 43 ⊎ HasRightByte sector read word 44
 
--- In one half one P word may be all wrong, each other has at most one wrong byte, and the last two bytes of each Q word are right.
+-- In one half one P word may be all wrong, each other has at most one wrong byte, and each Q word's last two bytes are right.
 pub record IsBurst (half bad : ℕ) (sector read : List ℕ) : Type 0 where
   pub p_words : (word : ℕ) → word < 86 → IsOfHalf half word → word ≢ bad → HasAtMostOneWrong sector read word
   pub first_own : (word : ℕ) → 86 ≤ word → word < 138 → IsOfHalf half word → HasRightByte sector read word 43
   pub second_own : (word : ℕ) → 86 ≤ word → word < 138 → IsOfHalf half word → HasRightByte sector read word 44
 
--- one of the two
+-- a half is damaged in one of these two ways, if at all
 abbrev pub IsBorne : ℕ → List ℕ → List ℕ → Type 0
 IsBorne half sector read = IsScattered half sector read ⊎ ((bad : ℕ) × IsBurst half bad sector read)
 
@@ -54,7 +54,7 @@ SectorIsOnlyOne = (address : ℕ) (user a b : List ℕ) → IsSector address use
 abbrev pub FaultlessHasNoCause : Type 0
 FaultlessHasNoCause = (sector : List ℕ) (address : ℕ) (cause : CdCause) → IsFaultless sector address → IsCause sector address cause → ⊥
 
--- and one, if the user data are 2,048 bytes
+-- an address below 450,000 and 2,048 bytes of user data have a sector
 abbrev pub SomeSector : Type 0
 SomeSector =
     (address : ℕ) (user : List ℕ) → address < 450000 → length user ≡ 2048 → All IsByte user → (sector : List ℕ) × IsSector address user sector

@@ -12,13 +12,13 @@ use thiserror::Error;
 /// Why a sector isn't right.
 #[derive(Clone, Copy, Debug, PartialEq, Eq, Error)]
 pub enum CdCause {
-    /// Words aren't codewords, of which this has the least number.
+    /// Words aren't codewords, of which this has the least number: P words are 0 to 85, Q words 86 to 137.
     #[error("parity {word}")]
     Parity { word: u16 },
     /// Another mode than 1.
     #[error("mode {byte}")]
     Mode { byte: u8 },
-    /// Another address: minute, second and frame, the minute highest.
+    /// Another address: its bytes of minute, second and frame as they were read, the minute highest.
     #[error("address found {found}")]
     Address { found: u32 },
     /// The EDC is wrong.
@@ -27,7 +27,7 @@ pub enum CdCause {
 }
 
 /// Whether all words of a sector are codewords, its mode is 1, its address is this, and its EDC is right; the first of
-/// these that it lacks is answered. The sync is passed over, and the EDC is tried as if it stood there.
+/// these that it lacks is answered. The sync is passed over, and the EDC is tried as if the right one stood there.
 pub fn check(sector: &[u8; 2352], address: u32) -> Result<(), CdCause>
     requires { address < 450000 }
     ensures right { OnOk result (IsFaultless sector.now address) }
@@ -61,6 +61,7 @@ fn first_wrong_word(sector: &[u8; 2352]) -> Option<u16>
     Some(word as u16)
 }
 
+// Whether minute, second and frame are those of an address.
 fn has_header(sector: &[u8; 2352], address: u32) -> bool
     requires { address < 450000 }
     ensures { IsTrue result ↔ (found_header sector.now ≡ header_of address) }
@@ -68,6 +69,7 @@ fn has_header(sector: &[u8; 2352], address: u32) -> bool
     sector[12..15] == header(address)[..]
 }
 
+// Whether the EDC is right, whatever stands in place of the sync.
 fn has_right_edc(sector: &[u8; 2352]) -> bool
     ensures { IsTrue result ↔ HasRightEdc sector.now }
 {

@@ -6,7 +6,7 @@ pub fn sector_is_only_one()
     ensures { SectorIsOnlyOne }
 {}
 
-/// And they have one, where the user data are 2,048 bytes.
+/// And they have one, where the address is below 450,000 and the user data are 2,048 bytes.
 pub fn some_sector()
     ensures { SomeSector }
 {}

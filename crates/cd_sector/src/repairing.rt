@@ -48,6 +48,7 @@ fn repair_p_words(sector: &mut [u8; 2352]) -> [bool; 86]
     lost
 }
 
+// Repairs the Q words, in which bytes of lost P words are marked.
 fn repair_q_words(lost: &[bool; 86], sector: &mut [u8; 2352])
     ensures words { (read : List ℕ) → ((word : ℕ) → word < 86 → slice_index_or lost.now word false ≡ is_lost read word) → sector.new ≡ with_q_words read sector.old 52 }
     ensures size { length sector.new ≡ 2352 }
@@ -93,6 +94,7 @@ fn repair_word<const N: usize>(
     false
 }
 
+// Sets the bytes of a word.
 fn write_word(bytes: &[u8], word: usize, sector: &mut [u8; 2352])
     requires word { word < 138 }
     requires bytes { length bytes.now ≡ word_size word }
@@ -104,6 +106,7 @@ fn write_word(bytes: &[u8], word: usize, sector: &mut [u8; 2352])
     }
 }
 
+// How many bytes behind the sync differ.
 fn count_changes(old: &[u8; 2352], new: &[u8; 2352]) -> u16
     ensures { result ≡ distance (drop 12 old.now) (drop 12 new.now) }
 {

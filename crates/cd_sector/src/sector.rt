@@ -11,8 +11,8 @@ pub(crate) const SYNC: [u8; 12] = [
     0x00, 0xFF, 0xFF, 0xFF, 0xFF, 0xFF, 0xFF, 0xFF, 0xFF, 0xFF, 0xFF, 0x00,
 ];
 
-/// Writes the sector of an address: sync, header, mode, user data and EDC, and the P and Q parity over them.
-/// Minute, second and frame of the address are `address / 4500`, `address / 75 % 60` and `address % 75`.
+/// Writes the sector of an address: sync, header, mode, user data, EDC and eight zeros, and the P and Q parity of all but the
+/// sync. An address counts frames: its minute, second and frame are `address / 4500`, `address / 75 % 60` and `address % 75`.
 pub fn make(address: u32, user: &[u8; 2048], out: &mut [u8; 2352])
     requires { address < 450000 }
     ensures { IsSector address user.now out.new }
@@ -35,6 +35,7 @@ pub(crate) fn header(address: u32) -> [u8; 3]
     ]
 }
 
+// Two decimal digits, of four bits each.
 fn digits(number: u32) -> u8
     requires { number < 100 }
     ensures { result ≡ digits_of number }
@@ -65,6 +66,7 @@ fn put(out: &mut [u8], at: usize, part: &[u8])
     out[at..at + part.len()].copy_from_slice(part);
 }
 
+// Sets the parity of each P word.
 fn set_p_words(sector: &mut [u8; 2352])
     ensures right { (word : ℕ) → word < 86 → IsRight sector.new word }
     ensures kept { (at : ℕ) → at < 2076 → slice_index sector.new at ≡ slice_index sector.old at }
@@ -76,6 +78,7 @@ fn set_p_words(sector: &mut [u8; 2352])
     }
 }
 
+// Sets the parity of each Q word.
 fn set_q_words(sector: &mut [u8; 2352])
     ensures right { (word : ℕ) → 86 ≤ word → word < 138 → IsRight sector.new word }
     ensures kept { (at : ℕ) → at < 2248 → slice_index sector.new at ≡ slice_index sector.old at }

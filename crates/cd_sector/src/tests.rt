@@ -95,7 +95,7 @@ fn sectors_beyond_repair(rt: HostRuntime) {
     assert!(rt; zeros[1] == 0);
     make(150, &[0; 2048], &mut zeros);
     assert!(rt; repair(&mut zeros, 151) == Err(CdCause::Address { found: 0x0200 }));
-    // About twelve bytes of each P word, and as many of each Q word.
+    // At least eleven bytes of each P word, and fifteen of each Q word.
     for at in 1000..2000 {
         zeros[at] ^= 0x55;
     }

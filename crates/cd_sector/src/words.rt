@@ -52,6 +52,7 @@ pub(crate) fn wrong_word<const N: usize>(
     None
 }
 
+// Whether a word is a codeword.
 fn is_right<const N: usize>(code: &Code<N, 2>, word: usize, sector: &[u8; 2352]) -> bool
     requires word { word < 138 }
     requires size { N ≡ word_size word }
