@@ -76,7 +76,7 @@ last_by shape layout layer =
     if is_opposite shape then 0xFD0000 - padded layout.sectors0 + padded layout.sectors1 - 1
     else 0x30000 + padded (if layer == 0 then layout.sectors0 else layout.sectors1) - 1
 
--- what the lead-in of a layer tells of the end of the Data Zone
+-- the lead-in of a layer tells the last sector of the Data Zone
 abbrev IsTold : Layout → Shape → ℕ → Type 0
 IsTold layout shape layer =
     option_map (λ entry. entry.first + 15) (last_block (filter (block_test (ends_on shape layer)) (flat_map entries_of (zones_by layout shape))))
@@ -86,7 +86,7 @@ IsTold layout shape layer =
 single-not_parallel : Single ≡ Parallel → ⊥
 single-not_parallel same = cc
 
--- of the zones of a disk, one alone is the Data Zone of that layer
+-- it is told rightly, since of the zones of a disk one alone is the Data Zone of that layer
 shape-told : (layout : Layout) (shape : Shape) (layer : ℕ) → layout.shape ≡ shape → HasLeadIn shape layer → IsTold layout shape layer
 shape-told layout Single layer is (inl zero) =
     subst (IsTold layout Single) (sym zero) (one-zone 0 (zones_by layout Single) (first_data layout) _ refl (omega arith) (omega arith))

@@ -1,10 +1,8 @@
--- Control data stand in lead-ins alone: on layer 0, and on layer 1 where its track is read from the inside.
-use Rattle.std.proofs.Common.{◌≡◌, ℕ, ◌<◌, List, [], ◌∷◌, All, get_or, ◌≢◌, replicate, nat_eq, false, inl, inr, refl, subst, arith}
-use Rattle.std.specs.List.{AllByRecursion, flat_map}
-use Rattle.std.proofs.lemmas.List.Elements.{All-nil, All-append, All-filter, All-from_recursion, All-get_or, recursion_from_All}
-use Rattle.std.proofs.lemmas.List.FromFn.{get_or-map-range_with_len}
+-- Control data stand in lead-ins alone: on layer 0, and on layer 1 where its track is read from the inside. And the Main Data
+-- of entries that hold no image, by their content.
+use Rattle.std.proofs.Common.{◌≡◌, ℕ, All, ◌≢◌, replicate, nat_eq, false, inl, inr, refl, subst, arith}
+use Rattle.std.specs.List.{AllByRecursion}
 use Rattle.std.proofs.lemmas.Bool.Decides.{nat_tests}
-use Rattle.std.proofs.lemmas.Option.{slice_get_within, get_or_from_slice_get}
 use Rattle.dvd_layout.specs.declared.entry.BlockPlan.{BlockPlan}
 use Rattle.dvd_layout.specs.declared.entry.Content.{Content}
 use Rattle.dvd_layout.specs.declared.entry.Content.TheVariants.{Zero, Reference, Control, Image}
@@ -12,15 +10,14 @@ use Rattle.dvd_layout.specs.declared.layout.Layout.{Layout}
 use Rattle.dvd_layout.specs.declared.layout.Shape.{Shape}
 use Rattle.dvd_layout.specs.declared.layout.Shape.TheVariants.{Single, Parallel, Opposite}
 use Rattle.dvd_layout.specs.declared.layout.Zones.{Zones}
-use Rattle.dvd_layout.specs.declared.layout.Zones.TheVariants.{DataOnly, All as AllZones}
 use Rattle.dvd_layout.specs.declared.zone.Zone.{Zone}
 use Rattle.dvd_layout.specs.Content.{content_at}
-use Rattle.dvd_layout.specs.Plan.{IsEntry, entry_of, entries_of, is_data, zones_by, zone_table, plan_of}
-use Rattle.dvd_layout.proofs.Blocks.{length-entries_of}
+use Rattle.dvd_layout.specs.Plan.{IsEntry, entries_of, zones_by, plan_of}
+use Rattle.dvd_layout.proofs.Blocks.{entries_of-each, plan_of-at_place, plan_of-each}
 use Rattle.dvd_control.specs.Format.{HasLeadIn, fields_for, format_bytes}
 use Rattle.dvd_control.specs.MainData.{main_bytes}
 
--- what holds of a layer with this content
+-- control data ask for a layer with a lead-in, and other contents for nothing
 abbrev pub ControlInLeadIn : Shape → ℕ → Content → Type 0
 ControlInLeadIn shape layer Control = HasLeadIn shape layer
 ControlInLeadIn shape layer Zero = Unit {0}
@@ -42,13 +39,6 @@ zones_by-right layout Parallel =
     (tt, (tt, (tt, (inl refl, (tt, (tt, (tt, (tt, (tt, (tt, (inr (refl, refl), (tt, (tt, (tt, tt))))))))))))))
 zones_by-right layout Opposite = (tt, (tt, (tt, (inl refl, (tt, (tt, (tt, (tt, (tt, (tt, tt))))))))))
 
--- and of a stream
-zone_table-right : (layout : Layout) (zones : Zones) → All (IsRightZone layout.shape) (zone_table layout zones)
-zone_table-right layout AllZones = All-from_recursion (IsRightZone layout.shape) (zones_by layout layout.shape) (zones_by-right layout layout.shape)
-zone_table-right layout DataOnly =
-    All-filter (λ zone. is_data zone.area) (IsRightZone layout.shape) (zones_by layout layout.shape)
-    (All-from_recursion (IsRightZone layout.shape) (zones_by layout layout.shape) (zones_by-right layout layout.shape))
-
 -- a block's content has control data only where its zone's does
 content_at-right : (shape : Shape) (layer b : ℕ) (content : Content) → ControlInLeadIn shape layer content → ControlInLeadIn shape layer (content_at content b)
 content_at-right shape layer b Control right = right
@@ -58,31 +48,19 @@ content_at-right shape layer b (Image sector) right = tt
 
 -- where a zone is right, its blocks are
 entries_of-right : (shape : Shape) (zone : Zone) → IsRightZone shape zone → All (IsRightEntry shape) (entries_of zone)
-entries_of-right shape zone right b entry within =
-    let inside : b < zone.blocks = subst (λ n. b < n) (length-entries_of zone) within in
-    rw (get_or-map-range_with_len (entry_of zone) 0 zone.blocks b b entry inside (omega arith))
-    (content_at-right shape zone.layer b zone.content right)
-
--- and where all zones are, their blocks are
-zones-right : (shape : Shape) (zones : List Zone) → AllByRecursion (IsRightZone shape) zones → All (IsRightEntry shape) (flat_map entries_of zones)
-zones-right shape [] right = All-nil (IsRightEntry shape)
-zones-right shape (zone ∷ zones) right =
-    All-append (IsRightEntry shape) (entries_of zone) (flat_map entries_of zones) (entries_of-right shape zone right.0) (zones-right shape zones right.1)
+entries_of-right shape zone right =
+    entries_of-each (IsRightEntry shape) zone (λ b _. content_at-right shape zone.layer b zone.content right)
 
 -- every block of a plan with control data is on a layer with a lead-in
 plan_of-right : (layout : Layout) (zones : Zones) → All (IsRightEntry layout.shape) (plan_of layout zones)
-unfolding plan_of
 plan_of-right layout zones =
-    zones-right layout.shape (zone_table layout zones)
-    (recursion_from_All (IsRightZone layout.shape) (zone_table layout zones) (zone_table-right layout zones))
+    plan_of-each (IsRightZone layout.shape) (IsRightEntry layout.shape) (entries_of-right layout.shape) layout zones
+    (zones_by-right layout layout.shape)
 
 -- an entry with control data stands in a lead-in
 pub entry-in_lead_in : (layout : Layout) (entry : BlockPlan) → IsEntry layout entry → ControlInLeadIn layout.shape entry.layer entry.content
 entry-in_lead_in layout entry is =
-    let plan = plan_of layout is.zones in
-    let found : get_or plan is.place entry ≡ entry = get_or_from_slice_get plan is.place entry entry is.stands in
-    let right = All-get_or (IsRightEntry layout.shape) plan is.place entry (slice_get_within plan is.place entry is.stands) (plan_of-right layout is.zones) in
-    subst (IsRightEntry layout.shape) found right
+    plan_of-at_place (IsRightEntry layout.shape) layout is.zones is.place entry (plan_of-right layout is.zones) is.stands
 
 -- so a layer that has an entry with control data has a lead-in
 pub control-has_lead_in : (layout : Layout) (entry : BlockPlan) → IsEntry layout entry → entry.content ≡ Control → HasLeadIn layout.shape entry.layer

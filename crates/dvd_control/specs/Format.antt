@@ -11,7 +11,7 @@ use Rattle.dvd_control.specs.declared.format.ControlFault.TheVariants.{Category,
 
 -- What a physical format tells, as plain numbers.
 pub record Fields : Type 0 where
-  -- the version of the book that the disk follows; 1 is the first
+  -- the version of the format; 1 is the first
   pub version : ℕ
   -- the maximum rate of the channel behind the decoder: 0 is 2.52 Mbit/s, 1 is 5.04, 2 is 10.08
   pub rate : ℕ

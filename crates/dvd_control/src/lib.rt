@@ -3,7 +3,7 @@
 #![tactic(auto)]
 
 mod format; // the physical format of a disk, written and read
-pub mod laws; // what is written is read back
+pub mod laws; // what holds of every physical format
 mod main_data; // the Main Data of a frame
 mod numbers; // sector numbers of a physical format
 

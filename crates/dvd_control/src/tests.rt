@@ -2,16 +2,19 @@
 use crate::{ControlFault, PhysicalFormat, main_of};
 use dvd_layout::{Layout, LayoutFault, Shape, Zones};
 
+// The physical format of one layer of 16 sectors.
 const SINGLE: [u8; 17] = [
     0x01, 0x02, 0x01, 0x00, 0x00, 0x03, 0x00, 0x00, 0x00, 0x03, 0x00, 0x0F, 0x00, 0x00, 0x00, 0x00,
     0x00,
 ];
 
+// That of the opposite track path with 32 and 16 sectors.
 const OPPOSITE: [u8; 17] = [
     0x01, 0x02, 0x31, 0x10, 0x00, 0x03, 0x00, 0x00, 0x00, 0xFC, 0xFF, 0xEF, 0x00, 0x03, 0x00, 0x1F,
     0x00,
 ];
 
+// That of layer 1 on the parallel track path with 32 and 16 sectors.
 const PARALLEL_LAYER_1: [u8; 17] = [
     0x01, 0x02, 0x21, 0x10, 0x00, 0x03, 0x00, 0x00, 0x00, 0x03, 0x00, 0x0F, 0x00, 0x00, 0x00, 0x00,
     0x00,
@@ -69,8 +72,8 @@ fn sectors_that_break_a_rule_are_refused(rt: HostRuntime) {
     }
 }
 
-// The first bytes of frames 0 and 1 of the entry.
-fn first_bytes(layout: &Layout, k: u64) -> (u8, u8) {
+// The first byte of frame 0 and the last of frame 1 of entry k, or zeros where it is image.
+fn outer_bytes(layout: &Layout, k: u64) -> (u8, u8) {
     let mut first = [0; 2048];
     let mut second = [0; 2048];
     if k < layout.blocks(Zones::All) {
@@ -92,7 +95,7 @@ fn main_data_follow_the_content(rt: HostRuntime) -> Result<(), LayoutFault> {
         (33, (0x01, 0)),
         (258, (0, 0)),
     ] {
-        assert_eq!(rt; first_bytes(&layout, k), bytes);
+        assert_eq!(rt; outer_bytes(&layout, k), bytes);
     }
     Ok(())
 }

@@ -1,14 +1,19 @@
--- The blocks of a list of zones: how many stand before a zone, and which one stands at a place.
-use Rattle.std.proofs.Common.{◌≡◌, ◌∙◌, sym, ap, ℕ, ◌+◌, ◌-◌, ◌*◌, ◌^◌, ◌<◌, ◌≤◌, List, [], ◌∷◌, length, get_or, take, Some, slice_get, refl, arith, add-one, length-append}
-use Rattle.std.specs.List.{flat_map}
+-- The blocks of a list of zones: how many stand before a zone, which one stands at a place, and what holds of those of a plan.
+use Rattle.std.proofs.Common.{◌≡◌, ◌∙◌, sym, ap, subst, ℕ, ◌+◌, ◌-◌, ◌*◌, ◌^◌, ◌<◌, ◌≤◌, List, [], ◌∷◌, length, get_or, take, All, Some, slice_get, refl, arith, add-one, length-append}
+use Rattle.std.specs.List.{AllByRecursion, flat_map}
 use Rattle.std.proofs.Math.Seq.{take-suc}
 use Rattle.std.proofs.lemmas.Grind.{flat_map-append}
 use Rattle.std.proofs.lemmas.List.Concat.{get_or-flat_map, flat_map-cons}
+use Rattle.std.proofs.lemmas.List.Elements.{All-nil, All-append, All-filter, All-from_recursion, All-get_or, recursion_from_All}
 use Rattle.std.proofs.lemmas.List.Folds.{length-flat_map-take}
 use Rattle.std.proofs.lemmas.List.FromFn.{length-map-range_with_len, get_or-map-range_with_len}
-use Rattle.std.proofs.lemmas.Option.{slice_get_read}
+use Rattle.std.proofs.lemmas.Option.{slice_get_read, slice_get_within, get_or_from_slice_get}
+use Rattle.dvd_layout.specs.declared.entry.BlockPlan.{BlockPlan}
+use Rattle.dvd_layout.specs.declared.layout.Layout.{Layout}
+use Rattle.dvd_layout.specs.declared.layout.Zones.{Zones}
+use Rattle.dvd_layout.specs.declared.layout.Zones.TheVariants.{DataOnly, All as AllZones}
 use Rattle.dvd_layout.specs.declared.zone.Zone.{Zone}
-use Rattle.dvd_layout.specs.Plan.{entry_of, entries_of}
+use Rattle.dvd_layout.specs.Plan.{entry_of, entries_of, is_data, plan_of, zone_table, zones_by}
 use Rattle.dvd_layout.specs.Inner.Ranges.{IsInRange}
 
 -- a zone has as many entries as blocks
@@ -62,3 +67,40 @@ zone-counted zones i count zone within counted = rw (blocks_before-suc zones i z
 -- a zone in range adds at most 2^24 blocks to a count
 pub zone-few : (zone : Zone) (i count : ℕ) → IsInRange zone → count ≤ 2 ^ 24 * i → count + zone.blocks ≤ 2 ^ 24 * (i + 1)
 zone-few zone i count range few = let short = range.numbers in omega arith
+
+-- what holds of each block of a zone, by its number in the zone, holds of all its entries
+pub entries_of-each : (Q : BlockPlan → Type 0) (zone : Zone) → ((b : ℕ) → b < zone.blocks → Q (entry_of zone b))
+    → All Q (entries_of zone)
+entries_of-each Q zone each b entry within =
+    let inside : b < zone.blocks = subst (λ n. b < n) (length-entries_of zone) within in
+    rw (get_or-map-range_with_len (entry_of zone) 0 zone.blocks b b entry inside (omega arith)) (each b inside)
+
+-- what holds of each zone of a disk holds of each zone of a stream
+pub zone_table-each : (P : Zone → Type 0) (layout : Layout) (zones : Zones) → AllByRecursion P (zones_by layout layout.shape)
+    → All P (zone_table layout zones)
+zone_table-each P layout AllZones held = All-from_recursion P (zones_by layout layout.shape) held
+zone_table-each P layout DataOnly held =
+    All-filter (λ zone. is_data zone.area) P (zones_by layout layout.shape)
+    (All-from_recursion P (zones_by layout layout.shape) held)
+
+module _ (P : Zone → Type 0) (Q : BlockPlan → Type 0) (each : (zone : Zone) → P zone → All Q (entries_of zone)) where
+  -- what holds of the blocks of each zone of a kind holds of those of all zones of that kind
+  pub zones-each : (zones : List Zone) → AllByRecursion P zones → All Q (flat_map entries_of zones)
+  zones-each [] held = All-nil Q
+  zones-each (zone ∷ zones) held =
+      All-append Q (entries_of zone) (flat_map entries_of zones) (each zone held.0) (zones-each zones held.1)
+
+  -- so it holds of the blocks of a plan, where all zones of the disk are of that kind
+  pub plan_of-each : (layout : Layout) (zones : Zones) → AllByRecursion P (zones_by layout layout.shape)
+      → All Q (plan_of layout zones)
+  unfolding plan_of
+  plan_of-each layout zones held =
+      zones-each (zone_table layout zones) (recursion_from_All P (zone_table layout zones) (zone_table-each P layout zones held))
+
+-- what holds of all blocks of a plan holds of the one at a place
+pub plan_of-at_place : (Q : BlockPlan → Type 0) (layout : Layout) (zones : Zones) (k : ℕ) (entry : BlockPlan)
+    → All Q (plan_of layout zones) → slice_get (plan_of layout zones) k ≡ Some entry → Q entry
+plan_of-at_place Q layout zones k entry all stands =
+    let plan = plan_of layout zones in
+    subst Q (get_or_from_slice_get plan k entry entry stands)
+    (All-get_or Q plan k entry (slice_get_within plan k entry stands) all)

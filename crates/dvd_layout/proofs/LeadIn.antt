@@ -22,7 +22,7 @@ length-zones zone zones = ap length (flat_map-cons entries_of zone zones) ∙ le
     ∙ ap (λ n. n + length (flat_map entries_of zones)) (length-entries_of zone)
 
 module _ (initial : ℕ) where
-  -- so many blocks of zeros of the Initial Zone, before the reference code
+  -- the blocks of zeros of the Initial Zone, before the reference code
   abbrev initial_zone : Zone
   initial_zone = zone_of (0x2F000 - 16 * initial) initial LeadIn 0 Zero
 
@@ -78,7 +78,7 @@ module _ (initial : ℕ) where
       let none : length (flat_map entries_of []) ≡ 0 = refl in
       omega arith
 
-  -- the block at a place is no other
+  -- where the block at a place holds no control data, none is read there
   not_control : (k : ℕ) (own entry : BlockPlan) → slice_get (flat_map entries_of (lead_in initial 0)) k ≡ Some own → own.content ≢ Control
       → slice_get (flat_map entries_of (lead_in initial 0)) k ≡ Some entry → entry.content ≢ Control
   not_control k own entry stands not read is =

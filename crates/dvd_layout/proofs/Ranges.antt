@@ -1,8 +1,7 @@
 -- Every zone of a lawful layout has sector numbers and image sectors of 24 bits.
-use Rattle.std.proofs.Common.{◌≡◌, ℕ, ◌+◌, ◌-◌, ◌*◌, ◌<◌, ◌≤◌, ◌^◌, Bool, true, false, if◌then◌else◌, List, [], ◌∷◌, ◌++◌, All, subst, arith, refl}
-use Rattle.std.specs.List.{AllByRecursion, flat_map}
-use Rattle.std.proofs.lemmas.List.FromFn.{get_or-map-range_with_len}
-use Rattle.std.proofs.lemmas.List.Elements.{All-nil, All-append, All-filter, All-from_recursion, recursion_from_All}
+use Rattle.std.proofs.Common.{◌≡◌, ℕ, ◌+◌, ◌-◌, ◌*◌, ◌<◌, ◌≤◌, ◌^◌, Bool, true, false, if◌then◌else◌, List, [], ◌∷◌, ◌++◌, All, arith, refl}
+use Rattle.std.specs.List.{AllByRecursion}
+use Rattle.std.proofs.lemmas.List.Elements.{All-from_recursion}
 use Rattle.dvd_frame.specs.declared.id.Area.{Area}
 use Rattle.dvd_layout.specs.declared.entry.Content.TheVariants.{Zero, Reference, Control}
 use Rattle.dvd_frame.specs.declared.id.Area.TheVariants.{LeadIn, LeadOut, Middle}
@@ -11,12 +10,11 @@ use Rattle.dvd_layout.specs.declared.layout.Layout.{Layout}
 use Rattle.dvd_layout.specs.declared.layout.Shape.{Shape}
 use Rattle.dvd_layout.specs.declared.layout.Shape.TheVariants.{Single, Parallel, Opposite}
 use Rattle.dvd_layout.specs.declared.layout.Zones.{Zones}
-use Rattle.dvd_layout.specs.declared.layout.Zones.TheVariants.{DataOnly, All as AllZones}
 use Rattle.dvd_layout.specs.declared.zone.Zone.{Zone}
 use Rattle.dvd_layout.specs.Place.{HasNumbers}
-use Rattle.dvd_layout.proofs.Blocks.{length-entries_of}
+use Rattle.dvd_layout.proofs.Blocks.{entries_of-each, plan_of-each, zone_table-each, zones-each}
 use Rattle.dvd_layout.specs.Lengths.{is_opposite, padded}
-use Rattle.dvd_layout.specs.Plan.{entry_of, entries_of, lead_in_blocks, plan_of, zone_of, second_first, behind, lead_in, inside_out, out_and_in, first_data, second_data, zones_by, zone_table, is_data}
+use Rattle.dvd_layout.specs.Plan.{entries_of, lead_in_blocks, plan_of, zone_of, second_first, behind, lead_in, inside_out, out_and_in, first_data, second_data, zones_by, zone_table}
 use Rattle.dvd_layout.specs.Inner.Ranges.{IsInRange}
 
 -- all these zones are in range
@@ -56,7 +54,7 @@ zones-of_lead_in initial fits = All-from_recursion IsInRange (lead_in initial 0)
 first_data-in_range : (layout : Layout) → IsInRange (first_data layout)
 first_data-in_range layout = record { numbers = omega arith; image = omega arith; layers = omega arith }
 
--- the data of layer 1 begin at 030000, or on the opposite path at 800000 or above
+-- the data of layer 1 and the zone behind them end within 24 bits
 second_first-low : (layout : Layout) → second_first layout + padded layout.sectors1 + 16 * layout.tail ≤ 2 ^ 24
 second_first-low layout = by_path (is_opposite layout.shape) refl where
   by_path : (opposite : Bool) → is_opposite layout.shape ≡ opposite
@@ -122,29 +120,21 @@ zones_by-in_range layout Opposite = out_and_in-in_range layout
 
 -- and so those of a stream
 pub zone_table-in_range : (layout : Layout) (zones : Zones) → All IsInRange (zone_table layout zones)
-zone_table-in_range layout AllZones = All-from_recursion IsInRange (zones_by layout layout.shape) (zones_by-in_range layout layout.shape)
-zone_table-in_range layout DataOnly =
-    All-filter (λ zone. is_data zone.area) IsInRange (zones_by layout layout.shape) (All-from_recursion IsInRange (zones_by layout layout.shape) (zones_by-in_range layout layout.shape))
+zone_table-in_range layout zones = zone_table-each IsInRange layout zones (zones_by-in_range layout layout.shape)
 
 -- each block of a zone in range has numbers of 24 bits
 entries_of-numbers : (zone : Zone) → IsInRange zone → All HasNumbers (entries_of zone)
-entries_of-numbers zone range b entry within =
-    let inside : b < zone.blocks = subst (λ n. b < n) (length-entries_of zone) within in
-    rw (get_or-map-range_with_len (entry_of zone) 0 zone.blocks b b entry inside (omega arith))
-    (let numbers = range.numbers in record { numbers = omega arith; layers = range.layers })
-
--- so does each block of all zones in range
-zones-numbers : (zones : List Zone) → AllByRecursion IsInRange zones → All HasNumbers (flat_map entries_of zones)
-zones-numbers [] ranges = All-nil HasNumbers
-zones-numbers (zone ∷ zones) ranges =
-    All-append HasNumbers (entries_of zone) (flat_map entries_of zones) (entries_of-numbers zone ranges.0) (zones-numbers zones ranges.1)
+entries_of-numbers zone range =
+    entries_of-each HasNumbers zone
+    (λ b inside. let numbers = range.numbers in record { numbers = omega arith; layers = range.layers })
 
 -- each block of a plan has numbers of 24 bits
 pub plan_of-numbers : (layout : Layout) (zones : Zones) → All HasNumbers (plan_of layout zones)
-unfolding plan_of
-plan_of-numbers layout zones = zones-numbers (zone_table layout zones) (recursion_from_All IsInRange (zone_table layout zones) (zone_table-in_range layout zones))
+plan_of-numbers layout zones =
+    plan_of-each IsInRange HasNumbers entries_of-numbers layout zones (zones_by-in_range layout layout.shape)
 
 -- each block of the lead-in has numbers of 24 bits
 pub lead_in_blocks-numbers : (initial : ℕ) → initial ≤ 12031 → All HasNumbers (lead_in_blocks initial)
 unfolding lead_in_blocks
-lead_in_blocks-numbers initial fits = zones-numbers (lead_in initial 0) (lead_in-in_range initial 0 fits (omega arith))
+lead_in_blocks-numbers initial fits =
+    zones-each IsInRange HasNumbers entries_of-numbers (lead_in initial 0) (lead_in-in_range initial 0 fits (omega arith))

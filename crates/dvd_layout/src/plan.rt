@@ -17,6 +17,7 @@ pub(crate) const DATA_FIRST: u32 = 0x03_0000;
 // at the complement of layer 0's last data sector.
 const SECOND_END: u32 = 0xFD_0000;
 
+// The most zones that a disk has: seven of each layer on the parallel track path.
 type ZoneTable = ArrayVec<Zone, 14>;
 
 impl Layout {
