@@ -1,5 +1,5 @@
 -- What division leaves of each byte with more and more bytes of zeros behind it: the rule by which these terms follow from one
--- another. ByteFolds-start computes its first case for each byte, byte_more leads to the next, and Folds-doubled doubles distances.
+-- another. all_left computes its first case for each byte, byte_more leads to the next, and Folds-doubled doubles distances.
 use Rattle.std.proofs.Common.{◌≡◌, ℕ, zero, suc, ◌+◌, ◌*◌, ◌%◌, ◌^◌, ◌<◌, ◌≤◌, Bool, true, false, cond, eqb, List, [], ◌∷◌, ◌++◌, length, get_or, map, All, refl, sym, ◌∙◌, ap, zero-add, arith}
 use Rattle.std.specs.Prelude.{bit_xor, replicate}
 use Rattle.std.specs.List.{range_with_len}
@@ -130,12 +130,12 @@ byte_more m byte =
 abbrev pub Folds : (ℕ → ℕ) → ℕ → ℕ → ℕ → Type 0
 Folds f a b c = (m : ℕ) → f (m + a) ≡ bit_xor (bit_xor (f (m + b)) (f (m + c))) (f m)
 
--- what is added twice falls out
+-- a sum of nine, in which what is added twice falls out
 xor_nine : (p q b r c m : ℕ)
     → bit_xor (bit_xor (bit_xor (bit_xor p q) b) (bit_xor (bit_xor q r) c)) (bit_xor (bit_xor b c) m) ≡ bit_xor (bit_xor p r) m
 xor_nine p q b r c m = same_from_bits _ _ (λ i. simp bit_at_xor (omega arith))
 
--- so is it at twice the distances
+-- what folds at some distances folds at twice these
 Folds-doubled : (f : ℕ → ℕ) (a b c : ℕ) → Folds f a b c → Folds f (a + a) (b + b) (c + c)
 Folds-doubled f a b c folds m =
     let at : m + (a + a) ≡ m + a + a = omega arith in

@@ -1,6 +1,6 @@
 -- Chunks of bytes that are added to those 1, 28 and 32 chunks behind them and left out: what division leaves of all stays.
--- What is left of bytes is a sum (left_of) over them; chunk_folded is one step, and plus_front-put, plus_front-zip2 and drop-plus_front
--- tell what the operations on vectors do to the list.
+-- What is left of bytes is a sum (left_of) over them; chunk_folded is one step, and plus_front-put, plus_front-zip2 and
+-- drop-plus_front tell what the operations on vectors do to the list.
 use Rattle.std.proofs.Common.{◌≡◌, ℕ, zero, suc, ◌+◌, ◌-◌, ◌*◌, ◌^◌, ◌≤◌, List, [], ◌∷◌, ◌++◌, length, take, drop, refl, sym, ◌∙◌, ap, subst, zero-add, arith}
 use Rattle.std.specs.Prelude.{bit_xor, replicate}
 use Rattle.std.specs.Int.Bits.{xor_zero_l, xor_zero_r, xor_assoc, xor_self}
@@ -78,7 +78,7 @@ xor_triples : (a b c d e f : ℕ)
     → bit_xor (bit_xor (bit_xor a b) c) (bit_xor (bit_xor d e) f) ≡ bit_xor (bit_xor (bit_xor a d) (bit_xor b e)) (bit_xor c f)
 xor_triples a b c d e f = same_from_bits _ _ (λ i. simp bit_at_xor (omega arith))
 
--- what is left of any bytes follows the rule of each
+-- what is left of bytes with zeros behind them follows the rule of each byte
 left_of-folds : (k m : ℕ) (bytes : List ℕ)
     → left_of (m + 32 * 2 ^ k) bytes ≡ bit_xor (bit_xor (left_of (m + 31 * 2 ^ k) bytes) (left_of (m + 4 * 2 ^ k) bytes)) (left_of m bytes)
 unfolding left_of
@@ -97,7 +97,7 @@ left_of-folds k m (byte ∷ bytes) =
     ∙ ap (bit_xor (bit_xor (bit_xor a b) (byte_remainder (m + n) byte))) (left_of-folds k m bytes)
     ∙ xor_triples a b (byte_remainder (m + n) byte) (left_of (m + 31 * 2 ^ k) bytes) (left_of (m + 4 * 2 ^ k) bytes) (left_of m bytes)
 
--- the same, with no zeros behind
+-- bytes added to those from place p on, where no zeros stand behind the list
 plus_before : (xs added : List ℕ) (p r : ℕ) → p + length added + r ≡ length xs
     → left_of 0 (plus_front xs (replicate p 0 ++ added)) ≡ bit_xor (left_of 0 xs) (left_of r added)
 plus_before xs added p r size =

@@ -86,7 +86,7 @@ vanishing six at_one at_alpha zero below = ap (value six) (power-zero alpha) ∙
 vanishing six at_one at_alpha (suc zero) below = ap (value six) (power-one alpha (omega arith)) ∙ at_alpha
 vanishing six at_one at_alpha (suc (suc k)) below = absurd (omega arith)
 
--- six bytes that pass the test are a codeword, and the other way round
+-- six bytes that pass the test are a codeword
 codeword_checked : (six : List ℕ) → length six ≡ 6 → All IsByte six → has_check six ≡ true → IsCodeword 6 2 six
 codeword_checked six size bytes passes =
     let parts = and_parts (value six 1 == 0) (value six alpha == 0) passes in
@@ -111,7 +111,7 @@ All-word_bytes word =
     All-cons IsByte (word / 256 % 256) (word % 256 ∷ []) (omega arith) (All-cons IsByte (word % 256) [] (omega arith) (All-nil IsByte)) in
     All-cons IsByte (word / 16777216 % 256) (word / 65536 % 256 ∷ two) (omega arith) (All-cons IsByte (word / 65536 % 256) two (omega arith) last)
 
--- there is a pair that is right, and any pair that is right is the one found
+-- a pair of bytes with which the ID is a codeword is the one found
 pub ied_found : (word first second : ℕ) → first < 256 → second < 256 → IsCodeword 6 2 (word_bytes word ++ first ∷ second ∷ [])
     → first ∷ second ∷ [] ≡ ied_of word
 unfolding ied_of

@@ -115,7 +115,7 @@ remainder_behind (suc n) (y ∷ ys) tail within =
     each below true = ap (remainder n) (plus_front_swap ys added by) ∙ below (plus_front ys by) (omega (arith, length-plus_front ys by))
     each below false = below ys (omega arith)
 
--- bits are those of the number that they stand for
+-- the bits of a number to which bits were read behind a start: those of the start, and the bits read
 bits-fold : (l : List ℕ) (k start : ℕ) → All IsBit l → bits (k + length l) (fold (λ (a x : ℕ). 2 * a + x) start l) ≡ bits k start ++ l
 bits-fold [] k start each =
     let none : k + 0 ≡ k = omega arith in ap (λ (n : ℕ). bits n start) none ∙ sym (append-nil (bits k start))

@@ -15,7 +15,7 @@ use Rattle.dvd_frame.specs.declared.scrambling.Rule.{Rule}
 use Rattle.dvd_frame.proofs.IdChecks.{ied_right, length-ied_of}
 use Rattle.dvd_frame.proofs.Masking.{masked_twice, length-masked}
 
--- where its parts stand
+-- a frame whose parts stand at their places
 record IsLaidOut (word : ℕ) (cpr scrambled check frame : List ℕ) : Type 0 where
   id : take 4 frame ≡ word_bytes word
   six : take 6 frame ≡ word_bytes word ++ ied_of word

@@ -4,8 +4,7 @@ use Rattle.std.specs.Prelude.{bit_xor}
 use Rattle.std.proofs.lemmas.List.{length_push, get_or-drop, drop-append-le, drop-drop, take_at}
 use Rattle.dvd_frame.specs.Bits.{bits, number_of}
 use Rattle.dvd_frame.specs.Edc.{plus_front}
-use Rattle.dvd_frame.specs.Scrambling.{window}
-use Rattle.dvd_frame.specs.Scrambling.{sequence, scrambling_byte}
+use Rattle.dvd_frame.specs.Scrambling.{sequence, scrambling_byte, window}
 use Rattle.dvd_frame.proofs.BitLists.{length-bits, bits-mod, bits-split, plus_front-bits, number_of-bits}
 
 -- the first 15 + n bits are as many

@@ -8,11 +8,11 @@ use Rattle.dvd_frame.specs.Id.{id_word, word_bytes, has_check}
 use Rattle.dvd_frame.specs.Scrambling.{preset_of, sequence, scrambling_byte}
 use Rattle.dvd_frame.specs.declared.id.Area.TheVariants.{DataZone, LeadIn}
 
--- the first data sector, the first reference sector, and a data sector of layer 1 on a disk of two layers
+-- the ID word of the first data sector
 word-data : id_word DataZone 0 false 0x030000 ≡ 0x00030000
 word-data = refl
 
--- the ID word of the first sector of the reference code, in the Lead-in of layer 0
+-- the ID word of the first sector of the reference code, in the lead-in of layer 0
 word-reference : id_word LeadIn 0 false 0x02F000 ≡ 0x0402F000
 word-reference = refl
 
@@ -58,7 +58,7 @@ preset-030000 = refl
 preset-0300F0 : preset_of 0x0300F0 ≡ 0x0005
 preset-0300F0 = refl
 
--- scrambling bytes 0 to 6 of the preset 0001
+-- scrambling bytes 0, 1, 2 and 6 of the preset 0001
 bytes-0001 : scrambling_byte 0x0001 0 ∷ scrambling_byte 0x0001 1 ∷ scrambling_byte 0x0001 2 ∷ scrambling_byte 0x0001 6 ∷ [] ≡ 0x01 ∷ 0x00 ∷ 0x22 ∷ 0x98 ∷ []
 unfolding scrambling_byte sequence bits
 bytes-0001 = refl

@@ -7,7 +7,7 @@ mod folds; // chunks of bytes added to later ones, for the EDC
 mod frame; // a whole data frame
 mod id; // the identification of a sector: area, layer and number
 pub mod laws; // what holds of every data frame
-mod parts; // parts of lists, written or read as vectors
+mod parts; // parts of lists: written, or read as vectors
 mod reading; // a frame that was read, checked
 mod remainders; // what dividing each byte leaves, for the EDC
 mod scrambling; // which Main Data bytes are combined with which bytes

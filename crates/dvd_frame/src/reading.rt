@@ -18,7 +18,7 @@ pub enum FrameCause {
     /// ID and IED aren't a codeword.
     #[error("ied")]
     Ied,
-    /// The ID names another place.
+    /// The ID names another place; its word is told as it was read.
     #[error("address {found}")]
     Address { found: u32 },
     /// The EDC of the unscrambled frame is wrong.

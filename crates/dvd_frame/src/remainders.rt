@@ -5,7 +5,8 @@ ghost use Rattle.dvd_frame.specs.Bits.{bits, bits_of};
 ghost use Rattle.dvd_frame.specs.Edc.{remainder};
 ghost use Rattle.dvd_frame.specs.Inner.Registers.{byte_remainder};
 
-/// What division by x^32 + x^31 + x^4 + 1 leaves of each byte: followed by 32 zeros, and by one, two and three bytes of zeros before these.
+/// What division by x^32 + x^31 + x^4 + 1 leaves of each byte: followed by 32 zeros, and by one, two and three bytes of zeros
+/// before these.
 static REMAINDERS: [[u32; 256]; 4] = [
     [
         0x00000000, 0x80000011, 0x80000033, 0x00000022, 0x80000077, 0x00000066, 0x00000044,

@@ -3,8 +3,7 @@ ghost use Rattle.std.specs.Prelude.{◌≡◌, ℕ, ◌+◌, ◌^◌, ◌<◌, �
 ghost use Rattle.std.specs.Int.{to_be_bytes, w64};
 ghost use Rattle.dvd_frame.specs.Bits.{bits};
 ghost use Rattle.dvd_frame.specs.Inner.Registers.{keys_from};
-ghost use Rattle.dvd_frame.specs.Scrambling.{window};
-ghost use Rattle.dvd_frame.specs.Scrambling.{presets, preset_of, scrambled_count, scrambling_byte, masked};
+ghost use Rattle.dvd_frame.specs.Scrambling.{presets, preset_of, scrambled_count, scrambling_byte, masked, window};
 
 use crate::id::Id;
 use crate::parts::{load, put};
@@ -86,7 +85,7 @@ impl Keystream {
     }
 }
 
-// Eight shifts at once: r6 to r0 move up by eight places, and the eight sums that follow, from r14 + r10 to r7 + r3, come in behind.
+// Eight shifts at once: r6 to r0 move up by eight places, and the eight sums from r14 + r10 to r7 + r3 come in behind.
 fn shifted_by_byte(register: u16) -> u16
     requires { register < 2 ^ 15 }
     ensures within { result < 2 ^ 15 }

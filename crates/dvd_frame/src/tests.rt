@@ -1,4 +1,4 @@
-//! Worked values from outside the program.
+//! Worked values from outside the program, EDCs against a division bit by bit, and frames that are made and read back.
 use crate::{
     Area, FrameCause, Id, Keystream, Rule, Scrambler, edc, ied, make_frame, make_frame_with,
     preset, read_frame, read_frame_with, scramble,
@@ -39,7 +39,7 @@ fn divided_by_bits(bytes: &[u8]) -> u32 {
     register
 }
 
-// A list of drawn bytes: three shifts of 64 bits a byte, of which it is the top eight bits.
+// A list of drawn bytes: a word of 64 bits is shifted three times for each, which is its top eight bits.
 fn draw(bytes: &mut [u8]) {
     let mut state = 0x9E37_79B9_7F4A_7C15u64;
     for byte in bytes {
@@ -50,7 +50,7 @@ fn draw(bytes: &mut [u8]) {
     }
 }
 
-// The bytes of a frame are 2,060, and up to 2,080 are folded.
+// The EDC of a frame covers 2,060 bytes, and up to 2,080 are folded.
 #[test]
 fn edcs_of_drawn_bytes(rt: HostRuntime) {
     let mut bytes = [0; 2100];
