@@ -6,4 +6,3 @@ pub mod Linear
 pub mod Filling
 pub mod Recorded
 pub mod OneBlock
-pub mod Assembly

@@ -106,11 +106,6 @@ module _ (a k n : ℕ) (rows part old : List (List ℕ)) where
       ap (λ (b : List (List ℕ)). take a b) (back_is inside size number)
       ∙ take_at (take a rows) (part ++ drop k (drop a rows)) a (length-take-le a rows (omega arith))
 
--- a part at the front that was lent and written
-pub back_whole : (k n : ℕ) (rows part old : List (List ℕ)) → k ≤ length rows → length part ≡ k → length rows ≡ n → take k (rows_back 0 k n rows part old) ≡ part
-back_whole k n rows part old inside size number =
-    ap (λ (b : List (List ℕ)). take k b) (back_is 0 k n rows part old (omega arith) size number) ∙ take_at part (drop k rows) k size
-
 -- twelve rows that had their fronts set to a frame
 module _ (f k n : ℕ) (frame : List ℕ) (rows part old : List (List ℕ)) where
   -- the rows of the block once the fronts of the twelve of frame f are set

@@ -144,6 +144,7 @@ fn put_rows(rows: &mut [[u8; 182]], frame: &[u8; 2064])
     }
 }
 
+// Sets the first 172 bytes of a row.
 fn put_front(row: &mut [u8; 182], front: &[u8])
     requires { length front.now ≡ 172 }
     ensures { row.new ≡ front.now ++ drop 172 row.old }

@@ -52,6 +52,7 @@ fn set_inner_parity(rows: &mut [[u8; 182]])
     }
 }
 
+// Whether each row is a codeword.
 pub(crate) fn rows_are_codewords(rows: &[[u8; 182]]) -> bool
     ensures { IsTrue result ↔ All (IsCodeword 182 10) rows.now }
 {
@@ -64,6 +65,7 @@ pub(crate) fn rows_are_codewords(rows: &[[u8; 182]]) -> bool
     true
 }
 
+// Whether each column is a codeword.
 pub(crate) fn columns_are_codewords(rows: &[[u8; 182]]) -> bool
     requires { length rows.now ≡ 208 }
     ensures { IsTrue result ↔ ((j : ℕ) → j < 182 → IsCodeword 208 16 (column rows.now j)) }

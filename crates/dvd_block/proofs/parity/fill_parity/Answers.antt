@@ -1,20 +1,24 @@
 use Rattle.std.proofs.Common.{◌≡◌, ℕ, ◌<◌, List, [], ◌++◌, take, sym, ap, ◌∙◌, subst, arith}
 use Rattle.std.proofs.lemmas.List.{get_or_append_left}
 use Rattle.gf_field.specs.Words.{IsEncoded}
-use Rattle.dvd_block.specs.Product.{line, column}
+use Rattle.dvd_block.specs.Product.{line}
 use Rattle.dvd_block.proofs.Filling.{IsFilled, filled_below, cells_of, message_kept, is_product}
 use Rattle.dvd_block.proofs.parity.fill_parity.Goals as goal
 
 module _ (c : goal.After-rows-2-1) where
+  -- the rows as they came
   abbrev old : List (List ℕ)
   old = c.args.rows.now
 
+  -- the upper 192 rows with their inner parity
   abbrev upper : List (List ℕ)
   upper = c.set_inner_parity.new.rows
 
+  -- the sixteen rows of outer parity
   abbrev lower : List (List ℕ)
   lower = c.outer_parity.new.parity
 
+  -- together they are the rows filled
   filled : IsFilled old upper (cells_of lower) (upper ++ lower)
   filled =
       let was : List (List ℕ) = c.split_at_mut-upper.result.0.now in

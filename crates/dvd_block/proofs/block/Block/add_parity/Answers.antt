@@ -4,6 +4,7 @@ use Rattle.dvd_block.proofs.RowParts.{lent_whole}
 use Rattle.dvd_block.proofs.block.Block.add_parity.Goals as goal
 
 module _ (c : goal.After-self-1) where
+  -- the rows with their parity
   abbrev rows : List (List ℕ)
   rows = c.fill_parity.new.rows
 

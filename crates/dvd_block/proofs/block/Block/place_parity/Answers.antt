@@ -4,18 +4,23 @@ use Rattle.dvd_block.proofs.RowParts.{back_written, back_front}
 use Rattle.dvd_block.proofs.block.Block.place_parity.Goals as goal
 
 module _ (c : goal.After-self-1) where
+  -- the rows that are lent
   abbrev rows : List (List ℕ)
   rows = c.rows_mut.result.now
 
+  -- how many of them have outer parity
   abbrev k : ℕ
   k = length rows - 192
 
+  -- they are 208
   height : length rows ≡ 208
   height = c.rows_mut.ensures.size
 
+  -- as many are written
   size : length c.place_cells.new.rows ≡ k
   size = omega (arith, height)
 
+  -- all rows of the block are lent
   number : length rows ≡ c.args.self.now.lines.rows.len
   number = height ∙ sym c.args.self.now.lines.size
 

@@ -3,18 +3,23 @@ use Rattle.dvd_block.proofs.RowParts.{FrontsSet, frame_held, other_rows_kept, in
 use Rattle.dvd_block.proofs.block.Block.put_frame.Goals as goal
 
 module _ (c : goal.After-self-1) where
+  -- how many rows a frame has
   abbrev k : ℕ
   k = 12 * c.args.f + 12 - 12 * c.args.f
 
+  -- the rows that are lent
   abbrev rows : List (List ℕ)
   rows = c.rows_mut.result.now
 
+  -- they are 208
   height : length rows ≡ 208
   height = c.rows_mut.ensures.size
 
+  -- twelve are written
   size : length c.put_rows.new.rows ≡ 12
   size = omega arith
 
+  -- with the frame in their fronts
   fronts : FrontsSet c.args.frame.now (take k (drop (12 * c.args.f) rows)) c.put_rows.new.rows
   fronts = record { size = size; each = λ q below. c.put_rows.ensures q (omega (arith, size)) }
 
