@@ -67,7 +67,7 @@ pub missing_none : (columns : List ColumnAnswer) → ((k : ℕ) (d : ColumnAnswe
     → position (λ (column : ColumnAnswer). not column.answered) columns ≡ None
 missing_none columns all = none_passes (λ (column : ColumnAnswer). not column.answered) columns blank_column (λ k within. ap not (all k blank_column within))
 
--- and so for the rows of a block
+-- the first row of a block that doesn't vanish is found where it stands
 pub wrong_first : (block : List (List ℕ)) (i : ℕ) → i < length block → ((k : ℕ) → k < i → vanishes_at_all 10 (line block k) ≡ true)
     → vanishes_at_all 10 (line block i) ≡ false → position (λ row. not (vanishes_at_all 10 row)) block ≡ Some i
 wrong_first block i within before here =

@@ -49,7 +49,7 @@ block_differences-push (a ∷ xs) (b ∷ ys) x y size =
     let rest : block_differences (xs ++ x ∷ []) (ys ++ y ∷ []) ≡ block_differences xs ys + differences x y = block_differences-push xs ys x y (omega arith) in
     omega arith
 
--- and by one row
+-- a count of differences goes on by one row
 pub block_differences-next : (xs ys : List (List ℕ)) (i count more : ℕ) → i < length xs → i < length ys → count ≡ block_differences (take i xs) (take i ys)
     → more ≡ differences (line xs i) (line ys i) → count + more ≡ block_differences (take (i + 1) xs) (take (i + 1) ys)
 block_differences-next xs ys i count more within_x within_y counted row =
@@ -90,7 +90,7 @@ lines-same (x ∷ xs) [] i none within other = absurd (omega arith)
 lines-same (x ∷ xs) (y ∷ ys) zero none within other = omega (arith, none)
 lines-same (x ∷ xs) (y ∷ ys) (suc i) none within other = lines-same xs ys i (omega (arith, none)) (omega arith) (omega arith)
 
--- and so rows of blocks that differ nowhere
+-- so rows of the same width are the same in blocks that differ nowhere
 pub rows-same : (xs ys : List (List ℕ)) (i : ℕ) → block_differences xs ys ≡ 0 → i < length xs → i < length ys → length (line xs i) ≡ length (line ys i)
     → line xs i ≡ line ys i
 rows-same xs ys i none within other size = words-same (line xs i) (line ys i) size (lines-same xs ys i none within other)

@@ -35,7 +35,7 @@ unanswered-by : (flag : Bool) (bytes : List ℕ) → is_none (cond flag (Some by
 unanswered-by true bytes = refl
 unanswered-by false bytes = refl
 
--- the first column without an answer
+-- the first column whose flag isn't set is the first that the second pass leaves without an answer
 missing-is : (answers : List (Option (List ℕ))) (columns : List ColumnAnswer) → length columns ≡ 182 → AreColumns answers columns
     → position (λ (column : ColumnAnswer). not column.answered) columns ≡ missing_column answers
 missing-is answers columns size are =

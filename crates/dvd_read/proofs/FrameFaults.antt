@@ -31,7 +31,7 @@ flat_map-next h n =
 pub fronts-more : (block : List (List ℕ)) (f q : ℕ) → fronts block f (q + 1) ≡ fronts block f q ++ take 172 (line block (12 * f + q))
 fronts-more block f q = flat_map-next (λ q. take 172 (line block (12 * f + q))) q
 
--- one row more
+-- the front of one row more is written
 pub fronts-next : (block : List (List ℕ)) (f q : ℕ) (old new row : List ℕ) → take (172 * q + 172) new ≡ take (172 * q) old ++ take 172 row
     → take (172 * q) old ≡ fronts block f q → row ≡ line block (12 * f + q) → take (172 * (q + 1)) new ≡ fronts block f (q + 1)
 fronts-next block f q old new row put front is =
@@ -43,7 +43,7 @@ pub fronts-all : (block : List (List ℕ)) (f : ℕ) (frame : List ℕ) → leng
 unfolding frame_of
 fronts-all block f frame size front = sym (take_all 2064 frame (omega arith)) ∙ front
 
--- the width of one row more
+-- one row more has 182 bytes
 pub width-next : (block : List (List ℕ)) (f q : ℕ) (row : List ℕ) → row ≡ line block (12 * f + q) → length row ≡ 182
     → ((k : ℕ) → k < q → length (line block (12 * f + k)) ≡ 182) → (k : ℕ) → k < q + 1 → length (line block (12 * f + k)) ≡ 182
 width-next block f q row is width before k below = elim (cases_eq k q) [
@@ -92,25 +92,25 @@ first_none : {X : Type 0} (h : ℕ → Option X) (a n : ℕ) → ((i : ℕ) → 
 first_none h a zero none = refl
 first_none h a (suc n) none = rw (none a (omega arith)) (first_none h (a + 1) n (λ i below. none i (omega arith)))
 
--- a frame without a cause leaves no frame before the next with one more without a cause
+-- where no frame before frame f has a cause, and frame f has none, no frame before the next has one
 pub fault-passed : (block : List (List ℕ)) (entry : BlockPlan) (f : ℕ) → NoFaultBefore block entry f → fault_at block entry f ≡ None → NoFaultBefore block entry (f + 1)
 fault-passed block entry f before right k below = elim (cases_eq k f) [
   | inl same ↦ ap (fault_at block entry) same ∙ right
   | inr other ↦ before k (omega arith)
 ]
 
--- the first frame with a cause gives the cause of the sixteen
+-- the same by the bytes of frame f
 pub fault-next : (block : List (List ℕ)) (entry : BlockPlan) (f : ℕ) (frame : List ℕ) → NoFaultBefore block entry f → frame ≡ frame_of block f
     → frame_cause frame (wanted_word entry f) (rule_for entry.content f) ≡ None → NoFaultBefore block entry (f + 1)
 fault-next block entry f frame before is right = fault-passed block entry f before (fault_by block entry f frame None is right)
 
--- the first that has one
+-- the cause of the first frame that has one is the cause of the sixteen
 pub fault-first : (block : List (List ℕ)) (entry : BlockPlan) (f : ℕ) (cause : Cause) → f < 16 → NoFaultBefore block entry f → fault_at block entry f ≡ Some cause
     → frames_cause block entry ≡ Some cause
 unfolding frames_cause
 fault-first block entry f cause below before here = first_at (fault_at block entry) 0 16 f cause (omega arith) (omega arith) before here
 
--- where all frames before have none, the cause of this frame is that of the sixteen
+-- the same by the bytes of that frame
 pub fault-here : (block : List (List ℕ)) (entry : BlockPlan) (f : ℕ) (frame : List ℕ) (cause : FrameCause) → f < 16 → NoFaultBefore block entry f → frame ≡ frame_of block f
     → frame_cause frame (wanted_word entry f) (rule_for entry.content f) ≡ Some cause → frames_cause block entry ≡ Some (cause_in f cause)
 fault-here block entry f frame cause below before is caused =
@@ -142,7 +142,7 @@ pub mains-all : (block : List (List ℕ)) (entry : BlockPlan) (sectors : List (L
 unfolding main_data
 mains-all block entry sectors size mains = fill_by_all (λ f. main_in (frame_of block f) (rule_for entry.content f)) sectors 16 [] size mains
 
--- the cause against the ID and by the rule that were wanted
+-- a frame has the same cause against an equal ID and by an equal rule
 pub cause_as : (frame : List ℕ) (want word : ℕ) (rule wanted_rule : Rule) (cause : Option FrameCause) → want ≡ word → rule ≡ wanted_rule
     → frame_cause frame want rule ≡ cause → frame_cause frame word wanted_rule ≡ cause
 cause_as frame want word rule wanted_rule cause same_word same_rule is =

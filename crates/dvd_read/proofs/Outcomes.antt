@@ -86,7 +86,7 @@ all_near answers size none = record {
       (near_word answers j (column_answer answers j) size refl answered);
 }
 
--- the rows of near columns have 182 bytes
+-- the rows of 182 columns have 182 bytes
 row_size : (columns : List (List ℕ)) (i : ℕ) → length columns ≡ 182 → i < 208 → length (line (from_columns columns) i) ≡ 182
 row_size columns i size below = ap length (from_columns-line columns i below) ∙ length-map columns (λ word. slice_index word i) ∙ size
 
@@ -123,7 +123,7 @@ agrees-found answers size none_lost none_wrong =
     unnot true is = refl
     unnot false is = sym is
 
--- and a block that agrees is the one found, without a wrong row
+-- a block that agrees is the one found
 pub found-agrees : (answers : List (Option (List ℕ))) (block : List (List ℕ)) → length answers ≡ 208 → AgreesWith answers block → block_found answers ≡ block
 found-agrees answers block size agrees =
     found-words answers ∙ agrees-from_columns answers (words answers) block size (all_near answers size (none_missing answers block size agrees)) agrees
@@ -138,7 +138,7 @@ none_wrong answers block size agrees =
     let inside : i < length block = subst (λ b. i < length b) is within in
     ap (λ b. test (line b i)) is ∙ ap not (codeword-vanishes 182 10 (line block i) (agrees.product.rows i [] inside)))
 
--- no cause, or one, from its three parts
+-- where few rows failed, and no column is without an answer and no row wrong, there is no cause
 no_cause : (answers : List (Option (List ℕ))) → marked (failed_of answers) ≤ 16 → missing_column answers ≡ None → wrong_row answers ≡ None → two_pass_cause answers ≡ None
 unfolding two_pass_cause
 no_cause answers few lost wrong =

@@ -46,7 +46,7 @@ lacks_before answers f n = list_any is_none (take n (drop (12 * f) answers))
 length-rest : (answers : List (Option (List ℕ))) (f q : ℕ) → length answers ≡ 208 → f < 16 → q < 12 → q < length (drop (12 * f) answers)
 length-rest answers f q size f_below q_below = let rest = length-drop (12 * f) answers in omega arith
 
--- one row more
+-- one of the first q + 1 rows failed where one of the first q did, or the next
 lacks-more : (answers : List (Option (List ℕ))) (f q : ℕ) → length answers ≡ 208 → f < 16 → q < 12
     → lacks_before answers f (q + 1) ≡ (lacks_before answers f q || is_none (get_or answers (12 * f + q) None))
 lacks-more answers f q size f_below q_below =
@@ -68,7 +68,7 @@ lacks-at answers f q size f_below q_below failed =
     list_any_at is_none (take 12 rest) q None (omega arith)
     (ap is_none (get_or-take 12 rest q None q_below ∙ get_or-drop (12 * f) answers q None) ∙ failed)
 
--- a row of answers has failed where it has no numbers of corrections
+-- a row has no answer where it has no fix
 pub failed-flag : (answers : List AnswerRow) (i : ℕ) (d : AnswerRow) → i < length answers
     → is_none (get_or (map answer_word answers) i None) ≡ is_none (get_or answers i d).fix
 failed-flag answers i d within =

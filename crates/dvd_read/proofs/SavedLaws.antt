@@ -256,7 +256,7 @@ unfolding near_of is_near
 near-size n r received word marks found =
     eqb-true _ _ (left_of _ _ (left_of _ _ (left_of _ _ (found-passes (is_near n r received marks) (all_words n) word found))))
 
--- a frame of rows of 182 places
+-- the fronts of n rows of 182 places are 172 n bytes
 length-fronts : (block : List (List ℕ)) (f n : ℕ) → ((q : ℕ) → q < n → length (line block (12 * f + q)) ≡ 182) → length (fronts block f n) ≡ 172 * n
 length-fronts block f zero wide = refl
 length-fronts block f (suc n) wide =

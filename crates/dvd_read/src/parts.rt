@@ -1,5 +1,5 @@
 //! The passes over a captured block piece by piece, for whoever works on several pieces of its rows or of its columns at
-//! once. `two_pass` is made of the same calls, with one piece each.
+//! once. `two_pass` and `read_block` are made of the same calls, with one piece each.
 pub use crate::columns::answer_columns;
 pub use crate::frames::sectors_of_block;
 pub use crate::passes::settle;

@@ -181,7 +181,7 @@ fn count_corrections(work: &Work) -> u32
     count
 }
 
-// And the answer to one row: in none where nothing was corrected and nothing marked.
+// In how many places the answer to one row differs from it: in none where nothing was corrected and nothing marked.
 fn row_corrections(row: &[u8; 182], answer: &AnswerRow) -> u32
     ensures count { (marks : List Bool) → length marks ≡ 182 → IsAnswer row.now marks answer.now → result ≡ differences row.now answer.now.bytes }
     ensures most { result ≤ 182 }
@@ -206,6 +206,7 @@ fn count_differences(received: &Received, columns: &[ColumnAnswer]) -> u32
     count
 }
 
+// In how many places two rows differ.
 fn row_differences(received: &[u8; 182], row: &[u8; 182]) -> u32
     ensures count { result ≡ differences received.now row.now }
     ensures most { result ≤ 182 }

@@ -43,7 +43,7 @@ fn lose_row(work: &mut Work, i: usize) {
     }
 }
 
-// Loses every so many of the first rows, from row 0 on.
+// Loses `count` rows, from row 0 on, each `step` rows behind the one before.
 fn lose_rows(work: &mut Work, step: usize, count: usize) {
     for t in 0..count {
         lose_row(work, step.wrapping_mul(t));
