@@ -58,6 +58,7 @@ pub failed-pi_error : (row : List ℕ) (marks : List Bool) → length row ≡ 18
 failed-pi_error row marks size marks_size bytes none =
     by_tests (nat_lt 0 (marked marks)) (vanishes_at_all 10 row) refl refl ∙ ap (λ some. some || not (vanishes_at_all 10 row)) (sym (any_marked marks))
   where
+    -- by whether a place is marked, and whether the row passes the test
     by_tests : (some vanishes : Bool) → nat_lt 0 (marked marks) ≡ some → vanishes_at_all 10 row ≡ vanishes → true ≡ (nat_lt 0 (marked marks) || not (vanishes_at_all 10 row))
     by_tests true vanishes is vanishes_is = rw is refl
     by_tests false false is vanishes_is = rw (is, vanishes_is) refl
@@ -65,21 +66,23 @@ failed-pi_error row marks size marks_size bytes none =
         let found : near_of 182 10 row marks ≡ Some row = near-itself row marks size marks_size bytes (grind (arith, nat_tests)) vanishes_is in
         cc
 
--- so has one with a marked place
+-- so has a row with a marked place
 pub marked-pi_error : (row : List ℕ) (marks : List Bool) → 0 < marked marks → true ≡ has_pi_error row marks
 marked-pi_error row marks some =
     let is : list_any (λ mark. mark) marks ≡ true = any_marked marks ∙ lt-ltb 0 (marked marks) some in
     rw is refl
 
--- without one it has an error where the codeword near it is another word
+-- a row without one has a PI error where the codeword near it is another word
 pub unmarked-pi_error : (row word : List ℕ) (marks : List Bool) (same : Bool) → length row ≡ 182 → length marks ≡ 182 → All IsByte row → marked marks ≡ 0
     → near_of 182 10 row marks ≡ Some word → (true ≡ same → word ≡ row) → (false ≡ same → word ≢ row) → not same ≡ has_pi_error row marks
 unmarked-pi_error row word marks same size marks_size bytes none found equal other =
     by_tests same (vanishes_at_all 10 row) refl refl ∙ ap (λ some. some || not (vanishes_at_all 10 row)) (sym unmarked)
   where
+    -- no place is marked
     unmarked : list_any (λ mark. mark) marks ≡ false
     unmarked = any_marked marks ∙ ap (nat_lt 0) none
 
+    -- by whether the word is the row, and whether the row passes the test
     by_tests : (test vanishes : Bool) → test ≡ same → vanishes_at_all 10 row ≡ vanishes → not same ≡ not (vanishes_at_all 10 row)
     by_tests true true is vanishes_is = ap not (sym is ∙ sym vanishes_is)
     by_tests false false is vanishes_is = ap not (sym is ∙ sym vanishes_is)

@@ -52,7 +52,7 @@ greatest-next : (xs : List ℕ) (x : ℕ) → greatest (xs ++ x ∷ []) ≡ max 
 greatest-next [] x = omega arith
 greatest-next (y ∷ ys) x = omega (arith, greatest-next ys x)
 
--- none is above it
+-- no number is above the greatest
 greatest-above : (xs : List ℕ) (k : ℕ) → k < length xs → get_or xs k 0 ≤ greatest xs
 greatest-above [] k within = absurd (omega arith)
 greatest-above (x ∷ xs) zero within = omega arith
@@ -66,6 +66,7 @@ greatest-among (x ∷ y ∷ ys) some =
     let rest = greatest-among (y ∷ ys) (omega arith) in
     by_test (nat_lt x (greatest (y ∷ ys))) refl rest
   where
+    -- by whether the first number is less than the greatest of the others
     by_test : (test : Bool) → nat_lt x (greatest (y ∷ ys)) ≡ test
         → (k : ℕ) × (k < length (y ∷ ys)) × (get_or (y ∷ ys) k 0 ≡ greatest (y ∷ ys))
         → (k : ℕ) × (k < length (x ∷ y ∷ ys)) × (get_or (x ∷ y ∷ ys) k 0 ≡ greatest (x ∷ y ∷ ys))
@@ -76,7 +77,7 @@ greatest-among (x ∷ y ∷ ys) some =
 abbrev first_greatest : List ℕ → ℕ
 first_greatest xs = position_or_len (λ s. s == greatest xs) xs
 
--- a greater one at the end is the first
+-- a greater number at the end is the first
 first_greatest-new : (xs : List ℕ) (x : ℕ) → greatest xs < x → first_greatest (xs ++ x ∷ []) ≡ length xs
 first_greatest-new xs x above =
     let more = xs ++ x ∷ [] in
@@ -91,6 +92,7 @@ first_greatest-new xs x above =
 -- the first place is one of theirs
 first_greatest-within : (xs : List ℕ) → 0 < length xs → first_greatest xs < length xs
 first_greatest-within xs some = by_test (nat_lt (first_greatest xs) (length xs)) refl where
+  -- by whether it is
   by_test : (test : Bool) → nat_lt (first_greatest xs) (length xs) ≡ test → first_greatest xs < length xs
   by_test true is = grind (arith, nat_tests)
   by_test false is =
@@ -115,6 +117,7 @@ first_greatest-old (y ∷ ys) x below =
 -- both together
 first_greatest-next : (xs : List ℕ) (x : ℕ) → first_greatest (xs ++ x ∷ []) ≡ cond (nat_lt (greatest xs) x) (length xs) (first_greatest xs)
 first_greatest-next xs x = by_test (nat_lt (greatest xs) x) refl where
+  -- by whether the number is greater
   by_test : (test : Bool) → nat_lt (greatest xs) x ≡ test → first_greatest (xs ++ x ∷ []) ≡ cond test (length xs) (first_greatest xs)
   by_test true is = first_greatest-new xs x (grind (arith, nat_tests))
   by_test false is = first_greatest-old xs x (grind (arith, nat_tests))
@@ -150,7 +153,7 @@ window-moved blocks block window items capacity eight is items_are =
     let more = window ++ block.pi ∷ [] in
     items_are ∙ ap (λ n. drop (length more - n) more) eight ∙ window-next blocks block window is
 
--- and its sum
+-- the sum of the window is that of the last block and the seven before it
 pub window-summed : (blocks : List Surveyed) (items : List ℕ) (k : ℕ) → k + 1 ≡ length blocks → items ≡ map pi_of (last_eight blocks)
     → sum items ≡ sum8 blocks k
 window-summed blocks items k last is = ap sum is ∙ sum-map pi_of (last_eight blocks) ∙ sym (sum8-last blocks k last)

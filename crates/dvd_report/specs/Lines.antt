@@ -1,4 +1,5 @@
--- The lines of a report that name damaged ECC blocks, and those that were given back. Each ends with one line feed. Numbers are decimal, but where it says otherwise.
+-- The lines of a report that name damaged ECC blocks, and those that were given back. Each ends with one line feed.
+-- Numbers are decimal, but where it says otherwise.
 use Rattle.std.specs.Prelude.{ℕ, zero, suc, ◌/◌, ◌%◌, List, [], ◌∷◌, ◌++◌, true, codes, decimal}
 use Rattle.std.specs.Fmt.{digit_glyph}
 use Rattle.dvd_layout.specs.declared.entry.BlockPlan.{BlockPlan}
@@ -11,7 +12,7 @@ unfoldable pub hexadecimal : ℕ → ℕ → List ℕ
 hexadecimal zero number = []
 hexadecimal (suc width) number = hexadecimal width (number / 16) ++ digit_glyph true (number % 16) ∷ []
 
--- the first rule that a block breaks
+-- what a line says of the first rule that a block breaks
 unfoldable pub cause_text : Cause → List ℕ
 cause_text (Rows failed) = codes "rows " ++ decimal failed
 cause_text (Column j) = codes "column " ++ decimal j

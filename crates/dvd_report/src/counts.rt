@@ -27,6 +27,6 @@ pub struct Totals {
     pub peak: u32,
     /// The first block that has it; blocks are counted from 0.
     pub peak_at: u64,
-    /// How many blocks have more than 280 such rows.
+    /// How many blocks have more than 280 PI error rows together with the seven before them.
     pub over: u64,
 }

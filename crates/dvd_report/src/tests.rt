@@ -291,7 +291,7 @@ fn sums_of_eight_rise_and_fall(rt: HostRuntime) -> Result<(), Fail> {
     Ok(())
 }
 
-// What is read of a block of zeros at the start of the Data Zone is added.
+// What is read of a block as an entry of a plan is added.
 fn read_and_add(survey: &mut Survey, work: &mut Work, plan: &BlockPlan) {
     if work.stage() == Stage::Fetched && plan.first < 0xFF_FFF1 && plan.layer < 2 {
         let answer = read_block(work, plan);
