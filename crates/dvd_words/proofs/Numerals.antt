@@ -46,9 +46,11 @@ pub number_read : {E : Type 0} (text : List ℕ) (r : Result ℕ E) → 0 < leng
 number_read {E} text r some few digits parsed =
     go r (subst (λ ds. OkIff r (IsNumeral 10 ds × (digits_value 10 ds < 2 ^ 32)) (digits_value 10 ds)) (no_plus text some digits) parsed)
   where
+    -- the text is a numeral
     is : is_numeral text ≡ true
     is = numeral text some few digits
 
+    -- by whether std reads it
     go : (x : Result ℕ E) → OkIff x (IsNumeral 10 text × (digits_value 10 text < 2 ^ 32)) (digits_value 10 text) → result_ok x ≡ number_of text
     go (Ok n) h = ap Some h.1 ∙ sym (number_below text is h.0.1)
     go (Err e) h = elim (cases_lt (digits_value 10 text) (2 ^ 32)) [

@@ -24,7 +24,7 @@ free Deep = refl
 free Assemble = refl
 free Convert = refl
 
--- and the words give the matches of each
+-- and, where it finds no fault, which options the words give
 pub simple : (command : Command) → is_simple (app_for command) ≡ true
 simple command = (and_parts (is_simple (app_for command)) _ (free command)).0
 
@@ -33,7 +33,7 @@ pub rows_taken : (command : Command) (words : List Text) (rows : List Row) → f
     → rows_for command words ≡ Some rows
 rows_taken command words rows none are = rw (none, are) refl
 
--- kinds among which there is one
+-- kinds among which one stands aren't empty
 some_kind : (kind : ErrorKind) (kinds : Kinds) → IsAmong kind kinds → is_empty kinds ≡ false
 some_kind kind [] among = absurd among
 some_kind kind (k ∷ ks) among = grind arith

@@ -18,7 +18,7 @@ app_with name rules = record { top = record (new_shape name) { rules = rules; di
 abbrev pub app_named : Text → List Text → List Text → App
 app_named name required optional = app_with name (map (option_rule true) required ++ map (option_rule false) optional)
 
--- the lengths of a disk, and which of its zones a stream has
+-- the shape and the lengths of a disk but for its first layer, and which of its zones a stream has
 abbrev pub disk_options : List Text
 disk_options = codes "sectors1" ∷ codes "shape" ∷ codes "zones" ∷ codes "initial" ∷ codes "tail" ∷ []
 

@@ -68,7 +68,7 @@ has_room other sectors = true
 abbrev pub is_given : Text → List Row → Bool
 is_given name rows = is_some (first_of name rows)
 
--- whether an option tells of the lengths of a disk or of its zones
+-- whether an option tells of the shape of a disk, of its lengths or of its zones
 abbrev pub tells_layout : List Row → Bool
 tells_layout rows =
     is_given (codes "sectors") rows || (is_given (codes "sectors1") rows || (is_given (codes "shape") rows
