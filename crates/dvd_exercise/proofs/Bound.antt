@@ -22,6 +22,7 @@ cost-total (a ∷ word) (b ∷ row) (x ∷ xs) zero size each = omega arith
 cost-total (a ∷ word) (b ∷ row) (x ∷ xs) (suc n) size each =
     let rest : cost word row (replicate n false) ≤ total xs = cost-total word row xs n (omega arith) (λ k below. each (suc k) (omega arith)) in
     here (eqb_tells a b) rest where
+      -- by whether the first bytes are equal
       here : (((a == b) ≡ true) × (a ≡ b)) ⊎ (((a == b) ≡ false) × (a ≢ b)) → cost word row (replicate n false) ≤ total xs
           → (if a == b then 0 else 2) + cost word row (replicate n false) ≤ x + total xs
       here (inl same) rest = rw same.0 (omega arith)
@@ -43,6 +44,7 @@ errors-cost y before after has =
     cost-total before after marks 182 (length-burdens (error_place y) (λ _. 2) size n)
     (λ k below other. by_place k below other (find_place (error_place y) k n)) in
     omega (arith, total-burdens (error_place y) (λ _. 2) size n, sum_below-two n) where
+      -- by whether the place is that of an error
       by_place : (k : ℕ) → k < length before → slice_index before k ≢ slice_index after k
           → (((t : ℕ) × (t < error_count y) × (error_place y t ≡ k)) ⊎ ((t : ℕ) → t < error_count y → error_place y t ≢ k))
           → 2 ≤ get_or (burdens (error_place y) (λ _. 2) (length before) (error_count y)) k 0
@@ -76,7 +78,7 @@ lost-weight word row = grind (arith, nat_tests)
 good-weight : (word row : List ℕ) (marks : List Bool) → cost word row marks ≤ 10 → row_weight word row marks ≡ 0
 good-weight word row marks cheap = grind (arith, nat_tests)
 
--- a bad row weighs two, and a lost one one
+-- what the row of turn t weighs at most: two where it is bad, and one where it is lost
 abbrev turn_weight : ℕ → ℕ → ℕ
 turn_weight bad t = if nat_lt t bad then 2 else 1
 
@@ -85,6 +87,7 @@ sum_below-turns : (bad n : ℕ) → sum_below (turn_weight bad) n ≤ n + min n 
 unfolding sum_below
 sum_below-turns bad zero = omega arith
 sum_below-turns bad (suc n) = next (leb_tells (suc n) bad) (sum_below-turns bad n) where
+  -- by whether turn n is that of a bad row
   next : ((nat_lt n bad ≡ true) × (n < bad)) ⊎ ((nat_lt n bad ≡ false) × (bad < suc n)) → sum_below (turn_weight bad) n ≤ n + min n bad
       → sum_below (turn_weight bad) n + turn_weight bad n ≤ suc n + min (suc n) bad
   next (inl is) before = rw is.0 (omega arith)
@@ -93,7 +96,7 @@ sum_below-turns bad (suc n) = next (leb_tells (suc n) bad) (sum_below-turns bad 
 -- a block that had no marks
 module _ (bad lost start y : ℕ) (rows : List (List ℕ)) (done : List (List ℕ)) (hurt_marks : List (List Bool))
     (is : IsHurtBy bad lost start y rows (replicate 208 (replicate 182 false)) done hurt_marks) where
-  -- the marks of the rows that are lost, and of those that aren't
+  -- the marks of a lost row are all set
   marks_lost : (t : ℕ) → bad ≤ t → t < bad + lost → get_or hurt_marks (row_of start t) [] ≡ replicate 182 true
   marks_lost t above below =
       let same : bad + (t - bad) ≡ t = omega arith in
@@ -106,14 +109,16 @@ module _ (bad lost start y : ℕ) (rows : List (List ℕ)) (done : List (List �
   -- a row weighs no more than its turn
   turn_bound : (t : ℕ) → t < bad + lost → row_weight (get_or rows (row_of start t) []) (get_or done (row_of start t) []) (get_or hurt_marks (row_of start t) []) ≤ turn_weight bad t
   turn_bound t below = by_turn (leb_tells (suc t) bad) where
+    -- by whether the turn is that of a bad row
     by_turn : ((nat_lt t bad ≡ true) × (t < bad)) ⊎ ((nat_lt t bad ≡ false) × (bad < suc t))
         → row_weight (get_or rows (row_of start t) []) (get_or done (row_of start t) []) (get_or hurt_marks (row_of start t) []) ≤ turn_weight bad t
     by_turn (inl early) = rw early.0 (any-weight (get_or rows (row_of start t) []) (get_or done (row_of start t) []) (get_or hurt_marks (row_of start t) []))
     by_turn (inr late) = rw (late.0, marks_lost t (omega (arith, late.1)) below) (lost-weight (get_or rows (row_of start t) []) (get_or done (row_of start t) []))
 
-  -- and any other row weighs nothing
+  -- and each row no more than the turns that have it, if any
   row_bound : (k : ℕ) → k < 208 → row_weight (get_or rows k []) (get_or done k []) (get_or hurt_marks k []) ≤ get_or (burdens (row_of start) (turn_weight bad) 208 (bad + lost)) k 0
   row_bound k below = by_row (find_place (row_of start) k (bad + lost)) where
+    -- by whether a turn has the row
     by_row : (((t : ℕ) × (t < bad + lost) × (row_of start t ≡ k)) ⊎ ((t : ℕ) → t < bad + lost → row_of start t ≢ k))
         → row_weight (get_or rows k []) (get_or done k []) (get_or hurt_marks k []) ≤ get_or (burdens (row_of start) (turn_weight bad) 208 (bad + lost)) k 0
     by_row (inl found) =
@@ -132,7 +137,7 @@ module _ (bad lost start y : ℕ) (rows : List (List ℕ)) (done : List (List �
       weight-total rows done hurt_marks weights (length-burdens (row_of start) (turn_weight bad) 208 (bad + lost) ∙ sym height) (λ k below. row_bound k (omega arith)) in
       omega (arith, total-burdens (row_of start) (turn_weight bad) 208 (bad + lost), sum_below-turns bad (bad + lost))
 
--- at most 8 rows are bad, and the lost ones leave room for them
+-- whatever is drawn, the block is within the bound: at most 8 rows are bad, and the lost ones leave room for them
 pub hurt_within : HurtIsWithin
 hurt_within x rows marks done hurt_marks height unmarked is =
     let kept = subst (λ (marks : List (List Bool)). IsHurt x rows marks done hurt_marks) unmarked is in

@@ -88,6 +88,7 @@ module _ (place weight : ℕ → ℕ) (size : ℕ) where
 pub find_place : (place : ℕ → ℕ) (k n : ℕ) → ((t : ℕ) × (t < n) × (place t ≡ k)) ⊎ ((t : ℕ) → t < n → place t ≢ k)
 find_place place k zero = inr (λ t below. absurd (omega arith))
 find_place place k (suc n) = go (find_place place k n) (eqb_tells (place n) k) where
+  -- by whether it is one of those before, and whether it is this one
   go : (((t : ℕ) × (t < n) × (place t ≡ k)) ⊎ ((t : ℕ) → t < n → place t ≢ k))
       → (((place n == k) ≡ true) × (place n ≡ k)) ⊎ (((place n == k) ≡ false) × (place n ≢ k))
       → ((t : ℕ) × (t < suc n) × (place t ≡ k)) ⊎ ((t : ℕ) → t < suc n → place t ≢ k)

@@ -8,20 +8,22 @@ use Rattle.dvd_exercise.specs.Laws.{HurtIsOnlyOne}
 use Rattle.dvd_exercise.proofs.Burdens.{find_place}
 use Rattle.dvd_exercise.proofs.Rows.{miss_from_none}
 
--- changes make one list
+-- lists with the same changes are the same
 changed_once : {X : Type 0} (none : X) (n : ℕ) (place : ℕ → ℕ) (value : ℕ → X) (before a b : List X)
     → IsChanged none n place value before a → IsChanged none n place value before b → a ≡ b
 changed_once none n place value before a b is_a is_b =
     ext_get_or none a b (is_a.size ∙ sym is_b.size) (λ k below. at_place k (find_place place k n)) where
+      -- by whether the place is changed
       at_place : (k : ℕ) → (((t : ℕ) × (t < n) × (place t ≡ k)) ⊎ ((t : ℕ) → t < n → place t ≢ k)) → get_or a k none ≡ get_or b k none
       at_place k (inl found) = subst (λ (k : ℕ). get_or a k none ≡ get_or b k none) found.2 (is_a.changed found.0 found.1 ∙ sym (is_b.changed found.0 found.1))
       at_place k (inr free) = is_a.others k free ∙ sym (is_b.others k free)
 
 module _ (bad lost start y : ℕ) (rows a b : List (List ℕ)) (marks a_marks b_marks : List (List Bool)) (height : length rows ≡ 208)
     (is_a : IsHurtBy bad lost start y rows marks a a_marks) (is_b : IsHurtBy bad lost start y rows marks b b_marks) where
-  -- a row that is bad or lost
+  -- a row that is bad or lost is the same in both
   turn_once : (t : ℕ) → t < bad + lost → get_or a (row_of start t) [] ≡ get_or b (row_of start t) []
   turn_once t below = by_turn (leb_tells (suc t) bad) where
+    -- by whether it is bad
     by_turn : ((nat_lt t bad ≡ true) × (t < bad)) ⊎ ((nat_lt t bad ≡ false) × (bad < suc t)) → get_or a (row_of start t) [] ≡ get_or b (row_of start t) []
     by_turn (inl early) = is_a.bad_rows t early.1 ∙ sym (is_b.bad_rows t early.1)
     by_turn (inr late) =
@@ -29,12 +31,13 @@ module _ (bad lost start y : ℕ) (rows a b : List (List ℕ)) (marks a_marks b_
         let inside : t - bad < lost = omega (arith, late.1) in
         subst (λ (t : ℕ). get_or a (row_of start t) [] ≡ get_or b (row_of start t) []) same (is_a.lost_rows (t - bad) inside ∙ sym (is_b.lost_rows (t - bad) inside))
 
-  -- all rows and marks
+  -- and so are all rows and marks
   hurt_by_once : (a ≡ b) × (a_marks ≡ b_marks)
   hurt_by_once = (
     ext_get_or [] a b (is_a.height ∙ sym is_b.height) (λ k below. by_row k (omega (arith, is_a.height)) (find_place (row_of start) k (bad + lost))),
     changed_once [] lost (λ t. row_of start (bad + t)) (λ _. replicate 182 true) marks a_marks b_marks is_a.marked is_b.marked,
   ) where
+    -- by whether the row is bad or lost
     by_row : (k : ℕ) → k < 208 → (((t : ℕ) × (t < bad + lost) × (row_of start t ≡ k)) ⊎ ((t : ℕ) → t < bad + lost → row_of start t ≢ k)) → get_or a k [] ≡ get_or b k []
     by_row k below (inl found) = subst (λ (k : ℕ). get_or a k [] ≡ get_or b k []) found.2 (turn_once found.0 found.1)
     by_row k below (inr none) =

@@ -21,7 +21,7 @@ pub length-combined : (y : ℕ) (row : List ℕ) → length (combined y row) ≡
 unfolding combined
 length-combined y row = length-map-range_with_len (λ j. bit_xor (slice_index row j) (byte_at y j)) 0 182
 
--- and each is its own combination
+-- each is that of the row, combined with the byte that is drawn for its place
 pub get_or-combined : (y : ℕ) (row : List ℕ) (j : ℕ) → j < 182 → get_or (combined y row) j 0 ≡ bit_xor (slice_index row j) (byte_at y j)
 unfolding combined
 get_or-combined y row j below = get_or-map-range_with_len (λ j. bit_xor (slice_index row j) (byte_at y j)) 0 182 j j 0 below (zero-add j)
@@ -52,6 +52,7 @@ hit_turn start n row hit =
       below,
       ap (row_of start) (sym here) ∙ tested (eqb_tells (row_of start some.1) row) some.4,
     ) where
+      -- numbers that pass the test of equality are equal
       tested : {a b : ℕ} {r : Bool} → ((r ≡ true) × (a ≡ b)) ⊎ ((r ≡ false) × (a ≢ b)) → r ≡ true → a ≡ b
       tested (inl is) test = is.1
       tested (inr is) test = cc
@@ -59,6 +60,7 @@ hit_turn start n row hit =
 -- a row that is the row of no turn below n isn't hit
 pub miss_from_none : (start n row : ℕ) → ((t : ℕ) → t < n → row_of start t ≢ row) → is_hit start n row ≡ false
 miss_from_none start n row none = told (is_hit start n row) (λ hit. let found = hit_turn start n row hit in none found.0 found.1 found.2) where
+  -- what isn't true is false
   told : (b : Bool) → (b ≡ true → ⊥) → b ≡ false
   told true never = absurd (never refl)
   told false never = refl
@@ -73,7 +75,7 @@ pub state-hit : (start n y row : ℕ) → is_hit start n row ≡ true → row_st
 unfolding row_state
 state-hit start n y row hit = rw (add-one, hit) refl
 
--- the words for any other row
+-- for any other row two words are drawn, and one for each error
 pub state-errors : (start n y row : ℕ) → is_hit start n row ≡ false
     → row_state start n y (row + 1) ≡ state_after (row_state start n y row) (2 + error_count (row_state start n y row))
 unfolding row_state

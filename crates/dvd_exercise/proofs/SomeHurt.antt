@@ -33,7 +33,7 @@ some_errors y row width =
     (λ m t below earlier. place-new (state_after y 2 % 182) m t (omega arith) earlier)
     (λ t below. omega (arith, width))
 
--- what is found of a row among the first n
+-- the turn among the first n whose row this is, or that there is none
 abbrev Find : ℕ → ℕ → ℕ → Type 0
 Find start n k = ((t : ℕ) × (t < n) × (row_of start t ≡ k)) ⊎ ((t : ℕ) → t < n → row_of start t ≢ k)
 
@@ -65,6 +65,7 @@ module _ (bad lost start y : ℕ) (few : bad + lost < 208) (rows : List (List �
   -- in a turn of a bad row all its bytes are combined with drawn ones
   bad_row : (t : ℕ) → t < bad → hit_row t ≡ combined (state_after y (182 * t)) (line rows (row_of start t))
   bad_row t below = by_turn (leb_tells (suc t) bad) where
+    -- by whether the turn is that of a bad row
     by_turn : (turn : ((nat_lt t bad ≡ true) × (t < bad)) ⊎ ((nat_lt t bad ≡ false) × (bad < suc t)))
         → turn_row t turn ≡ combined (state_after y (182 * t)) (line rows (row_of start t))
     by_turn (inl early) = refl
@@ -73,11 +74,12 @@ module _ (bad lost start y : ℕ) (few : bad + lost < 208) (rows : List (List �
   -- in a turn of a lost row it is zeros
   lost_row : (t : ℕ) → bad ≤ t → hit_row t ≡ replicate 182 0
   lost_row t past = by_turn (leb_tells (suc t) bad) where
+    -- by whether the turn is that of a bad row
     by_turn : (turn : ((nat_lt t bad ≡ true) × (t < bad)) ⊎ ((nat_lt t bad ≡ false) × (bad < suc t))) → turn_row t turn ≡ replicate 182 0
     by_turn (inl early) = absurd (omega (arith, early.1))
     by_turn (inr late) = refl
 
-  -- row k
+  -- row k as it is hurt, by the turn that has it, or else with its single errors
   abbrev row_for : (k : ℕ) → ((k < 208) ⊎ (208 ≤ k)) → Find start (bad + lost) k → List ℕ
   row_for k inside (inl found) = hit_row found.0
   row_for k (inl below) (inr none) = (errors k below).0
@@ -97,7 +99,7 @@ module _ (bad lost start y : ℕ) (few : bad + lost < 208) (rows : List (List �
   row_errors k (inl lt) (inr none) below miss = (errors k lt).1
   row_errors k (inr past) (inr none) below miss = absurd (omega (arith, past))
 
-  -- row k as it is hurt, by the turn that has it, if any
+  -- the same by the turn that is found
   abbrev row_at : ℕ → List ℕ
   row_at k = row_for k (cases_lt k 208) (find_place (row_of start) k (bad + lost))
 
@@ -138,7 +140,7 @@ module _ (bad lost start y : ℕ) (few : bad + lost < 208) (rows : List (List �
     },
   )
 
--- whatever is drawn
+-- so every block can be hurt, whatever is drawn
 pub some_hurt : SomethingIsHurt
 some_hurt x rows marks height marks_height widths =
     let bad : bad_count x < 9 = mod-lt (state_after x 1) (omega arith) in

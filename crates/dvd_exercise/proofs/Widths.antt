@@ -17,6 +17,7 @@ module _ (bad lost start y : ℕ) (rows : List (List ℕ)) (done : List (List �
   -- a row that is bad or lost has 182 bytes
   turn_width : (t : ℕ) → t < bad + lost → length (line done (row_of start t)) ≡ 182
   turn_width t below = by_turn (leb_tells (suc t) bad) where
+    -- by whether it is bad
     by_turn : ((nat_lt t bad ≡ true) × (t < bad)) ⊎ ((nat_lt t bad ≡ false) × (bad < suc t)) → length (line done (row_of start t)) ≡ 182
     by_turn (inl early) = ap length (is.bad_rows t early.1) ∙ length-combined (state_after y (182 * t)) (line rows (row_of start t))
     by_turn (inr late) =
@@ -26,6 +27,7 @@ module _ (bad lost start y : ℕ) (rows : List (List ℕ)) (done : List (List �
   -- each row has 182 bytes, as before
   row_width : (k : ℕ) → k < 208 → length (line rows k) ≡ 182 → length (line done k) ≡ 182
   row_width k below width = by_row (find_place (row_of start) k (bad + lost)) where
+    -- by whether the row is bad or lost
     by_row : (((t : ℕ) × (t < bad + lost) × (row_of start t ≡ k)) ⊎ ((t : ℕ) → t < bad + lost → row_of start t ≢ k)) → length (line done k) ≡ 182
     by_row (inl found) = subst (λ (k : ℕ). length (line done k) ≡ 182) found.2 (turn_width found.0 found.1)
     by_row (inr none) = (is.others k below (miss_from_none start (bad + lost) k none)).size ∙ width
@@ -33,6 +35,7 @@ module _ (bad lost start y : ℕ) (rows : List (List ℕ)) (done : List (List �
   -- and 182 marks
   marks_width : (k : ℕ) → k < 208 → length (get_or hurt_marks k []) ≡ 182
   marks_width k below = by_row (find_place (λ t. row_of start (bad + t)) k lost) where
+    -- by whether the row is lost
     by_row : (((t : ℕ) × (t < lost) × (row_of start (bad + t) ≡ k)) ⊎ ((t : ℕ) → t < lost → row_of start (bad + t) ≢ k)) → length (get_or hurt_marks k []) ≡ 182
     by_row (inl found) = subst (λ (k : ℕ). length (get_or hurt_marks k []) ≡ 182) found.2 (ap length (is.marked.changed found.0 found.1) ∙ length-replicate 182 true)
     by_row (inr none) = ap length (is.marked.others k none ∙ get_or-replicate 208 k (replicate 182 false) [] below) ∙ length-replicate 182 false

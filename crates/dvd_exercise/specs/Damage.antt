@@ -1,5 +1,5 @@
--- The damage that a self-test does to a received block: ours, since ECMA-267 has none. Some rows are bad, some are lost, and each other
--- row has a few single errors. All is drawn from one state x, word by word.
+-- The damage that a self-test does to a received block: ours, since ECMA-267 has none. Some rows are bad, some are lost, and
+-- each other row has a few single errors. All is drawn from one state x, word by word.
 use Rattle.std.specs.Prelude.{◌≡◌, ◌≢◌, ℕ, zero, suc, ◌+◌, ◌-◌, ◌*◌, ◌%◌, ◌<◌, Bool, true, false, ◌==◌, if◌then◌else◌, List, [], length, map, replicate, slice_index, slice_index_or, bit_or, bit_xor}
 use Rattle.std.specs.List.{list_any, range_with_len}
 use Rattle.dvd_block.specs.Product.{line}
@@ -17,7 +17,8 @@ lost_count x = state_after x 2 % (17 - 2 * bad_count x)
 abbrev pub start_row : ℕ → ℕ
 start_row x = state_after x 3 % 208
 
--- The bad rows and then the lost ones stand five apart, round the block. No row comes twice, since 5 and 208 have no common divisor.
+-- The bad rows and then the lost ones stand five apart, round the block. No row comes twice, since 5 and 208 have no common
+-- divisor.
 abbrev pub row_of : ℕ → ℕ → ℕ
 row_of start turn = (start + 5 * turn) % 208
 
@@ -52,8 +53,8 @@ abbrev pub HasErrors : ℕ → List ℕ → List ℕ → Type 0
 HasErrors y before after =
     IsChanged 0 (error_count y) (error_place y) (λ u. bit_xor (slice_index before (error_place y u)) (error_byte y u)) before after
 
--- The state from which the single errors of a row are drawn. Those of row 0 are drawn from state y on, and the others follow row by row;
--- for the n rows that are bad or lost nothing is drawn.
+-- The state from which the single errors of a row are drawn. Those of row 0 are drawn from state y on, and the others follow
+-- row by row; for the n rows that are bad or lost nothing is drawn.
 unfoldable pub row_state : ℕ → ℕ → ℕ → ℕ → ℕ
 row_state start n y zero = y
 row_state start n y (suc row) =

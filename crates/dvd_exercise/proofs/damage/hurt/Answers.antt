@@ -7,6 +7,7 @@ use Rattle.dvd_exercise.proofs.Bound.{hurt_within}
 use Rattle.dvd_exercise.proofs.Whole.{hurt_by, hurt_drawn}
 use Rattle.dvd_exercise.proofs.damage.hurt.Goals as goal
 
+-- all that is drawn is done
 whole : (c : goal.After-hurt_others) → IsHurt (state_of c.args.rand.now) (rows_of c.args.work.now) (marks_of_work c.args.work.now) (rows_of c.hurt_others.new.work) (marks_of_work c.hurt_others.new.work)
 whole c =
     let plan = c.draw-plan.result in

@@ -10,7 +10,7 @@ use Rattle.dvd_exercise.proofs.Rows.{place-new}
 use Rattle.dvd_exercise.proofs.Works.{rest-same, rest-then}
 use Rattle.dvd_exercise.proofs.damage.hurt_row.Goals as goal
 
--- what the two words say
+-- the first word says how many errors there are
 counted : (y word : ℕ) → word ≡ step y → word % 6 ≡ error_count y
 counted y word is = ap (λ (w : ℕ). w % 6) (is ∙ state_one y)
 
