@@ -15,7 +15,7 @@ pub record IsPutBefore (j : ℕ) (word : List ℕ) (old now : List (List ℕ)) (
   pub others : (k p : ℕ) → k < 208 → p < 182 → p ≢ j → place now k p ≡ place old k p
   pub marks_others : (k p : ℕ) → k < 208 → p < 182 → p ≢ j → mark_in marks_now k p ≡ mark_in marks_old k p
 
--- one place of one row is set
+-- a byte that is put at place j of row i stands there
 set-same : {X : Type 0} (rows : List (List X)) (i j : ℕ) (x d : X) → i < length rows → j < length (get_or rows i [])
     → get_or (get_or (set rows i (set (get_or rows i []) j x)) i []) j d ≡ x
 set-same rows i j x d within inside =
@@ -71,12 +71,12 @@ put-next j word old now new marks_old marks_now marks_new i height marks_height 
           ap (λ l. mark_in l k p) marks_is ∙ set-other marks_now i j k p false false marks_within apart ∙ part.marks_others k p k_below p_below apart;
     }
 
--- all rows
+-- with all 208 rows passed, column j is put
 pub column-put : (j : ℕ) (word : List ℕ) (old now : List (List ℕ)) (marks_old marks_now : List (List Bool)) → IsPutBefore j word old now marks_old marks_now 208
     → IsColumnPut j word old now
 column-put j word old now marks_old marks_now part = record { here = λ i below. part.put i below; others = part.others }
 
--- with all 208 rows passed, the marks of column j are taken away and the others stay
+-- and its marks are taken away
 pub marks-taken : (j : ℕ) (word : List ℕ) (old now : List (List ℕ)) (marks_old marks_now : List (List Bool)) → IsPutBefore j word old now marks_old marks_now 208
     → AreMarksTaken j marks_old marks_now
 marks-taken j word old now marks_old marks_now part = record { here = λ i below. part.taken i below; others = part.marks_others }

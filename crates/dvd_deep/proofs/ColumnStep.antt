@@ -16,7 +16,7 @@ use Rattle.dvd_capture.proofs.Columns.{from_columns-line, length-from_columns}
 use Rattle.dvd_deep.specs.Rounds.{State, column_marks, column_near, column_step, mark_in, state_in}
 use Rattle.dvd_deep.specs.Inner.Steps.{AreMarksTaken, AreWide, IsColumnPut}
 
--- what becomes of a column, and of a mark in it
+-- what becomes of column j
 abbrev pub column_then : List Bool → State → ℕ → List ℕ
 column_then failed state j = unwrap_or (column_near failed state j) (column state.rows j)
 
@@ -48,20 +48,20 @@ same-column a b j size_a size_b same =
     let below : i < 208 = omega (arith, length-column a j, size_a) in
     column-byte a i j (omega arith) ∙ same i below ∙ sym (column-byte b i j (omega arith)))
 
--- the marks of a column are read
+-- flags that are the marks of column j, row by row, are its marks
 pub marks-read : (marks : List (List Bool)) (j : ℕ) (own : List Bool) → length own ≡ 208 → ((i : ℕ) → i < 208 → get_or own i false ≡ mark_in marks i j)
     → own ≡ column_marks marks j
 unfolding column_marks
 marks-read marks j own size read = fill_by_all (λ i. mark_in marks i j) own 208 false size read
 
--- and so are columns of the same marks
+-- columns have the same marks where each row has the same mark in both
 pub same-column_marks : (a b : List (List Bool)) (j : ℕ) → ((i : ℕ) → i < 208 → mark_in a i j ≡ mark_in b i j) → column_marks a j ≡ column_marks b j
 unfolding column_marks
 same-column_marks a b j same =
     fill_by_all (λ i. mark_in b i j) (map (λ i. mark_in a i j) (range_with_len 0 208)) 208 false (length-map-range_with_len (λ i. mark_in a i j) 0 208)
     (λ i below. get_or-map-range_with_len (λ k. mark_in a k j) 0 208 i i false below (omega arith) ∙ same i below)
 
--- so their answers are
+-- columns of the same bytes and marks have the same answers
 pub same-column_near : (failed : List Bool) (a b : State) (j : ℕ) → column a.rows j ≡ column b.rows j → column_marks a.marks j ≡ column_marks b.marks j
     → column_near failed a j ≡ column_near failed b j
 same-column_near failed a b j same same_marks =
@@ -74,6 +74,7 @@ list_all-next test n =
     let more : range_with_len 0 (n + 1) ≡ range_with_len 0 n ++ n ∷ [] =
     sym (map-id (range_with_len 0 (n + 1))) ∙ map-range_with_len_more (λ k. k) 0 n n (omega arith) ∙ ap (λ l. l ++ n ∷ []) (map-id (range_with_len 0 n)) in
     ap (list_all test) more ∙ list_all-append test (range_with_len 0 n) (n ∷ []) ∙ ap (λ b. list_all test (range_with_len 0 n) && b) (single (test n)) where
+      -- true at the end changes nothing
       single : (b : Bool) → (b && true) ≡ b
       single true = refl
       single false = refl
@@ -139,6 +140,7 @@ pub columns-all : (failed : List Bool) (state : State) (rows : List (List ℕ)) 
 unfolding column_step
 columns-all failed state rows marks height marks_height marks_wide part =
     ap (λ l. state_in l marks) rows_are ∙ ap (state_in (from_columns words)) marks_are where
+      -- the new columns
       words : List (List ℕ)
       words = map (column_then failed state) (range_with_len 0 182)
 
@@ -155,11 +157,13 @@ columns-all failed state rows marks height marks_height marks_wide part =
           ∙ ap (λ (word : List ℕ). slice_index word i) (get_or-map-range_with_len (column_then failed state) 0 182 k k [] inside (omega arith))))
           ∙ sym (from_columns-line words i below)
 
+      -- the rows are those of the new columns
       rows_are : rows ≡ from_columns words
       rows_are =
           ext_get_or [] rows (from_columns words) (height ∙ sym (length-from_columns words))
           (λ i within. let below : i < 208 = omega (arith, height) in row-is i below)
 
+      -- the marks are those that are left
       marks_are : marks ≡ map (λ i. map (mark_then failed state i) (range_with_len 0 182)) (range_with_len 0 208)
       marks_are =
           fill_by_all (λ i. map (mark_then failed state i) (range_with_len 0 182)) marks 208 [] marks_height

@@ -34,12 +34,13 @@ pub mains-all : (block : List (List ℕ)) (entry : BlockPlan) (out : List ℕ) �
 unfolding main_data
 mains-all block entry out size all = sym (take_all 32_768 out (omega arith)) ∙ all
 
--- a list of zeros
+-- a list with 0 at each place is one of zeros
 pub all-zeros : (xs : List ℕ) → length xs ≡ 32_768 → ((k : ℕ) → k < 32_767 → get_or xs k 0 ≡ 0) → ((k : ℕ) → k ≡ 32_767 → get_or xs k 0 ≡ 0)
     → xs ≡ replicate 32_768 0
 all-zeros xs size before last =
     same_number_lists xs (replicate 32_768 0) (size ∙ sym (length-replicate {A = ℕ} 32_768 0))
     (λ k within. at-place k (omega arith) (cases_eq k 32_767) ∙ sym (get_or-replicate 32_768 k 0 0 (omega arith))) where
+      -- by whether the place is the last
       at-place : (k : ℕ) → k < 32_768 → ((k ≡ 32_767) ⊎ (k ≢ 32_767)) → get_or xs k 0 ≡ 0
       at-place k below (inl same) = last k same
       at-place k below (inr other) = before k (omega arith)

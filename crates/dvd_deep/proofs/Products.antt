@@ -111,6 +111,7 @@ tested-product words size codewords passes = record {
   columns = λ j below.
       subst (IsCodeword 208 16) (sym (column-from_columns words j (omega (arith, size)) (codewords j below).size)) (codewords j below);
 } where
+  -- each row is of bytes
   row-bytes : (i : ℕ) → i < 208 → All IsByte (line (from_columns words) i)
   row-bytes i below =
       subst (All IsByte) (sym (from_columns-line words i below))

@@ -23,7 +23,7 @@ use Rattle.dvd_deep.proofs.Searches.{after-next, finishes-by, first-found, nothi
 
 -- ---- the row step and the first pass
 
--- a row's answer
+-- the first pass answers row i as the row step does
 answer-near : (received : List (List ℕ)) (marks : List (List Bool)) (i : ℕ) → length received ≡ 208 → length marks ≡ 208 → i < 208
     → get_or (answers_of received marks) i None ≡ row_near (state_in received marks) i
 answer-near received marks i height marks_height below = get_or-answers_of received marks i None (omega (arith, height)) (omega (arith, marks_height))

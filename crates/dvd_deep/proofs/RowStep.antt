@@ -10,7 +10,7 @@ use Rattle.dvd_block.specs.Product.{line}
 use Rattle.dvd_capture.specs.Answers.{marks_line}
 use Rattle.dvd_deep.specs.Rounds.{State, failed_rows, row_near, row_step, state_in}
 
--- what becomes of a row and of its marks
+-- what becomes of row i
 abbrev pub row_then : State → ℕ → List ℕ
 row_then state i = unwrap_or (row_near state i) (line state.rows i)
 
@@ -27,7 +27,7 @@ pub record IsStepped (state : State) (rows : List (List ℕ)) (marks : List (Lis
   pub rows_left : (k : ℕ) → i ≤ k → line rows k ≡ line state.rows k
   pub marks_left : (k : ℕ) → i ≤ k → marks_line marks k ≡ marks_line state.marks k
 
--- a row without an answer fails
+-- a row fails where it isn't answered
 pub not-is_some : {X : Type 0} (found : Option X) → not (is_some found) ≡ is_none found
 not-is_some None = refl
 not-is_some (Some x) = refl

@@ -48,7 +48,7 @@ row-true block state i word product are below is =
     (near_of-is_near 182 10 (line state.rows i) word (marks_line state.marks i) (are.wide i below) (are.marks_wide i below) is)
     (λ k within clear. sym (are.bytes i k below (omega (arith, are.marks_wide i below)) clear))
 
--- what becomes of a row
+-- what holds of row i and its marks after the row step
 abbrev RowIs : (block : List (List ℕ)) (state : State) (i : ℕ) → Option (List ℕ) → Type 0
 RowIs block state i found =
     (length (unwrap_or found (line state.rows i)) ≡ 182)
@@ -123,15 +123,19 @@ column-true block state j word product are inside is =
     let below : k < 208 = omega (arith, length-column_marks stepped.marks j) in
     at-place k below ((rows-true block state product are).bytes k j below inside (sym (column_marks-at stepped.marks j k below) ∙ clear))))
     word is where
+      -- the state after the row step
       stepped : State
       stepped = row_step state
 
+      -- the column of the block is a codeword
       codeword : IsCodeword 208 16 (column block j)
       codeword = product.columns j inside
 
+      -- the column has 208 bytes after the row step
       width : length (column (row_step state).rows j) ≡ 208
       width = length-column (row_step state).rows j ∙ row_step-height state
 
+      -- places that have the same byte have it in their columns
       at-place : (k : ℕ) → k < 208 → place (row_step state).rows k j ≡ place block k j → slice_index (column block j) k ≡ slice_index (column (row_step state).rows j) k
       at-place k below same =
           column-byte block k j (omega (arith, product.height)) ∙ sym same ∙ sym (column-byte (row_step state).rows k j (omega (arith, row_step-height state)))
@@ -174,6 +178,7 @@ round-true block state product are = record {
       (sym (ap (λ marks. get_or marks j false) (round-marks state i below)
       ∙ get_or-map-range_with_len (mark_then (failed_rows state) (row_step state) i) 0 182 j j false inside (omega arith)) ∙ clear);
 } where
+  -- the new columns
   words : List (List ℕ)
   words = words_then (failed_rows state) (row_step state)
 

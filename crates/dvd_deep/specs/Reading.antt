@@ -13,7 +13,7 @@ abbrev pub cause_by : List (List ℕ) → List (List Bool) → BlockPlan → Opt
 cause_by received marks entry None = block_cause received marks entry
 cause_by received marks entry (Some block) = frames_cause block entry
 
--- why a block is refused though there were four rounds
+-- why a block is refused that is read by rounds, or none
 unfoldable pub deep_cause : List (List ℕ) → List (List Bool) → BlockPlan → Option Cause
 deep_cause received marks entry = cause_by received marks entry (deep_block received marks)
 

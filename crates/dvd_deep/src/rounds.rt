@@ -100,8 +100,8 @@ fn answer_columns(rows: &mut Received, marks: &mut Marks, failed: &[bool; 208]) 
     all
 }
 
-// Answers column `j`: it becomes the codeword that two tries find and loses its marks, if there is one. Answers whether
-// there is.
+// Answers column `j`: it becomes the codeword that the first or the second try finds and loses its marks, if there is one.
+// Answers whether there is.
 fn answer_column(
     code: &Po,
     rows: &mut Received,
@@ -146,7 +146,7 @@ fn answer_column_word(
     answer_word(code, word, &own)
 }
 
-// Writes column `j`.
+// Writes the bytes of column `j`.
 fn read_column(rows: &Received, j: usize, word: &mut [u8; 208])
     requires { j < 182 }
     ensures { word.new ≡ column (received_rows rows.now) j }
@@ -156,7 +156,7 @@ fn read_column(rows: &Received, j: usize, word: &mut [u8; 208])
     }
 }
 
-// Writes its marks.
+// Writes the marks of column `j`.
 fn read_marks(marks: &Marks, j: usize, own: &mut [bool; 208])
     requires { j < 182 }
     ensures { own.new ≡ column_marks (marks_rows marks.now) j }

@@ -60,8 +60,8 @@ fn lose_chains(work: &mut Work, chains: usize)
     }
 }
 
-// Ten of them in columns that all rows of the chain have lost, and one more in a column that the chain before gives back, or
-// for the first chain in one of two columns that have lost less.
+// Loses ten places of a row in columns that all rows of its chain have lost, and one more in a column that the chain before
+// gives back, or for the first chain in one of two columns that have lost less.
 fn lose_row(work: &mut Work, chain: usize, r: usize)
     requires chain { chain < 4 }
     requires row { r < 17 }

@@ -1,4 +1,4 @@
--- What the contracts see of the buffers of a state.
+-- Ours: what the contracts see of the buffers of a state.
 use Rattle.dvd_capture.specs.Parts.{marks_rows, received_rows}
 use Rattle.dvd_capture.specs.declared.parts.Marks.{Marks}
 use Rattle.dvd_capture.specs.declared.parts.Received.{Received}
