@@ -1,31 +1,25 @@
 -- A text of decimal digits alone is read as the number that they write.
-use Rattle.std.proofs.Common.{◌≡◌, ◌<◌, ◌≤◌, ◌^◌, ◌&&◌, ℕ, Bool, true, false, List, [], ◌∷◌, length, Some, None, Result, Ok, Err, refl, sym, ap, subst, ◌∙◌, arith, true≢false, nat_lt, lt-ltb, ltb-true, inl, inr}
+use Rattle.std.proofs.Common.{◌≡◌, ◌<◌, ◌≤◌, ◌^◌, ℕ, true, false, List, [], ◌∷◌, length, Some, None, Result, Ok, Err, refl, sym, ap, subst, ◌∙◌, arith, true≢false, nat_lt, lt-ltb, ltb-true, inl, inr}
 use Rattle.std.specs.Char.{is_digit, digit_value}
 use Rattle.std.specs.List.{list_all}
 use Rattle.std.specs.Result.{result_ok, OkIff}
 use Rattle.std.specs.Str.Parse.{AllDigits, IsNumeral, ParsesUnsigned, digits_value, without_leading_plus}
-use Rattle.std.proofs.lemmas.Bool.{le-ltb, cases_lt}
+use Rattle.std.proofs.lemmas.Bool.{and_parts, le-ltb, cases_lt}
 use Rattle.std.proofs.lemmas.Str.Parse.{without_leading_plus_none}
 use Rattle.dvd_words.specs.Words.{is_numeral, number_of}
-
--- of two tests that pass, each does
-both : (a b : Bool) → (a && b) ≡ true → (a ≡ true) × (b ≡ true)
-both true true e = (refl, refl)
-both true false e = cc e
-both false b e = cc e
 
 -- digits, as std says it
 pub all_digits : (text : List ℕ) → list_all (λ c. is_digit c 10) text ≡ true → AllDigits 10 text
 all_digits [] e = tt
 all_digits (c ∷ cs) e =
-    let h = both (nat_lt (digit_value c) 10) (list_all (λ x. is_digit x 10) cs) e in
+    let h = and_parts (nat_lt (digit_value c) 10) (list_all (λ x. is_digit x 10) cs) e in
     (ltb-true (digit_value c) 10 h.0, all_digits cs h.1)
 
 -- a plus is no digit
 pub no_plus : (text : List ℕ) → 0 < length text → list_all (λ c. is_digit c 10) text ≡ true → without_leading_plus text ≡ text
 no_plus [] some e = absurd (omega arith)
 no_plus (c ∷ cs) some e =
-    let h = both (nat_lt (digit_value c) 10) (list_all (λ x. is_digit x 10) cs) e in
+    let h = and_parts (nat_lt (digit_value c) 10) (list_all (λ x. is_digit x 10) cs) e in
     without_leading_plus_none (c ∷ cs) (λ is_plus. true≢false (sym h.0 ∙ ap (λ x. nat_lt (digit_value x) 10) is_plus))
 
 -- one to ten digits are a numeral

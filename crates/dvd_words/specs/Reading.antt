@@ -8,7 +8,7 @@ use Rattle.dvd_capture.specs.declared.form.Form.TheVariants.{Plain, Marked, List
 use Rattle.dvd_layout.specs.declared.layout.Shape.TheVariants.{Single}
 use Rattle.dvd_layout.specs.declared.layout.Zones.TheVariants.{DataOnly}
 use Rattle.dvd_words.specs.Apps.{app_for}
-use Rattle.dvd_words.specs.Words.{blocks_of, bytes_of, captures_of, form_of, frames_of, number_of, sector_number_of, shape_of, workers_of, zones_of}
+use Rattle.dvd_words.specs.Words.{bytes_of, form_of, number_of, number_within, sector_number_of, shape_of, zones_of}
 use Rattle.dvd_words.specs.declared.settings.Command.{Command}
 use Rattle.dvd_words.specs.declared.settings.Command.TheVariants.{Frames, Master, Recover, Info, Survey, Exercise, CdMake, CdRead, Merge, Deep, Assemble, Convert}
 use Rattle.dvd_words.specs.declared.settings.Settings.{Settings}
@@ -107,12 +107,12 @@ settings_of command rows = do
   tail ← value_or 16 number_of (first_of (codes "tail") rows)
   cpr ← value_or (replicate 6 0) (bytes_of 6) (first_of (codes "cpr") rows)
   form ← value_or Plain form_of (first_of (codes "form") rows)
-  workers ← value_or 1 workers_of (first_of (codes "workers") rows)
+  workers ← value_or 1 (number_within 1 16) (first_of (codes "workers") rows)
   seed ← value_or 0 number_of (first_of (codes "seed") rows)
-  blocks ← value_or 0 blocks_of (first_of (codes "blocks") rows)
+  blocks ← value_or 0 (number_within 1 4096) (first_of (codes "blocks") rows)
   address ← value_or 0 number_of (first_of (codes "address") rows)
-  captures ← value_or 0 captures_of (first_of (codes "captures") rows)
-  frames ← value_or 0 frames_of (first_of (codes "frames") rows)
+  captures ← value_or 0 (number_within 2 16) (first_of (codes "captures") rows)
+  frames ← value_or 0 (number_within 1 4294967295) (first_of (codes "frames") rows)
   if has_layout command form rows && (is_within command first sectors blocks address && has_room command (sectors + sectors1)) then Some (record {
     command = command;
     first = first;

@@ -22,21 +22,9 @@ is_numeral text = nat_le 1 (length text) && (nat_le (length text) 10 && list_all
 abbrev pub number_of : List ℕ → Option ℕ
 number_of text = if is_numeral text && nat_lt (digits_value 10 text) (2 ^ 32) then Some (digits_value 10 text) else None
 
--- a number from 1 to 16
-abbrev pub workers_of : List ℕ → Option ℕ
-workers_of text = option_and_then (λ n. if nat_le 1 n && nat_le n 16 then Some n else None) (number_of text)
-
--- a number from 1 to 4,096
-abbrev pub blocks_of : List ℕ → Option ℕ
-blocks_of text = option_and_then (λ n. if nat_le 1 n && nat_le n 4096 then Some n else None) (number_of text)
-
--- a number from 2 to 16
-abbrev pub captures_of : List ℕ → Option ℕ
-captures_of text = option_and_then (λ n. if nat_le 2 n && nat_le n 16 then Some n else None) (number_of text)
-
--- a number from 1 on
-abbrev pub frames_of : List ℕ → Option ℕ
-frames_of text = option_and_then (λ n. if nat_le 1 n then Some n else None) (number_of text)
+-- a number from `least` to `most`
+abbrev pub number_within : ℕ → ℕ → List ℕ → Option ℕ
+number_within least most text = option_and_then (λ n. if nat_le least n && nat_le n most then Some n else None) (number_of text)
 
 -- so many bytes, of two hexadecimal digits each, of either case
 abbrev pub bytes_of : ℕ → List ℕ → Option (List ℕ)

@@ -1,10 +1,10 @@
 //! The values of options.
 
-ghost use Rattle.std.specs.Prelude.{◌≡◌, ◌≤◌, ℕ, option_map, replicate, IfSome};
+ghost use Rattle.std.specs.Prelude.{◌≡◌, ◌≤◌, max, min, option_map, replicate, IfSome};
 ghost use Rattle.std.specs.Char.{is_digit};
 ghost use Rattle.std.specs.List.{list_all};
 ghost use Rattle.dvd_words.specs.Reading.{value_or};
-ghost use Rattle.dvd_words.specs.Words.{blocks_of, bytes_of, captures_of, form_of, frames_of, number_of, sector_number_of, shape_of, workers_of, zones_of};
+ghost use Rattle.dvd_words.specs.Words.{bytes_of, form_of, number_of, number_within, sector_number_of, shape_of, zones_of};
 
 use dvd_capture::Form;
 use dvd_layout::{Shape, Zones};
@@ -35,59 +35,30 @@ fn has_digits_alone(text: &[u8]) -> bool
     text.iter().all(|byte| byte.is_ascii_digit())
 }
 
+/// A number from `least` to `most`, or the default.
+pub fn read_within(text: Option<&str>, least: u32, most: u32, default: u32) -> Option<u32>
+    ensures value { result ≡ value_or default (number_within least most) (option_map (λ s. s.now) text.entry) }
+    ensures bounds { IfSome result (λ n. (min least default ≤ n) × (n ≤ max most default)) }
+{
+    match text {
+        Some(text) => {
+            let value = number(text)?;
+            if value >= least && value <= most {
+                Some(value)
+            } else {
+                None
+            }
+        }
+        None => Some(default),
+    }
+}
+
 /// How many threads work: from 1 to 16.
 pub fn read_workers(text: Option<&str>) -> Option<u8>
-    ensures value { result ≡ value_or 1 workers_of (option_map (λ s. s.now) text.entry) }
+    ensures value { result ≡ value_or 1 (number_within 1 16) (option_map (λ s. s.now) text.entry) }
     ensures bounds { IfSome result (λ n. (1 ≤ n) × (n ≤ 16)) }
 {
-    match text {
-        Some(text) => match number(text)? {
-            workers @ 1..=16 => Some(workers as u8),
-            _ => None,
-        },
-        None => Some(1),
-    }
-}
-
-/// How many blocks are drawn: from 1 to 4,096.
-pub fn read_blocks(text: Option<&str>) -> Option<u32>
-    ensures value { result ≡ value_or 0 blocks_of (option_map (λ s. s.now) text.entry) }
-    ensures bound { IfSome result (λ n. n ≤ 4096) }
-{
-    match text {
-        Some(text) => match number(text)? {
-            blocks @ 1..=4096 => Some(blocks),
-            _ => None,
-        },
-        None => Some(0),
-    }
-}
-
-/// How many captures are joined: from 2 to 16.
-pub fn read_captures(text: Option<&str>) -> Option<u32>
-    ensures value { result ≡ value_or 0 captures_of (option_map (λ s. s.now) text.entry) }
-    ensures bound { IfSome result (λ n. n ≤ 16) }
-{
-    match text {
-        Some(text) => match number(text)? {
-            captures @ 2..=16 => Some(captures),
-            _ => None,
-        },
-        None => Some(0),
-    }
-}
-
-/// How many recording frames are put in order: at least one.
-pub fn read_frames(text: Option<&str>) -> Option<u32>
-    ensures { result ≡ value_or 0 frames_of (option_map (λ s. s.now) text.entry) }
-{
-    match text {
-        Some(text) => match number(text)? {
-            0 => None,
-            frames => Some(frames),
-        },
-        None => Some(0),
-    }
+    Some(read_within(text, 1, 16, 1)? as u8)
 }
 
 /// A sector number of six hexadecimal digits.

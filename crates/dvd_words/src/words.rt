@@ -8,8 +8,8 @@ use crate::fault::WordsFault;
 use crate::parser::parse;
 use crate::settings::{Command, Settings};
 use crate::values::{
-    read_blocks, read_captures, read_cpr, read_form, read_frames, read_number, read_sector_number,
-    read_shape, read_workers, read_zones,
+    read_cpr, read_form, read_number, read_sector_number, read_shape, read_within, read_workers,
+    read_zones,
 };
 use clap::ArgMatches;
 use dvd_capture::Form;
@@ -71,10 +71,10 @@ fn settings(command: Command, matches: &ArgMatches<'_>) -> Option<Settings>
         form: read_form(given(matches, "form"))?,
         workers: read_workers(given(matches, "workers"))?,
         seed: read_number(given(matches, "seed"), 0)?,
-        blocks: read_blocks(given(matches, "blocks"))?,
+        blocks: read_within(given(matches, "blocks"), 1, 4096, 0)?,
         address: read_number(given(matches, "address"), 0)?,
-        captures: read_captures(given(matches, "captures"))?,
-        frames: read_frames(given(matches, "frames"))?,
+        captures: read_within(given(matches, "captures"), 2, 16, 0)?,
+        frames: read_within(given(matches, "frames"), 1, 4_294_967_295, 0)?,
     };
     if has_layout(command, settings.form, matches)
         && has_units(command, &settings)
@@ -137,15 +137,13 @@ fn has_units(command: Command, settings: &Settings) -> bool
             settings.sectors >= 1
                 && u64::from(settings.first) + u64::from(settings.sectors) <= 0x100_0000
         }
-        Command::Master | Command::Recover | Command::Info | Command::Survey => true,
         Command::Exercise => settings.blocks >= 1,
         Command::CdMake | Command::CdRead => {
             settings.sectors >= 1
                 && u64::from(settings.address) + u64::from(settings.sectors) <= 450_000
         }
-        Command::Merge => true,
-        Command::Deep => true,
-        Command::Assemble | Command::Convert => true,
+        Command::Master | Command::Recover | Command::Info | Command::Survey => true,
+        Command::Merge | Command::Deep | Command::Assemble | Command::Convert => true,
     }
 }
 
