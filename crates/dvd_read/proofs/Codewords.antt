@@ -1,6 +1,6 @@
 -- What is found as near is a codeword, however long what was received is.
-use Rattle.std.proofs.Common.{◌≡◌, ◌∙◌, ℕ, Bool, true, false, ◌&&◌, nat_lt, List, get_or, refl, sym, Some}
-use Rattle.std.proofs.lemmas.Bool.{eqb-true, ltb-true}
+use Rattle.std.proofs.Common.{◌≡◌, ◌∙◌, ℕ, Bool, true, nat_lt, List, get_or, sym, Some}
+use Rattle.std.proofs.lemmas.Bool.{and_parts, eqb-true, ltb-true}
 use Rattle.std.proofs.lemmas.List.Sums.{AllPass-from_list_all}
 use Rattle.gf_field.specs.Words.{IsCodeword}
 use Rattle.rs_decode.specs.Nearest.{all_words, is_near, near_of}
@@ -11,18 +11,13 @@ use Rattle.dvd_block.specs.Product.{line}
 use Rattle.dvd_read.specs.Inner.Standing.{AreCodewords}
 use Rattle.dvd_read.proofs.RowAnswers.{answer_word-is}
 
--- where a conjunction is true, both its parts are
-both : (a b : Bool) → (a && b) ≡ true → (a ≡ true) × (b ≡ true)
-both true b is = (refl, is)
-both false b is = cc
-
 -- a word that passes the test of nearness is a codeword
 codeword-passes : (n r : ℕ) (received word : List ℕ) (marks : List Bool) → is_near n r received marks word ≡ true → IsCodeword n r word
 unfolding is_near
 codeword-passes n r received word marks passes =
-    let cheap = both _ _ passes in
-    let vanishing = both _ _ cheap.0 in
-    let sized = both _ _ vanishing.0 in
+    let cheap = and_parts _ _ passes in
+    let vanishing = and_parts _ _ cheap.0 in
+    let sized = and_parts _ _ vanishing.0 in
     vanishing-codeword n r word (eqb-true _ _ sized.0)
     (λ k d within. ltb-true _ _ (AllPass-from_list_all (λ byte. nat_lt byte 256) word sized.1 k d within)) vanishing.1
 

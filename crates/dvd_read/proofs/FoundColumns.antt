@@ -2,6 +2,7 @@
 use Rattle.std.proofs.Common.{◌≡◌, ◌∙◌, ℕ, ◌<◌, ◌≤◌, Bool, true, false, cond, not, List, [], ◌∷◌, length, map, get_or, position, unwrap_or, refl, sym, ap, subst, arith, Some, None, is_none}
 use Rattle.std.specs.List.{prefix_len}
 use Rattle.std.specs.declared.option.Option.{Option}
+use Rattle.std.proofs.lemmas.Bool.{not-false}
 use Rattle.std.proofs.lemmas.List.{get_or-map, ext_get_or, length-map}
 use Rattle.rs_decode.specs.Nearest.{vanishes_at_all}
 use Rattle.rs_decode.specs.Filling.{marked}
@@ -67,16 +68,11 @@ words-found answers columns size are none =
     let inside : j < length columns = subst (λ n. j < n) (length-map columns bytes) within in
     let below : j < 182 = omega arith in
     let answered : (get_or columns j blank_column).answered ≡ true =
-    unnot _ (none_fails (λ (column : ColumnAnswer). not column.answered) columns j blank_column none inside) in
+    not-false _ (none_fails (λ (column : ColumnAnswer). not column.answered) columns j blank_column none inside) in
     get_or-map bytes columns j blank_column [] inside
     ∙ word-by (get_or columns j blank_column).answered (get_or columns j blank_column).bytes answered
     ∙ ap (λ column. unwrap_or column []) (are j blank_column below ∙ sym (get_or-columns_of answers j None below))
     ∙ sym (get_or-map (λ column. unwrap_or column []) (columns_of answers) j None [] (omega (arith, length-columns_of answers)))))
-  where
-    -- a flag is set whose opposite isn't
-    unnot : (b : Bool) → not b ≡ false → b ≡ true
-    unnot true is = refl
-    unnot false is = sym is
 
 -- where at most sixteen rows failed, the first column without an answer is the cause
 pub column_refused : (answers : List (Option (List ℕ))) (columns : List ColumnAnswer) (j : ℕ) → length columns ≡ 182 → AreColumns answers columns

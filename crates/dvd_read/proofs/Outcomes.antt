@@ -2,7 +2,7 @@
 use Rattle.std.proofs.Common.{◌≡◌, ◌∙◌, ℕ, ◌<◌, ◌≤◌, Bool, true, false, if◌then◌else◌, not, nat_lt, List, [], length, map, get_or, position, slice_index, unwrap_or, All, refl, sym, ap, subst, arith, Some, None, is_none}
 use Rattle.std.specs.Option.{option_map, option_or}
 use Rattle.std.specs.declared.option.Option.{Option}
-use Rattle.std.proofs.lemmas.Bool.{lt-ltb}
+use Rattle.std.proofs.lemmas.Bool.{lt-ltb, not-false}
 use Rattle.std.proofs.lemmas.Bool.Decides.{nat_tests}
 use Rattle.std.proofs.lemmas.List.{get_or-map, length-map}
 use Rattle.std.proofs.lemmas.List.FromFn.{length-map-range_with_len, get_or-map-range_with_len}
@@ -114,14 +114,9 @@ agrees-found answers size none_lost none_wrong =
     let inside : i < length (block_found answers) = omega (arith, ap length (found-words answers), length-from_columns (words answers)) in
     let fine : not (vanishes_at_all 10 (line (block_found answers) i)) ≡ false = none_fails test (block_found answers) i [] none_wrong inside in
     let vanishes : vanishes_at_all 10 (line (from_columns (words answers)) i) ≡ true =
-    ap (λ block. vanishes_at_all 10 (line block i)) (sym (found-words answers)) ∙ unnot (vanishes_at_all 10 (line (block_found answers) i)) fine in
+    ap (λ block. vanishes_at_all 10 (line block i)) (sym (found-words answers)) ∙ not-false (vanishes_at_all 10 (line (block_found answers) i)) fine in
     vanishing-codeword 182 10 (line (from_columns (words answers)) i) (row_size (words answers) i (length-words answers) below)
     (row_bytes answers (words answers) i are below) vanishes))
-  where
-    -- a flag is set whose opposite isn't
-    unnot : (b : Bool) → not b ≡ false → b ≡ true
-    unnot true is = refl
-    unnot false is = sym is
 
 -- a block that agrees is the one found
 pub found-agrees : (answers : List (Option (List ℕ))) (block : List (List ℕ)) → length answers ≡ 208 → AgreesWith answers block → block_found answers ≡ block

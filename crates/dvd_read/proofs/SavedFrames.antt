@@ -136,11 +136,6 @@ module _ (answers : List (Option (List ℕ))) (f : ℕ) where
         rescued-right frame is (cause_as frame want _ rule _ None same_word same_rule right) ∙ ap Some (sym (reads ∙ ap (main_in frame) same_rule))
     read-main (Err cause) frame main want rule is same_word same_rule ok right reads = cc
 
--- where the opposite is true, it is false
-pub is_not : (b : Bool) → not b ≡ true → b ≡ false
-is_not true is = sym is
-is_not false is = refl
-
 -- the sector that is written for frame f
 abbrev pub sector_saved : List (Option (List ℕ)) → BlockPlan → ℕ → List ℕ
 sector_saved answers entry f = unwrap_or (rescued answers entry f) (replicate 2048 0)

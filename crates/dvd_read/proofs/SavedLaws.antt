@@ -1,14 +1,14 @@
 -- What holds of all that is saved.
-use Rattle.std.proofs.Common.{◌≡◌, ◌∙◌, ℕ, zero, suc, ◌+◌, ◌*◌, ◌<◌, ◌≤◌, Bool, true, false, cond, inl, inr, if◌then◌else◌, ◌&&◌, List, [], ◌∷◌, ◌++◌, find, length, take, drop, get_or, replicate, slice_get, unwrap_or, refl, sym, ap, subst, arith, Some, None, is_none, is_some, IsTrue, ◌↔◌}
+use Rattle.std.proofs.Common.{◌≡◌, ◌∙◌, ℕ, zero, suc, ◌+◌, ◌*◌, ◌<◌, ◌≤◌, Bool, true, false, cond, inl, inr, if◌then◌else◌, List, [], length, take, drop, get_or, replicate, slice_get, unwrap_or, refl, sym, ap, subst, arith, Some, None, is_none, is_some, IsTrue, ◌↔◌}
 use Rattle.std.specs.List.{cons_option, count_by, filter_map, range_with_len}
 use Rattle.std.specs.Option.{option_and_then, option_map}
 use Rattle.std.specs.declared.option.Option.{Option}
-use Rattle.std.proofs.lemmas.Bool.{cases_eq, eqb-true}
+use Rattle.std.proofs.lemmas.Bool.{cases_eq}
 use Rattle.std.proofs.lemmas.List.{get_or-map, length-append, length-drop, length-replicate, length-take-le}
 use Rattle.std.proofs.lemmas.List.FromFn.{get_or-map-range_with_len, length-map-range_with_len, length-range_with_len}
 use Rattle.std.proofs.lemmas.List.Sums.{count_by-le-length}
 use Rattle.gf_field.specs.Words.{IsNear, cost}
-use Rattle.rs_decode.specs.Nearest.{all_words, is_near, near_of}
+use Rattle.rs_decode.specs.Nearest.{near_of}
 use Rattle.rs_decode.proofs.Nearest.{near_of-some}
 use Rattle.dvd_block.specs.Product.{IsBlockOf, IsProduct, line}
 use Rattle.dvd_capture.specs.Answers.{marks_line}
@@ -29,7 +29,8 @@ use Rattle.dvd_read.specs.Made.{IsMadeOf, IsReceived}
 use Rattle.dvd_read.specs.Reading.{block_cause, block_in}
 use Rattle.dvd_read.specs.Salvage.{answered_block, block_out, candidate, lacks_row, main_if_right, rescued, saved_in, sectors_saved}
 use Rattle.dvd_read.proofs.BlockRead.{both_of_none}
-use Rattle.dvd_read.proofs.FrameFaults.{fronts, fronts-more, mains-all}
+use Rattle.dvd_read.proofs.Codewords.{near_of-codeword}
+use Rattle.dvd_read.proofs.FrameFaults.{frames-same, fronts, fronts-more, mains-all}
 use Rattle.dvd_read.proofs.Mastered.{frame_fine}
 use Rattle.dvd_read.proofs.Outcomes.{agrees-no_cause, found-agrees, no_cause-agrees}
 use Rattle.dvd_read.proofs.RowAnswers.{get_or-answers_of}
@@ -134,21 +135,6 @@ wholly-saved rows marks entry none = (
       (no_frame_cause block entry k parts.1 below)
 
 -- GOOD ROWS
--- frames of equal rows are equal
-fronts-same : (a b : List (List ℕ)) (f n : ℕ) → ((q : ℕ) → q < n → line a (12 * f + q) ≡ line b (12 * f + q)) → fronts a f n ≡ fronts b f n
-fronts-same a b f zero same = refl
-fronts-same a b f (suc n) same =
-    let next : suc n ≡ n + 1 = omega arith in
-    ap (fronts a f) next ∙ fronts-more a f n
-    ∙ ap (λ l. l ++ take 172 (line a (12 * f + n))) (fronts-same a b f n (λ q below. same q (omega arith)))
-    ∙ ap (λ (l : List ℕ). fronts b f n ++ take 172 l) (same n (omega arith))
-    ∙ sym (ap (fronts b f) next ∙ fronts-more b f n)
-
--- frames of the same rows are the same
-frame_of-same : (a b : List (List ℕ)) (f : ℕ) → ((q : ℕ) → q < 12 → line a (12 * f + q) ≡ line b (12 * f + q)) → frame_of a f ≡ frame_of b f
-unfolding frame_of
-frame_of-same a b f same = fronts-same a b f 12 same
-
 -- where the first n rows have answers, none is lacked
 none-lacked : (answers : List (Option (List ℕ))) (f n : ℕ) → length answers ≡ 208 → f < 16 → n ≤ 12
     → ((q : ℕ) → q < n → is_none (get_or answers (12 * f + q) None) ≡ false) → lacks_before answers f n ≡ false
@@ -209,7 +195,7 @@ good_rows-saved entry dim cpr main frames block received marks cause f numbers m
     ∙ ap (λ o. unwrap_or o (replicate 2048 0))
     (rescued-right answers f entry (frame_of block f)
     (candidate-answered answers f (frame_of block f) (ap is_none caused) (none-lacked answers f 12 size below (omega arith) (λ q q_below. ap is_none (answer q q_below)))
-    (sym (frame_of-same (answered_block answers) block f
+    (sym (frames-same (answered_block answers) block f
     (λ q q_below. line-answered answers (12 * f + q) (omega (arith, size)) ∙ ap (λ row. unwrap_or row []) (answer q q_below)))))
     (unmapped (cause_in f) _ fine.0))
     ∙ fine.1
@@ -231,30 +217,6 @@ good_rows-saved entry dim cpr main frames block received marks cause f numbers m
     fine = frame_fine entry dim cpr main frames block f numbers made is_block below
 
 -- SIZES
-
--- what is found is the first element, which passes, or was found among the others
-by_test : {X : Type 0} (p : X → Bool) (y x : X) (rest : Option X) (test : Bool) → p y ≡ test → (rest ≡ Some x → p x ≡ true)
-    → cond test (Some y) rest ≡ Some x → p x ≡ true
-by_test p y x rest true is later found =
-    let same : y ≡ x = cc in
-    ap p (sym same) ∙ is
-by_test p y x rest false is later found = later found
-
--- what is found passes the test
-found-passes : {X : Type 0} (p : X → Bool) (xs : List X) (x : X) → find p xs ≡ Some x → p x ≡ true
-found-passes p [] x found = cc
-found-passes p (y ∷ xs) x found = by_test p y x (find p xs) (p y) refl (found-passes p xs x) found
-
--- where a conjunction is true, its first part is
-left_of : (a b : Bool) → (a && b) ≡ true → a ≡ true
-left_of true b is = refl
-left_of false b is = is
-
--- a near word has so many places
-near-size : (n r : ℕ) (received word : List ℕ) (marks : List Bool) → near_of n r received marks ≡ Some word → length word ≡ n
-unfolding near_of is_near
-near-size n r received word marks found =
-    eqb-true _ _ (left_of _ _ (left_of _ _ (left_of _ _ (found-passes (is_near n r received marks) (all_words n) word found))))
 
 -- the fronts of n rows of 182 places are 172 n bytes
 length-fronts : (block : List (List ℕ)) (f n : ℕ) → ((q : ℕ) → q < n → length (line block (12 * f + q)) ≡ 182) → length (fronts block f n) ≡ 172 * n
@@ -295,7 +257,7 @@ module _ (rows : List (List ℕ)) (marks : List (List Bool)) (size : length rows
     -- by whether there is an answer
     by_answer : (answer : Option (List ℕ)) → get_or answers i None ≡ answer → is_none answer ≡ false → length (unwrap_or answer []) ≡ 182
     by_answer None is some = cc
-    by_answer (Some word) is some = near-size 182 10 (line rows i) word (marks_line marks i) (sym (answer-at rows marks size marks_size i below) ∙ is)
+    by_answer (Some word) is some = (near_of-codeword 182 10 (line rows i) word (marks_line marks i) (sym (answer-at rows marks size marks_size i below) ∙ is)).size
 
   -- a candidate has 2,064 bytes
   candidate-size : (f : ℕ) (frame : List ℕ) → f < 16 → candidate answers f ≡ Some frame → length frame ≡ 2064

@@ -51,7 +51,7 @@ own-row row answer codeword bytes_are fix_is =
 -- ---- a row where nothing was corrected and nothing marked
 
 -- a fix that was found tells what was corrected
-fix-told : (row word : List ℕ) (marks : List Bool) (found : Option Fix) (fix : Fix) → found ≡ Some fix
+pub fix-told : (row word : List ℕ) (marks : List Bool) (found : Option Fix) (fix : Fix) → found ≡ Some fix
     → MatchOption found (near_of 182 10 row marks ≡ None) (IsFix row marks word) → IsFix row marks word fix
 fix-told row word marks found fix is told =
     subst (λ (f : Option Fix). MatchOption f (near_of 182 10 row marks ≡ None) (IsFix row marks word)) is told

@@ -7,7 +7,7 @@ ghost use Rattle.dvd_capture.specs.TwoPass.{failed_of, from_columns};
 ghost use Rattle.rs_decode.specs.Nearest.{near_of, vanishes_at_all};
 ghost use Rattle.rs_decode.specs.Filling.{marked};
 ghost use Rattle.dvd_block.specs.Product.{column, line, place};
-ghost use Rattle.dvd_read.specs.Parts.{AreColumnsFrom, AreOwnFrom, answer_word, bytes_of, column_word};
+ghost use Rattle.dvd_read.specs.Parts.{AreColumnsFrom, AreOwnFrom, answer_word, column_word};
 ghost use Rattle.dvd_read.specs.Inner.Found.{AreRightFrom, IsFirstWrong, words_of};
 ghost use Rattle.dvd_read.specs.Inner.Standing.{AreCopied};
 

@@ -1,5 +1,5 @@
 //! The checks of a block's sixteen data frames, and their Main Data.
-ghost use Rattle.std.specs.Prelude.{◌≡◌, ℕ, ◌+◌, ◌*◌, ◌<◌, ◌≤◌, ◌++◌, None, Some, length, take, replicate, slice_index_or, IsTrue, IfErr, OnErr, OnOk};
+ghost use Rattle.std.specs.Prelude.{◌≡◌, ℕ, ◌+◌, ◌*◌, ◌<◌, ◌≤◌, ◌++◌, None, Some, length, take, replicate, IsTrue, IfErr, OnErr, OnOk};
 ghost use Rattle.dvd_block.specs.Product.{line};
 ghost use Rattle.dvd_capture.specs.Parts.{received_rows, sector_bytes};
 ghost use Rattle.dvd_capture.specs.TwoPass.{from_columns};

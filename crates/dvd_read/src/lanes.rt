@@ -1,5 +1,5 @@
 //! The values of 32 words at powers of alpha, as vectors: the syndromes of word `n` are the lanes with this number.
-ghost use Rattle.std.specs.Prelude.{◌≡◌, ℕ, ◌<◌, ◌≤◌, List, length, slice_index};
+ghost use Rattle.std.specs.Prelude.{◌≡◌, ℕ, ◌<◌, ◌≤◌, List, slice_index};
 ghost use Rattle.gf_field.specs.Field.{alpha, power};
 ghost use Rattle.gf_field.specs.Words.{value};
 ghost use Rattle.rs_code.specs.Syndromes.{syndromes_of};

@@ -3,4 +3,4 @@
 pub use crate::columns::answer_columns;
 pub use crate::frames::sectors_of_block;
 pub use crate::passes::settle;
-pub use crate::rows::{answer_rows, are_few, mark_failed};
+pub use crate::rows::{answer_rows, are_few, count_failed, mark_failed};

@@ -1,10 +1,9 @@
 //! The first pass: each received row is answered by the codeword near it, or it fails.
-ghost use Rattle.std.specs.Prelude.{◌≡◌, ◌⊎◌, ℕ, ◌+◌, ◌<◌, ◌≤◌, ◌↔◌, IsTrue, true, false, length, map, replicate, slice_index_or};
+ghost use Rattle.std.specs.Prelude.{◌≡◌, ℕ, ◌+◌, ◌<◌, ◌≤◌, ◌↔◌, IsTrue, false, length, map, replicate};
 ghost use Rattle.gf_field.specs.Field.{alpha, power};
 ghost use Rattle.gf_field.specs.Words.{value};
 ghost use Rattle.rs_code.specs.Syndromes.{syndromes_of};
 ghost use Rattle.rs_decode.specs.Filling.{marked};
-ghost use Rattle.dvd_block.specs.Product.{line};
 ghost use Rattle.dvd_capture.specs.Answers.{IsAnswer};
 ghost use Rattle.dvd_capture.specs.Parts.{marks_rows, received_rows};
 ghost use Rattle.dvd_capture.specs.TwoPass.{failed_of};
@@ -125,7 +124,7 @@ pub fn are_few(failed: &[bool; 208]) -> bool
 }
 
 /// How many rows failed.
-pub(crate) fn count_failed(failed: &[bool; 208]) -> u16
+pub fn count_failed(failed: &[bool; 208]) -> u16
     ensures count { result ≡ marked failed.now }
     ensures within { result ≤ 208 }
 {

@@ -1,8 +1,9 @@
 use Rattle.std.proofs.Common.{◌∙◌, map, sym, ap, is_some}
+use Rattle.std.proofs.lemmas.Bool.{not-true}
 use Rattle.dvd_capture.specs.TwoPass.{from_columns}
 use Rattle.dvd_read.specs.Parts.{answer_word}
 use Rattle.dvd_read.specs.Inner.Found.{words_of}
-use Rattle.dvd_read.proofs.SavedFrames.{candidate-answered, candidate-found, candidate-has, is_not}
+use Rattle.dvd_read.proofs.SavedFrames.{candidate-answered, candidate-found, candidate-has}
 use Rattle.dvd_read.proofs.rescue.copy_candidate.Goals as goal
 
 pub returns-then-fixed-clause-candidate : goal.returns-then-fixed-clause-candidate
@@ -20,7 +21,7 @@ pub returns-else-fixed-clause-candidate : goal.returns-else-fixed-clause-candida
 returns-else-fixed-clause-candidate c =
     λ yes.
     candidate-answered (map answer_word c.args.answers.now) c.args.f c.copy_answered.new.frame (sym c.requires.held.fixed ∙ c.if-fixed.false)
-    (is_not _ (sym c.copy_answered.ensures.has ∙ yes)) (c.copy_answered.ensures.frame yes)
+    (not-true _ (sym c.copy_answered.ensures.has ∙ yes)) (c.copy_answered.ensures.frame yes)
 
 pub returns-else-fixed-clause-has : goal.returns-else-fixed-clause-has
 returns-else-fixed-clause-has c =
