@@ -1,8 +1,7 @@
 //! The line of a damaged ECC block: where it stands in the plan and on the disk, the first rule that it breaks, and how many
 //! of its sixteen frames were saved.
-ghost use Rattle.std.specs.Prelude.{◌≡◌, ◌+◌, ◌≤◌, ◌++◌, length, decimal, OnOk, OnErr};
+ghost use Rattle.std.specs.Prelude.{◌≡◌, ◌+◌, ◌≤◌, ◌++◌, length, OnOk, OnErr};
 ghost use Rattle.std.specs.Io.KnownBytes.{Appends};
-ghost use Rattle.arrayvec.specs.ArrayVec.{array_vec_len};
 ghost use Rattle.dvd_layout.specs.Place.{HasNumbers};
 ghost use Rattle.dvd_ports.specs.Causes.{HasCause};
 ghost use Rattle.dvd_ports.specs.Whole.{AppendsPrefix};

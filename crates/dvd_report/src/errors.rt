@@ -9,7 +9,7 @@ ghost use Rattle.dvd_report.specs.Survey.{failed_rows, has_pi_error, pi_rows, su
 use crate::counts::Surveyed;
 use dvd_capture::Work;
 use dvd_capture::parts::AnswerRow;
-use dvd_read::{Cause, Fixed};
+use dvd_read::{Cause, Fixed, parts};
 
 /// What a survey keeps of a block that was read with this answer.
 pub(crate) fn survey_block(work: &Work, answer: &Result<Fixed, Cause>) -> Surveyed
@@ -51,9 +51,7 @@ fn count_failed(work: &Work) -> u8
     requires { HasAnswers (stage_of work.now) }
     ensures { result ≡ failed_rows (rows_of work.now) (marks_of_work work.now) }
 {
-    let mut count = 0;
-    for answer in work.answers.rows() {
-        count += u8::from(answer.fix.is_none());
-    }
-    count
+    let mut failed = [false; 208];
+    parts::mark_failed(work.answers.rows(), &mut failed);
+    parts::count_failed(&failed) as u8
 }

@@ -3,8 +3,9 @@ use Rattle.dvd_block.specs.Product.{line}
 use Rattle.dvd_capture.specs.Answers.{IsAnswer, marks_line}
 use Rattle.dvd_capture.specs.Works.{answers_of_work, marks_of_work, rows_of}
 use Rattle.dvd_capture.specs.declared.parts.AnswerRow.{AnswerRow}
+use Rattle.dvd_read.proofs.RowAnswers.{as_number, flag_small}
 use Rattle.dvd_report.specs.Survey.{has_pi_error}
-use Rattle.dvd_report.proofs.RowCounts.{errors-next, flag_small, length-marks_line, pi_rows-counted}
+use Rattle.dvd_report.proofs.RowCounts.{errors-next, length-marks_line, pi_rows-counted}
 use Rattle.dvd_report.proofs.errors.count_errors.Goals as goal
 
 pub loop-i-preserved : goal.loop-i-preserved
@@ -23,7 +24,7 @@ loop-i-preserved c =
     c.has_pi_error.ensures (marks_line marks i) size told ∙ ap (λ row. has_pi_error row (marks_line marks i)) c.row.ensures in
     record {
       counted = errors-next rows marks i c.loop-i.count c.from-count.result c.has_pi_error.result c.loop-i.invariant.counted c.from-count.ensures flag;
-      few = omega (arith, c.loop-i.invariant.few, c.from-count.ensures, flag_small c.has_pi_error.result);
+      few = omega (arith, c.loop-i.invariant.few, c.from-count.ensures, as_number c.has_pi_error.result, flag_small c.has_pi_error.result);
     }
 
 pub returns : goal.returns

@@ -1,29 +1,20 @@
-use Rattle.std.proofs.Common.{◌≡◌, ◌<◌, ◌≤◌, length, [], None, is_some, not, get_or, sym, subst, arith}
-use Rattle.rs_decode.proofs.Marks.{marked-none}
-use Rattle.dvd_capture.specs.Works.{answers_of_work}
+use Rattle.std.proofs.Common.{◌≡◌, ◌∙◌, ℕ, List, length, map, ap, arith}
+use Rattle.std.specs.declared.option.Option.{Option}
+use Rattle.rs_decode.specs.Filling.{marked}
+use Rattle.dvd_capture.specs.TwoPass.{failed_of}
+use Rattle.dvd_capture.specs.Works.{answers_of_work, marks_of_work, rows_of}
 use Rattle.dvd_capture.specs.declared.parts.AnswerRow.{AnswerRow}
-use Rattle.dvd_report.proofs.RowCounts.{failed-counted, failed-next, flag_small}
+use Rattle.dvd_read.specs.Parts.{answer_word}
+use Rattle.dvd_read.proofs.RowAnswers.{block_answers}
+use Rattle.dvd_report.specs.Survey.{failed_rows}
 use Rattle.dvd_report.proofs.errors.count_failed.Goals as goal
-
-pub loop-answer-init : goal.loop-answer-init
-loop-answer-init c = record { counted = sym marked-none; few = omega arith }
-
-pub loop-answer-preserved : goal.loop-answer-preserved
-loop-answer-preserved c =
-    let answers = answers_of_work c.args.work.now in
-    let i = c.loop-answer.answer-index in
-    let blank : AnswerRow = record { bytes = []; fix = None } in
-    let within : i < length answers = subst (λ (list : _). i < length list) c.rows-answer-items.ensures.rows c.loop-answer-test.true in
-    let flag : is_some (get_or answers i blank).fix ≡ not c.is_none.result =
-    subst (λ list. is_some (get_or list i blank).fix ≡ not c.is_none.result) c.rows-answer-items.ensures.rows c.is_none.ensures in
-    record {
-      counted = failed-next answers i c.loop-answer.count c.from-count.result c.is_none.result blank within c.loop-answer.invariant.counted c.from-count.ensures flag;
-      few = omega (arith, c.loop-answer.invariant.few, c.from-count.ensures, flag_small c.is_none.result);
-    }
 
 pub returns : goal.returns
 returns c =
-    let answers = answers_of_work c.args.work.now in
-    let size : length answers ≡ 208 = subst (λ list. length list ≡ 208) c.rows-answer-items.ensures.rows c.rows-answer-items.ensures.size in
-    let past : length answers ≤ c.loop-answer.answer-index = subst (λ (list : _). length list ≤ c.loop-answer.answer-index) c.rows-answer-items.ensures.rows c.loop-answer-test.false in
-    failed-counted c.args.work.now c.loop-answer.count c.loop-answer.answer-index c.requires past size c.loop-answer.invariant.counted
+    let work = c.args.work.now in
+    let size : length (answers_of_work work) ≡ 208 = omega (arith, work.answers.size, work.answers.rows.ok.0) in
+    let counted : c.count_failed.result ≡ failed_rows (rows_of work) (marks_of_work work) =
+    c.count_failed.ensures.count ∙ ap marked c.mark_failed.ensures
+    ∙ ap (λ (answers : List AnswerRow). marked (failed_of (map answer_word answers))) c.rows.ensures.rows
+    ∙ ap (λ (words : List (Option (List ℕ))). marked (failed_of words)) (block_answers work.received work.marks (answers_of_work work) size (work.answered c.requires)) in
+    omega (arith, counted, c.count_failed.ensures.within)

@@ -1,7 +1,7 @@
 use Rattle.std.proofs.Common.{◌≡◌, ◌∙◌, ◌≤◌, cond, false, nat_lt, sym, ap, arith}
 use Rattle.std.proofs.lemmas.Bool.{lt-ltb}
 use Rattle.std.proofs.lemmas.Bool.Decides.{nat_tests}
-use Rattle.dvd_report.proofs.RowCounts.{as_number}
+use Rattle.dvd_read.proofs.RowAnswers.{as_number}
 use Rattle.dvd_report.proofs.Sums.{totals-next}
 use Rattle.dvd_report.proofs.survey.totals_with.Goals as goal
 use Rattle.dvd_report.proofs.survey.totals_with.Goals.{then-sum-totals, else-sum-totals}
