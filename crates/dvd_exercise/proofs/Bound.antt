@@ -8,8 +8,8 @@ use Rattle.dvd_capture.specs.Within.{IsWithin, block_weight, row_weight}
 use Rattle.dvd_exercise.specs.Damage.{HasErrors, IsHurt, IsHurtBy, bad_count, error_count, error_place, lost_count, row_of, row_state, start_row}
 use Rattle.dvd_exercise.specs.Generator.{state_after}
 use Rattle.dvd_exercise.specs.Laws.{HurtIsWithin}
-use Rattle.dvd_exercise.proofs.Burdens.{burden-at, burdens, find_place, length-burdens, sum_below, total, total-burdens}
-use Rattle.dvd_exercise.proofs.Rows.{miss_from_none}
+use Rattle.dvd_exercise.proofs.Burdens.{burden-at, burdens, Find, find_place, length-burdens, sum_below, total, total-burdens}
+use Rattle.dvd_exercise.proofs.Rows.{TurnOf, miss_from_none}
 
 -- a word costs no more than what is said of its differing places
 cost-total : (word row xs : List ℕ) (n : ℕ) → length xs ≡ length word → ((k : ℕ) → k < length word → slice_index word k ≢ slice_index row k → 2 ≤ get_or xs k 0)
@@ -46,7 +46,7 @@ errors-cost y before after has =
     omega (arith, total-burdens (error_place y) (λ _. 2) size n, sum_below-two n) where
       -- by whether the place is that of an error
       by_place : (k : ℕ) → k < length before → slice_index before k ≢ slice_index after k
-          → (((t : ℕ) × (t < error_count y) × (error_place y t ≡ k)) ⊎ ((t : ℕ) → t < error_count y → error_place y t ≢ k))
+          → Find (error_place y) k (error_count y)
           → 2 ≤ get_or (burdens (error_place y) (λ _. 2) (length before) (error_count y)) k 0
       by_place k below other (inl found) =
           subst (λ (k : ℕ). 2 ≤ get_or (burdens (error_place y) (λ _. 2) (length before) (error_count y)) k 0) found.2
@@ -88,7 +88,7 @@ unfolding sum_below
 sum_below-turns bad zero = omega arith
 sum_below-turns bad (suc n) = next (leb_tells (suc n) bad) (sum_below-turns bad n) where
   -- by whether turn n is that of a bad row
-  next : ((nat_lt n bad ≡ true) × (n < bad)) ⊎ ((nat_lt n bad ≡ false) × (bad < suc n)) → sum_below (turn_weight bad) n ≤ n + min n bad
+  next : TurnOf bad n → sum_below (turn_weight bad) n ≤ n + min n bad
       → sum_below (turn_weight bad) n + turn_weight bad n ≤ suc n + min (suc n) bad
   next (inl is) before = rw is.0 (omega arith)
   next (inr is) before = rw is.0 (omega arith)
@@ -110,7 +110,7 @@ module _ (bad lost start y : ℕ) (rows : List (List ℕ)) (done : List (List �
   turn_bound : (t : ℕ) → t < bad + lost → row_weight (get_or rows (row_of start t) []) (get_or done (row_of start t) []) (get_or hurt_marks (row_of start t) []) ≤ turn_weight bad t
   turn_bound t below = by_turn (leb_tells (suc t) bad) where
     -- by whether the turn is that of a bad row
-    by_turn : ((nat_lt t bad ≡ true) × (t < bad)) ⊎ ((nat_lt t bad ≡ false) × (bad < suc t))
+    by_turn : TurnOf bad t
         → row_weight (get_or rows (row_of start t) []) (get_or done (row_of start t) []) (get_or hurt_marks (row_of start t) []) ≤ turn_weight bad t
     by_turn (inl early) = rw early.0 (any-weight (get_or rows (row_of start t) []) (get_or done (row_of start t) []) (get_or hurt_marks (row_of start t) []))
     by_turn (inr late) = rw (late.0, marks_lost t (omega (arith, late.1)) below) (lost-weight (get_or rows (row_of start t) []) (get_or done (row_of start t) []))
@@ -119,7 +119,7 @@ module _ (bad lost start y : ℕ) (rows : List (List ℕ)) (done : List (List �
   row_bound : (k : ℕ) → k < 208 → row_weight (get_or rows k []) (get_or done k []) (get_or hurt_marks k []) ≤ get_or (burdens (row_of start) (turn_weight bad) 208 (bad + lost)) k 0
   row_bound k below = by_row (find_place (row_of start) k (bad + lost)) where
     -- by whether a turn has the row
-    by_row : (((t : ℕ) × (t < bad + lost) × (row_of start t ≡ k)) ⊎ ((t : ℕ) → t < bad + lost → row_of start t ≢ k))
+    by_row : Find (row_of start) k (bad + lost)
         → row_weight (get_or rows k []) (get_or done k []) (get_or hurt_marks k []) ≤ get_or (burdens (row_of start) (turn_weight bad) 208 (bad + lost)) k 0
     by_row (inl found) =
         subst (λ (k : ℕ). row_weight (get_or rows k []) (get_or done k []) (get_or hurt_marks k []) ≤ get_or (burdens (row_of start) (turn_weight bad) 208 (bad + lost)) k 0) found.2

@@ -84,14 +84,18 @@ module _ (place weight : ℕ → ℕ) (size : ℕ) where
       (λ within. add_at-here before (place n) (weight n) (omega (arith, length-burdens n, within)))
       t (omega arith) within
 
--- whether a place is one of the first n can be told
-pub find_place : (place : ℕ → ℕ) (k n : ℕ) → ((t : ℕ) × (t < n) × (place t ≡ k)) ⊎ ((t : ℕ) → t < n → place t ≢ k)
+-- one of the first n places is place k, or none is
+abbrev pub Find : (ℕ → ℕ) → ℕ → ℕ → Type 0
+Find place k n = ((t : ℕ) × (t < n) × (place t ≡ k)) ⊎ ((t : ℕ) → t < n → place t ≢ k)
+
+-- which of them is so can be told
+pub find_place : (place : ℕ → ℕ) (k n : ℕ) → Find place k n
 find_place place k zero = inr (λ t below. absurd (omega arith))
 find_place place k (suc n) = go (find_place place k n) (eqb_tells (place n) k) where
   -- by whether it is one of those before, and whether it is this one
-  go : (((t : ℕ) × (t < n) × (place t ≡ k)) ⊎ ((t : ℕ) → t < n → place t ≢ k))
+  go : Find place k n
       → (((place n == k) ≡ true) × (place n ≡ k)) ⊎ (((place n == k) ≡ false) × (place n ≢ k))
-      → ((t : ℕ) × (t < suc n) × (place t ≡ k)) ⊎ ((t : ℕ) → t < suc n → place t ≢ k)
+      → Find place k (suc n)
   go (inl found) here = inl (found.0, omega (arith, found.1), found.2)
   go (inr none) (inl here) = inl (n, omega arith, here.1)
   go (inr none) (inr other) = inr (λ t below. below_more (λ t. place t ≢ k) n none other.1 t (omega arith))

@@ -1,12 +1,12 @@
 -- The damage is determined.
-use Rattle.std.proofs.Common.{◌≡◌, ◌≢◌, ◌⊎◌, ◌∙◌, ℕ, ◌+◌, ◌-◌, ◌<◌, Bool, true, false, nat_lt, suc, List, [], length, get_or, replicate, inl, inr, sym, subst, arith}
+use Rattle.std.proofs.Common.{◌≡◌, ◌∙◌, ℕ, ◌+◌, ◌-◌, ◌<◌, Bool, true, suc, List, [], length, get_or, replicate, inl, inr, sym, subst, arith}
 use Rattle.std.proofs.lemmas.Bool.Decides.{leb_tells}
 use Rattle.std.proofs.lemmas.List.{ext_get_or}
 use Rattle.dvd_exercise.specs.Damage.{IsChanged, IsHurtBy, bad_count, lost_count, row_of, start_row}
 use Rattle.dvd_exercise.specs.Generator.{state_after}
 use Rattle.dvd_exercise.specs.Laws.{HurtIsOnlyOne}
-use Rattle.dvd_exercise.proofs.Burdens.{find_place}
-use Rattle.dvd_exercise.proofs.Rows.{miss_from_none}
+use Rattle.dvd_exercise.proofs.Burdens.{Find, find_place}
+use Rattle.dvd_exercise.proofs.Rows.{TurnOf, miss_from_none}
 
 -- lists with the same changes are the same
 changed_once : {X : Type 0} (none : X) (n : ℕ) (place : ℕ → ℕ) (value : ℕ → X) (before a b : List X)
@@ -14,7 +14,7 @@ changed_once : {X : Type 0} (none : X) (n : ℕ) (place : ℕ → ℕ) (value : 
 changed_once none n place value before a b is_a is_b =
     ext_get_or none a b (is_a.size ∙ sym is_b.size) (λ k below. at_place k (find_place place k n)) where
       -- by whether the place is changed
-      at_place : (k : ℕ) → (((t : ℕ) × (t < n) × (place t ≡ k)) ⊎ ((t : ℕ) → t < n → place t ≢ k)) → get_or a k none ≡ get_or b k none
+      at_place : (k : ℕ) → Find place k n → get_or a k none ≡ get_or b k none
       at_place k (inl found) = subst (λ (k : ℕ). get_or a k none ≡ get_or b k none) found.2 (is_a.changed found.0 found.1 ∙ sym (is_b.changed found.0 found.1))
       at_place k (inr free) = is_a.others k free ∙ sym (is_b.others k free)
 
@@ -24,7 +24,7 @@ module _ (bad lost start y : ℕ) (rows a b : List (List ℕ)) (marks a_marks b_
   turn_once : (t : ℕ) → t < bad + lost → get_or a (row_of start t) [] ≡ get_or b (row_of start t) []
   turn_once t below = by_turn (leb_tells (suc t) bad) where
     -- by whether it is bad
-    by_turn : ((nat_lt t bad ≡ true) × (t < bad)) ⊎ ((nat_lt t bad ≡ false) × (bad < suc t)) → get_or a (row_of start t) [] ≡ get_or b (row_of start t) []
+    by_turn : TurnOf bad t → get_or a (row_of start t) [] ≡ get_or b (row_of start t) []
     by_turn (inl early) = is_a.bad_rows t early.1 ∙ sym (is_b.bad_rows t early.1)
     by_turn (inr late) =
         let same : bad + (t - bad) ≡ t = omega (arith, late.1) in
@@ -38,7 +38,7 @@ module _ (bad lost start y : ℕ) (rows a b : List (List ℕ)) (marks a_marks b_
     changed_once [] lost (λ t. row_of start (bad + t)) (λ _. replicate 182 true) marks a_marks b_marks is_a.marked is_b.marked,
   ) where
     -- by whether the row is bad or lost
-    by_row : (k : ℕ) → k < 208 → (((t : ℕ) × (t < bad + lost) × (row_of start t ≡ k)) ⊎ ((t : ℕ) → t < bad + lost → row_of start t ≢ k)) → get_or a k [] ≡ get_or b k []
+    by_row : (k : ℕ) → k < 208 → Find (row_of start) k (bad + lost) → get_or a k [] ≡ get_or b k []
     by_row k below (inl found) = subst (λ (k : ℕ). get_or a k [] ≡ get_or b k []) found.2 (turn_once found.0 found.1)
     by_row k below (inr none) =
         let miss = miss_from_none start (bad + lost) k none in

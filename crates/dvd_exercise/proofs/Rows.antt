@@ -1,5 +1,5 @@
 -- Which rows are bad or lost, and from which states the single errors of the others are drawn.
-use Rattle.std.proofs.Common.{◌≡◌, ◌≢◌, ◌∙◌, ◌⊎◌, ℕ, ◌+◌, ◌*◌, ◌%◌, ◌<◌, ◌≤◌, ◌==◌, Bool, true, false, List, [], length, get_or, slice_index, bit_xor, inl, inr, refl, sym, ap, subst, arith, add-one, below_more, eq-eqb, get_or-set_other, set, zero-add}
+use Rattle.std.proofs.Common.{◌≡◌, ◌≢◌, ◌∙◌, ◌⊎◌, ℕ, ◌+◌, ◌*◌, ◌%◌, ◌<◌, ◌≤◌, ◌==◌, Bool, true, false, nat_lt, suc, List, [], length, get_or, slice_index, bit_xor, inl, inr, refl, sym, ap, subst, arith, add-one, below_more, eq-eqb, get_or-set_other, set, zero-add}
 use Rattle.std.specs.List.{range_with_len}
 use Rattle.std.proofs.lemmas.Bool.Decides.{eqb_tells}
 use Rattle.std.proofs.lemmas.List.Folds.{Any-from_list_any, list_any_at}
@@ -7,6 +7,10 @@ use Rattle.std.proofs.lemmas.List.FromFn.{get_or-map-range_with_len, get_or-rang
 use Rattle.dvd_block.specs.Product.{line}
 use Rattle.dvd_exercise.specs.Damage.{HasErrors, combined, error_count, is_hit, row_of, row_state}
 use Rattle.dvd_exercise.specs.Generator.{byte_at, state_after}
+
+-- turn t is that of a bad row, or of one that comes behind these
+abbrev pub TurnOf : ℕ → ℕ → Type 0
+TurnOf bad t = ((nat_lt t bad ≡ true) × (t < bad)) ⊎ ((nat_lt t bad ≡ false) × (bad < suc t))
 
 -- no row comes twice
 pub row_of-new : (start n t : ℕ) → n < 208 → t < n → row_of start t ≢ row_of start n

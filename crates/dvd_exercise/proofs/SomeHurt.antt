@@ -1,5 +1,5 @@
 -- Every block can be hurt from every state.
-use Rattle.std.proofs.Common.{◌≡◌, ◌≢◌, ◌⊎◌, ◌∙◌, ℕ, zero, suc, ◌+◌, ◌-◌, ◌*◌, ◌%◌, ◌<◌, ◌≤◌, Bool, true, false, nat_lt, List, [], length, map, set, replicate, inl, inr, refl, sym, ap, subst, arith, add-one, bit_xor, slice_index}
+use Rattle.std.proofs.Common.{◌≡◌, ◌≢◌, ◌⊎◌, ◌∙◌, ℕ, zero, suc, ◌+◌, ◌-◌, ◌*◌, ◌%◌, ◌<◌, ◌≤◌, Bool, true, false, List, [], length, map, set, replicate, inl, inr, refl, sym, ap, subst, arith, add-one, bit_xor, slice_index}
 use Rattle.std.specs.List.{range_with_len}
 use Rattle.std.proofs.Math.Nat.{mod-lt}
 use Rattle.std.proofs.lemmas.Bool.{cases_lt}
@@ -9,9 +9,9 @@ use Rattle.dvd_block.specs.Product.{line}
 use Rattle.dvd_exercise.specs.Damage.{HasErrors, IsChanged, IsHurtBy, bad_count, combined, error_byte, error_count, error_place, is_hit, lost_count, row_of, row_state, start_row}
 use Rattle.dvd_exercise.specs.Generator.{state_after}
 use Rattle.dvd_exercise.specs.Laws.{SomethingIsHurt}
-use Rattle.dvd_exercise.proofs.Burdens.{find_place}
+use Rattle.dvd_exercise.proofs.Burdens.{Find, find_place}
 use Rattle.dvd_exercise.proofs.Changed.{changed_more, changed_none}
-use Rattle.dvd_exercise.proofs.Rows.{not_hit, place-new, row_of-new}
+use Rattle.dvd_exercise.proofs.Rows.{TurnOf, not_hit, place-new, row_of-new}
 
 -- values can be set at places that come once
 some_changed : {X : Type 0} (none : X) (n : ℕ) (place : ℕ → ℕ) (value : ℕ → X) (before : List X)
@@ -33,10 +33,6 @@ some_errors y row width =
     (λ m t below earlier. place-new (state_after y 2 % 182) m t (omega arith) earlier)
     (λ t below. omega (arith, width))
 
--- the turn among the first n whose row this is, or that there is none
-abbrev Find : ℕ → ℕ → ℕ → Type 0
-Find start n k = ((t : ℕ) × (t < n) × (row_of start t ≡ k)) ⊎ ((t : ℕ) → t < n → row_of start t ≢ k)
-
 -- the turn of a row is one
 same_turn : (start s t : ℕ) → s < 208 → t < 208 → row_of start s ≡ row_of start t → s ≡ t
 same_turn start s t first second same = elim (cases_lt s t) [
@@ -54,7 +50,7 @@ module _ (bad lost start y : ℕ) (few : bad + lost < 208) (rows : List (List �
   errors k below = some_errors (row_state start (bad + lost) (state_after y (182 * bad)) k) (line rows k) (widths k below)
 
   -- the row of a turn, which is bad or lost
-  abbrev turn_row : (t : ℕ) → (((nat_lt t bad ≡ true) × (t < bad)) ⊎ ((nat_lt t bad ≡ false) × (bad < suc t))) → List ℕ
+  abbrev turn_row : (t : ℕ) → TurnOf bad t → List ℕ
   turn_row t (inl early) = combined (state_after y (182 * t)) (line rows (row_of start t))
   turn_row t (inr late) = replicate 182 0
 
@@ -66,7 +62,7 @@ module _ (bad lost start y : ℕ) (few : bad + lost < 208) (rows : List (List �
   bad_row : (t : ℕ) → t < bad → hit_row t ≡ combined (state_after y (182 * t)) (line rows (row_of start t))
   bad_row t below = by_turn (leb_tells (suc t) bad) where
     -- by whether the turn is that of a bad row
-    by_turn : (turn : ((nat_lt t bad ≡ true) × (t < bad)) ⊎ ((nat_lt t bad ≡ false) × (bad < suc t)))
+    by_turn : (turn : TurnOf bad t)
         → turn_row t turn ≡ combined (state_after y (182 * t)) (line rows (row_of start t))
     by_turn (inl early) = refl
     by_turn (inr late) = absurd (omega (arith, late.1))
@@ -75,25 +71,25 @@ module _ (bad lost start y : ℕ) (few : bad + lost < 208) (rows : List (List �
   lost_row : (t : ℕ) → bad ≤ t → hit_row t ≡ replicate 182 0
   lost_row t past = by_turn (leb_tells (suc t) bad) where
     -- by whether the turn is that of a bad row
-    by_turn : (turn : ((nat_lt t bad ≡ true) × (t < bad)) ⊎ ((nat_lt t bad ≡ false) × (bad < suc t))) → turn_row t turn ≡ replicate 182 0
+    by_turn : (turn : TurnOf bad t) → turn_row t turn ≡ replicate 182 0
     by_turn (inl early) = absurd (omega (arith, early.1))
     by_turn (inr late) = refl
 
   -- row k as it is hurt, by the turn that has it, or else with its single errors
-  abbrev row_for : (k : ℕ) → ((k < 208) ⊎ (208 ≤ k)) → Find start (bad + lost) k → List ℕ
+  abbrev row_for : (k : ℕ) → ((k < 208) ⊎ (208 ≤ k)) → Find (row_of start) k (bad + lost) → List ℕ
   row_for k inside (inl found) = hit_row found.0
   row_for k (inl below) (inr none) = (errors k below).0
   row_for k (inr past) (inr none) = []
 
   -- where the turn of row k is t, it is the row of this turn
-  row_hit : (k : ℕ) (inside : (k < 208) ⊎ (208 ≤ k)) (find : Find start (bad + lost) k) (t : ℕ) → t < bad + lost → row_of start t ≡ k
+  row_hit : (k : ℕ) (inside : (k < 208) ⊎ (208 ≤ k)) (find : Find (row_of start) k (bad + lost)) (t : ℕ) → t < bad + lost → row_of start t ≡ k
       → row_for k inside find ≡ hit_row t
   row_hit k inside (inl found) t below same = ap hit_row (same_turn start found.0 t (omega (arith, found.1)) (omega arith) (found.2 ∙ sym same))
   row_hit k (inl lt) (inr none) t below same = absurd (none t below same)
   row_hit k (inr past) (inr none) t below same = absurd (none t below same)
 
   -- where no turn has row k, it has its single errors alone
-  row_errors : (k : ℕ) (inside : (k < 208) ⊎ (208 ≤ k)) (find : Find start (bad + lost) k) → k < 208 → is_hit start (bad + lost) k ≡ false
+  row_errors : (k : ℕ) (inside : (k < 208) ⊎ (208 ≤ k)) (find : Find (row_of start) k (bad + lost)) → k < 208 → is_hit start (bad + lost) k ≡ false
       → HasErrors (row_state start (bad + lost) (state_after y (182 * bad)) k) (line rows k) (row_for k inside find)
   row_errors k inside (inl found) below miss = absurd (not_hit start (bad + lost) k found.0 miss found.1 found.2)
   row_errors k (inl lt) (inr none) below miss = (errors k lt).1

@@ -1,5 +1,5 @@
 -- A block that is hurt keeps its size, and so the block that was recorded is found.
-use Rattle.std.proofs.Common.{◌≡◌, ◌≢◌, ◌⊎◌, ◌∙◌, ℕ, suc, ◌+◌, ◌-◌, ◌*◌, ◌<◌, Bool, true, false, nat_lt, List, [], length, get_or, replicate, inl, inr, ap, subst, arith}
+use Rattle.std.proofs.Common.{◌≡◌, ◌∙◌, ℕ, suc, ◌+◌, ◌-◌, ◌*◌, ◌<◌, Bool, true, false, List, [], length, get_or, replicate, inl, inr, ap, subst, arith}
 use Rattle.std.proofs.lemmas.Bool.Decides.{leb_tells}
 use Rattle.std.proofs.lemmas.List.{get_or-replicate, length-replicate}
 use Rattle.std.proofs.lemmas.List.Elements.{All-from_get_or}
@@ -9,8 +9,8 @@ use Rattle.dvd_exercise.specs.Damage.{IsHurt, IsHurtBy, bad_count, lost_count, r
 use Rattle.dvd_exercise.specs.Generator.{state_after}
 use Rattle.dvd_exercise.specs.Laws.{HurtIsTwoPass}
 use Rattle.dvd_exercise.proofs.Bound.{hurt_within}
-use Rattle.dvd_exercise.proofs.Burdens.{find_place}
-use Rattle.dvd_exercise.proofs.Rows.{length-combined, miss_from_none}
+use Rattle.dvd_exercise.proofs.Burdens.{Find, find_place}
+use Rattle.dvd_exercise.proofs.Rows.{TurnOf, length-combined, miss_from_none}
 
 module _ (bad lost start y : ℕ) (rows : List (List ℕ)) (done : List (List ℕ)) (hurt_marks : List (List Bool))
     (is : IsHurtBy bad lost start y rows (replicate 208 (replicate 182 false)) done hurt_marks) where
@@ -18,7 +18,7 @@ module _ (bad lost start y : ℕ) (rows : List (List ℕ)) (done : List (List �
   turn_width : (t : ℕ) → t < bad + lost → length (line done (row_of start t)) ≡ 182
   turn_width t below = by_turn (leb_tells (suc t) bad) where
     -- by whether it is bad
-    by_turn : ((nat_lt t bad ≡ true) × (t < bad)) ⊎ ((nat_lt t bad ≡ false) × (bad < suc t)) → length (line done (row_of start t)) ≡ 182
+    by_turn : TurnOf bad t → length (line done (row_of start t)) ≡ 182
     by_turn (inl early) = ap length (is.bad_rows t early.1) ∙ length-combined (state_after y (182 * t)) (line rows (row_of start t))
     by_turn (inr late) =
         let same : bad + (t - bad) ≡ t = omega (arith, late.1) in
@@ -28,7 +28,7 @@ module _ (bad lost start y : ℕ) (rows : List (List ℕ)) (done : List (List �
   row_width : (k : ℕ) → k < 208 → length (line rows k) ≡ 182 → length (line done k) ≡ 182
   row_width k below width = by_row (find_place (row_of start) k (bad + lost)) where
     -- by whether the row is bad or lost
-    by_row : (((t : ℕ) × (t < bad + lost) × (row_of start t ≡ k)) ⊎ ((t : ℕ) → t < bad + lost → row_of start t ≢ k)) → length (line done k) ≡ 182
+    by_row : Find (row_of start) k (bad + lost) → length (line done k) ≡ 182
     by_row (inl found) = subst (λ (k : ℕ). length (line done k) ≡ 182) found.2 (turn_width found.0 found.1)
     by_row (inr none) = (is.others k below (miss_from_none start (bad + lost) k none)).size ∙ width
 
@@ -36,7 +36,7 @@ module _ (bad lost start y : ℕ) (rows : List (List ℕ)) (done : List (List �
   marks_width : (k : ℕ) → k < 208 → length (get_or hurt_marks k []) ≡ 182
   marks_width k below = by_row (find_place (λ t. row_of start (bad + t)) k lost) where
     -- by whether the row is lost
-    by_row : (((t : ℕ) × (t < lost) × (row_of start (bad + t) ≡ k)) ⊎ ((t : ℕ) → t < lost → row_of start (bad + t) ≢ k)) → length (get_or hurt_marks k []) ≡ 182
+    by_row : Find (λ t. row_of start (bad + t)) k lost → length (get_or hurt_marks k []) ≡ 182
     by_row (inl found) = subst (λ (k : ℕ). length (get_or hurt_marks k []) ≡ 182) found.2 (ap length (is.marked.changed found.0 found.1) ∙ length-replicate 182 true)
     by_row (inr none) = ap length (is.marked.others k none ∙ get_or-replicate 208 k (replicate 182 false) [] below) ∙ length-replicate 182 false
 
