@@ -10,6 +10,7 @@ use Rattle.std.proofs.lemmas.List.FromFn.{fill_by_all, length-map-range_with_len
 use Rattle.std.proofs.lemmas.Grind.{same_number_lists}
 use Rattle.rs_decode.specs.Nearest.{near_of}
 use Rattle.dvd_block.specs.Product.{column, line, place}
+use Rattle.dvd_block.proofs.Columns.{get_or-column, length-column}
 use Rattle.dvd_capture.specs.Answers.{marks_line}
 use Rattle.dvd_capture.specs.TwoPass.{from_columns}
 use Rattle.dvd_capture.proofs.Columns.{from_columns-line, length-from_columns}
@@ -32,21 +33,13 @@ pub record AreStepped (failed : List Bool) (state : State) (rows : List (List �
   pub rows_left : (i k : ℕ) → i < 208 → j ≤ k → k < 182 → place rows i k ≡ place state.rows i k
   pub marks_left : (i k : ℕ) → i < 208 → j ≤ k → k < 182 → mark_in marks i k ≡ mark_in state.marks i k
 
--- the byte of column j in row i
-pub column-byte : (rows : List (List ℕ)) (i j : ℕ) → i < length rows → slice_index (column rows j) i ≡ place rows i j
-column-byte rows i j within = get_or-map (λ row. slice_index row j) rows i [] 0 within
-
--- a column has a byte for each row
-pub length-column : (rows : List (List ℕ)) (j : ℕ) → length (column rows j) ≡ length rows
-length-column rows j = length-map rows (λ row. slice_index row j)
-
 -- columns of the same bytes are the same
 pub same-column : (a b : List (List ℕ)) (j : ℕ) → length a ≡ 208 → length b ≡ 208 → ((i : ℕ) → i < 208 → place a i j ≡ place b i j) → column a j ≡ column b j
 same-column a b j size_a size_b same =
     same_number_lists (column a j) (column b j) (length-column a j ∙ size_a ∙ sym (length-column b j ∙ size_b))
     (λ i within.
     let below : i < 208 = omega (arith, length-column a j, size_a) in
-    column-byte a i j (omega arith) ∙ same i below ∙ sym (column-byte b i j (omega arith)))
+    get_or-column a j i (omega arith) ∙ same i below ∙ sym (get_or-column b j i (omega arith)))
 
 -- flags that are the marks of column j, row by row, are its marks
 pub marks-read : (marks : List (List Bool)) (j : ℕ) (own : List Bool) → length own ≡ 208 → ((i : ℕ) → i < 208 → get_or own i false ≡ mark_in marks i j)
@@ -173,7 +166,7 @@ columns-all failed state rows marks height marks_height marks_wide part =
 pub unanswered-put : (found : Option (List ℕ)) (rows : List (List ℕ)) (j : ℕ) → length rows ≡ 208 → is_some found ≡ false
     → IsColumnPut j (unwrap_or found (column rows j)) rows rows
 unanswered-put None rows j height none = record {
-  here = λ i below. sym (column-byte rows i j (omega (arith, height)));
+  here = λ i below. sym (get_or-column rows j i (omega (arith, height)));
   others = λ i k below inside other. refl;
 }
 unanswered-put (Some word) rows j height none = absurd (true≢false none)

@@ -1,8 +1,9 @@
 -- Whatever block a round finishes with is a product codeword.
-use Rattle.std.proofs.Common.{◌≡◌, ◌∙◌, ℕ, zero, suc, ◌+◌, ◌-◌, ◌<◌, ◌≤◌, Bool, true, false, ◌&&◌, true≢false, cond, List, [], length, map, find, get_or, slice_index, unwrap_or, All, refl, sym, ap, subst, arith, Some, None, is_none, is_some}
+use Rattle.std.proofs.Common.{◌≡◌, ◌∙◌, ℕ, zero, suc, ◌+◌, ◌-◌, ◌<◌, ◌≤◌, Bool, true, false, true≢false, cond, List, [], length, map, find, get_or, slice_index, unwrap_or, All, refl, sym, ap, subst, arith, Some, None, is_none, is_some}
 use Rattle.std.specs.List.{list_all, range_with_len}
 use Rattle.std.specs.Option.{option_map, option_or}
 use Rattle.std.specs.declared.option.Option.{Option}
+use Rattle.std.proofs.lemmas.Bool.{and_parts}
 use Rattle.std.proofs.lemmas.List.{get_or-map, length-map}
 use Rattle.std.proofs.lemmas.List.FromFn.{length-map-range_with_len, get_or-map-range_with_len, get_or-range_with_len, length-range_with_len}
 use Rattle.std.proofs.lemmas.List.Sums.{AllPass-from_list_all}
@@ -11,20 +12,16 @@ use Rattle.gf_field.specs.Words.{IsByte, IsCodeword}
 use Rattle.rs_decode.specs.Nearest.{near_of, vanishes_at_all}
 use Rattle.rs_decode.proofs.Nearest.{near_of-is_near, vanishing-codeword}
 use Rattle.dvd_block.specs.Product.{IsProduct, column, line}
+use Rattle.dvd_block.proofs.Columns.{length-column}
 use Rattle.dvd_capture.specs.TwoPass.{from_columns}
 use Rattle.dvd_capture.proofs.Columns.{column-from_columns, from_columns-line, length-from_columns}
 use Rattle.dvd_deep.specs.Rounds.{State, after, are_answered, column_marks, column_near, column_step, deep_block, failed_rows, finishes, first_round, mark_in, round, row_near, row_step, state_in}
 use Rattle.dvd_deep.specs.Laws.{WhatIsFoundIsProduct}
-use Rattle.dvd_deep.proofs.ColumnStep.{column_then, length-column}
+use Rattle.dvd_deep.proofs.ColumnStep.{column_then}
 use Rattle.dvd_deep.proofs.RowStep.{row_then}
 use Rattle.dvd_deep.proofs.Searches.{after-next, finishes-by}
 
 -- ---- tests of lists
-
--- where two tests pass together, each passes
-both : (a b : Bool) → (a && b) ≡ true → (a ≡ true) × (b ≡ true)
-both true b is = (refl, is)
-both false b is = absurd (true≢false (sym is))
 
 -- a test of all numbers below n tests each
 pub tested-at : (test : ℕ → Bool) (n k : ℕ) → k < n → list_all test (range_with_len 0 n) ≡ true → test k ≡ true
@@ -52,18 +49,18 @@ length-column_marks marks j = length-map-range_with_len (λ i. mark_in marks i j
 
 -- ---- an answered column
 
--- what either try finds is a codeword
-try-codeword : (first second : Option (List ℕ)) → ((word : List ℕ) → first ≡ Some word → IsCodeword 208 16 word) → ((word : List ℕ) → second ≡ Some word → IsCodeword 208 16 word)
-    → (word : List ℕ) → option_or first second ≡ Some word → IsCodeword 208 16 word
-try-codeword None second one other word is = other word is
-try-codeword (Some found) second one other word is = one word is
+-- what holds of the word that either try finds holds of the word that two tries find
+pub by_tries : (P : List ℕ → Type 0) (first second : Option (List ℕ)) → ((word : List ℕ) → first ≡ Some word → P word) → ((word : List ℕ) → second ≡ Some word → P word)
+    → (word : List ℕ) → option_or first second ≡ Some word → P word
+by_tries P None second one other word is = other word is
+by_tries P (Some found) second one other word is = one word is
 
 -- the codeword near a column is a codeword of 208 bytes
 pub near-codeword : (failed : List Bool) (state : State) (j : ℕ) (word : List ℕ) → length state.rows ≡ 208 → length failed ≡ 208
     → column_near failed state j ≡ Some word → IsCodeword 208 16 word
 near-codeword failed state j word height size is =
     let width : length (column state.rows j) ≡ 208 = length-column state.rows j ∙ height in
-    try-codeword (near_of 208 16 (column state.rows j) failed) (near_of 208 16 (column state.rows j) (column_marks state.marks j))
+    by_tries (IsCodeword 208 16) (near_of 208 16 (column state.rows j) failed) (near_of 208 16 (column state.rows j) (column_marks state.marks j))
     (λ found first. (near_of-is_near 208 16 (column state.rows j) found failed width size first).codeword)
     (λ found second. (near_of-is_near 208 16 (column state.rows j) found (column_marks state.marks j) width (length-column_marks state.marks j) second).codeword)
     word is
@@ -129,12 +126,12 @@ round-rows state = column_step-rows (failed_rows state) (row_step state)
 -- all columns are answered in a round that finishes
 pub finished-answered : (state : State) → finishes state ≡ true → are_answered (failed_rows state) (row_step state) ≡ true
 finished-answered state done =
-    (both (are_answered (failed_rows state) (row_step state)) (list_all (vanishes_at_all 10) (round state).rows) (sym (finishes-by state) ∙ done)).0
+    (and_parts (are_answered (failed_rows state) (row_step state)) (list_all (vanishes_at_all 10) (round state).rows) (sym (finishes-by state) ∙ done)).0
 
 -- and it leaves a product block
 pub finished-product : (state : State) → finishes state ≡ true → IsProduct (round state).rows
 finished-product state done =
-    let tests = both (are_answered (failed_rows state) (row_step state)) (list_all (vanishes_at_all 10) (round state).rows) (sym (finishes-by state) ∙ done) in
+    let tests = and_parts (are_answered (failed_rows state) (row_step state)) (list_all (vanishes_at_all 10) (round state).rows) (sym (finishes-by state) ∙ done) in
     let rows_are : (round state).rows ≡ from_columns (words_then (failed_rows state) (row_step state)) = round-rows state in
     subst IsProduct (sym rows_are)
     (tested-product (words_then (failed_rows state) (row_step state)) (length-map-range_with_len (column_then (failed_rows state) (row_step state)) 0 182)

@@ -11,12 +11,13 @@ use Rattle.rs_decode.specs.Nearest.{near_of, vanishes_at_all}
 use Rattle.rs_decode.proofs.Near.{cost-alike}
 use Rattle.rs_decode.proofs.Nearest.{codeword-vanishes, near_of-some}
 use Rattle.dvd_block.specs.Product.{IsProduct, column, line}
+use Rattle.dvd_block.proofs.Columns.{get_or-column, length-column}
 use Rattle.dvd_capture.specs.TwoPass.{IsTwoPass, answer_column, answers_of, byte_at, failed_of}
 use Rattle.dvd_capture.proofs.Columns.{from_columns-product, length-answer_column, length-answers_of}
 use Rattle.dvd_read.proofs.RowAnswers.{get_or-answers_of}
 use Rattle.dvd_deep.specs.Laws.{TwoPassIsRoundOne}
 use Rattle.dvd_deep.specs.Rounds.{State, after, are_answered, column_marks, column_near, failed_rows, finishes, first_round, round, row_near, row_step, state_in}
-use Rattle.dvd_deep.proofs.ColumnStep.{column_then, column-byte, length-column}
+use Rattle.dvd_deep.proofs.ColumnStep.{column_then}
 use Rattle.dvd_deep.proofs.RowStep.{row_then}
 use Rattle.dvd_deep.proofs.Products.{length-failed, round-rows, row_step-height, word-then, words_then}
 use Rattle.dvd_deep.proofs.Searches.{after-next, finishes-by, first-found, nothing-played}
@@ -60,7 +61,7 @@ column-agrees received marks j k height marks_height below clear =
     let is = answer-near received marks k height marks_height below in
     let answered : is_none (row_near state k) ≡ false = ap is_none (sym is) ∙ sym (get_or-map is_none answers k None false (omega (arith, size))) ∙ clear in
     get_or-map (byte_at j) answers k None 0 (omega (arith, size)) ∙ ap (byte_at j) is
-    ∙ sym (column-byte (row_step state).rows k j (omega (arith, row_step-height state)) ∙ ap (λ (row : List ℕ). slice_index row j) (row_step-line state k below)
+    ∙ sym (get_or-column (row_step state).rows j k (omega (arith, row_step-height state)) ∙ ap (λ (row : List ℕ). slice_index row j) (row_step-line state k below)
     ∙ answered-byte (row_near state k) (line received k) j answered)
 
 -- ---- the columns of a block that two passes determine

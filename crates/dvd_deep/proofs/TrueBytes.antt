@@ -1,7 +1,6 @@
 -- Where the unmarked bytes are those of a product block, each codeword that is found is a row or a column of it.
 use Rattle.std.proofs.Common.{◌≡◌, ◌∙◌, ℕ, zero, suc, ◌<◌, ◌≤◌, Bool, true, false, true≢false, cond, List, [], length, map, get_or, replicate, slice_index, unwrap_or, refl, sym, ap, arith, Some, None, is_none, is_some}
 use Rattle.std.specs.List.{range_with_len}
-use Rattle.std.specs.Option.{option_or}
 use Rattle.std.specs.declared.option.Option.{Option}
 use Rattle.std.proofs.lemmas.List.{get_or-map, length-map, length-replicate}
 use Rattle.std.proofs.lemmas.List.FromFn.{length-map-range_with_len, get_or-map-range_with_len}
@@ -11,16 +10,17 @@ use Rattle.rs_decode.specs.Nearest.{near_of}
 use Rattle.rs_decode.proofs.Near.{filling_near, near_once}
 use Rattle.rs_decode.proofs.Nearest.{near_of-is_near}
 use Rattle.dvd_block.specs.Product.{IsProduct, column, line, place}
+use Rattle.dvd_block.proofs.Columns.{get_or-column, length-column}
 use Rattle.dvd_capture.specs.Answers.{marks_line}
 use Rattle.dvd_capture.proofs.Bound.{marked-cost}
 use Rattle.dvd_capture.proofs.Columns.{from_columns-line, from_columns-product}
 use Rattle.dvd_deep.specs.Laws.{TrueBytesGiveTheBlock}
 use Rattle.dvd_deep.specs.Rounds.{State, after, are_answered, column_marks, column_near, column_step, failed_rows, finishes, mark_in, round, row_near, row_step, state_in}
 use Rattle.dvd_deep.specs.Inner.Steps.{AreWide}
-use Rattle.dvd_deep.proofs.ColumnStep.{column_then, column-byte, length-column, mark_then}
+use Rattle.dvd_deep.proofs.ColumnStep.{column_then, mark_then}
 use Rattle.dvd_deep.proofs.RowStep.{marks_then}
 use Rattle.dvd_deep.proofs.RoundOne.{row_step-line}
-use Rattle.dvd_deep.proofs.Products.{finished-answered, last_round, length-column_marks, length-failed, round-rows, row_step-height, tested-at, word-then, words_then}
+use Rattle.dvd_deep.proofs.Products.{by_tries, finished-answered, last_round, length-column_marks, length-failed, round-rows, row_step-height, tested-at, word-then, words_then}
 
 -- the state has the bytes of this block at each place that isn't marked
 pub record IsTrueTo (block : List (List ℕ)) (state : State) : Type 0 where
@@ -94,12 +94,6 @@ row-found block state i product are below clear =
 
 -- ---- columns
 
--- what either try finds
-either : (first second : Option (List ℕ)) (truth : List ℕ) → ((word : List ℕ) → first ≡ Some word → word ≡ truth) → ((word : List ℕ) → second ≡ Some word → word ≡ truth)
-    → (word : List ℕ) → option_or first second ≡ Some word → word ≡ truth
-either None second truth one other word is = other word is
-either (Some found) second truth one other word is = one word is
-
 -- mark i of a column is the mark of row i at its place
 column_marks-at : (marks : List (List Bool)) (j i : ℕ) → i < 208 → get_or (column_marks marks j) i false ≡ mark_in marks i j
 unfolding column_marks
@@ -109,7 +103,7 @@ column_marks-at marks j i below = get_or-map-range_with_len (λ k. mark_in marks
 column-true : (block : List (List ℕ)) (state : State) (j : ℕ) (word : List ℕ) → IsProduct block → IsTrueTo block state → j < 182
     → column_near (failed_rows state) (row_step state) j ≡ Some word → word ≡ column block j
 column-true block state j word product are inside is =
-    either (near_of 208 16 (column stepped.rows j) (failed_rows state)) (near_of 208 16 (column stepped.rows j) (column_marks stepped.marks j)) (column block j)
+    by_tries (λ found. found ≡ column block j) (near_of 208 16 (column stepped.rows j) (failed_rows state)) (near_of 208 16 (column stepped.rows j) (column_marks stepped.marks j))
     (λ found first.
     near-true 208 16 (column stepped.rows j) found (column block j) (failed_rows state) (omega arith) codeword
     (near_of-is_near 208 16 (column stepped.rows j) found (failed_rows state) width (length-failed state) first)
@@ -138,16 +132,16 @@ column-true block state j word product are inside is =
       -- places that have the same byte have it in their columns
       at-place : (k : ℕ) → k < 208 → place (row_step state).rows k j ≡ place block k j → slice_index (column block j) k ≡ slice_index (column (row_step state).rows j) k
       at-place k below same =
-          column-byte block k j (omega (arith, product.height)) ∙ sym same ∙ sym (column-byte (row_step state).rows k j (omega (arith, row_step-height state)))
+          get_or-column block j k (omega (arith, product.height)) ∙ sym same ∙ sym (get_or-column (row_step state).rows j k (omega (arith, row_step-height state)))
 
 -- what becomes of a place of a column
 place-by : (block : List (List ℕ)) (state : State) (i j : ℕ) (found : Option (List ℕ)) → IsProduct block → IsTrueTo block state → i < 208 → j < 182
     → column_near (failed_rows state) (row_step state) j ≡ found → cond (is_some found) false (mark_in (row_step state).marks i j) ≡ false
     → slice_index (unwrap_or found (column (row_step state).rows j)) i ≡ place block i j
 place-by block state i j None product are below inside is clear =
-    column-byte (row_step state).rows i j (omega (arith, row_step-height state)) ∙ (rows-true block state product are).bytes i j below inside clear
+    get_or-column (row_step state).rows j i (omega (arith, row_step-height state)) ∙ (rows-true block state product are).bytes i j below inside clear
 place-by block state i j (Some word) product are below inside is clear =
-    ap (λ word. slice_index word i) (column-true block state j word product are inside is) ∙ column-byte block i j (omega (arith, product.height))
+    ap (λ word. slice_index word i) (column-true block state j word product are inside is) ∙ get_or-column block j i (omega (arith, product.height))
 
 -- the marks that a column step leaves in row i
 column_step-marks : (failed : List Bool) (state : State) (i : ℕ) → i < 208 → marks_line (column_step failed state).marks i ≡ map (mark_then failed state i) (range_with_len 0 182)

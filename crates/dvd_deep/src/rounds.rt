@@ -1,5 +1,5 @@
 //! Rounds over the state of a search: a row step, a column step, and the test whether the round finishes.
-ghost use Rattle.std.specs.Prelude.{◌≡◌, ◌≢◌, ◌<◌, ◌≤◌, ℕ, IfSome, IsTrue, Some, false, true, if◌then◌else◌, is_some, length, replicate, slice_set, unwrap_or};
+ghost use Rattle.std.specs.Prelude.{◌≡◌, ◌<◌, IfSome, IsTrue, Some, false, true, if◌then◌else◌, is_some, length, replicate, slice_set, unwrap_or};
 ghost use Rattle.std.specs.List.{list_all};
 ghost use Rattle.std.specs.Option.{option_or};
 ghost use Rattle.rs_decode.specs.Nearest.{near_of, vanishes_at_all};

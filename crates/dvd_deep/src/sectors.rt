@@ -1,5 +1,5 @@
 //! The checks of the sixteen data frames of a block that was found, and their Main Data.
-ghost use Rattle.std.specs.Prelude.{◌≡◌, ◌*◌, ◌+◌, ◌<◌, ◌≤◌, ◌++◌, IfErr, IsTrue, None, OnErr, OnOk, Some, length, replicate, take};
+ghost use Rattle.std.specs.Prelude.{◌≡◌, ◌*◌, ◌+◌, ◌<◌, ◌++◌, IfErr, IsTrue, None, OnErr, OnOk, Some, length, replicate, take};
 ghost use Rattle.std.specs.List.{flat_map};
 ghost use Rattle.dvd_block.specs.Buffers.{piece_bytes};
 ghost use Rattle.dvd_capture.specs.Parts.{received_rows};
@@ -25,12 +25,12 @@ impl Deep {
         ensures main { OnOk result (piece_bytes out.new ≡ flat_map (λ sector. sector) (main_data (rows_of_deep self.now) plan.now)) }
         ensures zeros { OnErr result (piece_bytes out.new ≡ replicate 32768 0) }
     {
-        read_block(&self.rows, plan, out.bytes_mut())
+        read_frames(&self.rows, plan, out.bytes_mut())
     }
 }
 
 // Writes the Main Data of the frames of a block, or zeros after a cause.
-fn read_block(rows: &Received, plan: &BlockPlan, out: &mut [u8]) -> Result<(), Cause>
+fn read_frames(rows: &Received, plan: &BlockPlan, out: &mut [u8]) -> Result<(), Cause>
     requires size { length out.old ≡ 32768 }
     requires numbers { HasNumbers plan.now }
     ensures refused { IfErr result (λ cause. frames_cause (received_rows rows.now) plan.now ≡ Some cause) }
@@ -39,27 +39,10 @@ fn read_block(rows: &Received, plan: &BlockPlan, out: &mut [u8]) -> Result<(), C
     ensures zeros { OnErr result (out.new ≡ replicate 32768 0) }
     ensures size { length out.new ≡ 32768 }
 {
-    match read_frames(rows, plan, out) {
-        Ok(()) => Ok(()),
-        Err(cause) => {
-            out.fill(0);
-            Err(cause)
-        }
-    }
-}
-
-// Writes the Main Data of the frames of a block, up to the first that has a cause.
-fn read_frames(rows: &Received, plan: &BlockPlan, out: &mut [u8]) -> Result<(), Cause>
-    requires size { length out.old ≡ 32768 }
-    requires numbers { HasNumbers plan.now }
-    ensures refused { IfErr result (λ cause. frames_cause (received_rows rows.now) plan.now ≡ Some cause) }
-    ensures right { OnOk result (frames_cause (received_rows rows.now) plan.now ≡ None) }
-    ensures main { OnOk result (out.new ≡ flat_map (λ sector. sector) (main_data (received_rows rows.now) plan.now)) }
-    ensures size { length out.new ≡ 32768 }
-{
     let mut main = [0; 2048];
     for f in 0..16usize {
         if let Err(cause) = read_frame_at(rows, plan, f, &mut main) {
+            out.fill(0);
             return Err(cause);
         }
         put_sector(out, f, &main);

@@ -1,9 +1,9 @@
 use Rattle.std.proofs.Common.{◌≡◌, ◌∙◌, ◌<◌, ℕ, List, length, sym, arith}
 use Rattle.std.proofs.lemmas.Grind.{same_number_lists}
 use Rattle.dvd_block.specs.Product.{column}
+use Rattle.dvd_block.proofs.Columns.{get_or-column, length-column}
 use Rattle.dvd_capture.proofs.WorkParts.{rows-height}
 use Rattle.dvd_capture.specs.Parts.{received_rows}
-use Rattle.dvd_deep.proofs.ColumnStep.{column-byte, length-column}
 use Rattle.dvd_deep.proofs.rounds.read_column.Goals as goal
 
 pub returns : goal.returns
@@ -13,4 +13,4 @@ returns c =
     same_number_lists c.loop-i.word (column rows c.args.j) (c.loop-i.invariant.size ∙ sym (length-column rows c.args.j ∙ height))
     (λ k within.
     let below : k < 208 = omega (arith, c.loop-i.invariant.size) in
-    c.loop-i.invariant.read k (omega arith) ∙ sym (column-byte rows k c.args.j (omega (arith, height))))
+    c.loop-i.invariant.read k (omega arith) ∙ sym (get_or-column rows c.args.j k (omega (arith, height))))

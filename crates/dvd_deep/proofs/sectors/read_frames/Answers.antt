@@ -1,12 +1,21 @@
-use Rattle.std.proofs.Common.{◌≡◌, ◌∙◌, ◌*◌, ℕ, take, sym, ap, arith}
+use Rattle.std.proofs.Common.{◌≡◌, ◌∙◌, ◌*◌, ◌-◌, ℕ, length, get_or, take, sym, ap, arith}
 use Rattle.dvd_capture.specs.Parts.{received_rows}
 use Rattle.dvd_read.proofs.FrameFaults.{fault-first, fault-none, fault-passed}
-use Rattle.dvd_deep.proofs.Mains.{mains, mains-all, mains-next}
+use Rattle.dvd_deep.proofs.Mains.{all-zeros, mains, mains-all, mains-next}
 use Rattle.dvd_deep.proofs.sectors.read_frames.Goals as goal
 
 pub returns-in-Err-clause-refused : goal.returns-in-Err-clause-refused
 returns-in-Err-clause-refused c =
     fault-first (received_rows c.args.rows.now) c.args.plan.now c.loop-f.f c.in-Err.cause (omega arith) c.loop-f.invariant.right c.in-Err.ensures.refused
+
+pub returns-in-Err-clause-zeros : goal.returns-in-Err-clause-zeros
+returns-in-Err-clause-zeros c =
+    let size : length c.loop-f.out ≡ 32768 = c.loop-f.invariant.size in
+    all-zeros c.fill.new.self (c.fill.ensures.len ∙ size)
+    (λ k below. c.fill.ensures.clones_before_last k 0 (omega arith) (omega (arith, size)))
+    (λ k last.
+    let is : k ≡ length c.loop-f.out - 1 = omega (arith, size) in
+    ap (λ (n : ℕ). get_or c.fill.new.self n 0) is ∙ c.fill.ensures.last (omega (arith, size)) 0)
 
 pub loop-f-preserved : goal.loop-f-preserved
 loop-f-preserved c = record {

@@ -5,6 +5,6 @@ use Rattle.dvd_deep.proofs.deep.Deep.sectors.Goals as goal
 
 pub returns-clause-zeros : goal.returns-clause-zeros
 returns-clause-zeros c =
-    let size : length c.read_block.new.out ≡ c.args.out.now.bytes.len = omega (arith, c.read_block.ensures.size, c.args.out.now.size) in
-    subst (λ (l : List ℕ). OnErr c.read_block.result (l ≡ replicate 32768 0))
-    (sym (all-written c.args.out.now.bytes.len c.read_block.new.out (drop (length c.read_block.new.out) c.args.out.now.bytes.items) size)) c.read_block.ensures.zeros
+    let size : length c.read_frames.new.out ≡ c.args.out.now.bytes.len = omega (arith, c.read_frames.ensures.size, c.args.out.now.size) in
+    subst (λ (l : List ℕ). OnErr c.read_frames.result (l ≡ replicate 32768 0))
+    (sym (all-written c.args.out.now.bytes.len c.read_frames.new.out (drop (length c.read_frames.new.out) c.args.out.now.bytes.items) size)) c.read_frames.ensures.zeros
