@@ -3,13 +3,13 @@ use Rattle.std.proofs.Common.{◌≡◌, ◌≢◌, inl, inr, ℕ, zero, suc, �
 use Rattle.std.proofs.Math.Nat.{mul-le-mul_left, mul-suc, mul-zero}
 use Rattle.std.proofs.lemmas.List.{drop-drop, length-drop, length-take-le, take-append-drop}
 use Rattle.dvd_loop.specs.Laws.{BeginWith, IsFaultless, IsFrontOf, IsNever, TakesUnit, first}
-use Rattle.dvd_loop.specs.Machine.{Does, EndsWithin, Goes, GoesOn, IsOutcome, IsUnit, IsWithin, Outcome, Step, Units, bad_of, ended, sized, taking}
+use Rattle.dvd_loop.specs.Machine.{Does, Goes, GoesOn, IsOutcome, IsUnit, IsWithin, Outcome, Step, Units, bad_of, ended, sized, taking}
 use Rattle.dvd_loop.specs.Machine.Part.{Whole, Cut, Broken}
 use Rattle.dvd_loop.specs.Turns.{told, written}
 use Rattle.dvd_loop.specs.declared.ends.LoopEnd.TheVariants.{Done}
 use Rattle.dvd_loop.specs.declared.ends.Turn.{Turn}
 use Rattle.dvd_loop.specs.declared.ends.Turn.TheVariants.{Last}
-use Rattle.dvd_loop.proofs.Faultless.{all_done, faultless_behind}
+use Rattle.dvd_loop.proofs.Faultless.{all_done, faultless_behind, short_or_broken}
 use Rattle.dvd_loop.proofs.Fronts.{same_front, same_left}
 use Rattle.dvd_loop.proofs.Reached.{goes_further, goes_on, taken_unit}
 use Rattle.dvd_loop.proofs.Sizes.{broken_stays, sized_whole, whole_stays}
@@ -58,19 +58,11 @@ module _ (units : Units) (never : IsNever units Last)
       → IsFaultless a.end → ⊥
   not_within k own left a whole w none =
       let all : units.begins k (own ++ left) ≡ Whole (length own) = stays k own left whole in
-      elim (units.begins k w.own) as (λ part. units.begins k w.own ≡ part → EndsWithin part k (length w.own) w.left a.end → ⊥) [
-        | Whole size ↦ λ begins ends. ends
-        | Cut ↦ λ begins ends. elim ends [
-          | inr fault ↦ subst IsFaultless fault none
-          | inl (short, nothing) ↦
-              let same : w.own ≡ own ++ left = sym (w.front ∙ ap (λ l. w.own ++ l) nothing ∙ append-nil w.own) in
-              let no : Cut ≡ Whole (length own) = sym begins ∙ ap (units.begins k) same ∙ all in cc
-        ]
-        | Broken at ↦ λ begins ends. elim ends [
-          | inr fault ↦ subst IsFaultless fault none
-          | inl marks ↦ (let no : Broken at ≡ Whole (length own) = sym (breaks k at w.own w.left begins) ∙ ap (units.begins k) (sym w.front) ∙ all in cc)
-        ]
-      ] refl w.ends
+      elim (short_or_broken units k (own ++ left) a w none) [
+        | inl (cut, is) ↦ (let no : Cut ≡ Whole (length own) = sym cut ∙ all in cc)
+        | inr (at, front, more, is, broken, ends) ↦
+            (let no : Broken at ≡ Whole (length own) = sym (breaks k at front more broken) ∙ ap (units.begins k) (sym is) ∙ all in cc)
+      ]
 
   -- a unit that was taken is not the last
   not_last : (before : List (List ℕ)) (own : List ℕ) (steps : List Step) (turn : Turn) → IsUnit units before own steps turn → turn ≢ Last

@@ -4,7 +4,7 @@ use Rattle.dvd_loop.specs.Machine.{Closes, Does, IsClosed, Outcome, ended}
 use Rattle.dvd_loop.specs.Machine.Step.{Tell}
 use Rattle.dvd_loop.specs.Streams.{Counts, HaveCauses, Streams, is_read_fault, is_report_fault, is_write_fault}
 use Rattle.dvd_loop.specs.declared.ends.LoopEnd.{LoopEnd}
-use Rattle.dvd_loop.specs.declared.ends.LoopEnd.TheVariants.{BadHeader, BadMarks, Damaged, Done, Long, NoControl, ReadFault, ReportFault, Short, ShortHeader, WriteFault}
+use Rattle.dvd_loop.specs.declared.ends.LoopEnd.TheVariants.{ReportFault}
 use Rattle.dvd_loop.proofs.StepLemmas.{and_then}
 
 -- a line that is told takes nothing of the input
@@ -17,16 +17,7 @@ line_takes line end outcome does = elim does [
 -- a closing line takes nothing of the input
 pub closes_takes : (closing : LoopEnd → List ℕ) (end : LoopEnd) (outcome : Outcome) → Closes closing end outcome → outcome.taken ≡ []
 closes_takes closing ReportFault outcome is = ap (λ (o : Outcome). o.taken) is
-closes_takes closing Done outcome does = line_takes (closing Done) Done outcome does
-closes_takes closing ReadFault outcome does = line_takes (closing ReadFault) ReadFault outcome does
-closes_takes closing WriteFault outcome does = line_takes (closing WriteFault) WriteFault outcome does
-closes_takes closing (Short k held) outcome does = line_takes (closing (Short k held)) (Short k held) outcome does
-closes_takes closing Long outcome does = line_takes (closing Long) Long outcome does
-closes_takes closing (Damaged bad) outcome does = line_takes (closing (Damaged bad)) (Damaged bad) outcome does
-closes_takes closing NoControl outcome does = line_takes (closing NoControl) NoControl outcome does
-closes_takes closing (BadMarks k at) outcome does = line_takes (closing (BadMarks k at)) (BadMarks k at) outcome does
-closes_takes closing (ShortHeader held) outcome does = line_takes (closing (ShortHeader held)) (ShortHeader held) outcome does
-closes_takes closing (BadHeader at) outcome does = line_takes (closing (BadHeader at)) (BadHeader at) outcome does
+closes_takes closing end outcome does = line_takes (closing end) end outcome does
 
 -- a loop, and its closing line behind it
 pub closed : (closing : LoopEnd → List ℕ) (May : Outcome → Type 0) (within : LoopEnd) (loop line : Outcome) → May loop

@@ -1,15 +1,15 @@
 -- The same units and bytes come to one outcome, where no fault comes.
-use Rattle.std.proofs.Common.{◌≡◌, inl, inr, ◌⊎◌, ℕ, zero, suc, ◌+◌, List, [], ◌∷◌, ◌++◌, length, refl, ap, sym, subst, ◌∙◌, append-nil}
+use Rattle.std.proofs.Common.{◌≡◌, inl, inr, ◌⊎◌, ℕ, zero, suc, ◌+◌, List, [], ◌∷◌, ◌++◌, length, refl, ap, sym, subst, ◌∙◌}
 use Rattle.dvd_loop.specs.Laws.{AreDetermined, IsFaultless, IsUnbroken, OutcomesAgree}
-use Rattle.dvd_loop.specs.Machine.{Does, EndsBehind, EndsWithin, Goes, GoesOn, IsTaken, IsUnit, IsWithin, Outcome, Step, Units, bad_of, end_by, ended, taking}
+use Rattle.dvd_loop.specs.Machine.{Does, EndsBehind, Goes, GoesOn, IsTaken, IsUnit, IsWithin, Outcome, Step, Units, bad_of, end_by, ended, taking}
 use Rattle.dvd_loop.specs.Machine.Part.{Whole, Cut, Broken}
 use Rattle.dvd_loop.specs.Turns.{told, written}
 use Rattle.dvd_loop.specs.declared.ends.Behind.{Behind}
 use Rattle.dvd_loop.specs.declared.ends.Behind.TheVariants as behind
-use Rattle.dvd_loop.specs.declared.ends.LoopEnd.TheVariants.{BadMarks, Long, ReadFault, Short}
+use Rattle.dvd_loop.specs.declared.ends.LoopEnd.TheVariants.{BadMarks, Long, ReadFault}
 use Rattle.dvd_loop.specs.declared.ends.Turn.{Turn}
 use Rattle.dvd_loop.specs.declared.ends.Turn.TheVariants.{Good, Bad, Last}
-use Rattle.dvd_loop.proofs.Faultless.{all_done, faultless_behind, not_by_fault}
+use Rattle.dvd_loop.proofs.Faultless.{all_done, faultless_behind, not_by_fault, short_or_broken}
 use Rattle.dvd_loop.proofs.Fronts.{same_front, same_left}
 use Rattle.dvd_loop.proofs.StepLemmas.{onto}
 
@@ -24,7 +24,7 @@ pub record Agree (a b : Outcome) : Type 0 where
 abbrev AllAgree : (Outcome → Type 0) → (Outcome → Type 0) → Type 0
 AllAgree A B = (a b : Outcome) → A a → B b → IsFaultless a.end → IsFaultless b.end → Agree a b
 
--- an outcome agrees with itself
+-- equal outcomes agree
 same_agree : (a b : Outcome) → a ≡ b → Agree a b
 same_agree a b is = record {
   out = ap (λ (o : Outcome). o.out) is;
@@ -78,46 +78,29 @@ behind_agree behind.Asks bad [] a b p q none other = by_no_fault (ended (end_by 
 behind_agree behind.Asks bad (byte ∷ left) a b p q none other = by_no_fault (taking (byte ∷ []) (ended Long)) a b p q none other
 
 module _ (units : Units) (det : AreDetermined units) where
-  -- how all of the bytes begin, where the loop ends within a unit
-  abbrev EndsAs : ℕ → List ℕ → Outcome → Type 0
-  EndsAs k bytes outcome =
-      ((units.begins k bytes ≡ Cut) × (outcome ≡ taking bytes (ended (Short k (length bytes)))))
-      ⊎ ((at : ℕ) × (own : List ℕ) × (units.begins k bytes ≡ Broken at) × (outcome ≡ taking own (ended (BadMarks k at))))
-
-  -- where no fault ended it, the loop within unit k ends in one of these ways
-  ends_as : (k : ℕ) (bytes : List ℕ) (outcome : Outcome) → IsWithin units k bytes outcome → IsFaultless outcome.end → EndsAs k bytes outcome
-  ends_as k bytes outcome w none =
-      elim (units.begins k w.own) as (λ part. units.begins k w.own ≡ part → EndsWithin part k (length w.own) w.left outcome.end → EndsAs k bytes outcome) [
-        | Whole size ↦ λ begins ends. absurd ends
-        | Cut ↦ λ begins ends. elim ends [
-          | inr fault ↦ absurd (subst IsFaultless fault none)
-          | inl (short, all) ↦
-              let whole : w.own ≡ bytes = sym (w.front ∙ ap (λ l. w.own ++ l) all ∙ append-nil w.own) in
-              inl (subst (λ l. units.begins k l ≡ Cut) whole begins, w.takes ∙ ap (λ e. taking w.own (ended e)) short ∙ ap (λ l. taking l (ended (Short k (length l)))) whole)
-        ]
-        | Broken at ↦ λ begins ends. elim ends [
-          | inr fault ↦ absurd (subst IsFaultless fault none)
-          | inl marks ↦ inr (at, w.own, subst (λ l. units.begins k l ≡ Broken at) (sym w.front) (det.broken k at w.own w.left begins), w.takes ∙ ap (λ e. taking w.own (ended e)) marks)
-        ]
-      ] refl w.ends
+  -- bytes that break a rule in front break it in all
+  all_broken : (k at : ℕ) (bytes own left : List ℕ) → bytes ≡ own ++ left → units.begins k own ≡ Broken at → units.begins k bytes ≡ Broken at
+  all_broken k at bytes own left front broken = subst (λ l. units.begins k l ≡ Broken at) (sym front) (det.broken k at own left broken)
 
   -- two loops that end within unit k of the same bytes agree: both are short, or both stop at the same broken place
   within_agree : (k : ℕ) (bytes : List ℕ) → AllAgree (IsWithin units k bytes) (IsWithin units k bytes)
   within_agree k bytes a b w v none other =
-      elim (ends_as k bytes a w none) [
-        | inl (cut, is) ↦ elim (ends_as k bytes b v other) [
+      elim (short_or_broken units k bytes a w none) [
+        | inl (cut, is) ↦ elim (short_or_broken units k bytes b v other) [
           | inl (same, so) ↦ same_agree a b (is ∙ sym so)
-          | inr (at, own, broken, so) ↦ absurd (let no : Cut ≡ Broken at = sym cut ∙ broken in cc)
+          | inr (at, own, left, front, broken, so) ↦ absurd (let no : Cut ≡ Broken at = sym cut ∙ all_broken k at bytes own left front broken in cc)
         ]
-        | inr (at, own, broken, is) ↦ elim (ends_as k bytes b v other) [
-          | inl (cut, so) ↦ absurd (let no : Cut ≡ Broken at = sym cut ∙ broken in cc)
-          | inr (place, held, same, so) ↦ agree_as a b _ _ is so (record {
-            out = refl;
-            lines = refl;
-            end = ap (λ n. BadMarks k n) (let is : Broken at ≡ Broken place = sym broken ∙ same in cc);
-            taken = λ not. absurd not;
-          })
-        ]
+        | inr (at, own, left, front, broken, is) ↦
+            let all = all_broken k at bytes own left front broken in
+            elim (short_or_broken units k bytes b v other) [
+              | inl (cut, so) ↦ absurd (let no : Cut ≡ Broken at = sym cut ∙ all in cc)
+              | inr (place, held, rest, second, same, so) ↦ agree_as a b _ _ is so (record {
+                out = refl;
+                lines = refl;
+                end = ap (λ n. BadMarks k n) (let is : Broken at ≡ Broken place = sym all ∙ all_broken k place bytes held rest second same in cc);
+                taken = λ not. absurd not;
+              })
+            ]
       ]
 
   -- bytes with a whole unit in front begin with it
@@ -130,9 +113,9 @@ module _ (units : Units) (det : AreDetermined units) where
       → bytes ≡ own ++ left → units.begins k own ≡ Whole (length own) → A
   not_both k bytes own left a w none front whole =
       let all = whole_unit k bytes own left front whole in
-      elim (ends_as k bytes a w none) [
+      elim (short_or_broken units k bytes a w none) [
         | inl (cut, is) ↦ absurd (let no : Cut ≡ Whole (length own) = sym cut ∙ all in cc)
-        | inr (at, held, broken, is) ↦ absurd (let no : Broken at ≡ Whole (length own) = sym broken ∙ all in cc)
+        | inr (at, held, rest, second, broken, is) ↦ absurd (let no : Broken at ≡ Whole (length own) = sym (all_broken k at bytes held rest second broken) ∙ all in cc)
       ]
 
   -- one unit alone is taken, and one thing done for it

@@ -1,4 +1,4 @@
--- What stands behind the last unit, as a loop comes to it.
+-- What stands behind the last unit, as a loop comes to it, and the closing line behind the loop.
 use Rattle.std.proofs.Common.{◌≡◌, ◌≢◌, inl, inr, ℕ, ◌<◌, List, [], ◌∷◌, ◌++◌, length, refl, ap, sym, subst, arith}
 use Rattle.std.specs.Io.KnownBytes.{Appends, Consumes, IsAtEnd}
 use Rattle.dvd_ports.specs.Seen.{Seen}
@@ -10,7 +10,7 @@ use Rattle.dvd_loop.specs.Streams.{Comes, Counts, IsTold, Streams, is_report_fau
 use Rattle.dvd_loop.specs.declared.ends.Behind.{Behind}
 use Rattle.dvd_loop.specs.declared.ends.Behind.TheVariants.{Asks}
 use Rattle.dvd_loop.specs.declared.ends.LoopEnd.{LoopEnd}
-use Rattle.dvd_loop.specs.declared.ends.LoopEnd.TheVariants.{BadHeader, BadMarks, Damaged, Done, Long, NoControl, ReadFault, ReportFault, Short, ShortHeader, WriteFault}
+use Rattle.dvd_loop.specs.declared.ends.LoopEnd.TheVariants.{Long, ReadFault, ReportFault}
 use Rattle.dvd_loop.proofs.StreamLemmas.{comes_of_none, left_of, none_left, stays, told_before}
 use Rattle.dvd_loop.proofs.TurnLemmas.{step_told}
 
@@ -86,32 +86,14 @@ module _ (bad : ℕ) (source new_source output report : Seen) (own : List ℕ) (
 closes_as : (closing : LoopEnd → List ℕ) (end : LoopEnd) (outcome : Outcome) → end ≢ ReportFault
     → Does (Tell (closing end) ∷ []) (λ after. after ≡ ended end) outcome → Closes closing end outcome
 closes_as closing ReportFault outcome not does = absurd (not refl)
-closes_as closing Done outcome not does = does
-closes_as closing ReadFault outcome not does = does
-closes_as closing WriteFault outcome not does = does
-closes_as closing (Short unit held) outcome not does = does
-closes_as closing Long outcome not does = does
-closes_as closing (Damaged bad) outcome not does = does
-closes_as closing NoControl outcome not does = does
-closes_as closing (BadMarks unit at) outcome not does = does
-closes_as closing (ShortHeader held) outcome not does = does
-closes_as closing (BadHeader at) outcome not does = does
+closes_as closing end outcome not does = does
 
 -- a count that stayed is right for an end that isn't a fault of the report
 pub not_report : (end : LoopEnd) → end ≢ ReportFault → (old new : ℕ) → new ≡ old → Counts (is_report_fault end) old new
 not_report ReportFault not old new same = absurd (not refl)
-not_report Done not old new same = same
-not_report ReadFault not old new same = same
-not_report WriteFault not old new same = same
-not_report (Short unit held) not old new same = same
-not_report Long not old new same = same
-not_report (Damaged bad) not old new same = same
-not_report NoControl not old new same = same
-not_report (BadMarks unit at) not old new same = same
-not_report (ShortHeader held) not old new same = same
-not_report (BadHeader at) not old new same = same
+not_report end not old new same = same
 
--- none is tried
+-- behind a fault of the report no closing line is tried
 pub closed_none : (closing : LoopEnd → List ℕ) (old : Streams) → Comes (λ bytes. Closes closing ReportFault) old old ReportFault
 closed_none closing old = comes_of_none (Closes closing ReportFault) old old (ended ReportFault) refl (stays old)
 

@@ -1,11 +1,12 @@
--- What is done where no fault comes: all of the steps, and then what stands behind them.
-use Rattle.std.proofs.Common.{◌≡◌, inl, inr, List, [], ◌∷◌, ◌++◌, refl, ap, sym, subst, ◌∙◌, append_assoc}
+-- What is done where no fault comes: all of the steps, and then what stands behind them; and how a loop ends within a unit.
+use Rattle.std.proofs.Common.{◌≡◌, inl, inr, ◌⊎◌, ℕ, List, [], ◌∷◌, ◌++◌, length, refl, ap, sym, subst, ◌∙◌, append_assoc, append-nil}
 use Rattle.dvd_loop.specs.Laws.{IsFaultless}
-use Rattle.dvd_loop.specs.Machine.{Does, Fails, Outcome, Step, stepping}
+use Rattle.dvd_loop.specs.Machine.{Does, EndsWithin, Fails, IsWithin, Outcome, Step, Units, ended, stepping, taking}
+use Rattle.dvd_loop.specs.Machine.Part.{Whole, Cut, Broken}
 use Rattle.dvd_loop.specs.Machine.Step.{Write, Tell}
 use Rattle.dvd_loop.specs.Turns.{told, written}
 use Rattle.dvd_loop.specs.declared.ends.LoopEnd.{LoopEnd}
-use Rattle.dvd_loop.specs.declared.ends.LoopEnd.TheVariants.{BadHeader, BadMarks, Damaged, Done, Long, NoControl, ReadFault, ReportFault, Short, ShortHeader, WriteFault}
+use Rattle.dvd_loop.specs.declared.ends.LoopEnd.TheVariants.{BadMarks, ReportFault, Short, WriteFault}
 use Rattle.dvd_loop.proofs.StepLemmas.{onto}
 
 -- an outcome that ends with a fault isn't without one
@@ -20,17 +21,9 @@ IsNoStepFault end = Unit {0}
 
 -- where there is no fault, no step failed
 no_step_fault : (end : LoopEnd) → IsFaultless end → IsNoStepFault end
-no_step_fault Done none = tt
-no_step_fault ReadFault none = absurd none
 no_step_fault WriteFault none = absurd none
 no_step_fault ReportFault none = absurd none
-no_step_fault (Short unit held) none = tt
-no_step_fault Long none = tt
-no_step_fault (Damaged bad) none = tt
-no_step_fault NoControl none = tt
-no_step_fault (BadMarks unit at) none = tt
-no_step_fault (ShortHeader held) none = tt
-no_step_fault (BadHeader at) none = tt
+no_step_fault end none = tt
 
 -- what is behind steps that were all taken
 pub record AllDone (steps : List Step) (After : Outcome → Type 0) (outcome : Outcome) : Type 0 where
@@ -80,3 +73,27 @@ all_done steps After outcome does none = all_done_but steps After outcome does (
 pub faultless_behind : (steps : List Step) (After : Outcome → Type 0) (outcome : Outcome) (done : AllDone steps After outcome)
     → IsFaultless outcome.end → IsFaultless done.after.end
 faultless_behind steps After outcome done none = subst (λ (o : Outcome). IsFaultless o.end) done.is none
+
+-- All bytes are a part of unit k, or those in front break a rule, and there the loop ends.
+abbrev pub IsShortOrBroken : Units → ℕ → List ℕ → Outcome → Type 0
+IsShortOrBroken units k bytes outcome =
+    ((units.begins k bytes ≡ Cut) × (outcome ≡ taking bytes (ended (Short k (length bytes)))))
+    ⊎ ((at : ℕ) × (own left : List ℕ) × (bytes ≡ own ++ left) × (units.begins k own ≡ Broken at) × (outcome ≡ taking own (ended (BadMarks k at))))
+
+-- where there is no fault, a loop that ends within unit k ends in one of these ways
+pub short_or_broken : (units : Units) (k : ℕ) (bytes : List ℕ) (outcome : Outcome) → IsWithin units k bytes outcome → IsFaultless outcome.end
+    → IsShortOrBroken units k bytes outcome
+short_or_broken units k bytes outcome w none =
+    elim (units.begins k w.own) as (λ part. units.begins k w.own ≡ part → EndsWithin part k (length w.own) w.left outcome.end → IsShortOrBroken units k bytes outcome) [
+      | Whole size ↦ λ begins ends. absurd ends
+      | Cut ↦ λ begins ends. elim ends [
+        | inr fault ↦ absurd (subst IsFaultless fault none)
+        | inl (short, all) ↦
+            let whole : w.own ≡ bytes = sym (w.front ∙ ap (λ l. w.own ++ l) all ∙ append-nil w.own) in
+            inl (subst (λ l. units.begins k l ≡ Cut) whole begins, w.takes ∙ ap (λ e. taking w.own (ended e)) short ∙ ap (λ l. taking l (ended (Short k (length l)))) whole)
+      ]
+      | Broken at ↦ λ begins ends. elim ends [
+        | inr fault ↦ absurd (subst IsFaultless fault none)
+        | inl marks ↦ inr (at, w.own, w.left, w.front, begins, w.takes ∙ ap (λ e. taking w.own (ended e)) marks)
+      ]
+    ] refl w.ends

@@ -15,7 +15,7 @@ use Rattle.dvd_loop.proofs.Faultless.{IsNoStepFault, all_done_but}
 use Rattle.dvd_loop.proofs.StepLemmas.{does_all, onto}
 use Rattle.dvd_loop.proofs.Totality.{Exists, all_exist, behind_exists, end_by_none, goes_exist, one_fewer, steps_exist, turns_exist}
 
--- the outcome of what was taken alone, without the failed read
+-- an outcome over the bytes that were taken, which no fault ends: it takes, writes and tells as much
 pub record EndsThere (A : List ℕ → Outcome → Type 0) (a : Outcome) : Type 0 where
   pub outcome : Outcome
   pub holds : A a.taken outcome
@@ -24,7 +24,7 @@ pub record EndsThere (A : List ℕ → Outcome → Type 0) (a : Outcome) : Type 
   pub out : outcome.out ≡ a.out
   pub lines : outcome.lines ≡ a.lines
 
--- a failed read leaves so much
+-- a run over these bytes that a failed read ended has done what one does whose input ends there
 abbrev LeaveThat : (List ℕ → Outcome → Type 0) → List ℕ → Type 0
 LeaveThat A bytes = (a : Outcome) → A bytes a → a.end ≡ ReadFault → EndsThere A a
 
@@ -32,7 +32,7 @@ LeaveThat A bytes = (a : Outcome) → A bytes a → a.end ≡ ReadFault → Ends
 there_as : (A : List ℕ → Outcome → Type 0) (a x : Outcome) → a ≡ x → EndsThere A x → EndsThere A a
 there_as A a x is there = subst (EndsThere A) (sym is) there
 
--- steps before it leave that too
+-- so it is with steps before it
 steps_there : (steps : List Step) (A : List ℕ → Outcome → Type 0) (bytes : List ℕ) → LeaveThat A bytes → LeaveThat (λ l. Does steps (A l)) bytes
 steps_there steps A bytes leaves a does fault =
     let done = all_done_but steps (A bytes) a does (subst IsNoStepFault (sym fault) tt) in
@@ -46,13 +46,13 @@ steps_there steps A bytes leaves a does fault =
       lines = ap (λ l. told steps ++ l) there.lines;
     })
 
--- whether the unit was the last or not, what comes behind it leaves that too
+-- and with a unit before it, whether that was the last or not
 turns_there : (turn : Turn) (A : List ℕ → Outcome → Type 0) (bytes : List ℕ) → LeaveThat A bytes → LeaveThat (λ l. GoesOn turn (A l)) bytes
 turns_there Good A bytes leaves a goes fault = leaves a goes fault
 turns_there Bad A bytes leaves a goes fault = leaves a goes fault
 turns_there Last A bytes leaves a is fault = absurd (let no : Done ≡ ReadFault = sym (ap (λ (o : Outcome). o.end) is) ∙ fault in cc)
 
--- the failed read of one byte more
+-- the failed read of one byte more is as the end of the input there
 no_byte : (bad : ℕ) → EndsThere (EndsBehind behind.Asks bad) (ended ReadFault)
 no_byte bad = record {
   outcome = ended (end_by bad);
@@ -68,7 +68,7 @@ end_by_not : (bad : ℕ) → end_by bad ≡ ReadFault → ⊥
 end_by_not zero is = cc
 end_by_not (suc bad) is = cc
 
--- what stands behind the last unit leaves that too
+-- so it is behind the last unit
 behind_there : (stands : Behind) (bad : ℕ) (bytes : List ℕ) → LeaveThat (EndsBehind stands bad) bytes
 behind_there behind.Done bad bytes a is fault = absurd (let no : Done ≡ ReadFault = sym (ap (λ (o : Outcome). o.end) is) ∙ fault in cc)
 behind_there behind.NoControl bad bytes a is fault = absurd (let no : NoControl ≡ ReadFault = sym (ap (λ (o : Outcome). o.end) is) ∙ fault in cc)

@@ -47,7 +47,7 @@ module _ (units : Units) (size : ℕ → ℕ) (begins : (k : ℕ) (own : List �
   damage_end (ShortHeader held) is = absurd (never_short_header units bytes outcome runs held is)
   damage_end (BadHeader at) is = absurd (never_bad_header units bytes outcome runs at is)
 
--- where none of the units is bad, the last of them ends the run, and nothing is asked for behind them
+-- where no unit is bad, and behind the last NoControl stands in place of one byte more
 pub search_end : (units : Units) (size : ℕ → ℕ) → ((k : ℕ) (own : List ℕ) → units.begins k own ≡ sized (size k) own) → units.behind ≡ StopsNoControl
     → IsNever units Bad
     → (bytes : List ℕ) (outcome : Outcome) → IsOutcome units bytes outcome → (end : LoopEnd) → outcome.end ≡ end → end ≢ ReportFault

@@ -69,7 +69,7 @@ pub record AreGood (units : Units) (size : ℕ → ℕ) (P : ℕ → List ℕ �
   pub closes : (before : List (List ℕ)) (steps : List Step) → units.closes before steps → steps ≡ []
   pub asks : units.behind ≡ Asks
 
--- What units k to k + n, of such bytes in all, write and tell piece by piece, where so many are left.
+-- What n units from unit k on write and tell, piece by piece: these are the bytes of all units, and those left from unit k on.
 pub record InPieces (size : ℕ → ℕ) (P : ℕ → List ℕ → List ℕ → List ℕ → Type 0) (k n : ℕ) (all left : List ℕ) (outcome : Outcome) : Type 0 where
   pub outs : ℕ → List ℕ
   pub lines : ℕ → List ℕ

@@ -269,7 +269,7 @@ module _ (units : Units) (bytes : List ℕ) (outcome : Outcome) (runs : IsOutcom
   pub marks_below : (k at : ℕ) → outcome.end ≡ BadMarks k at → k < units.count
   marks_below k at is = (reason (BadMarks k at) is).1
 
-  -- unless no control stands behind the units, none ends the run
+  -- a run ends as NoControl only where that stands behind its units
   pub never_no_control : units.behind ≢ behind.NoControl → outcome.end ≢ NoControl
   never_no_control not is = not (reason NoControl is)
 
@@ -284,7 +284,7 @@ module _ (units : Units) (bytes : List ℕ) (outcome : Outcome) (runs : IsOutcom
       record { none = omega arith; more = λ k many before own steps turn are does. at_most k many turn are } in
       (subst (HasReason units (λ k many. many ≤ k)) is (run_ends units (λ k many. many ≤ k) counts bytes outcome runs)).1
 
-  -- where every unit is good, none is counted as damaged
+  -- where no unit is bad, none is counted as damaged
   pub never_damaged : IsNever units Bad → (bad : ℕ) → outcome.end ≢ Damaged bad
   never_damaged never bad is =
       let counts : Counts units (λ k many. many ≡ 0) =

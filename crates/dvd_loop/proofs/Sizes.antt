@@ -1,16 +1,16 @@
 -- Units that have a size whatever their bytes are.
-use Rattle.std.proofs.Common.{◌≡◌, ◌≢◌, inl, inr, ◌⊎◌, ℕ, suc, ◌+◌, ◌<◌, ◌≤◌, cond, List, [], ◌∷◌, ◌++◌, length, length-append, take, drop, refl, ap, sym, subst, ◌∙◌, append-nil, arith}
+use Rattle.std.proofs.Common.{◌≡◌, ◌≢◌, inl, inr, ◌⊎◌, ℕ, suc, ◌+◌, ◌<◌, ◌≤◌, cond, List, [], ◌∷◌, ◌++◌, length, length-append, take, drop, ap, sym, subst, ◌∙◌, arith}
 use Rattle.std.specs.Prelude.{◌↔◌}
 use Rattle.std.proofs.lemmas.Bool.{cases_lt, le-leb, lt-leb}
 use Rattle.std.proofs.lemmas.List.{length-take-le, take-append-drop}
 use Rattle.dvd_loop.specs.Laws.{IsFaultless}
-use Rattle.dvd_loop.specs.Machine.{EndsWithin, Goes, GoesOn, IsUnit, IsWithin, Outcome, Step, Units, bad_of, ended, taking, sized}
+use Rattle.dvd_loop.specs.Machine.{Goes, GoesOn, IsUnit, IsWithin, Outcome, Step, Units, bad_of, ended, taking, sized}
 use Rattle.dvd_loop.specs.Machine.Part.{Whole, Cut, Broken}
 use Rattle.dvd_loop.specs.Turns.{told, written}
 use Rattle.dvd_loop.specs.declared.ends.LoopEnd.TheVariants.{Short}
 use Rattle.dvd_loop.specs.declared.ends.Turn.{Turn}
 use Rattle.dvd_loop.specs.declared.ends.Turn.TheVariants.{Last}
-use Rattle.dvd_loop.proofs.Faultless.{all_done, faultless_behind}
+use Rattle.dvd_loop.proofs.Faultless.{all_done, faultless_behind, short_or_broken}
 use Rattle.dvd_loop.proofs.Reached.{goes_further}
 use Rattle.dvd_loop.proofs.StepLemmas.{onto}
 
@@ -75,26 +75,17 @@ module _ (units : Units) (size : ℕ → ℕ) (begins : (k : ℕ) (bytes : List 
         inl (own, drop (size k) bytes, sym (take-append-drop (size k) bytes), begins k own ∙ (sized_whole (size k) own).1 (length-take-le (size k) bytes le))
   ]
 
-  -- the bytes that are too few for the unit
+  -- the bytes are too few for the unit, and the loop ends within it with all of them taken
   pub record IsShort (k : ℕ) (bytes : List ℕ) (outcome : Outcome) : Type 0 where
     pub fewer : length bytes < size k
     pub is : outcome ≡ taking bytes (ended (Short k (length bytes)))
 
   -- an end within a unit without a fault is that of an input with too few bytes for it
   pub within_short : (k : ℕ) (bytes : List ℕ) (outcome : Outcome) → IsWithin units k bytes outcome → IsFaultless outcome.end → IsShort k bytes outcome
-  within_short k bytes outcome w none =
-      elim (units.begins k w.own) as (λ part. units.begins k w.own ≡ part → EndsWithin part k (length w.own) w.left outcome.end → IsShort k bytes outcome) [
-        | Whole n ↦ λ is ends. absurd ends
-        | Broken at ↦ λ is ends. absurd (sized_never_broken (size k) at w.own (sym (begins k w.own) ∙ is))
-        | Cut ↦ λ is ends. elim ends [
-          | inr fault ↦ absurd (subst IsFaultless fault none)
-          | inl (short, all) ↦
-              let whole : w.own ≡ bytes = sym (w.front ∙ ap (λ l. w.own ++ l) all ∙ append-nil w.own) in record {
-                fewer = subst (λ l. length l < size k) whole ((sized_cut (size k) w.own).0 (sym (begins k w.own) ∙ is));
-                is = w.takes ∙ ap (λ e. taking w.own (ended e)) short ∙ ap (λ l. taking l (ended (Short k (length l)))) whole;
-              }
-        ]
-      ] refl w.ends
+  within_short k bytes outcome w none = elim (short_or_broken units k bytes outcome w none) [
+    | inl (cut, is) ↦ record { fewer = (sized_cut (size k) bytes).0 (sym (begins k bytes) ∙ cut); is = is }
+    | inr (at, own, left, front, broken, is) ↦ absurd (sized_never_broken (size k) at own (sym (begins k own) ∙ broken))
+  ]
 
   -- The unit behind those is taken and done without a fault, and then the units to come.
   pub record TakesOne (n : ℕ) (before : List (List ℕ)) (bad : ℕ) (bytes : List ℕ) (outcome : Outcome) : Type 0 where

@@ -1,8 +1,9 @@
 -- Steps that are taken: all of them, some of them, and with other things behind them.
-use Rattle.std.proofs.Common.{inl, inr, List, [], ◌∷◌, ◌++◌, ℕ, ap, append_assoc}
-use Rattle.dvd_loop.specs.Machine.{Does, Outcome, Step}
+use Rattle.std.proofs.Common.{◌≡◌, inl, inr, List, [], ◌∷◌, ◌++◌, ℕ, ap, append_assoc}
+use Rattle.dvd_loop.specs.Machine.{Does, IsTaken, IsUnit, Outcome, Step, Units, taking}
 use Rattle.dvd_loop.specs.Machine.Step.{Write, Tell}
 use Rattle.dvd_loop.specs.Turns.{told, written}
+use Rattle.dvd_loop.specs.declared.ends.Turn.{Turn}
 
 -- so much was taken, written and told, and then what came after
 abbrev pub onto : List ℕ → List ℕ → List ℕ → Outcome → Outcome
@@ -44,3 +45,10 @@ does_then (step ∷ steps) more After outcome does = elim does [
   | inl fails ↦ inl fails
   | inr (after, does, is) ↦ inr (after, does_then steps more After after does, is)
 ]
+
+-- a unit whose bytes stand in front is taken with its steps, and then comes what After says
+pub taken_then : (units : Units) (before : List (List ℕ)) (After : List ℕ → List ℕ → Turn → Outcome → Type 0) (bytes own left : List ℕ) (steps : List Step) (turn : Turn) (outcome after : Outcome)
+    → bytes ≡ own ++ left → IsUnit units before own steps turn → Does steps (After own left turn) after → outcome ≡ taking own after
+    → IsTaken units before After bytes outcome
+taken_then units before After bytes own left steps turn outcome after front unit does takes =
+    record { own = own; left = left; steps = steps; turn = turn; front = front; unit = unit; after = after; does = does; takes = takes }

@@ -57,7 +57,7 @@ module _ (units : Units) (before : List (List ℕ)) where
           turn_within ready source new_source output report end short.own left short.reads told
           (subst (λ p. EndsWithin p (length before) (length short.own) left end) (sym (cut short.own short.fewer)) ends) causes
 
-  -- the unit was read whole, these steps may be taken for it, and so they were
+  -- the unit was read whole, and steps that may be taken for it were: all of them, or the loop ended within them
   pub turn_of : (ready : List (List ℕ) → Type 0) (old now new : Streams) (own : List ℕ) (steps : List Step) (turn : Turn)
       → IsUnit units before own steps turn → HaveMoved old now own [] [] → HaveCauses Done Done old now → ready (before ++ own ∷ [])
       → (answer : Result Turn LoopEnd) → AreSteps steps now new answer → ((value : Turn) → answer ≡ Ok value → value ≡ turn) → HaveCausesFor answer now new
