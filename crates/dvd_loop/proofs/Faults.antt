@@ -12,7 +12,7 @@ use Rattle.dvd_loop.specs.declared.ends.LoopEnd.TheVariants.{BadMarks, Done, Lon
 use Rattle.dvd_loop.specs.declared.ends.Turn.{Turn}
 use Rattle.dvd_loop.specs.declared.ends.Turn.TheVariants.{Good, Bad, Last}
 use Rattle.dvd_loop.proofs.Faultless.{IsNoStepFault, all_done_but}
-use Rattle.dvd_loop.proofs.StepLemmas.{does_all, onto}
+use Rattle.dvd_loop.proofs.StepLemmas.{does_all, onto, taken_then}
 use Rattle.dvd_loop.proofs.Totality.{Exists, all_exist, behind_exists, end_by_none, goes_exist, one_fewer, steps_exist, turns_exist}
 
 -- an outcome over the bytes that were taken, which no fault ends: it takes, writes and tells as much
@@ -31,6 +31,17 @@ LeaveThat A bytes = (a : Outcome) → A bytes a → a.end ≡ ReadFault → Ends
 -- what holds of an equal outcome holds of this one
 there_as : (A : List ℕ → Outcome → Type 0) (a x : Outcome) → a ≡ x → EndsThere A x → EndsThere A a
 there_as A a x is there = subst (EndsThere A) (sym is) there
+
+-- an outcome there is one of a wider kind too
+there_by : (A B : List ℕ → Outcome → Type 0) (a : Outcome) → ((o : Outcome) → A a.taken o → B a.taken o) → EndsThere A a → EndsThere B a
+there_by A B a to there = record {
+  outcome = there.outcome;
+  holds = to there.outcome there.holds;
+  faultless = there.faultless;
+  taken = there.taken;
+  out = there.out;
+  lines = there.lines;
+}
 
 -- so it is with steps before it
 steps_there : (steps : List Step) (A : List ℕ → Outcome → Type 0) (bytes : List ℕ) → LeaveThat A bytes → LeaveThat (λ l. Does steps (A l)) bytes
@@ -106,41 +117,17 @@ module _ (units : Units) where
   goes_there : (n : ℕ) (before : List (List ℕ)) (bad : ℕ) (bytes : List ℕ) → LeaveThat (Goes units n before bad) bytes
   unfolding Goes
   goes_there zero before bad bytes a (steps, closes, does) fault =
-      let there = steps_there steps (EndsBehind units.behind bad) bytes (behind_there units.behind bad bytes) a does fault in record {
-        outcome = there.outcome;
-        holds = (steps, closes, there.holds);
-        faultless = there.faultless;
-        taken = there.taken;
-        out = there.out;
-        lines = there.lines;
-      }
+      there_by (λ l. Does steps (EndsBehind units.behind bad l)) (Goes units zero before bad) a (λ o rest. (steps, closes, rest))
+      (steps_there steps (EndsBehind units.behind bad) bytes (behind_there units.behind bad bytes) a does fault)
   goes_there (suc n) before bad bytes a goes fault = elim goes [
-    | inl w ↦
-        let there = within_there (length before) bytes a w fault in record {
-          outcome = there.outcome;
-          holds = inl there.holds;
-          faultless = there.faultless;
-          taken = there.taken;
-          out = there.out;
-          lines = there.lines;
-        }
+    | inl w ↦ there_by (IsWithin units (length before)) (Goes units (suc n) before bad) a (λ o within. inl within) (within_there (length before) bytes a w fault)
     | inr t ↦
         let Next : List ℕ → Outcome → Type 0 = Goes units n (before ++ t.own ∷ []) (bad + bad_of t.turn) in
         let there = steps_there t.steps (λ l. GoesOn t.turn (Next l)) t.left (turns_there t.turn Next t.left (goes_there n (before ++ t.own ∷ []) (bad + bad_of t.turn) t.left)) t.after t.does
         (sym (ap (λ (o : Outcome). o.end) t.takes) ∙ fault) in
         there_as (Goes units (suc n) before bad) a (taking t.own t.after) t.takes (record {
           outcome = taking t.own there.outcome;
-          holds = inr (record {
-            own = t.own;
-            left = t.after.taken;
-            steps = t.steps;
-            turn = t.turn;
-            front = refl;
-            unit = t.unit;
-            after = there.outcome;
-            does = there.holds;
-            takes = refl;
-          });
+          holds = inr (taken_then units before _ (t.own ++ t.after.taken) t.own t.after.taken t.steps t.turn _ there.outcome refl t.unit there.holds refl);
           faultless = there.faultless;
           taken = ap (λ l. t.own ++ l) there.taken;
           out = there.out;
@@ -249,7 +236,7 @@ turns_beyond Bad A leaves a goes = leaves a goes
 turns_beyond Last A leaves a is = beyond_as (GoesOn Last A) a (ended Done) is (record { outcome = ended Done; holds = refl; faultless = tt; out = ([], refl); lines = ([], refl) })
 
 -- behind the last unit nothing is written or told
-nothing_behind : (stands : Behind) (bad : ℕ) (left : List ℕ) (a : Outcome) → EndsBehind stands bad left a → (a.out ≡ []) × (a.lines ≡ [])
+pub nothing_behind : (stands : Behind) (bad : ℕ) (left : List ℕ) (a : Outcome) → EndsBehind stands bad left a → (a.out ≡ []) × (a.lines ≡ [])
 nothing_behind behind.Done bad left a is = (ap (λ (o : Outcome). o.out) is, ap (λ (o : Outcome). o.lines) is)
 nothing_behind behind.NoControl bad left a is = (ap (λ (o : Outcome). o.out) is, ap (λ (o : Outcome). o.lines) is)
 nothing_behind behind.Asks bad [] a ends = elim ends [
@@ -282,17 +269,7 @@ module _ (units : Units) (total : AreTotal units) where
         (turns_beyond t.turn Next (goes_beyond n (before ++ t.own ∷ []) (bad + bad_of t.turn) t.left fewer)) t.after t.does in
         beyond_as (Goes units (suc n) before bad bytes) a (taking t.own t.after) t.takes (record {
           outcome = taking t.own beyond.outcome;
-          holds = inr (record {
-            own = t.own;
-            left = t.left;
-            steps = t.steps;
-            turn = t.turn;
-            front = t.front;
-            unit = t.unit;
-            after = beyond.outcome;
-            does = beyond.holds;
-            takes = refl;
-          });
+          holds = inr (taken_then units before _ bytes t.own t.left t.steps t.turn _ beyond.outcome t.front t.unit beyond.holds refl);
           faultless = beyond.faultless;
           out = beyond.out;
           lines = beyond.lines;

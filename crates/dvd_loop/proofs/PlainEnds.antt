@@ -31,8 +31,8 @@ HasReason units Many (Damaged bad) = (units.behind ≡ behind.Asks) × Many unit
 HasReason units Many (ShortHeader held) = ⊥
 HasReason units Many (BadHeader at) = ⊥
 
--- Many holds of no units, and of one unit more with those that it adds.
-record Counts (units : Units) (Many : ℕ → ℕ → Type 0) : Type 0 where
+-- Many is such a count: it holds of no units, and of one unit more with the bad ones that it adds.
+record IsCount (units : Units) (Many : ℕ → ℕ → Type 0) : Type 0 where
   none : Many 0 0
   more : (k bad : ℕ) (before : List (List ℕ)) (own : List ℕ) (steps : List Step) (turn : Turn) → Many k bad → units.does k before own steps turn
       → Many (k + 1) (bad + bad_of turn)
@@ -63,7 +63,7 @@ counted_end : (units : Units) (Many : ℕ → ℕ → Type 0) (bad : ℕ) → un
 counted_end units Many zero asks are = inr (inr (asks, are))
 counted_end units Many (suc bad) asks are = (asks, are, λ no. cc)
 
-module _ (units : Units) (Many : ℕ → ℕ → Type 0) (are : Counts units Many) where
+module _ (units : Units) (Many : ℕ → ℕ → Type 0) (are : IsCount units Many) where
   -- one byte more is asked for
   asked_end : units.behind ≡ behind.Asks → (bad : ℕ) → Many units.count bad → (left : List ℕ)
       → AllEndSo (HasReason units Many) (EndsBehind behind.Asks bad left)
@@ -242,7 +242,7 @@ module _ (units : Units) (bytes : List ℕ) (outcome : Outcome) (runs : IsOutcom
   -- the reason of an end, whatever number of units may be bad
   reason : (end : LoopEnd) → outcome.end ≡ end → HasReason units (λ k bad. Unit {0}) end
   reason end is =
-      let counts : Counts units (λ k bad. Unit {0}) = record { none = tt; more = λ k bad before own steps turn many does. tt } in
+      let counts : IsCount units (λ k bad. Unit {0}) = record { none = tt; more = λ k bad before own steps turn many does. tt } in
       subst (HasReason units (λ k bad. Unit {0})) is (run_ends units (λ k bad. Unit {0}) counts bytes outcome runs)
 
   -- the unit that the input ends in is one of them
@@ -280,14 +280,14 @@ module _ (units : Units) (bytes : List ℕ) (outcome : Outcome) (runs : IsOutcom
   -- no more units are bad than there are
   pub damaged_at_most : (bad : ℕ) → outcome.end ≡ Damaged bad → bad ≤ units.count
   damaged_at_most bad is =
-      let counts : Counts units (λ k many. many ≤ k) =
+      let counts : IsCount units (λ k many. many ≤ k) =
       record { none = omega arith; more = λ k many before own steps turn are does. at_most k many turn are } in
       (subst (HasReason units (λ k many. many ≤ k)) is (run_ends units (λ k many. many ≤ k) counts bytes outcome runs)).1
 
   -- where no unit is bad, none is counted as damaged
   pub never_damaged : IsNever units Bad → (bad : ℕ) → outcome.end ≢ Damaged bad
   never_damaged never bad is =
-      let counts : Counts units (λ k many. many ≡ 0) =
+      let counts : IsCount units (λ k many. many ≡ 0) =
       record { none = refl; more = λ k many before own steps turn are does. none_more many turn are (λ no. never k before own steps (subst (units.does k before own steps) no does)) } in
       let why = subst (HasReason units (λ k many. many ≡ 0)) is (run_ends units (λ k many. many ≡ 0) counts bytes outcome runs) in
       why.2 why.1

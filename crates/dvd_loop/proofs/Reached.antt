@@ -7,7 +7,7 @@ use Rattle.dvd_loop.specs.declared.ends.LoopEnd.{LoopEnd}
 use Rattle.dvd_loop.specs.declared.ends.LoopEnd.TheVariants.{Done}
 use Rattle.dvd_loop.specs.declared.ends.Turn.{Turn}
 use Rattle.dvd_loop.specs.declared.ends.Turn.TheVariants.{Good, Bad, Last}
-use Rattle.dvd_loop.proofs.StepLemmas.{does_all, does_as, onto}
+use Rattle.dvd_loop.proofs.StepLemmas.{does_all, does_as, onto, taken_then}
 use Rattle.dvd_loop.proofs.StreamLemmas.{comes_after, left_of, moves_on, stays}
 
 -- k units were taken, these; so many are to come
@@ -70,17 +70,9 @@ module _ (units : Units) where
       → GoesOn turn (Goes units n (before ++ own ∷ []) (bad + bad_of turn) left) after
       → Goes units (suc n) before bad (own ++ left) (taking own (onto [] (written steps) (told steps) after))
   unfolding Goes
-  taken_unit n before own left steps turn bad after unit goes = inr (record {
-    own = own;
-    left = left;
-    steps = steps;
-    turn = turn;
-    front = refl;
-    unit = unit;
-    after = onto [] (written steps) (told steps) after;
-    does = does_all steps (GoesOn turn (Goes units n (before ++ own ∷ []) (bad + bad_of turn) left)) after goes;
-    takes = refl;
-  })
+  taken_unit n before own left steps turn bad after unit goes =
+      inr (taken_then units before _ (own ++ left) own left steps turn _ (onto [] (written steps) (told steps) after) refl unit
+      (does_all steps (GoesOn turn (Goes units n (before ++ own ∷ []) (bad + bad_of turn) left)) after goes) refl)
 
   -- a loop that ends within a unit or its steps
   ends_at : (n : ℕ) (before : List (List ℕ)) (bad : ℕ) (bytes : List ℕ) (outcome : Outcome) → EndsAt units before bytes outcome
@@ -88,17 +80,9 @@ module _ (units : Units) where
   unfolding Goes
   ends_at n before bad bytes outcome at = elim at [
     | inl within ↦ inl within
-    | inr t ↦ inr (record {
-      own = t.own;
-      left = t.left;
-      steps = t.steps;
-      turn = t.turn;
-      front = t.front;
-      unit = t.unit;
-      after = t.after;
-      does = does_as t.steps Nothing (GoesOn t.turn (Goes units n (before ++ t.own ∷ []) (bad + bad_of t.turn) t.left)) (λ after none. absurd none) t.after t.does;
-      takes = t.takes;
-    })
+    | inr t ↦
+        inr (taken_then units before _ bytes t.own t.left t.steps t.turn outcome t.after t.front t.unit
+        (does_as t.steps Nothing (GoesOn t.turn (Goes units n (before ++ t.own ∷ []) (bad + bad_of t.turn) t.left)) (λ after none. absurd none) t.after t.does) t.takes)
   ]
 
   module _ (k : ℕ) (before : List (List ℕ)) (old now : Streams) (bad : ℕ) (r : Reached units k before old now bad) where

@@ -2,13 +2,15 @@
 use Rattle.std.proofs.Common.{◌≡◌, inl, inr, ℕ, zero, suc, ◌+◌, List, [], ◌∷◌, ◌++◌, length, length-append, refl, sym, subst, append-nil, arith}
 use Rattle.dvd_loop.specs.Laws.{AreTotal, IsFaultless, OutcomeExists}
 use Rattle.dvd_loop.specs.Machine.{Does, EndsBehind, EndsWithin, Goes, GoesOn, Outcome, Step, Units, bad_of, end_by, ended, taking}
+use Rattle.dvd_loop.specs.Machine.Part.{Whole, Cut}
 use Rattle.dvd_loop.specs.Turns.{told, written}
 use Rattle.dvd_loop.specs.declared.ends.Behind.{Behind}
 use Rattle.dvd_loop.specs.declared.ends.Behind.TheVariants as behind
+use Rattle.dvd_loop.specs.declared.ends.LoopEnd.{LoopEnd}
 use Rattle.dvd_loop.specs.declared.ends.LoopEnd.TheVariants.{BadMarks, Done, Long, NoControl, Short}
 use Rattle.dvd_loop.specs.declared.ends.Turn.{Turn}
 use Rattle.dvd_loop.specs.declared.ends.Turn.TheVariants.{Good, Bad, Last}
-use Rattle.dvd_loop.proofs.StepLemmas.{does_all, onto}
+use Rattle.dvd_loop.proofs.StepLemmas.{does_all, onto, taken_then}
 
 -- some outcome without a fault is there
 abbrev pub Exists : (Outcome → Type 0) → Type 0
@@ -40,6 +42,46 @@ behind_exists behind.Asks bad (byte ∷ left) = (taking (byte ∷ []) (ended Lon
 pub one_fewer : (before : List (List ℕ)) (own : List ℕ) (n count : ℕ) → length before + suc n ≡ count → length (before ++ own ∷ []) + n ≡ count
 one_fewer before own n count all = omega (arith, length-append before (own ∷ []))
 
+module _ (units : Units) where
+  -- the input ends within the unit behind those
+  pub cut_exists : (n : ℕ) (before : List (List ℕ)) (bad : ℕ) (bytes : List ℕ) → units.begins (length before) bytes ≡ Cut
+      → Exists (Goes units (suc n) before bad bytes)
+  unfolding Goes
+  cut_exists n before bad bytes cut =
+      let short : LoopEnd = Short (length before) (length bytes) in (
+        taking bytes (ended short),
+        inl (record {
+          own = bytes;
+          left = [];
+          front = sym (append-nil bytes);
+          ends = subst (λ part. EndsWithin part (length before) (length bytes) [] short) (sym cut) (inl (refl, refl));
+          takes = refl;
+        }),
+        tt,
+      )
+
+  -- the unit is taken, and there is an outcome of the units to come
+  pub taken_exists : (n : ℕ) (before : List (List ℕ)) (bad : ℕ) (bytes own left : List ℕ) → bytes ≡ own ++ left
+      → units.begins (length before) own ≡ Whole (length own)
+      → (steps : List Step) (turn : Turn) → units.does (length before) before own steps turn
+      → Exists (Goes units n (before ++ own ∷ []) (bad + bad_of turn) left) → Exists (Goes units (suc n) before bad bytes)
+  unfolding Goes
+  taken_exists n before bad bytes own left front whole steps turn does later =
+      let Next = Goes units n (before ++ own ∷ []) (bad + bad_of turn) left in
+      let exists = steps_exist steps (GoesOn turn Next) (turns_exist turn Next later) in (
+        taking own exists.0,
+        inr (taken_then units before _ bytes own left steps turn _ exists.0 front (record { whole = whole; does = does }) exists.1 refl),
+        exists.2,
+      )
+
+  -- behind the last unit these steps close them
+  pub closed_exists : (before : List (List ℕ)) (bad : ℕ) (bytes : List ℕ) (steps : List Step) → units.closes before steps
+      → Exists (Goes units 0 before bad bytes)
+  unfolding Goes
+  closed_exists before bad bytes steps closes =
+      let exists = steps_exist steps (EndsBehind units.behind bad bytes) (behind_exists units.behind bad bytes) in
+      (exists.0, (steps, closes, exists.1), exists.2)
+
 module _ (units : Units) (total : AreTotal units) where
   -- with n units to come there is an outcome without a fault for any bytes
   pub goes_exist : (n : ℕ) (before : List (List ℕ)) (bad : ℕ) (bytes : List ℕ) → length before + n ≡ units.count
@@ -47,39 +89,13 @@ module _ (units : Units) (total : AreTotal units) where
   unfolding Goes
   goes_exist zero before bad bytes all =
       let closing = total.closes before (omega arith) in
-      let exists = steps_exist closing.0 (EndsBehind units.behind bad bytes) (behind_exists units.behind bad bytes) in
-      (exists.0, (closing.0, closing.1, exists.1), exists.2)
+      closed_exists units before bad bytes closing.0 closing.1
   goes_exist (suc n) before bad bytes all = elim (total.begins (length before) bytes (omega arith)) [
     | inl (own, left, front, whole) ↦
         let unit = total.does before own (omega arith) whole in
-        let exists = steps_exist unit.0 (GoesOn unit.1 (Goes units n (before ++ own ∷ []) (bad + bad_of unit.1) left))
-        (turns_exist unit.1 (Goes units n (before ++ own ∷ []) (bad + bad_of unit.1) left)
-        (goes_exist n (before ++ own ∷ []) (bad + bad_of unit.1) left (one_fewer before own n units.count all))) in (
-          taking own exists.0,
-          inr (record {
-            own = own;
-            left = left;
-            steps = unit.0;
-            turn = unit.1;
-            front = front;
-            unit = record { whole = whole; does = unit.2 };
-            after = exists.0;
-            does = exists.1;
-            takes = refl;
-          }),
-          exists.2,
-        )
-    | inr (inl cut) ↦ (
-      taking bytes (ended (Short (length before) (length bytes))),
-      inl (record {
-        own = bytes;
-        left = [];
-        front = sym (append-nil bytes);
-        ends = subst (λ part. EndsWithin part (length before) (length bytes) [] (Short (length before) (length bytes))) (sym cut) (inl (refl, refl));
-        takes = refl;
-      }),
-      tt,
-    )
+        taken_exists units n before bad bytes own left front whole unit.0 unit.1 unit.2
+        (goes_exist n (before ++ own ∷ []) (bad + bad_of unit.1) left (one_fewer before own n units.count all))
+    | inr (inl cut) ↦ cut_exists units n before bad bytes cut
     | inr (inr (own, left, at, front, broken)) ↦ (
       taking own (ended (BadMarks (length before) at)),
       inl (record {

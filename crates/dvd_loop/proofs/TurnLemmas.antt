@@ -14,7 +14,7 @@ use Rattle.dvd_loop.specs.declared.ends.LoopEnd.{LoopEnd}
 use Rattle.dvd_loop.specs.declared.ends.LoopEnd.TheVariants.{Done, ReportFault, WriteFault}
 use Rattle.dvd_loop.specs.declared.ends.Turn.{Turn}
 use Rattle.dvd_loop.proofs.Sizes.{sized_fewer, sized_whole}
-use Rattle.dvd_loop.proofs.StepLemmas.{onto}
+use Rattle.dvd_loop.proofs.StepLemmas.{onto, taken_then}
 use Rattle.dvd_loop.proofs.StreamLemmas.{Consumes-none, causes_first, comes_after, comes_of_none, left_of, moves_on, none_left, told_before}
 
 -- an answer that is this error
@@ -72,17 +72,7 @@ module _ (units : Units) (before : List (List ℕ)) where
   }
   turn_of ready old now new own steps turn unit moved first next (Err end) done same causes = record {
     comes = comes_after (λ bytes. Does steps Nothing) (EndsAt units before) old now new end own [] [] moved
-        (λ left after does. inr (record {
-          own = own;
-          left = left;
-          steps = steps;
-          turn = turn;
-          front = refl;
-          unit = unit;
-          after = after;
-          does = does;
-          takes = refl;
-        })) done;
+        (λ left after does. inr (taken_then units before (λ l r t. Nothing) (own ++ left) own left steps turn _ after refl unit does refl)) done;
     causes = causes_first old now new end end first causes;
   }
 

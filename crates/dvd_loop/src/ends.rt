@@ -9,7 +9,7 @@ use dvd_ports::{Failed, WriteFault};
 /// How the loop of a command ends.
 #[derive(Clone, Copy, Debug, PartialEq, Eq)]
 pub enum LoopEnd {
-    /// The input was read to its end, or to the unit that answers, and the output is whole.
+    /// The input was read as far as the command asks, to its end or to the unit that answers, and the output is whole.
     Done,
     /// A read failed.
     ReadFault,
