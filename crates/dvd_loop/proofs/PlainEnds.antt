@@ -1,11 +1,9 @@
 -- What a run can't end as, by what its units are.
-use Rattle.std.proofs.Common.{◌≡◌, ◌≢◌, inl, inr, ◌⊎◌, ℕ, zero, suc, ◌+◌, ◌<◌, ◌≤◌, List, [], ◌∷◌, ◌++◌, length, length-append, refl, ap, sym, subst, ◌∙◌, arith}
+use Rattle.std.proofs.Common.{◌≡◌, ◌≢◌, inl, inr, ◌⊎◌, ℕ, zero, suc, ◌+◌, ◌<◌, ◌≤◌, List, [], ◌∷◌, ◌++◌, length, length-append, refl, sym, subst, arith}
 use Rattle.dvd_loop.specs.Laws.{IsNever}
 use Rattle.dvd_loop.specs.Machine.{Does, EndsBehind, EndsWithin, Goes, GoesOn, IsOutcome, IsWithin, Outcome, Step, Units, bad_of, end_by}
 use Rattle.dvd_loop.specs.Machine.Part.{Whole, Cut, Broken}
 use Rattle.dvd_loop.specs.Machine.Step.{Write, Tell}
-use Rattle.dvd_loop.specs.Turns.{told}
-use Rattle.dvd_loop.specs.declared.ends.Behind.{Behind}
 use Rattle.dvd_loop.specs.declared.ends.Behind.TheVariants as behind
 use Rattle.dvd_loop.specs.declared.ends.LoopEnd.{LoopEnd}
 use Rattle.dvd_loop.specs.declared.ends.LoopEnd.TheVariants.{BadHeader, BadMarks, Damaged, Done, Long, NoControl, ReadFault, ReportFault, Short, ShortHeader, WriteFault}
@@ -133,104 +131,6 @@ at_most : (k bad : ℕ) (turn : Turn) → bad ≤ k → bad + bad_of turn ≤ k 
 at_most k bad Good le = omega arith
 at_most k bad Bad le = omega arith
 at_most k bad Last le = omega arith
-
--- nothing is told, and so the report can't fail
-abbrev AllSilent : (Outcome → Type 0) → Type 0
-AllSilent A = (a : Outcome) → A a → (a.lines ≡ []) × (a.end ≢ ReportFault)
-
--- an outcome equal to a silent one is silent
-silent_as : (a b : Outcome) → a ≡ b → (b.lines ≡ []) × (b.end ≢ ReportFault) → (a.lines ≡ []) × (a.end ≢ ReportFault)
-silent_as a b is silent = subst (λ (o : Outcome). (o.lines ≡ []) × (o.end ≢ ReportFault)) (sym is) silent
-
--- of nothing, nothing is left behind a front
-no_front : (front left : List ℕ) → [] ≡ front ++ left → left ≡ []
-no_front [] left is = sym is
-no_front (x ∷ front) left is = absurd cc
-
--- where two pieces together are nothing, both are
-neither : (line more : List ℕ) → line ++ more ≡ [] → (line ≡ []) × (more ≡ [])
-neither [] more is = (refl, is)
-neither (x ∷ line) more is = absurd cc
-
--- steps that tell nothing leave silent what is silent behind them
-steps_silent : (steps : List Step) → told steps ≡ [] → (A : Outcome → Type 0) → AllSilent A → AllSilent (Does steps A)
-steps_silent [] none A so a does = so a does
-steps_silent (Write bytes ∷ steps) none A so a does = elim does [
-  | inl (front, left, whole, some, fails) ↦ silent_as a _ fails (refl, λ no. cc)
-  | inr (after, does, is) ↦ silent_as a _ is (steps_silent steps none A so after does)
-]
-steps_silent (Tell line ∷ steps) none A so a does =
-    let empty = neither line (told steps) none in
-    elim does [
-      | inl (front, left, whole, some, fails) ↦ absurd (some (no_front front left (sym empty.0 ∙ whole)))
-      | inr (after, does, is) ↦
-          let silent = steps_silent steps empty.1 A so after does in
-          silent_as a _ is (ap (λ l. l ++ after.lines) empty.0 ∙ silent.0, silent.1)
-    ]
-
--- whether the unit was the last or not, what is silent behind it stays so
-turns_silent : (turn : Turn) (A : Outcome → Type 0) → AllSilent A → AllSilent (GoesOn turn A)
-turns_silent Good A so a goes = so a goes
-turns_silent Bad A so a goes = so a goes
-turns_silent Last A so a goes = silent_as a _ goes (refl, λ no. cc)
-
--- the end of an input isn't a fault of the report
-end_by_silent : (bad : ℕ) → end_by bad ≢ ReportFault
-end_by_silent zero is = cc
-end_by_silent (suc bad) is = cc
-
--- what stands behind the last unit is silent
-behind_silent : (stands : Behind) (bad : ℕ) (left : List ℕ) → AllSilent (EndsBehind stands bad left)
-behind_silent behind.Done bad left a is = silent_as a _ is (refl, λ no. cc)
-behind_silent behind.NoControl bad left a is = silent_as a _ is (refl, λ no. cc)
-behind_silent behind.Asks bad [] a ends = elim ends [
-  | inl is ↦ silent_as a _ is (refl, end_by_silent bad)
-  | inr is ↦ silent_as a _ is (refl, λ no. cc)
-]
-behind_silent behind.Asks bad (byte ∷ left) a ends = elim ends [
-  | inl is ↦ silent_as a _ is (refl, λ no. cc)
-  | inr is ↦ silent_as a _ is (refl, λ no. cc)
-]
-
--- an end within a unit is silent
-within_silent : (units : Units) (k : ℕ) (bytes : List ℕ) → AllSilent (IsWithin units k bytes)
-within_silent units k bytes a w =
-    let other : a.end ≢ ReportFault =
-    elim (units.begins k w.own) as (λ part. EndsWithin part k (length w.own) w.left a.end → a.end ≢ ReportFault) [
-      | Whole size ↦ λ ends. absurd ends
-      | Cut ↦ λ ends. elim ends [
-        | inl (short, all) ↦ λ no. cc
-        | inr fault ↦ λ no. cc
-      ]
-      | Broken at ↦ λ ends. elim ends [
-        | inl marks ↦ λ no. cc
-        | inr fault ↦ λ no. cc
-      ]
-    ] w.ends in
-    (ap (λ (o : Outcome). o.lines) w.takes, other)
-
--- no step of the opening, of a unit or of the closing tells anything
-pub record AreSilent (units : Units) : Type 0 where
-  pub opens : told units.opens ≡ []
-  pub does : (k : ℕ) (before : List (List ℕ)) (own : List ℕ) (steps : List Step) (turn : Turn) → units.does k before own steps turn → told steps ≡ []
-  pub closes : (before : List (List ℕ)) (steps : List Step) → units.closes before steps → told steps ≡ []
-
-module _ (units : Units) (are : AreSilent units) where
-  -- with n units to come, a run of silent units tells nothing, and the report doesn't fail
-  goes_silent : (n : ℕ) (before : List (List ℕ)) (bad : ℕ) (bytes : List ℕ) → AllSilent (Goes units n before bad bytes)
-  unfolding Goes
-  goes_silent zero before bad bytes a (steps, closes, does) = steps_silent steps (are.closes before steps closes) (EndsBehind units.behind bad bytes) (behind_silent units.behind bad bytes) a does
-  goes_silent (suc n) before bad bytes a goes = elim goes [
-    | inl w ↦ within_silent units (length before) bytes a w
-    | inr t ↦
-        let Next = Goes units n (before ++ t.own ∷ []) (bad + bad_of t.turn) t.left in
-        let so = turns_silent t.turn Next (goes_silent n (before ++ t.own ∷ []) (bad + bad_of t.turn) t.left) in
-        silent_as a _ t.takes (steps_silent t.steps (are.does (length before) before t.own t.steps t.turn t.unit.does) (GoesOn t.turn Next) so t.after t.does)
-  ]
-
-  -- where no step tells anything, no run does, and the report doesn't fail
-  pub run_silent : (bytes : List ℕ) (outcome : Outcome) → IsOutcome units bytes outcome → (outcome.lines ≡ []) × (outcome.end ≢ ReportFault)
-  run_silent bytes outcome runs = steps_silent units.opens are.opens (Goes units units.count [] 0 bytes) (goes_silent units.count [] 0 bytes) outcome runs
 
 -- a unit that isn't bad adds none
 none_more : (bad : ℕ) (turn : Turn) → bad ≡ 0 → turn ≢ Bad → bad + bad_of turn ≡ 0
