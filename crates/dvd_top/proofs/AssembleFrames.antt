@@ -29,7 +29,7 @@ use Rattle.dvd_loop.specs.Machine.Step.{Tell, Write}
 use Rattle.dvd_loop.specs.Streams.{HaveMoved, Streams}
 use Rattle.dvd_loop.specs.Turns.{AreSteps, Nothing, told, written}
 use Rattle.dvd_loop.specs.declared.ends.LoopEnd.{LoopEnd}
-use Rattle.dvd_loop.specs.declared.ends.LoopEnd.TheVariants.{BadHeader, BadMarks, Damaged, Done, Long, NoControl, ReadFault, ReportFault, Short, ShortHeader, WriteFault}
+use Rattle.dvd_loop.specs.declared.ends.LoopEnd.TheVariants.{ReportFault}
 use Rattle.dvd_loop.proofs.LoopEnds.{plain_end}
 use Rattle.dvd_loop.proofs.StepLemmas.{onto}
 use Rattle.dvd_loop.proofs.StreamLemmas.{comes_after, moves_on}
@@ -210,13 +210,4 @@ assemble_end layout form frames bytes outcome runs end is = by_end end is
 
     by_end : (end : LoopEnd) → outcome.end ≡ end → IsAssembleEnd frames end
     by_end ReportFault is = tt
-    by_end Done is = plain Done is (λ no. cc)
-    by_end ReadFault is = plain ReadFault is (λ no. cc)
-    by_end WriteFault is = plain WriteFault is (λ no. cc)
-    by_end (Short k held) is = plain (Short k held) is (λ no. cc)
-    by_end Long is = plain Long is (λ no. cc)
-    by_end (Damaged bad) is = plain (Damaged bad) is (λ no. cc)
-    by_end NoControl is = plain NoControl is (λ no. cc)
-    by_end (BadMarks k at) is = plain (BadMarks k at) is (λ no. cc)
-    by_end (ShortHeader held) is = plain (ShortHeader held) is (λ no. cc)
-    by_end (BadHeader at) is = plain (BadHeader at) is (λ no. cc)
+    by_end end is = plain end is (λ no. cc)

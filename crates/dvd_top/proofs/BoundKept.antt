@@ -40,7 +40,7 @@ use Rattle.dvd_top.proofs.CapturedBlocks.{begin_blocks, block-whole, blocks_brea
 use Rattle.dvd_top.proofs.OpenedRuns.{behind_header}
 use Rattle.dvd_top.proofs.PlanBytes.{start-blocks}
 use Rattle.dvd_top.proofs.RecoveredWidths.{IsWide, block_units, deepened-wide, length-first, never_last, recovered-wide}
-use Rattle.dvd_top.proofs.Repaired.{repaired, repaired_deep}
+use Rattle.dvd_top.proofs.Repaired.{RepairsBy, repaired, repaired_deep}
 
 -- the image has the bytes that stand in a block
 pub length-part : (layout : Layout) (content : Content) (image : List ℕ) → length image ≡ 2048 * total_sectors layout
@@ -61,22 +61,14 @@ part_there a n before part out at size (left, is) =
     ∙ part-behind before (part ++ []) a n at own
     ∙ append-nil part
 
--- what may be done for a block that is borne
-alone : (layout : Layout) (zones : Zones) (form : Form) (bytes cpr image : List ℕ) (k : ℕ) (entry : BlockPlan)
+-- what may be done for a block that is borne, where damage within the bound is repaired
+alone : (Does : Layout → Zones → Form → ℕ → List ℕ → List Step → Turn → Type 0) → RepairsBy Does
+    → (layout : Layout) (zones : Zones) (form : Form) (bytes cpr image : List ℕ) (k : ℕ) (entry : BlockPlan)
     → IsBorne layout zones form bytes cpr image k entry
-    → (steps : List Step) (turn : Turn) → IsRecovered layout zones form k (block_bytes form bytes k) steps turn
+    → (steps : List Step) (turn : Turn) → Does layout zones form k (block_bytes form bytes k) steps turn
     → (steps ≡ Write (image_part layout entry image) ∷ []) × (turn ≡ Good)
-alone layout zones form bytes cpr image k entry b steps turn does =
-    repaired layout zones form cpr k entry (image_part layout entry image) (block_bytes form bytes k) b.block steps turn b.stands b.is_image b.cpr_size
-    (length-part layout entry.content image b.image_size) b.is_block (block-whole form bytes (k + 1) b.whole k (omega arith)) b.within does
-
--- the same where the block is read by rounds
-alone_deep : (layout : Layout) (zones : Zones) (form : Form) (bytes cpr image : List ℕ) (k : ℕ) (entry : BlockPlan)
-    → IsBorne layout zones form bytes cpr image k entry
-    → (steps : List Step) (turn : Turn) → IsDeepened layout zones form k (block_bytes form bytes k) steps turn
-    → (steps ≡ Write (image_part layout entry image) ∷ []) × (turn ≡ Good)
-alone_deep layout zones form bytes cpr image k entry b steps turn does =
-    repaired_deep layout zones form cpr k entry (image_part layout entry image) (block_bytes form bytes k) b.block steps turn b.stands b.is_image b.cpr_size
+alone Does repairs layout zones form bytes cpr image k entry b steps turn does =
+    repairs layout zones form cpr k entry (image_part layout entry image) (block_bytes form bytes k) b.block steps turn b.stands b.is_image b.cpr_size
     (length-part layout entry.content image b.image_size) b.is_block (block-whole form bytes (k + 1) b.whole k (omega arith)) b.within does
 
 -- Units that are the captured blocks of a plan, and write the image bytes that stand in each.
@@ -179,9 +171,9 @@ kept_by : (settings : Settings) (command : Command) (bytes : List ℕ) (outcome 
     → (meaning command).OfUnits settings (λ units. IsOutcome units bytes loop) → IsFaultless loop.end → outcome.out ≡ loop.out
     → KeepsBound settings bytes outcome
 kept_by settings Recover bytes outcome loop rescues is (layout, is_layout, runs) none out =
-    units_keep settings Recover bytes outcome loop layout is_layout (recovered-wide layout settings.zones settings.form) (alone layout settings.zones settings.form bytes) is runs none out
+    units_keep settings Recover bytes outcome loop layout is_layout (recovered-wide layout settings.zones settings.form) (alone IsRecovered repaired layout settings.zones settings.form bytes) is runs none out
 kept_by settings Deep bytes outcome loop rescues is (layout, is_layout, runs) none out =
-    units_keep settings Deep bytes outcome loop layout is_layout (deepened-wide layout settings.zones settings.form) (alone_deep layout settings.zones settings.form bytes) is runs none out
+    units_keep settings Deep bytes outcome loop layout is_layout (deepened-wide layout settings.zones settings.form) (alone IsDeepened repaired_deep layout settings.zones settings.form bytes) is runs none out
 kept_by settings Frames bytes outcome loop rescues is holds none out = absurd rescues
 kept_by settings Master bytes outcome loop rescues is holds none out = absurd rescues
 kept_by settings Info bytes outcome loop rescues is holds none out = absurd rescues

@@ -13,7 +13,7 @@ use Rattle.dvd_loop.proofs.LoopEnds.{damage_end, search_end}
 use Rattle.dvd_loop.proofs.PlainEnds.{damaged_at_most, marks_below, never_bad_header, never_damaged, never_long, never_no_control, never_short_header, short_below}
 use Rattle.dvd_top.specs.Captured.{IsCaptureEnd, IsSoughtEnd, captured_part}
 
--- whatever the units are
+-- how a loop over captured blocks may end, whatever is done for them
 pub capture_end : (form : Form) (units : Units) → ((k : ℕ) (own : List ℕ) → units.begins k own ≡ captured_part form own) → units.behind ≡ Asks
     → (bytes : List ℕ) (outcome : Outcome) → IsOutcome units bytes outcome → (end : LoopEnd) → outcome.end ≡ end → IsCaptureEnd form units.count end
 capture_end Plain units begins asks bytes outcome runs end is = damage_end units (λ k. block_size Plain) begins asks bytes outcome runs end is
@@ -31,7 +31,7 @@ capture_end Listed units begins asks bytes outcome runs (BadMarks k at) is = mar
 capture_end Listed units begins asks bytes outcome runs (ShortHeader held) is = absurd (never_short_header units bytes outcome runs held is)
 capture_end Listed units begins asks bytes outcome runs (BadHeader at) is = absurd (never_bad_header units bytes outcome runs at is)
 
--- and of one that looks for a first block
+-- and how one that looks for a first block may
 pub sought_end : (form : Form) (units : Units) → ((k : ℕ) (own : List ℕ) → units.begins k own ≡ captured_part form own) → units.behind ≡ StopsNoControl → IsNever units Bad
     → (bytes : List ℕ) (outcome : Outcome) → IsOutcome units bytes outcome → (end : LoopEnd) → outcome.end ≡ end → end ≢ ReportFault → IsSoughtEnd form units.count end
 sought_end Plain units begins stands never bytes outcome runs end is told = search_end units (λ k. block_size Plain) begins stands never bytes outcome runs end is told

@@ -38,7 +38,7 @@ from-next form bytes k =
     sym (take-append-drop n (from_block form bytes k))
     ∙ ap (λ l. block_bytes form bytes k ++ l) (drop-drop n (block_start form bytes k) bytes ∙ ap (λ m. drop m bytes) (sym (start-suc form bytes k)))
 
--- a whole block is one of those bytes
+-- a block that is whole in the stream is so by its own bytes
 pub block-whole : (form : Form) (bytes : List ℕ) (n : ℕ) → HasBlocks form bytes n → (k : ℕ) → k < n
     → captured_part form (block_bytes form bytes k) ≡ Whole (length (block_bytes form bytes k))
 block-whole form bytes n has k lt = (front_whole form (from_block form bytes k) (has k lt)).1
@@ -53,13 +53,13 @@ begin_blocks units form begins bytes n has = record {
   whole = λ j lt. begins j (block_bytes form bytes j) ∙ block-whole form bytes n has j lt;
 }
 
--- how they begin is determined
+-- a unit that is whole is so whatever follows
 pub blocks_stay : (units : Units) (form : Form) → ((k : ℕ) (own : List ℕ) → units.begins k own ≡ captured_part form own)
     → (k : ℕ) (own more : List ℕ)
     → units.begins k own ≡ Whole (length own) → units.begins k (own ++ more) ≡ Whole (length own)
 blocks_stay units form begins k own more whole = begins k (own ++ more) ∙ whole_stays form own more (sym (begins k own) ∙ whole)
 
--- and so where they break a rule
+-- and one that breaks a rule breaks it at the same place
 pub blocks_break : (units : Units) (form : Form) → ((k : ℕ) (own : List ℕ) → units.begins k own ≡ captured_part form own)
     → (k at : ℕ) (own more : List ℕ)
     → units.begins k own ≡ Broken at → units.begins k (own ++ more) ≡ Broken at
@@ -106,7 +106,7 @@ pub past_none : (form : Form) (all : List ℕ) → IsPast form all 0 [] all
 past_none form all = record { parts = refl; at = sym (start-zero form all); has = λ j lt. absurd (omega arith) }
 
 module _ (form : Form) (all : List ℕ) (k : ℕ) (front left : List ℕ) (past : IsPast form all k front left) where
-  -- the bytes before block k, and those from it on
+  -- the bytes before block k
   pub front-is : take (block_start form all k) all ≡ front
   front-is = ap (λ n. take n all) (sym past.at) ∙ ap (take (length front)) past.parts ∙ take-append_seam front left
 

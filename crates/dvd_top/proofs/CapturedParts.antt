@@ -53,7 +53,7 @@ module _ (own more : List ℕ) where
   start_back i enough (inr (some, touching)) =
       inr (some, let start = start_same i enough in let end = before_same i some enough in omega (arith, touching, start, end))
 
-  -- and so does a length
+  -- a length that breaks a rule does so with more bytes behind it
   long_on : (i : ℕ) → 37_862 + 4 * i ≤ length own → BreaksLength own i → BreaksLength (own ++ more) i
   long_on i enough (inl none) = inl (length_same i enough ∙ none)
   long_on i enough (inr past) = inr (subst (λ n. 37_856 < n) (sym (end_same i enough)) past)
@@ -76,7 +76,7 @@ module _ (own more : List ℕ) where
     inr (i, subst (λ n. i < n) (sym (number_same (omega (arith, is, stands)))) below, inr (is, long_on i (omega (arith, is, stands)) long)),
   )
 
-  -- and one that stands wholly before that did so
+  -- and one that stands wholly in the first bytes broke it before
   bad_back : (offset : ℕ) → offset + 2 ≤ length own → HasBadField (own ++ more) offset → HasBadField own offset
   bad_back offset within (stands, inl (is, number)) = (within, inl (is, subst (λ n. 18_928 < n) (number_same (omega (arith, is, within))) number))
   bad_back offset within (stands, inr (i, below, inl (is, start))) =
@@ -92,7 +92,7 @@ module _ (own more : List ℕ) where
   inside whole offset (stands, inr (i, below, inr (is, long))) =
       let same = number_same (omega (arith, whole)) in omega (arith, is, whole, below, same)
 
-  -- a whole unit that breaks no rule breaks none whatever follows, nor does one with which unbroken bytes begin
+  -- a whole unit that breaks no rule breaks none whatever follows
   unbroken_on : listed_size own ≤ length own → IsUnbroken own → IsUnbroken (own ++ more)
   unbroken_on whole unbroken offset bad = unbroken offset (bad_back offset (inside whole offset bad) bad)
 
@@ -153,7 +153,7 @@ size_whole Plain bytes le lawful = sized_enough 37_856 bytes le
 size_whole Marked bytes le lawful = sized_enough 42_640 bytes le
 size_whole Listed bytes le lawful = listed_sized bytes lawful ∙ sized_enough (listed_size bytes) bytes le
 
--- it has the bytes of the rows
+-- a whole block has the bytes of the rows at least
 pub whole_enough : (form : Form) (own : List ℕ) → captured_part form own ≡ Whole (length own) → block_size form ≤ length own
 whole_enough Plain own whole = let is = (whole_size Plain own (length own) whole).0 in omega (arith, is)
 whole_enough Marked own whole = let is = (whole_size Marked own (length own) whole).0 in omega (arith, is)

@@ -1,5 +1,4 @@
--- One CD-ROM sector that is made, and one that is read: what is done for it is one thing, there is something, and where it was
--- damaged as can be borne, it is what was made of it.
+-- One CD-ROM sector that is made, and one that is read: what is done for it is one thing, and there is something.
 use Rattle.std.proofs.Common.{◌≡◌, ◌≢◌, ◌⊎◌, inl, inr, ℕ, zero, suc, ◌<◌, List, [], ◌∷◌, ◌++◌, length, take, drop, All, refl, ap, sym, subst, ◌∙◌, arith}
 use Rattle.std.specs.Prelude.{replicate, slice_index}
 use Rattle.std.proofs.lemmas.Bool.{cases_eq, cases_lt}

@@ -64,7 +64,7 @@ opening_once settings a b p q =
     (sym (ap (λ (s : Settings). s.tail) p.states.all) ∙ ap (λ (s : Settings). s.tail) q.states.all)
     ∙ sym q.bytes
 
--- SOMETHING. Settings whose layout breaks no rule have a header,
+-- SOMETHING. There are three numbers of shapes.
 shape_below : (shape : Shape) → shape_number shape < 3
 shape_below Single = omega arith
 shape_below Parallel = omega arith

@@ -1,6 +1,5 @@
 -- What `convert` wrote is read as that which it was converted from.
-use Rattle.std.proofs.Common.{◌≡◌, ◌≢◌, ◌∙◌, inl, inr, ℕ, zero, suc, ◌+◌, Bool, List, [], ◌∷◌, ◌++◌, length, take, drop, slice_get, Some, None, refl, ap, sym, subst, arith, length-append, append-nil}
-use Rattle.std.proofs.Math.Seq.{drop-append_seam, take-append_seam}
+use Rattle.std.proofs.Common.{◌≡◌, ◌∙◌, inl, inr, ℕ, zero, suc, ◌+◌, Bool, List, [], ◌∷◌, ◌++◌, length, slice_get, Some, None, refl, ap, sym, subst, arith, length-append, append-nil}
 use Rattle.dvd_capture.specs.Captured.{HasSize, block_size, captured_marks, captured_rows}
 use Rattle.dvd_capture.specs.declared.form.Form.{Form}
 use Rattle.dvd_capture.specs.declared.form.Form.TheVariants.{Listed}
@@ -17,11 +16,12 @@ use Rattle.dvd_loop.specs.Machine.Step.{Write}
 use Rattle.dvd_loop.specs.Turns.{told, written}
 use Rattle.dvd_loop.specs.declared.ends.Behind.TheVariants.{Asks}
 use Rattle.dvd_loop.specs.declared.ends.LoopEnd.TheVariants.{Done, Long, ReadFault, Short}
-use Rattle.dvd_loop.specs.declared.ends.Turn.{Turn}
 use Rattle.dvd_loop.specs.declared.ends.Turn.TheVariants.{Good, Bad, Last}
 use Rattle.dvd_loop.proofs.Faultless.{all_done}
+use Rattle.dvd_loop.proofs.Fronts.{same_front, same_left as left_same}
+use Rattle.dvd_loop.proofs.Reached.{goes_on}
 use Rattle.dvd_loop.proofs.Sizes.{TakesOne, goes_one}
-use Rattle.dvd_loop.proofs.StepLemmas.{does_all, onto}
+use Rattle.dvd_loop.proofs.StepLemmas.{does_all, onto, taken_then}
 use Rattle.dvd_top.specs.Commands.{meaning}
 use Rattle.dvd_top.specs.Commands.Convert.{convert_units}
 use Rattle.dvd_top.specs.Commands.Recover.{IsDone, IsRecovered, recover_units}
@@ -46,12 +46,6 @@ done_not_last (Image sector) layout k entry rows marks steps does = elim does [
 done_not_last Zero layout k entry rows marks steps does = let no : Last ≡ Good = does.1 in cc
 done_not_last Reference layout k entry rows marks steps does = let no : Last ≡ Good = does.1 in cc
 done_not_last Control layout k entry rows marks steps does = let no : Last ≡ Good = does.1 in cc
-
--- where a turn isn't the last, what holds of the rest holds behind it
-on_from : (turn : Turn) → turn ≢ Last → (A : Outcome → Type 0) (after : Outcome) → A after → GoesOn turn A after
-on_from Good not A after holds = holds
-on_from Bad not A after holds = holds
-on_from Last not A after holds = absurd (not refl)
 
 -- where a conversion is done nothing is left of the input
 behind_both : (bad others : ℕ) (left : List ℕ) (c a : Outcome) → EndsBehind Asks others left c → c.end ≡ Done → EndsBehind Asks bad left a
@@ -101,15 +95,11 @@ module _ (layout : Layout) (zones : Zones) (form : Form) (has : HasSize form) (o
       (o : TakesOne reading (λ k. block_size form) (λ k own. sized_part form has own) n rb bad left a) where
     -- both took the same bytes of the input
     same_own : o.own ≡ t.own
-    same_own =
-        sym (take-append_seam o.own o.left) ∙ ap (λ m. take m (o.own ++ o.left)) (o.size_is ∙ sym t.size_is)
-        ∙ ap (take (length t.own)) (sym o.front ∙ t.front) ∙ take-append_seam t.own t.left
+    same_own = same_front o.own t.own o.left t.left (sym o.front ∙ t.front) (o.size_is ∙ sym t.size_is)
 
     -- and left the same
     same_left : o.left ≡ t.left
-    same_left =
-        sym (drop-append_seam o.own o.left) ∙ ap (λ m. drop m (o.own ++ o.left)) (o.size_is ∙ sym t.size_is)
-        ∙ ap (drop (length t.own)) (sym o.front ∙ t.front) ∙ drop-append_seam t.own t.left
+    same_left = left_same o.own t.own o.left t.left (sym o.front ∙ t.front) same_own
 
     -- the listed unit that was written
     unit : List ℕ
@@ -144,18 +134,11 @@ module _ (layout : Layout) (zones : Zones) (form : Form) (has : HasSize form) (o
         let Next = Goes listing n (lb ++ unit ∷ []) (bad + bad_of o.turn) t.after.out in
         let behind = onto [] (written o.steps) (told o.steps) r.again in record {
           again = taking unit behind;
-          goes = subst (λ l. Goes listing (suc n) lb bad l (taking unit behind)) (sym out_is) (inr (record {
-            own = unit;
-            left = t.after.out;
-            steps = o.steps;
-            turn = o.turn;
-            front = refl;
-            unit = record { whole = captured_whole Listed unit is.size is.lawful; does = listed_does };
-            after = behind;
-            does = does_all o.steps (GoesOn o.turn Next) r.again
-                (on_from o.turn (λ last. recover_last rb o.own o.steps (subst (IsUnit reading rb o.own o.steps) last o.unit)) Next r.again r.goes);
-            takes = refl;
-          }));
+          goes = subst (λ l. Goes listing (suc n) lb bad l (taking unit behind)) (sym out_is)
+              (inr (taken_then listing lb _ (unit ++ t.after.out) unit t.after.out o.steps o.turn _ behind refl
+              (record { whole = captured_whole Listed unit is.size is.lawful; does = listed_does })
+              (does_all o.steps (GoesOn o.turn Next) r.again
+              (goes_on o.turn Next r.again (λ last. recover_last rb o.own o.steps (subst (IsUnit reading rb o.own o.steps) last o.unit)) r.goes)) refl));
           out = ap (λ l. written o.steps ++ l) r.out ∙ sym (ap (λ (x : Outcome). x.out) o.is);
           lines = ap (λ l. told o.steps ++ l) r.lines ∙ sym (ap (λ (x : Outcome). x.lines) o.is);
           ends = r.ends ∙ sym (ap (λ (x : Outcome). x.end) o.is);
@@ -192,7 +175,7 @@ module _ (layout : Layout) (zones : Zones) (form : Form) (has : HasSize form) (o
         ]
       ]
 
--- THE LAW.
+-- the law: recovery does for what was converted what it does for what it was converted from
 pub converted_read : ConvertedIsRead
 converted_read settings words bytes c a is_convert is_recover listed has lawful conv done rec none =
     let form = settings.form in

@@ -6,8 +6,6 @@ use Rattle.std.proofs.lemmas.List.{take_all, take_at}
 use Rattle.std.proofs.lemmas.List.FromFn.{length-map-range_with_len}
 use Rattle.dvd_block.specs.Product.{IsProduct}
 use Rattle.dvd_capture.specs.TwoPass.{answers_of}
-use Rattle.dvd_capture.specs.Works.{rows_of}
-use Rattle.dvd_capture.specs.declared.work.Work.{Work}
 use Rattle.dvd_capture.proofs.Columns.{length-answers_of}
 use Rattle.dvd_deep.specs.Rounds.{deep_block, deep_round}
 use Rattle.dvd_deep.proofs.Products.{found_is_product}
@@ -31,7 +29,7 @@ use Rattle.dvd_top.proofs.Recovered.{sectors_front}
 use Rattle.dvd_top.proofs.RecoveredWidths.{length-sectors_out}
 use Rattle.dvd_top.proofs.Repairs.{few-sectors}
 
--- the line of a round is told exactly where the two passes have a cause
+-- no line of a round is told where the two passes have no cause
 pub told_none : (k : ℕ) (entry : BlockPlan) (round : ℕ) (cause : Option Cause) → cause ≡ None → round_told cause k entry round ≡ []
 told_none k entry round cause is = ap (λ c. round_told c k entry round) is
 
@@ -69,9 +67,7 @@ module _ (layout : Layout) (k : ℕ) (entry : BlockPlan) (rows : List (List ℕ)
     good = done.1;
   })
 
--- ---- what rounds found
-
--- the first sectors of all sixteen
+-- FOUND BY ROUNDS. The first sectors of all sixteen.
 first_sectors : (block : List (List ℕ)) (entry : BlockPlan) (count : ℕ) (bytes : List ℕ) → IsProduct block → count ≤ 16
     → bytes ≡ flat_map (λ sector. sector) (main_data block entry) → take (2048 * count) bytes ≡ sectors_out count (main_data block entry)
 unfolding main_data
@@ -94,7 +90,3 @@ found_by layout entry rows marks block bytes round cause size marks_size first i
   refused = deep-refused rows marks entry cause block size marks_size first gives right;
   first = first_sectors block entry (image_sectors layout entry.content) bytes (found_is_product rows marks block gives) (few-sectors layout entry.content) main;
 }
-
--- there are 208 rows
-pub height : (work : Work) → length (rows_of work) ≡ 208
-height work = sym work.received.rows.ok.0 ∙ work.received.size

@@ -11,7 +11,7 @@ use Rattle.dvd_control.specs.Format.{control_fault, fields_in}
 use Rattle.dvd_layout.specs.Plan.{lead_in_blocks, plan_of}
 use Rattle.dvd_layout.specs.declared.entry.BlockPlan.{BlockPlan}
 use Rattle.dvd_layout.specs.declared.entry.Content.{Content}
-use Rattle.dvd_layout.specs.declared.entry.Content.TheVariants.{Zero, Reference, Control, Image}
+use Rattle.dvd_layout.specs.declared.entry.Content.TheVariants.{Control, Image}
 use Rattle.dvd_layout.specs.declared.layout.Layout.{Layout}
 use Rattle.dvd_layout.specs.declared.layout.Zones.{Zones}
 use Rattle.dvd_layout.proofs.SameLengths.{same_lengths-same}
@@ -133,9 +133,7 @@ passed_is_one steps others turn other p q = (p.0 ∙ sym q.0, p.1 ∙ sym q.1)
 -- so where one thing alone is done for image, it is whatever a block holds
 if_image_is_one : (Does : List Step → Turn → Type 0) → MayOne Does → (content : Content) → MayOne (IfImage Does content)
 if_image_is_one Does one (Image sector) = one
-if_image_is_one Does one Zero = passed_is_one
-if_image_is_one Does one Reference = passed_is_one
-if_image_is_one Does one Control = passed_is_one
+if_image_is_one Does one content = passed_is_one
 
 -- what is done for a block is one thing, where what is done for its entry is
 entry_is_one : (entries : List BlockPlan) (Does : BlockPlan → List (List ℕ) → List (List Bool) → List Step → Turn → Type 0)
@@ -229,9 +227,7 @@ module _ (entry : BlockPlan) (rows : List (List ℕ)) (marks : List (List Bool))
   -- whatever a block holds, one thing alone is done when it is asked for its format
   asked_is_one : (content : Content) → MayOne (IsAsked content entry rows marks)
   asked_is_one Control = control_is_one
-  asked_is_one Zero = passed_is_one
-  asked_is_one Reference = passed_is_one
-  asked_is_one (Image sector) = passed_is_one
+  asked_is_one content = passed_is_one
 
 -- so what `info` does for a block is one thing
 sought_is_one : (initial : ℕ) (form : Form) (k : ℕ) (own : List ℕ) → MayOne (IsSought initial form k own)
@@ -305,7 +301,7 @@ module _ (settings : Settings) (bytes : List ℕ) (a b : Outcome) (none : IsFaul
       (subst (λ o. IsOutcome (units layout o) bytes b) (opening_once settings other_opening opening other_header header)
       (subst (λ l. IsOutcome (units l other_opening) bytes b) (one_layout settings same layout so is) q)) none other
 
--- over blocks, and behind a header
+-- so what a command does over bytes by its settings is one thing
 goes_once : (settings : Settings) (bytes : List ℕ) (a b : Outcome) → GoesOver settings bytes a → GoesOver settings bytes b → IsFaultless a.end → IsFaultless b.end
     → AreSame a b
 goes_once settings bytes a b p q none other = by_command settings bytes a b none other settings.command p q

@@ -14,6 +14,7 @@ use Rattle.dvd_layout.specs.declared.layout.Shape.{Shape}
 use Rattle.dvd_layout.specs.declared.layout.Shape.TheVariants.{Single, Parallel, Opposite}
 use Rattle.dvd_top.specs.Commands.Master.{cpr_in, filled, main_for}
 use Rattle.dvd_top.proofs.FrameBytes.{HasBytes, bytes-append, bytes-part, bytes-replicate, two_bytes}
+use Rattle.dvd_top.proofs.Repairs.{few-sectors}
 
 -- the last sector of the Data Zone has a number of 24 bits
 layer_number : (layout : Layout) (first : Bool) → 0x30000 + padded (cond first layout.sectors0 layout.sectors1) - 1 < 2 ^ 24
@@ -34,7 +35,7 @@ last_number layout Opposite layer is =
     let no_longer = layout.no_longer (ap is_opposite is) in
     omega (arith, layout.end0)
 
--- the number of a choice
+-- a number or 0 is at most that number
 cond-le : (b : Bool) (n : ℕ) → cond b n 0 ≤ n
 cond-le true n = omega arith
 cond-le false n = omega arith
@@ -45,7 +46,8 @@ bytes-number number below =
     bytes-append 2 2 4 (0 ∷ number / 65536 ∷ []) (number / 256 % 256 ∷ number % 256 ∷ []) (omega arith)
     (two_bytes 0 (number / 65536) (omega arith) (omega arith)) (two_bytes (number / 256 % 256) (number % 256) (omega arith) (omega arith))
 
--- version and rate, layers and density, three sector numbers, and no burst cutting area
+-- the head of a physical format is 17 bytes: version and rate, layers and density, three sector numbers, and the burst cutting
+-- area, of which there is none
 bytes-head : (layout : Layout) (layer : ℕ) → HasBytes 17 (head_bytes (fields_for layout layer))
 unfolding fields_for
 bytes-head layout layer =
@@ -101,17 +103,10 @@ bytes-cpr LeadIn cpr six = bytes-replicate 6 0 (omega arith)
 bytes-cpr LeadOut cpr six = bytes-replicate 6 0 (omega arith)
 bytes-cpr Middle cpr six = bytes-replicate 6 0 (omega arith)
 
--- a block has sixteen sectors of image at most
-most_sectors : (layout : Layout) (content : Content) → image_sectors layout content ≤ 16
-most_sectors layout (Image sector) = omega arith
-most_sectors layout Zero = omega arith
-most_sectors layout Reference = omega arith
-most_sectors layout Control = omega arith
-
 -- the image bytes of a block, with the zeros behind them, are sixteen sectors
 pub bytes-filled : (layout : Layout) (content : Content) (own : List ℕ) → HasBytes (2048 * image_sectors layout content) own
     → HasBytes 32768 (filled own)
 bytes-filled layout content own all =
-    let most : length own ≤ 32768 = omega (arith, all.size, most_sectors layout content) in
+    let most : length own ≤ 32768 = omega (arith, all.size, few-sectors layout content) in
     bytes-append (length own) (32768 - length own) 32768 own (replicate (32768 - length own) 0) (omega arith)
     (record { size = refl; bytes = all.bytes }) (bytes-replicate (32768 - length own) 0 (omega arith))

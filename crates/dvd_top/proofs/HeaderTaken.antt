@@ -87,7 +87,7 @@ opened_over command settings stated layout is old read output report new end ope
       causes = causes_first (streams old output report) (streams read output report) new end end causes over.causes;
     }
 
--- no loop comes behind one in which the run ends
+-- what comes behind a header where no loop does may come whatever the loops are
 behind_none : (Loops : Settings → List ℕ → Outcome → Type 0) (settings : Settings) (own left : List ℕ) (after : Outcome)
     → ComesBehind NoLoop settings own left after → ComesBehind Loops settings own left after
 behind_none Loops settings own left after (inl early) = inl early

@@ -18,12 +18,12 @@ use Rattle.dvd_top.specs.Inner.Performing.{AnswersNothing, Tells}
 use Rattle.dvd_top.proofs.EntryBlocks.{passed_over}
 use Rattle.dvd_top.proofs.TwoSteps.{nothing_done}
 
--- what holds of a result that is none once its error is dropped, and of one that is some
+-- a result without a value has an error, of which this holds
 pub not_ok : {A B : Type 0} (r : Result A B) (P : B → Type 0) → result_ok r ≡ None → IfErr r P → (e : B) × P e
 not_ok (Ok value) P none holds = absurd (let no : Some value ≡ None = none in cc)
 not_ok (Err e) P none holds = (e, holds)
 
--- what holds where a result is right holds of one that is some
+-- what holds where a result is right holds of one with a value
 pub on_ok : {A B : Type 0} (r : Result A B) (P : Type 0) (value : A) → result_ok r ≡ Some value → OnOk r P → P
 on_ok (Ok own) P value some holds = holds
 on_ok (Err e) P value some holds = absurd (let no : None ≡ Some value = some in cc)

@@ -1,5 +1,5 @@
 -- What `info` finds in an input: the first block that answers, or none.
-use Rattle.std.proofs.Common.{◌≡◌, ◌∙◌, inl, inr, ◌⊎◌, ℕ, zero, suc, ◌+◌, ◌<◌, Bool, List, [], ◌∷◌, ◌++◌, length, length-append, take, refl, ap, sym, subst, append-nil, append_assoc, add-one, arith}
+use Rattle.std.proofs.Common.{◌≡◌, ◌∙◌, inl, inr, ◌⊎◌, ℕ, zero, suc, ◌+◌, ◌<◌, Bool, List, [], ◌∷◌, ◌++◌, length, length-append, take, ap, sym, subst, append-nil, append_assoc, add-one, arith}
 use Rattle.std.proofs.lemmas.Bool.{cases_lt}
 use Rattle.dvd_block.specs.Product.{line}
 use Rattle.dvd_capture.specs.Captured.{captured_marks, captured_rows, unit_size}
@@ -9,7 +9,7 @@ use Rattle.dvd_layout.specs.declared.entry.BlockPlan.{BlockPlan}
 use Rattle.dvd_layout.specs.declared.entry.Content.{Content}
 use Rattle.dvd_layout.specs.declared.entry.Content.TheVariants.{Control, Image, Reference, Zero}
 use Rattle.dvd_loop.specs.Laws.{IsFaultless}
-use Rattle.dvd_loop.specs.Machine.{Does, EndsBehind, EndsWithin, Goes, GoesOn, IsWithin, Outcome, Step, bad_of, ended, taking}
+use Rattle.dvd_loop.specs.Machine.{Does, EndsBehind, Goes, GoesOn, IsWithin, Outcome, Step, bad_of, ended, taking}
 use Rattle.dvd_loop.specs.Machine.Part.{Whole, Cut, Broken}
 use Rattle.dvd_loop.specs.Machine.Step.{Write}
 use Rattle.dvd_loop.specs.declared.ends.Behind.TheVariants as behind
@@ -17,7 +17,7 @@ use Rattle.dvd_loop.specs.declared.ends.LoopEnd.{LoopEnd}
 use Rattle.dvd_loop.specs.declared.ends.LoopEnd.TheVariants.{BadMarks, Done, NoControl, Short}
 use Rattle.dvd_loop.specs.declared.ends.Turn.{Turn}
 use Rattle.dvd_loop.specs.declared.ends.Turn.TheVariants.{Good, Last}
-use Rattle.dvd_loop.proofs.Faultless.{all_done}
+use Rattle.dvd_loop.proofs.Faultless.{all_done, short_or_broken}
 use Rattle.dvd_loop.proofs.StepLemmas.{onto}
 use Rattle.dvd_top.specs.Captured.{HasBlocks, block_bytes, block_start, captured_part, from_block}
 use Rattle.dvd_top.specs.Commands.Info.{IsAsked, IsSought, format_lines, info_units}
@@ -122,21 +122,10 @@ module _ (initial : ℕ) (form : Form) (all : List ℕ) where
 
     -- one of the two, where the loop ends within it
     within_block : IsWithin (info_units initial form) k left a → IsFaultless a.end → Finds (onto front [] [] a)
-    within_block w none =
-        elim (captured_part form w.own) as (λ part. captured_part form w.own ≡ part → EndsWithin part k (length w.own) w.left a.end → Finds (onto front [] [] a)) [
-          | Whole size ↦ λ begins ends. absurd ends
-          | Cut ↦ λ begins ends. elim ends [
-            | inr fault ↦ absurd (subst IsFaultless fault none)
-            | inl (short, nothing) ↦
-                let whole : w.own ≡ left = sym (w.front ∙ ap (λ l. w.own ++ l) nothing ∙ append-nil w.own) in
-                runs_out (subst (λ l. captured_part form l ≡ Cut) whole begins)
-                (w.takes ∙ ap (λ e. taking w.own (ended e)) short ∙ ap (λ l. taking l (ended (Short k (length l)))) whole)
-          ]
-          | Broken at ↦ λ begins ends. elim ends [
-            | inr fault ↦ absurd (subst IsFaultless fault none)
-            | inl marks ↦ breaks_off w.own w.left at w.front begins (w.takes ∙ ap (λ e. taking w.own (ended e)) marks)
-          ]
-        ] refl w.ends
+    within_block w none = elim (short_or_broken (info_units initial form) k left a w none) [
+      | inl (cut, is) ↦ runs_out cut is
+      | inr (at, own, more, front, broken, is) ↦ breaks_off own more at front broken is
+    ]
 
     -- block k answers
     answered : (own more : List ℕ) (format : Fields) (after : Outcome) → IsPast form all (suc k) (front ++ own) more

@@ -18,20 +18,20 @@ use Rattle.dvd_merge.specs.Join.{Table, join_tables, joined, seen_table, unseen}
 use Rattle.dvd_ports.specs.Seen.{Seen}
 use Rattle.dvd_ports.proofs.KnownLemmas.{Consumes-then}
 use Rattle.dvd_top.specs.Commands.Merge.{capture_in, table_in, tables_in}
-use Rattle.dvd_top.specs.Inner.Performing.{AreTaken, EndsBehind}
+use Rattle.dvd_top.specs.Inner.Performing.{AreTaken, EndsInCapture}
 
--- a captured block has fewer bytes than this
+-- a captured block of rows and marks has at most so many bytes
 pub block_size-le : (form : Form) → block_size form ≤ 42640
 block_size-le Plain = omega arith
 block_size-le Marked = omega arith
 block_size-le Listed = omega arith
 
--- what stands before the last of so many parts
+-- part c of n parts of one size ends within all
 parts-le : (s c n : ℕ) → c < n → s * c + s ≤ n * s
 parts-le s c n lt =
     let most = mul-le s (c + 1) s n (omega arith) (omega (arith, lt)) in grind (arith, most)
 
--- one more
+-- one part more
 size-more : (s n a b : ℕ) → a ≡ n * s → b ≡ s → a + b ≡ (n + 1) * s
 size-more s n a b before own = grind (arith, before, own)
 
@@ -98,7 +98,7 @@ capture_taken form sized n old mid new table next rows marks before own is =
 
 -- the loop ends within one of the captures
 pub captures_short : (form : Form) (n captures k : ℕ) (old : Seen) (mid new : Seen) (table : Table) (end : LoopEnd) → n < captures
-    → AreTaken n form old.bytes mid.bytes table → EndsBehind k (n * block_size form) (block_size form) mid new end → EndsShort k (captures * block_size form) old new end
+    → AreTaken n form old.bytes mid.bytes table → EndsInCapture k (n * block_size form) (block_size form) mid new end → EndsShort k (captures * block_size form) old new end
 captures_short form n captures k old mid new table end lt before behind =
     let size = block_size form in
     let all : length (before.bytes ++ behind.own) ≡ n * size + length behind.own = length-append before.bytes behind.own ∙ ap (λ l. l + length behind.own) before.size in
@@ -123,7 +123,7 @@ held-few form c size count few is within =
 
 -- the source ended within a capture
 pub capture_short : (form : Form) (k c size count : ℕ) (old new : Seen) → HasSize form → size ≡ block_size form → EndsAfter form old.bytes new.bytes count
-    → EndsBehind k (c * block_size form) (block_size form) old new (Short k (c * size + count))
+    → EndsInCapture k (c * block_size form) (block_size form) old new (Short k (c * size + count))
 capture_short form k c size count old new sized is ended =
     let unit = sized-block form sized ended.bytes in record {
       own = ended.bytes;
@@ -134,14 +134,14 @@ capture_short form k c size count old new sized is ended =
 
 -- or it had ended before it
 pub capture_none : (form : Form) (k c size : ℕ) (old new : Seen) → HasSize form → size ≡ block_size form → EndsAfter form old.bytes new.bytes 0
-    → EndsBehind k (c * block_size form) (block_size form) old new (Short k (c * size))
+    → EndsInCapture k (c * block_size form) (block_size form) old new (Short k (c * size))
 capture_none form k c size old new sized is ended =
     let none : c * size ≡ c * size + 0 = omega arith in
-    subst (EndsBehind k (c * block_size form) (block_size form) old new) (ap (Short k) (sym none)) (capture_short form k c size 0 old new sized is ended)
+    subst (EndsInCapture k (c * block_size form) (block_size form) old new) (ap (Short k) (sym none)) (capture_short form k c size 0 old new sized is ended)
 
 -- or a read of it failed
 pub capture_failed : (form : Form) (k held : ℕ) (old new : Seen) → HasSize form → FailsWithin form old.bytes new.bytes
-    → EndsBehind k held (block_size form) old new ReadFault
+    → EndsInCapture k held (block_size form) old new ReadFault
 capture_failed form k held old new sized failed =
     let unit = sized-block form sized failed.bytes in
     record { own = failed.bytes; reads = failed.taken; fewer = omega (arith, failed.fewer, unit); ends = inr refl }

@@ -7,7 +7,7 @@ use Rattle.dvd_loop.specs.declared.ends.Turn.{Turn}
 use Rattle.dvd_loop.specs.declared.ends.Turn.TheVariants.{Good, Bad, Last}
 use Rattle.dvd_loop.proofs.Over.{start-suc, start-zero}
 use Rattle.dvd_loop.proofs.Sizes.{unit_size}
-use Rattle.dvd_loop.proofs.StepLemmas.{does_as}
+use Rattle.dvd_loop.proofs.StepLemmas.{does_as, taken_then}
 
 -- what follows from a thing that holds behind a turn holds there too
 goes_on_as : (turn : Turn) (A B : Outcome → Type 0) → ((after : Outcome) → A after → B after) → (after : Outcome) → GoesOn turn A after
@@ -43,18 +43,10 @@ module _ (units : Units) (size : ℕ → ℕ) (begins : (k : ℕ) (bytes : List 
       length-append front t.own ∙ omega (arith, at, own_size, start-suc size (length before)) ∙ ap (start size) (sym (one ∙ add-one (length before))) in
       let A : Outcome → Type 0 = Goes units n (before ++ t.own ∷ []) (bad + bad_of t.turn) t.left in
       let B : Outcome → Type 0 = Goes only_these n (before ++ t.own ∷ []) (bad + bad_of t.turn) t.left in
-      inr (record {
-        own = t.own;
-        left = t.left;
-        steps = t.steps;
-        turn = t.turn;
-        front = t.front;
-        unit = record { whole = t.unit.whole; does = (t.unit.does, own_is all front t.own t.left (start size (length before)) (size (length before)) parts at own_size) };
-        after = t.after;
-        does = does_as t.steps (GoesOn t.turn A) (GoesOn t.turn B)
-            (goes_on_as t.turn A B (λ after goes. goes_only n (before ++ t.own ∷ []) (bad + bad_of t.turn) (front ++ t.own) t.left after parts further goes)) t.after t.does;
-        takes = t.takes;
-      })
+      inr (taken_then only_these before _ left t.own t.left t.steps t.turn a t.after t.front
+      (record { whole = t.unit.whole; does = (t.unit.does, own_is all front t.own t.left (start size (length before)) (size (length before)) parts at own_size) })
+      (does_as t.steps (GoesOn t.turn A) (GoesOn t.turn B)
+      (goes_on_as t.turn A B (λ after goes. goes_only n (before ++ t.own ∷ []) (bad + bad_of t.turn) (front ++ t.own) t.left after parts further goes)) t.after t.does) t.takes)
 
   -- and so is a whole run
   pub runs_only : (a : Outcome) → IsOutcome units all a → IsOutcome only_these all a

@@ -12,8 +12,6 @@ use Rattle.dvd_capture.proofs.Headers.{each_byte, header-is, shape-known, zones-
 use Rattle.dvd_layout.specs.declared.fault.LayoutFault.{LayoutFault}
 use Rattle.dvd_layout.specs.declared.layout.Shape.{Shape}
 use Rattle.dvd_layout.specs.declared.layout.Shape.TheVariants.{Single, Parallel, Opposite}
-use Rattle.dvd_layout.specs.declared.layout.Zones.{Zones}
-use Rattle.dvd_layout.specs.declared.layout.Zones.TheVariants.{DataOnly, All as AllZones}
 use Rattle.dvd_loop.specs.Laws.{IsFaultless, IsUnbroken}
 use Rattle.dvd_loop.specs.Machine.{Outcome, ended, taking}
 use Rattle.dvd_loop.specs.declared.ends.LoopEnd.TheVariants.{BadHeader, ReadFault, ShortHeader}
@@ -22,8 +20,9 @@ use Rattle.dvd_loop.proofs.Fronts.{same_front, same_left}
 use Rattle.dvd_loop.proofs.Totality.{Exists}
 use Rattle.dvd_words.specs.Settings.{broken_rule}
 use Rattle.dvd_words.specs.declared.settings.Settings.{Settings}
-use Rattle.dvd_top.specs.Opening.{Behind, BreaksHeader, IsHeaderOf, IsOpened, Opens, place_of, shape_number, zones_number}
+use Rattle.dvd_top.specs.Opening.{Behind, BreaksHeader, IsHeaderOf, IsOpened, Opens, place_of, shape_number}
 use Rattle.dvd_top.proofs.FrameBytes.{IsByte}
+use Rattle.dvd_top.proofs.Headers.{zones_for}
 use Rattle.dvd_top.proofs.Opened.{breaks_once, breaks_or_states, header-size, stated_once}
 
 -- they are one, but for what was taken of a block that breaks a rule
@@ -233,18 +232,12 @@ module _ (Loops : Runs) (there : (stated : Settings) (left : List ℕ) (a : Outc
   opens_there Marked opens = there settings bytes a opens failed
   opens_there Listed opens = opened_there opens
 
--- SOMETHING IS DONE, where it is so behind the header.
+-- SOMETHING IS DONE, where it is so behind the header. Some shape has each number below 3.
 shape_of : (n : ℕ) → n < 3 → (shape : Shape) × (shape_number shape ≡ n)
 shape_of zero below = (Single, refl)
 shape_of (suc zero) below = (Parallel, refl)
 shape_of (suc (suc zero)) below = (Opposite, refl)
 shape_of (suc (suc (suc n))) below = absurd (omega (arith, below))
-
--- and so have the zones
-zones_of : (n : ℕ) → n < 2 → (zones : Zones) × (zones_number zones ≡ n)
-zones_of zero below = (DataOnly, refl)
-zones_of (suc zero) below = (AllZones, refl)
-zones_of (suc (suc n)) below = absurd (omega (arith, below))
 
 -- the first of n bytes that may not stand, or all may
 first_or_none : (own : List ℕ) (n : ℕ) → n ≤ 32
@@ -299,7 +292,7 @@ module _ (own : List ℕ) (size : length own ≡ 32) (are : All IsByte own) (may
   states : (settings : Settings) → (stated : Settings) × IsHeaderOf settings stated own
   states settings =
       let shape = shape_of the_header.shape the_header.known_shape in
-      let zones = zones_of the_header.zones the_header.known_zones in (
+      let zones = zones_for the_header.zones the_header.known_zones in (
         record settings {
           shape = shape.0;
           zones = zones.0;

@@ -14,7 +14,7 @@ pieces-more f a zero j is = let here : a ≡ j = omega arith in append-nil (f a)
 pieces-more f a (suc n) j is =
     ap (λ l. f a ++ l) (pieces-more f (a + 1) n j (omega arith)) ∙ sym (append_assoc (f a) (flat_map f (range_with_len (a + 1) n)) (f j))
 
--- pieces of one size
+-- n pieces of one size have n times as many elements
 pub start-same : (size n : ℕ) → start (λ k. size) n ≡ size * n
 start-same size zero = start-zero (λ k. size) ∙ sym (mul-zero size)
 start-same size (suc n) = omega (arith, start-suc (λ k. size) n, start-same size n, mul-suc size n)

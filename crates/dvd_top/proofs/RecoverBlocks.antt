@@ -1,9 +1,9 @@
 -- One block that `recover` reads: its image sectors are written, or its line is told and what is saved of them is written.
-use Rattle.std.proofs.Common.{◌≡◌, inl, ℕ, ◌≤◌, Bool, List, [], ◌∷◌, ap, Option, Some, refl, sym, subst, ◌∙◌}
+use Rattle.std.proofs.Common.{◌≡◌, inl, ℕ, ◌≤◌, Bool, List, [], ◌∷◌, ap, Option, Some, refl, subst, ◌∙◌}
 use Rattle.dvd_capture.specs.Parts.{marks_rows, received_rows}
 use Rattle.dvd_capture.specs.Works.{marks_of_work, rows_of}
 use Rattle.dvd_capture.specs.declared.work.Work.{Work}
-use Rattle.dvd_capture.proofs.WorkParts.{marks-height}
+use Rattle.dvd_capture.proofs.WorkParts.{marks-height, rows-height}
 use Rattle.dvd_layout.specs.Place.{image_sectors}
 use Rattle.dvd_layout.specs.declared.entry.BlockPlan.{BlockPlan}
 use Rattle.dvd_layout.specs.declared.layout.Layout.{Layout}
@@ -37,7 +37,7 @@ same_work P old after received marks holds =
 -- and at most sixteen frames are saved
 pub few_saved : (work : Work) (entry : BlockPlan) → saved_in (rows_of work) (marks_of_work work) entry ≤ 16
 few_saved work entry =
-    (sixteen-sectors (rows_of work) (marks_of_work work) (sym work.received.rows.ok.0 ∙ work.received.size) (marks-height work.marks) entry).2
+    (sixteen-sectors (rows_of work) (marks_of_work work) (rows-height work.received) (marks-height work.marks) entry).2
 
 module _ (layout : Layout) (k : ℕ) (entry : BlockPlan) (rows : List (List ℕ)) (marks : List (List Bool)) where
   -- a block of which sectors are read: they are written, and the turn is good

@@ -4,7 +4,7 @@ use Rattle.std.specs.List.{flat_map, range_with_len}
 use Rattle.std.proofs.lemmas.List.{length-drop, length-take-le}
 use Rattle.std.proofs.lemmas.List.Folds.{flat_map-map}
 use Rattle.std.proofs.lemmas.List.FromFn.{take-map-range_with_len}
-use Rattle.dvd_frame.specs.Frame.{found_word, main_in}
+use Rattle.dvd_frame.specs.Frame.{found_word}
 use Rattle.dvd_frame.proofs.Masking.{length-masked}
 use Rattle.dvd_block.specs.Product.{IsProduct, line}
 use Rattle.dvd_capture.specs.Captured.{captured_marks, captured_rows}
@@ -27,7 +27,7 @@ use Rattle.dvd_layout.specs.Plan.{plan_of}
 use Rattle.dvd_read.specs.Causes.{two_pass_cause}
 use Rattle.dvd_read.specs.declared.cause.Cause.{Cause}
 use Rattle.dvd_capture.specs.TwoPass.{answers_of}
-use Rattle.dvd_read.specs.Frames.{frame_of, main_data}
+use Rattle.dvd_read.specs.Frames.{frame_of, main_at, main_data}
 use Rattle.dvd_read.specs.Salvage.{block_out}
 use Rattle.dvd_read.proofs.SavedLaws.{sixteen-sectors}
 use Rattle.dvd_deep.specs.Reading.{deep_cause}
@@ -55,10 +55,6 @@ length-frame_of block f is below =
         let width : length (line block (12 * f + q)) ≡ 182 = (is.rows (12 * f + q) [] (omega (arith, is.height))).size in
         length-take-le 172 (line block (12 * f + q)) (omega arith)
 
--- the Main Data of frame f
-abbrev main_at : List (List ℕ) → BlockPlan → ℕ → List ℕ
-main_at block entry f = main_in (frame_of block f) (rule_for entry.content f)
-
 -- and 2,048 of Main Data
 length-main : (block : List (List ℕ)) (entry : BlockPlan) (f : ℕ) → IsProduct block → f < 16 → length (main_at block entry f) ≡ 2048
 length-main block entry f is below =
@@ -67,7 +63,7 @@ length-main block entry f is below =
     length-masked (found_word frame) (rule_for entry.content f) (take 2048 (drop 12 frame))
     ∙ length-take-le 2048 (drop 12 frame) (omega (arith, length-drop 12 frame))
 
--- so many sectors of a block are 2,048 bytes each
+-- so many sectors of a block are as many times 2,048 bytes
 pub length-sectors_out : (block : List (List ℕ)) (entry : BlockPlan) (count : ℕ) → IsProduct block → count ≤ 16
     → length (sectors_out count (main_data block entry)) ≡ 2048 * count
 unfolding main_data

@@ -45,7 +45,7 @@ use Rattle.dvd_top.proofs.EntryBlocks.{done_at, of_image}
 use Rattle.dvd_top.proofs.PlanEntries.{has_numbers}
 use Rattle.dvd_top.proofs.Repairs.{data_block-made, few-sectors, sector, sectors_list, written-image}
 
--- the rows and marks of the bytes of a block are received ones
+-- row i of the bytes of a block
 row_in : Form → List ℕ → ℕ → List ℕ
 row_in form own i = take 182 (record_of form own (record_at i))
 
@@ -125,12 +125,17 @@ repaired layout zones form cpr k entry image own block steps turn stands is_imag
           )
     ]
 
--- The same holds of `deep`.
-pub repaired_deep : (layout : Layout) (zones : Zones) (form : Form) (cpr : List ℕ) (k : ℕ) (entry : BlockPlan) (image own : List ℕ) (block : List (List ℕ)) (steps : List Step) (turn : Turn)
+-- what the law says of `recover`, of any command that does this for a block
+abbrev pub RepairsBy : (Layout → Zones → Form → ℕ → List ℕ → List Step → Turn → Type 0) → Type 0
+RepairsBy Does =
+    (layout : Layout) (zones : Zones) (form : Form) (cpr : List ℕ) (k : ℕ) (entry : BlockPlan) (image own : List ℕ) (block : List (List ℕ)) (steps : List Step) (turn : Turn)
     → slice_get (plan_of layout zones) k ≡ Some entry → IsImage entry.content → length cpr ≡ 6 → length image ≡ image_bytes layout entry
     → IsBlockOf (frames_of layout entry cpr (filled image)) block
     → captured_part form own ≡ Whole (length own) → IsWithin block (captured_rows form own) (captured_marks form own)
-    → IsDeepened layout zones form k own steps turn → (steps ≡ Write image ∷ []) × (turn ≡ Good)
+    → Does layout zones form k own steps turn → (steps ≡ Write image ∷ []) × (turn ≡ Good)
+
+-- it holds of `deep`
+pub repaired_deep : RepairsBy IsDeepened
 repaired_deep layout zones form cpr k entry image own block steps turn stands is_image cpr_size image_size is_block size within does =
     let rows = captured_rows form own in
     let marks = captured_marks form own in

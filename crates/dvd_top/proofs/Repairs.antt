@@ -1,4 +1,4 @@
--- What is recovered of a data block whose damage is within the bound.
+-- A data block by the image bytes that it is mastered from: its sectors, and that its frames are made of them.
 use Rattle.std.proofs.Common.{◌≡◌, ◌∙◌, ℕ, zero, suc, ◌+◌, ◌-◌, ◌*◌, ◌<◌, ◌≤◌, List, [], ◌++◌, length, map, take, drop, replicate, refl, sym, ap, arith, add-one}
 use Rattle.std.specs.List.{range_with_len}
 use Rattle.std.proofs.Math.Seq.{take-add}
@@ -22,11 +22,11 @@ use Rattle.dvd_top.specs.Inner.Performing.{sectors_out}
 use Rattle.dvd_top.proofs.BlockFrames.{line-frames_of}
 use Rattle.dvd_top.proofs.Recovered.{sectors_more}
 
--- sixteen sectors of 2,048 bytes
+-- sector f of these bytes
 abbrev pub sector : List ℕ → ℕ → List ℕ
 sector sectors f = take 2048 (drop (2048 * f) sectors)
 
--- the sixteen of them
+-- the sixteen sectors, in order
 abbrev pub sectors_list : List ℕ → List (List ℕ)
 sectors_list sectors = map (sector sectors) (range_with_len 0 16)
 

@@ -1,4 +1,4 @@
--- What follows for a run: what a failed read leaves, and that the bound and the good frames are kept.
+-- What follows for a run: what a failed read leaves, what is kept of its blocks and CD-ROM sectors, and which counts rise.
 use Rattle.std.proofs.Common.{◌≡◌, ◌≢◌, inl, inr, ℕ, List, [], ◌∷◌, ◌++◌, refl, ap, sym, subst, ◌∙◌, append-nil}
 use Rattle.dvd_ports.specs.Causes.{Rose}
 use Rattle.dvd_capture.specs.declared.form.Form.{Form}
@@ -8,7 +8,7 @@ use Rattle.dvd_loop.specs.Machine.{Closes, Does, IsOutcome, Outcome, ended}
 use Rattle.dvd_loop.specs.Machine.Step.{Tell}
 use Rattle.dvd_loop.specs.Streams.{Comes, Counts, HaveCauses, HaveMoved, Streams, is_report_fault}
 use Rattle.dvd_loop.specs.declared.ends.LoopEnd.{LoopEnd}
-use Rattle.dvd_loop.specs.declared.ends.LoopEnd.TheVariants.{BadHeader, BadMarks, Damaged, Done, Long, NoControl, ReadFault, ReportFault, Short, ShortHeader, WriteFault}
+use Rattle.dvd_loop.specs.declared.ends.LoopEnd.TheVariants.{ReadFault, ReportFault, WriteFault}
 use Rattle.dvd_loop.proofs.Faults.{ends_there}
 use Rattle.dvd_loop.proofs.StepLemmas.{and_then}
 use Rattle.dvd_top.specs.Bound.{KeepsBound, KeepsGoodFrames, Rescues}
@@ -27,7 +27,7 @@ use Rattle.dvd_top.proofs.GoodFrames.{kept_good}
 use Rattle.dvd_top.proofs.OpenedRuns.{IsAsEnded, opens_there}
 use Rattle.dvd_top.proofs.UnitsOf.{taken_out, units_as}
 
--- the line of an end that isn't the report's was told whole, or the report failed within it
+-- a closing line behind which the end isn't a fault of the report was told whole
 line_is : (closing : LoopEnd → List ℕ) (end : LoopEnd) (line : Outcome) → Does (Tell (closing end) ∷ []) (λ after. after ≡ ended end) line
     → line.end ≢ ReportFault
     → line ≡ record { taken = []; out = []; lines = closing end; end = end }
@@ -42,16 +42,7 @@ line_is closing end line does sound = elim does [
 closes_is : (closing : LoopEnd → List ℕ) (within : LoopEnd) (line : Outcome) → Closes closing within line → line.end ≢ ReportFault
     → line ≡ record { taken = []; out = []; lines = closing within; end = within }
 closes_is closing ReportFault line is sound = absurd (sound (ap (λ (o : Outcome). o.end) is))
-closes_is closing Done line does sound = line_is closing Done line does sound
-closes_is closing ReadFault line does sound = line_is closing ReadFault line does sound
-closes_is closing WriteFault line does sound = line_is closing WriteFault line does sound
-closes_is closing (Short k held) line does sound = line_is closing (Short k held) line does sound
-closes_is closing Long line does sound = line_is closing Long line does sound
-closes_is closing (Damaged bad) line does sound = line_is closing (Damaged bad) line does sound
-closes_is closing NoControl line does sound = line_is closing NoControl line does sound
-closes_is closing (BadMarks k at) line does sound = line_is closing (BadMarks k at) line does sound
-closes_is closing (ShortHeader held) line does sound = line_is closing (ShortHeader held) line does sound
-closes_is closing (BadHeader at) line does sound = line_is closing (BadHeader at) line does sound
+closes_is closing end line does sound = line_is closing end line does sound
 
 -- one outcome is as the other, and no fault ended it
 record IsLike (a b : Outcome) : Type 0 where
@@ -104,14 +95,7 @@ by_fault : (P : LoopEnd → Type 0) → P ReadFault → P WriteFault → P Repor
 by_fault P read write report other ReadFault = read
 by_fault P read write report other WriteFault = write
 by_fault P read write report other ReportFault = report
-by_fault P read write report other Done = other Done tt tt
-by_fault P read write report other (Short k held) = other (Short k held) tt tt
-by_fault P read write report other Long = other Long tt tt
-by_fault P read write report other (Damaged bad) = other (Damaged bad) tt tt
-by_fault P read write report other NoControl = other NoControl tt tt
-by_fault P read write report other (BadMarks k at) = other (BadMarks k at) tt tt
-by_fault P read write report other (ShortHeader held) = other (ShortHeader held) tt tt
-by_fault P read write report other (BadHeader at) = other (BadHeader at) tt tt
+by_fault P read write report other end = other end tt tt
 
 -- only the end of a failed read has its status
 read_end : (end : LoopEnd) → status.ReadFault ≡ status_of end → end ≡ ReadFault
@@ -198,14 +182,7 @@ risen within end old new same causes = risen_by end old new (λ not. subst (λ w
     risen_by ReportFault old new causes report = report
     risen_by ReadFault old new causes report = (causes (λ is. cc)).source
     risen_by WriteFault old new causes report = (causes (λ is. cc)).output
-    risen_by Done old new causes report = let c = causes (λ is. cc) in (c.source, c.output, c.report)
-    risen_by (Short k held) old new causes report = let c = causes (λ is. cc) in (c.source, c.output, c.report)
-    risen_by Long old new causes report = let c = causes (λ is. cc) in (c.source, c.output, c.report)
-    risen_by (Damaged bad) old new causes report = let c = causes (λ is. cc) in (c.source, c.output, c.report)
-    risen_by NoControl old new causes report = let c = causes (λ is. cc) in (c.source, c.output, c.report)
-    risen_by (BadMarks k at) old new causes report = let c = causes (λ is. cc) in (c.source, c.output, c.report)
-    risen_by (ShortHeader held) old new causes report = let c = causes (λ is. cc) in (c.source, c.output, c.report)
-    risen_by (BadHeader at) old new causes report = let c = causes (λ is. cc) in (c.source, c.output, c.report)
+    risen_by end old new causes report = let c = causes (λ is. cc) in (c.source, c.output, c.report)
 
 -- where no count rose, no fault ended it
 pub sound_end : (end : LoopEnd) (old new : Streams) → HaveRisen (status_of end) old new → (Rose old.source.faults new.source.faults → ⊥)

@@ -4,7 +4,7 @@ use Rattle.dvd_ports.specs.Seen.{Seen}
 use Rattle.dvd_loop.specs.Machine.{Closes, Outcome}
 use Rattle.dvd_loop.specs.Streams.{Comes, Counts, Streams, is_report_fault, streams}
 use Rattle.dvd_loop.specs.declared.ends.LoopEnd.{LoopEnd}
-use Rattle.dvd_loop.specs.declared.ends.LoopEnd.TheVariants.{BadHeader, BadMarks, Damaged, Done, Long, NoControl, ReadFault, ReportFault, Short, ShortHeader, WriteFault}
+use Rattle.dvd_loop.specs.declared.ends.LoopEnd.TheVariants.{ReportFault}
 use Rattle.dvd_loop.proofs.ClosedLemmas.{causes_closed, closed, closes_takes}
 use Rattle.dvd_loop.proofs.StreamLemmas.{comes_then}
 use Rattle.dvd_top.specs.Headline.{HasRun, IsLoop, IsRun}
@@ -21,16 +21,7 @@ same_settings read a b p q = cc
 -- an end is that of a failed line, or it isn't and the faults of the report stay as many
 report_or_not : (end : LoopEnd) → (end ≡ ReportFault) ⊎ ((end ≢ ReportFault) × ((old new : ℕ) → Counts (is_report_fault end) old new → new ≡ old))
 report_or_not ReportFault = inl refl
-report_or_not Done = inr (λ is. cc, λ old new stays. stays)
-report_or_not ReadFault = inr (λ is. cc, λ old new stays. stays)
-report_or_not WriteFault = inr (λ is. cc, λ old new stays. stays)
-report_or_not (Short k held) = inr (λ is. cc, λ old new stays. stays)
-report_or_not Long = inr (λ is. cc, λ old new stays. stays)
-report_or_not (Damaged bad) = inr (λ is. cc, λ old new stays. stays)
-report_or_not NoControl = inr (λ is. cc, λ old new stays. stays)
-report_or_not (BadMarks k at) = inr (λ is. cc, λ old new stays. stays)
-report_or_not (ShortHeader held) = inr (λ is. cc, λ old new stays. stays)
-report_or_not (BadHeader at) = inr (λ is. cc, λ old new stays. stays)
+report_or_not end = inr (λ is. cc, λ old new stays. stays)
 
 module _ (settings : Settings) (old : Streams) (source output mid_report new_report : Seen) (within end : LoopEnd) (looped : HasLooped settings old (streams source output mid_report) within)
     (line : Comes (λ bytes. Closes (closing_line settings.command) within) (streams source output mid_report) (streams source output new_report) end)

@@ -1,5 +1,5 @@
 -- For every input each command does something.
-use Rattle.std.proofs.Common.{◌≡◌, ◌≢◌, ◌≤◌, inl, inr, ℕ, zero, suc, ◌+◌, ◌*◌, ◌<◌, Bool, List, [], ◌∷◌, ◌++◌, length, take, drop, slice_get, All, Option, Some, None, cond, refl, sym, subst, ap, ◌∙◌, append-nil, take-append-drop, arith}
+use Rattle.std.proofs.Common.{◌≡◌, ◌≢◌, ◌≤◌, inl, inr, ℕ, zero, suc, ◌+◌, ◌*◌, ◌<◌, Bool, List, [], ◌∷◌, ◌++◌, length, take, drop, slice_get, All, Option, Some, None, cond, refl, sym, subst, ap, ◌∙◌, take-append-drop, arith}
 use Rattle.std.proofs.lemmas.Bool.{cases_lt, lt-leb}
 use Rattle.std.proofs.lemmas.List.{length-take-le}
 use Rattle.std.proofs.lemmas.List.Elements.{All-drop, All-take}
@@ -18,19 +18,17 @@ use Rattle.dvd_layout.specs.Plan.{lead_in_blocks, plan_of}
 use Rattle.dvd_layout.proofs.LeadIn.{length-lead_in_blocks}
 use Rattle.dvd_layout.specs.declared.entry.BlockPlan.{BlockPlan}
 use Rattle.dvd_layout.specs.declared.entry.Content.{Content}
-use Rattle.dvd_layout.specs.declared.entry.Content.TheVariants.{Zero, Reference, Control, Image}
+use Rattle.dvd_layout.specs.declared.entry.Content.TheVariants.{Control, Image}
 use Rattle.dvd_layout.specs.declared.fault.LayoutFault.TheVariants.{InitialTooLong}
 use Rattle.dvd_layout.specs.declared.layout.Layout.{Layout}
 use Rattle.dvd_layout.specs.declared.layout.Zones.{Zones}
 use Rattle.dvd_loop.specs.Machine.Part.{Whole}
-use Rattle.dvd_loop.specs.Machine.{EndsBehind, EndsWithin, Goes, GoesOn, IsOutcome, Step, Units, bad_of, ended, sized, taking}
+use Rattle.dvd_loop.specs.Machine.{Goes, IsOutcome, Step, Units, bad_of, sized}
 use Rattle.dvd_loop.specs.Machine.Step.{Write, Tell}
-use Rattle.dvd_loop.specs.declared.ends.LoopEnd.{LoopEnd}
-use Rattle.dvd_loop.specs.declared.ends.LoopEnd.TheVariants.{Short}
 use Rattle.dvd_loop.specs.declared.ends.Turn.{Turn}
 use Rattle.dvd_loop.specs.declared.ends.Turn.TheVariants.{Good, Bad, Last}
 use Rattle.dvd_loop.proofs.Sizes.{sized_fewer, sized_whole}
-use Rattle.dvd_loop.proofs.Totality.{Exists, behind_exists, exists, one_fewer, steps_exist, turns_exist}
+use Rattle.dvd_loop.proofs.Totality.{Exists, closed_exists, cut_exists, exists, one_fewer, steps_exist, taken_exists}
 use Rattle.dvd_read.specs.Reading.{block_cause, block_sectors}
 use Rattle.dvd_read.specs.Salvage.{block_out, saved_in}
 use Rattle.dvd_read.specs.declared.cause.Cause.{Cause}
@@ -91,68 +89,19 @@ MayEach count size does = (k : ℕ) (own : List ℕ) → k < count → HasBytes 
 module _ (units : Units) (size : ℕ → ℕ) (begins : (k : ℕ) (own : List ℕ) → units.begins k own ≡ sized (size k) own)
     (may : (before : List (List ℕ)) (own : List ℕ) → length before < units.count → HasBytes (size (length before)) own → MaySome (units.does (length before) before own))
     (closing : (before : List (List ℕ)) → length before ≡ units.count → (steps : List Step) × units.closes before steps) where
-  -- the input ends within the unit behind those
-  short_exists : (n : ℕ) (before : List (List ℕ)) (bad : ℕ) (bytes : List ℕ) → length bytes < size (length before)
-      → Exists (Goes units (suc n) before bad bytes)
-  unfolding Goes
-  short_exists n before bad bytes fewer =
-      let short : LoopEnd = Short (length before) (length bytes) in (
-        taking bytes (ended short),
-        inl (record {
-          own = bytes;
-          left = [];
-          front = sym (append-nil bytes);
-          ends = subst (λ part. EndsWithin part (length before) (length bytes) [] short) (sym (begins (length before) bytes ∙ sized_fewer (size (length before)) bytes fewer)) (inl (refl, refl));
-          takes = refl;
-        }),
-        tt,
-      )
-
-  -- or the unit is taken, and the units to come have an outcome
-  taken_exists : (n : ℕ) (before : List (List ℕ)) (bad : ℕ) (own left : List ℕ) → length own ≡ size (length before)
-      → MaySome (units.does (length before) before own)
-      → ((turn : Turn) → Exists (Goes units n (before ++ own ∷ []) (bad + bad_of turn) left)) → Exists (Goes units (suc n) before bad (own ++ left))
-  unfolding Goes
-  taken_exists n before bad own left long (steps, turn, may) later =
-      let Next = Goes units n (before ++ own ∷ []) (bad + bad_of turn) left in
-      let exists = steps_exist steps (GoesOn turn Next) (turns_exist turn Next (later turn)) in (
-        taking own exists.0,
-        inr (record {
-          own = own;
-          left = left;
-          steps = steps;
-          turn = turn;
-          front = refl;
-          unit = record { whole = begins (length before) own ∙ (sized_whole (size (length before)) own).1 long; does = may };
-          after = exists.0;
-          does = exists.1;
-          takes = refl;
-        }),
-        exists.2,
-      )
-
-  -- behind the last unit its closing steps are done, and the outcome has no fault
-  closing_exists : (before : List (List ℕ)) (bad : ℕ) (bytes : List ℕ) → length before ≡ units.count → Exists (Goes units 0 before bad bytes)
-  unfolding Goes
-  closing_exists before bad bytes all =
-      let closes = closing before all in
-      let exists = steps_exist closes.0 (EndsBehind units.behind bad bytes) (behind_exists units.behind bad bytes) in
-      (exists.0, (closes.0, closes.1, exists.1), exists.2)
-
   -- with n units to come an outcome without a fault exists: the input ends in the next, or it is taken
   goes_exist : (n : ℕ) (before : List (List ℕ)) (bad : ℕ) (bytes : List ℕ) → length before + n ≡ units.count → All IsByte bytes
       → Exists (Goes units n before bad bytes)
-  goes_exist zero before bad bytes all are = closing_exists before bad bytes (omega arith)
+  goes_exist zero before bad bytes all are = let closes = closing before (omega arith) in closed_exists units before bad bytes closes.0 closes.1
   goes_exist (suc n) before bad bytes all are = elim (cases_lt (length bytes) (size (length before))) [
-    | inl fewer ↦ short_exists n before bad bytes fewer
+    | inl fewer ↦ cut_exists units n before bad bytes (begins (length before) bytes ∙ sized_fewer (size (length before)) bytes fewer)
     | inr le ↦
         let here = size (length before) in
         let own = take here bytes in
         let long = length-take-le here bytes le in
-        let unit = may before own (omega arith) (record { size = long; bytes = All-take IsByte here bytes are }) in
-        subst (λ l. Exists (Goes units (suc n) before bad l)) (take-append-drop here bytes)
-        (taken_exists n before bad own (drop here bytes) long unit
-        (λ turn. goes_exist n (before ++ own ∷ []) (bad + bad_of turn) (drop here bytes) (one_fewer before own n units.count all) (All-drop IsByte here bytes are)))
+        let (steps, turn, does) = may before own (omega arith) (record { size = long; bytes = All-take IsByte here bytes are }) in
+        taken_exists units n before bad bytes own (drop here bytes) (sym (take-append-drop here bytes)) (begins (length before) own ∙ (sized_whole here own).1 long) steps turn does
+        (goes_exist n (before ++ own ∷ []) (bad + bad_of turn) (drop here bytes) (one_fewer before own n units.count all) (All-drop IsByte here bytes are))
   ]
 
   -- so every input of bytes has an outcome without a fault
@@ -202,9 +151,7 @@ passed_some = ([], Good, (refl, refl))
 -- where something may be done for image, something may whatever a block holds
 if_image_some : (Does : List Step → Turn → Type 0) → MaySome Does → (content : Content) → MaySome (IfImage Does content)
 if_image_some Does some (Image sector) = some
-if_image_some Does some Zero = passed_some
-if_image_some Does some Reference = passed_some
-if_image_some Does some Control = passed_some
+if_image_some Does some content = passed_some
 
 -- something may be done for a block, where something may for each entry
 entry_some : (entries : List BlockPlan) (Does : BlockPlan → List (List ℕ) → List (List Bool) → List Step → Turn → Type 0)
@@ -289,9 +236,7 @@ module _ (entry : BlockPlan) (rows : List (List ℕ)) (marks : List (List Bool))
   -- whatever a block holds, something may be done when it is asked for its format
   asked_some : (content : Content) → MaySome (IsAsked content entry rows marks)
   asked_some Control = control_some (block_cause rows marks entry) refl
-  asked_some Zero = passed_some
-  asked_some Reference = passed_some
-  asked_some (Image sector) = passed_some
+  asked_some content = passed_some
 
 -- so something is done for each block that `info` asks
 sought_some : (initial : ℕ) (form : Form) (k : ℕ) (own : List ℕ) → k < initial + 224 → MaySome (IsSought initial form k own)

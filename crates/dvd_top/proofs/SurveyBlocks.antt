@@ -93,7 +93,7 @@ module _ (layout : Layout) (zones : Zones) (form : Form) (k : ℕ) (before : Lis
       → StandsFor after (found_in layout zones form (before ++ own ∷ []))
   next_stands after is = subst (StandsFor after) (sym found_with) is
 
-  -- and its line
+  -- and its line, with what it answers, is what is done for block k
   pub line_done : k < length (plan_of layout zones) → (steps : List Step) (turn : Turn)
       → IsLineDone entry (found_in layout zones form before) rows marks steps turn → IsSurveyed layout zones form k before own steps turn
   line_done within steps turn does =

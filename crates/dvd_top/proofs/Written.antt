@@ -1,41 +1,23 @@
 -- How much a run writes whose units write so much each.
 use Rattle.std.proofs.Common.{◌≡◌, ◌≢◌, ◌∙◌, inl, inr, ℕ, zero, suc, ◌+◌, List, [], ◌∷◌, ◌++◌, length, length-append, ap, sym, subst, add-one, arith}
 use Rattle.dvd_loop.specs.Laws.{IsFaultless, start}
-use Rattle.dvd_loop.specs.Machine.{Does, EndsBehind, EndsWithin, Goes, GoesOn, IsOutcome, IsUnit, IsWithin, Outcome, Step, Units, bad_of, taking}
-use Rattle.dvd_loop.specs.Machine.Part.{Whole, Cut, Broken}
+use Rattle.dvd_loop.specs.Machine.{Does, EndsBehind, Goes, GoesOn, IsOutcome, IsUnit, IsWithin, Outcome, Step, Units, bad_of, taking}
 use Rattle.dvd_loop.specs.Turns.{told, written}
-use Rattle.dvd_loop.specs.declared.ends.Behind.{Behind}
-use Rattle.dvd_loop.specs.declared.ends.Behind.TheVariants as behind
-use Rattle.dvd_loop.specs.declared.ends.LoopEnd.TheVariants.{BadMarks, Done, ReadFault, Short}
+use Rattle.dvd_loop.specs.declared.ends.LoopEnd.TheVariants.{BadMarks, Done, Short}
 use Rattle.dvd_loop.specs.declared.ends.Turn.{Turn}
 use Rattle.dvd_loop.specs.declared.ends.Turn.TheVariants.{Last}
-use Rattle.dvd_loop.proofs.Faultless.{all_done, faultless_behind}
+use Rattle.dvd_loop.proofs.Faultless.{all_done, faultless_behind, short_or_broken}
+use Rattle.dvd_loop.proofs.Faults.{nothing_behind}
 use Rattle.dvd_loop.proofs.Over.{start-suc, start-zero}
 use Rattle.dvd_loop.proofs.Reached.{goes_further}
 use Rattle.dvd_loop.proofs.StepLemmas.{onto}
 
--- nothing is written behind the last unit
-none_behind : (stands : Behind) (bad : ℕ) (bytes : List ℕ) (a : Outcome) → EndsBehind stands bad bytes a → a.out ≡ []
-none_behind behind.Done bad bytes a is = ap (λ (o : Outcome). o.out) is
-none_behind behind.NoControl bad bytes a is = ap (λ (o : Outcome). o.out) is
-none_behind behind.Asks bad [] a (inl is) = ap (λ (o : Outcome). o.out) is
-none_behind behind.Asks bad [] a (inr is) = ap (λ (o : Outcome). o.out) is
-none_behind behind.Asks bad (byte ∷ bytes) a (inl is) = ap (λ (o : Outcome). o.out) is
-none_behind behind.Asks bad (byte ∷ bytes) a (inr is) = ap (λ (o : Outcome). o.out) is
-
 -- a run that is done doesn't end within a unit
 not_within : (units : Units) (k : ℕ) (bytes : List ℕ) (a : Outcome) → IsWithin units k bytes a → a.end ≡ Done → ⊥
-not_within units k bytes a w done = elim (units.begins k w.own) as (λ part. EndsWithin part k (length w.own) w.left a.end → ⊥) [
-  | Whole size ↦ λ ends. ends
-  | Cut ↦ λ ends. elim ends [
-    | inl (short, nothing) ↦ (let no : Done ≡ Short k (length w.own) = sym done ∙ short in cc)
-    | inr fault ↦ (let no : Done ≡ ReadFault = sym done ∙ fault in cc)
-  ]
-  | Broken at ↦ λ ends. elim ends [
-    | inl marks ↦ (let no : Done ≡ BadMarks k at = sym done ∙ marks in cc)
-    | inr fault ↦ (let no : Done ≡ ReadFault = sym done ∙ fault in cc)
-  ]
-] w.ends
+not_within units k bytes a w done = elim (short_or_broken units k bytes a w (subst IsFaultless (sym done) tt)) [
+  | inl (cut, is) ↦ (let no : Done ≡ Short k (length bytes) = sym done ∙ ap (λ (o : Outcome). o.end) is in cc)
+  | inr (at, own, left, front, broken, is) ↦ (let no : Done ≡ BadMarks k at = sym done ∙ ap (λ (o : Outcome). o.end) is in cc)
+]
 
 -- Units none of which is the last, each of which writes so many bytes; nothing opens or closes them.
 pub record AreWide (units : Units) (wide : ℕ → ℕ) : Type 0 where
@@ -52,7 +34,7 @@ module _ (units : Units) (wide : ℕ → ℕ) (are : AreWide units wide) where
   unfolding Goes
   goes_wide zero before bad bytes a all (steps, closes, does) none done =
       let here : length before ≡ units.count = omega arith in
-      let nothing = none_behind units.behind bad bytes a (subst (λ l. Does l (EndsBehind units.behind bad bytes) a) (are.closes before steps closes) does) in
+      let nothing = (nothing_behind units.behind bad bytes a (subst (λ l. Does l (EndsBehind units.behind bad bytes) a) (are.closes before steps closes) does)).0 in
       omega (arith, ap length nothing, ap (start wide) here)
   goes_wide (suc n) before bad bytes a all goes none done = elim goes [
     | inl w ↦ absurd (not_within units (length before) bytes a w done)

@@ -65,7 +65,7 @@ SomethingIsDone =
     → (settings.command ≡ CdMake → HasAddresses settings × (settings.form ≡ Plain))
     → (outcome : Outcome) × IsLoop settings bytes outcome × IsFaultless outcome.end
 
--- What the blocks before a data block take are the image's bytes before its first sector.
+-- The blocks before a data block take as many bytes as the image has before its first sector.
 abbrev pub ImageIsTakenInOrder : Type 0
 ImageIsTakenInOrder =
     (layout : Layout) (zones : Zones) (cpr image : List ℕ) (k : ℕ) (entry : BlockPlan) (a : Outcome) → slice_get (plan_of layout zones) k ≡ Some entry → IsImage entry.content

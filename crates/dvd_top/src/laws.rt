@@ -1,7 +1,7 @@
 //! What holds of every run of a command: each function's contract is one law, and its body is empty.
 ghost use Rattle.dvd_top.specs.Laws.{WhatIsDoneIsDetermined, SomethingIsDone, ImageIsTakenInOrder, ImageIsTakenWhole, DamageWithinTheBoundIsRepaired, GoodFramesOfARefusedBlockAreGiven, BoundIsKept, GoodFramesAreKept, DrawnFramesAreMastered, MasteredStreamIsRecovered, InfoFindsTheFirstAnswer, BorneSectorsAreKept, CapturedFramesAreAssembled, BrokenFieldIsFound, ConvertedIsRead};
 
-/// What is done for an input is determined, but for how much is taken of a listed block that breaks a rule.
+/// What is done for an input, where no fault ends it, is determined, but for how much is taken of a block that breaks a rule.
 pub fn what_is_done_is_determined()
     ensures { WhatIsDoneIsDetermined }
 {}
@@ -11,12 +11,12 @@ pub fn something_is_done()
     ensures { SomethingIsDone }
 {}
 
-/// Each data block takes the image sectors that stand in it.
+/// The blocks before a data block take as many bytes as the image has before its first sector.
 pub fn image_is_taken_in_order()
     ensures { ImageIsTakenInOrder }
 {}
 
-/// All blocks together take the whole image.
+/// An image is mastered to its end exactly where it has 2,048 bytes for each sector of the layout.
 pub fn image_is_taken_whole()
     ensures { ImageIsTakenWhole }
 {}
@@ -41,7 +41,7 @@ pub fn good_frames_are_kept()
     ensures { GoodFramesAreKept }
 {}
 
-/// The blocks of `exercise` are those of a disk with one layer.
+/// The data frames of the blocks that `exercise` draws are those that `master` makes on a disk with one layer.
 pub fn drawn_frames_are_mastered()
     ensures { DrawnFramesAreMastered }
 {}

@@ -10,18 +10,31 @@ use dvd_ports::NoMemory;
 /// The exit statuses of the program.
 #[derive(Clone, Copy, Debug, PartialEq, Eq)]
 pub enum Status {
+    /// The command was done to its end.
     Done = 0,
+    /// The words ask for nothing.
     Usage = 1,
+    /// The layout that the settings ask for breaks a rule.
     Setting = 2,
+    /// A read failed.
     ReadFault = 3,
+    /// A write failed.
     WriteFault = 4,
+    /// The input ended within a unit, or within the header of a listed capture.
     Short = 5,
+    /// One byte more came than was expected.
     Long = 6,
+    /// The input was whole, and some of its units are bad.
     Damaged = 7,
+    /// There is no memory for the words or for the buffers.
     NoMemory = 8,
+    /// A line of the report couldn't be written.
     ReportFault = 9,
+    /// No control block answered.
     NoControl = 10,
+    /// The header of a listed capture breaks a rule.
     BadHeader = 11,
+    /// A listed block breaks a rule of its form.
     BadMarks = 12,
 }
 

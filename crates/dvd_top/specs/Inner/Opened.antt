@@ -36,7 +36,7 @@ pub record HasOpened (settings : Settings) (old new : Seen) (stated : Settings) 
 abbrev pub NoLoop : Settings → List ℕ → Outcome → Type 0
 NoLoop stated left after = ⊥
 
--- Or the run ends in it.
+-- The run ends in its header.
 pub record EndsInHeader (settings : Settings) (old new : Seen) (end : LoopEnd) : Type 0 where
   pub own : List ℕ
   pub left : List ℕ

@@ -1,6 +1,6 @@
 -- What the private calls of the commands promise: what a command that was asked for does before its closing line, and what
 -- is written for one block.
-use Rattle.std.specs.Prelude.{◌≡◌, ◌⊎◌, ◌<◌, ℕ, ◌+◌, ◌*◌, ◌*◌, Bool, true, is_some, List, [], ◌∷◌, ◌++◌, length, take, Option, Result, Ok, Err, None, Some}
+use Rattle.std.specs.Prelude.{◌≡◌, ◌⊎◌, ◌<◌, ℕ, ◌+◌, ◌*◌, Bool, true, is_some, List, [], ◌∷◌, ◌++◌, length, take, Option, Result, Ok, Err, None, Some}
 use Rattle.std.specs.List.{flat_map}
 use Rattle.std.specs.Io.KnownBytes.{Consumes, IsAtEnd}
 use Rattle.dvd_block.specs.Product.{line}
@@ -120,7 +120,7 @@ pub record AreTaken (captures : ℕ) (form : Form) (old new : Option (List ℕ))
   pub joins : table ≡ joined (tables_in captures form bytes)
 
 -- A source gave a part of the captured block that stands behind so many bytes of unit k, and the loop ends so.
-pub record EndsBehind (k held size : ℕ) (old new : Seen) (end : LoopEnd) : Type 0 where
+pub record EndsInCapture (k held size : ℕ) (old new : Seen) (end : LoopEnd) : Type 0 where
   pub own : List ℕ
   pub reads : Consumes old.bytes new.bytes own
   pub fewer : length own < size

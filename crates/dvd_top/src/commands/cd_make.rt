@@ -10,7 +10,7 @@ use dvd_loop::{LoneTurns, LoopEnd, Turn, follow_lone, read_unit};
 use dvd_ports::{NullSink, Sink, Source, write_whole};
 use dvd_words::Settings;
 
-/// Its sectors.
+/// The sectors that are made: the address of the first, and how many.
 #[derive(Drop)]
 struct CdMake {
     address: u32,
@@ -47,7 +47,7 @@ impl LoneTurns for CdMake {
     }
 }
 
-/// Makes the CD-ROM sectors of `sectors` sectors of user data, from `address` on.
+/// Makes a CD-ROM sector for each of `settings.sectors` sectors of 2,048 bytes, with addresses from `settings.address` on.
 pub fn cdmake_loop<S: Source, K: Sink>(settings: &Settings, src: &mut S, out: &mut K) -> LoopEnd
     requires { HasAddresses settings.now }
     ensures follows { HasEnded (IsOutcome (cdmake_units settings.now.address settings.now.sectors))

@@ -14,7 +14,7 @@ use dvd_loop::{LoneTurns, LoopEnd, Turn, follow_lone, read_unit};
 use dvd_ports::{Sink, Source, WriteFault, write_whole};
 use dvd_words::Settings;
 
-/// Its sectors.
+/// The sectors that are read: the address of the first, and how many.
 #[derive(Drop)]
 struct CdRead {
     address: u32,
@@ -48,8 +48,8 @@ impl LoneTurns for CdRead {
     }
 }
 
-/// Gives the user data of `sectors` CD-ROM sectors from `address` on, each repaired. A line names each that can't be, and
-/// zeros stand in its place.
+/// Gives the user data of `settings.sectors` CD-ROM sectors with addresses from `settings.address` on, each repaired. A line
+/// names each that can't be, and zeros stand in its place.
 pub fn cdread_loop<S: Source, K: Sink, E: Sink>(
     settings: &Settings,
     src: &mut S,

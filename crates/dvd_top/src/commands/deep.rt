@@ -83,7 +83,8 @@ impl<'a> LoneTurns for Deepening<'a> {
     }
 }
 
-/// Reads every block of the plan of the layout and the zones that the settings choose.
+/// Reads every block of the plan of the layout and the zones that the settings choose, by rounds where two passes refuse it,
+/// and writes its image sectors. A line names each that is refused, and zeros stand in the place of those that aren't saved.
 pub fn deep_loop<S: Source, K: Sink, E: Sink>(
     settings: &Settings,
     layout: &Layout,

@@ -11,7 +11,7 @@ use dvd_loop::{LoneTurns, LoopEnd, Turn, follow_lone, read_unit};
 use dvd_ports::{NullSink, Sink, Source, write_whole};
 use dvd_words::Settings;
 
-/// Its sectors.
+/// The sectors that get a frame: the number of the first, and how many.
 #[derive(Drop)]
 struct Frames {
     first: u32,
@@ -48,7 +48,7 @@ impl LoneTurns for Frames {
     }
 }
 
-/// Makes the frames of `sectors` sectors from `first` on.
+/// Makes a scrambled data frame for each of `settings.sectors` sectors of 2,048 bytes, numbered from `settings.first` on.
 pub fn frames_loop<S: Source, K: Sink>(settings: &Settings, src: &mut S, out: &mut K) -> LoopEnd
     requires { HasSectors settings.now }
     ensures follows { HasEnded (IsOutcome (frames_units settings.now.first settings.now.sectors))

@@ -14,7 +14,7 @@ ghost use Rattle.dvd_loop.specs.Turns.{EndsShort, HaveCausesFor};
 ghost use Rattle.dvd_merge.specs.Merges.{table_of};
 ghost use Rattle.dvd_ports.specs.Seen.{Seen};
 ghost use Rattle.dvd_top.specs.Commands.Merge.{merge_units};
-ghost use Rattle.dvd_top.specs.Inner.Performing.{AreTaken, EndsBehind, IsPerformedByWords};
+ghost use Rattle.dvd_top.specs.Inner.Performing.{AreTaken, EndsInCapture, IsPerformedByWords};
 ghost use Rattle.dvd_words.specs.Settings.{IsLayoutOf};
 
 use crate::status::Refusal;
@@ -180,7 +180,7 @@ fn fetch_capture<S: Source>(
     requires capture { c < 16 }
     ensures full { OnOk result (Captures form (S.seen src.old).bytes (S.seen src.new).bytes (rows_of work.new) (marks_of_work work.new)) }
     ensures stage { OnOk result (HasBlock (stage_of work.new)) }
-    ensures short { IfErr result (EndsBehind k (c * block_size form) (block_size form) (S.seen src.old) (S.seen src.new)) }
+    ensures short { IfErr result (EndsInCapture k (c * block_size form) (block_size form) (S.seen src.old) (S.seen src.new)) }
     ensures causes { (output report : Seen) → HaveCausesFor result
         (streams (S.seen src.old) output report) (streams (S.seen src.new) output report) }
 {

@@ -73,7 +73,8 @@ impl<'a, 'r, F: Fn(&mut Work, &BlockPlan) -> Result<Fixed, Cause>> LoneTurns
     }
 }
 
-/// Reads every block of the plan of the layout and the zones that the settings choose.
+/// Reads every block of the plan of the layout and the zones that the settings choose, and writes its image sectors. A line
+/// names each that is refused, and zeros stand in the place of its sectors that aren't saved.
 pub fn recover_loop<R: Threads + Sync, G: Gate, S: Source, K: Sink, E: Sink>(
     rt: &R,
     gate: &G,

@@ -1,7 +1,7 @@
 use Rattle.std.proofs.Common.{◌≡◌, ◌∙◌, ◌*◌, inr, ℕ, List, Some, take, ap, subst}
 use Rattle.std.specs.Io.KnownBytes.{Appends}
 use Rattle.dvd_block.specs.Buffers.{piece_bytes}
-use Rattle.dvd_capture.proofs.WorkParts.{marks-height}
+use Rattle.dvd_capture.proofs.WorkParts.{marks-height, rows-height}
 use Rattle.dvd_capture.specs.Works.{marks_of_work, rows_of, sectors_of}
 use Rattle.dvd_deep.specs.Reading.{deep_cause}
 use Rattle.dvd_loop.specs.Streams.{streams}
@@ -9,7 +9,7 @@ use Rattle.dvd_loop.specs.declared.ends.LoopEnd.TheVariants.{WriteFault}
 use Rattle.dvd_loop.proofs.TurnLemmas.{err_is, write_begun, write_done}
 use Rattle.dvd_ports.specs.Whole.{AppendsPrefix}
 use Rattle.dvd_top.specs.Inner.Performing.{IsFoundBy, IsRefusedFor, sectors_out}
-use Rattle.dvd_top.proofs.DeepBlocks.{found_given, height, read_given}
+use Rattle.dvd_top.proofs.DeepBlocks.{found_given, read_given}
 use Rattle.dvd_top.proofs.RecoverBlocks.{refused, same_work}
 use Rattle.dvd_top.proofs.TwoSteps.{done_as}
 use Rattle.dvd_top.proofs.commands.deep.deep_image.Goals as goal
@@ -20,7 +20,7 @@ returns-in_err-write_sectors-in-Ok g c = λ source.
     let output = g.K.Sink.seen c.args.out.now in
     let new_output = g.K.Sink.seen c.write_sectors.new.out in
     let sectors = sectors_of c.read_block.new.work in
-    write_begun _ _ _ (read_given c.args.layout.now c.args.k c.args.entry.now (rows_of work) (marks_of_work work) sectors (height work) (marks-height work.marks) c.in-Ok.ensures.read)
+    write_begun _ _ _ (read_given c.args.layout.now c.args.k c.args.entry.now (rows_of work) (marks_of_work work) sectors (rows-height work.received) (marks-height work.marks) c.in-Ok.ensures.read)
     source output new_output (g.E.Sink.seen c.args.report.now) c.from_residual.result (err_is c.from_residual.result WriteFault c.from_residual.ensures.1)
     (subst (λ n. AppendsPrefix output.bytes new_output.bytes (sectors_out n sectors)) c.image_sectors-count.ensures.value c.in_err-write_sectors-in-Ok.ensures.begun)
     c.in_err-write_sectors-in-Ok.ensures.cause.failed
@@ -31,7 +31,7 @@ returns-in_ok-write_sectors-in-Ok g c = λ source.
     let output = g.K.Sink.seen c.args.out.now in
     let new_output = g.K.Sink.seen c.write_sectors.new.out in
     let sectors = sectors_of c.read_block.new.work in
-    write_done _ _ _ (read_given c.args.layout.now c.args.k c.args.entry.now (rows_of work) (marks_of_work work) sectors (height work) (marks-height work.marks) c.in-Ok.ensures.read)
+    write_done _ _ _ (read_given c.args.layout.now c.args.k c.args.entry.now (rows_of work) (marks_of_work work) sectors (rows-height work.received) (marks-height work.marks) c.in-Ok.ensures.read)
     source output new_output (g.E.Sink.seen c.args.report.now)
     (subst (λ n. Appends output.bytes new_output.bytes (sectors_out n sectors)) c.image_sectors-count.ensures.value c.in_ok-write_sectors-in-Ok.ensures.written)
     c.in_ok-write_sectors-in-Ok.ensures.cause.steady

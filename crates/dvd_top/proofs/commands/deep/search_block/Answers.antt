@@ -1,10 +1,10 @@
 use Rattle.std.proofs.Common.{◌∙◌, sym}
 use Rattle.dvd_block.specs.Buffers.{piece_bytes}
-use Rattle.dvd_capture.proofs.WorkParts.{marks-height}
+use Rattle.dvd_capture.proofs.WorkParts.{marks-height, rows-height}
 use Rattle.dvd_capture.specs.Works.{marks_of_work, rows_of}
 use Rattle.dvd_deep.specs.Deeps.{rows_of_deep}
 use Rattle.dvd_deep.proofs.Readings.{cause-found, cause-unfound}
-use Rattle.dvd_top.proofs.DeepBlocks.{found_by, height}
+use Rattle.dvd_top.proofs.DeepBlocks.{found_by}
 use Rattle.dvd_top.proofs.commands.deep.search_block.Goals as goal
 
 pub returns-in_default-clause-refused : goal.returns-in_default-clause-refused
@@ -16,7 +16,7 @@ pub returns-in-Ok-clause-found : goal.returns-in-Ok-clause-found
 returns-in-Ok-clause-found c = λ layout.
     let work = c.args.work.now in
     found_by layout c.args.entry.now (rows_of work) (marks_of_work work) (rows_of_deep c.search.new.self) (piece_bytes c.sectors.new.out) c.in-Some.round c.args.cause
-    (height work) (marks-height work.marks) c.requires.refused (sym c.in-Some.ensures.round) c.in-Some.ensures.block c.in-Ok.ensures.right c.in-Ok.ensures.main
+    (rows-height work.received) (marks-height work.marks) c.requires.refused (sym c.in-Some.ensures.round) c.in-Some.ensures.block c.in-Ok.ensures.right c.in-Ok.ensures.main
 
 pub returns-in-Err-clause-refused : goal.returns-in-Err-clause-refused
 returns-in-Err-clause-refused c =
