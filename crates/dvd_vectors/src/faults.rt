@@ -1,247 +1,106 @@
 //! How much exactly is left after a fault, and the lines.
-use crate::cases::{Case, Held, Runs, Written, hold};
-use crate::fixture::{BLOCK, NEVER, NO_FAULT, SOUND, Through};
-use crate::making::Step;
-use dvd_top::Status;
+use crate::script::{Held, follow};
 
-// Reads of 700 bytes: three for a sector. Then outputs that have no room for both frames, and reports for the closing line.
-const FRAMES: &[Case] = &[
-    (
-        &[],
-        Through::Source((700, 2, 0)),
-        (Status::ReadFault, 0, "read fault\n"),
-    ),
-    (
-        &[],
-        Through::Source((700, 3, 0)),
-        (Status::ReadFault, 2064, "read fault\n"),
-    ),
-    (
-        &[],
-        Through::Source((700, 6, 0)),
-        (Status::ReadFault, 4128, "read fault\n"),
-    ),
-    (
-        &[],
-        Through::Output((999, NEVER, 0)),
-        (Status::WriteFault, 0, "write fault\n"),
-    ),
-    (
-        &[],
-        Through::Output((999, NEVER, 1)),
-        (Status::WriteFault, 1, "write fault\n"),
-    ),
-    (
-        &[],
-        Through::Output((999, NEVER, 2063)),
-        (Status::WriteFault, 2063, "write fault\n"),
-    ),
-    (
-        &[],
-        Through::Output((999, NEVER, 2064)),
-        (Status::WriteFault, 2064, "write fault\n"),
-    ),
-    (
-        &[],
-        Through::Output((999, NEVER, 4127)),
-        (Status::WriteFault, 4127, "write fault\n"),
-    ),
-    (
-        &[],
-        Through::Each(&[
-            (SOUND, (999, NEVER, 4128), SOUND),
-            (SOUND, SOUND, (9, NEVER, 5)),
-        ]),
-        (Status::Done, 4128, "done\n"),
-    ),
-    (
-        &[],
-        Through::Report((9, NEVER, 0)),
-        (Status::ReportFault, 4128, ""),
-    ),
-    (
-        &[],
-        Through::Report((9, NEVER, 1)),
-        (Status::ReportFault, 4128, "d"),
-    ),
-    (
-        &[],
-        Through::Report((9, NEVER, 4)),
-        (Status::ReportFault, 4128, "done"),
-    ),
-];
+const FAULTS: &str = "
+# Reads of 700 bytes: three for a sector.
+over; bytes 4096 00h
+words frames --first 030000 --sectors 2
+becomes; run 4128 frames --first 030000 --sectors 2
+case; source 700 2
+ends ReadFault 0 read fault/
+source 700 3
+ends ReadFault 2064 read fault/
+source 700 6
+ends ReadFault 4128 read fault/
+# Outputs that have no room for both frames.
+output 999 never 0
+ends WriteFault 0 write fault/
+output 999 never 1
+ends WriteFault 1 write fault/
+output 999 never 2063
+ends WriteFault 2063 write fault/
+output 999 never 2064
+ends WriteFault 2064 write fault/
+output 999 never 4127
+ends WriteFault 4127 write fault/
+output 999 never 4128
+ends Done 4128 done/
+# Reports that have no room for the closing line.
+report 9 never 5
+ends Done 4128 done/
+report 9 never 0
+ends ReportFault 4128
+report 9 never 1
+ends ReportFault 4128 d
+report 9 never 4
+ends ReportFault 4128 done
 
-// Reads of a sector each: sixteen for a block.
-const MASTERED: &[Case] = &[
-    (
-        &[],
-        Through::Source((2048, 15, 0)),
-        (Status::ReadFault, 0, "read fault\n"),
-    ),
-    (
-        &[],
-        Through::Each(&[
-            ((2048, 16, 0), SOUND, SOUND),
-            ((2048, 20, 0), SOUND, SOUND),
-            ((2048, 31, 0), SOUND, SOUND),
-        ]),
-        (Status::ReadFault, BLOCK, "read fault\n"),
-    ),
-];
+# Reads of a sector each: sixteen for a block.
+over; image 32
+words master --sectors 32
+becomes; run 2*block master --sectors 32
+case; source 2048 15
+ends ReadFault 0 read fault/
+source 2048 16
+ends ReadFault block read fault/
+source 2048 20
+ends ReadFault block read fault/
+source 2048 31
+ends ReadFault block read fault/
 
-const ONE_BLOCK: &[Case] = &[
-    (
-        &[],
-        Through::Source((1000, 5, 0)),
-        (Status::ReadFault, 0, "read fault\n"),
-    ),
-    (
-        &[],
-        Through::Output((1000, 2, 80_000)),
-        (Status::WriteFault, 2000, "write fault\n"),
-    ),
-    (
-        &[],
-        Through::Output((1000, NEVER, 2500)),
-        (Status::WriteFault, 2500, "write fault\n"),
-    ),
-    (
-        &[],
-        Through::Report((9, 0, 80)),
-        (Status::ReportFault, 32_768, ""),
-    ),
-];
+over; image 16; run block master --sectors 16
+words recover --sectors 16
+gives; image 16
+case; source 1000 5
+ends ReadFault 0 read fault/
+output 1000 2 80000
+ends WriteFault 2000 write fault/
+output 1000 never 2500
+ends WriteFault 2500 write fault/
+report 9 0 80
+ends ReportFault 32768
 
-// Reads of 182 bytes: 208 for a block.
-const TWO_BLOCKS: &[Case] = &[
-    (
-        &[],
-        Through::Source((182, 207, 0)),
-        (Status::ReadFault, 0, "read fault\n"),
-    ),
-    (
-        &[],
-        Through::Each(&[
-            ((182, 208, 0), SOUND, SOUND),
-            ((182, 300, 0), SOUND, SOUND),
-            ((182, 415, 0), SOUND, SOUND),
-        ]),
-        (Status::ReadFault, 32_768, "read fault\n"),
-    ),
-];
+# Reads of 182 bytes: 208 for a block.
+over; image 32; run 2*block master --sectors 32
+words recover --sectors 32
+gives; image 32
+case; source row 207
+ends ReadFault 0 read fault/
+source row 208
+ends ReadFault 32768 read fault/
+source row 300
+ends ReadFault 32768 read fault/
+source row 415
+ends ReadFault 32768 read fault/
 
-// The line of a refused block goes out before its sectors, which are zeros.
-const REFUSED: &[Case] = &[
-    (
-        &[],
-        NO_FAULT,
-        (
-            Status::Damaged,
-            32_768,
-            "block 0 sector 030000 layer 0: address 0 found 00000000 saved 0\ndamaged: 1 blocks\n",
-        ),
-    ),
-    (
-        &[],
-        Through::Output((2048, 0, 80_000)),
-        (
-            Status::WriteFault,
-            0,
-            "block 0 sector 030000 layer 0: address 0 found 00000000 saved 0\nwrite fault\n",
-        ),
-    ),
-    (
-        &[],
-        Through::Output((2048, 5, 80_000)),
-        (
-            Status::WriteFault,
-            10_240,
-            "block 0 sector 030000 layer 0: address 0 found 00000000 saved 0\nwrite fault\n",
-        ),
-    ),
-    (
-        &[],
-        Through::Report((64, 0, 80)),
-        (Status::ReportFault, 0, ""),
-    ),
-    (
-        &[],
-        Through::Report((10, 1, 80)),
-        (Status::ReportFault, 0, "block 0 se"),
-    ),
-    (
-        &[],
-        Through::Report((64, 1, 80)),
-        (
-            Status::ReportFault,
-            32_768,
-            "block 0 sector 030000 layer 0: address 0 found 00000000 saved 0\n",
-        ),
-    ),
-];
+# The line of a refused block goes out before its sectors, which are zeros.
+over; bytes block 00h
+words recover --sectors 16
+gives; bytes 32768 00h
+case
+ends Damaged 32768 block 0 sector 030000 layer 0: address 0 found 00000000 saved 0/damaged: 1 blocks/
+output 2048 0 80000
+ends WriteFault 0 block 0 sector 030000 layer 0: address 0 found 00000000 saved 0/write fault/
+output 2048 5 80000
+ends WriteFault 10240 block 0 sector 030000 layer 0: address 0 found 00000000 saved 0/write fault/
+report 64 0 80
+ends ReportFault 0
+report 10 1 80
+ends ReportFault 0 block 0 se
+report 64 1 80
+ends ReportFault 32768 block 0 sector 030000 layer 0: address 0 found 00000000 saved 0/
 
-// A disk of two blocks, of which one is recorded.
-const SECOND_REFUSED: &[Case] = &[
-    (
-        &[],
-        Through::Output((2048, 16, 80_000)),
-        (
-            Status::WriteFault,
-            32_768,
-            "block 1 sector 030010 layer 0: address 0 found 00000000 saved 0\nwrite fault\n",
-        ),
-    ),
-    (
-        &[],
-        Through::Report((64, 0, 80)),
-        (Status::ReportFault, 32_768, ""),
-    ),
-];
-
-static RUNS: [Runs; 6] = [
-    Runs {
-        words: &["frames --first 030000 --sectors 2"],
-        over: &[Step::Bytes(4096, 0)],
-        cases: FRAMES,
-        writes: Written::Made(&[Step::Run("frames --first 030000 --sectors 2", 4128)]),
-    },
-    Runs {
-        words: &["master --sectors 32"],
-        over: &[Step::Image(32)],
-        cases: MASTERED,
-        writes: Written::Made(&[Step::Run("master --sectors 32", 2 * BLOCK)]),
-    },
-    Runs {
-        words: &["recover --sectors 16"],
-        over: &[Step::Image(16), Step::Run("master --sectors 16", BLOCK)],
-        cases: ONE_BLOCK,
-        writes: Written::Front(&[Step::Image(16)]),
-    },
-    Runs {
-        words: &["recover --sectors 32"],
-        over: &[Step::Image(32), Step::Run("master --sectors 32", 2 * BLOCK)],
-        cases: TWO_BLOCKS,
-        writes: Written::Front(&[Step::Image(32)]),
-    },
-    Runs {
-        words: &["recover --sectors 16"],
-        over: &[Step::Bytes(BLOCK, 0)],
-        cases: REFUSED,
-        writes: Written::Front(&[Step::Bytes(32_768, 0)]),
-    },
-    Runs {
-        words: &["recover --sectors 32"],
-        over: &[
-            Step::Image(16),
-            Step::Run("master --sectors 16", BLOCK),
-            Step::Bytes(BLOCK, 0),
-        ],
-        cases: SECOND_REFUSED,
-        writes: Written::Front(&[Step::Image(16)]),
-    },
-];
+# A disk of two blocks, of which one is recorded.
+over; image 16; run block master --sectors 16; bytes block 00h
+words recover --sectors 32
+gives; image 16
+case; output 2048 16 80000
+ends WriteFault 32768 block 1 sector 030010 layer 0: address 0 found 00000000 saved 0/write fault/
+report 64 0 80
+ends ReportFault 32768
+";
 
 #[test]
 fn a_fault_leaves_the_front_of_what_is_written(rt: HostRuntime) -> Held {
-    hold(&rt, &RUNS)
+    follow(&rt, FAULTS)
 }

@@ -1,43 +1,21 @@
 //! The largest disk of commands whose memory doesn't grow with it, over an input of five bytes.
-use crate::cases::{Held, Runs, Written, hold};
-use crate::fixture::NO_FAULT;
-use crate::making::Step;
-use dvd_top::Status;
+use crate::script::{Held, follow};
 
-static RUNS: [Runs; 2] = [
-    Runs {
-        words: &[
-            "master --sectors 8191744",
-            "recover --sectors 8191744",
-            "recover --form marked --sectors 8191744",
-            "survey --sectors 8191744",
-            "info --initial 12031",
-        ],
-        over: &[Step::Bytes(5, 0)],
-        cases: &[(
-            &[],
-            NO_FAULT,
-            (Status::Short, 0, "short: block 0, 5 bytes\n"),
-        )],
-        writes: Written::Holds(&[]),
-    },
-    Runs {
-        words: &[
-            "frames --first 000000 --sectors 16777216",
-            "cdmake --address 0 --sectors 450000",
-            "cdread --address 0 --sectors 450000",
-        ],
-        over: &[Step::Bytes(5, 0)],
-        cases: &[(
-            &[],
-            NO_FAULT,
-            (Status::Short, 0, "short: sector 0, 5 bytes\n"),
-        )],
-        writes: Written::Holds(&[]),
-    },
-];
+const LARGEST: &str = "
+over; bytes 5 00h; case
+words master --sectors 8191744
+or recover --sectors 8191744
+or recover --form marked --sectors 8191744
+or survey --sectors 8191744
+or info --initial 12031
+ends Short 0 short: block 0, 5 bytes/
+words frames --first 000000 --sectors 16777216
+or cdmake --address 0 --sectors 450000
+or cdread --address 0 --sectors 450000
+ends Short 0 short: sector 0, 5 bytes/
+";
 
 #[test]
 fn the_largest_disk_ends_short(rt: HostRuntime) -> Held {
-    hold(&rt, &RUNS)
+    follow(&rt, LARGEST)
 }

@@ -4,8 +4,6 @@
 #[cfg(test)]
 mod assemble; // scattered recording frames put in order
 #[cfg(test)]
-mod cases; // runs that have to end so
-#[cfg(test)]
 mod cd_sectors; // CD-ROM sectors
 #[cfg(test)]
 mod convert; // captures converted to the form that states its layout
@@ -40,8 +38,6 @@ mod master; // recordings
 #[cfg(test)]
 mod merge; // captures of one disk joined
 #[cfg(test)]
-mod options; // what the options of `master` change
-#[cfg(test)]
 mod reading; // what is read otherwise of a stream
 #[cfg(test)]
 mod recover; // streams that aren't those that are asked for
@@ -49,6 +45,8 @@ mod recover; // streams that aren't those that are asked for
 mod refused; // listed captures that break a rule
 #[cfg(test)]
 mod scratched; // a disk with a burst and scattered errors
+#[cfg(test)]
+mod script; // what the tests of whole runs are written in
 #[cfg(test)]
 mod survey; // surveys of streams
 #[cfg(test)]

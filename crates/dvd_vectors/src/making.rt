@@ -1,140 +1,139 @@
-//! How the bytes of a run are made, step by step: an image, what words write over it, what is read of that, and the forms of
-//! captures.
-use crate::cases::put;
-use crate::fixture::{BLOCK, Bench, NEVER, SOUND, run_over};
-use crate::reading::{Hits, MARKED_ROW, ROW, read, read_all};
-use dvd_top::Status;
+//! How the bytes of a run are made, step by step. The steps, beside those of `script`:
+//!
+//! ```text
+//! bytes 2048 00h   so many bytes of this value come behind them; `hex 49F1`: these; `line T`: the text T and the end of a line;
+//!                  `image 17`: the image of 17 sectors; `counted`: the user data of a sector, of which byte i is 7i + i / 256;
+//!                  `again 2366`: so many of the last ones once more
+//! from 2366        they begin there, and those before come behind the others; `front N`: the first N stay alone; `cut N`: the last N
+//!                  are cut off; `reversed N`: groups of N come in reverse order; `set 45h P`: this byte stands at places P
+//! wrong 55h P      these bits are wrong at places P; `zero P`: zeros stand there
+//! marked           they become a capture in the marked form, of which no place is marked
+//! is 07h P         of such a capture, by the places of the stream: this byte stands there without a mark; `lost P`: a zero with a mark;
+//!                  `doubtful 5Ah P`: these bits are wrong, and a mark tells it
+//! drawn 2          of such a capture about a sixth of the rows, drawn from this number, are lost, and each other one has a wrong byte
+//! woven N          groups of N of the first half and of the second half come in turn
+//! listed S Z A B I T 0:2   they become a listed capture: what its header states, the numbers of the shape and of the zones and the
+//!                  lengths of both layers, of the Initial Zone and of the tail, and runs of marks behind each block, first place and
+//!                  length
+//! ```
+//!
+//! A number is decimal, or hexadecimal with an h behind it, or a sum of products of numbers and of `block`, `capture`, `frame` and `row`,
+//! as 38*row+1. Places P are a first one, groups of it, and groups of these: 0 2xblock 5x37 are five places, 37 apart, of each of two
+//! blocks.
+use crate::fixture::{BLOCK, CAPTURE};
+use crate::reading::{Hit, MARKED_ROW, ROW, read};
+use std::alloc::Global;
 use std::mem::swap;
-use std::thread::Threads;
 
-/// A step: what is done to the bytes that stand.
-pub enum Step {
-    /// So many bytes of one value come behind them.
-    Bytes(usize, u8),
-    /// These bytes come behind them.
-    These(&'static [u8]),
-    /// The image of so many sectors comes behind them.
-    Image(usize),
-    /// The user data of a sector comes behind them: byte i is 7i + i / 256.
-    Counted,
-    /// They become what the words write over them, so many bytes, in a run that ends with Done.
-    Run(&'static str, usize),
-    /// They begin there; those before come behind the others.
-    From(usize),
-    /// So many of the first ones stay alone.
-    Front(usize),
-    /// So many of the last ones are cut off.
-    Cut(usize),
-    /// So many of the last ones come once more.
-    Again(usize),
-    /// The groups of so many of the first half and of the second half come in turn.
-    Woven(usize),
-    /// The groups of so many come in reverse order.
-    Reversed(usize),
-    /// This byte stands at this place.
-    Set(usize, u8),
-    /// Some are read otherwise.
-    Read(&'static [Hits]),
-    /// They become the capture in the marked form of what was read of them.
-    Marked(&'static [&'static [Hits]]),
-    /// The same, where what was read of each row is drawn from this number: about a sixth of them are lost, and each other row has one
-    /// wrong byte without a mark.
-    Drawn(u64),
-    /// They become a listed capture: what its header states, and the runs of each block.
-    Listed(Stated, &'static [Run]),
+/// The numbers of a part. Behind the last one, and for what is no number, the largest one stands.
+pub type Numbers = [usize; 20];
+
+/// The numbers of a text, with blanks, `x` and `:` between them.
+pub fn numbers(text: &str) -> Numbers {
+    let mut numbers = [usize::MAX; 20];
+    for (number, word) in numbers.iter_mut().zip(text.split([' ', 'x', ':'])) {
+        *number = sum(word);
+    }
+    numbers
 }
 
-/// A run of marks: its first place, and how many places it has.
-pub type Run = (u16, u16);
+fn sum(text: &str) -> usize {
+    let mut sum: usize = 0;
+    for part in text.split('+') {
+        sum = sum.saturating_add(product(part));
+    }
+    sum
+}
 
-/// What a header states: the numbers of the shape and of the zones, and the lengths of both layers, of the Initial Zone and of the
-/// tail.
-pub type Stated = (u8, u8, [u32; 4]);
+fn product(text: &str) -> usize {
+    let mut product: usize = 1;
+    for factor in text.split('*') {
+        product = product.saturating_mul(size(factor));
+    }
+    product
+}
 
-/// Does the steps to these bytes, or answers that one can't be done.
-pub fn make<R: AllocGlobal + Threads + Sync>(
-    rt: &R,
-    steps: &[Step],
-    bench: &mut Bench,
+fn size(text: &str) -> usize {
+    match text {
+        "block" => BLOCK,
+        "capture" => CAPTURE,
+        "frame" => BLOCK / 16,
+        "row" => ROW,
+        _ => number(text).unwrap_or(usize::MAX),
+    }
+}
+
+fn number(text: &str) -> Option<usize> {
+    match text.strip_suffix('h') {
+        Some(digits) => usize::from_str_radix(digits, 16).ok(),
+        None => text.parse::<usize>().ok(),
+    }
+}
+
+// The byte of a number.
+fn byte(number: usize) -> u8 {
+    (number % 256) as u8
+}
+
+/// Does a step to these bytes. Answers whether there is such a step, and memory.
+pub fn take(
+    alloc: Global,
+    verb: &str,
+    text: &str,
+    bytes: &mut Vec<u8>,
     spare: &mut Vec<u8>,
-    bytes: &mut Vec<u8>,
 ) -> bool {
-    for step in steps {
-        if !take(rt, step, bench, spare, bytes) {
-            return false;
-        }
-    }
-    true
-}
-
-// Takes one step.
-fn take<R: AllocGlobal + Threads + Sync>(
-    rt: &R,
-    step: &Step,
-    bench: &mut Bench,
-    spare: &mut Vec<u8>,
-    bytes: &mut Vec<u8>,
-) -> bool {
-    match step {
-        Step::Run(words, length) => write_over(rt, words, *length, bench, bytes),
-        Step::Marked(lists) => {
-            let is_made = add_marks(bytes, spare);
-            read_all(bytes, MARKED_ROW, lists);
-            is_made
-        }
-        Step::Drawn(seed) => {
-            let is_made = add_marks(bytes, spare);
-            draw_rows(bytes, *seed);
-            is_made
-        }
-        Step::Woven(size) => weave(bytes, spare, *size),
-        Step::Listed(stated, runs) => list(bytes, spare, stated, runs),
-        _ => change(step, bytes),
+    let n = numbers(text);
+    match verb {
+        "hex" => add_hex(alloc, text, bytes),
+        "line" => add(bytes, text.as_bytes()) & add(bytes, b"\n"),
+        "bytes" => add_bytes(bytes, n[0], byte(n[1])),
+        "image" => n[0] < usize::MAX && add_image(bytes, n[0]),
+        "counted" => add_counted(bytes),
+        "again" => add_again(bytes, n[0]),
+        "marked" => add_marks(bytes, spare),
+        "woven" => weave(bytes, spare, n[0]),
+        "listed" => list(bytes, spare, &n),
+        _ => change(verb, &n, bytes),
     }
 }
 
-// The bytes become what the words write over them.
-fn write_over<R: AllocGlobal + Threads + Sync>(
-    rt: &R,
-    words: &str,
-    length: usize,
-    bench: &mut Bench,
-    bytes: &mut Vec<u8>,
-) -> bool {
-    let ports = (SOUND, (BLOCK, NEVER, length), SOUND);
-    run_over(rt, words, bytes, &ports, bench) == Status::Done
-        && put(bytes, bench.written())
-        && bytes.len() == length
-}
-
-// Takes a step for which nothing else is needed.
-fn change(step: &Step, bytes: &mut Vec<u8>) -> bool {
-    match step {
-        Step::Bytes(count, byte) => add_bytes(bytes, *count, *byte),
-        Step::These(these) => add(bytes, these),
-        Step::Image(sectors) => add_image(bytes, *sectors),
-        Step::Counted => add_counted(bytes),
-        Step::Again(count) => add_again(bytes, *count),
-        _ => rearrange(step, bytes),
+// Steps that need no memory.
+fn change(verb: &str, n: &Numbers, bytes: &mut Vec<u8>) -> bool {
+    match verb {
+        "from" => bytes.rotate_left(n[0].min(bytes.len())),
+        "front" => bytes.truncate(n[0]),
+        "cut" => bytes.truncate(bytes.len().saturating_sub(n[0])),
+        "reversed" => reverse(bytes, n[0]),
+        "drawn" => draw_rows(bytes, n[0] as u64),
+        _ => return read_otherwise(verb, n, bytes),
     }
+    n[0] < usize::MAX
 }
 
-// Takes a step that needs no memory.
-fn rearrange(step: &Step, bytes: &mut Vec<u8>) -> bool {
-    match step {
-        Step::From(first) => bytes.rotate_left((*first).min(bytes.len())),
-        Step::Front(count) => bytes.truncate(*count),
-        Step::Cut(count) => bytes.truncate(bytes.len().saturating_sub(*count)),
-        Step::Reversed(size) => reverse(bytes, *size),
-        Step::Set(at, byte) => set(bytes, *at, *byte),
-        Step::Read(hits) => read(bytes, ROW, hits),
+// Steps that read something else at places.
+fn read_otherwise(verb: &str, n: &Numbers, bytes: &mut [u8]) -> bool {
+    match verb {
+        "zero" => read(bytes, Hit::Set(0), n[0], &n[1..9]),
+        "lost" => read(bytes, Hit::Lost, n[0], &n[1..9]),
+        "wrong" => read(bytes, Hit::Wrong(byte(n[0])), n[1], &n[2..10]),
+        "set" => read(bytes, Hit::Set(byte(n[0])), n[1], &n[2..10]),
+        "is" => read(bytes, Hit::Is(byte(n[0])), n[1], &n[2..10]),
+        "doubtful" => read(bytes, Hit::Doubtful(byte(n[0])), n[1], &n[2..10]),
         _ => return false,
     }
-    true
+    n[0] < usize::MAX
 }
 
 fn add(bytes: &mut Vec<u8>, more: &[u8]) -> bool {
     bytes.extend_from_slice(more).is_ok()
+}
+
+fn add_hex(alloc: Global, text: &str, bytes: &mut Vec<u8>) -> bool {
+    match hex::decode(alloc, text) {
+        Ok(more) => add(bytes, &more),
+        Err(_) => false,
+    }
 }
 
 fn add_bytes(bytes: &mut Vec<u8>, count: usize, byte: u8) -> bool {
@@ -161,48 +160,22 @@ impl Generator {
     }
 }
 
+// The bytes of an image are the top eight bits of what is drawn from 8.
 fn add_image(bytes: &mut Vec<u8>, sectors: usize) -> bool {
-    let first = bytes.len();
-    let is_room = add_bytes(bytes, sectors.saturating_mul(2048), 0);
-    if let Some(image) = bytes.as_mut_slice().get_mut(first..) {
-        draw(image);
+    let mut generator = Generator(8);
+    let mut is_room = true;
+    for _ in 0..sectors.saturating_mul(2048) {
+        is_room &= bytes.push((generator.draw() >> 56 & 0xFF) as u8).is_ok();
     }
     is_room
 }
 
-// The bytes of an image are the top eight bits of what is drawn from 8.
-fn draw(image: &mut [u8]) {
-    let mut generator = Generator(8);
-    for byte in image {
-        *byte = (generator.draw() >> 56 & 0xFF) as u8;
-    }
-}
-
 fn add_counted(bytes: &mut Vec<u8>) -> bool {
     let mut user = [0; 2048];
-    for (i, byte) in user.iter_mut().enumerate() {
-        *byte = (i.wrapping_mul(7).wrapping_add(i / 256) % 256) as u8;
+    for (i, value) in user.iter_mut().enumerate() {
+        *value = byte(i.wrapping_mul(7).wrapping_add(i / 256));
     }
     add(bytes, &user)
-}
-
-fn weave(bytes: &mut Vec<u8>, spare: &mut Vec<u8>, size: usize) -> bool {
-    spare.clear();
-    let size = size.max(1);
-    let (first, second) = bytes.split_at(bytes.len() / 2);
-    for (one, other) in first.chunks_exact(size).zip(second.chunks_exact(size)) {
-        if !add(spare, one) || !add(spare, other) {
-            return false;
-        }
-    }
-    swap(bytes, spare);
-    true
-}
-
-fn set(bytes: &mut [u8], at: usize, byte: u8) {
-    if let Some(it) = bytes.get_mut(at) {
-        *it = byte;
-    }
 }
 
 fn reverse(bytes: &mut [u8], size: usize) {
@@ -215,13 +188,24 @@ fn reverse(bytes: &mut [u8], size: usize) {
 // Each row gets its marks behind it, of which none is set.
 fn add_marks(bytes: &mut Vec<u8>, spare: &mut Vec<u8>) -> bool {
     spare.clear();
+    let mut is_room = true;
     for row in bytes.chunks_exact(ROW) {
-        if !add(spare, row) || !add(spare, &[0; MARKED_ROW - ROW]) {
-            return false;
-        }
+        is_room &= add(spare, row) & add(spare, &[0; MARKED_ROW - ROW]);
     }
     swap(bytes, spare);
-    true
+    is_room
+}
+
+fn weave(bytes: &mut Vec<u8>, spare: &mut Vec<u8>, size: usize) -> bool {
+    spare.clear();
+    let size = size.max(1);
+    let mut is_room = true;
+    let (first, second) = bytes.split_at(bytes.len() / 2);
+    for (one, other) in first.chunks_exact(size).zip(second.chunks_exact(size)) {
+        is_room &= add(spare, one) & add(spare, other);
+    }
+    swap(bytes, spare);
+    is_room
 }
 
 fn draw_rows(capture: &mut [u8], seed: u64) {
@@ -241,37 +225,49 @@ fn read_drawn(row: &mut [u8], drawn: u64) {
 }
 
 // The header, and behind each block its runs.
-fn list(bytes: &mut Vec<u8>, spare: &mut Vec<u8>, stated: &Stated, runs: &[Run]) -> bool {
+fn list(bytes: &mut Vec<u8>, spare: &mut Vec<u8>, n: &Numbers) -> bool {
     spare.clear();
-    if !add_header(spare, stated) {
-        return false;
-    }
+    let mut is_room = add_header(spare, n);
     for block in bytes.chunks_exact(BLOCK) {
-        if !add(spare, block) || !add_runs(spare, runs) {
-            return false;
-        }
+        is_room &= add(spare, block) & add_runs(spare, &n[6..]);
     }
     swap(bytes, spare);
-    true
+    is_room
 }
 
-fn add_header(bytes: &mut Vec<u8>, stated: &Stated) -> bool {
-    let [first, second, initial, tail] = stated.2;
-    add(bytes, b"DVDECC\x00\x02")
-        && add(bytes, &[stated.0, stated.1, 0, 0])
-        && add(bytes, &first.to_be_bytes())
-        && add(bytes, &second.to_be_bytes())
-        && add(bytes, &initial.to_be_bytes())
-        && add(bytes, &tail.to_be_bytes())
-        && add(bytes, &[0; 4])
+fn add_header(listed: &mut Vec<u8>, n: &Numbers) -> bool {
+    add(listed, b"DVDECC\x00\x02")
+        & add(listed, &[byte(n[0]), byte(n[1]), 0, 0])
+        & add_length(listed, n[2])
+        & add_length(listed, n[3])
+        & add_length(listed, n[4])
+        & add_length(listed, n[5])
+        & add(listed, &[0; 4])
 }
 
-// How many runs there are, and each of them.
-fn add_runs(bytes: &mut Vec<u8>, runs: &[Run]) -> bool {
-    let count = runs.len().min(65_535) as u16;
-    let mut is_room = add(bytes, &count.to_be_bytes());
-    for (start, length) in runs {
-        is_room = is_room && add(bytes, &start.to_be_bytes()) && add(bytes, &length.to_be_bytes());
+fn add_length(listed: &mut Vec<u8>, length: usize) -> bool {
+    add(listed, &((length % 4_294_967_296) as u32).to_be_bytes())
+}
+
+// How many runs are told, and their numbers.
+fn add_runs(listed: &mut Vec<u8>, numbers: &[usize]) -> bool {
+    let mut is_room = add_number(listed, told(numbers) / 2);
+    for number in numbers {
+        if *number != usize::MAX {
+            is_room &= add_number(listed, *number);
+        }
     }
     is_room
+}
+
+fn told(numbers: &[usize]) -> usize {
+    let mut count: usize = 0;
+    for number in numbers {
+        count = count.saturating_add(usize::from(*number != usize::MAX));
+    }
+    count
+}
+
+fn add_number(listed: &mut Vec<u8>, number: usize) -> bool {
+    add(listed, &((number % 65_536) as u16).to_be_bytes())
 }

@@ -1,99 +1,90 @@
-//! What is read of a stream or of a capture in the marked form: bytes that are wrong, and rows' places that are lost, at equal
-//! distances.
+//! What is read otherwise of a stream, of an image, or of a capture in the marked form: at equal distances, bytes that are wrong, and
+//! places that are lost.
 
 /// The bytes of a row, and of a row with its marks.
 pub const ROW: usize = 182;
 
 pub const MARKED_ROW: usize = 205;
 
-/// Where something else is read: the first place of the stream; how many groups of places there are, and how far apart; how many places
-/// a group has, and how far apart. Places behind the end of the stream are none.
-pub type Hits = (usize, (usize, usize), (usize, usize), Hit);
-
-/// What is read there.
+/// What is read at a place.
 #[derive(Clone, Copy)]
 pub enum Hit {
-    /// These bits are wrong.
+    /// These bits are wrong, and no mark tells it.
     Wrong(u8),
-    /// This byte stands there instead, without a mark.
+    /// This byte stands there.
+    Set(u8),
+    /// Of a capture in the marked form: this byte stands there, without a mark.
     Is(u8),
-    /// A zero with a mark.
+    /// Of a capture in the marked form: a zero with a mark.
     Lost,
-    /// These bits are wrong, and a mark tells it.
+    /// Of a capture in the marked form: these bits are wrong, and a mark tells it.
     Doubtful(u8),
 }
 
-/// One place.
-pub const ONE: (usize, usize) = (1, 0);
-
-/// Reads all of these in the place of what stands there. A row has so many bytes: 182, or 205 where its marks stand behind it, of
-/// which the high bit of the first byte is that of the first place. Where several are of one place, they follow on each other.
-pub fn read(bytes: &mut [u8], row: usize, hits: &[Hits]) {
-    for (first, groups, each, hit) in hits {
-        read_groups(bytes, row, *first, *groups, *each, *hit);
+/// Reads this at places: a first one, groups of it, and groups of these, each as so many and how far they are apart. Places behind the
+/// end of the bytes are none.
+pub fn read(bytes: &mut [u8], hit: Hit, first: usize, groups: &[usize]) {
+    for k in 0..count(groups) {
+        read_place(bytes, place(first, groups, k), hit);
     }
 }
 
-/// The same, of several lists in turn.
-pub fn read_all(bytes: &mut [u8], row: usize, lists: &[&'static [Hits]]) {
-    for hits in lists {
-        read(bytes, row, hits);
+// So many, and how far they are apart: one place, where it isn't told.
+fn group(told: &[usize]) -> (usize, usize) {
+    match told {
+        [count, apart] if *count < usize::MAX => (*count, *apart),
+        _ => (1, 0),
     }
 }
 
-fn read_groups(
-    bytes: &mut [u8],
-    row: usize,
-    first: usize,
-    groups: (usize, usize),
-    each: (usize, usize),
-    hit: Hit,
-) {
-    for group in 0..groups.0 {
-        let first = first.saturating_add(group.saturating_mul(groups.1));
-        read_each(bytes, row, first, each, hit);
+fn count(groups: &[usize]) -> usize {
+    let mut product: usize = 1;
+    for told in groups.chunks_exact(2) {
+        product = product.saturating_mul(group(told).0);
     }
+    product
 }
 
-fn read_each(bytes: &mut [u8], row: usize, first: usize, each: (usize, usize), hit: Hit) {
-    for k in 0..each.0 {
-        let place = first.saturating_add(k.saturating_mul(each.1));
-        read_place(
-            bytes,
-            (place / ROW).saturating_mul(row),
-            place % ROW,
-            row,
-            hit,
-        );
+// Place k, where the last group is gone through first.
+fn place(first: usize, groups: &[usize], k: usize) -> usize {
+    let mut place = first;
+    let mut k = k;
+    for told in groups.chunks_exact(2).rev() {
+        let (count, apart) = group(told);
+        let count = count.max(1);
+        place = place.saturating_add((k % count).saturating_mul(apart));
+        k /= count;
     }
+    place
 }
 
-// Place `j` of the row that begins there.
-fn read_place(bytes: &mut [u8], start: usize, j: usize, row: usize, hit: Hit) {
-    if let Some(byte) = bytes.get_mut(start.saturating_add(j)) {
-        *byte = byte_of(hit, *byte);
-    }
-    if row == MARKED_ROW
-        && let Some(marks) = bytes.get_mut(start.saturating_add(ROW + j / 8))
-    {
-        *marks = marks_of(hit, *marks, 0x80 >> (j % 8));
-    }
-}
-
-// What is read in the place of a byte.
-fn byte_of(hit: Hit, byte: u8) -> u8 {
+// A row of a marked capture has its marks behind it, of which the high bit of the first byte is that of the first place.
+fn read_place(bytes: &mut [u8], place: usize, hit: Hit) {
+    let row = (place / ROW).saturating_mul(MARKED_ROW);
+    let at = row.saturating_add(place % ROW);
+    let mark = row.saturating_add(ROW + place % ROW / 8);
+    let bit = 0x80 >> (place % ROW % 8);
     match hit {
-        Hit::Wrong(bits) | Hit::Doubtful(bits) => byte ^ bits,
-        Hit::Is(other) => other,
-        Hit::Lost => 0,
+        Hit::Wrong(bits) => change(bytes, place, 0xFF, bits),
+        Hit::Set(byte) => change(bytes, place, 0, byte),
+        Hit::Is(byte) => {
+            change(bytes, at, 0, byte);
+            change(bytes, mark, !bit, 0);
+        }
+        Hit::Lost => {
+            change(bytes, at, 0, 0);
+            change(bytes, mark, !bit, bit);
+        }
+        Hit::Doubtful(bits) => {
+            change(bytes, at, 0xFF, bits);
+            change(bytes, mark, !bit, bit);
+        }
     }
 }
 
-// Eight marks, where this one is of the place.
-fn marks_of(hit: Hit, marks: u8, mark: u8) -> u8 {
-    match hit {
-        Hit::Wrong(_) => marks,
-        Hit::Is(_) => marks & !mark,
-        Hit::Lost | Hit::Doubtful(_) => marks | mark,
+// Of the byte these bits are kept, and those are turned.
+fn change(bytes: &mut [u8], at: usize, kept: u8, turned: u8) {
+    if let Some(byte) = bytes.get_mut(at) {
+        *byte = *byte & kept ^ turned;
     }
 }

@@ -1,8 +1,7 @@
 //! Several workers on one run: what comes out is that of one worker, and two workers work at the same time.
-use crate::cases::{Held, Memory, Runs, Shown, Written, hold, make_input, show};
-use crate::fixture::{ALL_SOUND, BLOCK, NO_FAULT, run_through};
-use crate::making::Step;
-use crate::reading::Hit;
+use crate::fixture::{ALL_SOUND, run_through};
+use crate::making::Numbers;
+use crate::script::{Held, Memory, follow};
 use dvd_par::Gate;
 use dvd_top::Status;
 use std::sync::atomic::{AtomicU64, Ordering};
@@ -68,15 +67,10 @@ impl Gate for Meeting {
     }
 }
 
-// Whether pieces 0 and 1 of each of these passes meet in one of a few runs.
-fn meet<R: AllocGlobal + Threads + Sync>(
-    rt: &R,
-    text: &str,
-    passes: u64,
-    memory: &mut Memory,
-) -> bool {
+/// Pieces 0 and 1 of each of so many passes meet in one of a few runs.
+pub fn meet<R: AllocGlobal + Threads + Sync>(rt: &R, n: &Numbers, memory: &mut Memory) -> bool {
     for _ in 0..MOST_RUNS {
-        if meet_once(rt, text, passes, memory) {
+        if meet_once(rt, n[0] as u64, memory) {
             return true;
         }
     }
@@ -84,120 +78,68 @@ fn meet<R: AllocGlobal + Threads + Sync>(
 }
 
 // Whether they do in one run.
-fn meet_once<R: AllocGlobal + Threads + Sync>(
-    rt: &R,
-    text: &str,
-    passes: u64,
-    memory: &mut Memory,
-) -> bool {
+fn meet_once<R: AllocGlobal + Threads + Sync>(rt: &R, passes: u64, memory: &mut Memory) -> bool {
     let gate = Meeting::new();
+    let Some(words) = memory.words.get(0) else {
+        return false;
+    };
     let bench = &mut memory.bench;
-    run_through(rt, &gate, text, &memory.input, &ALL_SOUND, bench) == Status::Done
-        && gate.is_met(passes)
+    let status = run_through(rt, &gate, words, &memory.bytes, &ALL_SOUND, bench);
+    (status == Status::Done) & gate.is_met(passes)
 }
 
-// Words, how their input is made, and the passes.
-static MEETINGS: [(&str, &[Step], u64); 4] = [
-    (
-        "recover --sectors 16 --workers 2",
-        &[Step::Image(16), Step::Run("master --sectors 16", BLOCK)],
-        2,
-    ),
-    (
-        "survey --sectors 16 --workers 2",
-        &[Step::Image(16), Step::Run("master --sectors 16", BLOCK)],
-        2,
-    ),
-    (
-        "master --sectors 16 --workers 2",
-        &[Step::Bytes(32_768, 0)],
-        2,
-    ),
-    ("exercise --seed 1 --blocks 1 --workers 2", &[], 4),
-];
+const WORKERS: &str = "
+# Two workers work at the same time.
+over; image 16; run block master --sectors 16; case
+words recover --sectors 16 --workers 2
+meet 2
+words survey --sectors 16 --workers 2
+meet 2
+over; bytes 32768 00h; case
+words master --sectors 16 --workers 2
+meet 2
+over; case
+words exercise --seed 1 --blocks 1 --workers 2
+meet 4
 
-/// The workers of each meeting meet.
-pub fn meetings<R: AllocGlobal + Threads + Sync>(rt: &R, memory: &mut Memory) -> Held {
-    for (text, over, passes) in &MEETINGS {
-        if !make_input(rt, over, memory) || !meet(rt, text, *passes, memory) {
-            return Err(text);
-        }
-    }
-    Ok(())
-}
+# Three blocks: five bytes of each row of the first are wrong, more than can be fixed of six rows of the second, and of twenty rows of
+# the third.
+over; image 33; run 3*block master --sectors 33
+wrong 5Ah 0 208xrow 5x41; wrong 5Ah block+3*row 6x40*row 26x7; wrong 5Ah 2*block 20xrow 17x11
+words recover --sectors 33
+or recover --sectors 33 --workers 1
+or recover --sectors 33 --workers 8
+gives; image 32; bytes 2048 00h
+case
+ends Damaged 67584 block 2 sector 030020 layer 0: rows 20 saved 14/damaged: 1 blocks/
+words survey --sectors 33
+or survey --sectors 33 --workers 1
+or survey --sectors 33 --workers 8
+gives; line block 0 sector 030000 layer 0 pi 208 failed 0 sum8 208: whole
+line block 1 sector 030010 layer 0 pi 6 failed 6 sum8 214: whole
+line block 2 sector 030020 layer 0 pi 20 failed 20 sum8 234: rows 20
+line blocks 3 pi 234 failed 26 damaged 1 peak 234 at 2 over 0
+case
+ends Damaged 243 damaged: 1 blocks/
+
+over; image 33
+words master --sectors 33 --workers 1
+or master --sectors 33 --workers 5
+or master --sectors 33 --workers 16
+becomes; run 3*block master --sectors 33
+case
+ends Done 3*block done/
+
+over
+words exercise --seed 1 --blocks 2 --workers 1
+or exercise --seed 1 --blocks 2 --workers 3
+or exercise --seed 1 --blocks 2 --workers 16
+gives; run 54 exercise --seed 1 --blocks 2
+case
+ends Done 54 done/
+";
 
 #[test]
-fn two_workers_work_at_the_same_time(rt: HostRuntime) -> Held {
-    show(&rt, Shown::Meetings)
-}
-
-// Three blocks: five bytes of each row of the first are wrong, more than can be fixed of six rows of the second, and of twenty rows of
-// the third.
-const SCRATCHED: &[Step] = &[
-    Step::Image(33),
-    Step::Run("master --sectors 33", 3 * BLOCK),
-    Step::Read(&[
-        (0, (208, 182), (5, 41), Hit::Wrong(0x5A)),
-        (BLOCK + 3 * 182, (6, 40 * 182), (26, 7), Hit::Wrong(0x5A)),
-        (2 * BLOCK, (20, 182), (17, 11), Hit::Wrong(0x5A)),
-    ]),
-];
-
-static RUNS: [Runs; 4] = [
-    Runs {
-        words: &[
-            "recover --sectors 33",
-            "recover --sectors 33 --workers 1",
-            "recover --sectors 33 --workers 8",
-        ],
-        over: SCRATCHED,
-        cases: &[(
-            &[],
-            NO_FAULT,
-            (
-                Status::Damaged,
-                67_584,
-                "block 2 sector 030020 layer 0: rows 20 saved 14\ndamaged: 1 blocks\n",
-            ),
-        )],
-        writes: Written::Front(&[Step::Image(32), Step::Bytes(2048, 0)]),
-    },
-    Runs {
-        words: &[
-            "survey --sectors 33",
-            "survey --sectors 33 --workers 1",
-            "survey --sectors 33 --workers 8",
-        ],
-        over: SCRATCHED,
-        cases: &[(&[], NO_FAULT, (Status::Damaged, 243, "damaged: 1 blocks\n"))],
-        writes: Written::Holds(&[(
-            0,
-            b"block 0 sector 030000 layer 0 pi 208 failed 0 sum8 208: whole\nblock 1 sector 030010 layer 0 pi 6 failed 6 sum8 214: whole\nblock 2 sector 030020 layer 0 pi 20 failed 20 sum8 234: rows 20\nblocks 3 pi 234 failed 26 damaged 1 peak 234 at 2 over 0\n",
-        )]),
-    },
-    Runs {
-        words: &[
-            "master --sectors 33 --workers 1",
-            "master --sectors 33 --workers 5",
-            "master --sectors 33 --workers 16",
-        ],
-        over: &[Step::Image(33)],
-        cases: &[(&[], NO_FAULT, (Status::Done, 3 * BLOCK, "done\n"))],
-        writes: Written::Made(&[Step::Run("master --sectors 33", 3 * BLOCK)]),
-    },
-    Runs {
-        words: &[
-            "exercise --seed 1 --blocks 2 --workers 1",
-            "exercise --seed 1 --blocks 2 --workers 3",
-            "exercise --seed 1 --blocks 2 --workers 16",
-        ],
-        over: &[],
-        cases: &[(&[], NO_FAULT, (Status::Done, 54, "done\n"))],
-        writes: Written::Front(&[Step::Run("exercise --seed 1 --blocks 2", 54)]),
-    },
-];
-
-#[test]
-fn runs_are_the_same_for_each_number_of_workers(rt: HostRuntime) -> Held {
-    hold(&rt, &RUNS)
+fn workers_work_at_the_same_time_and_leave_the_same(rt: HostRuntime) -> Held {
+    follow(&rt, WORKERS)
 }
