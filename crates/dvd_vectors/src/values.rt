@@ -1,4 +1,5 @@
 //! Derived equality and copying: each value is like its copy, and unlike each other one.
+use crate::script::Held;
 use dvd_capture::parts::{AnswerRow, ColumnAnswer};
 use dvd_capture::{FetchAnswer, Form, Stage};
 use dvd_control::{ControlFault, PhysicalFormat};
@@ -10,7 +11,6 @@ use dvd_report::{Surveyed, Totals};
 use dvd_top::{Command, HeaderEnd, LoopEnd, Settings, Status};
 use dvd_words::WordsFault;
 use rs_decode::{Fix, shortest};
-use std::test::Fail;
 
 static COMMANDS: [Command; 12] = [
     Command::Frames,
@@ -410,30 +410,58 @@ fn are_unlike<T: Copy + PartialEq>(values: &[T]) -> bool {
     are_unlike
 }
 
-// The physical format of a Data Zone of one block, with another byte.
-fn format_with(at: usize, byte: u8) -> Result<PhysicalFormat, ControlFault> {
-    let mut sector = [0; 2048];
-    sector[5] = 3;
-    sector[9] = 3;
-    sector[11] = 0x0F;
-    if at < sector.len() {
-        sector[at] = byte;
+fn held(are_unlike: bool) -> Held {
+    if are_unlike {
+        Ok(())
+    } else {
+        Err("two values are alike, or one is unlike its copy")
     }
-    PhysicalFormat::from_bytes(&sector)
 }
 
 #[test]
-fn each_value_of_the_program_is_like_itself_alone(rt: HostRuntime) -> Result<(), Fail> {
-    assert!(rt; are_unlike(&COMMANDS) & are_unlike(&SETTINGS));
-    assert!(rt; are_unlike(&STATUSES) & are_unlike(&ENDS));
-    assert!(rt; are_unlike(&TURNS) & are_unlike(&BEHINDS) & are_unlike(&WORDS_FAULTS));
-    Ok(())
+fn each_value_of_the_program_is_like_itself_alone(_rt: HostRuntime) -> Held {
+    held(
+        are_unlike(&COMMANDS)
+            & are_unlike(&SETTINGS)
+            & are_unlike(&STATUSES)
+            & are_unlike(&ENDS)
+            & are_unlike(&TURNS)
+            & are_unlike(&BEHINDS)
+            & are_unlike(&WORDS_FAULTS)
+            & are_unlike(&FOUNDS)
+            & are_unlike(&COUNTS),
+    )
 }
 
 #[test]
-fn each_count_is_like_itself_alone(rt: HostRuntime) -> Result<(), Fail> {
-    assert!(rt; are_unlike(&FOUNDS) & are_unlike(&COUNTS));
-    Ok(())
+fn each_cause_is_like_itself_alone(_rt: HostRuntime) -> Held {
+    held(
+        are_unlike(&FIXES)
+            & are_unlike(&FIXED)
+            & are_unlike(&FRAME_CAUSES)
+            & are_unlike(&CAUSES)
+            & are_unlike(&LAYOUT_FAULTS)
+            & are_unlike(&CONTROL_FAULTS),
+    )
+}
+
+#[test]
+fn each_part_of_a_disk_is_like_itself_alone(_rt: HostRuntime) -> Held {
+    held(
+        are_unlike(&RULES)
+            & are_unlike(&AREAS)
+            & are_unlike(&[Id::from_word(1), Id::from_word(2)])
+            & are_unlike(&SHAPES)
+            & are_unlike(&ZONES)
+            & are_unlike(&CONTENTS)
+            & are_unlike(&ENTRIES)
+            & are_unlike(&ZONE_LIST)
+            & are_unlike(&FORMS)
+            & are_unlike(&STAGES)
+            & are_unlike(&FETCHES)
+            & are_unlike(&ROW_ANSWERS)
+            & are_unlike(&COLUMN_ANSWERS),
+    )
 }
 
 // Whether the shortest registers of two lists are one.
@@ -442,33 +470,16 @@ fn are_one(one: &[u8], other: &[u8]) -> bool {
 }
 
 #[test]
-fn each_register_is_like_itself_alone(rt: HostRuntime) -> Result<(), Fail> {
-    assert!(rt; are_one(&[1, 2, 4, 8], &[2, 4, 8, 16]));
-    assert!(rt; !are_one(&[1, 2, 4, 8], &[1, 4, 16, 64]) && !are_one(&[1, 2, 4, 8], &[0, 0]));
-    Ok(())
+fn each_register_is_like_itself_alone(_rt: HostRuntime) -> Held {
+    held(
+        are_one(&[1, 2, 4, 8], &[2, 4, 8, 16])
+            & !are_one(&[1, 2, 4, 8], &[1, 4, 16, 64])
+            & !are_one(&[1, 2, 4, 8], &[0, 0]),
+    )
 }
 
 #[test]
-fn each_cause_is_like_itself_alone(rt: HostRuntime) -> Result<(), Fail> {
-    assert!(rt; are_unlike(&FIXES) & are_unlike(&FIXED) & are_unlike(&FRAME_CAUSES));
-    assert!(rt; are_unlike(&CAUSES) & are_unlike(&LAYOUT_FAULTS) & are_unlike(&CONTROL_FAULTS));
-    Ok(())
-}
-
-#[test]
-fn each_part_of_a_disk_is_like_itself_alone(rt: HostRuntime) -> Result<(), Fail> {
-    assert!(rt;
-        are_unlike(&RULES) & are_unlike(&AREAS) & are_unlike(&[Id::from_word(1), Id::from_word(2)])
-    );
-    assert!(rt; are_unlike(&SHAPES) & are_unlike(&ZONES) & are_unlike(&CONTENTS));
-    assert!(rt; are_unlike(&ENTRIES) & are_unlike(&ZONE_LIST));
-    assert!(rt; are_unlike(&FORMS) & are_unlike(&STAGES) & are_unlike(&FETCHES));
-    assert!(rt; are_unlike(&ROW_ANSWERS) & are_unlike(&COLUMN_ANSWERS));
-    Ok(())
-}
-
-#[test]
-fn each_layout_is_like_itself_alone(rt: HostRuntime) -> Result<(), Fail> {
+fn each_layout_is_like_itself_alone(_rt: HostRuntime) -> Held {
     let layouts = [
         Layout::new(Shape::Parallel, 16, 16, 0, 1),
         Layout::new(Shape::Opposite, 16, 16, 0, 1),
@@ -477,19 +488,31 @@ fn each_layout_is_like_itself_alone(rt: HostRuntime) -> Result<(), Fail> {
         Layout::new(Shape::Parallel, 16, 16, 1, 1),
         Layout::new(Shape::Parallel, 16, 16, 0, 2),
     ];
-    assert!(rt; are_unlike(&layouts));
-    for layout in layouts {
-        assert!(rt; layout.is_ok());
+    held(are_unlike(&layouts) & are_all_ok(&layouts))
+}
+
+fn are_all_ok<T: Copy, E: Copy>(answers: &[Result<T, E>]) -> bool {
+    let mut are_ok = true;
+    for answer in answers {
+        are_ok &= answer.is_ok();
     }
-    Ok(())
+    are_ok
 }
 
 #[test]
-fn each_end_of_a_header_is_like_itself_alone(rt: HostRuntime) -> Result<(), Fail> {
-    let layout = Layout::new(Shape::Single, 16, 0, 0, 16)?;
-    let other = Layout::new(Shape::Single, 17, 0, 0, 16)?;
+fn each_end_of_a_header_is_like_itself_alone(_rt: HostRuntime) -> Held {
+    match (
+        Layout::new(Shape::Single, 16, 0, 0, 16),
+        Layout::new(Shape::Single, 17, 0, 0, 16),
+    ) {
+        (Ok(layout), Ok(other)) => held(are_unlike(&ends_of_a_header(layout, other))),
+        _ => Err("layouts that break no rule"),
+    }
+}
+
+fn ends_of_a_header(layout: Layout, other: Layout) -> [HeaderEnd; 8] {
     let zones = Zones::DataOnly;
-    let ends = [
+    [
         HeaderEnd::Found { layout, zones },
         HeaderEnd::Found {
             layout: other,
@@ -504,18 +527,26 @@ fn each_end_of_a_header_is_like_itself_alone(rt: HostRuntime) -> Result<(), Fail
         HeaderEnd::BadHeader { at: 1 },
         HeaderEnd::BadHeader { at: 2 },
         HeaderEnd::ReadFault,
-    ];
-    assert!(rt; are_unlike(&ends));
-    Ok(())
+    ]
+}
+
+// The physical format of a Data Zone of one block, with another byte.
+fn format_with(at: usize, byte: u8) -> Result<PhysicalFormat, ControlFault> {
+    let mut sector = [0; 2048];
+    sector[5] = 3;
+    sector[9] = 3;
+    sector[11] = 0x0F;
+    if at < sector.len() {
+        sector[at] = byte;
+    }
+    PhysicalFormat::from_bytes(&sector)
 }
 
 #[test]
-fn each_physical_format_is_like_itself_alone(rt: HostRuntime) -> Result<(), Fail> {
+fn each_physical_format_is_like_itself_alone(_rt: HostRuntime) -> Held {
     let mut formats = [format_with(0, 0); 10];
     for (format, (at, byte)) in formats.iter_mut().zip(&FORMAT_BYTES) {
         *format = format_with(*at, *byte);
-        assert!(rt; format.is_ok(), "byte {at}");
     }
-    assert!(rt; are_unlike(&formats));
-    Ok(())
+    held(are_unlike(&formats) & are_all_ok(&formats))
 }
