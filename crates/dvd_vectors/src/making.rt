@@ -37,6 +37,15 @@ pub fn numbers(text: &str) -> Numbers {
     numbers
 }
 
+// Whether each word is one, so that no place that is misspelt is taken for none.
+fn are_numbers(text: &str) -> bool {
+    let mut are_numbers = true;
+    for word in text.split([' ', 'x', ':']) {
+        are_numbers &= sum(word) < usize::MAX;
+    }
+    are_numbers
+}
+
 fn sum(text: &str) -> usize {
     let mut sum: usize = 0;
     for part in text.split('+') {
@@ -83,18 +92,24 @@ pub fn take(
     bytes: &mut Vec<u8>,
     spare: &mut Vec<u8>,
 ) -> bool {
-    let n = numbers(text);
     match verb {
         "hex" => add_hex(alloc, text, bytes),
         "line" => add(bytes, text.as_bytes()) & add(bytes, b"\n"),
-        "bytes" => add_bytes(bytes, n[0], byte(n[1])),
-        "image" => n[0] < usize::MAX && add_image(bytes, n[0]),
         "counted" => add_counted(bytes),
-        "again" => add_again(bytes, n[0]),
         "marked" => add_marks(bytes, spare),
+        _ => are_numbers(text) && take_numbers(verb, &numbers(text), bytes, spare),
+    }
+}
+
+// Steps that have numbers.
+fn take_numbers(verb: &str, n: &Numbers, bytes: &mut Vec<u8>, spare: &mut Vec<u8>) -> bool {
+    match verb {
+        "bytes" => n[1] < usize::MAX && add_bytes(bytes, n[0], byte(n[1])),
+        "image" => add_image(bytes, n[0]),
+        "again" => add_again(bytes, n[0]),
         "woven" => weave(bytes, spare, n[0]),
-        "listed" => list(bytes, spare, &n),
-        _ => change(verb, &n, bytes),
+        "listed" => n[5] < usize::MAX && told(&n[6..]) % 2 == 0 && list(bytes, spare, n),
+        _ => change(verb, n, bytes),
     }
 }
 
@@ -108,21 +123,29 @@ fn change(verb: &str, n: &Numbers, bytes: &mut Vec<u8>) -> bool {
         "drawn" => draw_rows(bytes, n[0] as u64),
         _ => return read_otherwise(verb, n, bytes),
     }
-    n[0] < usize::MAX
+    true
 }
 
 // Steps that read something else at places.
 fn read_otherwise(verb: &str, n: &Numbers, bytes: &mut [u8]) -> bool {
     match verb {
-        "zero" => read(bytes, Hit::Set(0), n[0], &n[1..9]),
-        "lost" => read(bytes, Hit::Lost, n[0], &n[1..9]),
-        "wrong" => read(bytes, Hit::Wrong(byte(n[0])), n[1], &n[2..10]),
-        "set" => read(bytes, Hit::Set(byte(n[0])), n[1], &n[2..10]),
-        "is" => read(bytes, Hit::Is(byte(n[0])), n[1], &n[2..10]),
-        "doubtful" => read(bytes, Hit::Doubtful(byte(n[0])), n[1], &n[2..10]),
-        _ => return false,
+        "zero" => read_at(bytes, Hit::Set(0), n[0], &n[1..11]),
+        "lost" => read_at(bytes, Hit::Lost, n[0], &n[1..11]),
+        "wrong" => read_at(bytes, Hit::Wrong(byte(n[0])), n[1], &n[2..12]),
+        "set" => read_at(bytes, Hit::Set(byte(n[0])), n[1], &n[2..12]),
+        "is" => read_at(bytes, Hit::Is(byte(n[0])), n[1], &n[2..12]),
+        "doubtful" => read_at(bytes, Hit::Doubtful(byte(n[0])), n[1], &n[2..12]),
+        _ => false,
     }
-    n[0] < usize::MAX
+}
+
+// Reads this, where a first place is told and of each group how many and how far apart.
+fn read_at(bytes: &mut [u8], hit: Hit, first: usize, groups: &[usize]) -> bool {
+    let are_told = first < usize::MAX && told(groups) % 2 == 0;
+    if are_told {
+        read(bytes, hit, first, groups);
+    }
+    are_told
 }
 
 fn add(bytes: &mut Vec<u8>, more: &[u8]) -> bool {

@@ -18,7 +18,7 @@
 //! words W        these words; behind it `or W`: and these
 //! source 700 2   in the next run the source gives 700 bytes a call, and call 2 fails; `output` and `report` have their room behind it
 //! ends S N R     the words end with status S, wrote N bytes, a front of what is written, and told R; each / of R is the end of a line
-//! holds N B      what was written last has the bytes B at place N; `last T`: its last line is T
+//! holds N B      what was written last has the bytes B at place N; `last T`: it ends with the text T and the end of a line
 //! digest B       what was written last has this SHA-256
 //! keep           what the first words leave is kept
 //! same           each of the words leaves what is kept
@@ -213,7 +213,7 @@ fn go<R: AllocGlobal + Threads + Sync>(rt: &R, k: usize, memory: &mut Memory) ->
 }
 
 fn each_ends<R: AllocGlobal + Threads + Sync>(rt: &R, end: &str, memory: &mut Memory) -> bool {
-    let mut all_end = true;
+    let mut all_end = !memory.words.is_empty();
     for k in 0..memory.words.len() {
         all_end &= go(rt, k, memory) && memory.ends(end);
     }
@@ -222,7 +222,7 @@ fn each_ends<R: AllocGlobal + Threads + Sync>(rt: &R, end: &str, memory: &mut Me
 }
 
 fn are_same<R: AllocGlobal + Threads + Sync>(rt: &R, memory: &mut Memory) -> bool {
-    let mut are_same = true;
+    let mut are_same = !memory.words.is_empty();
     for k in 0..memory.words.len() {
         are_same &= go(rt, k, memory) && memory.is_same();
     }
