@@ -16,6 +16,8 @@ mod disks; // disks of every shape, mastered and read back
 #[cfg(test)]
 mod exercise; // blocks drawn, damaged and read back
 #[cfg(test)]
+mod failing; // scripts that don't hold
+#[cfg(test)]
 mod faults; // exactly what is left after a fault
 #[cfg(test)]
 mod fixture; // what the tests share
