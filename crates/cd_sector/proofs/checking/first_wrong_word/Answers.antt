@@ -1,3 +1,4 @@
+-- The proof of `first_wrong_word` in src/checking.rt.
 use Rattle.std.proofs.Common.{sym, arith}
 use Rattle.cd_sector.proofs.Places.{word_size-p, word_size-q}
 use Rattle.cd_sector.proofs.checking.first_wrong_word.Goals as goal

@@ -1,3 +1,4 @@
+-- The proof of `has_right_edc` in src/checking.rt.
 use Rattle.std.proofs.Common.{◌≡◌, List, ℕ, take, drop, sym, ◌∙◌, ap, ◌++◌}
 use Rattle.std.specs.Str.{bytes_eq}
 use Rattle.std.proofs.lemmas.Slice.Eq.{bytes_eq-Decides}

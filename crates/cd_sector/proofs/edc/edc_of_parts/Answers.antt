@@ -1,3 +1,4 @@
+-- The proof of `edc_of_parts` in src/edc.rt.
 use Rattle.std.proofs.Common.{List, ℕ, ◌++◌, ap, ◌∙◌, All, arith}
 use Rattle.std.specs.Int.{to_le_bytes, w32}
 use Rattle.std.proofs.lemmas.List.Elements.{All-append, All-from_get_or}

@@ -1,3 +1,4 @@
+-- The proof of `with_byte` in src/edc.rt.
 use Rattle.std.proofs.Common.{◌/◌, ap, ◌∙◌, arith}
 use Rattle.std.specs.Prelude.{bit_xor}
 use Rattle.cd_sector.proofs.Steps.{byte_read}

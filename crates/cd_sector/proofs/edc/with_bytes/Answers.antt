@@ -1,3 +1,4 @@
+-- The proof of `with_bytes` in src/edc.rt.
 use Rattle.std.proofs.Common.{drop, ap, sym, ◌+◌, ◌∙◌, arith}
 use Rattle.cd_sector.specs.Inner.Register.{after_bytes}
 use Rattle.cd_sector.proofs.Steps.{after_bytes-next, after_bytes-end}

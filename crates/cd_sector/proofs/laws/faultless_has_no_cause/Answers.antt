@@ -1,3 +1,4 @@
+-- The proof of the law `faultless_has_no_cause` in src/laws.rt.
 use Rattle.cd_sector.proofs.OneSector.{no_cause}
 use Rattle.cd_sector.proofs.laws.faultless_has_no_cause.Goals as goal
 

@@ -1,3 +1,4 @@
+-- The proof of `count_changes` in src/repairing.rt.
 use Rattle.std.proofs.Common.{get_or, arith}
 use Rattle.cd_sector.proofs.Changes.{distance-next, distance-end, differ-counts, same-counts}
 use Rattle.cd_sector.proofs.repairing.count_changes.Goals.{then-old-at, else-old-at}

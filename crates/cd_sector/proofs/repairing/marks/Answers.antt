@@ -1,3 +1,4 @@
+-- The proof of `marks` in src/repairing.rt.
 use Rattle.std.proofs.Common.{refl, arith}
 use Rattle.cd_sector.proofs.Places.{word_size-q, place-q}
 use Rattle.cd_sector.proofs.NearWords.{marks_told, no_mark}

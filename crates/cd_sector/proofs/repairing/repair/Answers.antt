@@ -1,3 +1,4 @@
+-- The proof of `repair` in src/repairing.rt.
 use Rattle.std.proofs.Common.{◌≡◌, List, ℕ, ◌++◌, drop, subst}
 use Rattle.cd_sector.specs.Causes.{IsCause, IsFaultless}
 use Rattle.cd_sector.specs.Repair.{repaired}

@@ -1,3 +1,4 @@
+-- The proof of `repair_p_words` in src/repairing.rt.
 use Rattle.std.proofs.Common.{◌≡◌, ℕ, List, Bool, refl, get_or, set, false, sym, ap, ◌∙◌, arith, below_more}
 use Rattle.std.specs.Prelude.{replicate}
 use Rattle.std.specs.Option.{is_none}

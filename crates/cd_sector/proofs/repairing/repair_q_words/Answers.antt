@@ -1,3 +1,4 @@
+-- The proof of `repair_q_words` in src/repairing.rt.
 use Rattle.std.proofs.Common.{ℕ, List, Bool, sym, ap₂, ◌∙◌, arith}
 use Rattle.cd_sector.specs.Repair.{with_word, near_word}
 use Rattle.cd_sector.proofs.Places.{word_size-q}

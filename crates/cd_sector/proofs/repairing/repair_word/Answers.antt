@@ -1,3 +1,4 @@
+-- The proof of `repair_word` in src/repairing.rt.
 use Rattle.std.proofs.Common.{◌≡◌, ℕ, List, sym, ap, ◌∙◌, arith}
 use Rattle.std.specs.Option.{is_none}
 use Rattle.cd_sector.specs.Repair.{with_word}

@@ -1,3 +1,4 @@
+-- The proof of `write_word` in src/repairing.rt.
 use Rattle.std.proofs.Common.{ℕ, List, get_or, set, ap₂, ◌∙◌, arith}
 use Rattle.std.proofs.lemmas.List.{length-set}
 use Rattle.cd_sector.proofs.NearWords.{with_bytes-next, with_bytes-none}

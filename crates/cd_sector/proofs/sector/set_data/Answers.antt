@@ -1,3 +1,4 @@
+-- The proof of `set_data` in src/sector.rt.
 use Rattle.std.proofs.Common.{arith}
 use Rattle.cd_sector.proofs.Assembly.{data_written}
 use Rattle.cd_sector.proofs.sector.set_data.Goals as goal

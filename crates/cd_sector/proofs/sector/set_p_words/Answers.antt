@@ -1,3 +1,4 @@
+-- The proof of `set_p_words` in src/sector.rt.
 use Rattle.std.proofs.Common.{ℕ, ◌<◌, List, sym, ◌∙◌, arith, below_more}
 use Rattle.cd_sector.specs.Words.{place, IsRight}
 use Rattle.cd_sector.proofs.Places.{word_size-p, place-p, kept_right}

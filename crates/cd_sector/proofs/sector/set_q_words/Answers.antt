@@ -1,3 +1,4 @@
+-- The proof of `set_q_words` in src/sector.rt.
 use Rattle.std.proofs.Common.{ℕ, ◌<◌, ◌≤◌, List, sym, ◌∙◌, arith, below_more}
 use Rattle.cd_sector.specs.Words.{place, IsRight}
 use Rattle.cd_sector.proofs.Places.{word_size-q, place-own, kept_right}

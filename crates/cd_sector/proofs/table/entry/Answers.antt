@@ -1,3 +1,4 @@
+-- The proof of `entry` in src/table.rt.
 use Rattle.std.proofs.Common.{ap, List, ℕ, ◌∙◌, get_or, zero-add, arith}
 use Rattle.std.proofs.lemmas.List.FromFn.{get_or-map-range_with_len}
 use Rattle.cd_sector.specs.Inner.Register.{after_steps}

@@ -1,3 +1,4 @@
+-- The proof of `encode_word` in src/words.rt.
 use Rattle.std.proofs.Common.{arith}
 use Rattle.cd_sector.proofs.Encoding.{encoded_right}
 use Rattle.cd_sector.proofs.words.encode_word.Goals as goal

@@ -1,3 +1,4 @@
+-- The proof of `is_right` in src/words.rt.
 use Rattle.std.proofs.Common.{◌≡◌, ℕ, List, arith}
 use Rattle.cd_sector.specs.Words.{word_in}
 use Rattle.cd_sector.proofs.Places.{whole_word}

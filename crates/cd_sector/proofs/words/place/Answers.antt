@@ -1,3 +1,4 @@
+-- The proof of `place` in src/words.rt.
 use Rattle.std.proofs.Common.{sym, arith}
 use Rattle.cd_sector.proofs.Places.{word_size-p, word_size-q, place-p, place-q, place-own}
 use Rattle.cd_sector.proofs.words.place.Goals as goal

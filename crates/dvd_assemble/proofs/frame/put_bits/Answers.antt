@@ -1,3 +1,4 @@
+-- The proof of `put_bits` in src/frame.rt.
 use Rattle.std.proofs.Common.{◌≡◌, ◌⊎◌, ◌∙◌, ℕ, List, drop, replicate, inl, inr, length-drop, ap, arith}
 use Rattle.std.proofs.lemmas.List.{take_all}
 use Rattle.dvd_capture.specs.Captured.{marks_in}

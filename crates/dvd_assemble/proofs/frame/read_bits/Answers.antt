@@ -1,3 +1,4 @@
+-- The proof of `read_bits` in src/frame.rt.
 use Rattle.std.proofs.Common.{arith}
 use Rattle.dvd_capture.proofs.MarkLists.{all_marks}
 use Rattle.dvd_assemble.proofs.frame.read_bits.Goals as goal

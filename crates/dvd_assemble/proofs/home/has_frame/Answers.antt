@@ -1,3 +1,4 @@
+-- The proof of `has_frame` in src/home.rt.
 use Rattle.std.proofs.Common.{◌∙◌, ◌+◌, Bool, ap, sym}
 use Rattle.std.proofs.lemmas.Option.{get_or_from_slice_get}
 use Rattle.dvd_frame.specs.Id.{id_word, is_same_place}

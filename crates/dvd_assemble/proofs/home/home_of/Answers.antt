@@ -1,3 +1,4 @@
+-- The proof of `home_of` in src/home.rt.
 use Rattle.std.proofs.Common.{rules, ◌≡◌, ◌∙◌, ℕ, Option, ap, sym}
 use Rattle.std.specs.Option.{option_and_then, option_map}
 use Rattle.dvd_block.specs.Product.{line}

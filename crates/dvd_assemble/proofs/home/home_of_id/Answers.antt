@@ -1,3 +1,4 @@
+-- The proof of `home_of_id` in src/home.rt.
 use Rattle.std.proofs.Common.{◌∙◌, ℕ, ◌+◌, ◌%◌, ap, sym, arith}
 use Rattle.std.specs.Option.{option_map}
 use Rattle.dvd_assemble.specs.Home.{block_and_frame}

@@ -1,3 +1,4 @@
+-- The proof of `id_in` in src/home.rt.
 use Rattle.std.proofs.Common.{rules, ◌≡◌, ◌∙◌, ℕ, Some, None, sym, ap, arith, if◌then◌else◌, Bool}
 use Rattle.std.specs.Option.{option_and_then}
 use Rattle.rs_decode.specs.Nearest.{near_of}

@@ -1,3 +1,4 @@
+-- The proof of `record_rows` in src/block.rt.
 use Rattle.std.proofs.Common.{◌≡◌, ℕ, ◌+◌, ◌-◌, ◌*◌, List, ◌++◌, length, sym, ◌∙◌, ap, arith}
 use Rattle.std.proofs.lemmas.Slice.{take-put_mid}
 use Rattle.dvd_block.specs.Product.{line}

@@ -1,3 +1,4 @@
+-- The proof of `column_parity` in src/parity.rt.
 use Rattle.std.proofs.Common.{◌≡◌, ℕ, ◌++◌, List, length, take, drop, subst, ap, sym, ◌∙◌, arith}
 use Rattle.std.proofs.lemmas.List.{length-drop, take_all}
 use Rattle.gf_field.specs.Words.{IsCodeword}

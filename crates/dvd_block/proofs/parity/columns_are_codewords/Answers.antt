@@ -1,3 +1,4 @@
+-- The proof of `columns_are_codewords` in src/parity.rt.
 use Rattle.std.proofs.Common.{◌≡◌, ℕ, List, sym, ◌∙◌, subst, arith, below_more}
 use Rattle.std.proofs.lemmas.Bool.{false≢true}
 use Rattle.gf_field.specs.Words.{IsCodeword}

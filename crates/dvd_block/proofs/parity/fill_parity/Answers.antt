@@ -1,3 +1,4 @@
+-- The proof of `fill_parity` in src/parity.rt.
 use Rattle.std.proofs.Common.{◌≡◌, ℕ, ◌<◌, List, [], ◌++◌, take, sym, ap, ◌∙◌, subst, arith}
 use Rattle.std.proofs.lemmas.List.{get_or_append_left}
 use Rattle.gf_field.specs.Words.{IsEncoded}

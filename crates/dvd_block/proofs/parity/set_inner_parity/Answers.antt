@@ -1,3 +1,4 @@
+-- The proof of `set_inner_parity` in src/parity.rt.
 use Rattle.std.proofs.Common.{ℕ, ◌+◌, ◌*◌, List, take, subst, sym, ◌∙◌, arith}
 use Rattle.gf_field.specs.Words.{IsEncoded}
 use Rattle.rs_lanes.proofs.ColumnLemmas.{group_more}

@@ -1,3 +1,4 @@
+-- The proof of `fetch_parts` in src/capture.rt.
 use Rattle.dvd_capture.proofs.capture.fetch_parts.Goals as goal
 
 pub returns-in-Listed : goal.returns-in-Listed

@@ -1,3 +1,4 @@
+-- The proof of `fetch_rows` in src/capture.rt.
 use Rattle.std.proofs.Common.{rules, ◌≡◌, ◌≤◌, ◌∙◌, length, sym, subst, arith}
 use Rattle.std.proofs.lemmas.List.{length-take-le}
 use Rattle.dvd_capture.proofs.Fetching.{all_fetched, sized-most}

@@ -1,3 +1,4 @@
+-- The proof of `put_marks` in src/capture.rt.
 use Rattle.std.proofs.Common.{◌∙◌, ℕ, List, drop, set, length-drop, ap, arith}
 use Rattle.std.proofs.lemmas.List.{take_all}
 use Rattle.dvd_capture.specs.MarkBits.{marks_of}

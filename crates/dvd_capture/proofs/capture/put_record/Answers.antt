@@ -1,3 +1,4 @@
+-- The proof of `put_record` in src/capture.rt.
 use Rattle.std.proofs.Common.{sym}
 use Rattle.dvd_capture.proofs.Fetching.{record_begins}
 use Rattle.dvd_capture.proofs.capture.put_record.Goals as goal

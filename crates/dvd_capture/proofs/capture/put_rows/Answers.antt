@@ -1,3 +1,4 @@
+-- The proof of `put_rows` in src/capture.rt.
 use Rattle.std.proofs.Common.{◌≡◌, subst, arith}
 use Rattle.dvd_capture.specs.Parts.{marks_rows, received_rows}
 use Rattle.dvd_capture.specs.Inner.Putting.{ArePut}

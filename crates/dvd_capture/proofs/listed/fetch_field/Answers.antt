@@ -1,3 +1,4 @@
+-- The proof of `fetch_field` in src/listed.rt.
 use Rattle.std.proofs.Common.{rules, ◌∙◌, ◌≡◌, length, List, ℕ, sym, subst, arith}
 use Rattle.std.specs.Io.KnownBytes.{Consumes}
 use Rattle.std.proofs.lemmas.List.{take_all}

@@ -1,3 +1,4 @@
+-- The proof of `fetch_listed` in src/listed.rt.
 use Rattle.std.proofs.Common.{◌≡◌, ◌∙◌, sym, arith}
 use Rattle.dvd_capture.specs.Parts.{marks_rows}
 use Rattle.dvd_capture.specs.declared.capture.FetchAnswer.TheVariants.{Full, ReadFault}

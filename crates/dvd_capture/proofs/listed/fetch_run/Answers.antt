@@ -1,3 +1,4 @@
+-- The proof of `fetch_run` in src/listed.rt.
 use Rattle.std.proofs.Common.{◌≡◌, ◌⊎◌, ◌∙◌, ◌+◌, ◌*◌, ◌<◌, ◌≤◌, ◌&&◌, ◌||◌, nat_le, nat_lt, sym, ap, subst, arith}
 use Rattle.dvd_capture.specs.Listed.{field_at, mark_of}
 use Rattle.dvd_capture.specs.Inner.Listing.{IsStopped, TakesRuns}

@@ -1,3 +1,4 @@
+-- The proof of `fetch_runs` in src/listed.rt.
 use Rattle.std.proofs.Common.{◌∙◌, ◌+◌, ◌++◌}
 use Rattle.dvd_capture.specs.Listed.{mark_of}
 use Rattle.dvd_capture.specs.Inner.Listing.{IsStopped}

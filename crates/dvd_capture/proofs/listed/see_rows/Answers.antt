@@ -1,3 +1,4 @@
+-- The proof of `see_rows` in src/listed.rt.
 use Rattle.std.proofs.Common.{rules, ◌≡◌, ◌∙◌, ◌⊎◌, ◌<◌, ◌≤◌, suc, nat_le, true, false, inl, inr, ℕ, List, length, sym, ap, arith}
 use Rattle.std.proofs.lemmas.Bool.Decides.{leb_tells}
 use Rattle.dvd_block.specs.Product.{line}

@@ -1,3 +1,4 @@
+-- The proof of `write_listed` in src/listed.rt.
 use Rattle.std.proofs.Common.{Result, Ok, Err, subst}
 use Rattle.std.specs.Result.{OnErr, OnOk}
 use Rattle.std.specs.Io.KnownBytes.{Appends}

@@ -1,3 +1,4 @@
+-- The proof of `write_runs` in src/listed.rt.
 use Rattle.std.proofs.Common.{◌∙◌, arith}
 use Rattle.dvd_block.proofs.Recorded.{on_err}
 use Rattle.dvd_capture.specs.Listed.{mark_of}

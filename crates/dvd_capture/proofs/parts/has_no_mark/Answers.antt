@@ -1,3 +1,4 @@
+-- The proof of `has_no_mark` in src/parts.rt.
 use Rattle.std.proofs.Common.{◌≡◌, ◌∙◌, ℕ, true, false, List, replicate, take, nat_eq, sym, arith}
 use Rattle.std.proofs.lemmas.Bool.Decides.{nat_tests}
 use Rattle.std.specs.Cmp.Lexicographic.{bytes_decides, pointwise, same_text}

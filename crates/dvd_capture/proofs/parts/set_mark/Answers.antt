@@ -1,3 +1,4 @@
+-- The proof of `set_mark` in src/parts.rt.
 use Rattle.dvd_capture.proofs.MarkLists.{set-marks}
 use Rattle.dvd_capture.proofs.parts.set_mark.Goals as goal
 

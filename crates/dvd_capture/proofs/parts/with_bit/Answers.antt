@@ -1,3 +1,4 @@
+-- The proof of `with_bit` in src/parts.rt.
 use Rattle.std.proofs.Common.{◌∙◌, ◌==◌, sym, ap, w8}
 use Rattle.std.proofs.lemmas.Nat.Bits.{bit_at_set_same, bit_at_set_other, bit_at_clear_same, bit_at_clear_other}
 use Rattle.dvd_capture.proofs.parts.with_bit.Goals as goal

@@ -1,3 +1,4 @@
+-- The proof of `count_runs` in src/places.rt.
 use Rattle.std.proofs.Common.{◌≡◌, ◌∙◌, if◌then◌else◌, Bool, ap, sym, arith}
 use Rattle.dvd_capture.specs.Listed.{mark_of}
 use Rattle.dvd_capture.specs.Parts.{marks_rows}

@@ -1,3 +1,4 @@
+-- The proof of `mark_places` in src/places.rt.
 use Rattle.std.proofs.Common.{◌∙◌, ap}
 use Rattle.dvd_capture.specs.Listed.{mark_of}
 use Rattle.dvd_capture.specs.Parts.{marks_rows}

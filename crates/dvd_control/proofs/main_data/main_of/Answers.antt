@@ -1,3 +1,4 @@
+-- The proof of `main_of` in src/main_data.rt.
 use Rattle.std.proofs.Common.{◌∙◌, ap}
 use Rattle.dvd_control.specs.Format.{format_bytes}
 use Rattle.dvd_control.proofs.LeadIns.{control-has_lead_in, control_first, control_behind, reference_bytes, zero_bytes}

@@ -1,3 +1,4 @@
+-- The proof of `answer_column` in src/rounds.rt.
 use Rattle.std.proofs.Common.{◌≡◌, ◌∙◌, ℕ, List, false, length, is_some, sym, ap}
 use Rattle.std.specs.Option.{option_or}
 use Rattle.rs_decode.specs.Nearest.{near_of}

@@ -1,3 +1,4 @@
+-- The proof of `answer_columns` in src/rounds.rt.
 use Rattle.std.proofs.Common.{◌≡◌, ◌∙◌, ℕ, List, Bool, length, is_some, ◌&&◌, sym, ap, subst, arith}
 use Rattle.std.specs.List.{list_all, range_with_len}
 use Rattle.dvd_capture.specs.Parts.{marks_rows, received_rows}

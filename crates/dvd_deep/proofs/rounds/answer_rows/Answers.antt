@@ -1,3 +1,4 @@
+-- The proof of `answer_rows` in src/rounds.rt.
 use Rattle.std.proofs.Common.{◌≡◌, subst, arith}
 use Rattle.dvd_capture.specs.Parts.{marks_rows, received_rows}
 use Rattle.dvd_capture.proofs.WorkParts.{marks-height, rows-height}

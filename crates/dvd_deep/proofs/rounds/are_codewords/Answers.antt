@@ -1,3 +1,4 @@
+-- The proof of `are_codewords` in src/rounds.rt.
 use Rattle.std.proofs.Common.{◌≡◌, ℕ, List, [], true, length, sym, subst, arith}
 use Rattle.std.proofs.lemmas.List.Sums.{list_all-from_AllPass}
 use Rattle.std.proofs.lemmas.List.{get_or_default}

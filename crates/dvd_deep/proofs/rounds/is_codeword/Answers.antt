@@ -1,3 +1,4 @@
+-- The proof of `is_codeword` in src/rounds.rt.
 use Rattle.std.proofs.lemmas.List.Elements.{All-from_get_or}
 use Rattle.gf_field.specs.Words.{IsByte}
 use Rattle.dvd_read.proofs.ColumnAnswers.{codeword_tested}

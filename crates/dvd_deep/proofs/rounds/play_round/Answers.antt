@@ -1,3 +1,4 @@
+-- The proof of `play_round` in src/rounds.rt.
 use Rattle.std.proofs.Common.{◌∙◌, ◌&&◌, sym, ap}
 use Rattle.std.specs.List.{list_all}
 use Rattle.rs_decode.specs.Nearest.{vanishes_at_all}

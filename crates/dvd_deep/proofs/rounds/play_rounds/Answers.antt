@@ -1,3 +1,4 @@
+-- The proof of `play_rounds` in src/rounds.rt.
 use Rattle.std.proofs.Common.{◌≡◌, ◌∙◌, ◌+◌, ◌-◌, ℕ, sym, ap, subst, arith}
 use Rattle.dvd_deep.specs.Inner.Buffers.{state_of}
 use Rattle.dvd_deep.specs.Rounds.{after, finishes, round}

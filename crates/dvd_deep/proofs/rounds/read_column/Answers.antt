@@ -1,3 +1,4 @@
+-- The proof of `read_column` in src/rounds.rt.
 use Rattle.std.proofs.Common.{◌≡◌, ◌∙◌, ◌<◌, ℕ, List, length, sym, arith}
 use Rattle.std.proofs.lemmas.Grind.{same_number_lists}
 use Rattle.dvd_block.specs.Product.{column}

@@ -1,3 +1,4 @@
+-- The proof of `read_marks` in src/rounds.rt.
 use Rattle.std.proofs.Common.{arith}
 use Rattle.dvd_capture.specs.Parts.{marks_rows}
 use Rattle.dvd_deep.proofs.ColumnStep.{marks-read}

@@ -1,3 +1,4 @@
+-- The proof of `read_frames` in src/sectors.rt.
 use Rattle.std.proofs.Common.{◌≡◌, ◌∙◌, ◌*◌, ◌-◌, ℕ, length, get_or, take, sym, ap, arith}
 use Rattle.dvd_capture.specs.Parts.{received_rows}
 use Rattle.dvd_read.proofs.FrameFaults.{fault-first, fault-none, fault-passed}

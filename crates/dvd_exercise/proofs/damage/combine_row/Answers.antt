@@ -1,3 +1,4 @@
+-- The proof of `combine_row` in src/damage.rt.
 use Rattle.std.proofs.Common.{◌≡◌, ◌∙◌, ℕ, ◌/◌, ◌^◌, ◌<◌, slice_index, bit_xor, refl, sym, ap, arith}
 use Rattle.dvd_block.specs.Product.{line, place}
 use Rattle.dvd_capture.specs.Works.{rows_of}

@@ -1,3 +1,4 @@
+-- The proof of `combine_rows` in src/damage.rt.
 use Rattle.std.proofs.Common.{◌≡◌, ◌∙◌, ℕ, ◌+◌, ◌*◌, [], refl, sym, ap, arith}
 use Rattle.dvd_block.specs.Product.{line}
 use Rattle.dvd_capture.specs.Works.{rows_of}

@@ -1,3 +1,4 @@
+-- The proof of `hurt` in src/damage.rt.
 use Rattle.std.proofs.Common.{◌∙◌, sym, arith}
 use Rattle.dvd_capture.specs.Works.{marks_of_work, rows_of}
 use Rattle.dvd_capture.proofs.WorkParts.{rows-height}

@@ -1,3 +1,4 @@
+-- The proof of `hurt_others` in src/damage.rt.
 use Rattle.std.proofs.Common.{◌≡◌, ◌∙◌, ℕ, ◌+◌, true, false, refl, sym, ap, subst}
 use Rattle.dvd_block.specs.Product.{line}
 use Rattle.dvd_capture.specs.Works.{marks_of_work, rows_of}

@@ -1,3 +1,4 @@
+-- The proof of `lose_row` in src/damage.rt.
 use Rattle.std.proofs.Common.{◌≡◌, ◌∙◌, ℕ, true, false, replicate, refl, sym, arith}
 use Rattle.std.proofs.lemmas.List.{get_or-replicate, length-replicate}
 use Rattle.dvd_capture.specs.Works.{marks_of_work, rows_of}

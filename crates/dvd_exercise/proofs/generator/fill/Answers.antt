@@ -1,3 +1,4 @@
+-- The proof of `fill` in src/generator.rt.
 use Rattle.std.proofs.Common.{◌≡◌, ◌∙◌, ℕ, ◌/◌, ◌^◌, length, get_or-set_other, get_or-set_same, sym, ap, arith, below_more}
 use Rattle.std.proofs.lemmas.List.{ext_get_or}
 use Rattle.dvd_exercise.specs.Generator.{bytes_from, state_of, step}

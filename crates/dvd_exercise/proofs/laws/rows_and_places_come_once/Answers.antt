@@ -1,3 +1,4 @@
+-- The proof of the law `rows_and_places_come_once` in src/laws.rt.
 use Rattle.std.proofs.Common.{◌%◌, arith}
 use Rattle.dvd_exercise.specs.Generator.{state_after}
 use Rattle.dvd_exercise.proofs.Rows.{place-new, row_of-new}

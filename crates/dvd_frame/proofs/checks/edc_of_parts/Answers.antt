@@ -1,3 +1,4 @@
+-- The proof of `edc_of_parts` in src/checks.rt.
 use Rattle.std.proofs.Common.{◌++◌, ◌∙◌, arith}
 use Rattle.dvd_frame.proofs.Division.{edc_read}
 use Rattle.dvd_frame.proofs.checks.edc_of_parts.Goals as goal

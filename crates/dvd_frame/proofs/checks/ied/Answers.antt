@@ -1,3 +1,4 @@
+-- The proof of `ied` in src/checks.rt.
 use Rattle.std.proofs.Common.{◌≡◌, ℕ, List, [], ◌∷◌, get_or, take, ◌∙◌, ap, subst, arith}
 use Rattle.gf_field.specs.Words.{IsCodeword}
 use Rattle.dvd_frame.specs.Id.{word_bytes}

@@ -1,3 +1,4 @@
+-- The proof of `with_byte` in src/checks.rt.
 use Rattle.std.proofs.Common.{ℕ, ◌*◌, ◌%◌, ◌^◌, ap, ◌∙◌}
 use Rattle.std.specs.Prelude.{bit_xor}
 use Rattle.dvd_frame.specs.Inner.Registers.{divided_from}

@@ -1,3 +1,4 @@
+-- The proof of `with_bytes` in src/checks.rt.
 use Rattle.std.proofs.Common.{List, ℕ, ◌/◌, ◌++◌, length, ap, sym, ◌∙◌}
 use Rattle.std.specs.List.{concat}
 use Rattle.std.specs.Simd.{first_chunks}

@@ -1,3 +1,4 @@
+-- The proof of `with_word` in src/checks.rt.
 use Rattle.std.proofs.Common.{List, ℕ, ◌++◌, ap, ◌∙◌, arith}
 use Rattle.std.specs.Prelude.{replicate}
 use Rattle.dvd_frame.specs.Bits.{bits_of}

@@ -1,3 +1,4 @@
+-- The proof of `fold` in src/folds.rt.
 use Rattle.std.proofs.Common.{◌≡◌, ℕ, ◌+◌, ◌*◌, List, ◌++◌, drop, sym, ap, ◌∙◌, arith}
 use Rattle.std.specs.Prelude.{replicate}
 use Rattle.dvd_frame.specs.Edc.{plus_front}

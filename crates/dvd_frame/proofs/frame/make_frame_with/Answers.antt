@@ -1,3 +1,4 @@
+-- The proof of `make_frame_with` in src/frame.rt.
 use Rattle.std.proofs.Common.{◌≡◌, ℕ, ◌+◌, ◌++◌, List, length, take, ap, sym, ◌∙◌, arith}
 use Rattle.dvd_frame.specs.Id.{word_bytes}
 use Rattle.dvd_frame.proofs.FrameParts.{frame_written}

@@ -1,3 +1,4 @@
+-- The proof of the law `message_and_edc_leave_zero` in src/laws.rt.
 use Rattle.dvd_frame.proofs.Multiples.{edc_leaves_zero}
 use Rattle.dvd_frame.proofs.laws.message_and_edc_leave_zero.Goals as goal
 

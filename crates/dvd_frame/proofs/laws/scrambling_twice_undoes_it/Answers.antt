@@ -1,3 +1,4 @@
+-- The proof of the law `scrambling_twice_undoes_it` in src/laws.rt.
 use Rattle.dvd_frame.proofs.Masking.{masked_twice}
 use Rattle.dvd_frame.proofs.laws.scrambling_twice_undoes_it.Goals as goal
 

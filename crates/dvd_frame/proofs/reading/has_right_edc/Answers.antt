@@ -1,3 +1,4 @@
+-- The proof of `has_right_edc` in src/reading.rt.
 use Rattle.std.proofs.Common.{◌≡◌, ◌∙◌, ℕ, List, ap, take, drop, arith}
 use Rattle.std.proofs.lemmas.List.{take_all, length-drop}
 use Rattle.std.specs.Str.{bytes_eq}

@@ -1,3 +1,4 @@
+-- The proof of `has_right_ied` in src/reading.rt.
 use Rattle.std.proofs.Common.{◌∙◌, sym, ap, subst, All, arith}
 use Rattle.std.proofs.lemmas.List.Elements.{All-from_get_or, All-take}
 use Rattle.gf_field.specs.Words.{IsByte}

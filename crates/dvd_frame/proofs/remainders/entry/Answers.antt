@@ -1,3 +1,4 @@
+-- The proof of `entry` in src/remainders.rt.
 use Rattle.std.proofs.Common.{ap, List, ℕ, ◌∙◌, get_or, zero-add, arith}
 use Rattle.std.proofs.lemmas.List.FromFn.{get_or-map-range_with_len}
 use Rattle.dvd_frame.specs.Inner.Registers.{byte_remainder}

@@ -1,3 +1,4 @@
+-- The proof of `remainder_of` in src/remainders.rt.
 use Rattle.std.proofs.Common.{refl, map}
 use Rattle.std.specs.List.{range_with_len}
 use Rattle.dvd_frame.specs.Bits.{bits}

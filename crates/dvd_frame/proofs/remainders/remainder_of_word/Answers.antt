@@ -1,3 +1,4 @@
+-- The proof of `remainder_of_word` in src/remainders.rt.
 use Rattle.std.proofs.Common.{refl, map, arith}
 use Rattle.std.specs.List.{range_with_len}
 use Rattle.std.proofs.lemmas.Slice.Eq.{bytes_eq-Decides}

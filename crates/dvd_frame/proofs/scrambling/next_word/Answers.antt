@@ -1,3 +1,4 @@
+-- The proof of `next_word` in src/scrambling.rt.
 use Rattle.std.proofs.Common.{arith}
 use Rattle.dvd_frame.proofs.KeyWords.{keys_joined}
 use Rattle.dvd_frame.proofs.scrambling.next_word.Goals as goal

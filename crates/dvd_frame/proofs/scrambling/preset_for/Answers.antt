@@ -1,3 +1,4 @@
+-- The proof of `preset_for` in src/scrambling.rt.
 use Rattle.std.proofs.Common.{ℕ, ◌/◌, ap, ◌∙◌}
 use Rattle.std.specs.Prelude.{bit_and, slice_index}
 use Rattle.std.proofs.lemmas.Nat.{and_mask}

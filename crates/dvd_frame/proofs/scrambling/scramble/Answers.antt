@@ -1,3 +1,4 @@
+-- The proof of `scramble` in src/scrambling.rt.
 use Rattle.std.proofs.Common.{ap, ◌∙◌}
 use Rattle.dvd_frame.specs.Scrambling.{masked}
 use Rattle.dvd_frame.proofs.Masking.{masked_twice}

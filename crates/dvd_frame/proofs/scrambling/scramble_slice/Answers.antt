@@ -1,3 +1,4 @@
+-- The proof of `scramble_slice` in src/scrambling.rt.
 use Rattle.std.proofs.Common.{◌≡◌, ℕ, List, length, take, get_or, ap, ◌∙◌, arith}
 use Rattle.std.specs.Prelude.{bit_xor}
 use Rattle.std.proofs.lemmas.List.{length-take-le}

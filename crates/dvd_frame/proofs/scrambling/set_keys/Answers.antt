@@ -1,3 +1,4 @@
+-- The proof of `set_keys` in src/scrambling.rt.
 use Rattle.std.proofs.Common.{◌≡◌, ℕ, ◌+◌, ◌*◌, take, sym, ◌∙◌, ap, arith}
 use Rattle.dvd_frame.specs.Inner.Registers.{keys_from}
 use Rattle.dvd_frame.proofs.KeyWords.{keys_whole}

@@ -1,3 +1,4 @@
+-- The proof of `word_behind` in src/scrambling.rt.
 use Rattle.std.proofs.Common.{◌≡◌, ℕ, ◌+◌, ◌*◌, ◌/◌, ◌%◌, ◌^◌, ap, arith}
 use Rattle.dvd_frame.proofs.KeyWords.{word_follows}
 use Rattle.dvd_frame.proofs.scrambling.word_behind.Goals as goal

@@ -1,3 +1,4 @@
+-- The proof of the law `image_is_whole` in src/laws.rt.
 use Rattle.dvd_layout.proofs.InOrder.{plan_of-whole}
 use Rattle.dvd_layout.proofs.laws.image_is_whole.Goals as goal
 

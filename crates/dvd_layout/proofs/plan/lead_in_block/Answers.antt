@@ -1,3 +1,4 @@
+-- The proof of `lead_in_block` in src/plan.rt.
 use Rattle.std.proofs.Common.{◌≡◌, ◌∙◌, ◌++◌, ◌<◌, List, length, Some, slice_get, ap, subst, sym, arith}
 use Rattle.std.specs.List.{flat_map}
 use Rattle.dvd_layout.specs.Plan.{entries_of, lead_in, lead_in_blocks}

@@ -1,3 +1,4 @@
+-- The proof of `block_at` in src/zone.rt.
 use Rattle.dvd_layout.proofs.Blocks.{block-at, zone-passed}
 use Rattle.dvd_layout.proofs.zone.block_at.Goals as goal
 

@@ -1,3 +1,4 @@
+-- The proof of `count_blocks` in src/zone.rt.
 use Rattle.dvd_layout.proofs.Blocks.{zone-counted, zone-few}
 use Rattle.dvd_layout.proofs.zone.count_blocks.Goals as goal
 

@@ -1,3 +1,4 @@
+-- The proof of the law `an_outcome_exists` in src/laws.rt.
 use Rattle.dvd_loop.proofs.Totality.{exists}
 use Rattle.dvd_loop.proofs.laws.an_outcome_exists.Goals as goal
 

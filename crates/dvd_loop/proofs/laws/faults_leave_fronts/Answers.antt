@@ -1,3 +1,4 @@
+-- The proof of the law `faults_leave_fronts` in src/laws.rt.
 use Rattle.dvd_loop.proofs.Faults.{leave_fronts}
 use Rattle.dvd_loop.proofs.laws.faults_leave_fronts.Goals as goal
 

@@ -1,3 +1,4 @@
+-- The proof of the law `outcomes_agree` in src/laws.rt.
 use Rattle.dvd_loop.proofs.Determinacy.{agrees}
 use Rattle.dvd_loop.proofs.laws.outcomes_agree.Goals as goal
 

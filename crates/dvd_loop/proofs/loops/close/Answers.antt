@@ -1,3 +1,4 @@
+-- The proof of `close` in src/loops.rt.
 use Rattle.std.proofs.Common.{refl, sym, subst}
 use Rattle.std.specs.Io.KnownBytes.{Appends}
 use Rattle.dvd_ports.specs.Whole.{AppendsPrefix}

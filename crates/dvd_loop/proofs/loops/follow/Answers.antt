@@ -1,3 +1,4 @@
+-- The proof of `follow` in src/loops.rt.
 use Rattle.std.proofs.Common.{◌≡◌, ◌≤◌, ◌+◌, ◌∙◌, List, [], ◌∷◌, ◌++◌, ℕ, refl, ap, sym, subst, Result, Err, Ok, arith}
 use Rattle.dvd_loop.specs.Machine.{EndsBehind, Step, Units, bad_of}
 use Rattle.dvd_loop.specs.Streams.{Comes, Streams, streams}

@@ -1,3 +1,4 @@
+-- The proof of `seek_end` in src/loops.rt.
 use Rattle.std.proofs.Common.{◌≡◌, zero, suc, ℕ, take, refl, ap, sym, subst, ◌≢◌, arith}
 use Rattle.dvd_loop.specs.Machine.{EndsBehind, end_by, ended}
 use Rattle.dvd_loop.specs.Streams.{Comes, streams}

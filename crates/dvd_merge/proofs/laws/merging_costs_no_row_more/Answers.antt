@@ -1,3 +1,4 @@
+-- The proof of the law `merging_costs_no_row_more` in src/laws.rt.
 use Rattle.dvd_merge.proofs.Costs.{cost_bound}
 use Rattle.dvd_merge.proofs.laws.merging_costs_no_row_more.Goals as goal
 

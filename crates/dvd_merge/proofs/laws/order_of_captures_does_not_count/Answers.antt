@@ -1,3 +1,4 @@
+-- The proof of the law `order_of_captures_does_not_count` in src/laws.rt.
 use Rattle.dvd_merge.specs.Join.{join_tables, joined, unseen}
 use Rattle.dvd_merge.proofs.Lattice.{same_members}
 use Rattle.dvd_merge.proofs.Places.{tables-assoc, tables-comm, tables-idem}

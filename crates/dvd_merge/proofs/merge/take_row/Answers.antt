@@ -1,3 +1,4 @@
+-- The proof of `take_row` in src/merge.rt.
 use Rattle.std.proofs.Common.{arith}
 use Rattle.dvd_merge.proofs.Records.{row_taken}
 use Rattle.dvd_merge.proofs.merge.take_row.Goals as goal

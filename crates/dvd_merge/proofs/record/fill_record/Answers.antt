@@ -1,3 +1,4 @@
+-- The proof of `fill_record` in src/record.rt.
 use Rattle.std.proofs.Common.{◌∙◌, ℕ, ◌*◌, Bool, List, ◌++◌, map, take, drop, ap}
 use Rattle.std.specs.List.{range_with_len}
 use Rattle.dvd_merge.specs.Join.{byte_of}

@@ -1,3 +1,4 @@
+-- The proof of `fill_text` in src/record.rt.
 use Rattle.std.proofs.Common.{◌≡◌, ℕ, ◌+◌, ◌-◌, ◌*◌, List, ◌++◌, length, map, sym, ◌∙◌, ap, arith}
 use Rattle.std.proofs.lemmas.Slice.{take-put_mid}
 use Rattle.dvd_block.specs.Product.{line}

@@ -1,3 +1,4 @@
+-- The proof of `number` in src/record.rt.
 use Rattle.std.proofs.Common.{sym, arith}
 use Rattle.std.proofs.lemmas.Grind.{pow_more}
 use Rattle.dvd_merge.proofs.Records.{first_number-more, first_number-none}

@@ -1,3 +1,4 @@
+-- The proof of `pack` in src/record.rt.
 use Rattle.std.proofs.Common.{arith}
 use Rattle.dvd_capture.proofs.Mapped.{mapped}
 use Rattle.dvd_merge.proofs.record.pack.Goals as goal

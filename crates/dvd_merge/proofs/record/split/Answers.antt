@@ -1,3 +1,4 @@
+-- The proof of `split` in src/record.rt.
 use Rattle.std.proofs.Common.{◌∙◌, length-set, arith}
 use Rattle.std.proofs.lemmas.List.{drop-set-lt}
 use Rattle.dvd_merge.specs.Join.{byte_of, mark_of}

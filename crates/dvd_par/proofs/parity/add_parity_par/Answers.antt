@@ -1,3 +1,4 @@
+-- The proof of `add_parity_par` in src/parity.rt.
 use Rattle.std.proofs.Common.{ℕ, List, arith}
 use Rattle.dvd_block.specs.Buffers.{lines_rows, cells_all, block_rows}
 use Rattle.dvd_block.proofs.Filling.{IsFilled, message_kept, is_product}

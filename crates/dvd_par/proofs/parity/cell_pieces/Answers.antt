@@ -1,3 +1,4 @@
+-- The proof of `cell_pieces` in src/parity.rt.
 use Rattle.std.proofs.Common.{◌+◌, ◌<◌, ◌++◌, ℕ, List, [], length, take, subst, arith}
 use Rattle.gf_field.specs.Words.{IsCodeword}
 use Rattle.dvd_block.specs.Buffers.{lines_rows}

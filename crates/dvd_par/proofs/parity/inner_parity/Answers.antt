@@ -1,3 +1,4 @@
+-- The proof of `inner_parity` in src/parity.rt.
 use Rattle.std.proofs.Common.{◌≡◌, ℕ, List, [], ◌++◌, length, take, sym, ◌∙◌, ap, subst, arith}
 use Rattle.std.proofs.lemmas.List.{get_or_append_left, length-append}
 use Rattle.gf_field.specs.Words.{IsEncoded}

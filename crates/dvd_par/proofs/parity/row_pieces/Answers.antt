@@ -1,3 +1,4 @@
+-- The proof of `row_pieces` in src/parity.rt.
 use Rattle.std.proofs.Common.{◌<◌, ℕ, List, [], length, take, subst, arith}
 use Rattle.gf_field.specs.Words.{IsEncoded}
 use Rattle.dvd_block.specs.Product.{line}

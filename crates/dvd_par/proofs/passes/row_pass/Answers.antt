@@ -1,3 +1,4 @@
+-- The proof of `row_pass` in src/passes.rt.
 use Rattle.std.proofs.Common.{◌+◌, ◌<◌, ℕ, length, get_or, subst, arith}
 use Rattle.dvd_block.specs.Product.{line}
 use Rattle.dvd_capture.specs.Answers.{IsAnswer, marks_line}

@@ -1,3 +1,4 @@
+-- The proof of `answer_column` in src/columns.rt.
 use Rattle.std.proofs.Common.{sym, arith}
 use Rattle.dvd_read.proofs.MarkedColumns.{own-marked}
 use Rattle.dvd_read.proofs.columns.answer_column.Goals as goal

@@ -1,3 +1,4 @@
+-- The proof of `answer_columns` in src/columns.rt.
 use Rattle.std.proofs.Common.{◌∙◌, ◌+◌, ◌<◌, Bool, List, sym, subst, arith, map, get_or}
 use Rattle.rs_decode.specs.Filling.{marked}
 use Rattle.dvd_capture.specs.TwoPass.{failed_of}

@@ -1,3 +1,4 @@
+-- The proof of `answer_group` in src/columns.rt.
 use Rattle.std.proofs.Common.{◌≡◌, ◌∙◌, ◌+◌, ◌-◌, ◌<◌, ℕ, List, All, sym, subst, arith, get_or, ap}
 use Rattle.std.proofs.lemmas.Grind.{get_or_default_zero}
 use Rattle.gf_field.specs.Field.{alpha, power}

@@ -1,3 +1,4 @@
+-- The proof of `copy_rows` in src/columns.rt.
 use Rattle.std.proofs.Common.{◌≡◌, ℕ, ◌+◌, ◌-◌, [], get_or, ap, ◌∙◌, arith}
 use Rattle.rs_lanes.proofs.ColumnLemmas.{group_more}
 use Rattle.dvd_read.specs.Parts.{bytes_of}

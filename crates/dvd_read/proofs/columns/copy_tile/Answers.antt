@@ -1,3 +1,4 @@
+-- The proof of `copy_tile` in src/columns.rt.
 use Rattle.std.proofs.Common.{◌+◌, get_or, arith}
 use Rattle.dvd_read.proofs.Standing.{column-copied}
 use Rattle.dvd_read.proofs.columns.copy_tile.Goals as goal

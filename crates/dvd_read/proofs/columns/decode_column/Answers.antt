@@ -1,3 +1,4 @@
+-- The proof of `decode_column` in src/columns.rt.
 use Rattle.std.proofs.Common.{◌∙◌, sym, ap, length, arith}
 use Rattle.rs_decode.proofs.Nearest.{near_of-some, none-near_of}
 use Rattle.dvd_read.proofs.columns.decode_column.Goals as goal

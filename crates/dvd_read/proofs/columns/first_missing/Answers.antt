@@ -1,3 +1,4 @@
+-- The proof of `first_missing` in src/columns.rt.
 use Rattle.std.proofs.Common.{sym, arith}
 use Rattle.dvd_read.proofs.ColumnAnswers.{missing_first, missing_none}
 use Rattle.dvd_read.proofs.columns.first_missing.Goals as goal

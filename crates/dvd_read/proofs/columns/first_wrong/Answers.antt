@@ -1,3 +1,4 @@
+-- The proof of `first_wrong` in src/columns.rt.
 use Rattle.std.proofs.Common.{◌≡◌, ◌-◌, true, sym, arith}
 use Rattle.rs_decode.specs.Nearest.{vanishes_at_all}
 use Rattle.dvd_block.specs.Product.{line}

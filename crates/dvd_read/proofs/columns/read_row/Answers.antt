@@ -1,3 +1,4 @@
+-- The proof of `read_row` in src/columns.rt.
 use Rattle.std.proofs.Common.{arith}
 use Rattle.dvd_read.proofs.ColumnAnswers.{row_read}
 use Rattle.dvd_read.proofs.columns.read_row.Goals as goal

@@ -1,3 +1,4 @@
+-- The proof of `turned_rows` in src/columns.rt.
 use Rattle.std.proofs.Common.{◌+◌, ◌∙◌, arith}
 use Rattle.rs_lanes.proofs.ColumnLemmas.{get_or-column, length-column}
 use Rattle.dvd_block.specs.Product.{column}

@@ -1,3 +1,4 @@
+-- The proof of `copy_frame` in src/frames.rt.
 use Rattle.std.proofs.Common.{◌≡◌, ◌∙◌, ◌*◌, ℕ, take, refl, sym, ap, arith}
 use Rattle.dvd_capture.specs.TwoPass.{from_columns}
 use Rattle.dvd_read.specs.Inner.Found.{words_of}

@@ -1,3 +1,4 @@
+-- The proof of `copy_received` in src/frames.rt.
 use Rattle.std.proofs.Common.{◌≡◌, ◌∙◌, ◌*◌, ℕ, List, take, refl, sym, ap, arith}
 use Rattle.dvd_capture.specs.Parts.{received_rows}
 use Rattle.dvd_read.proofs.FrameFaults.{fronts, fronts-all, fronts-next, width-next}

@@ -1,3 +1,4 @@
+-- The proof of `get_frame` in src/frames.rt.
 use Rattle.std.proofs.Common.{◌≡◌, ◌∙◌, ◌+◌, ◌*◌, List, ℕ, slice_index, length, sym, ap, arith}
 use Rattle.std.proofs.lemmas.List.{length-map}
 use Rattle.dvd_block.specs.Product.{line}

@@ -1,3 +1,4 @@
+-- The proof of `read_frame_at` in src/frames.rt.
 use Rattle.std.proofs.Common.{◌∙◌, Some, sym, ap}
 use Rattle.dvd_capture.specs.Parts.{received_rows}
 use Rattle.dvd_read.proofs.FrameFaults.{cause_as, fault_by}

@@ -1,3 +1,4 @@
+-- The proof of `read_frames` in src/frames.rt.
 use Rattle.std.proofs.Common.{◌≡◌, ◌∙◌, length, Some, None, sym, ap, arith}
 use Rattle.dvd_capture.specs.Parts.{sector_bytes}
 use Rattle.dvd_capture.specs.TwoPass.{from_columns}

@@ -1,3 +1,4 @@
+-- The proof of `lane_of` in src/lanes.rt.
 use Rattle.std.proofs.Common.{◌≡◌, ◌∙◌, length, take, ap, arith}
 use Rattle.std.proofs.Math.Seq.{take-length}
 use Rattle.rs_lanes.proofs.ColumnLemmas.{length-column}

@@ -1,3 +1,4 @@
+-- The proof of the law `good_rows_are_saved` in src/laws.rt.
 use Rattle.dvd_read.proofs.SavedLaws.{good_rows-saved}
 use Rattle.dvd_read.proofs.laws.good_rows_are_saved.Goals as goal
 

@@ -1,3 +1,4 @@
+-- The proof of the law `no_cause_is_two_pass` in src/laws.rt.
 use Rattle.dvd_capture.specs.TwoPass.{answers_of}
 use Rattle.dvd_capture.proofs.Columns.{length-answers_of}
 use Rattle.dvd_read.proofs.Outcomes.{no_cause-agrees}

@@ -1,3 +1,4 @@
+-- The proof of the law `two_pass_is_found` in src/laws.rt.
 use Rattle.dvd_capture.specs.TwoPass.{answers_of}
 use Rattle.dvd_capture.proofs.Columns.{length-answers_of}
 use Rattle.dvd_read.proofs.Outcomes.{agrees-no_cause, found-agrees}

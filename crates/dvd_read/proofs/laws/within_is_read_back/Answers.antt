@@ -1,3 +1,4 @@
+-- The proof of the law `within_is_read_back` in src/laws.rt.
 use Rattle.dvd_read.proofs.Mastered.{within-read}
 use Rattle.dvd_read.proofs.laws.within_is_read_back.Goals as goal
 

@@ -1,3 +1,4 @@
+-- The proof of `count_corrections` in src/passes.rt.
 use Rattle.std.proofs.Common.{◌≡◌, ◌∙◌, ℕ, List, ap, length, take, sym, arith}
 use Rattle.std.proofs.lemmas.List.{take_all}
 use Rattle.dvd_capture.specs.Works.{answers_of_work, rows_of}

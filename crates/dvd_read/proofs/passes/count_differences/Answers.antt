@@ -1,3 +1,4 @@
+-- The proof of `count_differences` in src/passes.rt.
 use Rattle.std.proofs.Common.{◌≡◌, ◌∙◌, ap, length, take, sym, arith}
 use Rattle.std.proofs.lemmas.List.{take_all}
 use Rattle.dvd_capture.specs.Parts.{received_rows}

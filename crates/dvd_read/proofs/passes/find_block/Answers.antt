@@ -1,3 +1,4 @@
+-- The proof of `find_block` in src/passes.rt.
 use Rattle.std.proofs.Common.{◌≡◌, ℕ, List, length, map, None, Some, subst, arith}
 use Rattle.std.specs.Prelude.{IfErr, IfOk, OnErr, OnOk, Result, Ok, Err}
 use Rattle.std.specs.declared.option.Option.{Option}

@@ -1,3 +1,4 @@
+-- The proof of `row_corrections` in src/passes.rt.
 use Rattle.std.proofs.Common.{◌∙◌, sym}
 use Rattle.dvd_read.proofs.Standing.{uncorrected}
 use Rattle.dvd_read.proofs.passes.row_corrections.Goals as goal

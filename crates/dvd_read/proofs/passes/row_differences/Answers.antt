@@ -1,3 +1,4 @@
+-- The proof of `row_differences` in src/passes.rt.
 use Rattle.std.proofs.Common.{◌≡◌, ◌+◌, ◌≤◌, ℕ, get_or, take, subst, sym, arith}
 use Rattle.dvd_read.specs.Found.{differences}
 use Rattle.dvd_read.proofs.Differences.{differences-none, differences-next, differences-few}

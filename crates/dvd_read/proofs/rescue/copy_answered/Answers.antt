@@ -1,3 +1,4 @@
+-- The proof of `copy_answered` in src/rescue.rt.
 use Rattle.std.proofs.Common.{◌≡◌, ◌∙◌, ◌+◌, ◌*◌, ℕ, length, map, not, take, refl, sym, ap, arith}
 use Rattle.std.proofs.lemmas.List.{length-map}
 use Rattle.dvd_read.specs.Parts.{answer_word}

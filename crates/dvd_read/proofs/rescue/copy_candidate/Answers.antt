@@ -1,3 +1,4 @@
+-- The proof of `copy_candidate` in src/rescue.rt.
 use Rattle.std.proofs.Common.{◌∙◌, map, sym, ap, is_some}
 use Rattle.std.proofs.lemmas.Bool.{not-true}
 use Rattle.dvd_capture.specs.TwoPass.{from_columns}

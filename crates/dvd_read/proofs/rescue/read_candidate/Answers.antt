@@ -1,3 +1,4 @@
+-- The proof of `read_candidate` in src/rescue.rt.
 use Rattle.std.proofs.Common.{◌∙◌, map, sym}
 use Rattle.dvd_read.specs.Parts.{answer_word}
 use Rattle.dvd_read.proofs.SavedFrames.{read-has, read-main, rescued-none}

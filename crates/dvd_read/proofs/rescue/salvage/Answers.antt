@@ -1,3 +1,4 @@
+-- The proof of `salvage` in src/rescue.rt.
 use Rattle.std.proofs.Common.{◌≡◌, ◌∙◌, List, length, map, sym, ap, arith, is_none}
 use Rattle.dvd_capture.specs.TwoPass.{answers_of, from_columns}
 use Rattle.dvd_capture.specs.Works.{answers_of_work, block_of, marks_of_work, rows_of, stage_of}

@@ -1,3 +1,4 @@
+-- The proof of `save_frames` in src/rescue.rt.
 use Rattle.std.proofs.Common.{◌≡◌, ◌+◌, ◌≤◌, ℕ, List, length, map, subst, sym, arith}
 use Rattle.dvd_capture.specs.Parts.{sector_bytes}
 use Rattle.dvd_read.specs.Parts.{answer_word}

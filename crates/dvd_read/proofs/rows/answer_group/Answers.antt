@@ -1,3 +1,4 @@
+-- The proof of `answer_group` in src/rows.rt.
 use Rattle.std.proofs.Common.{◌≡◌, ◌∙◌, ◌+◌, ◌-◌, ◌<◌, List, ℕ, get_or, sym, ap, arith}
 use Rattle.std.proofs.lemmas.List.{get_or_read_under}
 use Rattle.gf_field.specs.Field.{alpha, power}

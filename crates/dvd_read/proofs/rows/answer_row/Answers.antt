@@ -1,3 +1,4 @@
+-- The proof of `answer_row` in src/rows.rt.
 use Rattle.std.proofs.Common.{arith}
 use Rattle.rs_decode.proofs.Nearest.{near_of-some, none-near_of}
 use Rattle.dvd_read.proofs.rows.answer_row.Goals as goal

@@ -1,3 +1,4 @@
+-- The proof of `answer_unmarked` in src/rows.rt.
 use Rattle.std.proofs.Common.{◌≡◌, Bool, false, List, replicate, subst, arith}
 use Rattle.std.proofs.lemmas.List.{length-replicate}
 use Rattle.gf_field.specs.Words.{IsNear}

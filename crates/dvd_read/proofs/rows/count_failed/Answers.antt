@@ -1,3 +1,4 @@
+-- The proof of `count_failed` in src/rows.rt.
 use Rattle.std.proofs.Common.{◌≡◌, ◌+◌, ◌≤◌, ℕ, subst, sym, arith, take}
 use Rattle.rs_decode.specs.Filling.{marked}
 use Rattle.rs_decode.proofs.Marks.{marked-none}

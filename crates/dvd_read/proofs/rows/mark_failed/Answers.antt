@@ -1,3 +1,4 @@
+-- The proof of `mark_failed` in src/rows.rt.
 use Rattle.std.proofs.Common.{arith}
 use Rattle.dvd_read.proofs.RowAnswers.{flags-all}
 use Rattle.dvd_read.proofs.rows.mark_failed.Goals as goal

@@ -1,3 +1,4 @@
+-- The proof of `count_errors` in src/errors.rt.
 use Rattle.std.proofs.Common.{◌≡◌, ◌∙◌, length, [], None, sym, ap, subst, arith, slice_index_or}
 use Rattle.dvd_block.specs.Product.{line}
 use Rattle.dvd_capture.specs.Answers.{IsAnswer, marks_line}

@@ -1,3 +1,4 @@
+-- The proof of `count_failed` in src/errors.rt.
 use Rattle.std.proofs.Common.{◌≡◌, ◌∙◌, ℕ, List, length, map, ap, arith}
 use Rattle.std.specs.declared.option.Option.{Option}
 use Rattle.rs_decode.specs.Filling.{marked}

@@ -1,3 +1,4 @@
+-- The proof of `has_pi_error` in src/errors.rt.
 use Rattle.std.proofs.Common.{◌∙◌, arith}
 use Rattle.std.specs.Cmp.Lexicographic.{other_text, same_text}
 use Rattle.std.proofs.lemmas.Bool.{lt-ltb}

@@ -1,3 +1,4 @@
+-- The proof of `totals_with` in src/survey.rt.
 use Rattle.std.proofs.Common.{◌≡◌, ◌∙◌, ◌≤◌, cond, false, nat_lt, sym, ap, arith}
 use Rattle.std.proofs.lemmas.Bool.{lt-ltb}
 use Rattle.std.proofs.lemmas.Bool.Decides.{nat_tests}

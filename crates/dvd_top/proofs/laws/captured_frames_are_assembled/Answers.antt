@@ -1,3 +1,4 @@
+-- The proof of the law `captured_frames_are_assembled` in src/laws.rt.
 use Rattle.dvd_top.proofs.CapturedFrames.{assembled_so}
 use Rattle.dvd_top.proofs.laws.captured_frames_are_assembled.Goals as goal
 

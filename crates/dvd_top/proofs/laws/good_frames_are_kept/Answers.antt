@@ -1,3 +1,4 @@
+-- The proof of the law `good_frames_are_kept` in src/laws.rt.
 use Rattle.dvd_top.proofs.GoodFrames.{kept_good}
 use Rattle.dvd_top.proofs.laws.good_frames_are_kept.Goals as goal
 

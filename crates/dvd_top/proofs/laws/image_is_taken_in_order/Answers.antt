@@ -1,3 +1,4 @@
+-- The proof of the law `image_is_taken_in_order` in src/laws.rt.
 use Rattle.dvd_top.proofs.ImageTaken.{in_order}
 use Rattle.dvd_top.proofs.laws.image_is_taken_in_order.Goals as goal
 

@@ -1,3 +1,4 @@
+-- The proof of the law `the_broken_field_is_found` in src/laws.rt.
 use Rattle.dvd_top.proofs.BrokenFields.{broken_found}
 use Rattle.dvd_top.proofs.laws.the_broken_field_is_found.Goals as goal
 

@@ -1,3 +1,4 @@
+-- The proof of `put_fault` in src/lines.rt.
 use Rattle.std.proofs.Common.{ap, ◌∙◌, ◌++◌, codes, decimal, append_assoc}
 use Rattle.dvd_top.proofs.lines.put_fault.Goals as goal
 

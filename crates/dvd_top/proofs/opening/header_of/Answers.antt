@@ -1,3 +1,4 @@
+-- The proof of `header_of` in src/opening.rt.
 use Rattle.std.proofs.Common.{◌∙◌, refl, ap, sym, arith}
 use Rattle.dvd_capture.specs.Header.{header_bytes}
 use Rattle.dvd_capture.specs.declared.header.Header.{Header}

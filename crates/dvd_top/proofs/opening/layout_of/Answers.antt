@@ -1,3 +1,4 @@
+-- The proof of `layout_of` in src/opening.rt.
 use Rattle.std.proofs.Common.{◌∙◌, ap, rules}
 use Rattle.dvd_capture.specs.Laws.{HasNumbers}
 use Rattle.dvd_top.specs.Opening.{shape_number}

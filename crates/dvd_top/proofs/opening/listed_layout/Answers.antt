@@ -1,3 +1,4 @@
+-- The proof of `listed_layout` in src/opening.rt.
 use Rattle.std.proofs.Common.{◌≡◌, length, subst, refl, [], rules, arith}
 use Rattle.std.specs.Io.KnownBytes.{Consumes}
 use Rattle.std.proofs.lemmas.List.{take_all}

@@ -1,3 +1,4 @@
+-- The proof of `open_listed` in src/opening.rt.
 use Rattle.std.proofs.Common.{inl, inr, refl, subst}
 use Rattle.dvd_top.specs.HeaderEnds.{ReadsHeader}
 use Rattle.dvd_top.proofs.opening.open_listed.Goals as goal

@@ -1,3 +1,4 @@
+-- The proof of `place_of_layer` in src/opening.rt.
 use Rattle.std.proofs.Common.{◌≡◌, ◌≢◌, ℕ, zero, suc, refl, sym, ap}
 use Rattle.dvd_top.specs.Opening.{place_of_layer}
 use Rattle.dvd_top.proofs.opening.place_of_layer.Goals as goal

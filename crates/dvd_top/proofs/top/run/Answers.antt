@@ -1,3 +1,4 @@
+-- The proof of `run` in src/top.rt.
 use Rattle.std.proofs.Common.{◌≡◌, ◌≢◌, true, false, inl, None, Some, map, string_bytes, ap, sym, subst, ◌∙◌}
 use Rattle.dvd_capture.specs.declared.form.Form.TheVariants.{Listed}
 use Rattle.dvd_loop.specs.Streams.{streams}

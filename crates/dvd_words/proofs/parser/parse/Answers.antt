@@ -1,3 +1,4 @@
+-- The proof of `parse` in src/parser.rt.
 use Rattle.std.proofs.Common.{◌≡◌, ◌∙◌, ap, subst, sym, map, string_bytes, inl, inr, rules}
 use Rattle.clap.specs.Words.{IsAmong, app_of, fault_of, is_simple, is_simple_and_free, matches_of}
 use Rattle.clap.specs.Values.{kind_of}

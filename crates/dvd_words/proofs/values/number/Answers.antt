@@ -1,3 +1,4 @@
+-- The proof of `number` in src/values.rt.
 use Rattle.std.proofs.Common.{◌∙◌, rules}
 use Rattle.dvd_words.proofs.Numerals.{number_read}
 use Rattle.dvd_words.proofs.values.number.Goals as goal

@@ -1,3 +1,4 @@
+-- The proof of `given` in src/words.rt.
 use Rattle.std.proofs.Common.{◌∙◌}
 use Rattle.clap.proofs.WalkLemmas.{first_value-rows}
 use Rattle.clap.specs.Words.{found_of}

@@ -1,3 +1,4 @@
+-- The proof of `exponent` in src/field.rt.
 use Rattle.std.proofs.Common.{arith}
 use Rattle.gf_field.proofs.Logarithms.{LOGARITHMS-below, LOGARITHMS-reach}
 use Rattle.gf_field.proofs.field.exponent.Goals as goal

@@ -1,3 +1,4 @@
+-- The proof of `generator` in src/division.rt.
 use Rattle.std.proofs.Common.{◌≡◌, length, sym, ◌∙◌, ap, arith, rules}
 use Rattle.rs_code.proofs.Generator.{HasRoots-start, HasRoots-more, refill-same}
 use Rattle.rs_code.proofs.Values.{power-more}

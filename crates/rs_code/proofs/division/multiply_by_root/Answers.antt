@@ -1,3 +1,4 @@
+-- The proof of `multiply_by_root` in src/division.rt.
 use Rattle.std.proofs.Common.{arith}
 use Rattle.rs_code.proofs.Generator.{times_root-from_places}
 use Rattle.rs_code.proofs.division.multiply_by_root.Goals as goal

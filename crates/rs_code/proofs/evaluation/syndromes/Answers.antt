@@ -1,3 +1,4 @@
+-- The proof of `syndromes` in src/evaluation.rt.
 use Rattle.std.proofs.Common.{sym, ◌∙◌, rules}
 use Rattle.rs_code.proofs.Syndromes.{syndromes_of-none, syndromes_of-more}
 use Rattle.rs_code.proofs.evaluation.syndromes.Goals as goal

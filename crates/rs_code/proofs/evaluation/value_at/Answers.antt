@@ -1,3 +1,4 @@
+-- The proof of `value_at` in src/evaluation.rt.
 use Rattle.std.proofs.Common.{◌≡◌, ◌<◌, ◌+◌, ◌-◌, ◌∙◌, suc, length, drop, sym, ap, arith}
 use Rattle.std.proofs.lemmas.List.{drop_all}
 use Rattle.gf_field.specs.Field.{alpha, plus, power}

@@ -1,3 +1,4 @@
+-- The proof of the law `light_codeword_is_zero` in src/laws.rt.
 use Rattle.rs_code.proofs.Distance.{IsCodeword-light}
 use Rattle.rs_code.proofs.laws.light_codeword_is_zero.Goals as goal
 

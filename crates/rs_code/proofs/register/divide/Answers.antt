@@ -1,3 +1,4 @@
+-- The proof of `divide` in src/register.rt.
 use Rattle.std.proofs.Common.{[], ◌++◌, length, arith}
 use Rattle.std.proofs.lemmas.List.Elements.{All-from_get_or}
 use Rattle.gf_field.specs.Words.{IsByte}

@@ -1,3 +1,4 @@
+-- The proof of `put_register` in src/register.rt.
 use Rattle.rs_code.proofs.Registers.{written_is}
 use Rattle.rs_code.proofs.register.put_register.Goals as goal
 

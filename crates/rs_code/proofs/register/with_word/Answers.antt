@@ -1,3 +1,4 @@
+-- The proof of `with_word` in src/register.rt.
 use Rattle.std.proofs.Common.{arith, rules}
 use Rattle.rs_code.proofs.Words.{word_read}
 use Rattle.rs_code.proofs.register.with_word.Goals as goal

@@ -1,3 +1,4 @@
+-- The proof of `with_words` in src/register.rt.
 use Rattle.std.proofs.Common.{◌+◌, [], ◌++◌, slice_index_or, drop, arith}
 use Rattle.std.specs.List.{concat}
 use Rattle.rs_code.proofs.Words.{words_done, words_more}

@@ -1,3 +1,4 @@
+-- The proof of `completes` in src/erasures.rt.
 use Rattle.std.proofs.Common.{arith, sym, ◌∙◌}
 use Rattle.std.specs.Cmp.Lexicographic.{bytes_decides}
 use Rattle.rs_decode.proofs.LaneSums.{completed}

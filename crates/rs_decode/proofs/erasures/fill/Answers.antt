@@ -1,3 +1,4 @@
+-- The proof of `fill` in src/erasures.rt.
 use Rattle.std.proofs.Common.{◌≡◌, subst, ap, ◌∙◌, rules}
 use Rattle.rs_decode.specs.Filling.{IsFilling, marked}
 use Rattle.rs_decode.proofs.Fillings.{points-few}

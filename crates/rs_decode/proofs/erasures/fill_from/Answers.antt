@@ -1,4 +1,4 @@
--- The filled word vanishes at as many powers of alpha as places are marked, whether it is a codeword or not.
+-- The proof of `fill_from` in src/erasures.rt. The filled word vanishes at as many powers of alpha as places are marked, whether it is a codeword or not.
 -- So a codeword that agrees is the filled word.
 use Rattle.std.proofs.Common.{◌≡◌, ◌≢◌, ◌≤◌, length, take, All, rules, refl, arith, ap, sym, subst, ◌∙◌}
 use Rattle.std.proofs.lemmas.List.Elements.{All-from_get_or}

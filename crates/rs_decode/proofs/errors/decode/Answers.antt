@@ -1,3 +1,4 @@
+-- The proof of `decode` in src/errors.rt.
 use Rattle.std.proofs.Common.{arith}
 use Rattle.rs_decode.proofs.Counting.{counts-from_near}
 use Rattle.rs_decode.proofs.errors.decode.Goals as goal

@@ -1,3 +1,4 @@
+-- The proof of `decode_from` in src/errors.rt.
 use Rattle.std.proofs.Common.{◌≡◌, ◌≤◌, rules, sym, ap, ◌∙◌, arith}
 use Rattle.rs_decode.specs.Errors.{error_count}
 use Rattle.rs_decode.specs.Filling.{marked}

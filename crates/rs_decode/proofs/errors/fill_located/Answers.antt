@@ -1,3 +1,4 @@
+-- The proof of `fill_located` in src/errors.rt.
 use Rattle.std.proofs.Common.{◌≡◌, ℕ, Bool, List, length, subst, ap, ◌∙◌, arith}
 use Rattle.std.proofs.lemmas.Result.{IfOk-weaker, on_err_weaker}
 use Rattle.gf_field.specs.Words.{IsNear}

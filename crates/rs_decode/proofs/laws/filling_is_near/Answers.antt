@@ -1,3 +1,4 @@
+-- The proof of the law `filling_is_near` in src/laws.rt.
 use Rattle.rs_decode.proofs.Near.{filling_near}
 use Rattle.rs_decode.proofs.laws.filling_is_near.Goals as goal
 

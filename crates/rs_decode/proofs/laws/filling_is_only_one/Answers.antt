@@ -1,3 +1,4 @@
+-- The proof of the law `filling_is_only_one` in src/laws.rt.
 use Rattle.rs_decode.proofs.Near.{filling_once}
 use Rattle.rs_decode.proofs.laws.filling_is_only_one.Goals as goal
 

@@ -1,3 +1,4 @@
+-- The proof of the law `shortest_register_is_only_one` in src/laws.rt.
 use Rattle.rs_decode.proofs.OnlyRegister.{only_register}
 use Rattle.rs_decode.proofs.laws.shortest_register_is_only_one.Goals as goal
 

@@ -1,3 +1,4 @@
+-- The proof of `count_errors` in src/locating.rt.
 use Rattle.std.proofs.Common.{get_or, false, arith, ◌∙◌}
 use Rattle.rs_decode.proofs.Counting.{error_count-next, error_count-end, error_at-number, error_at-one}
 use Rattle.rs_decode.proofs.locating.count_errors.Goals as goal

@@ -1,3 +1,4 @@
+-- The proof of `mark_zeros` in src/locating.rt.
 use Rattle.std.proofs.Common.{arith}
 use Rattle.rs_decode.proofs.Zeros.{with_zeros-from_places}
 use Rattle.rs_decode.proofs.locating.mark_zeros.Goals as goal

@@ -1,3 +1,4 @@
+-- The proof of `sums_without` in src/locating.rt.
 use Rattle.std.proofs.Common.{◌≡◌, ◌-◌, length, length-take, sym, ap, subst, arith}
 use Rattle.rs_code.proofs.Generator.{refill-same}
 use Rattle.rs_decode.specs.Inner.Sums.{AreSums}

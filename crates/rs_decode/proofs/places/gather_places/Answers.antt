@@ -1,3 +1,4 @@
+-- The proof of `gather_places` in src/places.rt.
 use Rattle.std.proofs.Common.{length-set, get_or, false, arith, sym, refl, ◌∙◌, ◌+◌}
 use Rattle.rs_decode.proofs.Marks.{ArePlaces-next, marked-few, marked-next, marked-none}
 use Rattle.rs_decode.proofs.places.gather_places.Goals as goal

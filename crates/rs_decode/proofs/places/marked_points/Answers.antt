@@ -1,3 +1,4 @@
+-- The proof of `marked_points` in src/places.rt.
 use Rattle.std.proofs.Common.{◌≡◌, ◌<◌, ◌+◌, ◌-◌, ◌++◌, ◌∷◌, [], length, take, arith, ap, sym, ◌∙◌}
 use Rattle.std.proofs.lemmas.List.{get_or-take, length-take, take_all}
 use Rattle.gf_field.specs.Field.{alpha, power}

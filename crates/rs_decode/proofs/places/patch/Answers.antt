@@ -1,3 +1,4 @@
+-- The proof of `patch` in src/places.rt.
 use Rattle.std.proofs.Common.{◌≡◌, ◌-◌, ◌<◌, length, length-set, get_or, set, arith, ap, sym, subst, refl, All, ◌∙◌}
 use Rattle.std.proofs.lemmas.List.{take_all}
 use Rattle.std.proofs.lemmas.List.Elements.{All-from_get_or}

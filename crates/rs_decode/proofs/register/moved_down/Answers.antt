@@ -1,3 +1,4 @@
+-- The proof of `moved_down` in src/register.rt.
 use Rattle.std.proofs.Common.{ℕ, List, ◌+◌, ◌++◌, get_or, replicate, ◌∙◌, arith}
 use Rattle.std.proofs.lemmas.List.FromFn.{get_or-map-range_with_len}
 use Rattle.std.proofs.lemmas.List.{get_or_append_left}

@@ -1,3 +1,4 @@
+-- The proof of `shortest` in src/register.rt.
 use Rattle.std.proofs.Common.{◌≡◌, ◌<◌, ◌∷◌, length, get_or, sym, subst, ◌∙◌, arith}
 use Rattle.std.proofs.lemmas.List.{get_or_read_under}
 use Rattle.rs_decode.specs.Inner.Steps.{IsShortestTo}

@@ -1,3 +1,4 @@
+-- The proof of `solve` in src/sums.rt.
 use Rattle.std.proofs.Common.{rules, ◌≡◌, ◌+◌, length, arith}
 use Rattle.rs_decode.proofs.Solving.{distinct-first, distinct-others, HasSums-solved}
 use Rattle.rs_decode.proofs.sums.+solve.Goals as goal

@@ -1,3 +1,4 @@
+-- The proof of `solve_lanes` in src/sums.rt.
 use Rattle.std.proofs.Common.{rules, ◌≡◌, ◌+◌, ◌∷◌, length, take, sym, subst, arith, w8, Fits}
 use Rattle.std.proofs.lemmas.List.{get_or_read_under}
 use Rattle.std.proofs.lemmas.Simd.{Each1-get_or}

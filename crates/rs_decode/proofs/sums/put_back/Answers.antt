@@ -1,3 +1,4 @@
+-- The proof of `put_back` in src/sums.rt.
 use Rattle.std.proofs.Common.{◌<◌, length, sym, arith, refl}
 use Rattle.std.proofs.lemmas.Grind.{common_steps}
 use Rattle.rs_code.proofs.Values.{value-nil}

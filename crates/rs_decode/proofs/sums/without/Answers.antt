@@ -1,3 +1,4 @@
+-- The proof of `without` in src/sums.rt.
 use Rattle.std.proofs.Common.{◌≡◌, ◌+◌, ◌++◌, get_or, replicate, length-append, refl, ap, ◌∙◌, arith}
 use Rattle.std.specs.List.{range_with_len}
 use Rattle.std.specs.Simd.Lanes.{chunk, pick_l}

@@ -1,3 +1,4 @@
+-- The proof of `power_sums` in src/syndromes.rt.
 use Rattle.std.proofs.Common.{◌≡◌, ◌-◌, ◌∙◌, suc, drop, get_or, refl, sym, ap, arith}
 use Rattle.std.proofs.lemmas.Simd.{get_or-replicate}
 use Rattle.gf_field.specs.Field.{plus, product}

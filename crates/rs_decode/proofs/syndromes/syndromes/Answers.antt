@@ -1,3 +1,4 @@
+-- The proof of `syndromes` in src/syndromes.rt.
 use Rattle.std.proofs.Common.{arith}
 use Rattle.rs_decode.proofs.LaneSums.{syndromes_in_front}
 use Rattle.rs_decode.proofs.syndromes.syndromes.Goals as goal

@@ -1,3 +1,4 @@
+-- The proof of `add_term` in src/values.rt.
 use Rattle.std.proofs.Common.{◌≡◌, ◌+◌, ◌-◌, ◌*◌, get_or, ap, subst, ◌∙◌, inl, inr, refl, arith}
 use Rattle.std.proofs.lemmas.Bool.{cases_lt}
 use Rattle.gf_field.specs.Field.{alpha, plus, product, power}

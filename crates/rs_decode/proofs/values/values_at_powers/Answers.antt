@@ -1,3 +1,4 @@
+-- The proof of `values_at_powers` in src/values.rt.
 use Rattle.std.proofs.Common.{◌-◌, ◌*◌, length, get_or, refl, sym, ap, ◌∙◌, arith}
 use Rattle.std.proofs.lemmas.Simd.{get_or-replicate}
 use Rattle.std.proofs.Math.ListN.{drop_of_length-le}

@@ -1,3 +1,4 @@
+-- The proof of `column_values` in src/columns.rt.
 use Rattle.std.proofs.Common.{◌≡◌, ◌%◌, ◌+◌, length, map, refl, ap, ◌∙◌, arith}
 use Rattle.std.proofs.lemmas.List.{length-map}
 use Rattle.gf_field.specs.Field.{alpha, power}

@@ -1,3 +1,4 @@
+-- The proof of `lanes_or_zeros` in src/columns.rt.
 use Rattle.std.proofs.Common.{ℕ, ◌+◌, List, [], get_or, map, ap, sym, ◌∙◌, arith}
 use Rattle.std.proofs.lemmas.List.{get_or_past, length-map}
 use Rattle.std.proofs.lemmas.Simd.{get_or-replicate}

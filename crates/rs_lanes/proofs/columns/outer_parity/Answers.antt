@@ -1,3 +1,4 @@
+-- The proof of `outer_parity` in src/columns.rt.
 use Rattle.std.proofs.Common.{◌*◌, ◌++◌, arith}
 use Rattle.gf_field.specs.Words.{IsEncoded}
 use Rattle.rs_lanes.specs.Rows.{column}

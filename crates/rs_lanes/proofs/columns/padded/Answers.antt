@@ -1,3 +1,4 @@
+-- The proof of `padded` in src/columns.rt.
 use Rattle.std.proofs.Common.{◌+◌, ◌-◌, get_or, map, ap, sym, ◌∙◌, arith}
 use Rattle.rs_lanes.specs.Rows.{column}
 use Rattle.rs_lanes.specs.Inner.Parity.{filled}

@@ -1,3 +1,4 @@
+-- The proof of `put_parity` in src/columns.rt.
 use Rattle.std.proofs.Common.{◌≡◌, ℕ, ◌%◌, ◌+◌, ◌++◌, ◌<◌, All, refl, sym, ap, subst, ◌∙◌, arith}
 use Rattle.std.proofs.lemmas.List.{map-id}
 use Rattle.gf_field.specs.Field.{alpha, power}

@@ -1,3 +1,4 @@
+-- The proof of `put_thirds` in src/columns.rt.
 use Rattle.std.proofs.Common.{◌≡◌, ℕ, ◌+◌, ◌≤◌, List, length, map, subst, arith}
 use Rattle.std.proofs.lemmas.List.{length-map}
 use Rattle.rs_lanes.specs.Rows.{column}

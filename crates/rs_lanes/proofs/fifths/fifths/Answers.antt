@@ -1,3 +1,4 @@
+-- The proof of `fifths` in src/fifths.rt.
 use Rattle.std.proofs.Common.{ℕ, ◌*◌, ◌<◌, [], ◌∷◌, get_or, arith}
 use Rattle.gf_field.specs.Field.{alpha, power}
 use Rattle.gf_field.specs.Words.{value}

@@ -1,3 +1,4 @@
+-- The proof of `folded_places` in src/fifths.rt.
 use Rattle.std.proofs.Common.{◌≡◌, ℕ, ◌+◌, ◌*◌, [], length, get_or, sym, subst, ◌<◌, ◌∙◌, ap, arith}
 use Rattle.std.proofs.lemmas.List.{length-map}
 use Rattle.gf_field.specs.Field.{alpha, product, power}

@@ -1,3 +1,4 @@
+-- The proof of `turned` in src/fifths.rt.
 use Rattle.std.proofs.Common.{◌≡◌, ◌*◌, ◌%◌, get_or, sym, ap, subst, ◌∙◌, arith}
 use Rattle.gf_field.specs.Field.{alpha, product, power}
 use Rattle.gf_field.proofs.FieldLaws.{power-zero, product-one}

@@ -1,3 +1,4 @@
+-- The proof of `weighed` in src/fifths.rt.
 use Rattle.std.proofs.Common.{refl, ◌∙◌, arith}
 use Rattle.rs_lanes.proofs.FactorLemmas.{PRODUCTS-tables}
 use Rattle.rs_lanes.proofs.fifths.weighed.Goals as goal

@@ -1,3 +1,4 @@
+-- The proof of `any_of` in src/lanes.rt.
 use Rattle.std.proofs.Common.{refl, arith}
 use Rattle.std.proofs.lemmas.Simd.{get_or-replicate}
 use Rattle.rs_lanes.proofs.lanes.any_of.Goals as goal

@@ -1,3 +1,4 @@
+-- The proof of `by_high_nibble` in src/lanes.rt.
 use Rattle.std.proofs.Common.{◌/◌, ◌^◌}
 use Rattle.rs_lanes.proofs.LaneLemmas.{HoldsLanes-splat, high_nibble-small, SwzOk-nibbles, HoldsLanes-look_up}
 use Rattle.rs_lanes.proofs.lanes.by_high_nibble.Goals as goal

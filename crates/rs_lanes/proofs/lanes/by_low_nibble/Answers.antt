@@ -1,3 +1,4 @@
+-- The proof of `by_low_nibble` in src/lanes.rt.
 use Rattle.std.proofs.Common.{arith}
 use Rattle.rs_lanes.proofs.LaneLemmas.{HoldsLanes-low_nibbles, SwzOk-nibbles, HoldsLanes-look_up}
 use Rattle.rs_lanes.proofs.lanes.by_low_nibble.Goals as goal

@@ -1,3 +1,4 @@
+-- The proof of `either` in src/lanes.rt.
 use Rattle.std.proofs.Common.{bit_or, get_or, ◌∙◌, sym}
 use Rattle.rs_lanes.proofs.LaneLemmas.{HoldsLanes-zip2, either-zero}
 use Rattle.rs_lanes.proofs.lanes.either.Goals as goal

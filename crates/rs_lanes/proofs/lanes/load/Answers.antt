@@ -1,3 +1,4 @@
+-- The proof of `load` in src/lanes.rt.
 use Rattle.std.proofs.lemmas.Simd.{length-chunk, get_or-chunk}
 use Rattle.rs_lanes.proofs.lanes.load.Goals as goal
 

@@ -1,3 +1,4 @@
+-- The proof of `multiple` in src/lanes.rt.
 use Rattle.std.proofs.Common.{arith}
 use Rattle.rs_lanes.proofs.FactorLemmas.{PRODUCTS-tables}
 use Rattle.rs_lanes.proofs.lanes.multiple.Goals as goal

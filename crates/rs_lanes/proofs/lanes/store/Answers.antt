@@ -1,3 +1,4 @@
+-- The proof of `store` in src/lanes.rt.
 use Rattle.std.proofs.Common.{arith}
 use Rattle.std.proofs.lemmas.Simd.{get_or-put_chunk_below, get_or-put_chunk_at, get_or-put_chunk_above}
 use Rattle.rs_lanes.proofs.lanes.store.Goals as goal

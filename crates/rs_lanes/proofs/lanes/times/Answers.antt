@@ -1,3 +1,4 @@
+-- The proof of `times` in src/lanes.rt.
 use Rattle.std.proofs.Common.{get_or, ◌∙◌, arith}
 use Rattle.rs_lanes.proofs.LaneLemmas.{byte_lane}
 use Rattle.rs_lanes.proofs.Nibbles.{product-nibbles}

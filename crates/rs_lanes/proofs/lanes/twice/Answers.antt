@@ -1,3 +1,4 @@
+-- The proof of `twice` in src/lanes.rt.
 use Rattle.std.proofs.Common.{◌≡◌, ◌%◌, length, get_or, take, ◌++◌, get_or-take, length-take-le, refl, ◌∙◌, arith}
 use Rattle.std.proofs.lemmas.List.FromFn.{get_or-map-range_with_len}
 use Rattle.std.proofs.lemmas.List.{get_or_append_left}

@@ -1,3 +1,4 @@
+-- The proof of `parity_of` in src/parity.rt.
 use Rattle.std.proofs.Common.{◌≡◌, ℕ, sym, ap, ◌∙◌, arith}
 use Rattle.std.proofs.lemmas.Simd.{length-replicate}
 use Rattle.gf_field.specs.Field.{plus, product}

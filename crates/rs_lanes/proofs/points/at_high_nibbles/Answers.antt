@@ -1,3 +1,4 @@
+-- The proof of `at_high_nibbles` in src/points.rt.
 use Rattle.std.proofs.Common.{◌/◌, ◌^◌}
 use Rattle.rs_lanes.proofs.LaneLemmas.{whole_table, HoldsLanes-splat, high_nibble-small, SwzOk-nibbles, HoldsLanes-look_up}
 use Rattle.rs_lanes.proofs.points.at_high_nibbles.Goals as goal

@@ -1,3 +1,4 @@
+-- The proof of `at_low_nibbles` in src/points.rt.
 use Rattle.std.proofs.Common.{arith}
 use Rattle.rs_lanes.proofs.LaneLemmas.{whole_table, HoldsLanes-low_nibbles, SwzOk-nibbles, HoldsLanes-look_up}
 use Rattle.rs_lanes.proofs.points.at_low_nibbles.Goals as goal

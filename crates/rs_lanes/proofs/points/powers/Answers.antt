@@ -1,3 +1,4 @@
+-- The proof of `powers` in src/points.rt.
 use Rattle.std.proofs.Common.{◌∙◌, get_or, ap, zero-add}
 use Rattle.std.proofs.lemmas.Simd.{get_or-chunk}
 use Rattle.rs_lanes.specs.Rows.{line}

@@ -1,3 +1,4 @@
+-- The proof of `scaled` in src/points.rt.
 use Rattle.std.proofs.Common.{get_or, ◌∙◌, arith}
 use Rattle.gf_field.specs.Field.{plus}
 use Rattle.rs_lanes.proofs.FactorLemmas.{PRODUCTS-tables}

@@ -1,3 +1,4 @@
+-- The proof of `inner_parity` in src/rows.rt.
 use Rattle.std.proofs.Common.{◌≡◌, ℕ, ◌%◌, ◌+◌, ◌<◌, All, length, take, refl, sym, ap, subst, ◌∙◌, arith, length-take-le}
 use Rattle.std.proofs.lemmas.List.{map-id}
 use Rattle.gf_field.specs.Field.{alpha, power}

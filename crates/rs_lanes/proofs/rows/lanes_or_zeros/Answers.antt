@@ -1,3 +1,4 @@
+-- The proof of `lanes_or_zeros` in src/rows.rt.
 use Rattle.std.proofs.Common.{get_or, take, ap, sym, ◌∙◌, arith, get_or-take, length-take-le}
 use Rattle.std.proofs.lemmas.List.{get_or_past}
 use Rattle.std.proofs.lemmas.Simd.{get_or-replicate}

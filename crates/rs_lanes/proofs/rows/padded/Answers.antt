@@ -1,3 +1,4 @@
+-- The proof of `padded` in src/rows.rt.
 use Rattle.std.proofs.Common.{get_or, take, ap, sym, ◌∙◌, arith}
 use Rattle.rs_lanes.specs.Rows.{column}
 use Rattle.rs_lanes.specs.Inner.Parity.{filled}

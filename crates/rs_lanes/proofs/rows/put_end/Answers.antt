@@ -1,3 +1,4 @@
+-- The proof of `put_end` in src/rows.rt.
 use Rattle.std.proofs.Common.{◌≡◌, ◌+◌, ◌-◌, ◌++◌, length, get_or, take, sym, ap, ◌∙◌, inl, inr, arith, length-append, get_or-take, length-take-le}
 use Rattle.std.proofs.lemmas.Bool.{cases_lt}
 use Rattle.std.proofs.lemmas.Grind.{same_number_lists}

@@ -1,3 +1,4 @@
+-- The proof of `put_thirds` in src/rows.rt.
 use Rattle.std.proofs.Common.{◌≡◌, ℕ, ◌+◌, ◌≤◌, List, length, take, subst, arith, length-take-le}
 use Rattle.rs_lanes.specs.Rows.{column}
 use Rattle.rs_lanes.specs.Inner.Parity.{filled}

@@ -1,3 +1,4 @@
+-- The proof of `row_values` in src/rows.rt.
 use Rattle.std.proofs.Common.{◌≡◌, ℕ, ◌+◌, ◌<◌, List, length, map, All, ap, subst, ◌∙◌, arith}
 use Rattle.std.proofs.lemmas.List.{map-id}
 use Rattle.gf_field.specs.Field.{alpha, power}

@@ -1,3 +1,4 @@
+-- The proof of `turned_values` in src/rows.rt.
 use Rattle.std.proofs.Common.{◌≡◌, ℕ, ◌%◌, List, length, take, All, refl, sym, ap, subst, ◌∙◌, arith}
 use Rattle.std.proofs.Math.Seq.{take-length}
 use Rattle.gf_field.specs.Field.{alpha, power}

@@ -1,3 +1,4 @@
+-- The proof of `last_value` in src/thirds.rt.
 use Rattle.std.proofs.Common.{refl, sym, ap, ◌∙◌, get_or, arith}
 use Rattle.std.proofs.lemmas.List.{length-map}
 use Rattle.std.proofs.lemmas.Simd.{get_or-replicate}

@@ -1,3 +1,4 @@
+-- The proof of `next_value` in src/thirds.rt.
 use Rattle.std.proofs.Common.{◌≡◌, ◌*◌, get_or, sym, ap, subst, ◌∙◌, arith}
 use Rattle.gf_field.specs.Field.{alpha, plus, product, power}
 use Rattle.gf_field.proofs.FieldLaws.{product-comm}

@@ -1,3 +1,4 @@
+-- The proof of `thirds_of` in src/thirds.rt.
 use Rattle.std.proofs.Common.{ℕ, ◌<◌, [], ◌∷◌, get_or, arith}
 use Rattle.rs_lanes.specs.Rows.{line}
 use Rattle.rs_lanes.specs.Inner.Lanes.{HasLanes}

@@ -1,3 +1,4 @@
+-- The proof of `values` in src/thirds.rt.
 use Rattle.std.proofs.Common.{sym, ◌∙◌, arith}
 use Rattle.std.proofs.lemmas.List.{length-map}
 use Rattle.gf_field.specs.Field.{alpha, power}

@@ -1,3 +1,4 @@
+-- The proof of `values_of` in src/thirds.rt.
 use Rattle.std.proofs.Common.{◌≡◌, ℕ, ◌%◌, List, sym, subst, ◌∙◌, inl, inr, arith}
 use Rattle.std.proofs.lemmas.Bool.{cases_eq}
 use Rattle.gf_field.specs.Field.{alpha, power}

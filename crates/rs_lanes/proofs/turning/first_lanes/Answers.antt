@@ -1,3 +1,4 @@
+-- The proof of `first_lanes` in src/turning.rt.
 use Rattle.std.proofs.Common.{◌+◌, ◌*◌, ◌/◌, ◌%◌, arith}
 use Rattle.rs_lanes.proofs.Tiles.{in_turns-even, in_turns-odd}
 use Rattle.rs_lanes.proofs.turning.first_lanes.Goals as goal

@@ -1,3 +1,4 @@
+-- The proof of `last_lanes` in src/turning.rt.
 use Rattle.std.proofs.Common.{◌+◌, ◌*◌, ◌/◌, ◌%◌, arith}
 use Rattle.rs_lanes.proofs.Tiles.{in_turns-even, in_turns-odd}
 use Rattle.rs_lanes.proofs.turning.last_lanes.Goals as goal

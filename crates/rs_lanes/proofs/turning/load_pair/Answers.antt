@@ -1,3 +1,4 @@
+-- The proof of `load_pair` in src/turning.rt.
 use Rattle.std.proofs.Common.{◌+◌, get_or, ◌++◌, ap, ◌∙◌, arith}
 use Rattle.std.specs.Simd.Lanes.{chunk}
 use Rattle.std.proofs.lemmas.List.FromFn.{get_or-map-range_with_len}

@@ -1,3 +1,4 @@
+-- The proof of `load_tile` in src/turning.rt.
 use Rattle.std.proofs.Common.{◌≡◌, ◌+◌, map, subst, arith}
 use Rattle.rs_lanes.proofs.RowLemmas.{row_taken}
 use Rattle.rs_lanes.proofs.Tiles.{HasPairs, pairs_more, pairs_wide}

@@ -1,3 +1,4 @@
+-- The proof of `turn` in src/turning.rt.
 use Rattle.std.proofs.Common.{◌*◌, map, arith}
 use Rattle.rs_lanes.proofs.Tiles.{places_more}
 use Rattle.rs_lanes.proofs.turning.turn.Goals as goal

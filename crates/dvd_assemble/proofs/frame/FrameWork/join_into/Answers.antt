@@ -1,3 +1,4 @@
+-- The proof of `FrameWork::join_into` in src/frame.rt.
 use Rattle.std.proofs.Common.{rules, ◌∙◌, sym, subst, arith}
 use Rattle.dvd_merge.specs.Merges.{table_of}
 use Rattle.dvd_assemble.specs.Works.{captured}

@@ -1,3 +1,4 @@
+-- The proof of `FrameWork::new` in src/frame.rt.
 use Rattle.std.proofs.Common.{refl}
 use Rattle.dvd_capture.proofs.MarkLists.{zero_marks}
 use Rattle.dvd_assemble.proofs.frame.FrameWork.new.Goals as goal

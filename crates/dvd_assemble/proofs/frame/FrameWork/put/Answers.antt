@@ -1,3 +1,4 @@
+-- The proof of `FrameWork::put` in src/frame.rt.
 use Rattle.std.proofs.Common.{◌∙◌, Bool, List, ◌+◌, set, sym, ap, subst, take, arith}
 use Rattle.std.proofs.lemmas.List.{map-set}
 use Rattle.dvd_capture.specs.Captured.{marks_in}

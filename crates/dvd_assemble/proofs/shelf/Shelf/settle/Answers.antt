@@ -1,3 +1,4 @@
+-- The proof of `Shelf::settle` in src/shelf.rt.
 use Rattle.std.proofs.Common.{◌≡◌, ◌∙◌, ◌<◌, ℕ, length, get_or, set, ap, sym, arith}
 use Rattle.std.proofs.lemmas.List.{get_or-map, length-map, map-set}
 use Rattle.dvd_merge.specs.Join.{Table, unseen}

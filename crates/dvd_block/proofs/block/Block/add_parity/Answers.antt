@@ -1,3 +1,4 @@
+-- The proof of `Block::add_parity` in src/block.rt.
 use Rattle.std.proofs.Common.{◌≡◌, ℕ, List, ◌++◌, length, take, drop, sym, ap, ◌∙◌, subst}
 use Rattle.dvd_block.specs.Product.{place, IsProduct}
 use Rattle.dvd_block.proofs.RowParts.{lent_whole}

@@ -1,3 +1,4 @@
+-- The proof of `Block::put_frame` in src/block.rt.
 use Rattle.std.proofs.Common.{◌≡◌, ℕ, ◌-◌, ◌+◌, ◌*◌, List, length, take, drop, arith}
 use Rattle.dvd_block.proofs.RowParts.{FrontsSet, frame_held, other_rows_kept, inner_parity_kept}
 use Rattle.dvd_block.proofs.block.Block.put_frame.Goals as goal

@@ -1,3 +1,4 @@
+-- The proof of `Cells::new` in src/buffers.rt.
 use Rattle.std.proofs.Common.{◌≡◌, Ok, refl, replicate}
 use Rattle.dvd_block.proofs.Taken.{before_map_err, same_array}
 use Rattle.dvd_block.proofs.buffers.Cells.new.Goals as goal

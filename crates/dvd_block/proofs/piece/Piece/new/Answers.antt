@@ -1,3 +1,4 @@
+-- The proof of `Piece::new` in src/piece.rt.
 use Rattle.std.proofs.Common.{◌≡◌, Ok}
 use Rattle.dvd_block.proofs.Taken.{before_map_err}
 use Rattle.dvd_block.proofs.piece.Piece.new.Goals as goal

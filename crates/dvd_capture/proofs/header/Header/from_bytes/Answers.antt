@@ -1,3 +1,4 @@
+-- The proof of `Header::from_bytes` in src/header.rt.
 use Rattle.std.proofs.Common.{rules, ◌≡◌, ◌∙◌, length, slice_index, refl, arith}
 use Rattle.dvd_capture.proofs.Headers.{each_byte, header-is, shape-known, zones-known}
 use Rattle.dvd_capture.proofs.header.Header.from_bytes.Goals as goal

@@ -1,3 +1,4 @@
+-- The proof of `Columns::new` in src/parts.rt.
 use Rattle.std.proofs.Common.{◌≡◌, Ok}
 use Rattle.dvd_block.proofs.Taken.{before_map_err}
 use Rattle.dvd_capture.proofs.parts.Columns.new.Goals as goal

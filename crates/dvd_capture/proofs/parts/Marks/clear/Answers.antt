@@ -1,3 +1,4 @@
+-- The proof of `Marks::clear` in src/parts.rt.
 use Rattle.std.proofs.Common.{◌≡◌, ◌∙◌, ℕ, refl, replicate, map, ap}
 use Rattle.dvd_block.proofs.Taken.{same_array}
 use Rattle.dvd_capture.specs.MarkBits.{marks_of}

@@ -1,3 +1,4 @@
+-- The proof of `Marks::clear_row` in src/parts.rt.
 use Rattle.std.proofs.Common.{◌∙◌, Bool, List, ap, set}
 use Rattle.dvd_capture.specs.Parts.{marks_rows}
 use Rattle.dvd_capture.proofs.MarkLists.{zero_marks}

@@ -1,3 +1,4 @@
+-- The proof of `Marks::get` in src/parts.rt.
 use Rattle.std.proofs.Common.{◌∙◌, ◌<◌, Bool, false, List, ℕ, [], length, get_or, sym, ap, arith}
 use Rattle.std.proofs.lemmas.List.{get_or_default}
 use Rattle.dvd_block.specs.Product.{line}

@@ -1,3 +1,4 @@
+-- The proof of `Marks::new` in src/parts.rt.
 use Rattle.std.proofs.Common.{◌≡◌, ◌∙◌, Ok, refl, replicate, map, ap}
 use Rattle.dvd_block.proofs.Taken.{before_map_err, same_array}
 use Rattle.dvd_capture.specs.MarkBits.{marks_of}

@@ -1,3 +1,4 @@
+-- The proof of `Marks::row` in src/parts.rt.
 use Rattle.std.proofs.Common.{◌∙◌, ℕ, List, sym, arith}
 use Rattle.dvd_block.specs.Product.{line}
 use Rattle.dvd_capture.proofs.MarkLists.{all_marks, line-marks}

@@ -1,3 +1,4 @@
+-- The proof of `Marks::set` in src/parts.rt.
 use Rattle.std.proofs.Common.{◌∙◌, ◌<◌, Bool, List, ℕ, [], length, map, set, sym, ap, arith}
 use Rattle.std.proofs.lemmas.List.{get_or_default, map-set}
 use Rattle.dvd_capture.specs.MarkBits.{marks_of}

@@ -1,3 +1,4 @@
+-- The proof of `Marks::set_row` in src/parts.rt.
 use Rattle.std.proofs.Common.{◌∙◌, List, ℕ, ap, map, set}
 use Rattle.std.proofs.lemmas.List.{map-set}
 use Rattle.dvd_capture.specs.MarkBits.{marks_of}

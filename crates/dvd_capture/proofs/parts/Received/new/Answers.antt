@@ -1,3 +1,4 @@
+-- The proof of `Received::new` in src/parts.rt.
 use Rattle.std.proofs.Common.{◌≡◌, Ok, refl, replicate}
 use Rattle.dvd_block.proofs.Taken.{before_map_err, same_array}
 use Rattle.dvd_capture.proofs.parts.Received.new.Goals as goal

@@ -1,3 +1,4 @@
+-- The proof of `Sectors::blank` in src/parts.rt.
 use Rattle.std.proofs.Common.{◌∙◌, ℕ, refl, replicate, ap}
 use Rattle.dvd_block.proofs.Taken.{same_array}
 use Rattle.dvd_capture.proofs.parts.Sectors.blank.Goals as goal

@@ -1,3 +1,4 @@
+-- The proof of `Work::block_byte` in src/work.rt.
 use Rattle.std.proofs.Common.{◌∙◌, ℕ, List, ap}
 use Rattle.dvd_block.specs.Product.{place}
 use Rattle.dvd_capture.proofs.Columns.{two_pass_once}

@@ -1,3 +1,4 @@
+-- The proof of `Deep::sectors` in src/sectors.rt.
 use Rattle.std.proofs.Common.{◌≡◌, List, ℕ, drop, length, replicate, sym, subst, arith}
 use Rattle.std.specs.Prelude.{OnErr}
 use Rattle.dvd_deep.proofs.Mains.{all-written}

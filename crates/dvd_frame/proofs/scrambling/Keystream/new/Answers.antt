@@ -1,3 +1,4 @@
+-- The proof of `Keystream::new` in src/scrambling.rt.
 use Rattle.std.proofs.Common.{refl}
 use Rattle.dvd_frame.specs.Scrambling.{window}
 use Rattle.dvd_frame.specs.Scrambling.{sequence}

@@ -1,3 +1,4 @@
+-- The proof of `Keystream::next` in src/scrambling.rt.
 use Rattle.std.proofs.Common.{◌∙◌}
 use Rattle.std.proofs.lemmas.Nat.{and_mask}
 use Rattle.dvd_frame.proofs.Sequences.{byte_shown}

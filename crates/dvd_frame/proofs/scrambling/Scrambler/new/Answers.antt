@@ -1,3 +1,4 @@
+-- The proof of `Scrambler::new` in src/scrambling.rt.
 use Rattle.dvd_frame.proofs.KeyWords.{blank_keys}
 use Rattle.dvd_frame.proofs.scrambling.Scrambler.new.Goals as goal
 

@@ -1,3 +1,4 @@
+-- The proof of `Layout::blocks` in src/plan.rt.
 use Rattle.std.proofs.Common.{rules}
 use Rattle.dvd_layout.specs.Plan.{plan_of}
 use Rattle.dvd_layout.proofs.Ranges.{zone_table-in_range}

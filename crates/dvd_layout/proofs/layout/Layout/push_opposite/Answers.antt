@@ -1,3 +1,4 @@
+-- The proof of `Layout::push_opposite` in src/plan.rt.
 use Rattle.std.proofs.Common.{append_assoc}
 use Rattle.dvd_layout.proofs.layout.Layout.push_opposite.Goals as goal
 

@@ -1,3 +1,4 @@
+-- The proof of `Merge::clear` in src/merge.rt.
 use Rattle.std.proofs.Common.{◌∙◌, ℕ, refl, replicate, ap}
 use Rattle.dvd_merge.specs.Join.{unseen}
 use Rattle.dvd_merge.specs.declared.place.Place.TheVariants.{Unseen}

@@ -1,3 +1,4 @@
+-- The proof of `Merge::new` in src/merge.rt.
 use Rattle.std.proofs.Common.{◌≡◌, Ok, refl, replicate}
 use Rattle.dvd_block.proofs.Taken.{before_map_err}
 use Rattle.dvd_merge.specs.Join.{unseen}

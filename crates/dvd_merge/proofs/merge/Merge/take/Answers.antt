@@ -1,3 +1,4 @@
+-- The proof of `Merge::take` in src/merge.rt.
 use Rattle.std.proofs.Common.{◌∙◌, ◌≡◌, length, sym, arith}
 use Rattle.std.proofs.lemmas.List.{take-append-le, take_all}
 use Rattle.dvd_capture.proofs.WorkParts.{marks-height, rows-height}

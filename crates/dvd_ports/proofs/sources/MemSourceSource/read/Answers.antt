@@ -1,3 +1,4 @@
+-- The proof of `read` of `Source` for `MemSource` in src/sources.rt.
 use Rattle.std.proofs.Common.{rules, arith, ◌+◌, drop, sym, length-drop}
 use Rattle.std.proofs.lemmas.List.{drop-drop}
 use Rattle.std.proofs.lemmas.Grind.{common_steps}

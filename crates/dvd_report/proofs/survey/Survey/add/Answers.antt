@@ -1,3 +1,4 @@
+-- The proof of `Survey::add` in src/survey.rt.
 use Rattle.std.proofs.Common.{◌≡◌, ◌∙◌, ◌∷◌, ◌++◌, [], Some, length, map, sym, ap, subst, length-append}
 use Rattle.dvd_report.specs.Survey.{last_eight, pi_of, SurveyState, StandsFor, totals_of}
 use Rattle.dvd_report.proofs.Sums.{last-is, window-moved, window-summed}

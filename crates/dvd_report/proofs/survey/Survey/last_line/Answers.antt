@@ -1,3 +1,4 @@
+-- The proof of `Survey::last_line` in src/survey.rt.
 use Rattle.std.proofs.Common.{◌≡◌, ◌∙◌, length, ◌-◌, map, sym, ap, arith}
 use Rattle.dvd_report.specs.Survey.{last_eight, pi_of, SurveyState}
 use Rattle.dvd_report.proofs.Answered.{blocks-counted}

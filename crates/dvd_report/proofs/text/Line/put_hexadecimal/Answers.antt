@@ -1,3 +1,4 @@
+-- The proof of `Line::put_hexadecimal` in src/text.rt.
 use Rattle.std.proofs.Common.{◌≡◌, ◌-◌, ◌/◌, ◌%◌, ◌++◌, true, sym, ap, ◌∙◌, arith, append-nil}
 use Rattle.std.specs.Fmt.{digit_glyph}
 use Rattle.dvd_report.specs.Lines.{hexadecimal}

@@ -1,3 +1,4 @@
+-- The proof of `assemble_loop` in src/commands/assemble.rt.
 use Rattle.dvd_assemble.specs.Shelves.{tables_of}
 use Rattle.dvd_top.proofs.AssembleFrames.{assemble_end, none_settled}
 use Rattle.dvd_top.proofs.commands.assemble.assemble_loop.Goals as goal

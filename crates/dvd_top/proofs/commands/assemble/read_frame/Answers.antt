@@ -1,3 +1,4 @@
+-- The proof of `read_frame` in src/commands/assemble.rt.
 use Rattle.std.proofs.Common.{inl, ap, sym, arith}
 use Rattle.dvd_loop.specs.declared.ends.LoopEnd.TheVariants.{Short}
 use Rattle.dvd_top.proofs.commands.assemble.read_frame.Goals as goal

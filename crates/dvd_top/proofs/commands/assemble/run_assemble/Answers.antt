@@ -1,3 +1,4 @@
+-- The proof of `run_assemble` in src/commands/assemble.rt.
 use Rattle.std.proofs.Common.{refl, arith}
 use Rattle.dvd_top.specs.Commands.Assemble.{assemble_units}
 use Rattle.dvd_top.proofs.AssembleFrames.{blocks_few}

@@ -1,3 +1,4 @@
+-- The proof of `write_blocks` in src/commands/assemble.rt.
 use Rattle.std.proofs.Common.{◌∙◌, ◌<◌, length, refl, sym, subst, arith}
 use Rattle.std.specs.Io.KnownBytes.{Appends}
 use Rattle.dvd_block.proofs.Recorded.{on_err}

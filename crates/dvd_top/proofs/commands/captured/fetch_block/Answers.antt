@@ -1,3 +1,4 @@
+-- The proof of `fetch_block` in src/commands/captured.rt.
 use Rattle.dvd_top.proofs.CapturedTurns.{ends_after, ends_broken, ends_failed}
 use Rattle.dvd_top.proofs.commands.captured.fetch_block.Goals as goal
 

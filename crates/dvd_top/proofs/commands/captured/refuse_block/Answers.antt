@@ -1,3 +1,4 @@
+-- The proof of `refuse_block` in src/commands/captured.rt.
 use Rattle.std.proofs.Common.{◌≤◌, Err, refl, sym, subst}
 use Rattle.dvd_loop.specs.declared.ends.LoopEnd.TheVariants.{ReportFault}
 use Rattle.dvd_loop.proofs.TurnLemmas.{err_is}

@@ -1,3 +1,4 @@
+-- The proof of `cdmake_loop` in src/commands/cd_make.rt.
 use Rattle.std.proofs.Common.{refl}
 use Rattle.dvd_loop.proofs.LoopEnds.{never_told, plain_end}
 use Rattle.dvd_top.specs.Commands.CdMake.{cdmake_units}

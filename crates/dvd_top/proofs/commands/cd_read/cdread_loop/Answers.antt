@@ -1,3 +1,4 @@
+-- The proof of `cdread_loop` in src/commands/cd_read.rt.
 use Rattle.std.proofs.Common.{refl}
 use Rattle.dvd_loop.proofs.LoopEnds.{damage_end}
 use Rattle.dvd_top.specs.Commands.CdRead.{cdread_units}

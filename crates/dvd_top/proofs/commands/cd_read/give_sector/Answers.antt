@@ -1,3 +1,4 @@
+-- The proof of `give_sector` in src/commands/cd_read.rt.
 use Rattle.std.proofs.Common.{◌∙◌, Err, refl, subst}
 use Rattle.std.specs.Prelude.{replicate}
 use Rattle.std.specs.Io.KnownBytes.{Appends}

@@ -1,3 +1,4 @@
+-- The proof of `convert_loop` in src/commands/convert.rt.
 use Rattle.std.proofs.Common.{refl}
 use Rattle.dvd_capture.specs.Captured.{block_size}
 use Rattle.dvd_loop.proofs.LoopEnds.{never_told, plain_end}

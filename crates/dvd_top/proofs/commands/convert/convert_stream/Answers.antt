@@ -1,3 +1,4 @@
+-- The proof of `convert_stream` in src/commands/convert.rt.
 use Rattle.std.proofs.Common.{refl}
 use Rattle.dvd_capture.specs.Header.{header_bytes}
 use Rattle.dvd_loop.specs.Machine.{IsOutcome}

@@ -1,3 +1,4 @@
+-- The proof of `run_convert` in src/commands/convert.rt.
 use Rattle.std.proofs.Common.{◌≡◌, None, refl, sym, subst}
 use Rattle.dvd_loop.specs.Machine.{IsOutcome}
 use Rattle.dvd_loop.proofs.StreamLemmas.{ended_as}

@@ -1,3 +1,4 @@
+-- The proof of `deep_block` in src/commands/deep.rt.
 use Rattle.dvd_top.proofs.EntryBlocks.{an_image, no_image}
 use Rattle.dvd_top.proofs.commands.deep.deep_block.Goals as goal
 

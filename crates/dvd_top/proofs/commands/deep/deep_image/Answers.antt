@@ -1,3 +1,4 @@
+-- The proof of `deep_image` in src/commands/deep.rt.
 use Rattle.std.proofs.Common.{◌≡◌, ◌∙◌, ◌*◌, inr, ℕ, List, Some, take, ap, subst}
 use Rattle.std.specs.Io.KnownBytes.{Appends}
 use Rattle.dvd_block.specs.Buffers.{piece_bytes}

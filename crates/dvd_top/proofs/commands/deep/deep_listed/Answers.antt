@@ -1,3 +1,4 @@
+-- The proof of `deep_listed` in src/commands/deep.rt.
 use Rattle.dvd_top.specs.Commands.Deep.{deep_units}
 use Rattle.dvd_top.specs.Headline.{GoesOver}
 use Rattle.dvd_words.specs.declared.settings.Command.TheVariants.{Deep}

@@ -1,3 +1,4 @@
+-- The proof of `deep_loop` in src/commands/deep.rt.
 use Rattle.std.proofs.Common.{refl}
 use Rattle.dvd_top.specs.Commands.Deep.{deep_units}
 use Rattle.dvd_top.proofs.CaptureEnds.{capture_end}

@@ -1,3 +1,4 @@
+-- The proof of `give_back` in src/commands/deep.rt.
 use Rattle.std.proofs.Common.{Err, refl, ap, subst}
 use Rattle.std.specs.Io.KnownBytes.{Appends}
 use Rattle.dvd_ports.specs.Whole.{AppendsPrefix}

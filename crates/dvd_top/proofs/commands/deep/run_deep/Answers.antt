@@ -1,3 +1,4 @@
+-- The proof of `run_deep` in src/commands/deep.rt.
 use Rattle.std.proofs.Common.{subst}
 use Rattle.dvd_top.specs.Commands.Deep.{deep_units}
 use Rattle.dvd_top.specs.Inner.Opened.{IsWorded}

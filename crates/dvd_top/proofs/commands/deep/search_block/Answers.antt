@@ -1,3 +1,4 @@
+-- The proof of `search_block` in src/commands/deep.rt.
 use Rattle.std.proofs.Common.{◌∙◌, sym}
 use Rattle.dvd_block.specs.Buffers.{piece_bytes}
 use Rattle.dvd_capture.proofs.WorkParts.{marks-height, rows-height}

@@ -1,3 +1,4 @@
+-- The proof of `disk_of` in src/commands/exercise.rt.
 use Rattle.dvd_top.proofs.ExerciseBlocks.{lawful_disk}
 use Rattle.dvd_top.proofs.commands.exercise.disk_of.Goals as goal
 

@@ -1,3 +1,4 @@
+-- The proof of `exercise_loop` in src/commands/exercise.rt.
 use Rattle.dvd_loop.proofs.LoopEnds.{never_told}
 use Rattle.dvd_top.proofs.ExerciseTurns.{never_read, no_source, write_end}
 use Rattle.dvd_top.proofs.commands.exercise.exercise_loop.Goals as goal

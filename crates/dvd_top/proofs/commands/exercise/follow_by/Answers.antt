@@ -1,3 +1,4 @@
+-- The proof of `follow_by` in src/commands/exercise.rt.
 use Rattle.std.proofs.Common.{◌≡◌, ◌-◌, rules, refl, ap, subst}
 use Rattle.dvd_top.specs.Commands.Exercise.{IsLeft}
 use Rattle.dvd_top.proofs.ExerciseTrials.{none_behind}

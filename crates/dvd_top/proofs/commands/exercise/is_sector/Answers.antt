@@ -1,3 +1,4 @@
+-- The proof of `is_sector` in src/commands/exercise.rt.
 use Rattle.std.proofs.Common.{◌≡◌, ◌∙◌, ◌+◌, ◌-◌, ◌*◌, ap, arith, drop, take}
 use Rattle.std.specs.Str.{bytes_eq}
 use Rattle.dvd_block.specs.Product.{line}

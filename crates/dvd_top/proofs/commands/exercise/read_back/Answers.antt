@@ -1,3 +1,4 @@
+-- The proof of `read_back` in src/commands/exercise.rt.
 use Rattle.std.proofs.Common.{◌≡◌, ◌∙◌, ◌+◌, true, None, Some, IfErr, sym, ap, subst}
 use Rattle.dvd_capture.specs.Works.{marks_of_work, rows_of}
 use Rattle.dvd_read.specs.Found.{block_differences}

@@ -1,3 +1,4 @@
+-- The proof of `run_exercise` in src/commands/exercise.rt.
 use Rattle.std.proofs.Common.{refl}
 use Rattle.dvd_top.specs.Commands.Exercise.{exercise_units}
 use Rattle.dvd_words.specs.declared.settings.Command.TheVariants.{Exercise}

@@ -1,3 +1,4 @@
+-- The proof of `ask_block` in src/commands/info.rt.
 use Rattle.std.proofs.Common.{sym, subst}
 use Rattle.dvd_capture.specs.Works.{marks_of_work, rows_of}
 use Rattle.dvd_loop.specs.Streams.{streams}

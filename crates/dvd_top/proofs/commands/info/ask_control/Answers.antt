@@ -1,3 +1,4 @@
+-- The proof of `ask_control` in src/commands/info.rt.
 use Rattle.std.proofs.Common.{◌∙◌, subst}
 use Rattle.std.specs.Io.KnownBytes.{Appends}
 use Rattle.dvd_ports.specs.Whole.{AppendsPrefix}

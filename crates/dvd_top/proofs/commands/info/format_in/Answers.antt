@@ -1,3 +1,4 @@
+-- The proof of `format_in` in src/commands/info.rt.
 use Rattle.std.proofs.Common.{◌≡◌, ◌∙◌, inr, Some, refl, ap, sym}
 use Rattle.dvd_capture.specs.Works.{marks_of_work, rows_of, sectors_of}
 use Rattle.dvd_control.specs.Format.{control_fault}

@@ -1,3 +1,4 @@
+-- The proof of `info_listed` in src/commands/info.rt.
 use Rattle.dvd_top.specs.Commands.Info.{info_units}
 use Rattle.dvd_top.specs.Headline.{GoesOver}
 use Rattle.dvd_words.specs.declared.settings.Command.TheVariants.{Info}

@@ -1,3 +1,4 @@
+-- The proof of `info_loop` in src/commands/info.rt.
 use Rattle.std.proofs.Common.{refl}
 use Rattle.dvd_loop.proofs.LoopEnds.{never_told}
 use Rattle.dvd_top.specs.Commands.Info.{info_units}

@@ -1,3 +1,4 @@
+-- The proof of `run_info` in src/commands/info.rt.
 use Rattle.std.proofs.Common.{subst}
 use Rattle.dvd_top.specs.Commands.Info.{info_units}
 use Rattle.dvd_top.specs.Inner.Opened.{IsWordedInitial}

@@ -1,3 +1,4 @@
+-- The proof of `fill_block` in src/commands/master.rt.
 use Rattle.std.proofs.Common.{subst, arith, below_more}
 use Rattle.dvd_block.specs.Buffers.{block_rows}
 use Rattle.dvd_block.specs.Product.{HoldsFrame}

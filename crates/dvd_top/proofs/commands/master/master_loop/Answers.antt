@@ -1,3 +1,4 @@
+-- The proof of `master_loop` in src/commands/master.rt.
 use Rattle.std.proofs.Common.{refl}
 use Rattle.dvd_loop.proofs.LoopEnds.{never_told, plain_end}
 use Rattle.dvd_top.specs.Commands.Master.{bytes_of_block, master_units}

@@ -1,3 +1,4 @@
+-- The proof of `run_master` in src/commands/master.rt.
 use Rattle.std.proofs.Common.{refl}
 use Rattle.dvd_top.specs.Commands.Master.{master_units}
 use Rattle.dvd_words.specs.declared.settings.Command.TheVariants.{Master}

@@ -1,3 +1,4 @@
+-- The proof of `write_main` in src/commands/master.rt.
 use Rattle.std.proofs.Common.{◌≡◌, ap, ◌∙◌, ◌+◌, ◌-◌, ◌*◌, take, drop, arith}
 use Rattle.dvd_top.proofs.commands.master.write_main.Goals as goal
 

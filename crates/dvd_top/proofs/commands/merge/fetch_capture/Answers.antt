@@ -1,3 +1,4 @@
+-- The proof of `fetch_capture` in src/commands/merge.rt.
 use Rattle.std.proofs.Common.{◌<◌, subst, arith}
 use Rattle.dvd_capture.proofs.Fetching.{sized-block}
 use Rattle.dvd_top.proofs.MergeCaptures.{capture_failed, capture_none, capture_short, held-few}

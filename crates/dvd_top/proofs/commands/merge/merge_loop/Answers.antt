@@ -1,3 +1,4 @@
+-- The proof of `merge_loop` in src/commands/merge.rt.
 use Rattle.std.proofs.Common.{◌*◌, refl}
 use Rattle.dvd_capture.specs.Captured.{block_size}
 use Rattle.dvd_loop.proofs.LoopEnds.{never_told, plain_end}

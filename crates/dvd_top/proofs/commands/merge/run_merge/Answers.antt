@@ -1,3 +1,4 @@
+-- The proof of `run_merge` in src/commands/merge.rt.
 use Rattle.std.proofs.Common.{refl}
 use Rattle.dvd_top.specs.Commands.Merge.{merge_units}
 use Rattle.dvd_words.specs.declared.settings.Command.TheVariants.{Merge}

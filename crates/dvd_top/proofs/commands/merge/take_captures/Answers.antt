@@ -1,3 +1,4 @@
+-- The proof of `take_captures` in src/commands/merge.rt.
 use Rattle.std.proofs.Common.{◌∙◌, refl}
 use Rattle.dvd_loop.specs.Streams.{no_stream}
 use Rattle.dvd_loop.proofs.TurnLemmas.{err_is}

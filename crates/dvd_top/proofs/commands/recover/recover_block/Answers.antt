@@ -1,3 +1,4 @@
+-- The proof of `recover_block` in src/commands/recover.rt.
 use Rattle.dvd_top.proofs.EntryBlocks.{an_image, no_image}
 use Rattle.dvd_top.proofs.commands.recover.recover_block.Goals as goal
 

@@ -1,3 +1,4 @@
+-- The proof of `recover_image` in src/commands/recover.rt.
 use Rattle.std.proofs.Common.{inr, subst}
 use Rattle.std.specs.Io.KnownBytes.{Appends}
 use Rattle.dvd_ports.specs.Whole.{AppendsPrefix}

@@ -1,3 +1,4 @@
+-- The proof of `recover_listed` in src/commands/recover.rt.
 use Rattle.dvd_top.specs.Commands.Recover.{recover_units}
 use Rattle.dvd_top.specs.Headline.{GoesOver}
 use Rattle.dvd_words.specs.declared.settings.Command.TheVariants.{Recover}

@@ -1,3 +1,4 @@
+-- The proof of `recover_loop` in src/commands/recover.rt.
 use Rattle.std.proofs.Common.{refl}
 use Rattle.dvd_top.specs.Commands.Recover.{recover_units}
 use Rattle.dvd_top.proofs.CaptureEnds.{capture_end}

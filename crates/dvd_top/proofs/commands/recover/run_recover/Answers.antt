@@ -1,3 +1,4 @@
+-- The proof of `run_recover` in src/commands/recover.rt.
 use Rattle.std.proofs.Common.{subst}
 use Rattle.dvd_top.specs.Commands.Recover.{recover_units}
 use Rattle.dvd_top.specs.Inner.Opened.{IsWorded}

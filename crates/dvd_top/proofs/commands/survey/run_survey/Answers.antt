@@ -1,3 +1,4 @@
+-- The proof of `run_survey` in src/commands/survey.rt.
 use Rattle.std.proofs.Common.{subst}
 use Rattle.dvd_top.specs.Commands.Survey.{survey_units}
 use Rattle.dvd_top.specs.Inner.Opened.{IsWorded}

@@ -1,3 +1,4 @@
+-- The proof of `survey_block` in src/commands/survey.rt.
 use Rattle.std.proofs.Common.{◌≡◌, ◌∙◌, ◌-◌, List, [], ◌∷◌, ◌++◌, length, length-append, refl, ap, arith}
 use Rattle.dvd_capture.specs.Works.{marks_of_work, rows_of}
 use Rattle.dvd_loop.proofs.TurnLemmas.{err_is, write_begun, write_done}

@@ -1,3 +1,4 @@
+-- The proof of `survey_by` in src/commands/survey.rt.
 use Rattle.dvd_top.specs.Commands.Survey.{found_in}
 use Rattle.dvd_top.proofs.commands.survey.survey_by.Goals as goal
 

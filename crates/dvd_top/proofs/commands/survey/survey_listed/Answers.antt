@@ -1,3 +1,4 @@
+-- The proof of `survey_listed` in src/commands/survey.rt.
 use Rattle.dvd_top.specs.Commands.Survey.{survey_units}
 use Rattle.dvd_top.specs.Headline.{GoesOver}
 use Rattle.dvd_words.specs.declared.settings.Command.TheVariants.{Survey}

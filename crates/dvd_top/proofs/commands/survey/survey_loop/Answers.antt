@@ -1,3 +1,4 @@
+-- The proof of `survey_loop` in src/commands/survey.rt.
 use Rattle.std.proofs.Common.{refl}
 use Rattle.dvd_top.specs.Commands.Survey.{survey_units}
 use Rattle.dvd_top.proofs.CaptureEnds.{capture_end}

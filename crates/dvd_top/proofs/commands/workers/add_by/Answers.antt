@@ -1,3 +1,4 @@
+-- The proof of `add_by` in src/commands/workers.rt.
 use Rattle.dvd_top.proofs.commands.workers.add_by.Goals as goal
 
 pub returns-clause-product : goal.returns-clause-product

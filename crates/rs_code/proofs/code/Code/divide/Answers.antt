@@ -1,3 +1,4 @@
+-- The proof of `Code::divide` in src/code.rt.
 use Rattle.std.proofs.Common.{◌≡◌, length, ◌∙◌, sym, arith}
 use Rattle.std.proofs.lemmas.List.Elements.{All-from_get_or}
 use Rattle.gf_field.specs.Words.{IsByte}

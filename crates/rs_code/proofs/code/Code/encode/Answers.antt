@@ -1,3 +1,4 @@
+-- The proof of `Code::encode` in src/code.rt.
 use Rattle.std.proofs.Common.{◌++◌, subst, arith}
 use Rattle.gf_field.specs.Words.{IsEncoded}
 use Rattle.rs_code.proofs.Codewords.{IsEncoded-from_codeword}

@@ -1,3 +1,4 @@
+-- The proof of `Code::is_codeword` in src/code.rt.
 use Rattle.std.proofs.Common.{arith}
 use Rattle.rs_code.proofs.Codewords.{IsCodeword-remainder}
 use Rattle.rs_code.proofs.code.Code.is_codeword.Goals as goal

@@ -1,3 +1,4 @@
+-- The proof of `Code::remainder` in src/code.rt.
 use Rattle.std.proofs.Common.{◌≡◌, length, All, sym, ◌∙◌, subst, ap, arith}
 use Rattle.std.proofs.lemmas.List.Elements.{All-append}
 use Rattle.gf_field.specs.Field.{alpha, power}

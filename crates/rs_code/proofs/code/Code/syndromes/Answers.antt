@@ -1,3 +1,4 @@
+-- The proof of `Code::syndromes` in src/code.rt.
 use Rattle.std.proofs.Common.{◌∙◌}
 use Rattle.rs_code.proofs.Syndromes.{syndromes_of-same}
 use Rattle.rs_code.proofs.code.Code.syndromes.Goals as goal

@@ -1,3 +1,4 @@
+-- The proof of `Erasures::is_empty` in src/places.rt.
 use Rattle.std.proofs.Common.{ap, length, sym, ◌∙◌, ◌==◌}
 use Rattle.std.proofs.lemmas.Bool.{eqb-true}
 use Rattle.rs_decode.proofs.Fillings.{points-few}

@@ -1,3 +1,4 @@
+-- The proof of `Erasures::none` in src/places.rt.
 use Rattle.std.proofs.Common.{replicate, length, false, sym, ◌∙◌}
 use Rattle.std.proofs.lemmas.List.{length-replicate}
 use Rattle.rs_code.specs.Inner.PowerSums.{points_of}

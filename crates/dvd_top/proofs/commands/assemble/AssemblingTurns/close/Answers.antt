@@ -1,3 +1,4 @@
+-- The proof of `close` of `Turns` for `Assembling` in src/commands/assemble.rt.
 use Rattle.std.proofs.Common.{◌≡◌, ◌∙◌, ◌-◌, [], ◌∷◌, Ok, Err, ap, sym, subst, arith}
 use Rattle.dvd_assemble.specs.Shelves.{tables_of}
 use Rattle.dvd_loop.specs.Machine.Step.{Tell}

@@ -1,3 +1,4 @@
+-- The proof of `turn` of `Turns` for `Assembling` in src/commands/assemble.rt.
 use Rattle.std.proofs.Common.{refl, arith}
 use Rattle.dvd_assemble.specs.Shelves.{tables_of}
 use Rattle.dvd_assemble.specs.Works.{captured}

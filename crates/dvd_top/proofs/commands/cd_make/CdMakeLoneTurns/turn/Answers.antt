@@ -1,3 +1,4 @@
+-- The proof of `turn` of `LoneTurns` for `CdMake` in src/commands/cd_make.rt.
 use Rattle.std.proofs.Common.{◌≡◌, length, refl, arith}
 use Rattle.dvd_loop.proofs.TurnLemmas.{err_is, sized_done, sized_short, write_begun, write_done}
 use Rattle.dvd_top.proofs.commands.cd_make.CdMakeLoneTurns.turn.Goals as goal

@@ -1,3 +1,4 @@
+-- The proof of `turn` of `LoneTurns` for `CdRead` in src/commands/cd_read.rt.
 use Rattle.std.proofs.Common.{◌≡◌, length, refl, arith}
 use Rattle.dvd_loop.proofs.TurnLemmas.{err_is, sized_done, sized_short}
 use Rattle.dvd_top.proofs.commands.cd_read.CdReadLoneTurns.turn.Goals as goal

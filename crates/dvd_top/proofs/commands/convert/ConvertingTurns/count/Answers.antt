@@ -1,3 +1,4 @@
+-- The proof of `count` of `Turns` for `Converting` in src/commands/convert.rt.
 use Rattle.std.proofs.Common.{arith}
 use Rattle.dvd_top.proofs.Lengths.{plan-few}
 use Rattle.dvd_top.proofs.commands.convert.ConvertingTurns.count.Goals as goal

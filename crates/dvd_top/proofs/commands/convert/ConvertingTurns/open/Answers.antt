@@ -1,3 +1,4 @@
+-- The proof of `open` of `Turns` for `Converting` in src/commands/convert.rt.
 use Rattle.std.proofs.Common.{[], ◌∷◌, subst, sym}
 use Rattle.std.specs.Io.KnownBytes.{Appends}
 use Rattle.dvd_capture.specs.Header.{header_bytes}

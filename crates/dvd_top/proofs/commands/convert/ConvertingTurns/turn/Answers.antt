@@ -1,3 +1,4 @@
+-- The proof of `turn` of `Turns` for `Converting` in src/commands/convert.rt.
 use Rattle.std.proofs.Common.{refl}
 use Rattle.dvd_loop.specs.declared.ends.Turn.TheVariants.{Good}
 use Rattle.dvd_loop.proofs.TurnLemmas.{err_is, write_begun, write_done}

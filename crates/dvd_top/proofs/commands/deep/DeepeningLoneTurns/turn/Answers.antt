@@ -1,3 +1,4 @@
+-- The proof of `turn` of `LoneTurns` for `Deepening` in src/commands/deep.rt.
 use Rattle.std.proofs.Common.{refl}
 use Rattle.dvd_layout.specs.Plan.{plan_of}
 use Rattle.dvd_loop.proofs.TurnLemmas.{err_is}

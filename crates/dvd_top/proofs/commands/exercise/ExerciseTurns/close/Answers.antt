@@ -1,3 +1,4 @@
+-- The proof of `close` of `Turns` for `Exercise` in src/commands/exercise.rt.
 use Rattle.std.proofs.Common.{◌∙◌, [], ◌∷◌, sym, subst}
 use Rattle.dvd_loop.specs.Machine.Step.{Write}
 use Rattle.dvd_loop.specs.Streams.{streams}

@@ -1,3 +1,4 @@
+-- The proof of `turn` of `Turns` for `Exercise` in src/commands/exercise.rt.
 use Rattle.std.proofs.Common.{◌∙◌, ◌+◌, [], ◌∷◌, length-append, refl, sym, ap, subst, arith}
 use Rattle.dvd_block.specs.Buffers.{block_rows, piece_bytes}
 use Rattle.dvd_exercise.specs.Generator.{state_of}

@@ -1,3 +1,4 @@
+-- The proof of `turn` of `LoneTurns` for `Frames` in src/commands/frames.rt.
 use Rattle.std.proofs.Common.{◌≡◌, [], ◌∷◌, length, refl, ap, arith}
 use Rattle.dvd_loop.specs.Machine.Step.{Write}
 use Rattle.dvd_loop.proofs.TurnLemmas.{err_is, sized_done, sized_short, write_begun, write_done}

@@ -1,3 +1,4 @@
+-- The proof of `turn` of `Turns` for `Info` in src/commands/info.rt.
 use Rattle.std.proofs.Common.{refl}
 use Rattle.dvd_layout.specs.Plan.{lead_in_blocks}
 use Rattle.dvd_loop.proofs.TurnLemmas.{err_is}

@@ -1,3 +1,4 @@
+-- The proof of `turn` of `LoneTurns` for `Master` in src/commands/master.rt.
 use Rattle.std.proofs.Common.{◌≡◌, refl, sym, ◌∙◌}
 use Rattle.dvd_block.specs.Buffers.{piece_bytes}
 use Rattle.dvd_loop.proofs.TurnLemmas.{err_is, sized_done, sized_short, write_begun, write_done}

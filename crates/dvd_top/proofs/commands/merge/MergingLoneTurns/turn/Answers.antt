@@ -1,3 +1,4 @@
+-- The proof of `turn` of `LoneTurns` for `Merging` in src/commands/merge.rt.
 use Rattle.std.proofs.Common.{[], ◌∷◌, refl, ap}
 use Rattle.dvd_loop.specs.Machine.Step.{Write}
 use Rattle.dvd_loop.proofs.TurnLemmas.{err_is, sized_done, sized_short, write_begun, write_done}

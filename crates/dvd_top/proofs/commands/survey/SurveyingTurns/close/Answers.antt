@@ -1,3 +1,4 @@
+-- The proof of `close` of `Turns` for `Surveying` in src/commands/survey.rt.
 use Rattle.std.proofs.Common.{[], ◌∷◌, refl, subst, sym}
 use Rattle.dvd_loop.specs.Machine.Step.{Write}
 use Rattle.dvd_loop.specs.Streams.{streams}

@@ -1,3 +1,4 @@
+-- The proof of `turn` of `Turns` for `Surveying` in src/commands/survey.rt.
 use Rattle.std.proofs.Common.{◌≤◌, ◌<◌, length, refl, arith}
 use Rattle.dvd_layout.specs.Plan.{plan_of}
 use Rattle.dvd_loop.proofs.TurnLemmas.{err_is}
