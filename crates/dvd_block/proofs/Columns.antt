@@ -1,17 +1,10 @@
--- Columns of a block: their length and bytes, and words that agree with one place by place or are encoded in it.
-use Rattle.std.proofs.Common.{◌≡◌, ℕ, ◌<◌, ◌≤◌, List, [], ◌++◌, length, get_or, take, drop, sym, ◌∙◌, ap, subst, arith}
-use Rattle.std.proofs.lemmas.List.{get_or-map, get_or-take, length-map, length-take, take_all, take_at, take-append-drop}
+-- Columns of a block: their length and bytes, as of columns of any rows, and words that agree with one place by place or are encoded in it.
+use Rattle.std.proofs.Common.{◌≡◌, ℕ, ◌<◌, ◌≤◌, List, ◌++◌, length, get_or, take, drop, sym, ◌∙◌, ap, subst, arith}
+use Rattle.std.proofs.lemmas.List.{get_or-take, length-take, take_all, take_at, take-append-drop}
 use Rattle.std.proofs.lemmas.Grind.{same_number_lists}
 use Rattle.gf_field.specs.Words.{IsCodeword, IsEncoded}
+pub use Rattle.rs_lanes.proofs.ColumnLemmas.{length-column, get_or-column}
 use Rattle.dvd_block.specs.Product.{place, column}
-
--- a column has a byte of each row
-pub length-column : (block : List (List ℕ)) (j : ℕ) → length (column block j) ≡ length block
-length-column block j = length-map block (λ (row : List ℕ). get_or row j 0)
-
--- byte i of a column stands in row i
-pub get_or-column : (block : List (List ℕ)) (j i : ℕ) → i < length block → get_or (column block j) i 0 ≡ place block i j
-get_or-column block j i below = get_or-map (λ (row : List ℕ). get_or row j 0) block i [] 0 below
 
 -- bytes that agree with a column place by place are its upper end
 pub upper_end : (block : List (List ℕ)) (j n : ℕ) (top : List ℕ) → length top ≡ n → n ≤ length block
@@ -19,7 +12,7 @@ pub upper_end : (block : List (List ℕ)) (j n : ℕ) (top : List ℕ) → lengt
 upper_end block j n top size within each =
     same_number_lists top (take n (column block j))
     (omega (arith, length-take n (column block j), length-column block j))
-    (λ i below. each i below ∙ sym (get_or-take n (column block j) i 0 (omega arith) ∙ get_or-column block j i (omega arith)))
+    (λ i below. each i below ∙ sym (get_or-take n (column block j) i 0 (omega arith) ∙ get_or-column block j i))
 
 -- what an encoder leaves of a column: its upper end, and the parity
 pub column_encoded : (front top behind word : List ℕ) → length top ≡ 192 → top ≡ front → IsEncoded 208 16 (take 192 (top ++ behind)) word

@@ -53,7 +53,7 @@ module _ (old upper cells block : List (List ℕ)) (filled : IsFilled old upper 
       (λ t below.
       let small : t < 16 = omega (arith, length-drop 192 (column block j)) in
       get_or-drop 192 (column block j) t 0
-      ∙ get_or-column block j (192 + t) (omega (arith, filled.height))
+      ∙ get_or-column block j (192 + t)
       ∙ filled.placed t j small within)
 
   -- each of the 182 columns is a codeword of the outer code
@@ -83,7 +83,7 @@ module _ (old upper cells block : List (List ℕ)) (filled : IsFilled old upper 
   row_bytes i below = λ j d within.
       let size : length (line block i) ≡ 182 = row_size i below in
       let column_is : IsCodeword 208 16 (column block j) = column_codeword j (omega arith) in
-      subst IsByte (get_or-column block j i (omega (arith, filled.height)) ∙ get_or_default (line block i) j 0 d within)
+      subst IsByte (get_or-column block j i ∙ get_or_default (line block i) j 0 d within)
       (column_is.bytes i 0 (omega (arith, column_is.size)))
 
   -- the rows of outer parity are codewords of the inner code too, because every column is one of the outer code
@@ -129,6 +129,6 @@ filled_below old upper lower upper_height lower_height rows columns sizes =
           rw (whole, cell j within) (columns j within).codeword;
       placed = λ t j small within.
           ap (λ (row : List ℕ). get_or row j 0) (below t)
-          ∙ sym (ap (λ (word : List ℕ). get_or word t 0) (cell j within) ∙ get_or-column lower j t (omega arith));
+          ∙ sym (ap (λ (word : List ℕ). get_or word t 0) (cell j within) ∙ get_or-column lower j t);
       sizes = λ t small. ap (λ (row : List ℕ). length row) (below t) ∙ sizes t small;
     }

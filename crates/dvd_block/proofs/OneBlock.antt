@@ -50,9 +50,9 @@ same_column frames a b is_a is_b j within =
     same_number_lists (take 192 (column b j)) (take 192 (column a j)) (top_b ∙ sym top_a)
     (λ i below.
     let above : i < 192 = omega arith in
-    get_or-take 192 (column b j) i 0 above ∙ get_or-column b j i (omega (arith, is_b.product.height))
+    get_or-take 192 (column b j) i 0 above ∙ get_or-column b j i
     ∙ ap (λ (row : List ℕ). get_or row j 0) (sym (same_upper_row frames a b is_a is_b i above))
-    ∙ sym (get_or-take 192 (column a j) i 0 above ∙ get_or-column a j i (omega (arith, is_a.product.height)))) in
+    ∙ sym (get_or-take 192 (column a j) i 0 above ∙ get_or-column a j i)) in
     encoded_once 208 16 (take 192 (column a j)) (column a j) (column b j) (omega arith) (omega arith)
     (record { codeword = is_a.product.columns j within; begins = refl }) (record { codeword = is_b.product.columns j within; begins = message })
 
@@ -68,9 +68,9 @@ one_block_at_most frames a b is_a is_b =
         same_number_lists (line a i) (line b i) (size_a ∙ sym size_b)
         (λ j within.
         let inside : j < 182 = omega arith in
-        sym (get_or-column a j i (omega (arith, is_a.product.height)))
+        sym (get_or-column a j i)
         ∙ ap (λ (word : List ℕ). get_or word i 0) (same_column frames a b is_a is_b j inside)
-        ∙ get_or-column b j i (omega (arith, is_b.product.height)))
+        ∙ get_or-column b j i)
 
 -- a list whose elements are found one by one
 pub record Found (P : ℕ → List ℕ → Type 0) (n : ℕ) : Type 0 where
@@ -159,7 +159,7 @@ module _ (frames : List (List ℕ)) (sizes : (f : ℕ) → f < 16 → length (li
   All-upper_column j within = λ i d below.
       let above : i < 192 = omega (arith, length-upper_column j) in
       let codeword : IsCodeword 182 10 (line upper i) = (rows.each i above).codeword in
-      subst IsByte (sym (get_or_default (column upper j) i d 0 below ∙ get_or-column upper j i (omega (arith, rows.size))))
+      subst IsByte (sym (get_or_default (column upper j) i d 0 below ∙ get_or-column upper j i))
       (codeword.bytes j 0 (omega (arith, codeword.size)))
 
   -- each of the 182 columns has a word of 208 bytes: itself and its outer parity
@@ -191,7 +191,7 @@ module _ (frames : List (List ℕ)) (sizes : (f : ℕ) → f < 16 → length (li
       is.each j within
       ∙ sym (get_or-take 192 (line words.list j) i 0 above)
       ∙ ap (λ (word : List ℕ). get_or word i 0) (words.each j within).begins
-      ∙ get_or-column upper j i (omega (arith, rows.size)))
+      ∙ get_or-column upper j i)
 
   -- so the rows across the columns' words are filled with inner parity, then with outer parity
   filled : IsFilled upper upper cells lines.list

@@ -10,7 +10,7 @@ use Rattle.dvd_layout.specs.declared.layout.Layout.{Layout}
 use Rattle.dvd_layout.specs.declared.layout.Shape.{Shape}
 use Rattle.dvd_layout.specs.declared.layout.Shape.TheVariants.{Single, Parallel, Opposite}
 use Rattle.dvd_layout.specs.declared.zone.Zone.{Zone}
-use Rattle.dvd_layout.specs.Lengths.{has_two_layers, is_opposite, padded}
+use Rattle.dvd_layout.specs.Lengths.{data_first, has_two_layers, is_opposite, padded}
 use Rattle.dvd_layout.specs.Plan.{entry_of, entries_of, first_data, is_data, plan_of, second_data, second_first, zones_by}
 use Rattle.dvd_layout.proofs.Blocks.{length-entries_of}
 use Rattle.dvd_control.specs.Format.{HasLeadIn, fields_for}
@@ -71,10 +71,14 @@ one-zone layer zones zone last alone some ends =
     ap (option_map (λ entry. entry.first + 15)) block ∙ ap Some number
 
 -- the last sector that the lead-in of a layer tells, by the shape
-abbrev last_by : Shape → Layout → ℕ → ℕ
+abbrev pub last_by : Shape → Layout → ℕ → ℕ
 last_by shape layout layer =
-    if is_opposite shape then 0xFD0000 - padded layout.sectors0 + padded layout.sectors1 - 1
-    else 0x30000 + padded (if layer == 0 then layout.sectors0 else layout.sectors1) - 1
+    if is_opposite shape then second_first layout + padded layout.sectors1 - 1
+    else data_first + padded (if layer == 0 then layout.sectors0 else layout.sectors1) - 1
+
+-- on the opposite track path the data of layer 1 begin as far before FD0000 as those of layer 0 are long
+pub opposite-first : (layout : Layout) → layout.shape ≡ Opposite → second_first layout ≡ 0xFD0000 - padded layout.sectors0
+opposite-first layout is = ap (λ s. if is_opposite s then 0xFD0000 - padded layout.sectors0 else data_first) is
 
 -- the lead-in of a layer tells the last sector of the Data Zone
 abbrev IsTold : Layout → Shape → ℕ → Type 0
@@ -95,11 +99,11 @@ shape-told layout Parallel layer is (inl zero) =
     subst (IsTold layout Parallel) (sym zero) (one-zone 0 (zones_by layout Parallel) (first_data layout) _ refl (omega arith) (omega arith))
 shape-told layout Parallel layer is (inr one) =
     let some = layout.second_layer (ap has_two_layers is) in
-    let begins : second_first layout ≡ 0x30000 = ap (λ s. if is_opposite s then 0xFD0000 - padded layout.sectors0 else 0x30000) is in
+    let begins : second_first layout ≡ data_first = ap (λ s. if is_opposite s then 0xFD0000 - padded layout.sectors0 else data_first) is in
     subst (IsTold layout Parallel) (sym one.0) (one-zone 1 (zones_by layout Parallel) (second_data layout) _ refl (omega arith) (omega arith))
 shape-told layout Opposite layer is lead_in =
     let some = layout.second_layer (ap has_two_layers is) in
-    let begins : second_first layout ≡ 0xFD0000 - padded layout.sectors0 = ap (λ s. if is_opposite s then 0xFD0000 - padded layout.sectors0 else 0x30000) is in
+    let begins = opposite-first layout is in
     one-zone 1 (zones_by layout Opposite) (second_data layout) _ refl (omega arith) (omega arith)
 
 -- the lead-in of a layer tells the last sector of the last block of the Data Zone that it speaks of

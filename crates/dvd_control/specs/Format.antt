@@ -4,7 +4,8 @@ use Rattle.std.specs.declared.option.Option.{Option}
 use Rattle.dvd_layout.specs.declared.layout.Layout.{Layout}
 use Rattle.dvd_layout.specs.declared.layout.Shape.{Shape}
 use Rattle.dvd_layout.specs.declared.layout.Shape.TheVariants.{Parallel}
-use Rattle.dvd_layout.specs.Lengths.{has_two_layers, is_opposite, padded}
+use Rattle.dvd_layout.specs.Lengths.{data_first, has_two_layers, is_opposite, padded}
+use Rattle.dvd_layout.specs.Plan.{second_first}
 use Rattle.dvd_control.specs.declared.format.PhysicalFormat.{PhysicalFormat}
 use Rattle.dvd_control.specs.declared.format.ControlFault.{ControlFault}
 use Rattle.dvd_control.specs.declared.format.ControlFault.TheVariants.{Category, Size, Layers, Range}
@@ -95,7 +96,7 @@ control_fault bytes =
     if nat_lt 15 (slice_index bytes 0) then Some (Category (slice_index bytes 0))
     else if nat_lt 15 (slice_index bytes 1) then Some (Size (slice_index bytes 1))
     else if nat_lt 1 (slice_index bytes 2 / 32 % 4) then Some (Layers (slice_index bytes 2))
-    else if not (number_at bytes 5 == 0x30000) || nat_lt (number_at bytes 9) (number_at bytes 5) then Some (Range (number_at bytes 5) (number_at bytes 9))
+    else if not (number_at bytes 5 == data_first) || nat_lt (number_at bytes 9) (number_at bytes 5) then Some (Range (number_at bytes 5) (number_at bytes 9))
     else None
 
 -- the physical format that the lead-in of a layer tells: version 1, 10.08 Mbit/s, no burst cutting area; the last sector is
@@ -109,10 +110,10 @@ fields_for layout layer = record {
   kind = 1;
   density = (if has_two_layers layout.shape then 1 else 0);
   pitch = 0;
-  first = 0x30000;
-  last = (if is_opposite layout.shape then 0xFD0000 - padded layout.sectors0 + padded layout.sectors1 - 1
-      else 0x30000 + padded (if layer == 0 then layout.sectors0 else layout.sectors1) - 1);
-  layer0_last = (if is_opposite layout.shape then 0x30000 + padded layout.sectors0 - 1 else 0);
+  first = data_first;
+  last = (if is_opposite layout.shape then second_first layout + padded layout.sectors1 - 1
+      else data_first + padded (if layer == 0 then layout.sectors0 else layout.sectors1) - 1);
+  layer0_last = (if is_opposite layout.shape then data_first + padded layout.sectors0 - 1 else 0);
   bca = false;
 }
 

@@ -1,8 +1,9 @@
 //! The physical format of a disk, as the Control Data Zone tells it.
 ghost use Rattle.std.specs.Prelude.{◌≡◌, ◌+◌, ◌-◌, ◌<◌, ◌≤◌, ◌^◌, None, Some, IfErr, IfOk};
+ghost use Rattle.dvd_layout.specs.Lengths.{data_first};
 
-use crate::numbers::{DATA_FIRST, last_of, last_of_layer_0, number_at, three_bytes};
-use dvd_layout::Layout;
+use crate::numbers::{last_of, last_of_layer_0, number_at, three_bytes};
+use dvd_layout::{DATA_FIRST, Layout};
 use thiserror::Error;
 
 /// What the physical format tells of a disk: version of the format, maximum rate, layers and track path, kind of the
@@ -43,7 +44,7 @@ pub struct PhysicalFormat {
     /// The number of the track pitch has four bits.
     pub ghost small_pitch: { pitch < 16 },
     /// The Data Zone begins at 030000.
-    pub ghost begins: { first ≡ 0x30000 },
+    pub ghost begins: { first ≡ data_first },
     /// It ends no earlier than it begins.
     pub ghost ends: { first ≤ last },
     /// Its last sector number has 24 bits.

@@ -1,29 +1,24 @@
 //! Sector numbers of a physical format: those of a layout, and three bytes for each.
 ghost use Rattle.std.specs.Prelude.{◌≡◌, ◌+◌, ◌-◌, ◌<◌, ◌≤◌, ◌^◌};
-ghost use Rattle.dvd_layout.specs.Lengths.{padded};
+ghost use Rattle.dvd_layout.specs.Lengths.{data_first, padded};
 ghost use Rattle.dvd_control.specs.Format.{HasLeadIn, fields_for, number_at, three_bytes};
 
-use dvd_layout::{Layout, Shape};
+use dvd_layout::{DATA_FIRST, Layout, Shape};
 
-// The first sector of the Data Zone.
-pub(crate) const DATA_FIRST: u32 = 0x03_0000;
-
-// Where the data of layer 1 end on the opposite track path if layer 0 has as many blocks.
-const SECOND_END: u32 = 0xFD_0000;
-
-// The sectors of a layer rounded up to whole ECC blocks.
-fn padded(sectors: u32) -> u32
-    requires { padded sectors < 2 ^ 32 }
-    ensures { result ≡ padded sectors }
+// The last of these data sectors, which fill whole ECC blocks from `first` on.
+fn last_from(first: u32, sectors: u32) -> u32
+    requires begins { 0 < first }
+    requires ends { first + padded sectors ≤ 2 ^ 24 }
+    ensures { result ≡ first + padded sectors - 1 }
 {
-    16 * sectors.div_ceil(16)
+    first + 16 * sectors.div_ceil(16) - 1
 }
 
 // The last sector of the data of layer 0.
 pub(crate) fn last_of_layer_0(layout: &Layout) -> u32
-    ensures { result ≡ 0x30000 + padded layout.now.sectors0 - 1 }
+    ensures { result ≡ data_first + padded layout.now.sectors0 - 1 }
 {
-    DATA_FIRST + padded(layout.sectors0) - 1
+    last_from(DATA_FIRST, layout.sectors0)
 }
 
 // The last sector of the Data Zone that the lead-in of a layer tells.
@@ -31,14 +26,13 @@ pub(crate) fn last_of_layer_0(layout: &Layout) -> u32
 pub(crate) fn last_of(layout: &Layout, layer: u8) -> u32
     requires { HasLeadIn layout.now.shape layer }
     ensures last { result ≡ (fields_for layout.now layer).last }
-    ensures behind { 0x30000 ≤ result }
+    ensures behind { data_first ≤ result }
     ensures number { result < 2 ^ 24 }
 {
     match layout.shape {
         Shape::Single => last_of_layer_0(layout),
         Shape::Parallel if layer == 0 => last_of_layer_0(layout),
-        Shape::Parallel => DATA_FIRST + padded(layout.sectors1) - 1,
-        Shape::Opposite => SECOND_END - padded(layout.sectors0) + padded(layout.sectors1) - 1,
+        Shape::Parallel | Shape::Opposite => last_from(layout.second_first(), layout.sectors1),
     }
 }
 

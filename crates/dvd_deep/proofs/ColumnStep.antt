@@ -39,7 +39,7 @@ same-column a b j size_a size_b same =
     same_number_lists (column a j) (column b j) (length-column a j ∙ size_a ∙ sym (length-column b j ∙ size_b))
     (λ i within.
     let below : i < 208 = omega (arith, length-column a j, size_a) in
-    get_or-column a j i (omega arith) ∙ same i below ∙ sym (get_or-column b j i (omega arith)))
+    get_or-column a j i ∙ same i below ∙ sym (get_or-column b j i))
 
 -- flags that are the marks of column j, row by row, are its marks
 pub marks-read : (marks : List (List Bool)) (j : ℕ) (own : List Bool) → length own ≡ 208 → ((i : ℕ) → i < 208 → get_or own i false ≡ mark_in marks i j)
@@ -166,7 +166,7 @@ columns-all failed state rows marks height marks_height marks_wide part =
 pub unanswered-put : (found : Option (List ℕ)) (rows : List (List ℕ)) (j : ℕ) → length rows ≡ 208 → is_some found ≡ false
     → IsColumnPut j (unwrap_or found (column rows j)) rows rows
 unanswered-put None rows j height none = record {
-  here = λ i below. sym (get_or-column rows j i (omega (arith, height)));
+  here = λ i below. sym (get_or-column rows j i);
   others = λ i k below inside other. refl;
 }
 unanswered-put (Some word) rows j height none = absurd (true≢false none)

@@ -15,7 +15,7 @@ use Rattle.dvd_block.specs.Product.{IsProduct, column, line}
 use Rattle.dvd_block.proofs.Columns.{length-column}
 use Rattle.dvd_capture.specs.TwoPass.{from_columns}
 use Rattle.dvd_capture.proofs.Columns.{column-from_columns, from_columns-line, length-from_columns}
-use Rattle.dvd_deep.specs.Rounds.{State, after, are_answered, column_marks, column_near, column_step, deep_block, failed_rows, finishes, first_round, mark_in, round, row_near, row_step, state_in}
+use Rattle.dvd_deep.specs.Rounds.{State, after, are_answered, column_marks, column_near, column_step, deep_block, failed_marks, finishes, first_round, mark_in, round, row_near, row_step, state_in}
 use Rattle.dvd_deep.specs.Laws.{WhatIsFoundIsProduct}
 use Rattle.dvd_deep.proofs.ColumnStep.{column_then}
 use Rattle.dvd_deep.proofs.RowStep.{row_then}
@@ -38,8 +38,8 @@ unfolding row_step
 row_step-height state = length-map-range_with_len (row_then state) 0 208
 
 -- each row has failed or not
-pub length-failed : (state : State) → length (failed_rows state) ≡ 208
-unfolding failed_rows
+pub length-failed : (state : State) → length (failed_marks state) ≡ 208
+unfolding failed_marks
 length-failed state = length-map-range_with_len (λ i. is_none (row_near state i)) 0 208
 
 -- a column has 208 marks
@@ -119,25 +119,25 @@ tested-product words size codewords passes = record {
       subst IsByte (sym (get_or-map (λ word. slice_index word i) words j [] 0 inside)) (codeword.bytes i 0 (omega (arith, codeword.size)))))
 
 -- the rows that a round leaves
-pub round-rows : (state : State) → (round state).rows ≡ from_columns (words_then (failed_rows state) (row_step state))
+pub round-rows : (state : State) → (round state).rows ≡ from_columns (words_then (failed_marks state) (row_step state))
 unfolding round
-round-rows state = column_step-rows (failed_rows state) (row_step state)
+round-rows state = column_step-rows (failed_marks state) (row_step state)
 
 -- all columns are answered in a round that finishes
-pub finished-answered : (state : State) → finishes state ≡ true → are_answered (failed_rows state) (row_step state) ≡ true
+pub finished-answered : (state : State) → finishes state ≡ true → are_answered (failed_marks state) (row_step state) ≡ true
 finished-answered state done =
-    (and_parts (are_answered (failed_rows state) (row_step state)) (list_all (vanishes_at_all 10) (round state).rows) (sym (finishes-by state) ∙ done)).0
+    (and_parts (are_answered (failed_marks state) (row_step state)) (list_all (vanishes_at_all 10) (round state).rows) (sym (finishes-by state) ∙ done)).0
 
 -- and it leaves a product block
 pub finished-product : (state : State) → finishes state ≡ true → IsProduct (round state).rows
 finished-product state done =
-    let tests = and_parts (are_answered (failed_rows state) (row_step state)) (list_all (vanishes_at_all 10) (round state).rows) (sym (finishes-by state) ∙ done) in
-    let rows_are : (round state).rows ≡ from_columns (words_then (failed_rows state) (row_step state)) = round-rows state in
+    let tests = and_parts (are_answered (failed_marks state) (row_step state)) (list_all (vanishes_at_all 10) (round state).rows) (sym (finishes-by state) ∙ done) in
+    let rows_are : (round state).rows ≡ from_columns (words_then (failed_marks state) (row_step state)) = round-rows state in
     subst IsProduct (sym rows_are)
-    (tested-product (words_then (failed_rows state) (row_step state)) (length-map-range_with_len (column_then (failed_rows state) (row_step state)) 0 182)
+    (tested-product (words_then (failed_marks state) (row_step state)) (length-map-range_with_len (column_then (failed_marks state) (row_step state)) 0 182)
     (λ j below.
-    subst (IsCodeword 208 16) (sym (word-then (failed_rows state) (row_step state) j below))
-    (then-codeword (failed_rows state) (row_step state) j (row_step-height state) (length-failed state) below tests.0))
+    subst (IsCodeword 208 16) (sym (word-then (failed_marks state) (row_step state) j below))
+    (then-codeword (failed_marks state) (row_step state) j (row_step-height state) (length-failed state) below tests.0))
     (ap (list_all (vanishes_at_all 10)) (sym rows_are) ∙ tests.1))
 
 -- ---- the first round that finishes

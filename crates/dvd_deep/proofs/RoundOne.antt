@@ -16,7 +16,7 @@ use Rattle.dvd_capture.specs.TwoPass.{IsTwoPass, answer_column, answers_of, byte
 use Rattle.dvd_capture.proofs.Columns.{from_columns-product, length-answer_column, length-answers_of}
 use Rattle.dvd_read.proofs.RowAnswers.{get_or-answers_of}
 use Rattle.dvd_deep.specs.Laws.{TwoPassIsRoundOne}
-use Rattle.dvd_deep.specs.Rounds.{State, after, are_answered, column_marks, column_near, failed_rows, finishes, first_round, round, row_near, row_step, state_in}
+use Rattle.dvd_deep.specs.Rounds.{State, after, are_answered, column_marks, column_near, failed_marks, finishes, first_round, round, row_near, row_step, state_in}
 use Rattle.dvd_deep.proofs.ColumnStep.{column_then}
 use Rattle.dvd_deep.proofs.RowStep.{row_then}
 use Rattle.dvd_deep.proofs.Products.{length-failed, round-rows, row_step-height, word-then, words_then}
@@ -31,8 +31,8 @@ answer-near received marks i height marks_height below = get_or-answers_of recei
 
 -- the failed rows are those of the first pass
 failed-same : (received : List (List ℕ)) (marks : List (List Bool)) → length received ≡ 208 → length marks ≡ 208
-    → failed_rows (state_in received marks) ≡ failed_of (answers_of received marks)
-unfolding failed_rows
+    → failed_marks (state_in received marks) ≡ failed_of (answers_of received marks)
+unfolding failed_marks
 failed-same received marks height marks_height =
     let size = length-answers_of received marks 208 height marks_height in
     sym (fill_by_all (λ i. is_none (row_near (state_in received marks) i)) (failed_of (answers_of received marks)) 208 false (length-map (answers_of received marks) is_none ∙ size)
@@ -61,7 +61,7 @@ column-agrees received marks j k height marks_height below clear =
     let is = answer-near received marks k height marks_height below in
     let answered : is_none (row_near state k) ≡ false = ap is_none (sym is) ∙ sym (get_or-map is_none answers k None false (omega (arith, size))) ∙ clear in
     get_or-map (byte_at j) answers k None 0 (omega (arith, size)) ∙ ap (byte_at j) is
-    ∙ sym (get_or-column (row_step state).rows j k (omega (arith, row_step-height state)) ∙ ap (λ (row : List ℕ). slice_index row j) (row_step-line state k below)
+    ∙ sym (get_or-column (row_step state).rows j k ∙ ap (λ (row : List ℕ). slice_index row j) (row_step-line state k below)
     ∙ answered-byte (row_near state k) (line received k) j answered)
 
 -- ---- the columns of a block that two passes determine
@@ -69,7 +69,7 @@ column-agrees received marks j k height marks_height below clear =
 -- each column of the block that two passes determine is near the column that the row step leaves
 column-near-block : (received : List (List ℕ)) (marks : List (List Bool)) (block : List (List ℕ)) (j : ℕ) → length received ≡ 208 → length marks ≡ 208
     → IsTwoPass received marks block → j < 182
-    → IsNear 208 16 (column (row_step (state_in received marks)).rows j) (failed_rows (state_in received marks)) (column block j)
+    → IsNear 208 16 (column (row_step (state_in received marks)).rows j) (failed_marks (state_in received marks)) (column block j)
 column-near-block received marks block j height marks_height agrees below =
     let state = state_in received marks in
     let answers = answers_of received marks in
@@ -90,11 +90,11 @@ column-near-block received marks block j height marks_height agrees below =
 -- each is answered by the first try
 column-is : (received : List (List ℕ)) (marks : List (List Bool)) (block : List (List ℕ)) (j : ℕ) → length received ≡ 208 → length marks ≡ 208
     → IsTwoPass received marks block → j < 182
-    → column_near (failed_rows (state_in received marks)) (row_step (state_in received marks)) j ≡ Some (column block j)
+    → column_near (failed_marks (state_in received marks)) (row_step (state_in received marks)) j ≡ Some (column block j)
 column-is received marks block j height marks_height agrees below =
     let state = state_in received marks in
     ap (λ (first : Option (List ℕ)). option_or first (near_of 208 16 (column (row_step state).rows j) (column_marks (row_step state).marks j)))
-    (near_of-some 208 16 (column (row_step state).rows j) (column block j) (failed_rows state) (omega arith)
+    (near_of-some 208 16 (column (row_step state).rows j) (column block j) (failed_marks state) (omega arith)
     (column-near-block received marks block j height marks_height agrees below))
 
 -- ---- round 1
@@ -110,10 +110,10 @@ tests-all test n each =
 
 -- where two passes determine a block, round 1 answers every column
 all-answered : (received : List (List ℕ)) (marks : List (List Bool)) (block : List (List ℕ)) → length received ≡ 208 → length marks ≡ 208
-    → IsTwoPass received marks block → are_answered (failed_rows (state_in received marks)) (row_step (state_in received marks)) ≡ true
+    → IsTwoPass received marks block → are_answered (failed_marks (state_in received marks)) (row_step (state_in received marks)) ≡ true
 unfolding are_answered
 all-answered received marks block height marks_height agrees =
-    tests-all (λ j. is_some (column_near (failed_rows (state_in received marks)) (row_step (state_in received marks)) j)) 182
+    tests-all (λ j. is_some (column_near (failed_marks (state_in received marks)) (row_step (state_in received marks)) j)) 182
     (λ j below. ap is_some (column-is received marks block j height marks_height agrees below))
 
 -- it leaves the block
@@ -122,9 +122,9 @@ round-gives : (received : List (List ℕ)) (marks : List (List Bool)) (block : L
 round-gives received marks block height marks_height agrees =
     let state = state_in received marks in
     round-rows state
-    ∙ from_columns-product block (words_then (failed_rows state) (row_step state)) agrees.product (length-map-range_with_len (column_then (failed_rows state) (row_step state)) 0 182)
+    ∙ from_columns-product block (words_then (failed_marks state) (row_step state)) agrees.product (length-map-range_with_len (column_then (failed_marks state) (row_step state)) 0 182)
     (λ j below.
-    word-then (failed_rows state) (row_step state) j below
+    word-then (failed_marks state) (row_step state) j below
     ∙ ap (λ (found : Option (List ℕ)). unwrap_or found (column (row_step state).rows j)) (column-is received marks block j height marks_height agrees below))
 
 -- each row of a product codeword vanishes at the ten powers of alpha

@@ -8,7 +8,7 @@ use Rattle.std.proofs.lemmas.List.FromFn.{fill_by_all}
 use Rattle.rs_decode.specs.Nearest.{near_of}
 use Rattle.dvd_block.specs.Product.{line}
 use Rattle.dvd_capture.specs.Answers.{marks_line}
-use Rattle.dvd_deep.specs.Rounds.{State, failed_rows, row_near, row_step, state_in}
+use Rattle.dvd_deep.specs.Rounds.{State, failed_marks, row_near, row_step, state_in}
 
 -- what becomes of row i
 abbrev pub row_then : State → ℕ → List ℕ
@@ -90,8 +90,8 @@ stepped-next state rows rows_new marks marks_new failed failed_new i answered wi
 
 -- all rows
 pub stepped-all : (state : State) (rows : List (List ℕ)) (marks : List (List Bool)) (failed : List Bool) → length rows ≡ 208 → length marks ≡ 208 → length failed ≡ 208
-    → IsStepped state rows marks failed 208 → (state_in rows marks ≡ row_step state) × (failed ≡ failed_rows state)
-unfolding row_step failed_rows
+    → IsStepped state rows marks failed 208 → (state_in rows marks ≡ row_step state) × (failed ≡ failed_marks state)
+unfolding row_step failed_marks
 stepped-all state rows marks failed height marks_height size part =
     let rows_are : rows ≡ map (row_then state) (range_with_len 0 208) = fill_by_all (row_then state) rows 208 [] height part.rows_done in
     let marks_are : marks ≡ map (marks_then state) (range_with_len 0 208) = fill_by_all (marks_then state) marks 208 [] marks_height part.marks_done in (

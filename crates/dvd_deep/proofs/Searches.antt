@@ -3,7 +3,7 @@ use Rattle.std.proofs.Common.{◌≡◌, ◌∙◌, ℕ, zero, suc, ◌+◌, ◌
 use Rattle.std.specs.List.{list_all, range_with_len}
 use Rattle.std.proofs.lemmas.Bool.{cases_eq}
 use Rattle.rs_decode.specs.Nearest.{vanishes_at_all}
-use Rattle.dvd_deep.specs.Rounds.{State, after, are_answered, column_step, failed_rows, finishes, first_round, round, row_step}
+use Rattle.dvd_deep.specs.Rounds.{State, after, are_answered, column_step, failed_marks, finishes, first_round, round, row_step}
 
 -- the first number from a on that passes a test
 first_at : (test : ℕ → Bool) (a n k : ℕ) → a ≤ k → k < a + n → ((i : ℕ) → a ≤ i → i < k → test i ≡ false) → test k ≡ true → find test (range_with_len a n) ≡ Some k
@@ -60,19 +60,19 @@ nothing-played state = refl
 -- ---- the steps of a round
 
 -- the row step and then the column step with the failed rows are a round
-pub round-left : (before stepped left : State) (failed : List Bool) → failed ≡ failed_rows before → stepped ≡ row_step before → left ≡ column_step failed stepped
+pub round-left : (before stepped left : State) (failed : List Bool) → failed ≡ failed_marks before → stepped ≡ row_step before → left ≡ column_step failed stepped
     → left ≡ round before
 unfolding round
 round-left before stepped left failed failed_is stepped_is left_is =
-    left_is ∙ ap (λ flags. column_step flags stepped) failed_is ∙ ap (column_step (failed_rows before)) stepped_is
+    left_is ∙ ap (λ flags. column_step flags stepped) failed_is ∙ ap (column_step (failed_marks before)) stepped_is
 
 -- whether the code's rows answer all columns is whether those of the round do
-pub answered-as : (before stepped : State) (failed : List Bool) (answered : Bool) → failed ≡ failed_rows before → stepped ≡ row_step before
-    → answered ≡ are_answered failed stepped → answered ≡ are_answered (failed_rows before) (row_step before)
+pub answered-as : (before stepped : State) (failed : List Bool) (answered : Bool) → failed ≡ failed_marks before → stepped ≡ row_step before
+    → answered ≡ are_answered failed stepped → answered ≡ are_answered (failed_marks before) (row_step before)
 answered-as before stepped failed answered failed_is stepped_is is =
-    is ∙ ap (λ flags. are_answered flags stepped) failed_is ∙ ap (are_answered (failed_rows before)) stepped_is
+    is ∙ ap (λ flags. are_answered flags stepped) failed_is ∙ ap (are_answered (failed_marks before)) stepped_is
 
 -- whether it finishes, by the two tests
-pub finishes-by : (before : State) → finishes before ≡ (are_answered (failed_rows before) (row_step before) && list_all (vanishes_at_all 10) (round before).rows)
+pub finishes-by : (before : State) → finishes before ≡ (are_answered (failed_marks before) (row_step before) && list_all (vanishes_at_all 10) (round before).rows)
 unfolding finishes
 finishes-by before = refl

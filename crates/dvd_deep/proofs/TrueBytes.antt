@@ -15,7 +15,7 @@ use Rattle.dvd_capture.specs.Answers.{marks_line}
 use Rattle.dvd_capture.proofs.Bound.{marked-cost}
 use Rattle.dvd_capture.proofs.Columns.{from_columns-line, from_columns-product}
 use Rattle.dvd_deep.specs.Laws.{TrueBytesGiveTheBlock}
-use Rattle.dvd_deep.specs.Rounds.{State, after, are_answered, column_marks, column_near, column_step, failed_rows, finishes, mark_in, round, row_near, row_step, state_in}
+use Rattle.dvd_deep.specs.Rounds.{State, after, are_answered, column_marks, column_near, column_step, failed_marks, finishes, mark_in, round, row_near, row_step, state_in}
 use Rattle.dvd_deep.specs.Inner.Steps.{AreWide}
 use Rattle.dvd_deep.proofs.ColumnStep.{column_then, mark_then}
 use Rattle.dvd_deep.proofs.RowStep.{marks_then}
@@ -72,8 +72,8 @@ unfolding row_step
 row_step-marks state i below = get_or-map-range_with_len (marks_then state) 0 208 i i [] below (omega arith)
 
 -- row i has failed where no codeword is near it
-failed-at : (state : State) (i : ℕ) → i < 208 → get_or (failed_rows state) i false ≡ is_none (row_near state i)
-unfolding failed_rows
+failed-at : (state : State) (i : ℕ) → i < 208 → get_or (failed_marks state) i false ≡ is_none (row_near state i)
+unfolding failed_marks
 failed-at state i below = get_or-map-range_with_len (λ k. is_none (row_near state k)) 0 208 i i false below (omega arith)
 
 -- a row step keeps the unmarked bytes those of the block
@@ -87,7 +87,7 @@ rows-true block state product are = record {
 }
 
 -- a row that didn't fail is the block's
-row-found : (block : List (List ℕ)) (state : State) (i : ℕ) → IsProduct block → IsTrueTo block state → i < 208 → get_or (failed_rows state) i false ≡ false
+row-found : (block : List (List ℕ)) (state : State) (i : ℕ) → IsProduct block → IsTrueTo block state → i < 208 → get_or (failed_marks state) i false ≡ false
     → line (row_step state).rows i ≡ line block i
 row-found block state i product are below clear =
     row_step-line state i below ∙ (row-by block state i (row_near state i) product are below refl).2 (sym (failed-at state i below) ∙ clear)
@@ -101,12 +101,12 @@ column_marks-at marks j i below = get_or-map-range_with_len (λ k. mark_in marks
 
 -- the codeword that is found near a column is the column of the block
 column-true : (block : List (List ℕ)) (state : State) (j : ℕ) (word : List ℕ) → IsProduct block → IsTrueTo block state → j < 182
-    → column_near (failed_rows state) (row_step state) j ≡ Some word → word ≡ column block j
+    → column_near (failed_marks state) (row_step state) j ≡ Some word → word ≡ column block j
 column-true block state j word product are inside is =
-    by_tries (λ found. found ≡ column block j) (near_of 208 16 (column stepped.rows j) (failed_rows state)) (near_of 208 16 (column stepped.rows j) (column_marks stepped.marks j))
+    by_tries (λ found. found ≡ column block j) (near_of 208 16 (column stepped.rows j) (failed_marks state)) (near_of 208 16 (column stepped.rows j) (column_marks stepped.marks j))
     (λ found first.
-    near-true 208 16 (column stepped.rows j) found (column block j) (failed_rows state) (omega arith) codeword
-    (near_of-is_near 208 16 (column stepped.rows j) found (failed_rows state) width (length-failed state) first)
+    near-true 208 16 (column stepped.rows j) found (column block j) (failed_marks state) (omega arith) codeword
+    (near_of-is_near 208 16 (column stepped.rows j) found (failed_marks state) width (length-failed state) first)
     (λ k within clear.
     let below : k < 208 = omega (arith, length-failed state) in
     at-place k below (ap (λ (row : List ℕ). slice_index row j) (row-found block state k product are below clear))))
@@ -132,16 +132,16 @@ column-true block state j word product are inside is =
       -- places that have the same byte have it in their columns
       at-place : (k : ℕ) → k < 208 → place (row_step state).rows k j ≡ place block k j → slice_index (column block j) k ≡ slice_index (column (row_step state).rows j) k
       at-place k below same =
-          get_or-column block j k (omega (arith, product.height)) ∙ sym same ∙ sym (get_or-column (row_step state).rows j k (omega (arith, row_step-height state)))
+          get_or-column block j k ∙ sym same ∙ sym (get_or-column (row_step state).rows j k)
 
 -- what becomes of a place of a column
 place-by : (block : List (List ℕ)) (state : State) (i j : ℕ) (found : Option (List ℕ)) → IsProduct block → IsTrueTo block state → i < 208 → j < 182
-    → column_near (failed_rows state) (row_step state) j ≡ found → cond (is_some found) false (mark_in (row_step state).marks i j) ≡ false
+    → column_near (failed_marks state) (row_step state) j ≡ found → cond (is_some found) false (mark_in (row_step state).marks i j) ≡ false
     → slice_index (unwrap_or found (column (row_step state).rows j)) i ≡ place block i j
 place-by block state i j None product are below inside is clear =
-    get_or-column (row_step state).rows j i (omega (arith, row_step-height state)) ∙ (rows-true block state product are).bytes i j below inside clear
+    get_or-column (row_step state).rows j i ∙ (rows-true block state product are).bytes i j below inside clear
 place-by block state i j (Some word) product are below inside is clear =
-    ap (λ word. slice_index word i) (column-true block state j word product are inside is) ∙ get_or-column block j i (omega (arith, product.height))
+    ap (λ word. slice_index word i) (column-true block state j word product are inside is) ∙ get_or-column block j i
 
 -- the marks that a column step leaves in row i
 column_step-marks : (failed : List Bool) (state : State) (i : ℕ) → i < 208 → marks_line (column_step failed state).marks i ≡ map (mark_then failed state i) (range_with_len 0 182)
@@ -149,32 +149,32 @@ unfolding column_step
 column_step-marks failed state i below = get_or-map-range_with_len (λ k. map (mark_then failed state k) (range_with_len 0 182)) 0 208 i i [] below (omega arith)
 
 -- and those that a round leaves there
-round-marks : (state : State) (i : ℕ) → i < 208 → marks_line (round state).marks i ≡ map (mark_then (failed_rows state) (row_step state) i) (range_with_len 0 182)
+round-marks : (state : State) (i : ℕ) → i < 208 → marks_line (round state).marks i ≡ map (mark_then (failed_marks state) (row_step state) i) (range_with_len 0 182)
 unfolding round
-round-marks state i below = column_step-marks (failed_rows state) (row_step state) i below
+round-marks state i below = column_step-marks (failed_marks state) (row_step state) i below
 
 -- row i of a round is made of byte i of each new column
-round-line : (state : State) (i : ℕ) → i < 208 → line (round state).rows i ≡ map (λ word. slice_index word i) (words_then (failed_rows state) (row_step state))
-round-line state i below = ap (λ rows. line rows i) (round-rows state) ∙ from_columns-line (words_then (failed_rows state) (row_step state)) i below
+round-line : (state : State) (i : ℕ) → i < 208 → line (round state).rows i ≡ map (λ word. slice_index word i) (words_then (failed_marks state) (row_step state))
+round-line state i below = ap (λ rows. line rows i) (round-rows state) ∙ from_columns-line (words_then (failed_marks state) (row_step state)) i below
 
 -- a round keeps the unmarked bytes those of the block
 round-true : (block : List (List ℕ)) (state : State) → IsProduct block → IsTrueTo block state → IsTrueTo block (round state)
 round-true block state product are = record {
   wide = λ i below.
-      ap length (round-line state i below) ∙ length-map words (λ word. slice_index word i) ∙ length-map-range_with_len (column_then (failed_rows state) (row_step state)) 0 182;
+      ap length (round-line state i below) ∙ length-map words (λ word. slice_index word i) ∙ length-map-range_with_len (column_then (failed_marks state) (row_step state)) 0 182;
   marks_wide = λ i below.
-      ap length (round-marks state i below) ∙ length-map-range_with_len (mark_then (failed_rows state) (row_step state) i) 0 182;
+      ap length (round-marks state i below) ∙ length-map-range_with_len (mark_then (failed_marks state) (row_step state) i) 0 182;
   bytes = λ i j below inside clear.
       ap (λ row. slice_index row j) (round-line state i below)
-      ∙ get_or-map (λ word. slice_index word i) words j [] 0 (omega (arith, length-map-range_with_len (column_then (failed_rows state) (row_step state)) 0 182))
-      ∙ ap (λ word. slice_index word i) (word-then (failed_rows state) (row_step state) j inside)
-      ∙ place-by block state i j (column_near (failed_rows state) (row_step state) j) product are below inside refl
+      ∙ get_or-map (λ word. slice_index word i) words j [] 0 (omega (arith, length-map-range_with_len (column_then (failed_marks state) (row_step state)) 0 182))
+      ∙ ap (λ word. slice_index word i) (word-then (failed_marks state) (row_step state) j inside)
+      ∙ place-by block state i j (column_near (failed_marks state) (row_step state) j) product are below inside refl
       (sym (ap (λ marks. get_or marks j false) (round-marks state i below)
-      ∙ get_or-map-range_with_len (mark_then (failed_rows state) (row_step state) i) 0 182 j j false inside (omega arith)) ∙ clear);
+      ∙ get_or-map-range_with_len (mark_then (failed_marks state) (row_step state) i) 0 182 j j false inside (omega arith)) ∙ clear);
 } where
   -- the new columns
   words : List (List ℕ)
-  words = words_then (failed_rows state) (row_step state)
+  words = words_then (failed_marks state) (row_step state)
 
 -- so does any number of rounds
 after-true : (block : List (List ℕ)) (state : State) (n : ℕ) → IsProduct block → IsTrueTo block state → IsTrueTo block (after n state)
@@ -186,7 +186,7 @@ after-true block state (suc n) product are = round-true block (after n state) pr
 
 -- what becomes of an answered column is the column of the block
 column-given : (block : List (List ℕ)) (state : State) (j : ℕ) (found : Option (List ℕ)) → IsProduct block → IsTrueTo block state → j < 182
-    → column_near (failed_rows state) (row_step state) j ≡ found → is_some found ≡ true → unwrap_or found (column (row_step state).rows j) ≡ column block j
+    → column_near (failed_marks state) (row_step state) j ≡ found → is_some found ≡ true → unwrap_or found (column (row_step state).rows j) ≡ column block j
 column-given block state j None product are inside is answered = absurd (true≢false (sym answered))
 column-given block state j (Some word) product are inside is answered = column-true block state j word product are inside is
 
@@ -195,11 +195,11 @@ round-given : (block : List (List ℕ)) (state : State) → IsProduct block → 
 unfolding are_answered
 round-given block state product are done =
     round-rows state
-    ∙ from_columns-product block (words_then (failed_rows state) (row_step state)) product (length-map-range_with_len (column_then (failed_rows state) (row_step state)) 0 182)
+    ∙ from_columns-product block (words_then (failed_marks state) (row_step state)) product (length-map-range_with_len (column_then (failed_marks state) (row_step state)) 0 182)
     (λ j inside.
-    word-then (failed_rows state) (row_step state) j inside
-    ∙ column-given block state j (column_near (failed_rows state) (row_step state) j) product are inside refl
-    (tested-at (λ k. is_some (column_near (failed_rows state) (row_step state) k)) 182 j inside (finished-answered state done)))
+    word-then (failed_marks state) (row_step state) j inside
+    ∙ column-given block state j (column_near (failed_marks state) (row_step state) j) product are inside refl
+    (tested-at (λ k. is_some (column_near (failed_marks state) (row_step state) k)) 182 j inside (finished-answered state done)))
 
 -- Where the unmarked bytes are true, no other block is given back.
 pub true_block_given : TrueBytesGiveTheBlock

@@ -34,8 +34,8 @@ row_step state = record {
 }
 
 -- the rows that fail in it
-unfoldable pub failed_rows : State → List Bool
-failed_rows state = map (λ i. is_none (row_near state i)) (range_with_len 0 208)
+unfoldable pub failed_marks : State → List Bool
+failed_marks state = map (λ i. is_none (row_near state i)) (range_with_len 0 208)
 
 -- the marks of column j
 unfoldable pub column_marks : List (List Bool) → ℕ → List Bool
@@ -59,11 +59,11 @@ column_step failed state = record {
 
 -- a round: the row step, and then the column step with the failed rows of this round
 unfoldable pub round : State → State
-round state = column_step (failed_rows state) (row_step state)
+round state = column_step (failed_marks state) (row_step state)
 
 -- It finishes where all columns are answered and all rows are then codewords.
 unfoldable pub finishes : State → Bool
-finishes state = are_answered (failed_rows state) (row_step state) && list_all (vanishes_at_all 10) (round state).rows
+finishes state = are_answered (failed_marks state) (row_step state) && list_all (vanishes_at_all 10) (round state).rows
 
 -- the state that so many rounds leave
 unfoldable pub after : ℕ → State → State

@@ -6,7 +6,7 @@ ghost use Rattle.rs_decode.specs.Nearest.{near_of, vanishes_at_all};
 ghost use Rattle.dvd_block.specs.Product.{column, line};
 ghost use Rattle.dvd_capture.specs.Parts.{marks_rows, received_rows};
 ghost use Rattle.dvd_deep.specs.Inner.Buffers.{state_of};
-ghost use Rattle.dvd_deep.specs.Rounds.{after, are_answered, column_marks, column_near, column_step, failed_rows, finishes, first_round, round, row_near, row_step};
+ghost use Rattle.dvd_deep.specs.Rounds.{after, are_answered, column_marks, column_near, column_step, failed_marks, finishes, first_round, round, row_near, row_step};
 ghost use Rattle.dvd_deep.specs.Inner.Steps.{AreMarksTaken, AreWide, IsColumnPut};
 
 use dvd_capture::parts::{Marks, Received};
@@ -43,7 +43,7 @@ fn play_round(rows: &mut Received, marks: &mut Marks) -> bool
 // The row step. Notes which rows fail.
 fn answer_rows(rows: &mut Received, marks: &mut Marks, failed: &mut [bool; 208])
     ensures state { state_of rows.new marks.new ≡ row_step (state_of rows.old marks.old) }
-    ensures failed { failed.new ≡ failed_rows (state_of rows.old marks.old) }
+    ensures failed { failed.new ≡ failed_marks (state_of rows.old marks.old) }
     ensures wide { AreWide (received_rows rows.new) }
 {
     let code = Pi::new();

@@ -26,13 +26,21 @@ is_opposite Single = false
 is_opposite Parallel = false
 is_opposite Opposite = true
 
--- the sector number behind a layer that begins at 030000: its data and the zone behind them
-abbrev pub layer_end : ℕ → ℕ → ℕ
-layer_end sectors tail = 0x30000 + padded sectors + 16 * tail
+-- the first sector number of the Data Zone of a layer that is read from the inside, 030000
+abbrev pub data_first : ℕ
+data_first = 0x30000
 
--- the rule of an Initial Zone alone: no sector of it may have the number 0
+-- the sector number behind a layer that begins there: its data and the zone behind them
+abbrev pub layer_end : ℕ → ℕ → ℕ
+layer_end sectors tail = data_first + padded sectors + 16 * tail
+
+-- the longest Initial Zone, in ECC blocks: no sector of it has the number 0
+abbrev pub most_initial : ℕ
+most_initial = 12031
+
+-- the rule of an Initial Zone alone
 abbrev pub initial_fault : ℕ → Option LayoutFault
-initial_fault initial = if nat_lt 12031 initial then Some (InitialTooLong initial) else None
+initial_fault initial = if nat_lt most_initial initial then Some (InitialTooLong initial) else None
 
 -- the first rule that a layout of these lengths breaks
 unfoldable pub first_fault : Shape → ℕ → ℕ → ℕ → ℕ → Option LayoutFault
@@ -42,7 +50,7 @@ first_fault shape sectors0 sectors1 initial tail =
     else if has_two_layers shape && not (sectors0 % 16 == 0) then Some (OddLayer sectors0)
     else if not (has_two_layers shape) && not (sectors1 == 0) then Some (SecondLayer sectors1)
     else if is_opposite shape && nat_lt (padded sectors0) (padded sectors1) then Some (LayerLonger sectors1)
-    else if nat_lt 12031 initial then Some (InitialTooLong initial)
+    else if nat_lt most_initial initial then Some (InitialTooLong initial)
     else if nat_lt 12288 tail then Some (TailTooLong tail)
     else if nat_lt 0x800000 (layer_end sectors0 tail) then Some (LayerTooLong 0 (layer_end sectors0 tail))
     else if nat_lt 0x800000 (layer_end sectors1 tail) then Some (LayerTooLong 1 (layer_end sectors1 tail))

@@ -6,6 +6,7 @@ use Rattle.dvd_layout.specs.declared.entry.BlockPlan.{BlockPlan}
 use Rattle.dvd_layout.specs.declared.entry.Content.{Content}
 use Rattle.dvd_layout.specs.declared.entry.Content.TheVariants.{Zero, Reference, Control, Image}
 use Rattle.dvd_layout.specs.declared.layout.Layout.{Layout}
+use Rattle.dvd_layout.specs.Lengths.{data_first}
 use Rattle.dvd_layout.specs.Plan.{second_first}
 
 -- the image sectors of both layers
@@ -26,7 +27,7 @@ image_before layout entries = sum_by (λ entry. image_sectors layout entry.conte
 -- the layer and the sector number of an image sector: those of layer 0 come first
 abbrev pub place_of : Layout → ℕ → ℕ × ℕ
 place_of layout sector =
-    if nat_lt sector layout.sectors0 then (0, 0x30000 + sector) else (1, second_first layout + (sector - layout.sectors0))
+    if nat_lt sector layout.sectors0 then (0, data_first + sector) else (1, second_first layout + (sector - layout.sectors0))
 
 -- the sector numbers of an entry's sixteen frames have 24 bits, and its layer is one of two
 pub record HasNumbers (entry : BlockPlan) : Type 0 where

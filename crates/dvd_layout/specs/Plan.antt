@@ -14,7 +14,7 @@ use Rattle.dvd_layout.specs.declared.layout.Zones.{Zones}
 use Rattle.dvd_layout.specs.declared.layout.Zones.TheVariants.{DataOnly, All}
 use Rattle.dvd_layout.specs.declared.zone.Zone.{Zone}
 use Rattle.dvd_layout.specs.Content.{content_at}
-use Rattle.dvd_layout.specs.Lengths.{blocks_of, is_opposite, padded}
+use Rattle.dvd_layout.specs.Lengths.{blocks_of, data_first, is_opposite, padded}
 
 -- block b of a zone
 abbrev pub entry_of : Zone → ℕ → BlockPlan
@@ -43,11 +43,11 @@ lead_in_blocks initial = flat_map entries_of (lead_in initial 0)
 
 -- Where the data of layer 1 begin: at 030000, or on the opposite track path at the complement of layer 0's last data sector.
 abbrev pub second_first : Layout → ℕ
-second_first layout = if is_opposite layout.shape then 0xFD0000 - padded layout.sectors0 else 0x30000
+second_first layout = if is_opposite layout.shape then 0xFD0000 - padded layout.sectors0 else data_first
 
 -- the Data Zone of layer 0
 abbrev pub first_data : Layout → Zone
-first_data layout = zone_of 0x30000 (blocks_of layout.sectors0) DataZone 0 (Image 0)
+first_data layout = zone_of data_first (blocks_of layout.sectors0) DataZone 0 (Image 0)
 
 -- the Data Zone of layer 1, whose image sectors follow those of layer 0
 abbrev pub second_data : Layout → Zone

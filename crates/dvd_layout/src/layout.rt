@@ -1,9 +1,10 @@
 //! The lengths of a disk, which make a lawful layout.
 
 ghost use Rattle.std.specs.Prelude.{◌≡◌, ◌+◌, ◌*◌, ◌%◌, ◌<◌, ◌≤◌, true, false, Some, None, IfOk, IfErr, IsOk, IsTrue};
-ghost use Rattle.dvd_layout.specs.Lengths.{blocks_of, first_fault, has_two_layers, initial_fault, is_opposite, layer_end, padded};
+ghost use Rattle.dvd_layout.specs.Lengths.{blocks_of, first_fault, has_two_layers, initial_fault, is_opposite, layer_end, most_initial, padded};
 
 use crate::fault::LayoutFault;
+use crate::plan::DATA_FIRST;
 
 // The longest Initial Zone, in ECC blocks: no sector has the number 0.
 const MAX_INITIAL: u32 = 12_031;
@@ -92,7 +93,7 @@ pub struct Layout {
     /// On the opposite track path layer 1 is no longer than layer 0.
     pub ghost no_longer: { is_opposite shape ≡ true → padded sectors1 ≤ padded sectors0 },
     /// The Initial Zone stands before the data.
-    pub ghost initial_fits: { initial ≤ 12031 },
+    pub ghost initial_fits: { initial ≤ most_initial },
     /// The zones behind the data are within their bound.
     pub ghost tail_fits: { tail ≤ 12288 },
     /// Layer 0 ends before sector number 800000.
@@ -112,7 +113,7 @@ pub(crate) fn blocks_of(sectors: u32) -> u32
 fn layer_end(sectors: u32, tail: u32) -> u64
     ensures { result ≡ layer_end sectors tail }
 {
-    0x3_0000 + 16 * u64::from(blocks_of(sectors)) + 16 * u64::from(tail)
+    u64::from(DATA_FIRST) + 16 * u64::from(blocks_of(sectors)) + 16 * u64::from(tail)
 }
 
 impl Layout {

@@ -23,5 +23,5 @@ mod zone;
 pub use entry::{BlockPlan, Content, id_of, rule_of};
 pub use fault::LayoutFault;
 pub use layout::{Layout, Shape, Zones, check_initial};
-pub use plan::lead_in_block;
+pub use plan::{DATA_FIRST, lead_in_block};
 pub use zone::Zone;

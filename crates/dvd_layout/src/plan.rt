@@ -1,7 +1,7 @@
 //! The zone table of a layout (ECMA-267, section 5) and its plan, entry by entry.
 ghost use Rattle.std.specs.Prelude.{◌≡◌, ◌+◌, ◌*◌, ◌^◌, ◌<◌, ◌≤◌, ◌++◌, length, Some, slice_get};
 ghost use Rattle.arrayvec.specs.ArrayVec.{array_vec_len};
-ghost use Rattle.dvd_layout.specs.Lengths.{blocks_of};
+ghost use Rattle.dvd_layout.specs.Lengths.{blocks_of, most_initial};
 ghost use Rattle.dvd_layout.specs.Plan.{behind, first_data, inside_out, lead_in, lead_in_blocks, out_and_in, plan_of, second_data, second_first, zone_of, zone_table, zones_by};
 
 use crate::entry::{BlockPlan, Content};
@@ -10,8 +10,8 @@ use crate::zone::{Zone, block_at, count_blocks};
 use arrayvec::ArrayVec;
 use dvd_frame::Area;
 
-// The first sector number of the Data Zone of a layer that is read from the inside.
-pub(crate) const DATA_FIRST: u32 = 0x03_0000;
+/// The first sector number of the Data Zone of a layer that is read from the inside.
+pub const DATA_FIRST: u32 = 0x03_0000;
 
 // On the opposite track path the data of layer 1 begin as far before this number as layer 0 has sectors:
 // at the complement of layer 0's last data sector.
@@ -117,8 +117,8 @@ impl Layout {
         data_zone(self.second_first(), self.sectors1, 1, self.sectors0)
     }
 
-    // Where the data of layer 1 begin.
-    pub(crate) fn second_first(&self) -> u32
+    /// The sector number where the data of layer 1 begin.
+    pub fn second_first(&self) -> u32
         ensures { result ≡ second_first self.now }
     {
         if self.shape.is_opposite() {
@@ -132,7 +132,7 @@ impl Layout {
 /// Block `k` of the lead-in of layer 0, where so many ECC blocks stand in its Initial Zone. Behind that zone come the
 /// reference code, a buffer zone, the control data and another buffer zone, 256 blocks in all.
 pub fn lead_in_block(initial: u32, k: u32) -> BlockPlan
-    requires initial { initial ≤ 12031 }
+    requires initial { initial ≤ most_initial }
     requires block { k < initial + 256 }
     ensures { slice_get (lead_in_blocks initial) k ≡ Some result }
 {
@@ -144,7 +144,7 @@ pub fn lead_in_block(initial: u32, k: u32) -> BlockPlan
 // The zones of the lead-in of a layer.
 fn push_lead_in(table: &mut ZoneTable, initial: u32, layer: u8)
     requires room { array_vec_len table.old ≤ 9 }
-    requires initial { initial ≤ 12031 }
+    requires initial { initial ≤ most_initial }
     ensures items { table.new.items ≡ table.old.items ++ lead_in initial layer }
     ensures len { array_vec_len table.new ≡ array_vec_len table.old + 5 }
 {

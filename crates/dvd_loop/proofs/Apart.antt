@@ -2,8 +2,8 @@
 use Rattle.std.proofs.Common.{◌≡◌, ◌≢◌, inl, inr, ℕ, zero, suc, ◌+◌, ◌*◌, ◌<◌, ◌≤◌, List, [], ◌∷◌, ◌++◌, length, get_or, take, drop, refl, ap, sym, subst, ◌∙◌, append_assoc, append-nil, add-one, length-append, arith}
 use Rattle.std.proofs.Math.Nat.{mul-le-mul_left, mul-suc, mul-zero}
 use Rattle.std.proofs.lemmas.List.{drop-drop, length-drop, length-take-le, take-append-drop}
-use Rattle.dvd_loop.specs.Laws.{BeginWith, IsFaultless, IsFrontOf, IsNever, TakesUnit, first}
-use Rattle.dvd_loop.specs.Machine.{Does, Goes, GoesOn, IsOutcome, IsUnit, IsWithin, Outcome, Step, Units, bad_of, ended, sized, taking}
+use Rattle.dvd_loop.specs.Laws.{IsFaultless, IsFrontOf, IsNever, first}
+use Rattle.dvd_loop.specs.Machine.{Does, Goes, GoesOn, IsOutcome, IsUnit, IsEndedWithin, Outcome, Step, Units, bad_of, ended, sized, taking}
 use Rattle.dvd_loop.specs.Machine.Part.{Whole, Cut, Broken}
 use Rattle.dvd_loop.specs.Turns.{told, written}
 use Rattle.dvd_loop.specs.declared.ends.LoopEnd.TheVariants.{Done}
@@ -14,6 +14,26 @@ use Rattle.dvd_loop.proofs.Fronts.{same_front, same_left}
 use Rattle.dvd_loop.proofs.Reached.{goes_further, goes_on, taken_unit}
 use Rattle.dvd_loop.proofs.Sizes.{broken_stays, sized_whole, whole_stays}
 use Rattle.dvd_loop.proofs.StepLemmas.{onto}
+
+-- Bytes begin with so many whole units at least: these are the bytes of each, and those from it on.
+pub record BeginWith (units : Units) (own from : ℕ → List ℕ) (count : ℕ) (bytes : List ℕ) : Type 0 where
+  pub first : from 0 ≡ bytes
+  pub next : (j : ℕ) → j < count → from j ≡ own j ++ from (suc j)
+  pub whole : (j : ℕ) → j < count → units.begins j (own j) ≡ Whole (length (own j))
+
+-- A run over units with these bytes takes unit k, with those steps: they stand behind what the k units before it do alone, and
+-- together that is what the first k + 1 do.
+pub record TakesUnit (units : Units) (own : ℕ → List ℕ) (bytes : List ℕ) (a : Outcome) (k : ℕ) (steps : List Step) (turn : Turn) : Type 0 where
+  pub before : List (List ℕ)
+  pub number : length before ≡ k
+  pub each : (j : ℕ) → j < k → get_or before j [] ≡ own j
+  pub unit : IsUnit units before (own k) steps turn
+  pub alone : Outcome
+  pub runs : IsOutcome (first k units) bytes alone
+  pub ends : alone.end ≡ Done
+  pub runs_on : IsOutcome (first (k + 1) units) bytes (record alone { taken = alone.taken ++ own k; out = alone.out ++ written steps; lines = alone.lines ++ told steps })
+  pub out : IsFrontOf (alone.out ++ written steps) a.out
+  pub lines : IsFrontOf (alone.lines ++ told steps) a.lines
 
 -- an outcome with one unit more behind it
 abbrev and_unit : List ℕ → List Step → Outcome → Outcome
@@ -54,7 +74,7 @@ module _ (units : Units) (never : IsNever units Last)
     faultless : IsFaultless after.end
 
   -- without a fault no loop ends within a unit that is whole
-  not_within : (k : ℕ) (own left : List ℕ) (a : Outcome) → units.begins k own ≡ Whole (length own) → IsWithin units k (own ++ left) a
+  not_within : (k : ℕ) (own left : List ℕ) (a : Outcome) → units.begins k own ≡ Whole (length own) → IsEndedWithin units k (own ++ left) a
       → IsFaultless a.end → ⊥
   not_within k own left a whole w none =
       let all : units.begins k (own ++ left) ≡ Whole (length own) = stays k own left whole in

@@ -1,7 +1,7 @@
 -- The same units and bytes come to one outcome, where no fault comes.
 use Rattle.std.proofs.Common.{◌≡◌, inl, inr, ◌⊎◌, ℕ, zero, suc, ◌+◌, List, [], ◌∷◌, ◌++◌, length, refl, ap, sym, subst, ◌∙◌}
-use Rattle.dvd_loop.specs.Laws.{AreDetermined, IsFaultless, IsUnbroken, OutcomesAgree}
-use Rattle.dvd_loop.specs.Machine.{Does, EndsBehind, Goes, GoesOn, IsTaken, IsUnit, IsWithin, Outcome, Step, Units, bad_of, end_by, ended, taking}
+use Rattle.dvd_loop.specs.Laws.{AreDetermined, IsFaultless, IsNotBadMarks, OutcomesAgree}
+use Rattle.dvd_loop.specs.Machine.{Does, EndsBehind, Goes, GoesOn, IsTaken, IsUnit, IsEndedWithin, Outcome, Step, Units, bad_of, end_by, ended, taking}
 use Rattle.dvd_loop.specs.Machine.Part.{Whole, Cut, Broken}
 use Rattle.dvd_loop.specs.Turns.{told, written}
 use Rattle.dvd_loop.specs.declared.ends.Behind.{Behind}
@@ -18,7 +18,7 @@ pub record Agree (a b : Outcome) : Type 0 where
   pub out : a.out ≡ b.out
   pub lines : a.lines ≡ b.lines
   pub end : a.end ≡ b.end
-  pub taken : IsUnbroken a.end → a.taken ≡ b.taken
+  pub taken : IsNotBadMarks a.end → a.taken ≡ b.taken
 
 -- any two outcomes of two kinds agree, where no fault ended them
 abbrev AllAgree : (Outcome → Type 0) → (Outcome → Type 0) → Type 0
@@ -83,7 +83,7 @@ module _ (units : Units) (det : AreDetermined units) where
   all_broken k at bytes own left front broken = subst (λ l. units.begins k l ≡ Broken at) (sym front) (det.broken k at own left broken)
 
   -- two loops that end within unit k of the same bytes agree: both are short, or both stop at the same broken place
-  within_agree : (k : ℕ) (bytes : List ℕ) → AllAgree (IsWithin units k bytes) (IsWithin units k bytes)
+  within_agree : (k : ℕ) (bytes : List ℕ) → AllAgree (IsEndedWithin units k bytes) (IsEndedWithin units k bytes)
   within_agree k bytes a b w v none other =
       elim (short_or_broken units k bytes a w none) [
         | inl (cut, is) ↦ elim (short_or_broken units k bytes b v other) [
@@ -109,7 +109,7 @@ module _ (units : Units) (det : AreDetermined units) where
   whole_unit k bytes own left front whole = subst (λ l. units.begins k l ≡ Whole (length own)) (sym front) (det.whole k own left whole)
 
   -- bytes that begin with a whole unit k don't end within it
-  not_both : {A : Type 0} (k : ℕ) (bytes own left : List ℕ) (a : Outcome) → IsWithin units k bytes a → IsFaultless a.end
+  not_both : {A : Type 0} (k : ℕ) (bytes own left : List ℕ) (a : Outcome) → IsEndedWithin units k bytes a → IsFaultless a.end
       → bytes ≡ own ++ left → units.begins k own ≡ Whole (length own) → A
   not_both k bytes own left a w none front whole =
       let all = whole_unit k bytes own left front whole in

@@ -1,7 +1,7 @@
 -- What is done where no fault comes: all of the steps, and then what stands behind them; and how a loop ends within a unit.
 use Rattle.std.proofs.Common.{◌≡◌, inl, inr, ◌⊎◌, ℕ, List, [], ◌∷◌, ◌++◌, length, refl, ap, sym, subst, ◌∙◌, append_assoc, append-nil}
 use Rattle.dvd_loop.specs.Laws.{IsFaultless}
-use Rattle.dvd_loop.specs.Machine.{Does, EndsWithin, Fails, IsWithin, Outcome, Step, Units, ended, stepping, taking}
+use Rattle.dvd_loop.specs.Machine.{Does, EndsWithin, Fails, IsEndedWithin, Outcome, Step, Units, ended, stepping, taking}
 use Rattle.dvd_loop.specs.Machine.Part.{Whole, Cut, Broken}
 use Rattle.dvd_loop.specs.Machine.Step.{Write, Tell}
 use Rattle.dvd_loop.specs.Turns.{told, written}
@@ -81,7 +81,7 @@ IsShortOrBroken units k bytes outcome =
     ⊎ ((at : ℕ) × (own left : List ℕ) × (bytes ≡ own ++ left) × (units.begins k own ≡ Broken at) × (outcome ≡ taking own (ended (BadMarks k at))))
 
 -- where there is no fault, a loop that ends within unit k ends in one of these ways
-pub short_or_broken : (units : Units) (k : ℕ) (bytes : List ℕ) (outcome : Outcome) → IsWithin units k bytes outcome → IsFaultless outcome.end
+pub short_or_broken : (units : Units) (k : ℕ) (bytes : List ℕ) (outcome : Outcome) → IsEndedWithin units k bytes outcome → IsFaultless outcome.end
     → IsShortOrBroken units k bytes outcome
 short_or_broken units k bytes outcome w none =
     elim (units.begins k w.own) as (λ part. units.begins k w.own ≡ part → EndsWithin part k (length w.own) w.left outcome.end → IsShortOrBroken units k bytes outcome) [

@@ -1,7 +1,7 @@
 -- What a fault leaves: after a failed read what the end of the input there would leave, and after any fault fronts.
 use Rattle.std.proofs.Common.{◌≡◌, inl, inr, ℕ, zero, suc, ◌+◌, List, [], ◌∷◌, ◌++◌, length, refl, ap, sym, subst, ◌∙◌, append_assoc, append-nil, arith}
 use Rattle.dvd_loop.specs.Laws.{AreTotal, FaultsLeaveFronts, IsFaultless, IsFrontOf, ReadFaultEndsInput}
-use Rattle.dvd_loop.specs.Machine.{Does, EndsBehind, EndsWithin, Fails, Goes, GoesOn, IsWithin, Outcome, Part, Step, Units, bad_of, end_by, ended, stepping, taking}
+use Rattle.dvd_loop.specs.Machine.{Does, EndsBehind, EndsWithin, Fails, Goes, GoesOn, IsEndedWithin, Outcome, Part, Step, Units, bad_of, end_by, ended, stepping, taking}
 use Rattle.dvd_loop.specs.Machine.Part.{Whole, Cut, Broken}
 use Rattle.dvd_loop.specs.Machine.Step.{Write, Tell}
 use Rattle.dvd_loop.specs.Turns.{told, written}
@@ -16,7 +16,7 @@ use Rattle.dvd_loop.proofs.StepLemmas.{does_all, onto, taken_then}
 use Rattle.dvd_loop.proofs.Totality.{Exists, all_exist, behind_exists, end_by_none, goes_exist, one_fewer, steps_exist, turns_exist}
 
 -- an outcome over the bytes that were taken, which no fault ends: it takes, writes and tells as much
-pub record EndsThere (A : List ℕ → Outcome → Type 0) (a : Outcome) : Type 0 where
+pub record EndsAsTaken (A : List ℕ → Outcome → Type 0) (a : Outcome) : Type 0 where
   pub outcome : Outcome
   pub holds : A a.taken outcome
   pub faultless : IsFaultless outcome.end
@@ -26,14 +26,14 @@ pub record EndsThere (A : List ℕ → Outcome → Type 0) (a : Outcome) : Type 
 
 -- a run over these bytes that a failed read ended has done what one does whose input ends there
 abbrev LeaveThat : (List ℕ → Outcome → Type 0) → List ℕ → Type 0
-LeaveThat A bytes = (a : Outcome) → A bytes a → a.end ≡ ReadFault → EndsThere A a
+LeaveThat A bytes = (a : Outcome) → A bytes a → a.end ≡ ReadFault → EndsAsTaken A a
 
 -- what holds of an equal outcome holds of this one
-there_as : (A : List ℕ → Outcome → Type 0) (a x : Outcome) → a ≡ x → EndsThere A x → EndsThere A a
-there_as A a x is there = subst (EndsThere A) (sym is) there
+there_as : (A : List ℕ → Outcome → Type 0) (a x : Outcome) → a ≡ x → EndsAsTaken A x → EndsAsTaken A a
+there_as A a x is there = subst (EndsAsTaken A) (sym is) there
 
 -- an outcome there is one of a wider kind too
-there_by : (A B : List ℕ → Outcome → Type 0) (a : Outcome) → ((o : Outcome) → A a.taken o → B a.taken o) → EndsThere A a → EndsThere B a
+there_by : (A B : List ℕ → Outcome → Type 0) (a : Outcome) → ((o : Outcome) → A a.taken o → B a.taken o) → EndsAsTaken A a → EndsAsTaken B a
 there_by A B a to there = record {
   outcome = there.outcome;
   holds = to there.outcome there.holds;
@@ -64,7 +64,7 @@ turns_there Bad A bytes leaves a goes fault = leaves a goes fault
 turns_there Last A bytes leaves a is fault = absurd (let no : Done ≡ ReadFault = sym (ap (λ (o : Outcome). o.end) is) ∙ fault in cc)
 
 -- the failed read of one byte more is as the end of the input there
-no_byte : (bad : ℕ) → EndsThere (EndsBehind behind.Asks bad) (ended ReadFault)
+no_byte : (bad : ℕ) → EndsAsTaken (EndsBehind behind.Asks bad) (ended ReadFault)
 no_byte bad = record {
   outcome = ended (end_by bad);
   holds = inl refl;
@@ -94,10 +94,10 @@ behind_there behind.Asks bad (byte ∷ left) a ends fault = elim ends [
 
 module _ (units : Units) where
   -- a failed read within unit k leaves what the end of the input there would leave
-  within_there : (k : ℕ) (bytes : List ℕ) → LeaveThat (IsWithin units k) bytes
+  within_there : (k : ℕ) (bytes : List ℕ) → LeaveThat (IsEndedWithin units k) bytes
   within_there k bytes a w fault =
-      let P = IsWithin units k in
-      let there : (end : LoopEnd) → EndsWithin (units.begins k w.own) k (length w.own) [] end → IsFaultless end → EndsThere P a =
+      let P = IsEndedWithin units k in
+      let there : (end : LoopEnd) → EndsWithin (units.begins k w.own) k (length w.own) [] end → IsFaultless end → EndsAsTaken P a =
       λ end ends none. there_as P a (taking w.own (ended a.end)) w.takes (record {
         outcome = taking w.own (ended end);
         holds = record { own = w.own; left = []; front = refl; ends = ends; takes = refl };
@@ -107,7 +107,7 @@ module _ (units : Units) where
         lines = refl;
       }) in
       let Ends : Part → List ℕ → LoopEnd → Type 0 = λ part left end. EndsWithin part k (length w.own) left end in
-      elim (units.begins k w.own) as (λ part. Ends part w.left a.end → ((end : LoopEnd) → Ends part [] end → IsFaultless end → EndsThere P a) → EndsThere P a) [
+      elim (units.begins k w.own) as (λ part. Ends part w.left a.end → ((end : LoopEnd) → Ends part [] end → IsFaultless end → EndsAsTaken P a) → EndsAsTaken P a) [
         | Whole size ↦ λ ends by. absurd ends
         | Cut ↦ λ ends by. by (Short k (length w.own)) (inl (refl, refl)) tt
         | Broken at ↦ λ ends by. by (BadMarks k at) (inl refl) tt
@@ -120,7 +120,7 @@ module _ (units : Units) where
       there_by (λ l. Does steps (EndsBehind units.behind bad l)) (Goes units zero before bad) a (λ o rest. (steps, closes, rest))
       (steps_there steps (EndsBehind units.behind bad) bytes (behind_there units.behind bad bytes) a does fault)
   goes_there (suc n) before bad bytes a goes fault = elim goes [
-    | inl w ↦ there_by (IsWithin units (length before)) (Goes units (suc n) before bad) a (λ o within. inl within) (within_there (length before) bytes a w fault)
+    | inl w ↦ there_by (IsEndedWithin units (length before)) (Goes units (suc n) before bad) a (λ o within. inl within) (within_there (length before) bytes a w fault)
     | inr t ↦
         let Next : List ℕ → Outcome → Type 0 = Goes units n (before ++ t.own ∷ []) (bad + bad_of t.turn) in
         let there = steps_there t.steps (λ l. GoesOn t.turn (Next l)) t.left (turns_there t.turn Next t.left (goes_there n (before ++ t.own ∷ []) (bad + bad_of t.turn) t.left)) t.after t.does

@@ -3,7 +3,7 @@ use Rattle.std.proofs.Common.{◌≡◌, inl, inr, ℕ, zero, suc, ◌+◌, ◌<
 use Rattle.std.specs.List.{flat_map, range_with_len}
 use Rattle.std.proofs.Math.Seq.{drop-append_seam, take-append_seam}
 use Rattle.std.proofs.lemmas.Bool.{cases_lt, eq-eqb, ne_eqb}
-use Rattle.dvd_loop.specs.Laws.{IsFaultless, start}
+use Rattle.dvd_loop.specs.Laws.{IsFaultless}
 use Rattle.dvd_loop.specs.Machine.{Does, EndsBehind, Goes, IsOutcome, IsUnit, Outcome, Step, Units, bad_of, sized}
 use Rattle.dvd_loop.specs.Turns.{told, written}
 use Rattle.dvd_loop.specs.declared.ends.Behind.TheVariants.{Asks}
@@ -14,6 +14,11 @@ use Rattle.dvd_loop.proofs.EndLemmas.{empty}
 use Rattle.dvd_loop.proofs.Faultless.{not_by_fault}
 use Rattle.dvd_loop.proofs.Sizes.{goes_one}
 use Rattle.dvd_loop.proofs.StepLemmas.{onto}
+
+-- where unit k begins, behind units of those sizes
+unfoldable pub start : (ℕ → ℕ) → ℕ → ℕ
+start size zero = 0
+start size (suc k) = start size k + size k
 
 -- unit 0 begins at the front
 pub start-zero : (size : ℕ → ℕ) → start size 0 ≡ 0

@@ -1,7 +1,7 @@
 -- What a run can't end as, by what its units are.
 use Rattle.std.proofs.Common.{◌≡◌, ◌≢◌, inl, inr, ◌⊎◌, ℕ, zero, suc, ◌+◌, ◌<◌, ◌≤◌, List, [], ◌∷◌, ◌++◌, length, length-append, refl, sym, subst, arith}
 use Rattle.dvd_loop.specs.Laws.{IsNever}
-use Rattle.dvd_loop.specs.Machine.{Does, EndsBehind, EndsWithin, Goes, GoesOn, IsOutcome, IsWithin, Outcome, Step, Units, bad_of, end_by}
+use Rattle.dvd_loop.specs.Machine.{Does, EndsBehind, EndsWithin, Goes, GoesOn, IsOutcome, IsEndedWithin, Outcome, Step, Units, bad_of, end_by}
 use Rattle.dvd_loop.specs.Machine.Part.{Whole, Cut, Broken}
 use Rattle.dvd_loop.specs.Machine.Step.{Write, Tell}
 use Rattle.dvd_loop.specs.declared.ends.Behind.TheVariants as behind
@@ -84,7 +84,7 @@ module _ (units : Units) (Many : ℕ → ℕ → Type 0) (are : IsCount units Ma
       ] refl ends
 
   -- within a unit
-  within_end : (k : ℕ) (bytes : List ℕ) → k < units.count → AllEndSo (HasReason units Many) (IsWithin units k bytes)
+  within_end : (k : ℕ) (bytes : List ℕ) → k < units.count → AllEndSo (HasReason units Many) (IsEndedWithin units k bytes)
   within_end k bytes lt a w =
       elim (units.begins k w.own) as (λ part. units.begins k w.own ≡ part → EndsWithin part k (length w.own) w.left a.end → HasReason units Many a.end) [
         | Whole size ↦ λ is ends. absurd ends

@@ -4,7 +4,7 @@ use Rattle.std.specs.Prelude.{◌↔◌}
 use Rattle.std.proofs.lemmas.Bool.{cases_lt, le-leb, lt-leb}
 use Rattle.std.proofs.lemmas.List.{length-take-le, take-append-drop}
 use Rattle.dvd_loop.specs.Laws.{IsFaultless}
-use Rattle.dvd_loop.specs.Machine.{Goes, GoesOn, IsUnit, IsWithin, Outcome, Step, Units, bad_of, ended, taking, sized}
+use Rattle.dvd_loop.specs.Machine.{Goes, GoesOn, IsUnit, IsEndedWithin, Outcome, Step, Units, bad_of, ended, taking, sized}
 use Rattle.dvd_loop.specs.Machine.Part.{Whole, Cut, Broken}
 use Rattle.dvd_loop.specs.Turns.{told, written}
 use Rattle.dvd_loop.specs.declared.ends.LoopEnd.TheVariants.{Short}
@@ -81,7 +81,7 @@ module _ (units : Units) (size : ℕ → ℕ) (begins : (k : ℕ) (bytes : List 
     pub is : outcome ≡ taking bytes (ended (Short k (length bytes)))
 
   -- an end within a unit without a fault is that of an input with too few bytes for it
-  pub within_short : (k : ℕ) (bytes : List ℕ) (outcome : Outcome) → IsWithin units k bytes outcome → IsFaultless outcome.end → IsShort k bytes outcome
+  pub within_short : (k : ℕ) (bytes : List ℕ) (outcome : Outcome) → IsEndedWithin units k bytes outcome → IsFaultless outcome.end → IsShort k bytes outcome
   within_short k bytes outcome w none = elim (short_or_broken units k bytes outcome w none) [
     | inl (cut, is) ↦ record { fewer = (sized_cut (size k) bytes).0 (sym (begins k bytes) ∙ cut); is = is }
     | inr (at, own, left, front, broken, is) ↦ absurd (sized_never_broken (size k) at own (sym (begins k own) ∙ broken))

@@ -1,6 +1,6 @@
 -- What a run that ends as done has taken: the bytes of all units.
 use Rattle.std.proofs.Common.{◌≡◌, inl, inr, ℕ, zero, suc, ◌+◌, List, [], ◌∷◌, ◌++◌, length, length-append, refl, ap, sym, subst, ◌∙◌, add-one, arith}
-use Rattle.dvd_loop.specs.Laws.{IsFaultless, IsNever, start}
+use Rattle.dvd_loop.specs.Laws.{IsFaultless, IsNever}
 use Rattle.dvd_loop.specs.Machine.{Does, EndsBehind, Goes, IsOutcome, Outcome, Units, bad_of, sized}
 use Rattle.dvd_loop.specs.Turns.{told, written}
 use Rattle.dvd_loop.specs.declared.ends.Behind.{Behind}
@@ -8,7 +8,7 @@ use Rattle.dvd_loop.specs.declared.ends.Behind.TheVariants as behind
 use Rattle.dvd_loop.specs.declared.ends.LoopEnd.TheVariants.{Done, Long, NoControl, ReadFault, Short}
 use Rattle.dvd_loop.specs.declared.ends.Turn.TheVariants.{Last}
 use Rattle.dvd_loop.proofs.Faultless.{all_done}
-use Rattle.dvd_loop.proofs.Over.{start-suc, start-zero}
+use Rattle.dvd_loop.proofs.Over.{start, start-suc, start-zero}
 use Rattle.dvd_loop.proofs.Sizes.{goes_one}
 use Rattle.dvd_loop.proofs.StepLemmas.{onto}
 

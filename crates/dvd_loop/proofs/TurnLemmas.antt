@@ -119,6 +119,15 @@ steps_behind_line line steps old now new (Err end) told_line done =
     comes_after (λ bytes. Does steps Nothing) (λ bytes. Does (Tell line ∷ steps) Nothing) old now new end [] [] (line ++ []) told_line
     (λ left after does. inr (after, does, ap (λ l. onto [] [] l after) (append-nil line))) done
 
+-- steps behind bytes that were written
+pub steps_behind_write : (bytes : List ℕ) (steps : List Step) (old now new : Streams) {A : Type 0} (answer : Result A LoopEnd)
+    → HaveMoved old now [] (bytes ++ []) [] → AreSteps steps now new answer → AreSteps (Write bytes ∷ steps) old new answer
+steps_behind_write bytes steps old now new (Ok value) wrote done =
+    subst (λ l. HaveMoved old new [] (l ++ written steps) (told steps)) (append-nil bytes) (moves_on old now new [] (bytes ++ []) [] [] (written steps) (told steps) wrote done)
+steps_behind_write bytes steps old now new (Err end) wrote done =
+    comes_after (λ input. Does steps Nothing) (λ input. Does (Write bytes ∷ steps) Nothing) old now new end [] (bytes ++ []) [] wrote
+    (λ left after does. inr (after, does, ap (λ l. onto [] l [] after) (append-nil bytes))) done
+
 -- one write is all that is done for a unit that is then this
 module _ (May : List Step → Turn → Type 0) (bytes : List ℕ) (turn : Turn) (may : May (Write bytes ∷ []) turn) (source output new_output report : Seen) where
   -- the write was whole, so all was done for the unit

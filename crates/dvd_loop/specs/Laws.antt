@@ -1,9 +1,8 @@
 -- What holds of every run over units: that it is one and that it is there, what its faults leave, and where it ends by the
 -- sizes of its units.
-use Rattle.std.specs.Prelude.{◌≡◌, ◌⊎◌, ◌↔◌, ℕ, zero, suc, ◌+◌, ◌*◌, ◌<◌, ◌≤◌, List, [], ◌++◌, length, slice_index_or, take}
+use Rattle.std.specs.Prelude.{◌≡◌, ◌⊎◌, ◌↔◌, ℕ, ◌+◌, ◌*◌, ◌<◌, ◌≤◌, List, [], ◌++◌, length, take}
 use Rattle.dvd_loop.specs.Machine.{IsOutcome, IsUnit, Outcome, Step, Units, sized}
 use Rattle.dvd_loop.specs.Machine.Part.{Whole, Cut, Broken}
-use Rattle.dvd_loop.specs.Turns.{told, written}
 use Rattle.dvd_loop.specs.declared.ends.Behind.TheVariants.{Asks, Done as StopsDone}
 use Rattle.dvd_loop.specs.declared.ends.LoopEnd.{LoopEnd}
 use Rattle.dvd_loop.specs.declared.ends.LoopEnd.TheVariants.{BadMarks, Damaged, Done, Long, NoControl, ReadFault, ReportFault, Short, WriteFault}
@@ -18,9 +17,9 @@ IsFaultless ReportFault = ⊥
 IsFaultless end = Unit {0}
 
 -- no broken rule ended it
-abbrev pub IsUnbroken : LoopEnd → Type 0
-IsUnbroken (BadMarks unit at) = ⊥
-IsUnbroken end = Unit {0}
+abbrev pub IsNotBadMarks : LoopEnd → Type 0
+IsNotBadMarks (BadMarks unit at) = ⊥
+IsNotBadMarks end = Unit {0}
 
 -- How bytes begin stays so whatever follows them, and one thing alone may be done for each unit and behind all.
 pub record AreDetermined (units : Units) : Type 0 where
@@ -34,7 +33,7 @@ pub record AreDetermined (units : Units) : Type 0 where
 abbrev pub OutcomesAgree : Units → Type 0
 OutcomesAgree units =
     AreDetermined units → (bytes : List ℕ) (a b : Outcome) → IsOutcome units bytes a → IsOutcome units bytes b → IsFaultless a.end → IsFaultless b.end
-    → (a.out ≡ b.out) × (a.lines ≡ b.lines) × (a.end ≡ b.end) × (IsUnbroken a.end → a.taken ≡ b.taken)
+    → (a.out ≡ b.out) × (a.lines ≡ b.lines) × (a.end ≡ b.end) × (IsNotBadMarks a.end → a.taken ≡ b.taken)
 
 -- Whatever bytes there are, they begin somehow, and something may be done for each unit and behind all.
 pub record AreTotal (units : Units) : Type 0 where
@@ -122,28 +121,3 @@ pub record TellsLength (count size : ℕ) (bytes : List ℕ) (outcome : Outcome)
 abbrev pub EndsBySize : Units → Type 0
 EndsBySize units =
     (size : ℕ) → AreOfOneSize units size → (bytes : List ℕ) (a : Outcome) → IsOutcome units bytes a → IsFaultless a.end → TellsLength units.count size bytes a
-
--- where unit k begins, behind units of those sizes
-unfoldable pub start : (ℕ → ℕ) → ℕ → ℕ
-start size zero = 0
-start size (suc k) = start size k + size k
-
--- Bytes begin with so many whole units at least: these are the bytes of each, and those from it on.
-pub record BeginWith (units : Units) (own from : ℕ → List ℕ) (count : ℕ) (bytes : List ℕ) : Type 0 where
-  pub first : from 0 ≡ bytes
-  pub next : (j : ℕ) → j < count → from j ≡ own j ++ from (suc j)
-  pub whole : (j : ℕ) → j < count → units.begins j (own j) ≡ Whole (length (own j))
-
--- A run over units with these bytes takes unit k, with those steps: they stand behind what the k units before it do alone, and
--- together that is what the first k + 1 do.
-pub record TakesUnit (units : Units) (own : ℕ → List ℕ) (bytes : List ℕ) (a : Outcome) (k : ℕ) (steps : List Step) (turn : Turn) : Type 0 where
-  pub before : List (List ℕ)
-  pub number : length before ≡ k
-  pub each : (j : ℕ) → j < k → slice_index_or before j [] ≡ own j
-  pub unit : IsUnit units before (own k) steps turn
-  pub alone : Outcome
-  pub runs : IsOutcome (first k units) bytes alone
-  pub ends : alone.end ≡ Done
-  pub runs_on : IsOutcome (first (k + 1) units) bytes (record alone { taken = alone.taken ++ own k; out = alone.out ++ written steps; lines = alone.lines ++ told steps })
-  pub out : IsFrontOf (alone.out ++ written steps) a.out
-  pub lines : IsFrontOf (alone.lines ++ told steps) a.lines

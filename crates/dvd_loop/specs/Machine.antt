@@ -69,7 +69,7 @@ EndsWithin Cut k held left end = ((end ≡ Short k held) × (left ≡ [])) ⊎ (
 EndsWithin (Broken at) k held left end = (end ≡ BadMarks k at) ⊎ (end ≡ ReadFault)
 
 -- It ends within unit k: a part of it is taken, and nothing is done.
-pub record IsWithin (units : Units) (k : ℕ) (bytes : List ℕ) (outcome : Outcome) : Type 0 where
+pub record IsEndedWithin (units : Units) (k : ℕ) (bytes : List ℕ) (outcome : Outcome) : Type 0 where
   pub own : List ℕ
   pub left : List ℕ
   pub front : bytes ≡ own ++ left
@@ -122,7 +122,7 @@ EndsBehind behind.Asks bad (byte ∷ left) outcome = (outcome ≡ taking (byte �
 unfoldable pub Goes : Units → ℕ → List (List ℕ) → ℕ → List ℕ → Outcome → Type 0
 Goes units zero before bad left outcome = (steps : List Step) × units.closes before steps × Does steps (EndsBehind units.behind bad left) outcome
 Goes units (suc n) before bad bytes outcome =
-    IsWithin units (length before) bytes outcome
+    IsEndedWithin units (length before) bytes outcome
     ⊎ IsTaken units before (λ own left turn. GoesOn turn (Goes units n (before ++ own ∷ []) (bad + bad_of turn) left)) bytes outcome
 
 -- A run of these units over these bytes.

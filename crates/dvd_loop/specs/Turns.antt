@@ -2,7 +2,7 @@
 use Rattle.std.specs.Prelude.{◌≡◌, ◌<◌, ◌⊎◌, ℕ, List, [], ◌∷◌, ◌++◌, length, Result, Ok, Err}
 use Rattle.std.specs.Io.KnownBytes.{Consumes, IsAtEnd}
 use Rattle.dvd_ports.specs.Seen.{Seen}
-use Rattle.dvd_loop.specs.Machine.{Does, IsUnit, IsTaken, IsWithin, Outcome, Step, Units}
+use Rattle.dvd_loop.specs.Machine.{Does, IsUnit, IsTaken, IsEndedWithin, Outcome, Step, Units}
 use Rattle.dvd_loop.specs.Machine.Step.{Write, Tell}
 use Rattle.dvd_loop.specs.Streams.{Comes, HasEnded, HaveCauses, HaveMoved, Streams}
 use Rattle.dvd_loop.specs.declared.ends.Behind.TheVariants.{Asks}
@@ -64,7 +64,7 @@ pub record IsTurnDone (units : Units) (before : List (List ℕ)) (ready : List (
 
 -- the loop ends within the unit behind those, or within its steps
 abbrev pub EndsAt : Units → List (List ℕ) → List ℕ → Outcome → Type 0
-EndsAt units before bytes outcome = IsWithin units (length before) bytes outcome ⊎ IsTaken units before (λ own left turn. Nothing) bytes outcome
+EndsAt units before bytes outcome = IsEndedWithin units (length before) bytes outcome ⊎ IsTaken units before (λ own left turn. Nothing) bytes outcome
 
 -- The command is ready for unit k, whatever stands before it.
 abbrev pub IsReadyFor : ℕ → (List (List ℕ) → Type 0) → Type 0

@@ -13,12 +13,16 @@ use Rattle.dvd_capture.specs.TwoPass.{column_answer, from_columns}
 use Rattle.dvd_capture.specs.declared.parts.ColumnAnswer.{ColumnAnswer}
 use Rattle.dvd_capture.proofs.Columns.{from_columns-line}
 use Rattle.dvd_read.specs.Parts.{AreColumnsFrom, column_word}
-use Rattle.dvd_read.specs.Inner.Found.{AreColumns, words_of}
+use Rattle.dvd_read.specs.Inner.Found.{words_of}
 use Rattle.dvd_read.proofs.Positions.{first_passes, none_passes}
 
 -- a column that stands nowhere
 abbrev pub blank_column : ColumnAnswer
 blank_column = record { bytes = []; answered = false }
+
+-- these columns are what the second pass answers
+abbrev pub AreColumns : List (Option (List ℕ)) → List ColumnAnswer → Type 0
+AreColumns answers columns = (j : ℕ) (d : ColumnAnswer) → j < 182 → column_word (get_or columns j d) ≡ column_answer answers j
 
 -- the bytes of a row of the columns' words before place j
 abbrev pub IsRowBefore : List ColumnAnswer → ℕ → List ℕ → ℕ → Type 0

@@ -11,9 +11,9 @@ use Rattle.dvd_capture.specs.declared.parts.ColumnAnswer.{ColumnAnswer}
 use Rattle.dvd_read.specs.Causes.{two_pass_cause}
 use Rattle.dvd_read.specs.Found.{block_found, columns_of}
 use Rattle.dvd_read.specs.Parts.{column_word}
-use Rattle.dvd_read.specs.Inner.Found.{AreColumns, words_of}
+use Rattle.dvd_read.specs.Inner.Found.{words_of}
 use Rattle.dvd_read.specs.declared.cause.Cause.TheVariants.{Column, Row}
-use Rattle.dvd_read.proofs.ColumnAnswers.{blank_column}
+use Rattle.dvd_read.proofs.ColumnAnswers.{AreColumns, blank_column}
 use Rattle.dvd_read.proofs.Outcomes.{missing_column, get_or-columns_of, length-columns_of, column_cause, row_cause, fixed-agrees}
 use Rattle.dvd_read.proofs.Positions.{none_fails}
 

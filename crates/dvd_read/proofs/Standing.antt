@@ -5,6 +5,7 @@ use Rattle.std.proofs.lemmas.Bool.Decides.{nat_tests}
 use Rattle.std.proofs.lemmas.List.{get_or-map, ext_get_or, length-map, length-replicate}
 use Rattle.std.proofs.lemmas.Grind.{same_number_lists}
 use Rattle.gf_field.specs.Words.{IsCodeword, IsNear}
+use Rattle.rs_code.specs.Distance.{distance}
 use Rattle.rs_decode.specs.Errors.{error_count}
 use Rattle.rs_decode.specs.Filling.{marked}
 use Rattle.rs_decode.specs.Nearest.{near_of, vanishes_at_all}
@@ -21,10 +22,9 @@ use Rattle.dvd_capture.specs.TwoPass.{failed_of, from_columns}
 use Rattle.dvd_capture.specs.declared.parts.AnswerRow.{AnswerRow}
 use Rattle.dvd_capture.specs.declared.parts.ColumnAnswer.{ColumnAnswer}
 use Rattle.dvd_capture.proofs.Columns.{from_columns-line, length-from_columns}
-use Rattle.dvd_read.specs.Found.{differences}
 use Rattle.dvd_read.specs.Parts.{AreOwnFrom, answer_by, answer_word, bytes_of}
 use Rattle.dvd_read.specs.Inner.Found.{words_of}
-use Rattle.dvd_read.specs.Inner.Standing.{AreCodewords, AreOwnColumns}
+use Rattle.dvd_read.specs.Inner.Standing.{AreCodewords}
 use Rattle.dvd_read.proofs.ColumnAnswers.{blank_column}
 use Rattle.dvd_read.proofs.RowAnswers.{blank_answer, row_fixed}
 
@@ -65,19 +65,19 @@ own-step x y rest more none later =
 
 -- a word with no errors and no marks differs nowhere from what was received
 none-differ : (row word : List ℕ) (marks : List Bool) → length row ≤ length marks → marked marks ≡ 0 → error_count row word marks ≡ 0
-    → 0 ≡ differences row word
-unfolding differences error_count marked
+    → 0 ≡ distance row word
+unfolding distance error_count marked
 none-differ [] word marks within clear none = refl
 none-differ (x ∷ row) [] marks within clear none = refl
 none-differ (x ∷ row) (y ∷ word) [] within clear none = absurd (omega arith)
 none-differ (x ∷ row) (y ∷ word) (true ∷ marks) within clear none = absurd (omega (arith, clear))
 none-differ (x ∷ row) (y ∷ word) (false ∷ marks) within clear none =
-    own-step x y (error_count row word marks) (differences row word) none
+    own-step x y (error_count row word marks) (distance row word) none
     (λ rest. sym (none-differ row word marks (omega arith) (omega (arith, clear)) rest))
 
 -- a row of which nothing was corrected and nothing marked doesn't differ from its answer
 pub uncorrected : (row : List ℕ) (marks : List Bool) (answer : AnswerRow) (fix : Fix) → length row ≡ length marks → answer.fix ≡ Some fix
-    → fix.errors ≡ 0 → fix.erased ≡ 0 → IsAnswer row marks answer → 0 ≡ differences row answer.bytes
+    → fix.errors ≡ 0 → fix.erased ≡ 0 → IsAnswer row marks answer → 0 ≡ distance row answer.bytes
 uncorrected row marks answer fix size is errors erased told =
     let fixed : IsFix row marks answer.bytes fix = fix-told row answer.bytes marks answer.fix fix is told in
     none-differ row answer.bytes marks (omega (arith, size)) (sym fixed.2 ∙ erased) (sym fixed.1 ∙ errors)
@@ -140,6 +140,10 @@ whole-codewords answers i size below codewords none =
     subst (IsCodeword 182 10) (sym (get_or-bytes_of answers i inside))
     (codewords i blank_answer (get_or answers i blank_answer).bytes below (whole-answered answers i inside none))
 
+-- each column has the bytes of the rows' answers
+abbrev pub AreOwnColumns : List AnswerRow → List ColumnAnswer → Type 0
+AreOwnColumns answers columns = (j : ℕ) (default : ColumnAnswer) → j < 182 → (get_or columns j default).bytes ≡ column (bytes_of answers) j
+
 -- where no row failed and each column is its own answer, the block stands as its rows were answered
 pub stands : (answers : List AnswerRow) (columns : List ColumnAnswer) → length answers ≡ 208 → length columns ≡ 182 → AreCodewords answers
     → marked (failed_of (map answer_word answers)) ≡ 0 → AreOwnColumns answers columns → from_columns (words_of columns) ≡ bytes_of answers
@@ -179,8 +183,8 @@ own-whole answers columns size from j d below =
 -- what is counted of row i of a captured block
 pub row-counted : (work : Work) (i : ℕ) (row : List ℕ) (default : AnswerRow) (count : ℕ) → i < 208 → HasAnswers (stage_of work) → row ≡ line (rows_of work) i
     → ((marks : List Bool) → length marks ≡ 182 → IsAnswer row marks (get_or (answers_of_work work) i default)
-    → count ≡ differences row (get_or (answers_of_work work) i default).bytes)
-    → count ≡ differences (line (rows_of work) i) (line (bytes_of (answers_of_work work)) i)
+    → count ≡ distance row (get_or (answers_of_work work) i default).bytes)
+    → count ≡ distance (line (rows_of work) i) (line (bytes_of (answers_of_work work)) i)
 row-counted work i row default count below stage is counted =
     let answers : List AnswerRow = answers_of_work work in
     let marks : List Bool = marks_line (marks_of_work work) i in
@@ -189,5 +193,5 @@ row-counted work i row default count below stage is counted =
     let width : length marks ≡ 182 = ap length (line-marks work.marks.rows.items i inside_marks) ∙ length-marks_of (line work.marks.rows.items i) in
     let told : IsAnswer row marks (get_or answers i default) = subst (λ (r : List ℕ). IsAnswer r marks (get_or answers i default)) (sym is) (work.answered stage i default below) in
     counted marks width told
-    ∙ ap (λ (r : List ℕ). differences r (get_or answers i default).bytes) is
-    ∙ ap (differences (line (rows_of work) i)) (sym (get_or-map bytes answers i default [] inside))
+    ∙ ap (λ (r : List ℕ). distance r (get_or answers i default).bytes) is
+    ∙ ap (distance (line (rows_of work) i)) (sym (get_or-map bytes answers i default [] inside))

@@ -1,7 +1,8 @@
 -- What the two passes find, as whole lists.
-use Rattle.std.specs.Prelude.{ℕ, ◌+◌, List, [], ◌∷◌, map, unwrap_or, if◌then◌else◌, ◌==◌}
+use Rattle.std.specs.Prelude.{ℕ, ◌+◌, List, [], ◌∷◌, map, unwrap_or}
 use Rattle.std.specs.List.{range_with_len}
 use Rattle.std.specs.declared.option.Option.{Option}
+use Rattle.rs_code.specs.Distance.{distance}
 use Rattle.dvd_capture.specs.TwoPass.{column_answer, from_columns}
 
 -- what the second pass answers to the columns
@@ -12,12 +13,7 @@ columns_of answers = map (column_answer answers) (range_with_len 0 182)
 unfoldable pub block_found : List (Option (List ℕ)) → List (List ℕ)
 block_found answers = from_columns (map (λ column. unwrap_or column []) (columns_of answers))
 
--- in how many places two rows differ, as far as both go
-unfoldable pub differences : List ℕ → List ℕ → ℕ
-differences (x ∷ xs) (y ∷ ys) = (if x == y then 0 else 1) + differences xs ys
-differences xs ys = 0
-
 -- in how many places two blocks differ: those of all rows together
 unfoldable pub block_differences : List (List ℕ) → List (List ℕ) → ℕ
-block_differences (row ∷ rows) (other ∷ others) = differences row other + block_differences rows others
+block_differences (row ∷ rows) (other ∷ others) = distance row other + block_differences rows others
 block_differences rows others = 0

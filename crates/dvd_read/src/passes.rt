@@ -1,5 +1,6 @@
 //! Both passes over a captured block, and the test of the rows.
 ghost use Rattle.std.specs.Prelude.{◌≡◌, ◌<◌, ◌≤◌, Bool, List, None, Some, length, map, IsTrue, IfErr, IfOk, OnErr, OnOk};
+ghost use Rattle.rs_code.specs.Distance.{distance};
 ghost use Rattle.rs_decode.specs.Filling.{marked};
 ghost use Rattle.dvd_capture.specs.Answers.{AreAnswers, IsAnswer};
 ghost use Rattle.dvd_capture.specs.Rule.{HasAnswers, HasBlock, HasNoTwoPass};
@@ -7,7 +8,7 @@ ghost use Rattle.dvd_capture.specs.TwoPass.{AgreesWith, answers_of, failed_of, f
 ghost use Rattle.dvd_capture.specs.Works.{answers_of_work, block_of, marks_of_work, rows_of, stage_of};
 ghost use Rattle.dvd_capture.specs.Parts.{column_answers, received_rows};
 ghost use Rattle.dvd_read.specs.Causes.{two_pass_cause};
-ghost use Rattle.dvd_read.specs.Found.{block_differences, block_found, differences};
+ghost use Rattle.dvd_read.specs.Found.{block_differences, block_found};
 ghost use Rattle.dvd_read.specs.Parts.{AreAnswersFrom, AreColumnsFrom, AreOwnFrom, answer_word, bytes_of};
 ghost use Rattle.dvd_read.specs.Inner.Found.{words_of};
 ghost use Rattle.dvd_read.specs.Inner.Standing.{AreCodewords};
@@ -183,7 +184,7 @@ fn count_corrections(work: &Work) -> u32
 
 // In how many places the answer to one row differs from it: in none where nothing was corrected and nothing marked.
 fn row_corrections(row: &[u8; 182], answer: &AnswerRow) -> u32
-    ensures count { (marks : List Bool) → length marks ≡ 182 → IsAnswer row.now marks answer.now → result ≡ differences row.now answer.now.bytes }
+    ensures count { (marks : List Bool) → length marks ≡ 182 → IsAnswer row.now marks answer.now → result ≡ distance row.now answer.now.bytes }
     ensures most { result ≤ 182 }
 {
     match answer.fix {
@@ -208,7 +209,7 @@ fn count_differences(received: &Received, columns: &[ColumnAnswer]) -> u32
 
 // In how many places two rows differ.
 fn row_differences(received: &[u8; 182], row: &[u8; 182]) -> u32
-    ensures count { result ≡ differences received.now row.now }
+    ensures count { result ≡ distance received.now row.now }
     ensures most { result ≤ 182 }
 {
     let mut count = 0;

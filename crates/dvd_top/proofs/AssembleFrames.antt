@@ -1,5 +1,5 @@
 -- The frames that `assemble` goes over, and the blocks that it writes.
-use Rattle.std.proofs.Common.{◌≡◌, ◌≢◌, ◌∙◌, ℕ, ◌+◌, ◌-◌, ◌<◌, ◌≤◌, List, [], ◌∷◌, ◌++◌, length, map, take, drop, get_or, replicate, Option, None, Some, Result, Ok, Err, inr, refl, sym, ap, subst, append_assoc, append-nil, arith}
+use Rattle.std.proofs.Common.{◌≡◌, ◌≢◌, ◌∙◌, ℕ, ◌+◌, ◌-◌, ◌<◌, ◌≤◌, List, [], ◌∷◌, ◌++◌, length, map, take, drop, get_or, replicate, Option, None, Some, refl, sym, ap, subst, append_assoc, append-nil, arith}
 use Rattle.std.specs.List.{flat_map, range_with_len}
 use Rattle.std.specs.Option.{option_map_or}
 use Rattle.std.specs.Io.KnownBytes.{Appends}
@@ -24,15 +24,11 @@ use Rattle.dvd_merge.specs.MarkedText.{marked_text}
 use Rattle.dvd_ports.specs.Whole.{AppendsPrefix}
 use Rattle.dvd_ports.proofs.KnownLemmas.{Appends-then}
 use Rattle.dvd_loop.specs.Laws.{IsPlainEnd}
-use Rattle.dvd_loop.specs.Machine.{Does, IsOutcome, Outcome, Step}
+use Rattle.dvd_loop.specs.Machine.{IsOutcome, Outcome, Step}
 use Rattle.dvd_loop.specs.Machine.Step.{Tell, Write}
-use Rattle.dvd_loop.specs.Streams.{HaveMoved, Streams}
-use Rattle.dvd_loop.specs.Turns.{AreSteps, Nothing, told, written}
 use Rattle.dvd_loop.specs.declared.ends.LoopEnd.{LoopEnd}
 use Rattle.dvd_loop.specs.declared.ends.LoopEnd.TheVariants.{ReportFault}
 use Rattle.dvd_loop.proofs.LoopEnds.{plain_end}
-use Rattle.dvd_loop.proofs.StepLemmas.{onto}
-use Rattle.dvd_loop.proofs.StreamLemmas.{comes_after, moves_on}
 use Rattle.dvd_top.specs.Commands.Assemble.{IsAssembleEnd, IsShelfOf, assemble_units, assembled_steps, frames_in, placed_line, placed_of, text_of}
 
 -- a frame that has a home counts one
@@ -155,15 +151,6 @@ module _ (old mid new : Option (List ℕ)) (tables : List Table) (k : ℕ) (with
       begins_more : (xs ys : List ℕ) → xs ≢ [] → xs ++ ys ≢ []
       begins_more [] ys some none = some refl
       begins_more (x ∷ xs) ys some none = cc
-
--- steps behind bytes that were written
-pub steps_behind_write : (bytes : List ℕ) (steps : List Step) (old now new : Streams) {A : Type 0} (answer : Result A LoopEnd)
-    → HaveMoved old now [] (bytes ++ []) [] → AreSteps steps now new answer → AreSteps (Write bytes ∷ steps) old new answer
-steps_behind_write bytes steps old now new (Ok value) wrote done =
-    subst (λ l. HaveMoved old new [] (l ++ written steps) (told steps)) (append-nil bytes) (moves_on old now new [] (bytes ++ []) [] [] (written steps) (told steps) wrote done)
-steps_behind_write bytes steps old now new (Err end) wrote done =
-    comes_after (λ input. Does steps Nothing) (λ input. Does (Write bytes ∷ steps) Nothing) old now new end [] (bytes ++ []) [] wrote
-    (λ left after does. inr (after, does, ap (λ l. onto [] l [] after) (append-nil bytes))) done
 
 -- the closing of a shelf
 abbrev pub closing_of : List Table → ℕ → ℕ → List Step

@@ -7,12 +7,13 @@ use Rattle.std.proofs.lemmas.List.{drop-drop}
 use Rattle.dvd_capture.specs.Captured.{HasSize, block_size, unit_size}
 use Rattle.dvd_capture.specs.declared.form.Form.{Form}
 use Rattle.dvd_capture.proofs.Fetching.{sized-block}
-use Rattle.dvd_loop.specs.Laws.{AreDetermined, AreTotal, BeginWith}
+use Rattle.dvd_loop.specs.Laws.{AreDetermined, AreTotal}
 use Rattle.dvd_loop.specs.Machine.{Step, Units}
 use Rattle.dvd_loop.specs.Machine.Part.{Whole, Broken}
 use Rattle.dvd_loop.specs.declared.ends.Turn.{Turn}
 use Rattle.dvd_top.specs.Captured.{HasBlocks, block_bytes, block_start, captured_part, from_block}
 use Rattle.dvd_top.proofs.CapturedParts.{begins_somehow, broken_stays, front_whole, whole_size, whole_stays}
+use Rattle.dvd_loop.proofs.Apart.{BeginWith}
 
 -- block 0 begins at the front
 pub start-zero : (form : Form) (bytes : List ℕ) → block_start form bytes 0 ≡ 0

@@ -1,9 +1,10 @@
 -- The Main Data of a frame are 2,048 bytes, whatever stands in its block.
-use Rattle.std.proofs.Common.{◌≡◌, ℕ, ◌+◌, ◌-◌, ◌*◌, ◌/◌, ◌%◌, ◌^◌, ◌<◌, ◌≤◌, ◌==◌, Bool, true, false, cond, if◌then◌else◌, List, [], ◌∷◌, length, replicate, refl, ap, arith}
+use Rattle.std.proofs.Common.{◌≡◌, ℕ, ◌+◌, ◌-◌, ◌*◌, ◌/◌, ◌%◌, ◌^◌, ◌<◌, ◌≤◌, ◌==◌, Bool, true, false, cond, List, [], ◌∷◌, length, replicate, refl, ap, arith}
 use Rattle.dvd_control.specs.Format.{fields_for, format_bytes, head_bytes, three_bytes}
 use Rattle.dvd_control.specs.MainData.{main_bytes}
 use Rattle.dvd_frame.specs.declared.id.Area.{Area}
 use Rattle.dvd_frame.specs.declared.id.Area.TheVariants.{DataZone, LeadIn, LeadOut, Middle}
+use Rattle.dvd_control.proofs.LastSectors.{last_by, opposite-first}
 use Rattle.dvd_layout.specs.Lengths.{has_two_layers, is_opposite, padded}
 use Rattle.dvd_layout.specs.Place.{image_sectors}
 use Rattle.dvd_layout.specs.declared.entry.BlockPlan.{BlockPlan}
@@ -21,19 +22,13 @@ layer_number : (layout : Layout) (first : Bool) → 0x30000 + padded (cond first
 layer_number layout true = omega (arith, layout.end0)
 layer_number layout false = omega (arith, layout.end1)
 
--- the last sector that the lead-in of a layer tells, by the shape
-abbrev last_by : Shape → Layout → ℕ → ℕ
-last_by shape layout layer =
-    if is_opposite shape then 0xFD0000 - padded layout.sectors0 + padded layout.sectors1 - 1
-    else 0x30000 + padded (if layer == 0 then layout.sectors0 else layout.sectors1) - 1
-
--- it has 24 bits
+-- the last sector that the lead-in of a layer tells has 24 bits
 last_number : (layout : Layout) (shape : Shape) (layer : ℕ) → layout.shape ≡ shape → last_by shape layout layer < 2 ^ 24
 last_number layout Single layer is = layer_number layout (layer == 0)
 last_number layout Parallel layer is = layer_number layout (layer == 0)
 last_number layout Opposite layer is =
     let no_longer = layout.no_longer (ap is_opposite is) in
-    omega (arith, layout.end0)
+    omega (arith, layout.end0, opposite-first layout is)
 
 -- a number or 0 is at most that number
 cond-le : (b : Bool) (n : ℕ) → cond b n 0 ≤ n

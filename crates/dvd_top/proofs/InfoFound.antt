@@ -9,7 +9,7 @@ use Rattle.dvd_layout.specs.declared.entry.BlockPlan.{BlockPlan}
 use Rattle.dvd_layout.specs.declared.entry.Content.{Content}
 use Rattle.dvd_layout.specs.declared.entry.Content.TheVariants.{Control, Image, Reference, Zero}
 use Rattle.dvd_loop.specs.Laws.{IsFaultless}
-use Rattle.dvd_loop.specs.Machine.{Does, EndsBehind, Goes, GoesOn, IsWithin, Outcome, Step, bad_of, ended, taking}
+use Rattle.dvd_loop.specs.Machine.{Does, EndsBehind, Goes, GoesOn, IsEndedWithin, Outcome, Step, bad_of, ended, taking}
 use Rattle.dvd_loop.specs.Machine.Part.{Whole, Cut, Broken}
 use Rattle.dvd_loop.specs.Machine.Step.{Write}
 use Rattle.dvd_loop.specs.declared.ends.Behind.TheVariants as behind
@@ -121,7 +121,7 @@ module _ (initial : ℕ) (form : Form) (all : List ℕ) where
         })
 
     -- one of the two, where the loop ends within it
-    within_block : IsWithin (info_units initial form) k left a → IsFaultless a.end → Finds (onto front [] [] a)
+    within_block : IsEndedWithin (info_units initial form) k left a → IsFaultless a.end → Finds (onto front [] [] a)
     within_block w none = elim (short_or_broken (info_units initial form) k left a w none) [
       | inl (cut, is) ↦ runs_out cut is
       | inr (at, own, more, front, broken, is) ↦ breaks_off own more at front broken is

@@ -17,7 +17,7 @@ use Rattle.dvd_layout.specs.declared.entry.Content.{Content}
 use Rattle.dvd_layout.specs.declared.entry.Content.TheVariants.{Zero, Reference, Control, Image}
 use Rattle.dvd_layout.specs.declared.layout.Layout.{Layout}
 use Rattle.dvd_layout.specs.declared.layout.Zones.{Zones}
-use Rattle.dvd_loop.specs.Laws.{IsFaultless, start}
+use Rattle.dvd_loop.specs.Laws.{IsFaultless}
 use Rattle.dvd_loop.specs.Machine.{IsOutcome, Outcome, Step}
 use Rattle.dvd_loop.specs.Turns.{told, written}
 use Rattle.dvd_loop.specs.declared.ends.LoopEnd.{LoopEnd}
@@ -25,7 +25,7 @@ use Rattle.dvd_loop.specs.declared.ends.LoopEnd.TheVariants.{Done}
 use Rattle.dvd_loop.specs.declared.ends.Turn.{Turn}
 use Rattle.dvd_loop.specs.declared.ends.Turn.TheVariants.{Good}
 use Rattle.dvd_loop.proofs.Sizes.{sized_whole}
-use Rattle.dvd_loop.proofs.Over.{AreGood, InPieces, over, over_is, start-le, start-suc}
+use Rattle.dvd_loop.proofs.Over.{AreGood, InPieces, over, over_is, start, start-le, start-suc}
 use Rattle.dvd_top.specs.Commands.Master.{IsMastered, bytes_of_block, filled, frames_of, image_bytes, master_units}
 use Rattle.dvd_top.specs.Commands.Recover.{IsDone, IsRecovered, recover_units}
 use Rattle.dvd_top.specs.Captured.{IsPassedOver}

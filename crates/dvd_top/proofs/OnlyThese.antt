@@ -1,11 +1,10 @@
 -- A run over known bytes is one of units that may have no others.
 use Rattle.std.proofs.Common.{◌≡◌, ◌∙◌, inl, inr, ℕ, zero, suc, ◌+◌, List, [], ◌∷◌, ◌++◌, length, length-append, take, drop, ap, sym, append_assoc, add-one, refl, arith}
 use Rattle.dvd_capture.proofs.Fetching.{part-append, part-behind}
-use Rattle.dvd_loop.specs.Laws.{start}
 use Rattle.dvd_loop.specs.Machine.{Goes, GoesOn, IsOutcome, Outcome, Units, bad_of, sized}
 use Rattle.dvd_loop.specs.declared.ends.Turn.{Turn}
 use Rattle.dvd_loop.specs.declared.ends.Turn.TheVariants.{Good, Bad, Last}
-use Rattle.dvd_loop.proofs.Over.{start-suc, start-zero}
+use Rattle.dvd_loop.proofs.Over.{start, start-suc, start-zero}
 use Rattle.dvd_loop.proofs.Sizes.{unit_size}
 use Rattle.dvd_loop.proofs.StepLemmas.{does_as, taken_then}
 

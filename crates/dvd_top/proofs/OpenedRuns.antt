@@ -12,7 +12,7 @@ use Rattle.dvd_capture.proofs.Headers.{each_byte, header-is, shape-known, zones-
 use Rattle.dvd_layout.specs.declared.fault.LayoutFault.{LayoutFault}
 use Rattle.dvd_layout.specs.declared.layout.Shape.{Shape}
 use Rattle.dvd_layout.specs.declared.layout.Shape.TheVariants.{Single, Parallel, Opposite}
-use Rattle.dvd_loop.specs.Laws.{IsFaultless, IsUnbroken}
+use Rattle.dvd_loop.specs.Laws.{IsFaultless, IsNotBadMarks}
 use Rattle.dvd_loop.specs.Machine.{Outcome, ended, taking}
 use Rattle.dvd_loop.specs.declared.ends.LoopEnd.TheVariants.{BadHeader, ReadFault, ShortHeader}
 use Rattle.dvd_loop.proofs.Faultless.{not_by_fault}
@@ -27,7 +27,7 @@ use Rattle.dvd_top.proofs.Opened.{breaks_once, breaks_or_states, header-size, st
 
 -- they are one, but for what was taken of a block that breaks a rule
 abbrev pub AreSame : Outcome → Outcome → Type 0
-AreSame a b = (a.out ≡ b.out) × (a.lines ≡ b.lines) × (a.end ≡ b.end) × (IsUnbroken a.end → a.taken ≡ b.taken)
+AreSame a b = (a.out ≡ b.out) × (a.lines ≡ b.lines) × (a.end ≡ b.end) × (IsNotBadMarks a.end → a.taken ≡ b.taken)
 
 -- equal outcomes are the same
 pub same_as : (a b : Outcome) → a ≡ b → AreSame a b

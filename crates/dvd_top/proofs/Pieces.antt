@@ -5,8 +5,7 @@ use Rattle.std.proofs.Math.Nat.{mul-suc, mul-zero}
 use Rattle.std.proofs.Math.Seq.{take-add}
 use Rattle.std.proofs.lemmas.Bool.{cases_lt}
 use Rattle.dvd_capture.proofs.Fetching.{part-append, part-behind}
-use Rattle.dvd_loop.specs.Laws.{start}
-use Rattle.dvd_loop.proofs.Over.{start-le, start-suc, start-zero}
+use Rattle.dvd_loop.proofs.Over.{start, start-le, start-suc, start-zero}
 
 -- one piece more
 pieces-more : (f : ℕ → List ℕ) (a n j : ℕ) → a + n ≡ j → flat_map f (range_with_len a (suc n)) ≡ flat_map f (range_with_len a n) ++ f j

@@ -9,8 +9,7 @@ use Rattle.dvd_layout.specs.declared.entry.BlockPlan.{BlockPlan}
 use Rattle.dvd_layout.specs.declared.layout.Layout.{Layout}
 use Rattle.dvd_layout.specs.declared.layout.Zones.{Zones}
 use Rattle.dvd_layout.proofs.InOrder.{plan_of-whole}
-use Rattle.dvd_loop.specs.Laws.{start}
-use Rattle.dvd_loop.proofs.Over.{start-suc, start-zero}
+use Rattle.dvd_loop.proofs.Over.{start, start-suc, start-zero}
 use Rattle.dvd_top.specs.Commands.Master.{bytes_of_block, bytes_of_entry}
 
 -- the bytes before block k are those of the image sectors before it

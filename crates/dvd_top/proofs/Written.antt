@@ -1,19 +1,19 @@
 -- How much a run writes whose units write so much each.
 use Rattle.std.proofs.Common.{◌≡◌, ◌≢◌, ◌∙◌, inl, inr, ℕ, zero, suc, ◌+◌, List, [], ◌∷◌, ◌++◌, length, length-append, ap, sym, subst, add-one, arith}
-use Rattle.dvd_loop.specs.Laws.{IsFaultless, start}
-use Rattle.dvd_loop.specs.Machine.{Does, EndsBehind, Goes, GoesOn, IsOutcome, IsUnit, IsWithin, Outcome, Step, Units, bad_of, taking}
+use Rattle.dvd_loop.specs.Laws.{IsFaultless}
+use Rattle.dvd_loop.specs.Machine.{Does, EndsBehind, Goes, GoesOn, IsOutcome, IsUnit, IsEndedWithin, Outcome, Step, Units, bad_of, taking}
 use Rattle.dvd_loop.specs.Turns.{told, written}
 use Rattle.dvd_loop.specs.declared.ends.LoopEnd.TheVariants.{BadMarks, Done, Short}
 use Rattle.dvd_loop.specs.declared.ends.Turn.{Turn}
 use Rattle.dvd_loop.specs.declared.ends.Turn.TheVariants.{Last}
 use Rattle.dvd_loop.proofs.Faultless.{all_done, faultless_behind, short_or_broken}
 use Rattle.dvd_loop.proofs.Faults.{nothing_behind}
-use Rattle.dvd_loop.proofs.Over.{start-suc, start-zero}
+use Rattle.dvd_loop.proofs.Over.{start, start-suc, start-zero}
 use Rattle.dvd_loop.proofs.Reached.{goes_further}
 use Rattle.dvd_loop.proofs.StepLemmas.{onto}
 
 -- a run that is done doesn't end within a unit
-not_within : (units : Units) (k : ℕ) (bytes : List ℕ) (a : Outcome) → IsWithin units k bytes a → a.end ≡ Done → ⊥
+not_within : (units : Units) (k : ℕ) (bytes : List ℕ) (a : Outcome) → IsEndedWithin units k bytes a → a.end ≡ Done → ⊥
 not_within units k bytes a w done = elim (short_or_broken units k bytes a w (subst IsFaultless (sym done) tt)) [
   | inl (cut, is) ↦ (let no : Done ≡ Short k (length bytes) = sym done ∙ ap (λ (o : Outcome). o.end) is in cc)
   | inr (at, own, left, front, broken, is) ↦ (let no : Done ≡ BadMarks k at = sym done ∙ ap (λ (o : Outcome). o.end) is in cc)

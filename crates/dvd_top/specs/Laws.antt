@@ -6,7 +6,7 @@ use Rattle.dvd_assemble.specs.Home.{home}
 use Rattle.dvd_assemble.specs.Mastered.{IsCaptureOf, IsCaptured}
 use Rattle.dvd_block.specs.Product.{IsBlockOf}
 use Rattle.dvd_capture.specs.Captured.{HasSize, captured_rows, captured_marks}
-use Rattle.dvd_capture.specs.Listed.{IsBrokenAt, IsUnbroken as BreaksNoRule}
+use Rattle.dvd_capture.specs.Listed.{IsBrokenAt, IsUnbroken}
 use Rattle.dvd_capture.specs.TwoPass.{answers_of}
 use Rattle.dvd_capture.specs.Within.{IsWithin}
 use Rattle.dvd_capture.specs.declared.form.Form.{Form}
@@ -20,7 +20,7 @@ use Rattle.dvd_layout.specs.declared.layout.Layout.{Layout}
 use Rattle.dvd_layout.specs.declared.layout.Shape.TheVariants.{Single}
 use Rattle.dvd_layout.specs.declared.layout.Zones.{Zones}
 use Rattle.dvd_layout.specs.declared.layout.Zones.TheVariants.{DataOnly}
-use Rattle.dvd_loop.specs.Laws.{IsFaultless, IsFrontOf, IsUnbroken, first}
+use Rattle.dvd_loop.specs.Laws.{IsFaultless, IsFrontOf, IsNotBadMarks, first}
 use Rattle.dvd_loop.specs.Machine.{IsOutcome, Outcome, Step}
 use Rattle.dvd_loop.specs.Machine.Part.{Whole, Cut, Broken}
 use Rattle.dvd_loop.specs.Machine.Step.{Write}
@@ -51,7 +51,7 @@ use Rattle.dvd_words.specs.declared.settings.Settings.{Settings}
 abbrev pub WhatIsDoneIsDetermined : Type 0
 WhatIsDoneIsDetermined =
     (settings : Settings) (bytes : List ℕ) (a b : Outcome) → IsLoop settings bytes a → IsLoop settings bytes b → IsFaultless a.end → IsFaultless b.end
-    → (a.out ≡ b.out) × (a.lines ≡ b.lines) × (a.end ≡ b.end) × (IsUnbroken a.end → a.taken ≡ b.taken)
+    → (a.out ≡ b.out) × (a.lines ≡ b.lines) × (a.end ≡ b.end) × (IsNotBadMarks a.end → a.taken ≡ b.taken)
 
 -- numbers that are bytes
 abbrev pub AreBytes : List ℕ → Type 0
@@ -198,7 +198,7 @@ CapturedFramesAreAssembled =
 -- finds none exactly where none does.
 abbrev pub BrokenFieldIsFound : Type 0
 BrokenFieldIsFound =
-    (bytes : List ℕ) → ((at : ℕ) → (broken_at bytes ≡ Some at) ↔ IsBrokenAt bytes at) × ((broken_at bytes ≡ None) ↔ BreaksNoRule bytes)
+    (bytes : List ℕ) → ((at : ℕ) → (broken_at bytes ≡ Some at) ↔ IsBrokenAt bytes at) × ((broken_at bytes ≡ None) ↔ IsUnbroken bytes)
 
 -- What `convert` wrote of an input is a listed capture of the same: recovery, whatever else its words say, does for it what it does for
 -- that input where no fault ends it, but for what is taken.

@@ -8,7 +8,7 @@ use Rattle.std.proofs.lemmas.List.{append_cancel_left, take_at, length-replicate
 use Rattle.gf_field.specs.Field.{plus}
 use Rattle.gf_field.proofs.FieldLaws.{plus-byte, plus-product, plus-pairs, plus-zero, plus-self}
 use Rattle.rs_code.specs.Inner.Polynomials.{sum_of, scaled, IsRemainder}
-use Rattle.rs_code.specs.Inner.Registers.{bytes_of, Holds, HoldsRemainder, HasMultiples, after_byte}
+use Rattle.rs_code.specs.Inner.Registers.{bytes_of, Holds, HasMultiples, after_byte}
 use Rattle.rs_code.proofs.Ring.{ring}
 use Rattle.rs_code.proofs.Values.{length-sum_of, length-scaled}
 use Rattle.rs_code.proofs.Remainders.{next_register, IsRemainder-start, IsRemainder-next}
@@ -164,6 +164,11 @@ Holds-next generator n byte entry first rest is_word long holds in_entry =
     Holds-plus (n * 256 % 2 ^ 128) entry (rest ++ 0 ∷ []) (scaled (plus first byte) generator) same (Holds-left n first rest is_word holds) in_entry
 
 -- ---- the remainder in the register
+
+-- the register holds the remainder of what was read
+pub record HoldsRemainder (generator read : List ℕ) (register : ℕ) : Type 0 where
+  pub remainder : IsRemainder generator read (take (length generator) (bytes_of 16 register))
+  pub zeros : Holds register (take (length generator) (bytes_of 16 register))
 
 -- a register that holds a remainder's bytes holds the remainder
 HoldsRemainder-from : (generator read bytes : List ℕ) (n : ℕ) → IsRemainder generator read bytes → Holds n bytes → HoldsRemainder generator read n

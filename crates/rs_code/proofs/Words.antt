@@ -10,8 +10,8 @@ use Rattle.gf_field.specs.Field.{plus}
 use Rattle.gf_field.specs.Words.{IsByte}
 use Rattle.gf_field.proofs.FieldLaws.{plus-byte, plus-assoc}
 use Rattle.rs_code.specs.Inner.Polynomials.{IsRemainder}
-use Rattle.rs_code.specs.Inner.Registers.{bytes_of, HoldsRemainder, HasMultiples, AreTables, after_byte, after_bytes}
-use Rattle.rs_code.proofs.Registers.{after_byte-sum, after_byte-word, HoldsRemainder-next, HoldsRemainder-start}
+use Rattle.rs_code.specs.Inner.Registers.{bytes_of, HasMultiples, AreTables, after_byte, after_bytes}
+use Rattle.rs_code.proofs.Registers.{HoldsRemainder, after_byte-sum, after_byte-word, HoldsRemainder-next, HoldsRemainder-start}
 use Rattle.rs_code.proofs.Ring.{ring}
 
 -- the register after two lists of bytes is the one after the first, and then the second

@@ -8,9 +8,8 @@ use Rattle.rs_code.specs.Inner.Polynomials.{sum_of, scaled}
 use Rattle.rs_code.proofs.Values.{length-sum_of, length-scaled, get_or-sum_of, get_or-scaled, scaled-cons}
 use Rattle.rs_lanes.specs.Inner.Lanes.{HasLanes}
 use Rattle.rs_decode.specs.Register.{connection}
-use Rattle.rs_decode.specs.Inner.Steps.{FailsAt, IsShortestTo}
 use Rattle.rs_decode.proofs.Connections.{connection-later, connection-longer, connection-scaled, connection-sum_of, connection-total}
-use Rattle.rs_decode.proofs.Registers.{FailsAt-start, FailsAt-times_x, IsShortestTo-start, Leaves, Leaves-longer, Leaves-mended, Leaves-stays, zeros-start}
+use Rattle.rs_decode.proofs.Registers.{FailsAt, IsShortestTo, FailsAt-start, FailsAt-times_x, IsShortestTo-start, Leaves, Leaves-longer, Leaves-mended, Leaves-stays, zeros-start}
 use Rattle.rs_decode.proofs.Totals.{total-first}
 
 -- the connection of the first tap alone, where all others are 0

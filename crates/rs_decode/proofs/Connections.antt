@@ -5,7 +5,6 @@ use Rattle.gf_field.proofs.FieldLaws.{one-product, product-assoc, product-byte, 
 use Rattle.rs_code.specs.Inner.Polynomials.{sum_of, scaled}
 use Rattle.rs_code.proofs.Values.{get_or-sum_of, get_or-scaled}
 use Rattle.rs_decode.specs.Register.{total, connection}
-use Rattle.rs_decode.specs.Inner.Steps.{Makes}
 use Rattle.rs_decode.proofs.Totals.{total-exchange, total-first, total-byte, total-later, total-longer, total-plus, total-product, total-same, total-zeros}
 
 -- a connection, written out
@@ -78,6 +77,10 @@ connection-scaled len factor taps seq n =
 -- a factor of a product to the front
 swapped : (a b s : ℕ) → product (product a b) s ≡ product b (product a s)
 swapped a b s = ap (λ x. product x s) (product-comm a b) ∙ product-assoc b a s
+
+-- a register's connections are 0 at the places below n that it reaches
+abbrev pub Makes : ℕ → List ℕ → List ℕ → ℕ → Type 0
+Makes len taps seq n = (k : ℕ) → len ≤ k → k < n → connection len taps seq k ≡ 0
 
 -- Massey's lemma. Where two registers of lengths that together are at most n generate a list up to place n, and one of them
 -- generates the number at n too, the other does: the table of the products of a tap of each and a number has the sum 0 by

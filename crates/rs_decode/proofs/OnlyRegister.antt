@@ -14,8 +14,7 @@ use Rattle.rs_code.proofs.Remainders.{All-scaled}
 use Rattle.rs_code.proofs.Values.{length-sum_of, length-scaled, get_or-sum_of, get_or-scaled}
 use Rattle.rs_decode.specs.Laws.{ShortestRegisterIsOnlyOne}
 use Rattle.rs_decode.specs.Register.{Generates, IsLeast, connection}
-use Rattle.rs_decode.specs.Inner.Steps.{Makes}
-use Rattle.rs_decode.proofs.Connections.{connection-later, connection-sum_of, connection-scaled, connections-agree}
+use Rattle.rs_decode.proofs.Connections.{Makes, connection-later, connection-sum_of, connection-scaled, connections-agree}
 
 -- the difference's connections are 0
 difference-makes : (len : ℕ) (a b seq : List ℕ) → Generates len a seq → Generates len b seq → Makes len (sum_of a b) seq (length seq)

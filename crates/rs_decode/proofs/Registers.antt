@@ -1,5 +1,6 @@
 -- The steps of Berlekamp and Massey: a register stays, or is mended by a multiple of an earlier one, and is the shortest.
 use Rattle.std.proofs.Common.{◌≡◌, ◌≢◌, ℕ, zero, suc, ◌+◌, ◌-◌, ◌*◌, ◌<◌, ◌≤◌, List, ◌∷◌, length, get_or, take, replicate, refl, sym, ap, subst, ◌∙◌, arith, inl, inr, below_more, get_or-take, length-take}
+use Rattle.std.specs.Prelude.{All, slice_index}
 use Rattle.std.proofs.lemmas.Bool.{cases_lt}
 use Rattle.std.proofs.lemmas.List.{length-replicate, get_or_past}
 use Rattle.std.proofs.lemmas.List.Elements.{All-cons, All-replicate, All-take}
@@ -12,13 +13,29 @@ use Rattle.rs_code.proofs.Remainders.{All-scaled}
 use Rattle.rs_code.proofs.Values.{length-sum_of, length-scaled, get_or-sum_of, get_or-scaled}
 use Rattle.rs_lanes.proofs.ParityLemmas.{get_or-zeros}
 use Rattle.rs_decode.specs.Register.{Generates, IsLeast, connection}
-use Rattle.rs_decode.specs.Inner.Steps.{Makes, IsShortestTo, FailsAt}
-use Rattle.rs_decode.proofs.Connections.{connection-byte, connection-same, connection-longer, connection-later, connection-sum_of, connection-scaled, connections-agree}
+use Rattle.rs_decode.proofs.Connections.{Makes, connection-byte, connection-same, connection-longer, connection-later, connection-sum_of, connection-scaled, connections-agree}
 
 -- behind the first tap at the start there are zeros
 pub zeros-start : (c : ℕ) → 0 < c → get_or {A = ℕ} (1 ∷ replicate 32 0) c 0 ≡ 0
 zeros-start zero above = absurd (omega arith)
 zeros-start (suc c) above = get_or-zeros 32 c
+
+-- the register at hand at place n, its taps followed by zeros: no shorter one makes the numbers before n
+pub record IsShortestTo (n len : ℕ) (taps seq : List ℕ) : Type 0 where
+  pub size : length taps ≡ 33
+  pub bytes : All IsByte taps
+  pub within : len ≤ n
+  pub first : slice_index taps 0 ≡ 1
+  pub higher : (c : ℕ) → len < c → slice_index taps c ≡ 0
+  pub makes : Makes len taps seq n
+  pub least : (other : ℕ) (others : List ℕ) → other ≤ n → slice_index others 0 ≡ 1 → Makes other others seq n → len ≤ other
+
+-- taps that make the numbers before n and fail at n, by this connection, if they reach it
+pub record FailsAt (n len failure : ℕ) (taps seq : List ℕ) : Type 0 where
+  pub size : length taps ≡ 33
+  pub higher : (c : ℕ) → len < c → slice_index taps c ≡ 0
+  pub makes : Makes len taps seq n
+  pub here : len ≤ n → connection len taps seq n ≡ failure
 
 -- before the first number, the register of length 0 is the shortest
 pub IsShortestTo-start : (seq : List ℕ) → IsShortestTo 0 0 (1 ∷ replicate 32 0) seq

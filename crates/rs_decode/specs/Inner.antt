@@ -1,5 +1,4 @@
 -- What only the private functions of this crate promise. No public contract and no law cites these pages.
 pub mod Locator
 pub mod Places
-pub mod Steps
 pub mod Sums

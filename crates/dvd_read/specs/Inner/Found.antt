@@ -1,22 +1,17 @@
 -- Ours: the columns between the passes, as whole lists.
-use Rattle.std.specs.Prelude.{◌≡◌, ◌<◌, ◌≤◌, ◌+◌, ◌-◌, ℕ, Bool, true, false, is_none, length, slice_index_or, List, map}
-use Rattle.std.specs.declared.option.Option.{Option}
+use Rattle.std.specs.Prelude.{◌≡◌, ◌<◌, ◌≤◌, ◌+◌, ◌-◌, ℕ, Bool, true, false, is_none, length, List, map}
 use Rattle.dvd_capture.specs.declared.parts.AnswerRow.{AnswerRow}
 use Rattle.dvd_capture.specs.declared.parts.ColumnAnswer.{ColumnAnswer}
-use Rattle.dvd_capture.specs.TwoPass.{column_answer, from_columns}
+use Rattle.dvd_capture.specs.TwoPass.{from_columns}
 use Rattle.dvd_block.specs.Product.{line}
 use Rattle.rs_decode.specs.Nearest.{vanishes_at_all}
 use Rattle.dvd_read.specs.Causes.{two_pass_cause}
 use Rattle.dvd_read.specs.Found.{block_found}
-use Rattle.dvd_read.specs.Parts.{answer_word, column_word}
+use Rattle.dvd_read.specs.Parts.{answer_word}
 
 -- the words of columns
 abbrev pub words_of : List ColumnAnswer → List (List ℕ)
 words_of columns = map (λ (column : ColumnAnswer). column.bytes) columns
-
--- these columns are what the second pass answers
-abbrev pub AreColumns : List (Option (List ℕ)) → List ColumnAnswer → Type 0
-AreColumns answers columns = (j : ℕ) (d : ColumnAnswer) → j < 182 → column_word (slice_index_or columns j d) ≡ column_answer answers j
 
 -- n rows of the columns' words from row `top` on vanish at the powers of alpha
 abbrev pub AreRightFrom : List ColumnAnswer → ℕ → ℕ → Type 0

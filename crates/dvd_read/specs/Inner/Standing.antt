@@ -1,8 +1,7 @@
--- Ours: rows that are answered by codewords, and blocks that stand as their rows were answered. The second pass finds
--- nothing to correct in such a block, so its rows need no test.
+-- Ours: rows that are answered by codewords, and columns that are copied of these answers. Where no row failed, the second
+-- pass finds nothing to correct in such columns, and the rows need no test.
 use Rattle.std.specs.Prelude.{◌≡◌, ℕ, ◌+◌, ◌<◌, List, [], length, slice_index, slice_index_or, Some}
 use Rattle.gf_field.specs.Words.{IsCodeword}
-use Rattle.dvd_block.specs.Product.{column}
 use Rattle.dvd_capture.specs.declared.parts.AnswerRow.{AnswerRow}
 use Rattle.dvd_capture.specs.declared.parts.ColumnAnswer.{ColumnAnswer}
 use Rattle.dvd_read.specs.Parts.{answer_word, bytes_of}
@@ -11,10 +10,6 @@ use Rattle.dvd_read.specs.Parts.{answer_word, bytes_of}
 abbrev pub AreCodewords : List AnswerRow → Type 0
 AreCodewords answers =
     (i : ℕ) (default : AnswerRow) (word : List ℕ) → i < 208 → answer_word (slice_index_or answers i default) ≡ Some word → IsCodeword 182 10 word
-
--- each column has the bytes of the rows' answers
-abbrev pub AreOwnColumns : List AnswerRow → List ColumnAnswer → Type 0
-AreOwnColumns answers columns = (j : ℕ) (default : ColumnAnswer) → j < 182 → (slice_index_or columns j default).bytes ≡ column (bytes_of answers) j
 
 -- of each column of a piece that begins at column `start` the bytes of the first n rows' answers are copied
 abbrev pub AreCopied : List AnswerRow → ℕ → List ColumnAnswer → ℕ → Type 0

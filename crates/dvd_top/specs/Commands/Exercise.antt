@@ -14,6 +14,7 @@ use Rattle.dvd_frame.specs.Frame.{data_frame}
 use Rattle.dvd_frame.specs.Id.{id_word}
 use Rattle.dvd_frame.specs.declared.id.Area.TheVariants.{DataZone}
 use Rattle.dvd_frame.specs.declared.scrambling.Rule.TheVariants.{Whole}
+use Rattle.dvd_layout.specs.Lengths.{data_first}
 use Rattle.dvd_loop.specs.Machine.{Step, Units, sized}
 use Rattle.dvd_loop.specs.Machine.Step.{Write}
 use Rattle.dvd_loop.specs.declared.ends.Behind.TheVariants.{Done}
@@ -31,7 +32,7 @@ drawn_sectors image = map (drawn_sector image) (range_with_len 0 16)
 
 -- The data frames of block k of the Data Zone of a disk with one layer, with CPR_MAI zeros: those that `master` makes.
 abbrev pub drawn_frame : ℕ → List ℕ → ℕ → List ℕ
-drawn_frame k image f = data_frame (id_word DataZone 0 false (0x30000 + 16 * k + f)) (replicate 6 0) Whole (drawn_sector image f)
+drawn_frame k image f = data_frame (id_word DataZone 0 false (data_first + 16 * k + f)) (replicate 6 0) Whole (drawn_sector image f)
 
 -- the sixteen frames of block k
 unfoldable pub drawn_frames : ℕ → List ℕ → List (List ℕ)

@@ -5,6 +5,7 @@ ghost use Rattle.dvd_capture.specs.Rule.{HasBlock};
 ghost use Rattle.dvd_capture.specs.Works.{rows_of, marks_of_work, stage_of};
 ghost use Rattle.dvd_capture.specs.declared.form.Form.{Form as CaptureForm};
 ghost use Rattle.dvd_control.specs.Format.{control_fault, fields_in, fields_of};
+ghost use Rattle.dvd_layout.specs.Lengths.{most_initial};
 ghost use Rattle.dvd_layout.specs.Place.{HasNumbers};
 ghost use Rattle.dvd_loop.specs.Machine.{IsOutcome};
 ghost use Rattle.dvd_loop.specs.Streams.{streams, HasEnded, no_stream};
@@ -38,7 +39,7 @@ struct Info<'a> {
     initial: u32,
     form: Form,
     work: &'a mut Work,
-    ghost fits: { initial ≤ 12031 },
+    ghost fits: { initial ≤ most_initial },
 }
 
 impl<'a> Turns for Info<'a> {
@@ -88,7 +89,7 @@ pub fn info_loop<S: Source, K: Sink>(
     src: &mut S,
     out: &mut K,
 ) -> LoopEnd
-    requires { settings.now.initial ≤ 12031 }
+    requires { settings.now.initial ≤ most_initial }
     ensures follows { HasEnded (IsOutcome (info_units settings.now.initial settings.now.form))
         (streams (S.seen src.old) (K.seen out.old) no_stream) (streams (S.seen src.new) (K.seen out.new) no_stream) result }
     ensures ends { IsSoughtEnd settings.now.form (settings.now.initial + 224) result }
@@ -104,7 +105,7 @@ fn seek_format<S: Source, K: Sink, E: Sink>(
     out: &mut K,
     report: &mut E,
 ) -> LoopEnd
-    requires { settings.now.initial ≤ 12031 }
+    requires { settings.now.initial ≤ most_initial }
     ensures { HasEnded (IsOutcome (info_units settings.now.initial settings.now.form))
         (streams (S.seen src.old) (K.seen out.old) (E.seen report.old))
         (streams (S.seen src.new) (K.seen out.new) (E.seen report.new)) result }

@@ -1,8 +1,8 @@
 -- A register of at most sixteen bytes in a number of 128 bits: they are its upper bytes, and zeros follow them.
-use Rattle.std.specs.Prelude.{◌≡◌, ℕ, ◌-◌, ◌*◌, ◌/◌, ◌%◌, ◌^◌, ◌<◌, List, [], ◌∷◌, ◌++◌, length, take, replicate, get_or}
+use Rattle.std.specs.Prelude.{◌≡◌, ℕ, ◌-◌, ◌*◌, ◌/◌, ◌%◌, ◌^◌, ◌<◌, List, [], ◌∷◌, ◌++◌, length, replicate, get_or}
 use Rattle.std.specs.Int.{bytes_high_first}
 use Rattle.gf_field.specs.Field.{plus}
-use Rattle.rs_code.specs.Inner.Polynomials.{scaled, IsRemainder}
+use Rattle.rs_code.specs.Inner.Polynomials.{scaled}
 
 -- the lowest k bytes of a number, the highest of them first
 unfoldable pub bytes_of : ℕ → ℕ → List ℕ
@@ -36,8 +36,3 @@ pub record AreTables (generator : List ℕ) (tables : List (List ℕ)) : Type 0 
   pub one : AreLater (get_or tables 0 []) (get_or tables 0 []) (get_or tables 1 [])
   pub two : AreLater (get_or tables 0 []) (get_or tables 1 []) (get_or tables 2 [])
   pub three : AreLater (get_or tables 0 []) (get_or tables 2 []) (get_or tables 3 [])
-
--- the register holds the remainder of what was read
-pub record HoldsRemainder (generator read : List ℕ) (register : ℕ) : Type 0 where
-  pub remainder : IsRemainder generator read (take (length generator) (bytes_of 16 register))
-  pub zeros : Holds register (take (length generator) (bytes_of 16 register))

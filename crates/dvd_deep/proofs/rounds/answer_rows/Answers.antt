@@ -3,12 +3,12 @@ use Rattle.std.proofs.Common.{◌≡◌, subst, arith}
 use Rattle.dvd_capture.specs.Parts.{marks_rows, received_rows}
 use Rattle.dvd_capture.proofs.WorkParts.{marks-height, rows-height}
 use Rattle.dvd_deep.specs.Inner.Buffers.{state_of}
-use Rattle.dvd_deep.specs.Rounds.{failed_rows, row_step}
+use Rattle.dvd_deep.specs.Rounds.{failed_marks, row_step}
 use Rattle.dvd_deep.proofs.RowStep.{IsStepped, stepped-all}
 use Rattle.dvd_deep.proofs.rounds.answer_rows.Goals as goal
 
 -- with all rows passed, state and flags are those of the row step
-both : (c : goal.After-loop-i) → (state_of c.loop-i.rows c.loop-i.marks ≡ row_step (state_of c.args.rows.now c.args.marks.now)) × (c.loop-i.failed ≡ failed_rows (state_of c.args.rows.now c.args.marks.now))
+both : (c : goal.After-loop-i) → (state_of c.loop-i.rows c.loop-i.marks ≡ row_step (state_of c.args.rows.now c.args.marks.now)) × (c.loop-i.failed ≡ failed_marks (state_of c.args.rows.now c.args.marks.now))
 both c =
     let last : c.loop-i.i ≡ 208 = omega arith in
     stepped-all (state_of c.args.rows.now c.args.marks.now) (received_rows c.loop-i.rows) (marks_rows c.loop-i.marks) c.loop-i.failed

@@ -14,4 +14,4 @@ returns c =
     same_number_lists c.loop-i.word (column rows c.args.j) (c.loop-i.invariant.size ∙ sym (length-column rows c.args.j ∙ height))
     (λ k within.
     let below : k < 208 = omega (arith, c.loop-i.invariant.size) in
-    c.loop-i.invariant.read k (omega arith) ∙ sym (get_or-column rows c.args.j k (omega (arith, height))))
+    c.loop-i.invariant.read k (omega arith) ∙ sym (get_or-column rows c.args.j k))

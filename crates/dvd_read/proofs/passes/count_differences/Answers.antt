@@ -1,10 +1,11 @@
 -- The proof of `count_differences` in src/passes.rt.
 use Rattle.std.proofs.Common.{◌≡◌, ◌∙◌, ap, length, take, sym, arith}
 use Rattle.std.proofs.lemmas.List.{take_all}
+use Rattle.rs_code.specs.Distance.{distance}
 use Rattle.dvd_capture.specs.Parts.{received_rows}
 use Rattle.dvd_capture.specs.TwoPass.{from_columns}
 use Rattle.dvd_capture.proofs.Columns.{length-from_columns}
-use Rattle.dvd_read.specs.Found.{block_differences, differences}
+use Rattle.dvd_read.specs.Found.{block_differences}
 use Rattle.dvd_read.specs.Inner.Found.{words_of}
 use Rattle.dvd_read.proofs.Differences.{block_differences-none, block_differences-next}
 use Rattle.dvd_read.proofs.passes.count_differences.Goals as goal
@@ -21,8 +22,8 @@ loop-i-preserved c =
     record {
       counted = block_differences-next rows block i c.loop-i.count c.row_differences-count.result (omega arith)
           (omega (arith, length-from_columns (words_of c.args.columns.now))) c.loop-i.invariant.counted
-          (c.row_differences-count.ensures.count ∙ ap (λ row. differences row c.read_row.new.row) c.row.ensures
-          ∙ ap (differences _) c.read_row.ensures);
+          (c.row_differences-count.ensures.count ∙ ap (λ row. distance row c.read_row.new.row) c.row.ensures
+          ∙ ap (distance _) c.read_row.ensures);
       few = omega (arith, c.loop-i.invariant.few, c.row_differences-count.ensures.most);
     }
 

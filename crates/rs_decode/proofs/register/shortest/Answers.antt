@@ -1,9 +1,8 @@
 -- The proof of `shortest` in src/register.rt.
 use Rattle.std.proofs.Common.{◌≡◌, ◌<◌, ◌∷◌, length, get_or, sym, subst, ◌∙◌, arith}
 use Rattle.std.proofs.lemmas.List.{get_or_read_under}
-use Rattle.rs_decode.specs.Inner.Steps.{IsShortestTo}
 use Rattle.rs_decode.proofs.Candidates.{IsLeft, IsAt-start, IsAt-next, IsLeft-stays, IsLeft-mended, IsLeft-longer}
-use Rattle.rs_decode.proofs.Registers.{Generates-end, IsLeast-end}
+use Rattle.rs_decode.proofs.Registers.{Generates-end, IsLeast-end, IsShortestTo}
 use Rattle.rs_decode.proofs.register.shortest.Goals as goal
 use Rattle.rs_decode.proofs.register.shortest.Goals.{then-found-ne0+then-len-place, then-found-ne0+else-len-place, else-found-ne0}
 

@@ -4,9 +4,9 @@ use Rattle.dvd_assemble.specs.Shelves.{tables_of}
 use Rattle.dvd_loop.specs.Machine.Step.{Tell}
 use Rattle.dvd_loop.specs.Turns.{AreSteps}
 use Rattle.dvd_loop.specs.declared.ends.LoopEnd.TheVariants.{ReportFault, WriteFault}
-use Rattle.dvd_loop.proofs.TurnLemmas.{err_is, line_begun, step_begun, step_told, step_written}
+use Rattle.dvd_loop.proofs.TurnLemmas.{err_is, line_begun, step_begun, step_told, step_written, steps_behind_write}
 use Rattle.dvd_top.specs.Commands.Assemble.{placed_line, text_of}
-use Rattle.dvd_top.proofs.AssembleFrames.{closing_is, closing_of, steps_behind_write}
+use Rattle.dvd_top.proofs.AssembleFrames.{closing_is, closing_of}
 use Rattle.dvd_top.proofs.commands.assemble.AssemblingTurns.close.Goals as goal
 
 pub returns-in_err-write_blocks-clause-closes : goal.returns-in_err-write_blocks-clause-closes
