@@ -68,8 +68,9 @@ alone : (Does : Layout → Zones → Form → ℕ → List ℕ → List Step →
     → (steps : List Step) (turn : Turn) → Does layout zones form k (block_bytes form bytes k) steps turn
     → (steps ≡ Write (image_part layout entry image) ∷ []) × (turn ≡ Good)
 alone Does repairs layout zones form bytes cpr image k entry b steps turn does =
-    repairs layout zones form cpr k entry (image_part layout entry image) (block_bytes form bytes k) b.block steps turn b.stands b.is_image b.cpr_size
-    (length-part layout entry.content image b.image_size) b.is_block (block-whole form bytes (k + 1) b.whole k (omega arith)) b.within does
+    let m = b.mastered in
+    repairs layout zones form cpr k entry (image_part layout entry image) (block_bytes form bytes k) m.block steps turn m.stands m.is_image m.cpr_size
+    (length-part layout entry.content image m.image_size) m.is_block (block-whole form bytes (k + 1) m.whole k (omega arith)) b.within does
 
 -- Units that are the captured blocks of a plan, and write the image bytes that stand in each.
 module _ (layout : Layout) (zones : Zones) (form : Form) (May : ℕ → List ℕ → List Step → Turn → Type 0)
@@ -117,10 +118,11 @@ module _ (layout : Layout) (zones : Zones) (form : Form) (May : ℕ → List ℕ
     at_place : (a : Outcome) → IsOutcome (block_units layout zones form May) bytes a → IsFaultless a.end
         → take (image_bytes layout entry) (drop (2048 * image_from entry.content) a.out) ≡ image_part layout entry image
     at_place a runs none =
-        let t = has_turn bytes a runs none k entry b.stands b.is_image b.whole in
+        let m = b.mastered in
+        let t = has_turn bytes a runs none k entry m.stands m.is_image m.whole in
         let back = alone t.steps t.turn t.does in
         part_there (2048 * image_from entry.content) (image_bytes layout entry) t.before (image_part layout entry image) a.out t.size
-        (length-part layout entry.content image b.image_size) (subst (λ s. IsFrontOf (t.before ++ written s) a.out) back.0 t.out)
+        (length-part layout entry.content image m.image_size) (subst (λ s. IsFrontOf (t.before ++ written s) a.out) back.0 t.out)
 
 -- a closing line that was told writes nothing, and ends as its loop
 told_line : (line : List ℕ) (end : LoopEnd) (a : Outcome) → Does (Tell line ∷ []) (λ after. after ≡ ended end) a → IsFaultless a.end

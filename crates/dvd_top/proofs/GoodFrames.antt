@@ -45,20 +45,21 @@ part-further xs ys left out a b n size inside is =
 at_place : (layout : Layout) (zones : Zones) (form : Form) (bytes : List ℕ) (a : Outcome) → IsOutcome (recover_units layout zones form) bytes a
     → IsFaultless a.end
     → (cpr image : List ℕ) (k f : ℕ) (entry : BlockPlan) (b : IsBeyond layout zones form bytes cpr image k entry) → f < image_sectors layout entry.content
-    → HasGoodRows b.block (captured_rows form (block_bytes form bytes k)) (captured_marks form (block_bytes form bytes k)) f
+    → HasGoodRows b.mastered.block (captured_rows form (block_bytes form bytes k)) (captured_marks form (block_bytes form bytes k)) f
     → take 2048 (drop (2048 * (image_from entry.content + f)) a.out) ≡ take 2048 (drop (2048 * (image_from entry.content + f)) image)
 at_place layout zones form bytes a runs none cpr image k f entry b below good =
+    let m = b.mastered in
     let from = image_from entry.content in
     let own = block_bytes form bytes k in
     let part = image_part layout entry image in
-    let size = length-part layout entry.content image b.image_size in
-    let t = has_turn layout zones form (IsRecovered layout zones form) (recovered-wide layout zones form) bytes a runs none k entry b.stands b.is_image b.whole in
-    let wide : length (written t.steps) ≡ image_bytes layout entry = (recovered-wide layout zones form k own t.steps t.turn t.does).0 ∙ size_is layout zones k entry b.stands in
+    let size = length-part layout entry.content image m.image_size in
+    let t = has_turn layout zones form (IsRecovered layout zones form) (recovered-wide layout zones form) bytes a runs none k entry m.stands m.is_image m.whole in
+    let wide : length (written t.steps) ≡ image_bytes layout entry = (recovered-wide layout zones form k own t.steps t.turn t.does).0 ∙ size_is layout zones k entry m.stands in
     let at : 2048 * (from + f) ≡ 2048 * from + 2048 * f = omega arith in
     ap (λ n. take 2048 (drop n a.out)) at
     ∙ part-further t.before (written t.steps) t.out.0 a.out (2048 * from) (2048 * f) 2048 t.size (omega (arith, wide)) t.out.1
-    ∙ given_good layout zones form cpr k f entry part own b.block b.cause t.steps t.turn b.stands b.is_image b.cpr_size size b.is_block
-    (block-whole form bytes (k + 1) b.whole k (omega arith)) b.refused below good t.does
+    ∙ given_good layout zones form cpr k f entry part own m.block b.cause t.steps t.turn m.stands m.is_image m.cpr_size size m.is_block
+    (block-whole form bytes (k + 1) m.whole k (omega arith)) b.refused below good t.does
     ∙ part-front (drop (2048 * from) image) (image_bytes layout entry) (2048 * f) 2048 (omega (arith, size))
     ∙ ap (take 2048) (drop-drop (2048 * f) (2048 * from) image)
     ∙ ap (λ n. take 2048 (drop n image)) (sym at)

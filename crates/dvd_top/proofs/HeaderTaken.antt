@@ -14,9 +14,10 @@ use Rattle.dvd_ports.specs.Seen.{Seen}
 use Rattle.dvd_ports.proofs.KnownLemmas.{Appends-none}
 use Rattle.dvd_top.specs.Commands.{meaning}
 use Rattle.dvd_top.specs.Headline.{GoesOver, IsLoop, breaks_in}
-use Rattle.dvd_top.specs.Inner.Opened.{EndsInHeader, HasOpened, NoLoop}
+use Rattle.dvd_top.specs.Inner.Opened.{EndsInHeader, HasBegun, HasOpened, NoLoop}
 use Rattle.dvd_top.specs.Inner.Performing.{HasGoneOver, HasLooped}
 use Rattle.dvd_top.specs.Opening.{ComesBehind, IsOpened, Opens}
+use Rattle.dvd_words.specs.Settings.{broken_rule}
 use Rattle.dvd_words.specs.declared.settings.Command.{Command}
 use Rattle.dvd_words.specs.declared.settings.Settings.{Settings}
 
@@ -128,3 +129,26 @@ looped_listed settings is old new end ended = record {
   lawful = ap (λ form. breaks_in form settings) is;
   loop = subst (λ form. HasEnded (Opens form GoesOver settings) old new end) (sym is) ended;
 }
+
+-- A command that may go over its blocks by these settings, and has gone over the units that it has by them, has run;
+pub looped_over : (command : Command) (settings stated : Settings) (layout : Layout) → settings.command ≡ command
+    → (broken_rule settings ≡ None → (meaning command).breaks settings ≡ None)
+    → (old read output report : Seen) (new : Streams) (end : LoopEnd) → HasBegun settings old read stated layout
+    → HaveCauses Done Done (streams old output report) (streams read output report)
+    → (units : Units) → ((P : Units → Type 0) → P units → (meaning command).OfUnits stated P)
+    → HasEnded (IsOutcome units) (streams read output report) new end → HasLooped settings (streams old output report) new end
+looped_over command settings stated layout is lawful old read output report new end (inl (sized, unbroken, same, unread)) causes units has ended =
+    looped_by_words settings sized (streams old output report) new end
+    (gone_over command settings is (lawful unbroken) units (λ P holds. subst (λ s. (meaning command).OfUnits s P) same (has P holds))
+    (streams old output report) new end (subst (λ seen. HasEnded (IsOutcome units) (streams seen output report) new end) unread ended))
+looped_over command settings stated layout is lawful old read output report new end (inr (listed, opened)) causes units has ended =
+    looped_listed settings listed (streams old output report) new end
+    (opened_over command settings stated layout is old read output report new end opened causes units has ended)
+
+-- and so has one that ended in the header of its capture
+pub looped_no_further : (settings : Settings) (old read output report : Seen) (end : LoopEnd)
+    → (settings.form ≡ Listed) × EndsInHeader settings old read end → HaveCauses end end (streams old output report) (streams read output report)
+    → HasLooped settings (streams old output report) (streams read output report) end
+looped_no_further settings old read output report end (listed, ended_in) causes =
+    looped_listed settings listed (streams old output report) (streams read output report) end
+    (opened_ended GoesOver settings old read output report end ended_in causes)

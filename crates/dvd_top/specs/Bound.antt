@@ -47,9 +47,8 @@ HasGoodRows block received marks f =
 abbrev pub image_part : Layout → BlockPlan → List ℕ → List ℕ
 image_part layout entry image = take (image_bytes layout entry) (drop (2048 * image_from entry.content) image)
 
--- Captured block k is whole in the stream, it was mastered for its place of this image and this CPR_MAI, and its damage is
--- within the bound: twice the bad rows plus the lost rows is at most 16.
-pub record IsBorne (layout : Layout) (zones : Zones) (form : Form) (bytes cpr image : List ℕ) (k : ℕ) (entry : BlockPlan) : Type 0 where
+-- Captured block k is whole in the stream, and it was mastered for its place of this image and this CPR_MAI.
+pub record WasMastered (layout : Layout) (zones : Zones) (form : Form) (bytes cpr image : List ℕ) (k : ℕ) (entry : BlockPlan) : Type 0 where
   pub whole : HasBlocks form bytes (k + 1)
   pub stands : slice_get (plan_of layout zones) k ≡ Some entry
   pub is_image : IsImage entry.content
@@ -57,17 +56,15 @@ pub record IsBorne (layout : Layout) (zones : Zones) (form : Form) (bytes cpr im
   pub image_size : length image ≡ 2048 * total_sectors layout
   pub block : List (List ℕ)
   pub is_block : IsBlockOf (frames_of layout entry cpr (filled (image_part layout entry image))) block
-  pub within : IsWithin block (captured_rows form (block_bytes form bytes k)) (captured_marks form (block_bytes form bytes k))
 
--- Captured block k is whole in the stream, it was mastered for its place of this image and this CPR_MAI, and two passes refuse it.
+-- Its damage is within the bound: twice the bad rows plus the lost rows is at most 16.
+pub record IsBorne (layout : Layout) (zones : Zones) (form : Form) (bytes cpr image : List ℕ) (k : ℕ) (entry : BlockPlan) : Type 0 where
+  pub mastered : WasMastered layout zones form bytes cpr image k entry
+  pub within : IsWithin mastered.block (captured_rows form (block_bytes form bytes k)) (captured_marks form (block_bytes form bytes k))
+
+-- Two passes refuse it.
 pub record IsBeyond (layout : Layout) (zones : Zones) (form : Form) (bytes cpr image : List ℕ) (k : ℕ) (entry : BlockPlan) : Type 0 where
-  pub whole : HasBlocks form bytes (k + 1)
-  pub stands : slice_get (plan_of layout zones) k ≡ Some entry
-  pub is_image : IsImage entry.content
-  pub cpr_size : length cpr ≡ 6
-  pub image_size : length image ≡ 2048 * total_sectors layout
-  pub block : List (List ℕ)
-  pub is_block : IsBlockOf (frames_of layout entry cpr (filled (image_part layout entry image))) block
+  pub mastered : WasMastered layout zones form bytes cpr image k entry
   pub cause : Cause
   pub refused : two_pass_cause (answers_of (captured_rows form (block_bytes form bytes k)) (captured_marks form (block_bytes form bytes k))) ≡ Some cause
 
@@ -78,7 +75,7 @@ pub record KeepsGoodFrames (settings : Settings) (bytes : List ℕ) (outcome : O
   pub is_layout : IsLayoutOf settings layout
   pub at_place : (cpr image : List ℕ) (k f : ℕ) (entry : BlockPlan) (b : IsBeyond layout settings.zones settings.form bytes cpr image k entry)
       → f < image_sectors layout entry.content
-      → HasGoodRows b.block (captured_rows settings.form (block_bytes settings.form bytes k)) (captured_marks settings.form (block_bytes settings.form bytes k)) f
+      → HasGoodRows b.mastered.block (captured_rows settings.form (block_bytes settings.form bytes k)) (captured_marks settings.form (block_bytes settings.form bytes k)) f
       → take 2048 (drop (2048 * (image_from entry.content + f)) outcome.out) ≡ take 2048 (drop (2048 * (image_from entry.content + f)) image)
 
 -- Of every image and every CPR_MAI: a block that is borne gives back exactly the image sectors there, at their place in the

@@ -6,9 +6,10 @@ ghost use Rattle.dvd_loop.specs.Streams.{HaveCauses, streams};
 ghost use Rattle.dvd_loop.specs.Turns.{HaveCausesFor};
 ghost use Rattle.dvd_ports.specs.Seen.{Seen};
 ghost use Rattle.dvd_top.specs.HeaderEnds.{AnswersHeader, ReadsHeader, end_in};
-ghost use Rattle.dvd_top.specs.Inner.Opened.{EndsInHeader, HasOpened, IsWorded, IsWordedInitial};
+ghost use Rattle.dvd_top.specs.Inner.Opened.{EndsInHeader, HasBegun, HasOpened, IsWorded, IsWordedInitial};
 ghost use Rattle.dvd_top.specs.Opening.{IsHeaderOf, place_of, place_of_layer, shape_number, zones_number};
 ghost use Rattle.dvd_capture.specs.Captured.{HasSize};
+ghost use Rattle.dvd_capture.specs.declared.form.Form.TheVariants.{Listed};
 ghost use Rattle.dvd_words.specs.Settings.{IsLayoutOf, broken_rule};
 ghost use Rattle.dvd_words.specs.declared.settings.Settings.{Settings as WordSettings};
 
@@ -214,5 +215,29 @@ pub(crate) fn open_listed<S: Source>(settings: &Settings, src: &mut S) -> Result
         HeaderEnd::Short { bytes } => Err(LoopEnd::ShortHeader { bytes }),
         HeaderEnd::BadHeader { at } => Err(LoopEnd::BadHeader { at }),
         HeaderEnd::ReadFault => Err(LoopEnd::ReadFault),
+    }
+}
+
+/// The settings and the layout by which a command goes over its blocks: those of its words, or those that the header of a listed
+/// capture states, which is read here; or how the run ends in that header.
+pub(crate) fn open_blocks<S: Source>(
+    settings: &Settings,
+    worded: Option<Layout>,
+    src: &mut S,
+) -> Result<Stated, LoopEnd>
+    requires worded { IsWorded settings.now worded }
+    ensures begun { IfOk result (λ stated. HasBegun settings.now (S.seen src.old) (S.seen src.new) stated.settings stated.layout) }
+    ensures layout { IfOk result (λ stated. IsLayoutOf stated.settings stated.layout) }
+    ensures workers { IfOk result (λ stated. stated.settings.workers ≡ settings.now.workers) }
+    ensures ended { IfErr result (λ end. (settings.now.form ≡ Listed) × EndsInHeader settings.now (S.seen src.old) (S.seen src.new) end) }
+    ensures causes { (output report : Seen) → HaveCausesFor result
+        (streams (S.seen src.old) output report) (streams (S.seen src.new) output report) }
+{
+    match worded {
+        Some(layout) => Ok(Stated {
+            settings: *settings,
+            layout,
+        }),
+        None => open_listed(settings, src),
     }
 }

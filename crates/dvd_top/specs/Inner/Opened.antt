@@ -1,5 +1,5 @@
 -- What the private calls of the opening promise.
-use Rattle.std.specs.Prelude.{◌≡◌, ℕ, List, length, Option, Some, None}
+use Rattle.std.specs.Prelude.{◌≡◌, ◌⊎◌, ℕ, List, length, Option, Some, None}
 use Rattle.std.specs.Io.KnownBytes.{Consumes}
 use Rattle.dvd_capture.specs.Captured.{HasSize}
 use Rattle.dvd_capture.specs.declared.form.Form.TheVariants.{Listed}
@@ -31,6 +31,13 @@ pub record HasOpened (settings : Settings) (old new : Seen) (stated : Settings) 
   pub header : IsHeaderOf settings stated own
   pub lawful : broken_rule stated ≡ None
   pub lengths : IsLayoutOf stated layout
+
+-- A command may go over its blocks by these settings and their layout: they are those of its words, and nothing is read yet; or
+-- those that the header of a listed capture states.
+abbrev pub HasBegun : Settings → Seen → Seen → Settings → Layout → Type 0
+HasBegun settings old new stated layout =
+    (HasSize settings.form × (broken_rule settings ≡ None) × (stated ≡ settings) × (new ≡ old))
+    ⊎ ((settings.form ≡ Listed) × HasOpened settings old new stated layout)
 
 -- no loop comes behind a header
 abbrev pub NoLoop : Settings → List ℕ → Outcome → Type 0

@@ -17,14 +17,12 @@ ghost use Rattle.dvd_loop.specs.declared.ends.Turn.TheVariants.{Good};
 ghost use Rattle.dvd_read.specs.Reading.{block_cause};
 ghost use Rattle.dvd_report.specs.Lines.{round_line};
 ghost use Rattle.dvd_top.specs.Captured.{IsCaptureEnd};
-ghost use Rattle.dvd_top.specs.Headline.{GoesOver};
-ghost use Rattle.dvd_top.specs.Opening.{IsOpened};
-ghost use Rattle.dvd_top.specs.Commands.Deep.{IsImageRead, IsReadDeep, deep_units};
+ghost use Rattle.dvd_top.specs.Commands.Deep.{IsReadDeep, deep_units};
 ghost use Rattle.dvd_top.specs.Inner.Performing.{IsFoundBy, IsPerformed, TellsAndWrites};
 ghost use Rattle.dvd_words.specs.Settings.{IsLayoutOf};
 
 use crate::commands::captured::{fetch_block, refuse_block, write_sectors};
-use crate::opening::{open_listed, worded_layout};
+use crate::opening::{open_blocks, worded_layout};
 use crate::status::Refusal;
 use dvd_block::Piece;
 use dvd_capture::{Form, Work};
@@ -130,41 +128,18 @@ pub(crate) fn run_deep<S: Source, K: Sink, E: Sink>(
     let mut deep = Deep::new(alloc)?;
     let mut piece = Piece::new(alloc)?;
     let mut work = Work::new(alloc)?;
-    match worded {
-        Some(layout) => Ok(deep_loop(
-            settings, &layout, &mut deep, &mut piece, &mut work, src, out, report,
-        )),
-        None => Ok(deep_listed(settings, &mut deep, &mut piece, &mut work, src, out, report)),
-    }
-}
-
-// The same of a listed capture: its header, and then its blocks.
-fn deep_listed<S: Source, K: Sink, E: Sink>(
-    settings: &Settings,
-    deep: &mut Deep,
-    piece: &mut Piece,
-    work: &mut Work,
-    src: &mut S,
-    out: &mut K,
-    report: &mut E,
-) -> LoopEnd
-    requires { settings.now.command ≡ Command.Deep }
-    ensures { HasEnded (IsOpened GoesOver settings.now)
-        (streams (S.seen src.old) (K.seen out.old) (E.seen report.old))
-        (streams (S.seen src.new) (K.seen out.new) (E.seen report.new)) result }
-{
-    match open_listed(settings, src) {
-        Ok(stated) => deep_loop(
+    match open_blocks(settings, worded, src) {
+        Ok(stated) => Ok(deep_loop(
             &stated.settings,
             &stated.layout,
-            deep,
-            piece,
-            work,
+            &mut deep,
+            &mut piece,
+            &mut work,
             src,
             out,
             report,
-        ),
-        Err(end) => end,
+        )),
+        Err(end) => Ok(end),
     }
 }
 
@@ -186,26 +161,9 @@ fn deep_block<K: Sink, E: Sink>(
         (streams source (K.seen out.old) (E.seen report.old)) (streams source (K.seen out.new) (E.seen report.new)) result }
 {
     match entry.content {
-        Content::Image(_) => deep_image(layout, k, entry, deep, piece, work, out, report),
-        Content::Zero | Content::Reference | Content::Control => Ok(Turn::Good),
+        Content::Image(_) => {}
+        Content::Zero | Content::Reference | Content::Control => return Ok(Turn::Good),
     }
-}
-
-fn deep_image<K: Sink, E: Sink>(
-    layout: &Layout,
-    k: u32,
-    entry: &BlockPlan,
-    deep: &mut Deep,
-    piece: &mut Piece,
-    work: &mut Work,
-    out: &mut K,
-    report: &mut E,
-) -> Result<Turn, LoopEnd>
-    requires numbers { HasNumbers entry.now }
-    requires stage { HasBlock (stage_of work.old) }
-    ensures { (source : Seen) → AreDone (IsImageRead layout.now k entry.now (rows_of work.old) (marks_of_work work.old))
-        (streams source (K.seen out.old) (E.seen report.old)) (streams source (K.seen out.new) (E.seen report.new)) result }
-{
     let count = layout.image_sectors(entry.content);
     match read_block(work, entry) {
         Ok(_) => {

@@ -13,16 +13,14 @@ ghost use Rattle.dvd_loop.specs.Machine.{IsOutcome};
 ghost use Rattle.dvd_loop.specs.Streams.{streams, HasEnded};
 ghost use Rattle.dvd_loop.specs.Turns.{AreDone};
 ghost use Rattle.dvd_top.specs.Captured.{IsCaptureEnd};
-ghost use Rattle.dvd_top.specs.Headline.{GoesOver};
-ghost use Rattle.dvd_top.specs.Opening.{IsOpened};
-ghost use Rattle.dvd_top.specs.Commands.Recover.{IsDone, IsImageDone, recover_units};
+ghost use Rattle.dvd_top.specs.Commands.Recover.{IsDone, recover_units};
 ghost use Rattle.dvd_top.specs.Inner.Performing.{IsPerformed};
 ghost use Rattle.dvd_top.specs.Inner.Workers.{IsBlockRead, IsReader};
 ghost use Rattle.dvd_words.specs.Settings.{IsLayoutOf};
 
 use crate::commands::captured::{fetch_block, refuse_block, write_sectors};
 use crate::commands::workers::read_by;
-use crate::opening::{open_listed, worded_layout};
+use crate::opening::{open_blocks, worded_layout};
 use crate::status::Refusal;
 use dvd_capture::{Form, Work};
 use dvd_layout::{BlockPlan, Content, Layout, Zones};
@@ -131,40 +129,18 @@ pub(crate) fn run_recover<R: Threads + Sync, G: Gate, S: Source, K: Sink, E: Sin
 {
     let worded = worded_layout(settings)?;
     let mut work = Work::new(alloc)?;
-    match worded {
-        Some(layout) => Ok(recover_loop(rt, gate, settings, &layout, &mut work, src, out, report)),
-        None => Ok(recover_listed(rt, gate, settings, &mut work, src, out, report)),
-    }
-}
-
-// The same of a listed capture: its header, and then its blocks.
-fn recover_listed<R: Threads + Sync, G: Gate, S: Source, K: Sink, E: Sink>(
-    rt: &R,
-    gate: &G,
-    settings: &Settings,
-    work: &mut Work,
-    src: &mut S,
-    out: &mut K,
-    report: &mut E,
-) -> LoopEnd
-    requires command { settings.now.command ≡ Command.Recover }
-    requires workers { (1 ≤ settings.now.workers) × (settings.now.workers ≤ 16) }
-    ensures { HasEnded (IsOpened GoesOver settings.now)
-        (streams (S.seen src.old) (K.seen out.old) (E.seen report.old))
-        (streams (S.seen src.new) (K.seen out.new) (E.seen report.new)) result }
-{
-    match open_listed(settings, src) {
-        Ok(stated) => recover_loop(
+    match open_blocks(settings, worded, src) {
+        Ok(stated) => Ok(recover_loop(
             rt,
             gate,
             &stated.settings,
             &stated.layout,
-            work,
+            &mut work,
             src,
             out,
             report,
-        ),
-        Err(end) => end,
+        )),
+        Err(end) => Ok(end),
     }
 }
 
@@ -186,26 +162,9 @@ fn recover_block<F: Fn(&mut Work, &BlockPlan) -> Result<Fixed, Cause>, K: Sink, 
         (streams source (K.seen out.old) (E.seen report.old)) (streams source (K.seen out.new) (E.seen report.new)) result }
 {
     match entry.content {
-        Content::Image(_) => recover_image(layout, k, entry, read, work, out, report),
-        Content::Zero | Content::Reference | Content::Control => Ok(Turn::Good),
+        Content::Image(_) => {}
+        Content::Zero | Content::Reference | Content::Control => return Ok(Turn::Good),
     }
-}
-
-fn recover_image<F: Fn(&mut Work, &BlockPlan) -> Result<Fixed, Cause>, K: Sink, E: Sink>(
-    layout: &Layout,
-    k: u32,
-    entry: &BlockPlan,
-    read: &F,
-    work: &mut Work,
-    out: &mut K,
-    report: &mut E,
-) -> Result<Turn, LoopEnd>
-    requires reader { IsReader F.Fn read.now }
-    requires numbers { HasNumbers entry.now }
-    requires stage { HasBlock (stage_of work.old) }
-    ensures { (source : Seen) → AreDone (IsImageDone layout.now k entry.now (rows_of work.old) (marks_of_work work.old))
-        (streams source (K.seen out.old) (E.seen report.old)) (streams source (K.seen out.new) (E.seen report.new)) result }
-{
     let count = layout.image_sectors(entry.content);
     match read_by(read, work, entry) {
         Ok(_) => {

@@ -16,8 +16,6 @@ ghost use Rattle.dvd_ports.specs.Seen.{Seen};
 ghost use Rattle.dvd_report.specs.Survey.{StandsFor, surveyed};
 ghost use Rattle.dvd_report.specs.declared.counts.Surveyed.{Surveyed};
 ghost use Rattle.dvd_top.specs.Captured.{IsCaptureEnd};
-ghost use Rattle.dvd_top.specs.Headline.{GoesOver};
-ghost use Rattle.dvd_top.specs.Opening.{IsOpened};
 ghost use Rattle.dvd_top.specs.Commands.Survey.{found_in, survey_units, turn_by};
 ghost use Rattle.dvd_top.specs.Inner.Performing.{IsPerformed, IsLineDone};
 ghost use Rattle.dvd_top.specs.Inner.Workers.{IsBlockRead, IsReader};
@@ -25,7 +23,7 @@ ghost use Rattle.dvd_words.specs.Settings.{IsLayoutOf};
 
 use crate::commands::captured::fetch_block;
 use crate::commands::workers::read_by;
-use crate::opening::{open_listed, worded_layout};
+use crate::opening::{open_blocks, worded_layout};
 use crate::status::Refusal;
 use dvd_capture::{Form, Work};
 use dvd_layout::{BlockPlan, Layout, Zones};
@@ -201,53 +199,19 @@ pub(crate) fn run_survey<R: Threads + Sync, G: Gate, S: Source, K: Sink, E: Sink
     let worded = worded_layout(settings)?;
     let mut survey = Survey::new(alloc)?;
     let mut work = Work::new(alloc)?;
-    match worded {
-        Some(layout) => Ok(survey_stream(
+    match open_blocks(settings, worded, src) {
+        Ok(stated) => Ok(survey_stream(
             rt,
             gate,
-            settings,
-            &layout,
+            &stated.settings,
+            &stated.layout,
             &mut survey,
             &mut work,
             src,
             out,
             report,
         )),
-        None => Ok(survey_listed(rt, gate, settings, &mut survey, &mut work, src, out, report)),
-    }
-}
-
-// The same of a listed capture: its header, and then its blocks.
-fn survey_listed<R: Threads + Sync, G: Gate, S: Source, K: Sink, E: Sink>(
-    rt: &R,
-    gate: &G,
-    settings: &Settings,
-    survey: &mut Survey,
-    work: &mut Work,
-    src: &mut S,
-    out: &mut K,
-    report: &mut E,
-) -> LoopEnd
-    requires command { settings.now.command ≡ Command.Survey }
-    requires workers { (1 ≤ settings.now.workers) × (settings.now.workers ≤ 16) }
-    requires empty { StandsFor survey.old [] }
-    ensures { HasEnded (IsOpened GoesOver settings.now)
-        (streams (S.seen src.old) (K.seen out.old) (E.seen report.old))
-        (streams (S.seen src.new) (K.seen out.new) (E.seen report.new)) result }
-{
-    match open_listed(settings, src) {
-        Ok(stated) => survey_stream(
-            rt,
-            gate,
-            &stated.settings,
-            &stated.layout,
-            survey,
-            work,
-            src,
-            out,
-            report,
-        ),
-        Err(end) => end,
+        Err(end) => Ok(end),
     }
 }
 
