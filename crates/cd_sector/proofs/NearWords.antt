@@ -11,7 +11,7 @@ use Rattle.std.proofs.lemmas.List.FromFn.{get_or-map-range_with_len, length-rang
 use Rattle.gf_field.specs.Words.{IsNear}
 use Rattle.rs_decode.specs.Errors.{HasNoneNear}
 use Rattle.rs_decode.specs.Nearest.{near_of}
-use Rattle.rs_decode.proofs.Nearest.{near_of-some, none-near_of}
+use Rattle.rs_decode.proofs.NearSearch.{near_of-some, none-near_of}
 use Rattle.cd_sector.specs.Repair.{with_bytes, with_word, near_word, is_lost, with_p_words, marks_of, with_q_words, repaired}
 use Rattle.cd_sector.specs.Sector.{sync}
 use Rattle.cd_sector.specs.declared.checking.CdCause.{CdCause}

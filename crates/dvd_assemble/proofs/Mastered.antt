@@ -14,8 +14,8 @@ use Rattle.std.proofs.lemmas.List.FromFn.{length-map-range_with_len, get_or-map-
 use Rattle.gf_field.specs.Words.{IsCodeword}
 use Rattle.rs_decode.specs.Filling.{AgreeUnmarked}
 use Rattle.rs_decode.specs.Nearest.{near_of}
-use Rattle.rs_decode.proofs.Near.{filling_near}
-use Rattle.rs_decode.proofs.Nearest.{near_of-some}
+use Rattle.rs_decode.proofs.OneNear.{filling_near}
+use Rattle.rs_decode.proofs.NearSearch.{near_of-some}
 use Rattle.dvd_block.specs.Product.{line, place}
 use Rattle.dvd_block.specs.Recording.{record_at, row_at}
 use Rattle.dvd_capture.specs.Answers.{marks_line}

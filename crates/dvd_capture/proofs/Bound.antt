@@ -8,7 +8,7 @@ use Rattle.gf_field.specs.Words.{IsCodeword, IsNear, cost}
 use Rattle.rs_decode.specs.Filling.{marked}
 use Rattle.rs_decode.specs.Errors.{HasNoneNear}
 use Rattle.rs_decode.specs.Nearest.{near_of}
-use Rattle.rs_decode.proofs.Nearest.{near_of-some, none-near_of}
+use Rattle.rs_decode.proofs.NearSearch.{near_of-some, none-near_of}
 use Rattle.dvd_block.specs.Product.{IsProduct}
 use Rattle.dvd_capture.specs.TwoPass.{IsTwoPass, answer_column, answers_of, byte_at, failed_of}
 use Rattle.dvd_capture.specs.Within.{IsWithin, block_weight, row_weight}

@@ -6,8 +6,8 @@ use Rattle.std.proofs.lemmas.Grind.{same_number_lists}
 use Rattle.std.proofs.lemmas.List.FromFn.{length-map-range_with_len, get_or-map-range_with_len}
 use Rattle.std.proofs.lemmas.List.Elements.{All-from_get_or}
 use Rattle.gf_field.specs.Words.{IsCodeword, IsNear, cost}
-use Rattle.rs_decode.proofs.Near.{near_once}
-use Rattle.rs_decode.proofs.Nearest.{near_of-some}
+use Rattle.rs_decode.proofs.OneNear.{near_once}
+use Rattle.rs_decode.proofs.NearSearch.{near_of-some}
 use Rattle.dvd_block.specs.Product.{IsProduct, column, line, place}
 use Rattle.dvd_capture.specs.TwoPass.{AgreesWith, IsTwoPass, answer_column, answers_of, byte_at, column_answer, failed_of, from_columns}
 use Rattle.rs_decode.specs.Filling.{marked}

@@ -10,7 +10,7 @@ use Rattle.std.proofs.lemmas.List.Sums.{AllPass-from_list_all}
 use Rattle.std.proofs.lemmas.List.Elements.{All-from_get_or}
 use Rattle.gf_field.specs.Words.{IsByte, IsCodeword}
 use Rattle.rs_decode.specs.Nearest.{near_of, vanishes_at_all}
-use Rattle.rs_decode.proofs.Nearest.{near_of-is_near, vanishing-codeword}
+use Rattle.rs_decode.proofs.NearSearch.{near_of-is_near, vanishing-codeword}
 use Rattle.dvd_block.specs.Product.{IsProduct, column, line}
 use Rattle.dvd_block.proofs.Columns.{length-column}
 use Rattle.dvd_capture.specs.TwoPass.{from_columns}

@@ -8,8 +8,8 @@ use Rattle.std.proofs.lemmas.List.FromFn.{fill_by_all, length-map-range_with_len
 use Rattle.std.proofs.lemmas.List.Sums.{list_all-from_AllPass}
 use Rattle.gf_field.specs.Words.{IsNear, cost}
 use Rattle.rs_decode.specs.Nearest.{near_of, vanishes_at_all}
-use Rattle.rs_decode.proofs.Near.{cost-alike}
-use Rattle.rs_decode.proofs.Nearest.{codeword-vanishes, near_of-some}
+use Rattle.rs_decode.proofs.OneNear.{cost-alike}
+use Rattle.rs_decode.proofs.NearSearch.{codeword-vanishes, near_of-some}
 use Rattle.dvd_block.specs.Product.{IsProduct, column, line}
 use Rattle.dvd_block.proofs.Columns.{get_or-column, length-column}
 use Rattle.dvd_capture.specs.TwoPass.{IsTwoPass, answer_column, answers_of, byte_at, failed_of}

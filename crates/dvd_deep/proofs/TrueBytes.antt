@@ -7,8 +7,8 @@ use Rattle.std.proofs.lemmas.List.FromFn.{length-map-range_with_len, get_or-map-
 use Rattle.gf_field.specs.Words.{IsCodeword, IsNear, cost}
 use Rattle.rs_decode.specs.Filling.{AgreeUnmarked, marked}
 use Rattle.rs_decode.specs.Nearest.{near_of}
-use Rattle.rs_decode.proofs.Near.{filling_near, near_once}
-use Rattle.rs_decode.proofs.Nearest.{near_of-is_near}
+use Rattle.rs_decode.proofs.OneNear.{filling_near, near_once}
+use Rattle.rs_decode.proofs.NearSearch.{near_of-is_near}
 use Rattle.dvd_block.specs.Product.{IsProduct, column, line, place}
 use Rattle.dvd_block.proofs.Columns.{get_or-column, length-column}
 use Rattle.dvd_capture.specs.Answers.{marks_line}

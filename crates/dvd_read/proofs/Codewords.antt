@@ -4,7 +4,7 @@ use Rattle.std.proofs.lemmas.Bool.{and_parts, eqb-true, ltb-true}
 use Rattle.std.proofs.lemmas.List.Sums.{AllPass-from_list_all}
 use Rattle.gf_field.specs.Words.{IsCodeword}
 use Rattle.rs_decode.specs.Nearest.{all_words, is_near, near_of}
-use Rattle.rs_decode.proofs.Nearest.{find-some, vanishing-codeword}
+use Rattle.rs_decode.proofs.NearSearch.{find-some, vanishing-codeword}
 use Rattle.dvd_capture.specs.Answers.{AreAnswers, marks_line}
 use Rattle.dvd_capture.specs.declared.parts.AnswerRow.{AnswerRow}
 use Rattle.dvd_block.specs.Product.{line}

@@ -7,7 +7,7 @@ use Rattle.std.proofs.lemmas.List.{get_or-map, length-map}
 use Rattle.std.proofs.lemmas.Grind.{same_number_lists}
 use Rattle.gf_field.specs.Words.{IsByte, IsCodeword}
 use Rattle.rs_decode.specs.Nearest.{vanishes_at_all}
-use Rattle.rs_decode.proofs.Nearest.{codeword-vanishes, vanishing-codeword}
+use Rattle.rs_decode.proofs.NearSearch.{codeword-vanishes, vanishing-codeword}
 use Rattle.dvd_block.specs.Product.{line}
 use Rattle.dvd_capture.specs.TwoPass.{column_answer, from_columns}
 use Rattle.dvd_capture.specs.declared.parts.ColumnAnswer.{ColumnAnswer}

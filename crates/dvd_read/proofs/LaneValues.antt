@@ -6,7 +6,7 @@ use Rattle.gf_field.specs.Words.{IsByte, value}
 use Rattle.rs_code.specs.Syndromes.{syndromes_of}
 use Rattle.rs_code.proofs.Syndromes.{get_or-syndromes_of, length-syndromes_of}
 use Rattle.rs_decode.specs.Nearest.{vanishes_at_all}
-use Rattle.rs_decode.proofs.Nearest.{codeword-vanishes}
+use Rattle.rs_decode.proofs.NearSearch.{codeword-vanishes}
 use Rattle.rs_lanes.proofs.ColumnLemmas.{get_or-column, length-column}
 use Rattle.dvd_block.specs.Product.{column, place}
 use Rattle.dvd_read.proofs.ColumnAnswers.{codeword_tested}

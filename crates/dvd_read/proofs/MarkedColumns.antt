@@ -8,7 +8,7 @@ use Rattle.rs_decode.specs.Filling.{AgreeUnmarked, marked}
 use Rattle.rs_decode.specs.declared.errors.Fix.{Fix}
 use Rattle.rs_decode.specs.Nearest.{near_of}
 use Rattle.rs_decode.proofs.Counting.{counts-from_near}
-use Rattle.rs_decode.proofs.Nearest.{near_of-alike, near_of-some, none-near_of}
+use Rattle.rs_decode.proofs.NearSearch.{near_of-alike, near_of-some, none-near_of}
 use Rattle.dvd_block.specs.Product.{column}
 use Rattle.dvd_capture.specs.TwoPass.{answer_column, byte_at, column_answer, failed_of}
 use Rattle.dvd_capture.specs.declared.parts.AnswerRow.{AnswerRow}

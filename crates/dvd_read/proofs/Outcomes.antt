@@ -10,7 +10,7 @@ use Rattle.std.proofs.lemmas.List.Elements.{All-from_get_or}
 use Rattle.gf_field.specs.Words.{IsByte, IsNear}
 use Rattle.rs_decode.specs.Filling.{marked}
 use Rattle.rs_decode.specs.Nearest.{vanishes_at_all}
-use Rattle.rs_decode.proofs.Nearest.{near_of-is_near, codeword-vanishes, vanishing-codeword}
+use Rattle.rs_decode.proofs.NearSearch.{near_of-is_near, codeword-vanishes, vanishing-codeword}
 use Rattle.dvd_block.specs.Product.{line}
 use Rattle.dvd_capture.specs.TwoPass.{AgreesWith, answer_column, column_answer, failed_of, from_columns}
 use Rattle.dvd_capture.proofs.Columns.{AreNearColumns, agrees-from_columns, column-answered, few_fail, from_columns-line, length-answer_column, length-from_columns, near_columns-agree}

@@ -8,7 +8,7 @@ use Rattle.rs_decode.specs.Errors.{error_count}
 use Rattle.rs_decode.specs.Filling.{marked}
 use Rattle.rs_decode.specs.Nearest.{near_of}
 use Rattle.rs_decode.specs.declared.errors.Fix.{Fix}
-use Rattle.rs_decode.proofs.Nearest.{near_of-some}
+use Rattle.rs_decode.proofs.NearSearch.{near_of-some}
 use Rattle.rs_decode.proofs.Marks.{marked-next}
 use Rattle.dvd_block.specs.Product.{line}
 use Rattle.dvd_capture.proofs.Columns.{length-answers_of}

@@ -9,7 +9,7 @@ use Rattle.std.proofs.lemmas.List.FromFn.{get_or-map-range_with_len, length-map-
 use Rattle.std.proofs.lemmas.List.Sums.{count_by-le-length}
 use Rattle.gf_field.specs.Words.{IsNear, cost}
 use Rattle.rs_decode.specs.Nearest.{near_of}
-use Rattle.rs_decode.proofs.Nearest.{near_of-some}
+use Rattle.rs_decode.proofs.NearSearch.{near_of-some}
 use Rattle.dvd_block.specs.Product.{IsBlockOf, IsProduct, line}
 use Rattle.dvd_capture.specs.Answers.{marks_line}
 use Rattle.dvd_capture.specs.Rule.{HasAnswers, HasNoTwoPass}

@@ -11,7 +11,7 @@ use Rattle.rs_decode.specs.Filling.{marked}
 use Rattle.rs_decode.specs.Nearest.{near_of, vanishes_at_all}
 use Rattle.rs_decode.specs.declared.errors.Fix.{Fix}
 use Rattle.rs_decode.proofs.Counting.{IsNear-from_counts, error_count-self}
-use Rattle.rs_decode.proofs.Nearest.{codeword-vanishes}
+use Rattle.rs_decode.proofs.NearSearch.{codeword-vanishes}
 use Rattle.dvd_block.specs.Product.{column, line}
 use Rattle.dvd_capture.specs.Answers.{IsAnswer, IsFix, marks_line}
 use Rattle.dvd_capture.specs.Rule.{HasAnswers}

@@ -8,7 +8,7 @@ use Rattle.std.proofs.lemmas.List.{get_or-map}
 use Rattle.gf_field.specs.Words.{IsByte}
 use Rattle.rs_decode.specs.Filling.{marked}
 use Rattle.rs_decode.specs.Nearest.{near_of, vanishes_at_all}
-use Rattle.rs_decode.proofs.Nearest.{codeword-vanishes, near_of-is_near, vanishing-codeword}
+use Rattle.rs_decode.proofs.NearSearch.{codeword-vanishes, near_of-is_near, vanishing-codeword}
 use Rattle.dvd_block.specs.Product.{line}
 use Rattle.dvd_capture.specs.Answers.{IsAnswer, IsFix, marks_line}
 use Rattle.dvd_capture.specs.MarkBits.{marks_of}

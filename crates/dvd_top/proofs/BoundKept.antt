@@ -40,7 +40,7 @@ use Rattle.dvd_top.proofs.CapturedBlocks.{begin_blocks, block-whole, blocks_brea
 use Rattle.dvd_top.proofs.OpenedRuns.{behind_header}
 use Rattle.dvd_top.proofs.PlanBytes.{start-blocks}
 use Rattle.dvd_top.proofs.RecoveredWidths.{IsWide, block_units, deepened-wide, length-first, never_last, recovered-wide}
-use Rattle.dvd_top.proofs.Repaired.{RepairsBy, repaired, repaired_deep}
+use Rattle.dvd_top.proofs.BorneBlocks.{RepairsBy, repaired, repaired_deep}
 
 -- the image has the bytes that stand in a block
 pub length-part : (layout : Layout) (content : Content) (image : List ℕ) → length image ≡ 2048 * total_sectors layout

@@ -31,7 +31,7 @@ use Rattle.dvd_top.specs.Opening.{IsHeaderOf, IsOpened, Opens}
 use Rattle.dvd_top.proofs.CapturedTurns.{captured_whole}
 use Rattle.dvd_top.proofs.ConvertedBlocks.{sized_part}
 use Rattle.dvd_top.proofs.HeaderTaken.{breaks_by_words, words_of}
-use Rattle.dvd_top.proofs.Opened.{header-size}
+use Rattle.dvd_top.proofs.OneHeader.{header-size}
 use Rattle.dvd_words.specs.Settings.{IsLayoutOf, broken_rule}
 use Rattle.dvd_words.specs.declared.settings.Command.TheVariants.{Recover}
 use Rattle.dvd_words.specs.declared.settings.Settings.{Settings}

@@ -25,9 +25,9 @@ use Rattle.dvd_read.proofs.Outcomes.{agrees-no_cause}
 use Rattle.dvd_report.specs.Lines.{round_line}
 use Rattle.dvd_top.specs.Commands.Deep.{IsImageRead, round_told}
 use Rattle.dvd_top.specs.Inner.Performing.{IsFoundBy, TellsAndWrites, sectors_out}
-use Rattle.dvd_top.proofs.Recovered.{sectors_front}
+use Rattle.dvd_top.proofs.SectorsWritten.{sectors_front}
 use Rattle.dvd_top.proofs.RecoveredWidths.{length-sectors_out}
-use Rattle.dvd_top.proofs.Repairs.{few-sectors}
+use Rattle.dvd_top.proofs.ImageInBlocks.{few-sectors}
 
 -- no line of a round is told where the two passes have no cause
 pub told_none : (k : ℕ) (entry : BlockPlan) (round : ℕ) (cause : Option Cause) → cause ≡ None → round_told cause k entry round ≡ []

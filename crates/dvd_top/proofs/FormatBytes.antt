@@ -15,7 +15,7 @@ use Rattle.dvd_layout.specs.declared.layout.Shape.{Shape}
 use Rattle.dvd_layout.specs.declared.layout.Shape.TheVariants.{Single, Parallel, Opposite}
 use Rattle.dvd_top.specs.Commands.Master.{cpr_in, filled, main_for}
 use Rattle.dvd_top.proofs.FrameBytes.{HasBytes, bytes-append, bytes-part, bytes-replicate, two_bytes}
-use Rattle.dvd_top.proofs.Repairs.{few-sectors}
+use Rattle.dvd_top.proofs.ImageInBlocks.{few-sectors}
 
 -- the last sector of the Data Zone has a number of 24 bits
 layer_number : (layout : Layout) (first : Bool) → 0x30000 + padded (cond first layout.sectors0 layout.sectors1) - 1 < 2 ^ 24

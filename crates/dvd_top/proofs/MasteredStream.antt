@@ -35,7 +35,7 @@ use Rattle.dvd_top.proofs.OnlyThese.{only_these, runs_only}
 use Rattle.dvd_top.proofs.Pieces.{length-pieces, piece-at, pieces-front}
 use Rattle.dvd_top.proofs.PlanBytes.{start-all}
 use Rattle.dvd_top.proofs.EntryBlocks.{done_at}
-use Rattle.dvd_top.proofs.Repaired.{repaired}
+use Rattle.dvd_top.proofs.BorneBlocks.{repaired}
 
 -- the rows of a block are 182 bytes wide
 widths-of : (block : List (List ℕ)) → IsProduct block → All (λ row. length row ≡ 182) block

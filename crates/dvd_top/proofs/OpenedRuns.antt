@@ -23,7 +23,7 @@ use Rattle.dvd_words.specs.declared.settings.Settings.{Settings}
 use Rattle.dvd_top.specs.Opening.{Behind, BreaksHeader, IsHeaderOf, IsOpened, Opens, place_of, shape_number}
 use Rattle.dvd_top.proofs.FrameBytes.{IsByte}
 use Rattle.dvd_top.proofs.Headers.{zones_for}
-use Rattle.dvd_top.proofs.Opened.{breaks_once, breaks_or_states, header-size, stated_once}
+use Rattle.dvd_top.proofs.OneHeader.{breaks_once, breaks_or_states, header-size, stated_once}
 
 -- they are one, but for what was taken of a block that breaks a rule
 abbrev pub AreSame : Outcome → Outcome → Type 0

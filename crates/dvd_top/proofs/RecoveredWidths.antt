@@ -41,8 +41,8 @@ use Rattle.dvd_top.specs.Inner.Performing.{sectors_out}
 use Rattle.dvd_top.proofs.Determined.{length-captured_marks, length-captured_rows}
 use Rattle.dvd_top.proofs.MasterBlocks.{size_is}
 use Rattle.dvd_top.proofs.Pieces.{length-pieces, start-same}
-use Rattle.dvd_top.proofs.Recovered.{sectors_more}
-use Rattle.dvd_top.proofs.Repairs.{few-sectors}
+use Rattle.dvd_top.proofs.SectorsWritten.{sectors_more}
+use Rattle.dvd_top.proofs.ImageInBlocks.{few-sectors}
 use Rattle.dvd_top.proofs.Written.{length-written}
 
 -- a frame in a block has twelve times 172 bytes

@@ -23,10 +23,10 @@ use Rattle.dvd_top.specs.Commands.Recover.{IsRefused}
 use Rattle.dvd_top.specs.Laws.{GoodFramesOfARefusedBlockAreGiven}
 use Rattle.dvd_top.specs.Inner.Performing.{sectors_out}
 use Rattle.dvd_top.proofs.PlanEntries.{has_numbers}
-use Rattle.dvd_top.proofs.Recovered.{sectors_front, sectors_more}
+use Rattle.dvd_top.proofs.SectorsWritten.{sectors_front, sectors_more}
 use Rattle.dvd_top.proofs.RecoveredWidths.{length-out}
-use Rattle.dvd_top.proofs.Repaired.{captured-received, recovered_at}
-use Rattle.dvd_top.proofs.Repairs.{data_block-made, few-sectors, sector}
+use Rattle.dvd_top.proofs.BorneBlocks.{captured-received, recovered_at}
+use Rattle.dvd_top.proofs.ImageInBlocks.{data_block-made, few-sectors, sector}
 
 -- what a row weighs, by whether it is cheap and whether it is lost
 abbrev weight_by : Bool → Bool → ℕ

@@ -66,7 +66,7 @@ use Rattle.dvd_words.specs.declared.settings.Settings.{Settings}
 use Rattle.dvd_top.proofs.BlockFrames.{line-frames_of}
 use Rattle.dvd_top.proofs.CapturedBlocks.{blocks_total}
 use Rattle.dvd_top.proofs.ConvertedBlocks.{some_opening}
-use Rattle.dvd_top.proofs.Repaired.{captured-received}
+use Rattle.dvd_top.proofs.BorneBlocks.{captured-received}
 use Rattle.dvd_capture.proofs.ListedWritten.{some_spelling}
 use Rattle.dvd_top.proofs.CdSectors.{read_some}
 use Rattle.dvd_top.proofs.Determined.{length-captured_marks, length-captured_rows}

@@ -7,7 +7,7 @@ use Rattle.std.proofs.lemmas.Bool.Decides.{nat_tests}
 use Rattle.gf_field.specs.Words.{IsCodeword, IsNear}
 use Rattle.rs_decode.specs.Errors.{error_count}
 use Rattle.rs_decode.specs.Filling.{marked}
-use Rattle.rs_decode.proofs.Nearness.{cost-parts}
+use Rattle.rs_decode.proofs.ErrorsFound.{cost-parts}
 
 -- one place's share
 pub error_at : Bool → ℕ → ℕ → ℕ

@@ -13,7 +13,7 @@ use Rattle.rs_decode.specs.Filling.{IsFilling, HasNoFilling, AgreeUnmarked, mark
 use Rattle.rs_decode.specs.Inner.Places.{picked, patched}
 use Rattle.rs_decode.specs.Inner.Sums.{HasSums}
 use Rattle.rs_decode.proofs.Marks.{All-picked, length-picked}
-use Rattle.rs_decode.proofs.Near.{distance-unmarked}
+use Rattle.rs_decode.proofs.OneNear.{distance-unmarked}
 
 -- ---- the points of marked places differ
 

@@ -10,7 +10,7 @@ use Rattle.rs_code.proofs.PowerSums.{length-points_of}
 use Rattle.rs_code.proofs.Values.{value-nil, value-cons}
 use Rattle.rs_decode.specs.Inner.Locator.{with_zeros}
 use Rattle.rs_decode.proofs.Marks.{get_or-points_of}
-use Rattle.rs_decode.proofs.Nearness.{get_or-with_zeros, length-with_zeros}
+use Rattle.rs_decode.proofs.ErrorsFound.{get_or-with_zeros, length-with_zeros}
 
 -- marks that are right at each place are the marks with the zeros
 pub with_zeros-from_places : (locator : List ℕ) (marks after : List Bool)

@@ -1,6 +1,6 @@
 //! What holds of every received word of at most 255 bytes, and of every list that registers generate: each function's
 //! contract is one law, and its body is empty.
-#![tactic(auto, using(crate::proofs::Near::laws))]
+#![tactic(auto, using(crate::proofs::OneNear::laws))]
 
 ghost use Rattle.rs_decode.specs.Laws.{NearCodewordIsOnlyOne, NearCodewordIsFound, FillingIsOnlyOne, FillingIsNear, ShortestRegisterIsOnlyOne};
 

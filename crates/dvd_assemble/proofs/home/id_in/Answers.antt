@@ -2,7 +2,7 @@
 use Rattle.std.proofs.Common.{rules, ◌≡◌, ◌∙◌, ℕ, Some, None, sym, ap, arith, if◌then◌else◌, Bool}
 use Rattle.std.specs.Option.{option_and_then}
 use Rattle.rs_decode.specs.Nearest.{near_of}
-use Rattle.rs_decode.proofs.Nearest.{near_of-some, none-near_of}
+use Rattle.rs_decode.proofs.NearSearch.{near_of-some, none-near_of}
 use Rattle.dvd_frame.specs.Frame.{found_word}
 use Rattle.dvd_assemble.specs.Home.{checked_word, word_in}
 use Rattle.dvd_assemble.proofs.home.id_in.Goals as goal

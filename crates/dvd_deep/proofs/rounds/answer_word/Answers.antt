@@ -1,6 +1,6 @@
 -- The proof of `answer_word` in src/rounds.rt.
 use Rattle.std.proofs.Common.{◌∙◌, unwrap_or, is_some, sym, ap, arith}
-use Rattle.rs_decode.proofs.Nearest.{near_of-some, none-near_of}
+use Rattle.rs_decode.proofs.NearSearch.{near_of-some, none-near_of}
 use Rattle.dvd_deep.proofs.rounds.answer_word.Goals as goal
 
 pub returns-in-Ok-clause-answered : goal.returns-in-Ok-clause-answered

@@ -1,6 +1,6 @@
 -- The proof of `decode_column` in src/columns.rt.
 use Rattle.std.proofs.Common.{◌∙◌, sym, ap, length, arith}
-use Rattle.rs_decode.proofs.Nearest.{near_of-some, none-near_of}
+use Rattle.rs_decode.proofs.NearSearch.{near_of-some, none-near_of}
 use Rattle.dvd_read.proofs.columns.decode_column.Goals as goal
 
 pub returns-in-Ok : goal.returns-in-Ok

@@ -1,6 +1,6 @@
 -- The proof of `answer_row` in src/rows.rt.
 use Rattle.std.proofs.Common.{arith}
-use Rattle.rs_decode.proofs.Nearest.{near_of-some, none-near_of}
+use Rattle.rs_decode.proofs.NearSearch.{near_of-some, none-near_of}
 use Rattle.dvd_read.proofs.rows.answer_row.Goals as goal
 
 pub returns-in-Ok : goal.returns-in-Ok

@@ -4,7 +4,7 @@ use Rattle.std.proofs.lemmas.List.{length-replicate}
 use Rattle.gf_field.specs.Words.{IsNear}
 use Rattle.rs_decode.specs.Errors.{HasNoneNear, error_count}
 use Rattle.rs_decode.specs.Filling.{marked}
-use Rattle.rs_decode.proofs.Nearest.{near_of-some, none-near_of}
+use Rattle.rs_decode.proofs.NearSearch.{near_of-some, none-near_of}
 use Rattle.dvd_read.proofs.rows.answer_unmarked.Goals as goal
 
 pub returns-in-Ok : goal.returns-in-Ok

@@ -3,7 +3,7 @@ use Rattle.std.proofs.Common.{◌∙◌, ap, rules}
 use Rattle.dvd_capture.specs.Laws.{HasNumbers}
 use Rattle.dvd_top.specs.Opening.{shape_number}
 use Rattle.dvd_top.proofs.Headers.{broken_by, lawful_by, stated_by, zones_for}
-use Rattle.dvd_top.proofs.Opened.{length-header}
+use Rattle.dvd_top.proofs.OneHeader.{length-header}
 use Rattle.dvd_top.proofs.opening.layout_of.Goals as goal
 
 pub returns-in-Ok : goal.returns-in-Ok

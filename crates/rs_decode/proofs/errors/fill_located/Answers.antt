@@ -8,8 +8,8 @@ use Rattle.rs_decode.specs.Filling.{IsFilling}
 use Rattle.rs_decode.specs.Inner.Locator.{with_zeros}
 use Rattle.rs_decode.specs.Register.{Generates, IsLeast}
 use Rattle.rs_decode.proofs.Fillings.{points-few}
-use Rattle.rs_decode.proofs.Near.{filling_once}
-use Rattle.rs_decode.proofs.Nearness.{located-by_shortest}
+use Rattle.rs_decode.proofs.OneNear.{filling_once}
+use Rattle.rs_decode.proofs.ErrorsFound.{located-by_shortest}
 use Rattle.rs_decode.proofs.Zeros.{with_zeros-one}
 use Rattle.rs_decode.proofs.errors.fill_located.Goals as goal
 use Rattle.rs_decode.proofs.errors.fill_located.Goals.{After-shortest-locator, Then-locator-eq0}

@@ -1,5 +1,5 @@
 -- The proof of the law `filling_is_near` in src/laws.rt.
-use Rattle.rs_decode.proofs.Near.{filling_near}
+use Rattle.rs_decode.proofs.OneNear.{filling_near}
 use Rattle.rs_decode.proofs.laws.filling_is_near.Goals as goal
 
 pub returns : goal.returns

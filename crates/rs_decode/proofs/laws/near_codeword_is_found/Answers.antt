@@ -1,5 +1,5 @@
 -- The proof of the law `near_codeword_is_found` in src/laws.rt.
-use Rattle.rs_decode.proofs.Nearest.{near_of-is_near, near_of-some}
+use Rattle.rs_decode.proofs.NearSearch.{near_of-is_near, near_of-some}
 use Rattle.rs_decode.proofs.laws.near_codeword_is_found.Goals as goal
 
 pub returns : goal.returns

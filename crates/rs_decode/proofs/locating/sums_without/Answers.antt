@@ -2,7 +2,7 @@
 use Rattle.std.proofs.Common.{◌≡◌, ◌-◌, length, length-take, sym, ap, subst, arith}
 use Rattle.rs_code.proofs.Generator.{refill-same}
 use Rattle.rs_decode.specs.Inner.Sums.{AreSums}
-use Rattle.rs_decode.proofs.Masking.{AreSums-all, AreSums-next}
+use Rattle.rs_decode.proofs.MarksTakenOut.{AreSums-all, AreSums-next}
 use Rattle.rs_decode.proofs.locating.sums_without.Goals as goal
 
 pub loop-point-init : goal.loop-point-init

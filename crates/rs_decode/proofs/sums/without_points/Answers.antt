@@ -1,7 +1,7 @@
 -- The proof of `without_points` in src/sums.rt.
 use Rattle.std.proofs.Common.{◌≡◌, ◌-◌, ◌∙◌, ap, sym, subst, length, take, arith}
 use Rattle.rs_decode.specs.Inner.Sums.{AreSums}
-use Rattle.rs_decode.proofs.Masking.{AreSums-all, AreSums-next_lanes}
+use Rattle.rs_decode.proofs.MarksTakenOut.{AreSums-all, AreSums-next_lanes}
 use Rattle.rs_decode.proofs.sums.without_points.Goals as goal
 
 pub loop-point-init : goal.loop-point-init

@@ -5,7 +5,7 @@ use Rattle.dvd_loop.proofs.TurnLemmas.{err_is}
 use Rattle.dvd_report.proofs.Answered.{blocks-counted}
 use Rattle.dvd_top.specs.Commands.Survey.{found_in}
 use Rattle.dvd_top.proofs.CapturedTurns.{captured_done, captured_short}
-use Rattle.dvd_top.proofs.Lengths.{plan-few}
+use Rattle.dvd_top.proofs.PlanLengths.{plan-few}
 use Rattle.dvd_top.proofs.PlanEntries.{has_numbers}
 use Rattle.dvd_top.proofs.SurveyBlocks.{length-found, line_done, next_stands}
 use Rattle.dvd_top.proofs.TwoSteps.{done_as}

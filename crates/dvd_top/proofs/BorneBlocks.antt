@@ -43,7 +43,7 @@ use Rattle.dvd_top.proofs.CapturedParts.{whole_enough}
 use Rattle.dvd_top.proofs.DeepBlocks.{told_none}
 use Rattle.dvd_top.proofs.EntryBlocks.{done_at, of_image}
 use Rattle.dvd_top.proofs.PlanEntries.{has_numbers}
-use Rattle.dvd_top.proofs.Repairs.{data_block-made, few-sectors, sector, sectors_list, written-image}
+use Rattle.dvd_top.proofs.ImageInBlocks.{data_block-made, few-sectors, sector, sectors_list, written-image}
 
 -- row i of the bytes of a block
 row_in : Form → List ℕ → ℕ → List ℕ

@@ -20,7 +20,7 @@ use Rattle.dvd_read.specs.Made.{IsMadeOf}
 use Rattle.dvd_top.specs.Commands.Master.{cpr_in, filled, frames_of, main_for}
 use Rattle.dvd_top.specs.Inner.Performing.{sectors_out}
 use Rattle.dvd_top.proofs.BlockFrames.{line-frames_of}
-use Rattle.dvd_top.proofs.Recovered.{sectors_more}
+use Rattle.dvd_top.proofs.SectorsWritten.{sectors_more}
 
 -- sector f of these bytes
 abbrev pub sector : List ℕ → ℕ → List ℕ

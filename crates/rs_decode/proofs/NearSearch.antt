@@ -11,7 +11,7 @@ use Rattle.gf_field.specs.Words.{IsByte, IsCodeword, IsNear, value, cost}
 use Rattle.rs_decode.specs.Errors.{HasNoneNear}
 use Rattle.rs_decode.specs.Filling.{AgreeUnmarked}
 use Rattle.rs_decode.specs.Nearest.{all_words, is_near, near_of, vanishes_at_all}
-use Rattle.rs_decode.proofs.Near.{cost-alike, near_once}
+use Rattle.rs_decode.proofs.OneNear.{cost-alike, near_once}
 
 -- x is an element of a list
 abbrev Member : {X : Type 0} → List X → X → Type 0

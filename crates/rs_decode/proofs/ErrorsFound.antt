@@ -24,7 +24,7 @@ use Rattle.rs_decode.specs.Inner.Sums.{AreSums}
 use Rattle.rs_decode.specs.Inner.Places.{picked}
 use Rattle.rs_decode.proofs.Combinations.{length-at_points, All-at_points, get_or-at_points, weight-at_points}
 use Rattle.rs_decode.proofs.Locators.{shortest-few, power_sum-generated}
-use Rattle.rs_decode.proofs.Masking.{distances-byte, distances-marked, distances-unmarked, weight-error_count}
+use Rattle.rs_decode.proofs.MarksTakenOut.{distances-byte, distances-marked, distances-unmarked, weight-error_count}
 use Rattle.rs_decode.proofs.Roots.{zeros_among, few_zeros}
 
 -- an unmarked place costs two where it has an error, and nothing else
