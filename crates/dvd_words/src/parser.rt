@@ -1,8 +1,9 @@
 //! The clap command of each command of the program.
 
-ghost use Rattle.std.specs.Prelude.{◌≡◌, [], ◌∷◌, codes, false, None, Some, IfOk, map, string_bytes};
+ghost use Rattle.std.specs.Prelude.{◌≡◌, [], ◌∷◌, ◌++◌, codes, false, true, None, Some, IfOk, map, string_bytes};
 ghost use Rattle.clap.specs.Words.{app_of, found_of, rows_of, with_rule};
-ghost use Rattle.dvd_words.specs.Apps.{app_for, app_named, app_with, cd_options, disk_options, layout_options, option_rule};
+ghost use Rattle.dvd_words.specs.Apps.{app_for, app_named, app_with, disk_options, option_rule};
+ghost use Rattle.dvd_words.specs.Inner.Options.{with_options};
 ghost use Rattle.dvd_words.specs.Reading.{rows_for};
 
 use crate::fault::WordsFault;
@@ -32,90 +33,54 @@ fn parser_for<'a>(alloc: Global, command: Command) -> Result<clap::Command<'a>, 
     ensures { IfOk result (λ parser. app_of parser ≡ app_for command) }
 {
     match command {
-        Command::Frames => {
-            let parser = with_option(alloc, bare_parser(alloc, "frames"), "first", true)?;
-            with_option(alloc, parser, "sectors", true)
-        }
-        Command::Master => with_option(alloc, layout_parser(alloc, "master", true)?, "cpr", false),
-        Command::Recover => with_option(
-            alloc,
-            layout_parser(alloc, "recover", false)?,
-            "form",
-            false,
-        ),
-        Command::Survey => with_option(
-            alloc,
-            layout_parser(alloc, "survey", false)?,
-            "form",
-            false,
-        ),
-        Command::Exercise => {
-            let parser = with_option(alloc, bare_parser(alloc, "exercise"), "seed", true)?;
-            let parser = with_option(alloc, parser, "blocks", true)?;
-            with_option(alloc, parser, "workers", false)
-        }
-        Command::Info => {
-            let parser = with_option(alloc, bare_parser(alloc, "info"), "initial", false)?;
-            with_option(alloc, parser, "form", false)
-        }
-        Command::CdMake => cd_parser(alloc, "cdmake"),
-        Command::CdRead => cd_parser(alloc, "cdread"),
+        Command::Frames => plain_parser(alloc, "frames", &["first", "sectors"], &[]),
+        Command::Master => disk_parser(alloc, "master", true, &["workers", "cpr"]),
+        Command::Recover => disk_parser(alloc, "recover", false, &["workers", "form"]),
+        Command::Survey => disk_parser(alloc, "survey", false, &["workers", "form"]),
+        Command::Exercise => plain_parser(alloc, "exercise", &["seed", "blocks"], &["workers"]),
+        Command::Info => plain_parser(alloc, "info", &[], &["initial", "form"]),
+        Command::CdMake => plain_parser(alloc, "cdmake", &["address", "sectors"], &[]),
+        Command::CdRead => plain_parser(alloc, "cdread", &["address", "sectors"], &[]),
         Command::Merge => {
-            let parser = with_option(alloc, disk_parser(alloc, "merge", true)?, "form", false)?;
+            let parser = disk_parser(alloc, "merge", true, &["form"])?;
             with_option(alloc, parser, "captures", true)
         }
-        Command::Deep => with_option(alloc, disk_parser(alloc, "deep", false)?, "form", false),
-        Command::Convert => with_option(alloc, disk_parser(alloc, "convert", true)?, "form", false),
+        Command::Deep => disk_parser(alloc, "deep", false, &["form"]),
+        Command::Convert => disk_parser(alloc, "convert", true, &["form"]),
         Command::Assemble => {
-            let parser = with_option(alloc, bare_parser(alloc, "assemble"), "sectors", true)?;
-            let parser = with_option(alloc, parser, "frames", true)?;
-            let parser = with_option(alloc, parser, "sectors1", false)?;
-            let parser = with_option(alloc, parser, "shape", false)?;
-            with_option(alloc, parser, "form", false)
+            let optional = &["sectors1", "shape", "form"];
+            plain_parser(alloc, "assemble", &["sectors", "frames"], optional)
         }
     }
 }
 
-// A command with the options that tell of a layout, and of how many threads work.
-fn layout_parser<'a>(
+// A command with the options that it needs, and those that it may have.
+fn plain_parser<'a>(
     alloc: Global,
     name: &'a str,
-    needs_sectors: bool,
+    required: &[&'a str],
+    optional: &[&'a str],
 ) -> Result<clap::Command<'a>, AllocError>
-    ensures { IfOk result (λ parser. app_of parser
-        ≡ app_with name.now (option_rule needs_sectors (codes "sectors") ∷ map (option_rule false) layout_options)) }
+    ensures { IfOk result (λ parser. app_of parser ≡ app_named name.now (map (λ r. r.now) required.now) (map (λ o. o.now) optional.now)) }
 {
-    with_option(
-        alloc,
-        disk_parser(alloc, name, needs_sectors)?,
-        "workers",
-        false,
-    )
+    let parser = with_options(alloc, bare_parser(alloc, name), required, true)?;
+    with_options(alloc, parser, optional, false)
 }
 
-// A command with the options that tell of a layout, the first of which it may need.
+// A command with the options that tell of a layout, the first of which it may need, and others that it may have.
 fn disk_parser<'a>(
     alloc: Global,
     name: &'a str,
     needs_sectors: bool,
+    others: &[&'a str],
 ) -> Result<clap::Command<'a>, AllocError>
     ensures { IfOk result (λ parser. app_of parser
-        ≡ app_with name.now (option_rule needs_sectors (codes "sectors") ∷ map (option_rule false) disk_options)) }
+        ≡ app_with name.now (option_rule needs_sectors (codes "sectors") ∷ map (option_rule false) (disk_options ++ map (λ o. o.now) others.now))) }
 {
+    let layout = &["sectors1", "shape", "zones", "initial", "tail"];
     let parser = with_option(alloc, bare_parser(alloc, name), "sectors", needs_sectors)?;
-    let parser = with_option(alloc, parser, "sectors1", false)?;
-    let parser = with_option(alloc, parser, "shape", false)?;
-    let parser = with_option(alloc, parser, "zones", false)?;
-    let parser = with_option(alloc, parser, "initial", false)?;
-    with_option(alloc, parser, "tail", false)
-}
-
-// A command with the options that tell which CD-ROM sectors there are.
-fn cd_parser<'a>(alloc: Global, name: &'a str) -> Result<clap::Command<'a>, AllocError>
-    ensures { IfOk result (λ parser. app_of parser ≡ app_named name.now cd_options []) }
-{
-    let parser = with_option(alloc, bare_parser(alloc, name), "address", true)?;
-    with_option(alloc, parser, "sectors", true)
+    let parser = with_options(alloc, parser, layout, false)?;
+    with_options(alloc, parser, others, false)
 }
 
 // A command with no options, no flag for help either.
@@ -139,4 +104,20 @@ fn with_option<'a>(
         .required(is_required)
         .action(ArgAction::Set);
     parser.arg(option)
+}
+
+// The command with these options more.
+fn with_options<'a>(
+    alloc: Global,
+    parser: clap::Command<'a>,
+    names: &[&'a str],
+    are_required: bool,
+) -> Result<clap::Command<'a>, AllocError>
+    ensures { IfOk result (λ r. app_of r ≡ with_options are_required (app_of parser.entry) (map (λ name. name.now) names.now)) }
+{
+    let mut parser = parser;
+    for name in names {
+        parser = with_option(alloc, parser, *name, are_required)?;
+    }
+    Ok(parser)
 }
