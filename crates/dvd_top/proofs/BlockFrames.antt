@@ -4,7 +4,7 @@ use Rattle.std.proofs.lemmas.List.FromFn.{get_or-map-range_with_len}
 use Rattle.dvd_block.specs.Product.{line, place, IsProduct, HoldsFrame, IsBlockOf}
 use Rattle.dvd_layout.specs.declared.entry.BlockPlan.{BlockPlan}
 use Rattle.dvd_layout.specs.declared.layout.Layout.{Layout}
-use Rattle.dvd_top.specs.Commands.Master.{frame_of, frames_of}
+use Rattle.dvd_top.specs.Commands.Master.{frame_for, frames_of}
 
 -- a frame stays where the rows of another are written
 pub holds_other : (g f : ℕ) (frame : List ℕ) (old new : List (List ℕ)) → g < f
@@ -21,13 +21,13 @@ holds_kept g frame old new lt kept holds q p few within = kept (12 * g + q) p (o
 
 -- frame f of those of a block
 pub line-frames_of : (layout : Layout) (entry : BlockPlan) (cpr sectors : List ℕ) (f : ℕ) → f < 16
-    → line (frames_of layout entry cpr sectors) f ≡ frame_of layout entry cpr sectors f
+    → line (frames_of layout entry cpr sectors) f ≡ frame_for layout entry cpr sectors f
 unfolding frames_of
-line-frames_of layout entry cpr sectors f lt = get_or-map-range_with_len (frame_of layout entry cpr sectors) 0 16 f f [] lt (omega arith)
+line-frames_of layout entry cpr sectors f lt = get_or-map-range_with_len (frame_for layout entry cpr sectors) 0 16 f f [] lt (omega arith)
 
 -- a product code block that holds the sixteen frames is their block
 pub block_of : (layout : Layout) (entry : BlockPlan) (cpr sectors : List ℕ) (block : List (List ℕ)) → IsProduct block
-    → ((f : ℕ) → f < 16 → HoldsFrame f (frame_of layout entry cpr sectors f) block) → IsBlockOf (frames_of layout entry cpr sectors) block
+    → ((f : ℕ) → f < 16 → HoldsFrame f (frame_for layout entry cpr sectors f) block) → IsBlockOf (frames_of layout entry cpr sectors) block
 block_of layout entry cpr sectors block product holds = record {
   product = product;
   holds = λ f lt. subst (λ frame. HoldsFrame f frame block) (sym (line-frames_of layout entry cpr sectors f lt)) (holds f lt);

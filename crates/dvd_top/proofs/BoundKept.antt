@@ -23,7 +23,7 @@ use Rattle.dvd_loop.specs.declared.ends.Turn.{Turn}
 use Rattle.dvd_loop.specs.declared.ends.Turn.TheVariants.{Good}
 use Rattle.dvd_loop.proofs.Apart.{takes_unit}
 use Rattle.dvd_loop.proofs.Faultless.{all_done}
-use Rattle.dvd_top.specs.Bound.{IsBorne, IsRescued, KeepsBound, Rescues, image_part}
+use Rattle.dvd_top.specs.Bound.{IsBorneBlock, IsRescued, KeepsBound, Rescues, image_part}
 use Rattle.dvd_top.specs.Captured.{HasBlocks, block_bytes, from_block}
 use Rattle.dvd_top.specs.Commands.{meaning}
 use Rattle.dvd_top.specs.Commands.Deep.{IsDeepened}
@@ -64,7 +64,7 @@ part_there a n before part out at size (left, is) =
 -- what may be done for a block that is borne, where damage within the bound is repaired
 alone : (Does : Layout → Zones → Form → ℕ → List ℕ → List Step → Turn → Type 0) → RepairsBy Does
     → (layout : Layout) (zones : Zones) (form : Form) (bytes cpr image : List ℕ) (k : ℕ) (entry : BlockPlan)
-    → IsBorne layout zones form bytes cpr image k entry
+    → IsBorneBlock layout zones form bytes cpr image k entry
     → (steps : List Step) (turn : Turn) → Does layout zones form k (block_bytes form bytes k) steps turn
     → (steps ≡ Write (image_part layout entry image) ∷ []) × (turn ≡ Good)
 alone Does repairs layout zones form bytes cpr image k entry b steps turn does =
@@ -112,7 +112,7 @@ module _ (layout : Layout) (zones : Zones) (form : Form) (May : ℕ → List ℕ
       }
 
   -- Where its image sectors alone may be written of a block that is borne, they stand at their place.
-  module _ (cpr image : List ℕ) (bytes : List ℕ) (k : ℕ) (entry : BlockPlan) (b : IsBorne layout zones form bytes cpr image k entry)
+  module _ (cpr image : List ℕ) (bytes : List ℕ) (k : ℕ) (entry : BlockPlan) (b : IsBorneBlock layout zones form bytes cpr image k entry)
       (alone : (steps : List Step) (turn : Turn) → May k (block_bytes form bytes k) steps turn → (steps ≡ Write (image_part layout entry image) ∷ []) × (turn ≡ Good)) where
     -- in a run that no fault ended, the image sectors of the block are written where they stand in the image
     at_place : (a : Outcome) → IsOutcome (block_units layout zones form May) bytes a → IsFaultless a.end
@@ -151,7 +151,7 @@ closed_loop command May within outcome c none =
 -- the bound is kept by units that write, of a block that is borne, its image sectors alone
 units_keep : (settings : Settings) (command : Command) (bytes : List ℕ) (outcome loop : Outcome) (layout : Layout) → IsLayoutOf settings layout
     → ((k : ℕ) (own : List ℕ) (steps : List Step) (turn : Turn) → IsRescued command layout settings.zones settings.form k own steps turn → IsWide (bytes_of_block layout settings.zones k) steps turn)
-    → ((cpr image : List ℕ) (k : ℕ) (entry : BlockPlan) → IsBorne layout settings.zones settings.form bytes cpr image k entry
+    → ((cpr image : List ℕ) (k : ℕ) (entry : BlockPlan) → IsBorneBlock layout settings.zones settings.form bytes cpr image k entry
     → (steps : List Step) (turn : Turn) → IsRescued command layout settings.zones settings.form k (block_bytes settings.form bytes k) steps turn
     → (steps ≡ Write (image_part layout entry image) ∷ []) × (turn ≡ Good))
     → settings.command ≡ command

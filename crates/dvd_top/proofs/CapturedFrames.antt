@@ -17,7 +17,7 @@ use Rattle.dvd_layout.specs.declared.layout.Zones.TheVariants.{DataOnly}
 use Rattle.dvd_assemble.specs.Mastered.{AreNamed, NamesItsFrames, word_for}
 use Rattle.dvd_assemble.proofs.Homes.{some_entry, word-at, word_of}
 use Rattle.dvd_assemble.proofs.Mastered.{agree, come_home}
-use Rattle.dvd_top.specs.Commands.Master.{filled, frame_of, frames_of}
+use Rattle.dvd_top.specs.Commands.Master.{filled, frame_for, frames_of}
 use Rattle.dvd_top.specs.Laws.{CapturedFramesAreAssembled}
 use Rattle.dvd_top.proofs.BlockFrames.{line-frames_of}
 
@@ -65,7 +65,7 @@ names layout cpr sectors k entry block stands is = record { product = is.product
         word-at layout k f some_entry within below
         ∙ ap (λ (e : BlockPlan). word_of layout e f) (get_or_from_slice_get (plan_of layout DataOnly) k entry some_entry stands)
 
-    holds : (f : ℕ) → f < 16 → HoldsFrame f (frame_of layout entry cpr sectors f) block
+    holds : (f : ℕ) → f < 16 → HoldsFrame f (frame_for layout entry cpr sectors f) block
     holds f below = subst (λ (frame : List ℕ). HoldsFrame f frame block) (line-frames_of layout entry cpr sectors f below) (is.holds f below)
 
     named : (f : ℕ) → f < 16 → take 6 (line block (12 * f)) ≡ word_bytes (word_for layout k f) ++ ied_of (word_for layout k f)

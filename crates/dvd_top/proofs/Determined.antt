@@ -41,7 +41,7 @@ use Rattle.dvd_top.specs.Commands.CdMake.{cdmake_units}
 use Rattle.dvd_top.specs.Commands.CdRead.{cdread_units}
 use Rattle.dvd_top.specs.Commands.Exercise.{exercise_units}
 use Rattle.dvd_top.specs.Commands.Frames.{frames_units, sector_frame}
-use Rattle.dvd_top.specs.Commands.Info.{IsAnswer, IsAsked, IsControlDone, IsNoAnswer, IsSought, format_lines, info_units}
+use Rattle.dvd_top.specs.Commands.Info.{GivesFormat, IsAsked, IsControlDone, GivesNoFormat, IsSought, format_lines, info_units}
 use Rattle.dvd_top.specs.Commands.Master.{IsMastered, filled, frames_of, master_units}
 use Rattle.dvd_capture.specs.TwoPass.{answers_of}
 use Rattle.dvd_deep.proofs.Readings.{deep-no_cause, deep-once}
@@ -202,14 +202,14 @@ deepened_is_one layout zones form k =
 -- INFO. A block answers with one format or with none.
 module _ (entry : BlockPlan) (rows : List (List ℕ)) (marks : List (List Bool)) (size : length rows ≡ 208) (marks_size : length marks ≡ 208) where
   -- the format that a block of control data answers with is one
-  answer_is_one : MayOne (IsAnswer entry rows marks)
+  answer_is_one : MayOne (GivesFormat entry rows marks)
   answer_is_one steps others turn other p q =
       let sectors : p.sectors ≡ q.sectors =
       (read-determined rows marks entry p.sectors size marks_size p.read).1 ∙ sym (read-determined rows marks entry q.sectors size marks_size q.read).1 in
       (p.writes ∙ ap (λ s. Write (format_lines (fields_in (line s 0))) ∷ []) sectors ∙ sym q.writes, p.last ∙ sym q.last)
 
   -- a block that answers has neither a cause nor a broken format, so that it isn't one without an answer
-  not_answered : (steps others : List Step) (turn other : Turn) → IsAnswer entry rows marks steps turn → IsNoAnswer entry rows marks others other → ⊥
+  not_answered : (steps others : List Step) (turn other : Turn) → GivesFormat entry rows marks steps turn → GivesNoFormat entry rows marks others other → ⊥
   not_answered steps others turn other p q = elim q.why [
     | inl (cause, first) ↦ (let no : None ≡ Some cause = sym (read-determined rows marks entry p.sectors size marks_size p.read).0 ∙ first in cc)
     | inr (sectors, fault, read, broken) ↦

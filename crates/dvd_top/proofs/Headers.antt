@@ -12,7 +12,7 @@ use Rattle.dvd_layout.specs.declared.layout.Zones.TheVariants.{DataOnly, All}
 use Rattle.dvd_loop.specs.Streams.{HaveCauses, Streams}
 use Rattle.dvd_loop.specs.declared.ends.LoopEnd.TheVariants as ends
 use Rattle.dvd_top.specs.HeaderEnds.{AnswersHeader, end_in, with_layout}
-use Rattle.dvd_top.specs.Opening.{BreaksHeader, IsHeaderOf, place_of, shape_number, zones_number}
+use Rattle.dvd_top.specs.Opening.{BreaksHeader, IsHeaderOf, fault_byte, shape_number, zones_number}
 use Rattle.dvd_top.specs.declared.opening.HeaderEnd.{HeaderEnd}
 use Rattle.dvd_top.specs.declared.opening.HeaderEnd.TheVariants as found
 use Rattle.dvd_words.specs.Settings.{broken_rule}
@@ -40,7 +40,7 @@ module _ (header : Header) (numbers : HasNumbers header) (zones : Zones) (zones_
   -- and where no layout has them, the header breaks a rule
   pub broken_by : (shape : Shape) (fault : LayoutFault) → shape_number shape ≡ header.shape
       → first_fault shape header.sectors0 header.sectors1 header.initial header.tail ≡ Some fault
-      → (at : ℕ) → at ≡ place_of fault → (settings : Settings) → BreaksHeader settings (header_bytes header) at
+      → (at : ℕ) → at ≡ fault_byte fault → (settings : Settings) → BreaksHeader settings (header_bytes header) at
   broken_by shape fault shape_is broken at place settings =
       let stated : Settings = record settings {
         shape = shape;

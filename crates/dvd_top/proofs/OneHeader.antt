@@ -14,7 +14,7 @@ use Rattle.dvd_layout.specs.declared.layout.Zones.{Zones}
 use Rattle.dvd_layout.specs.declared.layout.Zones.TheVariants.{DataOnly, All as AllZones}
 use Rattle.dvd_words.specs.Settings.{broken_rule}
 use Rattle.dvd_words.specs.declared.settings.Settings.{Settings}
-use Rattle.dvd_top.specs.Opening.{BreaksHeader, IsHeaderOf, place_of, shape_number, zones_number}
+use Rattle.dvd_top.specs.Opening.{BreaksHeader, IsHeaderOf, fault_byte, shape_number, zones_number}
 
 -- a header has 32 bytes
 pub length-header : (header : Header) → length (header_bytes header) ≡ 32
@@ -96,7 +96,7 @@ breaks_once settings own a b p q = elim p [
     | inr (others, second, so, breaks, place) ↦
         let same : Some fault ≡ Some second = sym broken ∙ ap broken_rule (stated_once settings stated others own is so) ∙ breaks in
         let one : fault ≡ second = cc in
-        at ∙ ap place_of one ∙ sym place
+        at ∙ ap fault_byte one ∙ sym place
   ]
 ]
 

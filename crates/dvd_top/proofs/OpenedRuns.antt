@@ -20,7 +20,7 @@ use Rattle.dvd_loop.proofs.Fronts.{same_front, same_left}
 use Rattle.dvd_loop.proofs.Totality.{Exists}
 use Rattle.dvd_words.specs.Settings.{broken_rule}
 use Rattle.dvd_words.specs.declared.settings.Settings.{Settings}
-use Rattle.dvd_top.specs.Opening.{Behind, BreaksHeader, IsHeaderOf, IsOpened, Opens, place_of, shape_number}
+use Rattle.dvd_top.specs.Opening.{Behind, BreaksHeader, IsHeaderOf, IsOpened, Opens, fault_byte, shape_number}
 use Rattle.dvd_top.proofs.FrameBytes.{IsByte}
 use Rattle.dvd_top.proofs.Headers.{zones_for}
 use Rattle.dvd_top.proofs.OneHeader.{breaks_once, breaks_or_states, header-size, stated_once}
@@ -316,13 +316,13 @@ module _ (Loops : Runs) (settings : Settings) (bytes : List ℕ) (are : All IsBy
       → IsHeaderOf settings stated own
       → (broken : Option LayoutFault) → broken_rule stated ≡ broken → Exists (IsOpened Loops settings bytes)
   onto_exists own left front full rest stated header (Some fault) broken = (
-    taking own (ended (BadHeader (place_of fault))),
+    taking own (ended (BadHeader (fault_byte fault))),
     record {
       own = own;
       left = left;
       front = front;
-      after = ended (BadHeader (place_of fault));
-      comes = inr (full, inl (place_of fault, inr (stated, fault, header, broken, refl), refl));
+      after = ended (BadHeader (fault_byte fault));
+      comes = inr (full, inl (fault_byte fault, inr (stated, fault, header, broken, refl), refl));
       takes = refl;
     },
     tt,

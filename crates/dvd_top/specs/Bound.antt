@@ -57,12 +57,12 @@ pub record WasMastered (layout : Layout) (zones : Zones) (form : Form) (bytes cp
   pub block : List (List ℕ)
   pub is_block : IsBlockOf (frames_of layout entry cpr (filled (image_part layout entry image))) block
 
--- Its damage is within the bound: twice the bad rows plus the lost rows is at most 16.
-pub record IsBorne (layout : Layout) (zones : Zones) (form : Form) (bytes cpr image : List ℕ) (k : ℕ) (entry : BlockPlan) : Type 0 where
+-- It was mastered so, and its damage is within the bound: twice the bad rows plus the lost rows is at most 16.
+pub record IsBorneBlock (layout : Layout) (zones : Zones) (form : Form) (bytes cpr image : List ℕ) (k : ℕ) (entry : BlockPlan) : Type 0 where
   pub mastered : WasMastered layout zones form bytes cpr image k entry
   pub within : IsWithin mastered.block (captured_rows form (block_bytes form bytes k)) (captured_marks form (block_bytes form bytes k))
 
--- Two passes refuse it.
+-- It was mastered so, and two passes refuse it.
 pub record IsBeyond (layout : Layout) (zones : Zones) (form : Form) (bytes cpr image : List ℕ) (k : ℕ) (entry : BlockPlan) : Type 0 where
   pub mastered : WasMastered layout zones form bytes cpr image k entry
   pub cause : Cause
@@ -83,8 +83,8 @@ pub record KeepsGoodFrames (settings : Settings) (bytes : List ℕ) (outcome : O
 pub record KeepsBound (settings : Settings) (bytes : List ℕ) (outcome : Outcome) : Type 0 where
   pub layout : Layout
   pub is_layout : IsLayoutOf settings layout
-  pub at_place : (cpr image : List ℕ) (k : ℕ) (entry : BlockPlan) → IsBorne layout settings.zones settings.form bytes cpr image k entry
+  pub at_place : (cpr image : List ℕ) (k : ℕ) (entry : BlockPlan) → IsBorneBlock layout settings.zones settings.form bytes cpr image k entry
       → take (image_bytes layout entry) (drop (2048 * image_from entry.content) outcome.out) ≡ image_part layout entry image
-  pub alone : (cpr image : List ℕ) (k : ℕ) (entry : BlockPlan) → IsBorne layout settings.zones settings.form bytes cpr image k entry
+  pub alone : (cpr image : List ℕ) (k : ℕ) (entry : BlockPlan) → IsBorneBlock layout settings.zones settings.form bytes cpr image k entry
       → (steps : List Step) (turn : Turn) → IsRescued settings.command layout settings.zones settings.form k (block_bytes settings.form bytes k) steps turn
       → (steps ≡ Write (image_part layout entry image) ∷ []) × (turn ≡ Good)

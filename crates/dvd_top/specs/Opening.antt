@@ -41,19 +41,19 @@ pub record IsStated (settings : Settings) (header : Header) (stated : Settings) 
   }
 
 -- the first byte of the field that has the sectors of a layer
-abbrev pub place_of_layer : ℕ → ℕ
-place_of_layer zero = 12
-place_of_layer (suc layer) = 16
+abbrev pub layer_byte : ℕ → ℕ
+layer_byte zero = 12
+layer_byte (suc layer) = 16
 
 -- the first byte of the field that a broken rule of layouts names
-abbrev pub place_of : LayoutFault → ℕ
-place_of (EmptyLayer layer) = place_of_layer layer
-place_of (OddLayer sectors) = 12
-place_of (SecondLayer sectors) = 16
-place_of (LayerLonger sectors) = 16
-place_of (InitialTooLong blocks) = 20
-place_of (TailTooLong blocks) = 24
-place_of (LayerTooLong layer end) = place_of_layer layer
+abbrev pub fault_byte : LayoutFault → ℕ
+fault_byte (EmptyLayer layer) = layer_byte layer
+fault_byte (OddLayer sectors) = 12
+fault_byte (SecondLayer sectors) = 16
+fault_byte (LayerLonger sectors) = 16
+fault_byte (InitialTooLong blocks) = 20
+fault_byte (TailTooLong blocks) = 24
+fault_byte (LayerTooLong layer end) = layer_byte layer
 
 -- These 32 bytes are a header that states these settings.
 pub record IsHeaderOf (settings stated : Settings) (own : List ℕ) : Type 0 where
@@ -66,7 +66,7 @@ pub record IsHeaderOf (settings stated : Settings) (own : List ℕ) : Type 0 whe
 abbrev pub BreaksHeader : Settings → List ℕ → ℕ → Type 0
 BreaksHeader settings own at =
     IsFirstWrong own at
-    ⊎ ((stated : Settings) × (fault : LayoutFault) × IsHeaderOf settings stated own × (broken_rule stated ≡ Some fault) × (at ≡ place_of fault))
+    ⊎ ((stated : Settings) × (fault : LayoutFault) × IsHeaderOf settings stated own × (broken_rule stated ≡ Some fault) × (at ≡ fault_byte fault))
 
 -- What comes behind so many bytes that were taken for the header: the input ended within it, or a read failed there; or they are
 -- a header that breaks a rule; or they state settings, and the loop runs by these.

@@ -7,7 +7,7 @@ ghost use Rattle.dvd_loop.specs.Turns.{HaveCausesFor};
 ghost use Rattle.dvd_ports.specs.Seen.{Seen};
 ghost use Rattle.dvd_top.specs.HeaderEnds.{AnswersHeader, ReadsHeader, end_in};
 ghost use Rattle.dvd_top.specs.Inner.Opened.{EndsInHeader, HasBegun, HasOpened, IsWorded, IsWordedInitial};
-ghost use Rattle.dvd_top.specs.Opening.{IsHeaderOf, place_of, place_of_layer, shape_number, zones_number};
+ghost use Rattle.dvd_top.specs.Opening.{IsHeaderOf, fault_byte, layer_byte, shape_number, zones_number};
 ghost use Rattle.dvd_capture.specs.Captured.{HasSize};
 ghost use Rattle.dvd_capture.specs.declared.form.Form.TheVariants.{Listed};
 ghost use Rattle.dvd_words.specs.Settings.{IsLayoutOf, broken_rule};
@@ -75,7 +75,7 @@ fn layout_of(header: &Header) -> HeaderEnd
             zones: zones_of(header.zones),
         },
         Err(fault) => HeaderEnd::BadHeader {
-            at: place_of(fault),
+            at: fault_byte(fault),
         },
     }
 }
@@ -138,22 +138,22 @@ fn zones_of(number: u8) -> Zones
 }
 
 // The first byte of the field that a broken rule of layouts names.
-fn place_of(fault: LayoutFault) -> u32
-    ensures { result ≡ place_of fault }
+fn fault_byte(fault: LayoutFault) -> u32
+    ensures { result ≡ fault_byte fault }
 {
     match fault {
-        LayoutFault::EmptyLayer { layer } => place_of_layer(layer),
+        LayoutFault::EmptyLayer { layer } => layer_byte(layer),
         LayoutFault::OddLayer { .. } => 12,
         LayoutFault::SecondLayer { .. } => 16,
         LayoutFault::LayerLonger { .. } => 16,
         LayoutFault::InitialTooLong { .. } => 20,
         LayoutFault::TailTooLong { .. } => 24,
-        LayoutFault::LayerTooLong { layer, .. } => place_of_layer(layer),
+        LayoutFault::LayerTooLong { layer, .. } => layer_byte(layer),
     }
 }
 
-fn place_of_layer(layer: u8) -> u32
-    ensures { result ≡ place_of_layer layer }
+fn layer_byte(layer: u8) -> u32
+    ensures { result ≡ layer_byte layer }
 {
     if layer == 0 { 12 } else { 16 }
 }

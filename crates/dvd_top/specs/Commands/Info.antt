@@ -44,7 +44,7 @@ format_lines format =
     ++ number_line (codes "bca ") (if format.bca then 1 else 0)
 
 -- A block of control data answers: it is right, its first sector is a physical format, and the lines of that are written.
-pub record IsAnswer (entry : BlockPlan) (rows : List (List ℕ)) (marks : List (List Bool)) (steps : List Step) (turn : Turn) : Type 0 where
+pub record GivesFormat (entry : BlockPlan) (rows : List (List ℕ)) (marks : List (List Bool)) (steps : List Step) (turn : Turn) : Type 0 where
   pub sectors : List (List ℕ)
   pub read : IsReadAs rows marks entry sectors
   pub lawful : control_fault (line sectors 0) ≡ None
@@ -52,7 +52,7 @@ pub record IsAnswer (entry : BlockPlan) (rows : List (List ℕ)) (marks : List (
   pub last : turn ≡ Last
 
 -- Or it answers nothing: it has a cause, or its first sector breaks a rule of physical formats.
-pub record IsNoAnswer (entry : BlockPlan) (rows : List (List ℕ)) (marks : List (List Bool)) (steps : List Step) (turn : Turn) : Type 0 where
+pub record GivesNoFormat (entry : BlockPlan) (rows : List (List ℕ)) (marks : List (List Bool)) (steps : List Step) (turn : Turn) : Type 0 where
   pub why : ((cause : Cause) × (block_cause rows marks entry ≡ Some cause))
       ⊎ ((sectors : List (List ℕ)) × (fault : ControlFault) × IsReadAs rows marks entry sectors × (control_fault (line sectors 0) ≡ Some fault))
   pub nothing : steps ≡ []
@@ -60,7 +60,7 @@ pub record IsNoAnswer (entry : BlockPlan) (rows : List (List ℕ)) (marks : List
 
 -- what is done for a block of control data
 abbrev pub IsControlDone : BlockPlan → List (List ℕ) → List (List Bool) → List Step → Turn → Type 0
-IsControlDone entry rows marks steps turn = IsAnswer entry rows marks steps turn ⊎ IsNoAnswer entry rows marks steps turn
+IsControlDone entry rows marks steps turn = GivesFormat entry rows marks steps turn ⊎ GivesNoFormat entry rows marks steps turn
 
 -- a block that holds none is passed over
 abbrev pub IsAsked : Content → BlockPlan → List (List ℕ) → List (List Bool) → List Step → Turn → Type 0

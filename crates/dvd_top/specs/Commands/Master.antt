@@ -46,14 +46,14 @@ cpr_in LeadOut cpr = replicate 6 0
 cpr_in Middle cpr = replicate 6 0
 
 -- frame f of a block
-abbrev pub frame_of : Layout → BlockPlan → List ℕ → List ℕ → ℕ → List ℕ
-frame_of layout entry cpr sectors f =
+abbrev pub frame_for : Layout → BlockPlan → List ℕ → List ℕ → ℕ → List ℕ
+frame_for layout entry cpr sectors f =
     data_frame (id_word entry.area entry.layer (has_two_layers layout.shape) (entry.first + f)) (cpr_in entry.area cpr) (rule_for entry.content f)
     (main_for entry.content layout entry sectors f)
 
 -- the sixteen frames of a block
 unfoldable pub frames_of : Layout → BlockPlan → List ℕ → List ℕ → List (List ℕ)
-frames_of layout entry cpr sectors = map (frame_of layout entry cpr sectors) (range_with_len 0 16)
+frames_of layout entry cpr sectors = map (frame_for layout entry cpr sectors) (range_with_len 0 16)
 
 -- What is done for block k of the plan: the recording of the one block of its sixteen frames is written.
 pub record IsMastered (layout : Layout) (zones : Zones) (cpr : List ℕ) (k : ℕ) (own : List ℕ) (steps : List Step) (turn : Turn) : Type 0 where

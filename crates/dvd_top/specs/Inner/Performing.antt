@@ -13,7 +13,7 @@ use Rattle.dvd_loop.specs.Machine.{EndsWithin, Step}
 use Rattle.dvd_loop.specs.Machine.Step.{Tell, Write}
 use Rattle.dvd_loop.specs.declared.ends.Turn.{Turn}
 use Rattle.dvd_loop.specs.declared.ends.Turn.TheVariants.{Bad, Good}
-use Rattle.dvd_top.specs.Commands.Info.{IsNoAnswer}
+use Rattle.dvd_top.specs.Commands.Info.{GivesNoFormat}
 use Rattle.dvd_loop.specs.Streams.{HasEnded, IsTold, Streams}
 use Rattle.dvd_loop.specs.declared.ends.LoopEnd.{LoopEnd}
 use Rattle.dvd_loop.specs.declared.ends.LoopEnd.TheVariants.{ReadFault, Short}
@@ -105,7 +105,7 @@ pub record Tells (entry : BlockPlan) (rows : List (List ℕ)) (marks : List (Lis
 
 -- or it tells none
 abbrev pub AnswersNothing : BlockPlan → List (List ℕ) → List (List Bool) → Type 0
-AnswersNothing entry rows marks = IsNoAnswer entry rows marks [] Good
+AnswersNothing entry rows marks = GivesNoFormat entry rows marks [] Good
 
 -- what is done for a block that is surveyed behind those
 pub record IsLineDone (entry : BlockPlan) (blocks : List Surveyed) (rows : List (List ℕ)) (marks : List (List Bool)) (steps : List Step) (turn : Turn) : Type 0 where

@@ -13,7 +13,7 @@ ghost use Rattle.dvd_loop.specs.Laws.{IsPlainEnd};
 ghost use Rattle.dvd_loop.specs.Machine.{IsOutcome};
 ghost use Rattle.dvd_loop.specs.Streams.{streams, HasEnded, no_stream};
 ghost use Rattle.dvd_loop.specs.Turns.{EndsShort, HaveCausesFor};
-ghost use Rattle.dvd_top.specs.Commands.Master.{cpr_in, frame_of, frames_of, image_bytes, main_for, master_units};
+ghost use Rattle.dvd_top.specs.Commands.Master.{cpr_in, frame_for, frames_of, image_bytes, main_for, master_units};
 ghost use Rattle.dvd_top.specs.Inner.Performing.{IsPerformedByWords};
 ghost use Rattle.dvd_top.specs.Inner.Workers.{IsAdder, IsParityAdded};
 ghost use Rattle.dvd_words.specs.Settings.{IsLayoutOf};
@@ -230,7 +230,7 @@ fn write_frame(
     requires entry { IsEntry layout.now entry.now }
     requires numbers { HasNumbers entry.now }
     requires frame { f < 16 }
-    ensures { frame.new ≡ frame_of layout.now entry.now cpr.now sectors.now f }
+    ensures { frame.new ≡ frame_for layout.now entry.now cpr.now sectors.now f }
 {
     let mut main = [0; 2048];
     write_main(layout, entry, sectors, f, &mut main);

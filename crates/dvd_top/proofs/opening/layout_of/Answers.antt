@@ -26,5 +26,5 @@ returns-in-Err c = λ left.
     let numbers : HasNumbers header = search rules in
     let some = zones_for header.zones header.known_zones in (
       length-header header,
-      broken_by header numbers some.0 some.1 c.shape_of.result c.in-Err.fault c.shape_of.ensures c.in-Err.ensures.refused c.place_of.result c.place_of.ensures,
+      broken_by header numbers some.0 some.1 c.shape_of.result c.in-Err.fault c.shape_of.ensures c.in-Err.ensures.refused c.fault_byte.result c.fault_byte.ensures,
     )

@@ -2,8 +2,8 @@
 use Rattle.std.proofs.Common.{ℕ, ◌<◌}
 use Rattle.dvd_block.specs.Buffers.{block_rows}
 use Rattle.dvd_block.specs.Product.{HoldsFrame}
-use Rattle.dvd_top.specs.Commands.Master.{frame_of}
+use Rattle.dvd_top.specs.Commands.Master.{frame_for}
 use Rattle.dvd_top.proofs.commands.master.fill_block.Given as goal
 
 abbrev pub invariant-loop-f : goal.invariant-loop-f
-invariant-loop-f g l = (f : ℕ) → f < l.f → HoldsFrame f (frame_of l.layout l.entry l.cpr l.sectors f) (block_rows l.block)
+invariant-loop-f g l = (f : ℕ) → f < l.f → HoldsFrame f (frame_for l.layout l.entry l.cpr l.sectors f) (block_rows l.block)
