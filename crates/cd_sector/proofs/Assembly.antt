@@ -4,7 +4,7 @@ use Rattle.std.specs.Prelude.{replicate}
 use Rattle.std.proofs.lemmas.Bool.{cases_lt}
 use Rattle.std.proofs.lemmas.List.{get_or-take, length-take-le}
 use Rattle.std.proofs.lemmas.Grind.{same_number_lists}
-use Rattle.cd_sector.specs.Edc.{edc_of}
+use Rattle.cd_sector.specs.Edc.{cd_edc_of}
 use Rattle.cd_sector.specs.Sector.{sync, header, covered, data_part}
 
 -- what stands before a place, once a part is written there
@@ -22,7 +22,7 @@ pub data_written : (address : ℕ) (user head check s1 s2 s3 s4 s5 s6 : List ℕ
     → take (16 + length user) s4 ≡ take 16 s3 ++ user
     → take (2064 + length check) s5 ≡ take 2064 s4 ++ check
     → take (2068 + 8) s6 ≡ take 2068 s5 ++ replicate 8 0
-    → check ≡ edc_of (take 2064 s4) → take 2076 s6 ≡ data_part address user
+    → check ≡ cd_edc_of (take 2064 s4) → take 2076 s6 ≡ data_part address user
 unfolding data_part covered
 data_written address user head check s1 s2 s3 s4 s5 s6 user_size check_size head_is put_sync put_head put_mode put_user put_check put_zeros check_is =
     let whole : List ℕ = covered address user in
@@ -33,7 +33,7 @@ data_written address user head check s1 s2 s3 s4 s5 s6 user_size check_size head
     ∙ ap (λ (h : List ℕ). ((sync ++ h) ++ 1 ∷ []) ++ user) head_is in
     let check_there : take 2068 s5 ≡ whole ++ check = put_part whole check s4 s5 2064 2068 put_check user_there (omega arith) in
     put_part (whole ++ check) (replicate 8 0) s5 s6 2068 2076 put_zeros check_there refl
-    ∙ ap (λ (l : List ℕ). (whole ++ l) ++ replicate 8 0) (check_is ∙ ap edc_of user_there)
+    ∙ ap (λ (l : List ℕ). (whole ++ l) ++ replicate 8 0) (check_is ∙ ap cd_edc_of user_there)
 
 -- lists that agree below a place begin alike
 pub same_front : (n : ℕ) (xs ys : List ℕ) → n ≤ length xs → n ≤ length ys → ((at : ℕ) → at < n → get_or xs at 0 ≡ get_or ys at 0) → take n xs ≡ take n ys

@@ -5,16 +5,17 @@ use Rattle.std.specs.Int.{to_le_bytes, w32}
 use Rattle.std.proofs.lemmas.Bool.{cases_lt}
 use Rattle.std.proofs.lemmas.List.{length-set, get_or-set_other, get_or-take, length-take-le, length-append, length-replicate, take_at}
 use Rattle.std.proofs.lemmas.List.Elements.{All-append, All-cons, All-nil, All-from_get_or, All-replicate, All-set, All-take}
+use Rattle.gf_field.specs.BitDivision.{remainder_by}
 use Rattle.gf_field.specs.Words.{IsByte, IsEncoded}
 use Rattle.rs_code.proofs.Codewords.{encodable}
-use Rattle.cd_sector.specs.Bits.{bits_of, number_of}
-use Rattle.cd_sector.specs.Edc.{remainder, edc_of}
+use Rattle.cd_sector.specs.Bits.{rising_bits_of, rising_number}
+use Rattle.cd_sector.specs.Edc.{cd_divisor, cd_edc_of}
 use Rattle.cd_sector.specs.Sector.{sync, digits, header, covered, data_part, IsSector}
-use Rattle.cd_sector.specs.Words.{place, word_size, word_in, IsRight}
-use Rattle.cd_sector.proofs.Places.{word_size-p, word_size-q, place-p, place-own, length-word_in, get_or-word_in, kept_right}
+use Rattle.cd_sector.specs.Words.{sector_place, word_size, sector_word, IsRight}
+use Rattle.cd_sector.proofs.Places.{word_size-p, word_size-q, sector_place-p, sector_place-own, length-sector_word, get_or-sector_word, kept_right}
 use Rattle.cd_sector.proofs.Encoding.{encoded_right}
-use Rattle.cd_sector.proofs.Spread.{apart-p, apart-qq, place-inside}
-use Rattle.cd_sector.proofs.Faultless.{length-edc_of, length-covered}
+use Rattle.cd_sector.proofs.Spread.{apart-p, apart-qq, sector_place-inside}
+use Rattle.cd_sector.proofs.Faultless.{length-cd_edc_of, length-covered}
 use Rattle.cd_sector.proofs.Assembly.{same_front, all_words}
 
 -- a sector with these words encoded, and nothing changed below a place
@@ -28,14 +29,14 @@ pub record IsEncodedTo (from count limit : ℕ) (old sector : List ℕ) : Type 0
 pub record IsOneMore (word : ℕ) (old sector : List ℕ) : Type 0 where
   pub size : length sector ≡ 2352
   pub bytes : All IsByte sector
-  pub kept : (at : ℕ) → at ≢ place word (word_size word - 2) → at ≢ place word (word_size word - 1) → get_or sector at 0 ≡ get_or old at 0
+  pub kept : (at : ℕ) → at ≢ sector_place word (word_size word - 2) → at ≢ sector_place word (word_size word - 1) → get_or sector at 0 ≡ get_or old at 0
   pub right : IsRight sector word
 
 -- a word of a sector of bytes is one of bytes
-bytes-word_in : (sector : List ℕ) (word : ℕ) → word < 138 → length sector ≡ 2352 → All IsByte sector → All IsByte (word_in sector word)
-bytes-word_in sector word below size bytes = All-from_get_or IsByte (word_in sector word) 0
-    (λ m inside. let within : m < word_size word = omega (arith, length-word_in sector word) in
-    subst IsByte (sym (get_or-word_in sector word m within)) (bytes (place word m) 0 (omega (arith, size, (place-inside word m below within).1))))
+bytes-sector_word : (sector : List ℕ) (word : ℕ) → word < 138 → length sector ≡ 2352 → All IsByte sector → All IsByte (sector_word sector word)
+bytes-sector_word sector word below size bytes = All-from_get_or IsByte (sector_word sector word) 0
+    (λ m inside. let within : m < word_size word = omega (arith, length-sector_word sector word) in
+    subst IsByte (sym (get_or-sector_word sector word m within)) (bytes (sector_place word m) 0 (omega (arith, size, (sector_place-inside word m below within).1))))
 
 -- each word of at least three bytes can be encoded where it stands
 one_more : (word : ℕ) (old : List ℕ) → word < 138 → 2 < word_size word → length old ≡ 2352 → All IsByte old → (sector : List ℕ) × IsOneMore word old sector
@@ -48,7 +49,7 @@ one_more word old below some size bytes = (
     kept = λ at not_p not_q. get_or-set_other (set old p x) q at y 0 not_q ∙ get_or-set_other old p at x 0 not_p;
     right = encoded_right n word p q old message [] coded.0 refl some below message_size read
         (subst (λ (l : List ℕ). IsEncoded n 2 l coded.0) (sym (take_at message [] (n - 2) message_size)) coded.1) refl refl
-        (omega (arith, size, (place-inside word (n - 2) below (omega arith)).1)) (omega (arith, size, (place-inside word (n - 1) below (omega arith)).1));
+        (omega (arith, size, (sector_place-inside word (n - 2) below (omega arith)).1)) (omega (arith, size, (sector_place-inside word (n - 1) below (omega arith)).1));
   },
 )
   where
@@ -56,23 +57,23 @@ one_more word old below some size bytes = (
     n = word_size word
 
     p : ℕ
-    p = place word (n - 2)
+    p = sector_place word (n - 2)
 
     q : ℕ
-    q = place word (n - 1)
+    q = sector_place word (n - 1)
 
     message : List ℕ
-    message = take (n - 2) (word_in old word)
+    message = take (n - 2) (sector_word old word)
 
     message_size : length message ≡ n - 2
-    message_size = length-take-le (n - 2) (word_in old word) (omega (arith, length-word_in old word))
+    message_size = length-take-le (n - 2) (sector_word old word) (omega (arith, length-sector_word old word))
 
-    read : (m : ℕ) → m < length message → get_or message m 0 ≡ get_or old (place word m) 0
+    read : (m : ℕ) → m < length message → get_or message m 0 ≡ get_or old (sector_place word m) 0
     read m inside =
-        get_or-take (n - 2) (word_in old word) m 0 (omega (arith, message_size)) ∙ get_or-word_in old word m (omega (arith, message_size))
+        get_or-take (n - 2) (sector_word old word) m 0 (omega (arith, message_size)) ∙ get_or-sector_word old word m (omega (arith, message_size))
 
     coded : (whole : List ℕ) × IsEncoded n 2 message whole
-    coded = encodable n 2 message (omega arith) some message_size (All-take IsByte (n - 2) (word_in old word) (bytes-word_in old word below size bytes))
+    coded = encodable n 2 message (omega arith) some message_size (All-take IsByte (n - 2) (sector_word old word) (bytes-sector_word old word below size bytes))
 
     x : ℕ
     x = get_or coded.0 (n - 2) 0
@@ -87,15 +88,15 @@ one_more word old below some size bytes = (
 record AreApart (from count limit : ℕ) : Type 0 where
   pub few : from + count ≤ 138
   pub some : (n : ℕ) → from ≤ n → n < from + count → 2 < word_size n
-  pub behind : (n m : ℕ) → from ≤ n → n < from + count → word_size n ≤ m + 2 → limit ≤ place n m
-  pub apart : (v n m k : ℕ) → from ≤ v → v < n → n < from + count → place v m ≢ place n k
+  pub behind : (n m : ℕ) → from ≤ n → n < from + count → word_size n ≤ m + 2 → limit ≤ sector_place n m
+  pub apart : (v n m k : ℕ) → from ≤ v → v < n → n < from + count → sector_place v m ≢ sector_place n k
 
 -- the P words
 p_words : AreApart 0 86 2076
 p_words = record {
   few = omega arith;
   some = λ n _ below. omega (arith, word_size-p n below);
-  behind = λ n m _ below last. omega (arith, last, word_size-p n below, place-p n m below);
+  behind = λ n m _ below last. omega (arith, last, word_size-p n below, sector_place-p n m below);
   apart = λ v n m k _ before below. apart-p v n m k (omega arith) below (omega (arith, before));
 }
 
@@ -105,7 +106,7 @@ q_words = record {
   few = omega arith;
   some = λ n above _. omega (arith, word_size-q n above);
   behind = λ n m above _ last.
-      let own : 43 ≤ m = omega (arith, last, word_size-q n above) in omega (arith, place-own n m above own);
+      let own : 43 ≤ m = omega (arith, last, word_size-q n above) in omega (arith, sector_place-own n m above own);
   apart = λ v n m k above before below. apart-qq v n m k above (omega arith) (omega arith) below (omega (arith, before));
 }
 
@@ -139,7 +140,7 @@ words_encoded from most limit words old (suc k) within size bytes = next (words_
             each : (word : ℕ) → from ≤ word → word < from + suc k → (word < n) ⊎ (n ≤ word) → IsRight now word
             each word above below (inl earlier) =
                 kept_right was now word
-                (λ m _. one.kept (place word m)
+                (λ m _. one.kept (sector_place word m)
                 (words.apart word n m (word_size n - 2) above earlier (omega arith)) (words.apart word n m (word_size n - 1) above earlier (omega arith)))
                 (is.right word above earlier)
             each word above below (inr here) = let same : n ≡ word = omega arith in subst (IsRight now) same one.right
@@ -154,9 +155,9 @@ bytes-word : (word : ℕ) → All IsByte (to_le_bytes w32 word)
 bytes-word word = four_bytes (word % 256) (word / 256 % 256) (word / 65536 % 256) (word / 16777216 % 256) (omega arith) (omega arith) (omega arith) (omega arith)
 
 -- an EDC is of bytes
-bytes-edc_of : (bytes : List ℕ) → All IsByte (edc_of bytes)
-unfolding edc_of
-bytes-edc_of bytes = bytes-word (number_of (remainder (8 * length bytes) (bits_of bytes ++ replicate 32 0)))
+bytes-cd_edc_of : (bytes : List ℕ) → All IsByte (cd_edc_of bytes)
+unfolding cd_edc_of
+bytes-cd_edc_of bytes = bytes-word (rising_number (remainder_by cd_divisor (8 * length bytes) (rising_bits_of bytes ++ replicate 32 0)))
 
 -- the sync is of bytes
 bytes-sync : All IsByte sync
@@ -184,7 +185,7 @@ some_sector address user below size bytes = (
         ∙ take_at front (replicate 276 0) 2076 front_size;
     words = all_words (IsRight q_done.0)
         (λ word p. kept_right p_done.0 q_done.0 word
-        (λ m inside. q_done.1.kept (place word m) (omega (arith, place-p word m p, word_size-p word p))) (p_done.1.right word (omega arith) (omega arith)))
+        (λ m inside. q_done.1.kept (sector_place word m) (omega (arith, sector_place-p word m p, word_size-p word p))) (p_done.1.right word (omega arith) (omega arith)))
         (λ word above within. q_done.1.right word above (omega arith));
   },
 )
@@ -198,9 +199,9 @@ some_sector address user below size bytes = (
     front_size : length front ≡ 2076
     front_size = omega (
       arith,
-      length-append (covered address user ++ edc_of (covered address user)) (replicate 8 0),
-      length-append (covered address user) (edc_of (covered address user)),
-      length-edc_of (covered address user),
+      length-append (covered address user ++ cd_edc_of (covered address user)) (replicate 8 0),
+      length-append (covered address user) (cd_edc_of (covered address user)),
+      length-cd_edc_of (covered address user),
       length-covered address user,
     )
 
@@ -209,8 +210,8 @@ some_sector address user below size bytes = (
 
     start_bytes : All IsByte start
     start_bytes = All-append IsByte front (replicate 276 0)
-        (All-append IsByte (covered address user ++ edc_of (covered address user)) (replicate 8 0)
-        (All-append IsByte (covered address user) (edc_of (covered address user)) (bytes-covered address user below bytes) (bytes-edc_of (covered address user)))
+        (All-append IsByte (covered address user ++ cd_edc_of (covered address user)) (replicate 8 0)
+        (All-append IsByte (covered address user) (cd_edc_of (covered address user)) (bytes-covered address user below bytes) (bytes-cd_edc_of (covered address user)))
         (All-replicate IsByte 8 0 (omega arith)))
         (All-replicate IsByte 276 0 (omega arith))
 

@@ -8,7 +8,7 @@ use Rattle.std.proofs.lemmas.Nat.{xor_lt, xor_shr, xor_mod, xor_block}
 use Rattle.std.proofs.lemmas.Nat.Bits.{same_from_bits, bit_at_xor}
 use Rattle.std.proofs.lemmas.List.Elements.{All-tail}
 use Rattle.gf_field.specs.Words.{IsByte}
-use Rattle.cd_sector.specs.Inner.Register.{stepped, after_steps, after_bytes}
+use Rattle.cd_sector.specs.Inner.Register.{stepped, after_steps, after_reading}
 use Rattle.cd_sector.proofs.Bits.{xor_half, xor_lowest}
 
 -- what a step adds for the bit that leaves
@@ -124,23 +124,23 @@ pub met-lt : (register byte : ℕ) → register < 2 ^ 32 → byte < 256 → bit_
 met-lt register byte fits is_byte = xor_lt 32 register byte fits (omega arith)
 
 -- and so do the bytes of a list
-pub after_bytes-lt : (bytes : List ℕ) (register : ℕ) → register < 2 ^ 32 → All IsByte bytes → after_bytes bytes register < 2 ^ 32
-unfolding after_bytes
-after_bytes-lt [] register fits each = fits
-after_bytes-lt (byte ∷ bytes) register fits each =
-    after_bytes-lt bytes (after_steps 8 (bit_xor register byte))
+pub after_reading-lt : (bytes : List ℕ) (register : ℕ) → register < 2 ^ 32 → All IsByte bytes → after_reading bytes register < 2 ^ 32
+unfolding after_reading
+after_reading-lt [] register fits each = fits
+after_reading-lt (byte ∷ bytes) register fits each =
+    after_reading-lt bytes (after_steps 8 (bit_xor register byte))
     (after_steps-lt 8 (bit_xor register byte) (met-lt register byte fits (each 0 byte (omega arith))))
     (All-tail IsByte byte bytes each)
 
 -- the next byte of a list
-pub after_bytes-next : (bytes : List ℕ) (i register : ℕ) → i < length bytes
-    → after_bytes (drop (i + 1) bytes) (after_steps 8 (bit_xor register (get_or bytes i 0))) ≡ after_bytes (drop i bytes) register
-unfolding after_bytes
-after_bytes-next bytes i register within =
-    ap (λ (k : ℕ). after_bytes (drop k bytes) (after_steps 8 (bit_xor register (get_or bytes i 0)))) (add-one i)
-    ∙ ap (λ (l : List ℕ). after_bytes l register) (sym (drop-cons bytes i 0 within))
+pub after_reading-next : (bytes : List ℕ) (i register : ℕ) → i < length bytes
+    → after_reading (drop (i + 1) bytes) (after_steps 8 (bit_xor register (get_or bytes i 0))) ≡ after_reading (drop i bytes) register
+unfolding after_reading
+after_reading-next bytes i register within =
+    ap (λ (k : ℕ). after_reading (drop k bytes) (after_steps 8 (bit_xor register (get_or bytes i 0)))) (add-one i)
+    ∙ ap (λ (l : List ℕ). after_reading l register) (sym (drop-cons bytes i 0 within))
 
 -- no byte is left
-pub after_bytes-end : (bytes : List ℕ) (i register : ℕ) → length bytes ≤ i → after_bytes (drop i bytes) register ≡ register
-unfolding after_bytes
-after_bytes-end bytes i register all = ap (λ (l : List ℕ). after_bytes l register) (drop_all i bytes all)
+pub after_reading-end : (bytes : List ℕ) (i register : ℕ) → length bytes ≤ i → after_reading (drop i bytes) register ≡ register
+unfolding after_reading
+after_reading-end bytes i register all = ap (λ (l : List ℕ). after_reading l register) (drop_all i bytes all)

@@ -2,16 +2,16 @@
 use Rattle.std.specs.Prelude.{ℕ, zero, suc, ◌+◌, ◌*◌, ◌/◌, ◌%◌, List, [], ◌∷◌, ◌++◌}
 
 -- the lowest n bits of a number
-unfoldable pub bits : ℕ → ℕ → List ℕ
-bits zero number = []
-bits (suc n) number = number % 2 ∷ bits n (number / 2)
+unfoldable pub rising_bits : ℕ → ℕ → List ℕ
+rising_bits zero number = []
+rising_bits (suc n) number = number % 2 ∷ rising_bits n (number / 2)
 
 -- the bits of all the bytes
-unfoldable pub bits_of : List ℕ → List ℕ
-bits_of [] = []
-bits_of (byte ∷ bytes) = bits 8 byte ++ bits_of bytes
+unfoldable pub rising_bits_of : List ℕ → List ℕ
+rising_bits_of [] = []
+rising_bits_of (byte ∷ bytes) = rising_bits 8 byte ++ rising_bits_of bytes
 
 -- the number that bits stand for
-unfoldable pub number_of : List ℕ → ℕ
-number_of [] = 0
-number_of (bit ∷ rest) = bit + 2 * number_of rest
+unfoldable pub rising_number : List ℕ → ℕ
+rising_number [] = 0
+rising_number (bit ∷ rest) = bit + 2 * rising_number rest

@@ -1,6 +1,6 @@
 -- Why a sector isn't right at an address (ours), the first that applies.
 use Rattle.std.specs.Prelude.{◌≡◌, ◌≢◌, ℕ, ◌+◌, ◌*◌, ◌<◌, List, ◌++◌, take, drop, slice_index}
-use Rattle.cd_sector.specs.Edc.{edc_of}
+use Rattle.cd_sector.specs.Edc.{cd_edc_of}
 use Rattle.cd_sector.specs.Sector.{sync, header}
 use Rattle.cd_sector.specs.Words.{IsRight}
 use Rattle.cd_sector.specs.declared.checking.CdCause.{CdCause}
@@ -20,10 +20,10 @@ found_number sector = 65536 * slice_index sector 12 + 256 * slice_index sector 1
 
 -- the EDC is right; whatever the first twelve bytes are, they count as the sync
 abbrev pub HasRightEdc : List ℕ → Type 0
-HasRightEdc sector = take 4 (drop 2064 sector) ≡ edc_of (sync ++ take 2052 (drop 12 sector))
+HasRightEdc sector = take 4 (drop 2064 sector) ≡ cd_edc_of (sync ++ take 2052 (drop 12 sector))
 
 -- nothing is wrong; the sync isn't looked at
-pub record IsFaultless (sector : List ℕ) (address : ℕ) : Type 0 where
+pub record IsRightSector (sector : List ℕ) (address : ℕ) : Type 0 where
   pub words : AreRightBelow 138 sector
   pub mode : slice_index sector 15 ≡ 1
   pub header_is : found_header sector ≡ header address

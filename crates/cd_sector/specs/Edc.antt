@@ -1,26 +1,15 @@
 -- The error detection code, the EDC (ECMA-130, 14.3): the remainder of a list of bits, as a polynomial times x^32,
 -- by (x^16 + x^15 + x^2 + 1) (x^16 + x^2 + x + 1) = x^32 + x^31 + x^16 + x^15 + x^4 + x^3 + x + 1.
 -- The least significant bit of each byte comes first. The code keeps one word of 32 bits instead of the list.
-use Rattle.std.specs.Prelude.{ℕ, zero, suc, ◌*◌, ◌==◌, bit_xor, if◌then◌else◌, List, [], ◌∷◌, ◌++◌, length, replicate, reverse}
+use Rattle.std.specs.Prelude.{ℕ, ◌*◌, List, ◌++◌, length, replicate, reverse}
 use Rattle.std.specs.Int.{to_le_bytes, w32}
-use Rattle.cd_sector.specs.Bits.{bits, bits_of, number_of}
+use Rattle.gf_field.specs.BitDivision.{remainder_by}
+use Rattle.cd_sector.specs.Bits.{rising_bits, rising_bits_of, rising_number}
 
 -- the coefficients of the divisor without its leading term, that of x^31 first
-abbrev pub divisor : List ℕ
-divisor = reverse (bits 32 0x8001801B)
-
--- adds a list of bits to the front of another
-unfoldable pub plus_front : List ℕ → List ℕ → List ℕ
-plus_front xs [] = xs
-plus_front [] (y ∷ ys) = []
-plus_front (x ∷ xs) (y ∷ ys) = bit_xor x y ∷ plus_front xs ys
-
--- Division in n steps: each drops the leading bit, and where it was 1 takes the divisor away behind it.
-unfoldable pub remainder : ℕ → List ℕ → List ℕ
-remainder zero rest = rest
-remainder (suc n) [] = []
-remainder (suc n) (bit ∷ rest) = remainder n (if bit == 1 then plus_front rest divisor else rest)
+abbrev pub cd_divisor : List ℕ
+cd_divisor = reverse (rising_bits 32 0x8001801B)
 
 -- The EDC of a list of bytes: of their bits and 32 zeros the last 32 are left, and are put into four bytes.
-unfoldable pub edc_of : List ℕ → List ℕ
-edc_of bytes = to_le_bytes w32 (number_of (remainder (8 * length bytes) (bits_of bytes ++ replicate 32 0)))
+unfoldable pub cd_edc_of : List ℕ → List ℕ
+cd_edc_of bytes = to_le_bytes w32 (rising_number (remainder_by cd_divisor (8 * length bytes) (rising_bits_of bytes ++ replicate 32 0)))

@@ -2,11 +2,11 @@
 use Rattle.std.specs.Prelude.{◌≡◌, ◌≢◌, ◌⊎◌, ℕ, ◌%◌, ◌<◌, ◌≤◌, List, length, slice_index, All}
 use Rattle.gf_field.specs.Words.{IsByte}
 use Rattle.rs_code.specs.Distance.{distance}
-use Rattle.cd_sector.specs.Causes.{IsFaultless, IsCause}
+use Rattle.cd_sector.specs.Causes.{IsRightSector, IsCause}
 use Rattle.cd_sector.specs.declared.checking.CdCause.{CdCause}
 use Rattle.cd_sector.specs.Repair.{repaired}
 use Rattle.cd_sector.specs.Sector.{IsSector}
-use Rattle.cd_sector.specs.Words.{place, word_in}
+use Rattle.cd_sector.specs.Words.{sector_place, sector_word}
 
 -- a word of one half of a sector, that of the low bytes, 0, or that of the high ones, 1
 abbrev pub IsOfHalf : ℕ → ℕ → Type 0
@@ -14,11 +14,11 @@ IsOfHalf half word = word % 2 ≡ half
 
 -- at most one byte of a word is wrong
 abbrev pub HasAtMostOneWrong : List ℕ → List ℕ → ℕ → Type 0
-HasAtMostOneWrong sector read word = distance (word_in sector word) (word_in read word) ≤ 1
+HasAtMostOneWrong sector read word = distance (sector_word sector word) (sector_word read word) ≤ 1
 
 -- a byte of a word is right
 abbrev pub HasRightByte : List ℕ → List ℕ → ℕ → ℕ → Type 0
-HasRightByte sector read word m = slice_index read (place word m) ≡ slice_index sector (place word m)
+HasRightByte sector read word m = slice_index read (sector_place word m) ≡ slice_index sector (sector_place word m)
 
 -- In one half each P word has at most one wrong byte, and each Q word at most one among its last two.
 pub record IsScattered (half : ℕ) (sector read : List ℕ) : Type 0 where
@@ -44,7 +44,7 @@ BorneDamageIsRepaired =
 -- a sector that was made has nothing wrong
 abbrev pub SectorsAreFaultless : Type 0
 SectorsAreFaultless =
-    (address : ℕ) (user sector : List ℕ) → length user ≡ 2048 → IsSector address user sector → IsFaultless sector address
+    (address : ℕ) (user sector : List ℕ) → length user ≡ 2048 → IsSector address user sector → IsRightSector sector address
 
 -- an address and user data have one sector at most
 abbrev pub SectorIsOnlyOne : Type 0
@@ -52,7 +52,7 @@ SectorIsOnlyOne = (address : ℕ) (user a b : List ℕ) → IsSector address use
 
 -- what has nothing wrong has no cause
 abbrev pub FaultlessHasNoCause : Type 0
-FaultlessHasNoCause = (sector : List ℕ) (address : ℕ) (cause : CdCause) → IsFaultless sector address → IsCause sector address cause → ⊥
+FaultlessHasNoCause = (sector : List ℕ) (address : ℕ) (cause : CdCause) → IsRightSector sector address → IsCause sector address cause → ⊥
 
 -- an address below 450,000 and 2,048 bytes of user data have a sector
 abbrev pub SomeSector : Type 0

@@ -6,21 +6,21 @@ use Rattle.std.specs.Option.{is_none}
 use Rattle.std.specs.declared.option.Option.{Option}
 use Rattle.rs_decode.specs.Nearest.{near_of}
 use Rattle.cd_sector.specs.Sector.{sync}
-use Rattle.cd_sector.specs.Words.{place, word_size, word_in}
+use Rattle.cd_sector.specs.Words.{sector_place, word_size, sector_word}
 
 -- a sector with the first bytes of a word set to these, as many as told
-unfoldable pub with_bytes : List ℕ → ℕ → List ℕ → ℕ → List ℕ
-with_bytes sector word bytes zero = sector
-with_bytes sector word bytes (suc m) = set (with_bytes sector word bytes m) (place word m) (slice_index bytes m)
+unfoldable pub with_word_bytes : List ℕ → ℕ → List ℕ → ℕ → List ℕ
+with_word_bytes sector word bytes zero = sector
+with_word_bytes sector word bytes (suc m) = set (with_word_bytes sector word bytes m) (sector_place word m) (slice_index bytes m)
 
 -- a sector whose word becomes this, if there is any
 unfoldable pub with_word : List ℕ → ℕ → Option (List ℕ) → List ℕ
 with_word sector word None = sector
-with_word sector word (Some bytes) = with_bytes sector word bytes (word_size word)
+with_word sector word (Some bytes) = with_word_bytes sector word bytes (word_size word)
 
 -- the codeword near a word of a sector with these marks
 unfoldable pub near_word : List ℕ → ℕ → List Bool → Option (List ℕ)
-near_word sector word marks = near_of (word_size word) 2 (word_in sector word) marks
+near_word sector word marks = near_of (word_size word) 2 (sector_word sector word) marks
 
 -- no codeword is near a P word
 unfoldable pub is_lost : List ℕ → ℕ → Bool
@@ -34,14 +34,14 @@ with_p_words sector (suc n) =
 
 -- The marks of a Q word of a sector that was read: its places in P words that are lost. Every 86th byte is in the same P word,
 -- and the last two of a Q word are in none.
-unfoldable pub marks_of : List ℕ → ℕ → List Bool
-marks_of read word = map (λ m. nat_lt m 43 && is_lost read ((place word m - 12) % 86)) (range_with_len 0 45)
+unfoldable pub word_marks : List ℕ → ℕ → List Bool
+word_marks read word = map (λ m. nat_lt m 43 && is_lost read ((sector_place word m - 12) % 86)) (range_with_len 0 45)
 
 -- The first Q words repaired, as many as told, with their marks in the sector that was read.
 unfoldable pub with_q_words : List ℕ → List ℕ → ℕ → List ℕ
 with_q_words read sector zero = sector
 with_q_words read sector (suc n) =
-    with_word (with_q_words read sector n) (86 + n) (near_word (with_q_words read sector n) (86 + n) (marks_of read (86 + n)))
+    with_word (with_q_words read sector n) (86 + n) (near_word (with_q_words read sector n) (86 + n) (word_marks read (86 + n)))
 
 -- the sector that was read, repaired, and the sync set
 unfoldable pub repaired : List ℕ → List ℕ

@@ -1,6 +1,6 @@
 -- Sectors of Mode 1 (ECMA-130, 14): 2,352 bytes.
 use Rattle.std.specs.Prelude.{◌≡◌, ℕ, ◌+◌, ◌*◌, ◌/◌, ◌%◌, ◌<◌, List, [], ◌∷◌, ◌++◌, length, take, replicate}
-use Rattle.cd_sector.specs.Edc.{edc_of}
+use Rattle.cd_sector.specs.Edc.{cd_edc_of}
 use Rattle.cd_sector.specs.Words.{IsRight}
 
 -- the twelve bytes that every sector begins with
@@ -21,7 +21,7 @@ covered address user = sync ++ header address ++ 0x01 ∷ user
 
 -- bytes 0 to 2075: the EDC and eight zeros follow
 unfoldable pub data_part : ℕ → List ℕ → List ℕ
-data_part address user = covered address user ++ edc_of (covered address user) ++ replicate 8 0
+data_part address user = covered address user ++ cd_edc_of (covered address user) ++ replicate 8 0
 
 -- The sector of an address below 450,000 and of 2,048 bytes user data. The code sets one P word after another, then the Q words.
 pub record IsSector (address : ℕ) (user sector : List ℕ) : Type 0 where

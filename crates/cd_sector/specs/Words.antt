@@ -14,8 +14,8 @@ q_pair n m = if nat_lt m 43 then (44 * m + 43 * n) % 1118 else 1118 + 26 * (m - 
 
 -- Where the m-th byte of a word stands. P codeword n has the numbers 2n for its low bytes and 2n + 1 for its high ones,
 -- Q codeword n the numbers 86 + 2n and 87 + 2n.
-unfoldable pub place : ℕ → ℕ → ℕ
-place word m =
+unfoldable pub sector_place : ℕ → ℕ → ℕ
+sector_place word m =
     if nat_lt word 86 then 12 + 2 * p_pair (word / 2) m + word % 2
     else 12 + 2 * q_pair ((word - 86) / 2) m + (word - 86) % 2
 
@@ -24,9 +24,9 @@ unfoldable pub word_size : ℕ → ℕ
 word_size word = if nat_lt word 86 then 26 else 45
 
 -- a word of a sector
-unfoldable pub word_in : List ℕ → ℕ → List ℕ
-word_in sector word = map (λ m. slice_index sector (place word m)) (range_with_len 0 (word_size word))
+unfoldable pub sector_word : List ℕ → ℕ → List ℕ
+sector_word sector word = map (λ m. slice_index sector (sector_place word m)) (range_with_len 0 (word_size word))
 
 -- a word of a sector is a codeword
 unfoldable pub IsRight : List ℕ → ℕ → Type 0
-IsRight sector word = IsCodeword (word_size word) 2 (word_in sector word)
+IsRight sector word = IsCodeword (word_size word) 2 (sector_word sector word)

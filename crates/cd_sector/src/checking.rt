@@ -1,6 +1,6 @@
 //! A sector that was read, checked.
 ghost use Rattle.std.specs.Prelude.{◌≡◌, ◌↔◌, ◌<◌, ◌≤◌, IfErr, OnOk, IsTrue, IfSome, None};
-ghost use Rattle.cd_sector.specs.Causes.{IsCause, IsFaultless, AreRightBelow, found_header, found_number, HasRightEdc};
+ghost use Rattle.cd_sector.specs.Causes.{IsCause, IsRightSector, AreRightBelow, found_header, found_number, HasRightEdc};
 ghost use Rattle.cd_sector.specs.Sector.{header as header_of};
 ghost use Rattle.cd_sector.specs.Words.{IsRight};
 
@@ -30,7 +30,7 @@ pub enum CdCause {
 /// these that it lacks is answered. The sync is passed over, and the EDC is tried as if the right one stood there.
 pub fn check(sector: &[u8; 2352], address: u32) -> Result<(), CdCause>
     requires { address < 450000 }
-    ensures right { OnOk result (IsFaultless sector.now address) }
+    ensures right { OnOk result (IsRightSector sector.now address) }
     ensures refused { IfErr result (λ cause. IsCause sector.now address cause) }
 {
     if let Some(word) = first_wrong_word(sector) {

@@ -1,28 +1,28 @@
 //! The code of a sector that detects errors, the EDC (ECMA-130, 14.3).
 ghost use Rattle.std.specs.Prelude.{◌≡◌, ◌++◌, bit_xor};
-ghost use Rattle.cd_sector.specs.Edc.{edc_of};
-ghost use Rattle.cd_sector.specs.Inner.Register.{after_bytes, after_steps};
+ghost use Rattle.cd_sector.specs.Edc.{cd_edc_of};
+ghost use Rattle.cd_sector.specs.Inner.Register.{after_reading, after_steps};
 
 use crate::table::remainder_of;
 
 /// The EDC of a list of bytes of any length: the remainder of its bits, the least significant of each byte first,
 /// by (x^16 + x^15 + x^2 + 1) (x^16 + x^2 + x + 1).
 pub fn cd_edc(bytes: &[u8]) -> [u8; 4]
-    ensures { result ≡ edc_of bytes.now }
+    ensures { result ≡ cd_edc_of bytes.now }
 {
     edc_of_parts(&[], bytes)
 }
 
 /// The EDC of two lists of bytes, as if the second stood behind the first.
 pub(crate) fn edc_of_parts(front: &[u8], back: &[u8]) -> [u8; 4]
-    ensures { result ≡ edc_of (front.now ++ back.now) }
+    ensures { result ≡ cd_edc_of (front.now ++ back.now) }
 {
     with_bytes(with_bytes(0, front), back).to_le_bytes()
 }
 
 // The register with these bytes more.
 fn with_bytes(register: u32, bytes: &[u8]) -> u32
-    ensures { result ≡ after_bytes bytes.now register }
+    ensures { result ≡ after_reading bytes.now register }
 {
     let mut next = register;
     for byte in bytes {

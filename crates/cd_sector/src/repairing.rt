@@ -2,8 +2,8 @@
 ghost use Rattle.std.specs.Prelude.{◌≡◌, ℕ, List, ◌+◌, ◌-◌, ◌<◌, ◌≤◌, length, drop, replicate, false, slice_index, slice_index_or, IfErr, IfOk, OnErr, OnOk};
 ghost use Rattle.std.specs.Option.{is_none};
 ghost use Rattle.rs_code.specs.Distance.{distance};
-ghost use Rattle.cd_sector.specs.Causes.{IsCause, IsFaultless};
-ghost use Rattle.cd_sector.specs.Repair.{with_bytes, with_word, near_word, is_lost, with_p_words, marks_of, with_q_words, repaired};
+ghost use Rattle.cd_sector.specs.Causes.{IsCause, IsRightSector};
+ghost use Rattle.cd_sector.specs.Repair.{with_word_bytes, with_word, near_word, is_lost, with_p_words, word_marks, with_q_words, repaired};
 ghost use Rattle.cd_sector.specs.Words.{word_size};
 
 use crate::checking::{CdCause, check};
@@ -18,7 +18,7 @@ use rs_decode::decode;
 pub fn repair(sector: &mut [u8; 2352], address: u32) -> Result<u16, CdCause>
     requires { address < 450000 }
     ensures repaired { OnOk result (sector.new ≡ repaired sector.old) }
-    ensures faultless { OnOk result (IsFaultless (repaired sector.old) address) }
+    ensures faultless { OnOk result (IsRightSector (repaired sector.old) address) }
     ensures changes { IfOk result (λ changes. changes ≡ distance (drop 12 sector.old) (drop 12 sector.new)) }
     ensures cause { IfErr result (λ cause. IsCause (repaired sector.old) address cause) }
     ensures same { OnErr result (sector.new ≡ sector.old) }
@@ -63,7 +63,7 @@ fn repair_q_words(lost: &[bool; 86], sector: &mut [u8; 2352])
 fn marks(lost: &[bool; 86], word: usize) -> [bool; 45]
     requires q_word { 86 ≤ word }
     requires word { word < 138 }
-    ensures { (read : List ℕ) → ((p : ℕ) → p < 86 → slice_index_or lost.now p false ≡ is_lost read p) → result ≡ marks_of read word }
+    ensures { (read : List ℕ) → ((p : ℕ) → p < 86 → slice_index_or lost.now p false ≡ is_lost read p) → result ≡ word_marks read word }
 {
     let mut marks = [false; 45];
     for m in 0..43 {
@@ -98,7 +98,7 @@ fn repair_word<const N: usize>(
 fn write_word(bytes: &[u8], word: usize, sector: &mut [u8; 2352])
     requires word { word < 138 }
     requires bytes { length bytes.now ≡ word_size word }
-    ensures word { sector.new ≡ with_bytes sector.old word bytes.now (word_size word) }
+    ensures word { sector.new ≡ with_word_bytes sector.old word bytes.now (word_size word) }
     ensures size { length sector.new ≡ 2352 }
 {
     for (m, byte) in bytes.iter().enumerate() {

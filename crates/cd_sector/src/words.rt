@@ -1,7 +1,7 @@
 //! The words of a sector that correct its errors (ECMA-130, annex A): 86 of P parity and 52 of Q parity, each of which
 //! ends with two bytes of its own.
 ghost use Rattle.std.specs.Prelude.{◌≡◌, ◌≢◌, ◌↔◌, ℕ, ◌+◌, ◌-◌, ◌<◌, ◌≤◌, length, slice_index, EachIndex, IsTrue, IfSome, None, take};
-ghost use Rattle.cd_sector.specs.Words.{place as place_of, word_size, IsRight};
+ghost use Rattle.cd_sector.specs.Words.{sector_place, word_size, IsRight};
 
 use rs_code::Code;
 
@@ -23,7 +23,7 @@ pub(crate) fn encode_word<const N: usize>(code: &Code<N, 2>, word: usize, sector
     requires size { N ≡ word_size word }
     ensures right { IsRight sector.new word }
     ensures size { length sector.new ≡ 2352 }
-    ensures kept { (at : ℕ) → at ≢ place_of word (N - 2) → at ≢ place_of word (N - 1) → slice_index sector.new at ≡ slice_index sector.old at }
+    ensures kept { (at : ℕ) → at ≢ sector_place word (N - 2) → at ≢ sector_place word (N - 1) → slice_index sector.new at ≡ slice_index sector.old at }
 {
     let mut bytes = [0; N];
     read_word(sector, word, &mut bytes[..N - 2]);
@@ -67,7 +67,7 @@ fn is_right<const N: usize>(code: &Code<N, 2>, word: usize, sector: &[u8; 2352])
 pub(crate) fn read_word(sector: &[u8; 2352], word: usize, bytes: &mut [u8])
     requires word { word < 138 }
     requires size { length bytes.old ≤ word_size word }
-    ensures { EachIndex bytes.new (λ m. slice_index bytes.new m ≡ slice_index sector.now (place_of word m)) }
+    ensures { EachIndex bytes.new (λ m. slice_index bytes.new m ≡ slice_index sector.now (sector_place word m)) }
 {
     for (m, byte) in bytes.iter_mut().enumerate() {
         *byte = sector[place(word, m)];
@@ -78,7 +78,7 @@ pub(crate) fn read_word(sector: &[u8; 2352], word: usize, bytes: &mut [u8])
 pub(crate) fn place(word: usize, m: usize) -> usize
     requires word { word < 138 }
     requires byte { m < word_size word }
-    ensures value { result ≡ place_of word m }
+    ensures value { result ≡ sector_place word m }
     ensures inside { result < 2352 }
 {
     if word < P_WORDS {

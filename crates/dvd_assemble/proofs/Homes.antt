@@ -29,7 +29,7 @@ use Rattle.dvd_layout.specs.declared.layout.Shape.TheVariants.{Single, Parallel,
 use Rattle.dvd_layout.specs.declared.layout.Zones.TheVariants.{DataOnly}
 use Rattle.dvd_layout.proofs.Blocks.{length-entries_of}
 use Rattle.dvd_layout.proofs.Ranges.{plan_of-numbers}
-use Rattle.dvd_assemble.specs.Home.{block_and_frame, block_words, home_in, words_of}
+use Rattle.dvd_assemble.specs.Home.{block_and_frame, block_words, home_in, id_words}
 
 -- the Data Zone of layer 1 has no blocks where there is no such layer
 no_entries : (layout : Layout) → layout.sectors1 ≡ 0 → entries_of (second_data layout) ≡ []
@@ -117,14 +117,14 @@ sixteen_words : (layout : Layout) (entry : BlockPlan) → length (block_words la
 sixteen_words layout entry = length-map-range_with_len (word_of layout entry) 0 16
 
 -- a plan has sixteen for each block
-pub length-words : (layout : Layout) → length (words_of layout) ≡ 16 * length (plan_of layout DataOnly)
-unfolding words_of
+pub length-words : (layout : Layout) → length (id_words layout) ≡ 16 * length (plan_of layout DataOnly)
+unfolding id_words
 length-words layout = length-pieces (block_words layout) (sixteen_words layout) (plan_of layout DataOnly)
 
 -- word 16k + f is that of frame f of block k
 pub word-at : (layout : Layout) (k f : ℕ) (e : BlockPlan) → k < length (plan_of layout DataOnly) → f < 16
-    → get_or (words_of layout) (16 * k + f) 0 ≡ word_of layout (get_or (plan_of layout DataOnly) k e) f
-unfolding words_of
+    → get_or (id_words layout) (16 * k + f) 0 ≡ word_of layout (get_or (plan_of layout DataOnly) k e) f
+unfolding id_words
 word-at layout k f e within below =
     piece-at (block_words layout) (sixteen_words layout) (plan_of layout DataOnly) k f e 0 within below
     ∙ get_or-map-range_with_len (word_of layout (get_or (plan_of layout DataOnly) k e)) 0 16 f f 0 below (omega arith)
@@ -166,7 +166,7 @@ has_numbers layout k entry stands =
 
 -- the frame of number n has the place of this word
 abbrev pub IsAt : Layout → ℕ → ℕ → Type 0
-IsAt layout word n = (n < length (words_of layout)) × (is_same_place word (get_or (words_of layout) n 0) ≡ true)
+IsAt layout word n = (n < length (id_words layout)) × (is_same_place word (get_or (id_words layout) n 0) ≡ true)
 
 -- the first block that may have the place, by the layer
 abbrev pub first_block : Layout → ℕ → ℕ
@@ -197,10 +197,10 @@ sides layout word n at = by_zone (stands_at layout k some_entry within)
     numbers : HasNumbers entry
     numbers = plan_of-numbers layout DataOnly k some_entry within
 
-    there : get_or (words_of layout) n 0 ≡ word_of layout entry f
+    there : get_or (id_words layout) n 0 ≡ word_of layout entry f
     there =
         let place : n ≡ 16 * k + f = omega arith in
-        ap (λ m. get_or (words_of layout) m 0) place ∙ word-at layout k f some_entry within (omega arith)
+        ap (λ m. get_or (id_words layout) m 0) place ∙ word-at layout k f some_entry within (omega arith)
 
     same : IsSamePlace word (word_of layout entry f)
     same = eqb-true (bit_and word 0x0DFFFFFF) (bit_and (word_of layout entry f) 0x0DFFFFFF) (ap (is_same_place word) (sym there) ∙ at.1)
@@ -261,12 +261,12 @@ number_behind layout word n entry stands at = by_side (sides layout word n at)
 -- where no frame has the place of a word, the word has no home
 pub home_none : (layout : Layout) (word : ℕ) → ((n : ℕ) → IsAt layout word n → ⊥) → home_in layout word ≡ None
 unfolding home_in
-home_none layout word none = by_answer (position (is_same_place word) (words_of layout)) refl
+home_none layout word none = by_answer (position (is_same_place word) (id_words layout)) refl
   where
-    by_answer : (answer : Option ℕ) → position (is_same_place word) (words_of layout) ≡ answer → answer ≡ None
+    by_answer : (answer : Option ℕ) → position (is_same_place word) (id_words layout) ≡ answer → answer ≡ None
     by_answer None is = refl
     by_answer (Some n) is =
-        let found = position-Some (is_same_place word) (words_of layout) n 0 is in
+        let found = position-Some (is_same_place word) (id_words layout) n 0 is in
         absurd (none n (found.0, found.1))
 
 -- where one element alone passes a test, its place is the first that passes
@@ -285,7 +285,7 @@ first_place p xs n d within passes only =
 -- where one frame alone has the place of a word, it is the word's home
 pub home_some : (layout : Layout) (word n : ℕ) → IsAt layout word n → ((m : ℕ) → IsAt layout word m → m ≡ n) → home_in layout word ≡ Some n
 unfolding home_in
-home_some layout word n at only = first_place (is_same_place word) (words_of layout) n 0 at.0 at.1 (λ m within passes. only m (within, passes))
+home_some layout word n at only = first_place (is_same_place word) (id_words layout) n 0 at.0 at.1 (λ m within passes. only m (within, passes))
 
 -- a test of whether two IDs have one place answers as `is_same_place` does
 pub tells_place : (answer : Bool) (a b : ℕ) → IsTrue answer ↔ IsSamePlace a b → answer ≡ is_same_place a b
@@ -333,7 +333,7 @@ only_there layout word before behind entry is stands least behind_is n at =
 
 -- the one frame that may have the place is the home, where the test of its ID word passes
 pub home_there : (layout : Layout) (word k f : ℕ) → k < length (plan_of layout DataOnly) → f < 16
-    → is_same_place word (get_or (words_of layout) (16 * k + f) 0) ≡ true → ((n : ℕ) → IsAt layout word n → n ≡ 16 * k + f)
+    → is_same_place word (get_or (id_words layout) (16 * k + f) 0) ≡ true → ((n : ℕ) → IsAt layout word n → n ≡ 16 * k + f)
     → option_map block_and_frame (home_in layout word) ≡ Some (k, f)
 home_there layout word k f within below passes only =
     let at : IsAt layout word (16 * k + f) = (omega (arith, length-words layout, within, below), passes) in
@@ -344,10 +344,10 @@ home_there layout word k f within below passes only =
 
 -- and where the test fails or the plan ends before it, there is none
 pub none_there : (layout : Layout) (word k f : ℕ) → ((n : ℕ) → IsAt layout word n → n ≡ 16 * k + f)
-    → (k < length (plan_of layout DataOnly) → is_same_place word (get_or (words_of layout) (16 * k + f) 0) ≡ false) → f < 16
+    → (k < length (plan_of layout DataOnly) → is_same_place word (get_or (id_words layout) (16 * k + f) 0) ≡ false) → f < 16
     → home_in layout word ≡ None
 none_there layout word k f only fails below =
     home_none layout word (λ n at.
     let place = only n at in
     let inside : k < length (plan_of layout DataOnly) = omega (arith, place, at.0, length-words layout, below) in
-    false≢true (sym (fails inside) ∙ sym (ap (λ m. is_same_place word (get_or (words_of layout) m 0)) place) ∙ at.1))
+    false≢true (sym (fails inside) ∙ sym (ap (λ m. is_same_place word (get_or (id_words layout) m 0)) place) ∙ at.1))

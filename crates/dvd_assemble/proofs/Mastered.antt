@@ -40,7 +40,7 @@ use Rattle.dvd_merge.proofs.Costs.{is_of-fold, is_of-unseen, unseen_place}
 use Rattle.dvd_merge.proofs.Places.{Tells}
 use Rattle.dvd_assemble.specs.Assembled.{frame_row, frame_table, table_for, told_of}
 use Rattle.dvd_assemble.specs.Frames.{Frame}
-use Rattle.dvd_assemble.specs.Home.{checked_word, home, home_in, word_in}
+use Rattle.dvd_assemble.specs.Home.{checked_word, home, home_in, id_word_in}
 use Rattle.dvd_assemble.specs.Laws.{CapturedFramesAgree, CapturedFramesComeHome}
 use Rattle.dvd_assemble.specs.Mastered.{AreNamed, IsCaptureOf, IsCaptured, word_for}
 use Rattle.dvd_assemble.proofs.Assembling.{assembled-at, block_at}
@@ -102,7 +102,7 @@ first_is f below = grind (arith, nat_tests)
 
 -- the law: a frame that was captured of a mastered one has its home there
 pub come_home : CapturedFramesComeHome
-unfolding home word_in
+unfolding home id_word_in
 come_home layout k f block frame within below names captured =
     let word : List ℕ = line block (12 * f) in
     let row : List ℕ = line frame.rows 0 in

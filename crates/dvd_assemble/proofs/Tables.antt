@@ -9,7 +9,7 @@ use Rattle.std.proofs.lemmas.List.FromFn.{length-map-range_with_len, get_or-map-
 use Rattle.std.proofs.lemmas.Simd.{length-zip2}
 use Rattle.dvd_block.specs.Recording.{record_at}
 use Rattle.dvd_capture.proofs.Mapped.{mapped}
-use Rattle.dvd_merge.specs.Join.{Table, join, join_rows, join_tables, joined, row_of, unseen}
+use Rattle.dvd_merge.specs.Join.{Table, join, join_rows, join_tables, joined, known_row, unseen}
 use Rattle.dvd_merge.specs.declared.place.Place.{Place}
 use Rattle.dvd_merge.specs.declared.place.Place.TheVariants.{Unseen}
 use Rattle.dvd_merge.proofs.Places.{Tells, join-unseen, row-join}
@@ -19,7 +19,7 @@ use Rattle.dvd_assemble.specs.Frames.{Frame}
 -- 208 rows of at most 182 places
 pub record IsShaped (table : Table) : Type 0 where
   pub height : length table ≡ 208
-  pub widths : (i : ℕ) → length (row_of table i) ≤ 182
+  pub widths : (i : ℕ) → length (known_row table i) ≤ 182
 
 -- a row joined with unseen places stays as it is
 unseen_row : (row : List Place) (n : ℕ) → length row ≤ n → join_rows row (replicate n Unseen) ≡ row
@@ -33,7 +33,7 @@ unfolding unseen
 length-unseen = length-replicate 208 (replicate 182 Unseen)
 
 -- each of 182 unseen places
-pub row-unseen : (i : ℕ) → i < 208 → row_of unseen i ≡ replicate 182 Unseen
+pub row-unseen : (i : ℕ) → i < 208 → known_row unseen i ≡ replicate 182 Unseen
 unfolding unseen
 row-unseen i below = get_or-replicate 208 i (replicate 182 Unseen) [] below
 
@@ -47,7 +47,7 @@ pub join_none : (table : Table) → IsShaped table → join_tables table unseen 
 join_none table shaped =
     ext_get_or [] (join_tables table unseen) table (heights)
     (λ i within. let below : i < 208 = omega (arith, within, heights, shaped.height) in
-    row-join table unseen i ∙ ap (join_rows (row_of table i)) (row-unseen i below) ∙ unseen_row (row_of table i) 182 (shaped.widths i))
+    row-join table unseen i ∙ ap (join_rows (known_row table i)) (row-unseen i below) ∙ unseen_row (known_row table i) 182 (shaped.widths i))
   where
     heights : length (join_tables table unseen) ≡ length table
     heights = length-join table unseen (shaped.height ∙ sym length-unseen)
@@ -75,8 +75,8 @@ unfolding join_tables
 join-shaped a b shaped height = record {
   height = length-zip2 join_rows a b (shaped.height ∙ sym height) ∙ shaped.height;
   widths = λ i.
-      let row : row_of (zip2 join_rows a b) i ≡ join_rows (row_of a i) (row_of b i) = row-join a b i in
-      omega (arith, ap length row, zip_short (row_of a i) (row_of b i), shaped.widths i);
+      let row : known_row (zip2 join_rows a b) i ≡ join_rows (known_row a i) (known_row b i) = row-join a b i in
+      omega (arith, ap length row, zip_short (known_row a i) (known_row b i), shaped.widths i);
 }
 
 -- so does one that is joined with several of 208 rows, one after the other
@@ -113,11 +113,11 @@ by_table f frame table shaped =
     sym (mapped rows (zip2 join_rows table (map tells (range_with_len 0 208))) 208 [] height
     (λ i below.
     row-join table (map tells (range_with_len 0 208)) i
-    ∙ ap (join_rows (row_of table i)) (get_or-map-range_with_len tells 0 208 i i [] below (omega arith))
+    ∙ ap (join_rows (known_row table i)) (get_or-map-range_with_len tells 0 208 i i [] below (omega arith))
     ∙ sym (by_frame i (eqb_tells (record_at i / 13) f))))
   where
     rows : ℕ → List Place
-    rows i = if record_at i / 13 == f then join_rows (row_of table i) (frame_row frame (record_at i % 13)) else row_of table i
+    rows i = if record_at i / 13 == f then join_rows (known_row table i) (frame_row frame (record_at i % 13)) else known_row table i
 
     tells : ℕ → List Place
     tells i = if record_at i / 13 == f then frame_row frame (record_at i % 13) else replicate 182 Unseen
@@ -125,6 +125,6 @@ by_table f frame table shaped =
     height : length (zip2 join_rows table (map tells (range_with_len 0 208))) ≡ 208
     height = length-zip2 join_rows table (map tells (range_with_len 0 208)) (shaped.height ∙ sym (length-map-range_with_len tells 0 208)) ∙ shaped.height
 
-    by_frame : (i : ℕ) → Tells (record_at i / 13) f → rows i ≡ join_rows (row_of table i) (tells i)
+    by_frame : (i : ℕ) → Tells (record_at i / 13) f → rows i ≡ join_rows (known_row table i) (tells i)
     by_frame i (inl here) = rw here.0 refl
-    by_frame i (inr elsewhere) = rw elsewhere.0 (sym (unseen_row (row_of table i) 182 (shaped.widths i)))
+    by_frame i (inr elsewhere) = rw elsewhere.0 (sym (unseen_row (known_row table i) 182 (shaped.widths i)))

@@ -8,7 +8,7 @@ use Rattle.dvd_layout.specs.Plan.{plan_of}
 use Rattle.dvd_layout.specs.declared.layout.Layout.{Layout}
 use Rattle.dvd_layout.specs.declared.layout.Zones.TheVariants.{DataOnly}
 use Rattle.dvd_capture.specs.Answers.{marks_line}
-use Rattle.dvd_merge.specs.Join.{Table, join_rows, joined, row_of, seen_row, unseen}
+use Rattle.dvd_merge.specs.Join.{Table, join_rows, joined, known_row, seen_row, unseen}
 use Rattle.dvd_merge.specs.declared.place.Place.{Place}
 use Rattle.dvd_merge.specs.declared.place.Place.TheVariants.{Unseen}
 use Rattle.dvd_assemble.specs.Frames.{Frame}
@@ -39,7 +39,7 @@ assembled layout frames = map (λ k. joined (map (told_of layout k) frames)) (ra
 -- Ours: a block with a captured frame joined to it as its recording frame f: thirteen rows, place by place. The others stay.
 unfoldable pub with_frame : ℕ → Frame → Table → Table
 with_frame f frame table =
-    map (λ i. if record_at i / 13 == f then join_rows (row_of table i) (frame_row frame (record_at i % 13)) else row_of table i) (range_with_len 0 208)
+    map (λ i. if record_at i / 13 == f then join_rows (known_row table i) (frame_row frame (record_at i % 13)) else known_row table i) (range_with_len 0 208)
 
 -- Ours: the blocks with one frame more, joined to its home and to no other block
 unfoldable pub settled : Layout → List Table → Frame → List Table

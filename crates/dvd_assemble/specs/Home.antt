@@ -21,24 +21,24 @@ abbrev pub block_words : Layout → BlockPlan → List ℕ
 block_words layout entry = map (λ f. id_word entry.area entry.layer (has_two_layers layout.shape) (entry.first + f)) (range_with_len 0 16)
 
 -- Ours: the ID words of all frames of the data zone, in the order of a stream
-unfoldable pub words_of : Layout → List ℕ
-words_of layout = flat_map (block_words layout) (plan_of layout DataOnly)
+unfoldable pub id_words : Layout → List ℕ
+id_words layout = flat_map (block_words layout) (plan_of layout DataOnly)
 
 -- Ours: the ID word of a row, if its first six bytes are right by the IED (ECMA-267, 16.2)
 abbrev pub checked_word : List ℕ → Option ℕ
 checked_word row = if has_check (take 6 row) then Some (found_word row) else None
 
 -- Ours: the ID word of the codeword near a received first row
-unfoldable pub word_in : List ℕ → List Bool → Option ℕ
-word_in row marks = option_and_then checked_word (near_of 182 10 row marks)
+unfoldable pub id_word_in : List ℕ → List Bool → Option ℕ
+id_word_in row marks = option_and_then checked_word (near_of 182 10 row marks)
 
 -- Ours: the first frame of the data zone, by its number in a stream, whose place is that of this ID word
 unfoldable pub home_in : Layout → ℕ → Option ℕ
-home_in layout word = position (is_same_place word) (words_of layout)
+home_in layout word = position (is_same_place word) (id_words layout)
 
 -- Ours: the home of a captured frame, by the number that the frame has in a stream of the data zone
 unfoldable pub home : Layout → Frame → Option ℕ
-home layout frame = option_and_then (home_in layout) (word_in (line frame.rows 0) (marks_line frame.marks 0))
+home layout frame = option_and_then (home_in layout) (id_word_in (line frame.rows 0) (marks_line frame.marks 0))
 
 -- Ours: the block of the frame of this number, and which of its sixteen frames it is
 abbrev pub block_and_frame : ℕ → ℕ × ℕ

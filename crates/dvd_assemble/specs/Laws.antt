@@ -12,8 +12,8 @@ use Rattle.dvd_assemble.specs.Home.{home}
 use Rattle.dvd_assemble.specs.Mastered.{AreNamed, IsCaptureOf, IsCaptured, NamesItsFrames}
 
 -- the same frames in another order, or some of them more than once, make the same blocks
-abbrev pub OrderDoesNotCount : Type 0
-OrderDoesNotCount =
+abbrev pub FrameOrderDoesNotCount : Type 0
+FrameOrderDoesNotCount =
     (layout : Layout) (a b : List Frame) → ((frame : Frame) → Contains a frame ↔ Contains b frame) → assembled layout a ≡ assembled layout b
 
 -- frames that are joined to their homes one after the other make these blocks

@@ -9,11 +9,11 @@ use Rattle.dvd_layout.specs.declared.layout.Layout.{Layout}
 use Rattle.dvd_layout.specs.declared.layout.Zones.TheVariants.{DataOnly}
 use Rattle.dvd_capture.specs.Answers.{marks_line}
 use Rattle.dvd_assemble.specs.Frames.{Frame}
-use Rattle.dvd_assemble.specs.Home.{words_of}
+use Rattle.dvd_assemble.specs.Home.{id_words}
 
 -- Ours: the ID word of frame f of data block k
 abbrev pub word_for : Layout → ℕ → ℕ → ℕ
-word_for layout k f = slice_index (words_of layout) (16 * k + f)
+word_for layout k f = slice_index (id_words layout) (16 * k + f)
 
 -- ECMA-267, 16.1, 16.2 and 18: a product codeword in which row 12f begins with the ID of frame f of data block k, and its IED
 pub record NamesItsFrames (layout : Layout) (k : ℕ) (block : List (List ℕ)) : Type 0 where

@@ -5,7 +5,7 @@ ghost use Rattle.dvd_frame.specs.Id.{is_same_place};
 ghost use Rattle.dvd_layout.specs.Lengths.{blocks_of};
 ghost use Rattle.dvd_layout.specs.Plan.{plan_of};
 ghost use Rattle.dvd_layout.specs.declared.layout.Zones.TheVariants.{DataOnly};
-ghost use Rattle.dvd_assemble.specs.Home.{block_and_frame, home, home_in, word_in, words_of};
+ghost use Rattle.dvd_assemble.specs.Home.{block_and_frame, home, home_in, id_word_in, id_words};
 ghost use Rattle.dvd_assemble.specs.Works.{captured};
 
 use crate::frame::FrameWork;
@@ -29,7 +29,7 @@ pub(crate) fn home_of(layout: &Layout, frame: &FrameWork) -> Option<(u16, u8)>
 
 // The ID in the codeword near a received first row, if its check is right.
 fn id_in(row: &[u8; 182], marks: &[bool; 182]) -> Option<Id>
-    ensures { result ≡ word_in row.now marks.now }
+    ensures { result ≡ id_word_in row.now marks.now }
 {
     let mut word = *row;
     decode(&Pi::new(), &mut word, marks).ok()?;
@@ -79,7 +79,7 @@ fn blocks_before(layout: &Layout, layer: u8) -> u64
 fn has_frame(layout: &Layout, k: u64, f: usize, id: Id) -> bool
     requires block { k < length (plan_of layout.now DataOnly) }
     requires frame { f < 16 }
-    ensures { result ≡ is_same_place id (slice_index (words_of layout.now) (16 * k + f)) }
+    ensures { result ≡ is_same_place id (slice_index (id_words layout.now) (16 * k + f)) }
 {
     let entry = layout.plan(Zones::DataOnly, k);
     id.same_place(id_of(&entry, layout.dim(), f))

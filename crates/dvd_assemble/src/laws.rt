@@ -1,9 +1,9 @@
 //! What holds of all captured frames: each function's contract is one law, and its body is empty.
-ghost use Rattle.dvd_assemble.specs.Laws.{CapturedFramesAgree, CapturedFramesComeHome, FramesAreSettledOneByOne, OrderDoesNotCount};
+ghost use Rattle.dvd_assemble.specs.Laws.{CapturedFramesAgree, CapturedFramesComeHome, FramesAreSettledOneByOne, FrameOrderDoesNotCount};
 
 /// Neither the order of frames nor their repetition changes the blocks that they make.
 pub fn order_of_frames_does_not_count()
-    ensures { OrderDoesNotCount }
+    ensures { FrameOrderDoesNotCount }
 {}
 
 /// Frames that are settled one after the other make the blocks of all of them.

@@ -1,4 +1,4 @@
--- Columns of a block: their length and bytes, as of columns of any rows, and words that agree with one place by place or are encoded in it.
+-- Columns of a block: their bytes, and words that agree with one place by place or are encoded in it; how long one is stands in rs_lanes.
 use Rattle.std.proofs.Common.{◌≡◌, ℕ, ◌<◌, ◌≤◌, List, ◌++◌, length, get_or, take, drop, sym, ◌∙◌, ap, subst, arith}
 use Rattle.std.proofs.lemmas.List.{get_or-take, length-take, take_all, take_at, take-append-drop}
 use Rattle.std.proofs.lemmas.Grind.{same_number_lists}

@@ -7,7 +7,7 @@ use Rattle.std.proofs.lemmas.List.FromFn.{get_or-map-range_with_len}
 use Rattle.std.proofs.lemmas.Grind.{same_number_lists}
 use Rattle.gf_field.specs.Field.{alpha, power}
 use Rattle.gf_field.specs.Words.{IsByte, IsCodeword, IsEncoded}
-use Rattle.dvd_block.specs.Product.{line, place, column, IsProduct}
+use Rattle.dvd_block.specs.Product.{line, place, column, IsParityAdded, IsProduct}
 use Rattle.dvd_block.proofs.Columns.{length-column, get_or-column}
 use Rattle.dvd_block.proofs.Linear.{rows_vanish}
 
@@ -102,6 +102,10 @@ module _ (old upper cells block : List (List ℕ)) (filled : IsFilled old upper 
     rows = λ i d below. subst (IsCodeword 182 10) (get_or_default block i [] d below) (row_codeword i (omega (arith, filled.height)));
     columns = column_codeword;
   }
+
+  -- and was given its parity
+  pub parity_added : IsParityAdded old block
+  parity_added = record { product = is_product; kept = message_kept }
 
 -- the columns of rows of outer parity, as cells
 pub cells_of : List (List ℕ) → List (List ℕ)

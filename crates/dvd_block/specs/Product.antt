@@ -10,6 +10,11 @@ pub record IsProduct (block : List (List ℕ)) : Type 0 where
   pub rows : All (IsCodeword 182 10) block
   pub columns : (j : ℕ) → j < 182 → IsCodeword 208 16 (column block j)
 
+-- a block was given its parity, and its frames are as they were
+pub record IsParityAdded (old new : List (List ℕ)) : Type 0 where
+  pub product : IsProduct new
+  pub kept : (i j : ℕ) → i < 192 → j < 172 → place new i j ≡ place old i j
+
 -- the twelve rows from 12f on begin with the frame, 172 bytes in each
 unfoldable pub HoldsFrame : ℕ → List ℕ → List (List ℕ) → Type 0
 HoldsFrame f frame block =

@@ -24,7 +24,7 @@ pub struct Block {
 
 impl Block {
     ghost use Rattle.dvd_block.specs.Buffers.{block_rows, cells_all};
-    ghost use Rattle.dvd_block.specs.Product.{line, place, IsProduct, HoldsFrame};
+    ghost use Rattle.dvd_block.specs.Product.{line, place, IsProduct, IsParityAdded, HoldsFrame};
     ghost use Rattle.dvd_block.specs.Recording.{recording};
 
     /// Zeros. `NoMemory` may come at any time, and nothing is taken then.
@@ -67,8 +67,7 @@ impl Block {
 
     /// Sets the inner and the outer parity: places 172 to 181 of all rows, and rows 192 to 207. All else stays.
     pub fn add_parity(&mut self)
-        ensures product { IsProduct (block_rows self.new) }
-        ensures kept { (i j : ℕ) → i < 192 → j < 172 → place (block_rows self.new) i j ≡ place (block_rows self.old) i j }
+        ensures { IsParityAdded (block_rows self.old) (block_rows self.new) }
     {
         fill_parity(self.lines.rows_mut());
     }

@@ -3,7 +3,7 @@
 ghost use Rattle.std.specs.Prelude.{◌≡◌, ℕ, ◌<◌, ◌≤◌, ◌++◌, length, take, slice_index, EachIndex, All, ◌↔◌, IsTrue};
 ghost use Rattle.gf_field.specs.Words.{IsCodeword, IsEncoded};
 ghost use Rattle.dvd_block.specs.Buffers.{lines_rows};
-ghost use Rattle.dvd_block.specs.Product.{line, place, column, IsProduct};
+ghost use Rattle.dvd_block.specs.Product.{line, place, column, IsParityAdded};
 
 use crate::buffers::Lines;
 use rs_code::{Pi, Po};
@@ -33,8 +33,7 @@ pub fn column_parity(code: &Po, lines: &Lines, j: usize, cell: &mut [u8; 16])
 pub(crate) fn fill_parity(rows: &mut [[u8; 182]])
     requires { length rows.old ≡ 208 }
     ensures size { length rows.new ≡ 208 }
-    ensures product { IsProduct rows.new }
-    ensures kept { (i j : ℕ) → i < 192 → j < 172 → place rows.new i j ≡ place rows.old i j }
+    ensures added { IsParityAdded rows.old rows.new }
 {
     let (upper, lower) = rows.split_at_mut(192);
     set_inner_parity(upper);

@@ -10,7 +10,7 @@ use Rattle.rs_decode.specs.Errors.{HasNoneNear}
 use Rattle.rs_decode.specs.Nearest.{near_of}
 use Rattle.rs_decode.proofs.NearSearch.{near_of-some, none-near_of}
 use Rattle.dvd_block.specs.Product.{IsProduct}
-use Rattle.dvd_capture.specs.TwoPass.{IsTwoPass, answer_column, answers_of, byte_at, failed_of}
+use Rattle.dvd_capture.specs.TwoPass.{IsTwoPass, answer_column, answers_of, byte_or_zero, failed_of}
 use Rattle.dvd_capture.specs.Within.{IsWithin, block_weight, row_weight}
 
 -- each marked place costs one at least
@@ -27,7 +27,7 @@ marked-cost (x ∷ word) (y ∷ row) (false ∷ marks) word_size row_size =
 
 -- what a row's answer costs a column in which the recorded byte is this
 abbrev answer_cost : ℕ → ℕ → Option (List ℕ) → ℕ
-answer_cost j byte answer = cond (is_none answer) 1 (cond (nat_eq byte (byte_at j answer)) 0 2)
+answer_cost j byte answer = cond (is_none answer) 1 (cond (nat_eq byte (byte_or_zero j answer)) 0 2)
 
 -- a good row comes back, since at most one codeword is near
 good_row : (j : ℕ) (word row : List ℕ) (marks : List Bool) → IsNear 182 10 row marks word → answer_cost j (slice_index word j) (near_of 182 10 row marks) ≡ 0
@@ -79,7 +79,7 @@ HasWidth n rows = All (λ row. length row ≡ n) rows
 -- so a column costs no more than the weight of the block
 column_bound : (j : ℕ) (block received : List (List ℕ)) (marks : List (List Bool)) → All (IsCodeword 182 10) block
     → HasWidth 182 received → HasWidth 182 marks
-    → cost (map (λ row. slice_index row j) block) (map (byte_at j) (answers_of received marks)) (failed_of (answers_of received marks)) ≤ block_weight block received marks
+    → cost (map (λ row. slice_index row j) block) (map (byte_or_zero j) (answers_of received marks)) (failed_of (answers_of received marks)) ≤ block_weight block received marks
 unfolding cost block_weight answers_of
 column_bound j [] received marks codewords widths marks_widths = omega arith
 column_bound j (word ∷ block) [] marks codewords widths marks_widths = omega arith

@@ -9,14 +9,14 @@ use Rattle.gf_field.specs.Words.{IsCodeword, IsNear, cost}
 use Rattle.rs_decode.proofs.OneNear.{near_once}
 use Rattle.rs_decode.proofs.NearSearch.{near_of-some}
 use Rattle.dvd_block.specs.Product.{IsProduct, column, line, place}
-use Rattle.dvd_capture.specs.TwoPass.{AgreesWith, IsTwoPass, answer_column, answers_of, byte_at, column_answer, failed_of, from_columns}
+use Rattle.dvd_capture.specs.TwoPass.{AgreesWith, IsTwoPass, answer_column, answers_of, byte_or_zero, column_answer, failed_of, from_columns}
 use Rattle.rs_decode.specs.Filling.{marked}
 use Rattle.dvd_capture.proofs.Bound.{marked-cost}
 
 -- a column of row answers has one byte or none for each row
 pub length-answer_column : (answers : List (Option (List ℕ))) (j : ℕ) → length (answer_column answers j) ≡ length answers
 unfolding answer_column
-length-answer_column answers j = length-map answers (byte_at j)
+length-answer_column answers j = length-map answers (byte_or_zero j)
 
 -- each column of a block that agrees is near the column of answers
 pub column-near : (answers : List (Option (List ℕ))) (block : List (List ℕ)) (j : ℕ) → length answers ≡ 208 → AgreesWith answers block → j < 182

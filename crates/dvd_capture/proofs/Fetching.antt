@@ -7,7 +7,7 @@ use Rattle.std.specs.Io.KnownBytes.{Consumes}
 use Rattle.dvd_block.specs.Product.{line}
 use Rattle.dvd_block.specs.Recording.{record_at, row_at}
 use Rattle.dvd_capture.specs.Answers.{marks_line}
-use Rattle.dvd_capture.specs.Captured.{Captures, HasSize, IsLawful, block_size, captured_marks, captured_rows, marks_in, record_marks, record_of, record_size, unit_size}
+use Rattle.dvd_capture.specs.Captured.{Captures, HasSize, BreaksNoRule, block_size, captured_marks, captured_rows, marks_in, record_marks, record_of, record_size, unit_size}
 use Rattle.dvd_capture.specs.Inner.Putting.{ArePut}
 use Rattle.dvd_capture.specs.declared.form.Form.{Form}
 use Rattle.dvd_capture.specs.declared.form.Form.TheVariants.{Plain, Marked, Listed}
@@ -95,7 +95,7 @@ sized-most Marked sized = omega arith
 sized-most Listed sized = absurd (sized refl)
 
 -- no rule is broken in them
-sized-lawful : (form : Form) → HasSize form → (bytes : List ℕ) → IsLawful form bytes
+sized-lawful : (form : Form) → HasSize form → (bytes : List ℕ) → BreaksNoRule form bytes
 sized-lawful Plain sized bytes = tt
 sized-lawful Marked sized bytes = tt
 sized-lawful Listed sized bytes = absurd (sized refl)

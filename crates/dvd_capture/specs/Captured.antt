@@ -33,10 +33,10 @@ unit_size Marked bytes = 42_640
 unit_size Listed bytes = listed_size bytes
 
 -- no rule is broken in these bytes
-abbrev pub IsLawful : Form → List ℕ → Type 0
-IsLawful Plain bytes = ⊤
-IsLawful Marked bytes = ⊤
-IsLawful Listed bytes = IsUnbroken bytes
+abbrev pub BreaksNoRule : Form → List ℕ → Type 0
+BreaksNoRule Plain bytes = ⊤
+BreaksNoRule Marked bytes = ⊤
+BreaksNoRule Listed bytes = IsUnbroken bytes
 
 -- the bytes of recorded row m
 abbrev pub record_of : Form → List ℕ → ℕ → List ℕ
@@ -66,7 +66,7 @@ captured_marks form bytes = map (λ i. record_marks form bytes (record_at i)) (r
 pub record Captures (form : Form) (old new : Option (List ℕ)) (rows : List (List ℕ)) (marks : List (List Bool)) : Type 0 where
   pub bytes : List ℕ
   pub size : length bytes ≡ unit_size form bytes
-  pub lawful : IsLawful form bytes
+  pub lawful : BreaksNoRule form bytes
   pub taken : Consumes old new bytes
   pub rows_are : rows ≡ captured_rows form bytes
   pub marks_are : marks ≡ captured_marks form bytes
@@ -77,7 +77,7 @@ pub record EndsAfter (form : Form) (old new : Option (List ℕ)) (count : ℕ) :
   pub size : length bytes ≡ count
   pub taken : Consumes old new bytes
   pub fewer : count < unit_size form bytes
-  pub lawful : IsLawful form bytes
+  pub lawful : BreaksNoRule form bytes
   pub at_end : IsAtEnd new
 
 -- a source lost fewer bytes than their block has

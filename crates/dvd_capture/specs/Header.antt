@@ -30,7 +30,7 @@ abbrev pub IsHeader : List ℕ → Type 0
 IsHeader bytes = (place : ℕ) → place < 32 → may_stand place (slice_index bytes place) ≡ true
 
 -- the first byte that may not stand at its place
-pub record IsFirstWrong (bytes : List ℕ) (at : ℕ) : Type 0 where
+pub record IsFirstWrongByte (bytes : List ℕ) (at : ℕ) : Type 0 where
   pub within : at < 32
   pub wrong : may_stand at (slice_index bytes at) ≡ false
   pub before : (place : ℕ) → place < at → may_stand place (slice_index bytes place) ≡ true

@@ -39,8 +39,8 @@ MarksHaveASpelling =
     → length marks ≡ 208 → All (λ row. length row ≡ 182) marks → (unit : List ℕ) × IsUnitOf rows marks unit
 
 -- the numbers of a header have 32 bits
-abbrev pub HasNumbers : Header → Type 0
-HasNumbers header = (header.sectors0 < 2 ^ 32) × (header.sectors1 < 2 ^ 32) × (header.initial < 2 ^ 32) × (header.tail < 2 ^ 32)
+abbrev pub FitsHeader : Header → Type 0
+FitsHeader header = (header.sectors0 < 2 ^ 32) × (header.sectors1 < 2 ^ 32) × (header.initial < 2 ^ 32) × (header.tail < 2 ^ 32)
 
 -- headers with the same bytes state the same
 pub record StateTheSame (a b : Header) : Type 0 where
@@ -53,4 +53,4 @@ pub record StateTheSame (a b : Header) : Type 0 where
 
 -- two headers whose numbers have 32 bits are the same where their bytes are
 abbrev pub HeadersDiffer : Type 0
-HeadersDiffer = (a b : Header) → HasNumbers a → HasNumbers b → header_bytes a ≡ header_bytes b → StateTheSame a b
+HeadersDiffer = (a b : Header) → FitsHeader a → FitsHeader b → header_bytes a ≡ header_bytes b → StateTheSame a b

@@ -18,13 +18,13 @@ abbrev pub failed_of : List (Option (List ℕ)) → List Bool
 failed_of answers = map is_none answers
 
 -- an answer's byte at place j; a failed row has none, and 0 stands for it
-abbrev pub byte_at : ℕ → Option (List ℕ) → ℕ
-byte_at j None = 0
-byte_at j (Some word) = slice_index word j
+abbrev pub byte_or_zero : ℕ → Option (List ℕ) → ℕ
+byte_or_zero j None = 0
+byte_or_zero j (Some word) = slice_index word j
 
 -- column j of the answers
 unfoldable pub answer_column : List (Option (List ℕ)) → ℕ → List ℕ
-answer_column answers j = map (byte_at j) answers
+answer_column answers j = map (byte_or_zero j) answers
 
 -- A block that agrees with the answers: a product codeword each of whose columns costs at most 16,
 -- which is two for each answer that differs there and one for each failed row.

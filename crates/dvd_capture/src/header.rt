@@ -32,7 +32,7 @@ const INITIAL: [u8; 8] = [0x44, 0x56, 0x44, 0x45, 0x43, 0x43, 0, 2];
 impl Header {
     ghost use Rattle.std.specs.Prelude.{ℕ};
     ghost use Rattle.dvd_capture.specs.declared.header.HeaderFault.TheVariants.{Place};
-    ghost use Rattle.dvd_capture.specs.Header.{IsFirstWrong, IsHeader, header_bytes, may_stand};
+    ghost use Rattle.dvd_capture.specs.Header.{IsFirstWrongByte, IsHeader, header_bytes, may_stand};
 
     /// Writes the 32 bytes.
     #[tactic(auto, unfolding(crate::specs::Header::header_bytes))]
@@ -55,7 +55,7 @@ impl Header {
     pub fn from_bytes(bytes: &[u8; 32]) -> Result<Header, HeaderFault>
         ensures lawful { IfOk result (λ header. IsHeader bytes.now) }
         ensures fields { IfOk result (λ header. header_bytes header ≡ bytes.now) }
-        ensures refused { (at : ℕ) → result ≡ Err (Place at) → IsFirstWrong bytes.now at }
+        ensures refused { (at : ℕ) → result ≡ Err (Place at) → IsFirstWrongByte bytes.now at }
     {
         for (at, byte) in bytes.iter().enumerate() {
             if !Header::is_allowed(at, *byte) {

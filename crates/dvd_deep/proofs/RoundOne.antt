@@ -12,7 +12,7 @@ use Rattle.rs_decode.proofs.OneNear.{cost-alike}
 use Rattle.rs_decode.proofs.NearSearch.{codeword-vanishes, near_of-some}
 use Rattle.dvd_block.specs.Product.{IsProduct, column, line}
 use Rattle.dvd_block.proofs.Columns.{get_or-column, length-column}
-use Rattle.dvd_capture.specs.TwoPass.{IsTwoPass, answer_column, answers_of, byte_at, failed_of}
+use Rattle.dvd_capture.specs.TwoPass.{IsTwoPass, answer_column, answers_of, byte_or_zero, failed_of}
 use Rattle.dvd_capture.proofs.Columns.{from_columns-product, length-answer_column, length-answers_of}
 use Rattle.dvd_read.proofs.RowAnswers.{get_or-answers_of}
 use Rattle.dvd_deep.specs.Laws.{TwoPassIsRoundOne}
@@ -45,7 +45,7 @@ unfolding row_step
 row_step-line state i below = get_or-map-range_with_len (row_then state) 0 208 i i [] below (omega arith)
 
 -- a row that didn't fail has the bytes of its answer
-answered-byte : (found : Option (List ℕ)) (row : List ℕ) (j : ℕ) → is_none found ≡ false → slice_index (unwrap_or found row) j ≡ byte_at j found
+answered-byte : (found : Option (List ℕ)) (row : List ℕ) (j : ℕ) → is_none found ≡ false → slice_index (unwrap_or found row) j ≡ byte_or_zero j found
 answered-byte None row j answered = absurd (true≢false answered)
 answered-byte (Some word) row j answered = refl
 
@@ -60,7 +60,7 @@ column-agrees received marks j k height marks_height below clear =
     let size = length-answers_of received marks 208 height marks_height in
     let is = answer-near received marks k height marks_height below in
     let answered : is_none (row_near state k) ≡ false = ap is_none (sym is) ∙ sym (get_or-map is_none answers k None false (omega (arith, size))) ∙ clear in
-    get_or-map (byte_at j) answers k None 0 (omega (arith, size)) ∙ ap (byte_at j) is
+    get_or-map (byte_or_zero j) answers k None 0 (omega (arith, size)) ∙ ap (byte_or_zero j) is
     ∙ sym (get_or-column (row_step state).rows j k ∙ ap (λ (row : List ℕ). slice_index row j) (row_step-line state k below)
     ∙ answered-byte (row_near state k) (line received k) j answered)
 

@@ -5,7 +5,7 @@ ghost use Rattle.std.specs.Option.{option_or};
 ghost use Rattle.rs_decode.specs.Nearest.{near_of, vanishes_at_all};
 ghost use Rattle.dvd_block.specs.Product.{column, line};
 ghost use Rattle.dvd_capture.specs.Parts.{marks_rows, received_rows};
-ghost use Rattle.dvd_deep.specs.Inner.Buffers.{state_of};
+ghost use Rattle.dvd_deep.specs.Inner.Buffers.{buffered_state};
 ghost use Rattle.dvd_deep.specs.Rounds.{after, are_answered, column_marks, column_near, column_step, failed_marks, finishes, first_round, round, row_near, row_step};
 ghost use Rattle.dvd_deep.specs.Inner.Steps.{AreMarksTaken, AreWide, IsColumnPut};
 
@@ -18,8 +18,8 @@ const MOST_ROUNDS: u8 = 4;
 
 /// Plays up to four rounds. Answers the number of the first that finishes, whose state then stands.
 pub(crate) fn play_rounds(rows: &mut Received, marks: &mut Marks) -> Option<u8>
-    ensures first { result ≡ first_round (state_of rows.old marks.old) }
-    ensures state { IfSome result (λ t. state_of rows.new marks.new ≡ after t (state_of rows.old marks.old)) }
+    ensures first { result ≡ first_round (buffered_state rows.old marks.old) }
+    ensures state { IfSome result (λ t. buffered_state rows.new marks.new ≡ after t (buffered_state rows.old marks.old)) }
 {
     for t in 1..=MOST_ROUNDS {
         if play_round(rows, marks) {
@@ -31,8 +31,8 @@ pub(crate) fn play_rounds(rows: &mut Received, marks: &mut Marks) -> Option<u8>
 
 // Plays one round. Answers whether it finishes.
 fn play_round(rows: &mut Received, marks: &mut Marks) -> bool
-    ensures state { state_of rows.new marks.new ≡ round (state_of rows.old marks.old) }
-    ensures finishes { result ≡ finishes (state_of rows.old marks.old) }
+    ensures state { buffered_state rows.new marks.new ≡ round (buffered_state rows.old marks.old) }
+    ensures finishes { result ≡ finishes (buffered_state rows.old marks.old) }
 {
     let mut failed = [false; 208];
     answer_rows(rows, marks, &mut failed);
@@ -42,8 +42,8 @@ fn play_round(rows: &mut Received, marks: &mut Marks) -> bool
 
 // The row step. Notes which rows fail.
 fn answer_rows(rows: &mut Received, marks: &mut Marks, failed: &mut [bool; 208])
-    ensures state { state_of rows.new marks.new ≡ row_step (state_of rows.old marks.old) }
-    ensures failed { failed.new ≡ failed_marks (state_of rows.old marks.old) }
+    ensures state { buffered_state rows.new marks.new ≡ row_step (buffered_state rows.old marks.old) }
+    ensures failed { failed.new ≡ failed_marks (buffered_state rows.old marks.old) }
     ensures wide { AreWide (received_rows rows.new) }
 {
     let code = Pi::new();
@@ -55,8 +55,8 @@ fn answer_rows(rows: &mut Received, marks: &mut Marks, failed: &mut [bool; 208])
 // Answers row `i`: it becomes the codeword near it and loses its marks, if there is one. Answers whether there is.
 fn answer_row(code: &Pi, rows: &mut Received, marks: &mut Marks, i: usize) -> bool
     requires { i < 208 }
-    ensures answered { result ≡ is_some (row_near (state_of rows.old marks.old) i) }
-    ensures row { received_rows rows.new ≡ slice_set (received_rows rows.old) i (unwrap_or (row_near (state_of rows.old marks.old) i) (line (received_rows rows.old) i)) }
+    ensures answered { result ≡ is_some (row_near (buffered_state rows.old marks.old) i) }
+    ensures row { received_rows rows.new ≡ slice_set (received_rows rows.old) i (unwrap_or (row_near (buffered_state rows.old marks.old) i) (line (received_rows rows.old) i)) }
     ensures wide { length (line (received_rows rows.new) i) ≡ 182 }
     ensures marks { marks_rows marks.new ≡ (if result then slice_set (marks_rows marks.old) i (replicate 182 false) else marks_rows marks.old) }
 {
@@ -89,8 +89,8 @@ fn answer_word<const N: usize, const R: usize>(
 // The column step. Answers whether all columns are answered.
 fn answer_columns(rows: &mut Received, marks: &mut Marks, failed: &[bool; 208]) -> bool
     requires wide { AreWide (received_rows rows.old) }
-    ensures state { state_of rows.new marks.new ≡ column_step failed.now (state_of rows.old marks.old) }
-    ensures answered { result ≡ are_answered failed.now (state_of rows.old marks.old) }
+    ensures state { buffered_state rows.new marks.new ≡ column_step failed.now (buffered_state rows.old marks.old) }
+    ensures answered { result ≡ are_answered failed.now (buffered_state rows.old marks.old) }
 {
     let code = Po::new();
     let mut all = true;
@@ -111,8 +111,8 @@ fn answer_column(
 ) -> bool
     requires place { j < 182 }
     requires wide { AreWide (received_rows rows.old) }
-    ensures answered { result ≡ is_some (column_near failed.now (state_of rows.old marks.old) j) }
-    ensures column { IsColumnPut j (unwrap_or (column_near failed.now (state_of rows.old marks.old) j) (column (received_rows rows.old) j)) (received_rows rows.old) (received_rows rows.new) }
+    ensures answered { result ≡ is_some (column_near failed.now (buffered_state rows.old marks.old) j) }
+    ensures column { IsColumnPut j (unwrap_or (column_near failed.now (buffered_state rows.old marks.old) j) (column (received_rows rows.old) j)) (received_rows rows.old) (received_rows rows.new) }
     ensures marks { IsTrue result → AreMarksTaken j (marks_rows marks.old) (marks_rows marks.new) }
     ensures same { result ≡ false → marks_rows marks.new ≡ marks_rows marks.old }
     ensures wide { AreWide (received_rows rows.new) }

@@ -5,7 +5,7 @@ use Rattle.std.proofs.lemmas.List.{get_or-replicate}
 use Rattle.gf_field.specs.Words.{cost}
 use Rattle.rs_decode.specs.Filling.{marked}
 use Rattle.dvd_capture.specs.Within.{IsWithin, block_weight, row_weight}
-use Rattle.dvd_exercise.specs.Damage.{HasErrors, IsHurt, IsHurtBy, bad_count, error_count, error_place, lost_count, row_of, row_state, start_row}
+use Rattle.dvd_exercise.specs.Damage.{HasErrors, IsHurt, IsHurtBy, bad_count, drawn_errors, error_place, lost_count, damaged_row, row_state, start_row}
 use Rattle.dvd_exercise.specs.Generator.{state_after}
 use Rattle.dvd_exercise.specs.Laws.{HurtIsWithin}
 use Rattle.dvd_exercise.proofs.Burdens.{burden-at, burdens, Find, find_place, length-burdens, sum_below, total, total-burdens}
@@ -37,7 +37,7 @@ sum_below-two (suc n) = omega (arith, sum_below-two n)
 -- single errors cost two each
 errors-cost : (y : ℕ) (before after : List ℕ) → HasErrors y before after → cost before after (replicate 182 false) ≤ 10
 errors-cost y before after has =
-    let n : ℕ = error_count y in
+    let n : ℕ = drawn_errors y in
     let size : ℕ = length before in
     let marks = burdens (error_place y) (λ _. 2) size n in
     let most : cost before after (replicate 182 false) ≤ total marks =
@@ -46,11 +46,11 @@ errors-cost y before after has =
     omega (arith, total-burdens (error_place y) (λ _. 2) size n, sum_below-two n) where
       -- by whether the place is that of an error
       by_place : (k : ℕ) → k < length before → slice_index before k ≢ slice_index after k
-          → Find (error_place y) k (error_count y)
-          → 2 ≤ get_or (burdens (error_place y) (λ _. 2) (length before) (error_count y)) k 0
+          → Find (error_place y) k (drawn_errors y)
+          → 2 ≤ get_or (burdens (error_place y) (λ _. 2) (length before) (drawn_errors y)) k 0
       by_place k below other (inl found) =
-          subst (λ (k : ℕ). 2 ≤ get_or (burdens (error_place y) (λ _. 2) (length before) (error_count y)) k 0) found.2
-          (burden-at (error_place y) (λ _. 2) (length before) (error_count y) found.0 found.1 (omega (arith, found.2)))
+          subst (λ (k : ℕ). 2 ≤ get_or (burdens (error_place y) (λ _. 2) (length before) (drawn_errors y)) k 0) found.2
+          (burden-at (error_place y) (λ _. 2) (length before) (drawn_errors y) found.0 found.1 (omega (arith, found.2)))
       by_place k below other (inr none) = absurd (other (sym (has.others k none)))
 
 -- a block weighs no more than what is said of its rows
@@ -97,33 +97,33 @@ sum_below-turns bad (suc n) = next (leb_tells (suc n) bad) (sum_below-turns bad 
 module _ (bad lost start y : ℕ) (rows : List (List ℕ)) (done : List (List ℕ)) (hurt_marks : List (List Bool))
     (is : IsHurtBy bad lost start y rows (replicate 208 (replicate 182 false)) done hurt_marks) where
   -- the marks of a lost row are all set
-  marks_lost : (t : ℕ) → bad ≤ t → t < bad + lost → get_or hurt_marks (row_of start t) [] ≡ replicate 182 true
+  marks_lost : (t : ℕ) → bad ≤ t → t < bad + lost → get_or hurt_marks (damaged_row start t) [] ≡ replicate 182 true
   marks_lost t above below =
       let same : bad + (t - bad) ≡ t = omega arith in
-      ap (λ (t : ℕ). get_or hurt_marks (row_of start t) []) (sym same) ∙ is.marked.changed (t - bad) (omega arith)
+      ap (λ (t : ℕ). get_or hurt_marks (damaged_row start t) []) (sym same) ∙ is.marked.changed (t - bad) (omega arith)
 
   -- those of any other row stay
-  marks_kept : (k : ℕ) → k < 208 → ((t : ℕ) → t < bad + lost → row_of start t ≢ k) → get_or hurt_marks k [] ≡ replicate 182 false
+  marks_kept : (k : ℕ) → k < 208 → ((t : ℕ) → t < bad + lost → damaged_row start t ≢ k) → get_or hurt_marks k [] ≡ replicate 182 false
   marks_kept k below none = is.marked.others k (λ t here. none (bad + t) (omega arith)) ∙ get_or-replicate 208 k (replicate 182 false) [] below
 
   -- a row weighs no more than its turn
-  turn_bound : (t : ℕ) → t < bad + lost → row_weight (get_or rows (row_of start t) []) (get_or done (row_of start t) []) (get_or hurt_marks (row_of start t) []) ≤ turn_weight bad t
+  turn_bound : (t : ℕ) → t < bad + lost → row_weight (get_or rows (damaged_row start t) []) (get_or done (damaged_row start t) []) (get_or hurt_marks (damaged_row start t) []) ≤ turn_weight bad t
   turn_bound t below = by_turn (leb_tells (suc t) bad) where
     -- by whether the turn is that of a bad row
     by_turn : TurnOf bad t
-        → row_weight (get_or rows (row_of start t) []) (get_or done (row_of start t) []) (get_or hurt_marks (row_of start t) []) ≤ turn_weight bad t
-    by_turn (inl early) = rw early.0 (any-weight (get_or rows (row_of start t) []) (get_or done (row_of start t) []) (get_or hurt_marks (row_of start t) []))
-    by_turn (inr late) = rw (late.0, marks_lost t (omega (arith, late.1)) below) (lost-weight (get_or rows (row_of start t) []) (get_or done (row_of start t) []))
+        → row_weight (get_or rows (damaged_row start t) []) (get_or done (damaged_row start t) []) (get_or hurt_marks (damaged_row start t) []) ≤ turn_weight bad t
+    by_turn (inl early) = rw early.0 (any-weight (get_or rows (damaged_row start t) []) (get_or done (damaged_row start t) []) (get_or hurt_marks (damaged_row start t) []))
+    by_turn (inr late) = rw (late.0, marks_lost t (omega (arith, late.1)) below) (lost-weight (get_or rows (damaged_row start t) []) (get_or done (damaged_row start t) []))
 
   -- and each row no more than the turns that have it, if any
-  row_bound : (k : ℕ) → k < 208 → row_weight (get_or rows k []) (get_or done k []) (get_or hurt_marks k []) ≤ get_or (burdens (row_of start) (turn_weight bad) 208 (bad + lost)) k 0
-  row_bound k below = by_row (find_place (row_of start) k (bad + lost)) where
+  row_bound : (k : ℕ) → k < 208 → row_weight (get_or rows k []) (get_or done k []) (get_or hurt_marks k []) ≤ get_or (burdens (damaged_row start) (turn_weight bad) 208 (bad + lost)) k 0
+  row_bound k below = by_row (find_place (damaged_row start) k (bad + lost)) where
     -- by whether a turn has the row
-    by_row : Find (row_of start) k (bad + lost)
-        → row_weight (get_or rows k []) (get_or done k []) (get_or hurt_marks k []) ≤ get_or (burdens (row_of start) (turn_weight bad) 208 (bad + lost)) k 0
+    by_row : Find (damaged_row start) k (bad + lost)
+        → row_weight (get_or rows k []) (get_or done k []) (get_or hurt_marks k []) ≤ get_or (burdens (damaged_row start) (turn_weight bad) 208 (bad + lost)) k 0
     by_row (inl found) =
-        subst (λ (k : ℕ). row_weight (get_or rows k []) (get_or done k []) (get_or hurt_marks k []) ≤ get_or (burdens (row_of start) (turn_weight bad) 208 (bad + lost)) k 0) found.2
-        (omega (arith, turn_bound found.0 found.1, burden-at (row_of start) (turn_weight bad) 208 (bad + lost) found.0 found.1 (omega arith)))
+        subst (λ (k : ℕ). row_weight (get_or rows k []) (get_or done k []) (get_or hurt_marks k []) ≤ get_or (burdens (damaged_row start) (turn_weight bad) 208 (bad + lost)) k 0) found.2
+        (omega (arith, turn_bound found.0 found.1, burden-at (damaged_row start) (turn_weight bad) 208 (bad + lost) found.0 found.1 (omega arith)))
     by_row (inr none) =
         let cheap : cost (get_or rows k []) (get_or done k []) (replicate 182 false) ≤ 10 =
         errors-cost (row_state start (bad + lost) (state_after y (182 * bad)) k) (get_or rows k []) (get_or done k []) (is.others k below (miss_from_none start (bad + lost) k none)) in
@@ -132,10 +132,10 @@ module _ (bad lost start y : ℕ) (rows : List (List ℕ)) (done : List (List �
   -- so the block weighs no more than its turns
   hurt_by_within : length rows ≡ 208 → 2 * bad + lost ≤ 16 → IsWithin rows done hurt_marks
   hurt_by_within height few =
-      let weights = burdens (row_of start) (turn_weight bad) 208 (bad + lost) in
+      let weights = burdens (damaged_row start) (turn_weight bad) 208 (bad + lost) in
       let most : block_weight rows done hurt_marks ≤ total weights =
-      weight-total rows done hurt_marks weights (length-burdens (row_of start) (turn_weight bad) 208 (bad + lost) ∙ sym height) (λ k below. row_bound k (omega arith)) in
-      omega (arith, total-burdens (row_of start) (turn_weight bad) 208 (bad + lost), sum_below-turns bad (bad + lost))
+      weight-total rows done hurt_marks weights (length-burdens (damaged_row start) (turn_weight bad) 208 (bad + lost) ∙ sym height) (λ k below. row_bound k (omega arith)) in
+      omega (arith, total-burdens (damaged_row start) (turn_weight bad) 208 (bad + lost), sum_below-turns bad (bad + lost))
 
 -- whatever is drawn, the block is within the bound: at most 8 rows are bad, and the lost ones leave room for them
 pub hurt_within : HurtIsWithin

@@ -1,7 +1,7 @@
 -- Words and bytes that are drawn one after the other.
 use Rattle.std.proofs.Common.{◌≡◌, ℕ, zero, suc, ◌+◌, ◌/◌, ◌^◌, ◌<◌, length, get_or, refl, ap, add-zero, add-one, add-suc, zero-add}
 use Rattle.std.proofs.lemmas.List.FromFn.{get_or-map-range_with_len, length-map-range_with_len}
-use Rattle.dvd_exercise.specs.Generator.{byte_at, bytes_from, state_after, step}
+use Rattle.dvd_exercise.specs.Generator.{drawn_byte, bytes_from, state_after, step}
 
 -- no word yet
 pub state_none : (x : ℕ) → state_after x 0 ≡ x
@@ -24,8 +24,8 @@ unfolding state_after
 two_words x = refl
 
 -- one byte more
-pub byte_more : (x n : ℕ) → step (state_after x n) / 2 ^ 56 ≡ byte_at x n
-unfolding byte_at
+pub byte_more : (x n : ℕ) → step (state_after x n) / 2 ^ 56 ≡ drawn_byte x n
+unfolding drawn_byte
 byte_more x n = ap (λ (y : ℕ). y / 2 ^ 56) (state_more x n)
 
 -- words after words
@@ -37,9 +37,9 @@ state-add x m (suc n) = rw add-suc (ap step (state-add x m n))
 -- how many bytes are drawn
 pub length-bytes_from : (x n : ℕ) → length (bytes_from x n) ≡ n
 unfolding bytes_from
-length-bytes_from x n = length-map-range_with_len (byte_at x) 0 n
+length-bytes_from x n = length-map-range_with_len (drawn_byte x) 0 n
 
 -- the byte in its place
-pub get_or-bytes_from : (x n k : ℕ) → k < n → get_or (bytes_from x n) k 0 ≡ byte_at x k
+pub get_or-bytes_from : (x n k : ℕ) → k < n → get_or (bytes_from x n) k 0 ≡ drawn_byte x k
 unfolding bytes_from
-get_or-bytes_from x n k below = get_or-map-range_with_len (byte_at x) 0 n k k 0 below (zero-add k)
+get_or-bytes_from x n k below = get_or-map-range_with_len (drawn_byte x) 0 n k k 0 below (zero-add k)

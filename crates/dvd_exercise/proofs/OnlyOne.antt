@@ -2,7 +2,7 @@
 use Rattle.std.proofs.Common.{◌≡◌, ◌∙◌, ℕ, ◌+◌, ◌-◌, ◌<◌, Bool, true, suc, List, [], length, get_or, replicate, inl, inr, sym, subst, arith}
 use Rattle.std.proofs.lemmas.Bool.Decides.{leb_tells}
 use Rattle.std.proofs.lemmas.List.{ext_get_or}
-use Rattle.dvd_exercise.specs.Damage.{IsChanged, IsHurtBy, bad_count, lost_count, row_of, start_row}
+use Rattle.dvd_exercise.specs.Damage.{IsChanged, IsHurtBy, bad_count, lost_count, damaged_row, start_row}
 use Rattle.dvd_exercise.specs.Generator.{state_after}
 use Rattle.dvd_exercise.specs.Laws.{HurtIsOnlyOne}
 use Rattle.dvd_exercise.proofs.Burdens.{Find, find_place}
@@ -21,24 +21,24 @@ changed_once none n place value before a b is_a is_b =
 module _ (bad lost start y : ℕ) (rows a b : List (List ℕ)) (marks a_marks b_marks : List (List Bool)) (height : length rows ≡ 208)
     (is_a : IsHurtBy bad lost start y rows marks a a_marks) (is_b : IsHurtBy bad lost start y rows marks b b_marks) where
   -- a row that is bad or lost is the same in both
-  turn_once : (t : ℕ) → t < bad + lost → get_or a (row_of start t) [] ≡ get_or b (row_of start t) []
+  turn_once : (t : ℕ) → t < bad + lost → get_or a (damaged_row start t) [] ≡ get_or b (damaged_row start t) []
   turn_once t below = by_turn (leb_tells (suc t) bad) where
     -- by whether it is bad
-    by_turn : TurnOf bad t → get_or a (row_of start t) [] ≡ get_or b (row_of start t) []
+    by_turn : TurnOf bad t → get_or a (damaged_row start t) [] ≡ get_or b (damaged_row start t) []
     by_turn (inl early) = is_a.bad_rows t early.1 ∙ sym (is_b.bad_rows t early.1)
     by_turn (inr late) =
         let same : bad + (t - bad) ≡ t = omega (arith, late.1) in
         let inside : t - bad < lost = omega (arith, late.1) in
-        subst (λ (t : ℕ). get_or a (row_of start t) [] ≡ get_or b (row_of start t) []) same (is_a.lost_rows (t - bad) inside ∙ sym (is_b.lost_rows (t - bad) inside))
+        subst (λ (t : ℕ). get_or a (damaged_row start t) [] ≡ get_or b (damaged_row start t) []) same (is_a.lost_rows (t - bad) inside ∙ sym (is_b.lost_rows (t - bad) inside))
 
   -- and so are all rows and marks
   hurt_by_once : (a ≡ b) × (a_marks ≡ b_marks)
   hurt_by_once = (
-    ext_get_or [] a b (is_a.height ∙ sym is_b.height) (λ k below. by_row k (omega (arith, is_a.height)) (find_place (row_of start) k (bad + lost))),
-    changed_once [] lost (λ t. row_of start (bad + t)) (λ _. replicate 182 true) marks a_marks b_marks is_a.marked is_b.marked,
+    ext_get_or [] a b (is_a.height ∙ sym is_b.height) (λ k below. by_row k (omega (arith, is_a.height)) (find_place (damaged_row start) k (bad + lost))),
+    changed_once [] lost (λ t. damaged_row start (bad + t)) (λ _. replicate 182 true) marks a_marks b_marks is_a.marked is_b.marked,
   ) where
     -- by whether the row is bad or lost
-    by_row : (k : ℕ) → k < 208 → Find (row_of start) k (bad + lost) → get_or a k [] ≡ get_or b k []
+    by_row : (k : ℕ) → k < 208 → Find (damaged_row start) k (bad + lost) → get_or a k [] ≡ get_or b k []
     by_row k below (inl found) = subst (λ (k : ℕ). get_or a k [] ≡ get_or b k []) found.2 (turn_once found.0 found.1)
     by_row k below (inr none) =
         let miss = miss_from_none start (bad + lost) k none in

@@ -5,16 +5,16 @@ use Rattle.std.proofs.lemmas.Bool.Decides.{eqb_tells}
 use Rattle.std.proofs.lemmas.List.Folds.{Any-from_list_any, list_any_at}
 use Rattle.std.proofs.lemmas.List.FromFn.{get_or-map-range_with_len, get_or-range_with_len, length-map-range_with_len, length-range_with_len}
 use Rattle.dvd_block.specs.Product.{line}
-use Rattle.dvd_exercise.specs.Damage.{HasErrors, combined, error_count, is_hit, row_of, row_state}
-use Rattle.dvd_exercise.specs.Generator.{byte_at, state_after}
+use Rattle.dvd_exercise.specs.Damage.{HasErrors, combined, drawn_errors, is_hit, damaged_row, row_state}
+use Rattle.dvd_exercise.specs.Generator.{drawn_byte, state_after}
 
 -- turn t is that of a bad row, or of one that comes behind these
 abbrev pub TurnOf : ℕ → ℕ → Type 0
 TurnOf bad t = ((nat_lt t bad ≡ true) × (t < bad)) ⊎ ((nat_lt t bad ≡ false) × (bad < suc t))
 
 -- no row comes twice
-pub row_of-new : (start n t : ℕ) → n < 208 → t < n → row_of start t ≢ row_of start n
-row_of-new start n t below before same = omega arith
+pub damaged_row-new : (start n t : ℕ) → n < 208 → t < n → damaged_row start t ≢ damaged_row start n
+damaged_row-new start n t below before same = omega arith
 
 -- no two of six errors stand at one place
 pub place-new : (first n t : ℕ) → n < 6 → t < n → (first + 31 * t) % 182 ≢ (first + 31 * n) % 182
@@ -23,38 +23,38 @@ place-new first n t below before same = omega arith
 -- a combined row has 182 bytes
 pub length-combined : (y : ℕ) (row : List ℕ) → length (combined y row) ≡ 182
 unfolding combined
-length-combined y row = length-map-range_with_len (λ j. bit_xor (slice_index row j) (byte_at y j)) 0 182
+length-combined y row = length-map-range_with_len (λ j. bit_xor (slice_index row j) (drawn_byte y j)) 0 182
 
 -- each is that of the row, combined with the byte that is drawn for its place
-pub get_or-combined : (y : ℕ) (row : List ℕ) (j : ℕ) → j < 182 → get_or (combined y row) j 0 ≡ bit_xor (slice_index row j) (byte_at y j)
+pub get_or-combined : (y : ℕ) (row : List ℕ) (j : ℕ) → j < 182 → get_or (combined y row) j 0 ≡ bit_xor (slice_index row j) (drawn_byte y j)
 unfolding combined
-get_or-combined y row j below = get_or-map-range_with_len (λ j. bit_xor (slice_index row j) (byte_at y j)) 0 182 j j 0 below (zero-add j)
+get_or-combined y row j below = get_or-map-range_with_len (λ j. bit_xor (slice_index row j) (drawn_byte y j)) 0 182 j j 0 below (zero-add j)
 
 -- element t of the first n numbers
 turn : (n t : ℕ) → t < n → get_or (range_with_len 0 n) t 0 ≡ t
 turn n t below = get_or-range_with_len 0 n t 0 below ∙ zero-add t
 
 -- the row of a turn below n is one of the first n
-pub hit_at : (start n row t : ℕ) → t < n → row_of start t ≡ row → is_hit start n row ≡ true
+pub hit_at : (start n row t : ℕ) → t < n → damaged_row start t ≡ row → is_hit start n row ≡ true
 unfolding is_hit
 hit_at start n row t below same =
-    list_any_at (λ t. row_of start t == row) (range_with_len 0 n) t 0 (omega (arith, length-range_with_len 0 n))
-    (ap (λ (t : ℕ). row_of start t == row) (turn n t below) ∙ eq-eqb (row_of start t) row same)
+    list_any_at (λ t. damaged_row start t == row) (range_with_len 0 n) t 0 (omega (arith, length-range_with_len 0 n))
+    (ap (λ (t : ℕ). damaged_row start t == row) (turn n t below) ∙ eq-eqb (damaged_row start t) row same)
 
 -- a row that isn't hit is the row of no turn below n
-pub not_hit : (start n row t : ℕ) → is_hit start n row ≡ false → t < n → row_of start t ≢ row
+pub not_hit : (start n row t : ℕ) → is_hit start n row ≡ false → t < n → damaged_row start t ≢ row
 not_hit start n row t miss below same = let hit : is_hit start n row ≡ true = hit_at start n row t below same in cc
 
 -- a row that is hit is the row of a turn below n
-pub hit_turn : (start n row : ℕ) → is_hit start n row ≡ true → (t : ℕ) × (t < n) × (row_of start t ≡ row)
+pub hit_turn : (start n row : ℕ) → is_hit start n row ≡ true → (t : ℕ) × (t < n) × (damaged_row start t ≡ row)
 unfolding is_hit
 hit_turn start n row hit =
-    let some = Any-from_list_any (λ t. row_of start t == row) (range_with_len 0 n) hit in
+    let some = Any-from_list_any (λ t. damaged_row start t == row) (range_with_len 0 n) hit in
     let below : some.0 < n = omega (arith, length-range_with_len 0 n, some.2) in
     let here : some.1 ≡ some.0 = sym some.3 ∙ get_or-range_with_len 0 n some.0 some.1 below ∙ zero-add some.0 in (
       some.0,
       below,
-      ap (row_of start) (sym here) ∙ tested (eqb_tells (row_of start some.1) row) some.4,
+      ap (damaged_row start) (sym here) ∙ tested (eqb_tells (damaged_row start some.1) row) some.4,
     ) where
       -- numbers that pass the test of equality are equal
       tested : {a b : ℕ} {r : Bool} → ((r ≡ true) × (a ≡ b)) ⊎ ((r ≡ false) × (a ≢ b)) → r ≡ true → a ≡ b
@@ -62,7 +62,7 @@ hit_turn start n row hit =
       tested (inr is) test = cc
 
 -- a row that is the row of no turn below n isn't hit
-pub miss_from_none : (start n row : ℕ) → ((t : ℕ) → t < n → row_of start t ≢ row) → is_hit start n row ≡ false
+pub miss_from_none : (start n row : ℕ) → ((t : ℕ) → t < n → damaged_row start t ≢ row) → is_hit start n row ≡ false
 miss_from_none start n row none = told (is_hit start n row) (λ hit. let found = hit_turn start n row hit in none found.0 found.1 found.2) where
   -- what isn't true is false
   told : (b : Bool) → (b ≡ true → ⊥) → b ≡ false
@@ -81,7 +81,7 @@ state-hit start n y row hit = rw (add-one, hit) refl
 
 -- for any other row two words are drawn, and one for each error
 pub state-errors : (start n y row : ℕ) → is_hit start n row ≡ false
-    → row_state start n y (row + 1) ≡ state_after (row_state start n y row) (2 + error_count (row_state start n y row))
+    → row_state start n y (row + 1) ≡ state_after (row_state start n y row) (2 + drawn_errors (row_state start n y row))
 unfolding row_state
 state-errors start n y row miss = rw (add-one, miss) refl
 

@@ -6,12 +6,12 @@ use Rattle.std.proofs.lemmas.Bool.{cases_lt}
 use Rattle.std.proofs.lemmas.Bool.Decides.{leb_tells}
 use Rattle.std.proofs.lemmas.List.FromFn.{get_or-map-range_with_len, length-map-range_with_len}
 use Rattle.dvd_block.specs.Product.{line}
-use Rattle.dvd_exercise.specs.Damage.{HasErrors, IsChanged, IsHurtBy, bad_count, combined, error_byte, error_count, error_place, is_hit, lost_count, row_of, row_state, start_row}
+use Rattle.dvd_exercise.specs.Damage.{HasErrors, IsChanged, IsHurtBy, bad_count, combined, error_byte, drawn_errors, error_place, is_hit, lost_count, damaged_row, row_state, start_row}
 use Rattle.dvd_exercise.specs.Generator.{state_after}
 use Rattle.dvd_exercise.specs.Laws.{SomethingIsHurt}
 use Rattle.dvd_exercise.proofs.Burdens.{Find, find_place}
 use Rattle.dvd_exercise.proofs.Changed.{changed_more, changed_none}
-use Rattle.dvd_exercise.proofs.Rows.{TurnOf, not_hit, place-new, row_of-new}
+use Rattle.dvd_exercise.proofs.Rows.{TurnOf, not_hit, place-new, damaged_row-new}
 
 -- values can be set at places that come once
 some_changed : {X : Type 0} (none : X) (n : ℕ) (place : ℕ → ℕ) (value : ℕ → X) (before : List X)
@@ -29,16 +29,16 @@ some_changed none (suc n) place value before once inside =
 -- so any row of 182 bytes can get its single errors
 some_errors : (y : ℕ) (row : List ℕ) → length row ≡ 182 → (after : List ℕ) × HasErrors y row after
 some_errors y row width =
-    some_changed 0 (error_count y) (error_place y) (λ u. bit_xor (slice_index row (error_place y u)) (error_byte y u)) row
+    some_changed 0 (drawn_errors y) (error_place y) (λ u. bit_xor (slice_index row (error_place y u)) (error_byte y u)) row
     (λ m t below earlier. place-new (state_after y 2 % 182) m t (omega arith) earlier)
     (λ t below. omega (arith, width))
 
 -- the turn of a row is one
-same_turn : (start s t : ℕ) → s < 208 → t < 208 → row_of start s ≡ row_of start t → s ≡ t
+same_turn : (start s t : ℕ) → s < 208 → t < 208 → damaged_row start s ≡ damaged_row start t → s ≡ t
 same_turn start s t first second same = elim (cases_lt s t) [
-  | inl earlier ↦ absurd (row_of-new start t s second earlier same)
+  | inl earlier ↦ absurd (damaged_row-new start t s second earlier same)
   | inr later ↦ elim (cases_lt t s) [
-    | inl before ↦ absurd (row_of-new start s t first before (sym same))
+    | inl before ↦ absurd (damaged_row-new start s t first before (sym same))
     | inr no_later ↦ omega (arith, later, no_later)
   ]
 ]
@@ -51,7 +51,7 @@ module _ (bad lost start y : ℕ) (few : bad + lost < 208) (rows : List (List �
 
   -- the row of a turn, which is bad or lost
   abbrev turn_row : (t : ℕ) → TurnOf bad t → List ℕ
-  turn_row t (inl early) = combined (state_after y (182 * t)) (line rows (row_of start t))
+  turn_row t (inl early) = combined (state_after y (182 * t)) (line rows (damaged_row start t))
   turn_row t (inr late) = replicate 182 0
 
   -- the row of turn t as it is hurt: bad in the first turns, and lost in the others
@@ -59,11 +59,11 @@ module _ (bad lost start y : ℕ) (few : bad + lost < 208) (rows : List (List �
   hit_row t = turn_row t (leb_tells (suc t) bad)
 
   -- in a turn of a bad row all its bytes are combined with drawn ones
-  bad_row : (t : ℕ) → t < bad → hit_row t ≡ combined (state_after y (182 * t)) (line rows (row_of start t))
+  bad_row : (t : ℕ) → t < bad → hit_row t ≡ combined (state_after y (182 * t)) (line rows (damaged_row start t))
   bad_row t below = by_turn (leb_tells (suc t) bad) where
     -- by whether the turn is that of a bad row
     by_turn : (turn : TurnOf bad t)
-        → turn_row t turn ≡ combined (state_after y (182 * t)) (line rows (row_of start t))
+        → turn_row t turn ≡ combined (state_after y (182 * t)) (line rows (damaged_row start t))
     by_turn (inl early) = refl
     by_turn (inr late) = absurd (omega (arith, late.1))
 
@@ -76,20 +76,20 @@ module _ (bad lost start y : ℕ) (few : bad + lost < 208) (rows : List (List �
     by_turn (inr late) = refl
 
   -- row k as it is hurt, by the turn that has it, or else with its single errors
-  abbrev row_for : (k : ℕ) → ((k < 208) ⊎ (208 ≤ k)) → Find (row_of start) k (bad + lost) → List ℕ
+  abbrev row_for : (k : ℕ) → ((k < 208) ⊎ (208 ≤ k)) → Find (damaged_row start) k (bad + lost) → List ℕ
   row_for k inside (inl found) = hit_row found.0
   row_for k (inl below) (inr none) = (errors k below).0
   row_for k (inr past) (inr none) = []
 
   -- where the turn of row k is t, it is the row of this turn
-  row_hit : (k : ℕ) (inside : (k < 208) ⊎ (208 ≤ k)) (find : Find (row_of start) k (bad + lost)) (t : ℕ) → t < bad + lost → row_of start t ≡ k
+  row_hit : (k : ℕ) (inside : (k < 208) ⊎ (208 ≤ k)) (find : Find (damaged_row start) k (bad + lost)) (t : ℕ) → t < bad + lost → damaged_row start t ≡ k
       → row_for k inside find ≡ hit_row t
   row_hit k inside (inl found) t below same = ap hit_row (same_turn start found.0 t (omega (arith, found.1)) (omega arith) (found.2 ∙ sym same))
   row_hit k (inl lt) (inr none) t below same = absurd (none t below same)
   row_hit k (inr past) (inr none) t below same = absurd (none t below same)
 
   -- where no turn has row k, it has its single errors alone
-  row_errors : (k : ℕ) (inside : (k < 208) ⊎ (208 ≤ k)) (find : Find (row_of start) k (bad + lost)) → k < 208 → is_hit start (bad + lost) k ≡ false
+  row_errors : (k : ℕ) (inside : (k < 208) ⊎ (208 ≤ k)) (find : Find (damaged_row start) k (bad + lost)) → k < 208 → is_hit start (bad + lost) k ≡ false
       → HasErrors (row_state start (bad + lost) (state_after y (182 * bad)) k) (line rows k) (row_for k inside find)
   row_errors k inside (inl found) below miss = absurd (not_hit start (bad + lost) k found.0 miss found.1 found.2)
   row_errors k (inl lt) (inr none) below miss = (errors k lt).1
@@ -97,7 +97,7 @@ module _ (bad lost start y : ℕ) (few : bad + lost < 208) (rows : List (List �
 
   -- the same by the turn that is found
   abbrev row_at : ℕ → List ℕ
-  row_at k = row_for k (cases_lt k 208) (find_place (row_of start) k (bad + lost))
+  row_at k = row_for k (cases_lt k 208) (find_place (damaged_row start) k (bad + lost))
 
   -- the 208 rows as they are hurt
   abbrev done : List (List ℕ)
@@ -108,16 +108,16 @@ module _ (bad lost start y : ℕ) (few : bad + lost < 208) (rows : List (List �
   line_done k below = get_or-map-range_with_len row_at 0 208 k k [] below (omega arith)
 
   -- the row that turn t hits is the row of this turn
-  line_hit : (t : ℕ) → t < bad + lost → line done (row_of start t) ≡ hit_row t
+  line_hit : (t : ℕ) → t < bad + lost → line done (damaged_row start t) ≡ hit_row t
   line_hit t below =
-      line_done (row_of start t) (omega arith)
-      ∙ row_hit (row_of start t) (cases_lt (row_of start t) 208) (find_place (row_of start) (row_of start t) (bad + lost)) t below refl
+      line_done (damaged_row start t) (omega arith)
+      ∙ row_hit (damaged_row start t) (cases_lt (damaged_row start t) 208) (find_place (damaged_row start) (damaged_row start t) (bad + lost)) t below refl
 
   -- the marks of the lost rows are all set, and the others are as they were
-  abbrev some_marks : (after : List (List Bool)) × IsChanged [] lost (λ t. row_of start (bad + t)) (λ t. replicate 182 true) marks after
+  abbrev some_marks : (after : List (List Bool)) × IsChanged [] lost (λ t. damaged_row start (bad + t)) (λ t. replicate 182 true) marks after
   some_marks =
-      some_changed [] lost (λ t. row_of start (bad + t)) (λ t. replicate 182 true) marks
-      (λ m t below earlier. row_of-new start (bad + m) (bad + t) (omega arith) (omega arith))
+      some_changed [] lost (λ t. damaged_row start (bad + t)) (λ t. replicate 182 true) marks
+      (λ m t below earlier. damaged_row-new start (bad + m) (bad + t) (omega arith) (omega arith))
       (λ t below. omega (arith, marks_height))
 
   -- so the block is hurt by so many bad rows and lost rows, and by single errors in the others
@@ -131,7 +131,7 @@ module _ (bad lost start y : ℕ) (few : bad + lost < 208) (rows : List (List �
       lost_rows = λ t below. line_hit (bad + t) (omega arith) ∙ lost_row (bad + t) (omega arith);
       others = λ row below miss.
           subst (HasErrors (row_state start (bad + lost) (state_after y (182 * bad)) row) (line rows row)) (sym (line_done row below))
-          (row_errors row (cases_lt row 208) (find_place (row_of start) row (bad + lost)) below miss);
+          (row_errors row (cases_lt row 208) (find_place (damaged_row start) row (bad + lost)) below miss);
       marked = some_marks.1;
     },
   )

@@ -1,15 +1,15 @@
 -- The whole damage from its three parts: bad rows, lost rows, and single errors in the others.
 use Rattle.std.proofs.Common.{◌≡◌, ◌∙◌, ℕ, ◌+◌, ◌*◌, ◌<◌, Bool, true, false, List, [], length, replicate, refl, sym, subst, arith}
 use Rattle.dvd_block.specs.Product.{line}
-use Rattle.dvd_exercise.specs.Damage.{HasErrors, IsChanged, IsHurt, IsHurtBy, bad_count, combined, is_hit, lost_count, row_of, row_state, start_row}
+use Rattle.dvd_exercise.specs.Damage.{HasErrors, IsChanged, IsHurt, IsHurtBy, bad_count, combined, is_hit, lost_count, damaged_row, row_state, start_row}
 use Rattle.dvd_exercise.specs.Generator.{state_after}
-use Rattle.dvd_exercise.proofs.Rows.{hit_at, not_hit, row_of-new}
+use Rattle.dvd_exercise.proofs.Rows.{hit_at, not_hit, damaged_row-new}
 
 module _ (bad lost start y z : ℕ) (rows bad_done lost_done done : List (List ℕ)) (marks bad_marks lost_marks hurt_marks : List (List Bool)) (few : bad + lost < 208)
     (height : length done ≡ length rows)
-    (bad_rows : IsChanged [] bad (row_of start) (λ t. combined (state_after y (182 * t)) (line rows (row_of start t))) rows bad_done)
-    (lost_rows : IsChanged [] lost (λ t. row_of start (bad + t)) (λ _. replicate 182 0) bad_done lost_done)
-    (marked : IsChanged [] lost (λ t. row_of start (bad + t)) (λ _. replicate 182 true) bad_marks lost_marks)
+    (bad_rows : IsChanged [] bad (damaged_row start) (λ t. combined (state_after y (182 * t)) (line rows (damaged_row start t))) rows bad_done)
+    (lost_rows : IsChanged [] lost (λ t. damaged_row start (bad + t)) (λ _. replicate 182 0) bad_done lost_done)
+    (marked : IsChanged [] lost (λ t. damaged_row start (bad + t)) (λ _. replicate 182 true) bad_marks lost_marks)
     (marks_before : bad_marks ≡ marks) (marks_after : hurt_marks ≡ lost_marks) (drawn : z ≡ state_after y (182 * bad))
     (hit : (row : ℕ) → row < 208 → is_hit start (bad + lost) row ≡ true → line done row ≡ line lost_done row)
     (others : (row : ℕ) → row < 208 → is_hit start (bad + lost) row ≡ false
@@ -19,11 +19,11 @@ module _ (bad lost start y z : ℕ) (rows bad_done lost_done done : List (List �
   hurt_by = record {
     height = height;
     bad_rows = λ t below.
-        hit (row_of start t) (omega arith) (hit_at start (bad + lost) (row_of start t) t (omega arith) refl)
-        ∙ lost_rows.others (row_of start t) (λ k here same. row_of-new start (bad + k) t (omega arith) (omega arith) (sym same))
+        hit (damaged_row start t) (omega arith) (hit_at start (bad + lost) (damaged_row start t) t (omega arith) refl)
+        ∙ lost_rows.others (damaged_row start t) (λ k here same. damaged_row-new start (bad + k) t (omega arith) (omega arith) (sym same))
         ∙ bad_rows.changed t below;
     lost_rows = λ t below.
-        hit (row_of start (bad + t)) (omega arith) (hit_at start (bad + lost) (row_of start (bad + t)) (bad + t) (omega arith) refl)
+        hit (damaged_row start (bad + t)) (omega arith) (hit_at start (bad + lost) (damaged_row start (bad + t)) (bad + t) (omega arith) refl)
         ∙ lost_rows.changed t below;
     others = λ row below miss.
         subst (λ before. HasErrors (row_state start (bad + lost) (state_after y (182 * bad)) row) before (line done row))

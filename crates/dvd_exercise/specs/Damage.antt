@@ -3,7 +3,7 @@
 use Rattle.std.specs.Prelude.{◌≡◌, ◌≢◌, ℕ, zero, suc, ◌+◌, ◌-◌, ◌*◌, ◌%◌, ◌<◌, Bool, true, false, ◌==◌, if◌then◌else◌, List, [], length, map, replicate, slice_index, slice_index_or, bit_or, bit_xor}
 use Rattle.std.specs.List.{list_any, range_with_len}
 use Rattle.dvd_block.specs.Product.{line}
-use Rattle.dvd_exercise.specs.Generator.{byte_at, state_after}
+use Rattle.dvd_exercise.specs.Generator.{drawn_byte, state_after}
 
 -- From state x on, the first word says how many rows are bad, 8 at most,
 abbrev pub bad_count : ℕ → ℕ
@@ -19,20 +19,20 @@ start_row x = state_after x 3 % 208
 
 -- The bad rows and then the lost ones stand five apart, round the block. No row comes twice, since 5 and 208 have no common
 -- divisor.
-abbrev pub row_of : ℕ → ℕ → ℕ
-row_of start turn = (start + 5 * turn) % 208
+abbrev pub damaged_row : ℕ → ℕ → ℕ
+damaged_row start turn = (start + 5 * turn) % 208
 
 -- whether a row is one of the first n of them
 unfoldable pub is_hit : ℕ → ℕ → ℕ → Bool
-is_hit start n row = list_any (λ turn. row_of start turn == row) (range_with_len 0 n)
+is_hit start n row = list_any (λ turn. damaged_row start turn == row) (range_with_len 0 n)
 
 -- a row each of whose bytes is combined with one that is drawn from state y on
 unfoldable pub combined : ℕ → List ℕ → List ℕ
-combined y row = map (λ j. bit_xor (slice_index row j) (byte_at y j)) (range_with_len 0 182)
+combined y row = map (λ j. bit_xor (slice_index row j) (drawn_byte y j)) (range_with_len 0 182)
 
 -- From state y on, the first word says how many single errors a row has, 5 at most,
-abbrev pub error_count : ℕ → ℕ
-error_count y = state_after y 1 % 6
+abbrev pub drawn_errors : ℕ → ℕ
+drawn_errors y = state_after y 1 % 6
 
 -- and the second at which place the first stands. The others follow 31 apart, round the row, and no place comes twice.
 abbrev pub error_place : ℕ → ℕ → ℕ
@@ -40,7 +40,7 @@ error_place y u = (state_after y 2 % 182 + 31 * u) % 182
 
 -- with what error u is combined: the byte that is drawn then, its lowest bit set, so that it is never 0
 abbrev pub error_byte : ℕ → ℕ → ℕ
-error_byte y u = bit_or (byte_at y (2 + u)) 1
+error_byte y u = bit_or (drawn_byte y (2 + u)) 1
 
 -- `after` is `before` with n new values at these places, and nothing else is changed
 pub record IsChanged {X : Type 0} (none : X) (n : ℕ) (place : ℕ → ℕ) (value : ℕ → X) (before after : List X) : Type 0 where
@@ -51,7 +51,7 @@ pub record IsChanged {X : Type 0} (none : X) (n : ℕ) (place : ℕ → ℕ) (va
 -- the single errors of one row, drawn from state y on
 abbrev pub HasErrors : ℕ → List ℕ → List ℕ → Type 0
 HasErrors y before after =
-    IsChanged 0 (error_count y) (error_place y) (λ u. bit_xor (slice_index before (error_place y u)) (error_byte y u)) before after
+    IsChanged 0 (drawn_errors y) (error_place y) (λ u. bit_xor (slice_index before (error_place y u)) (error_byte y u)) before after
 
 -- The state from which the single errors of a row are drawn. Those of row 0 are drawn from state y on, and the others follow
 -- row by row; for the n rows that are bad or lost nothing is drawn.
@@ -59,17 +59,17 @@ unfoldable pub row_state : ℕ → ℕ → ℕ → ℕ → ℕ
 row_state start n y zero = y
 row_state start n y (suc row) =
     if is_hit start n row then row_state start n y row
-    else state_after (row_state start n y row) (2 + error_count (row_state start n y row))
+    else state_after (row_state start n y row) (2 + drawn_errors (row_state start n y row))
 
 -- What becomes of the rows and marks of a block with so many bad and lost rows from this row on, where all bytes are drawn from
 -- state y on: 182 for each bad row, and then those of the single errors.
 pub record IsHurtBy (bad lost start y : ℕ) (rows : List (List ℕ)) (marks : List (List Bool)) (hurt_rows : List (List ℕ)) (hurt_marks : List (List Bool)) : Type 0 where
   pub height : length hurt_rows ≡ length rows
-  pub bad_rows : (t : ℕ) → t < bad → line hurt_rows (row_of start t) ≡ combined (state_after y (182 * t)) (line rows (row_of start t))
-  pub lost_rows : (t : ℕ) → t < lost → line hurt_rows (row_of start (bad + t)) ≡ replicate 182 0
+  pub bad_rows : (t : ℕ) → t < bad → line hurt_rows (damaged_row start t) ≡ combined (state_after y (182 * t)) (line rows (damaged_row start t))
+  pub lost_rows : (t : ℕ) → t < lost → line hurt_rows (damaged_row start (bad + t)) ≡ replicate 182 0
   pub others : (row : ℕ) → row < 208 → is_hit start (bad + lost) row ≡ false
       → HasErrors (row_state start (bad + lost) (state_after y (182 * bad)) row) (line rows row) (line hurt_rows row)
-  pub marked : IsChanged [] lost (λ t. row_of start (bad + t)) (λ t. replicate 182 true) marks hurt_marks
+  pub marked : IsChanged [] lost (λ t. damaged_row start (bad + t)) (λ t. replicate 182 true) marks hurt_marks
 
 -- the same by all that is drawn from state x on
 abbrev pub IsHurt : ℕ → List (List ℕ) → List (List Bool) → List (List ℕ) → List (List Bool) → Type 0

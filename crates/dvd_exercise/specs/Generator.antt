@@ -21,9 +21,9 @@ state_after x zero = x
 state_after x (suc n) = step (state_after x n)
 
 -- of the words drawn from a state on, counted from 0, the top eight bits of word k
-unfoldable pub byte_at : ℕ → ℕ → ℕ
-byte_at x k = state_after x (k + 1) / 2 ^ 56
+unfoldable pub drawn_byte : ℕ → ℕ → ℕ
+drawn_byte x k = state_after x (k + 1) / 2 ^ 56
 
 -- n bytes, drawn from a state on
 unfoldable pub bytes_from : ℕ → ℕ → List ℕ
-bytes_from x n = map (byte_at x) (range_with_len 0 n)
+bytes_from x n = map (drawn_byte x) (range_with_len 0 n)

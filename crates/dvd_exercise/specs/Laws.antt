@@ -3,7 +3,7 @@ use Rattle.std.specs.Prelude.{◌≡◌, ◌≢◌, ℕ, ◌<◌, All, Bool, fal
 use Rattle.dvd_block.specs.Product.{IsProduct}
 use Rattle.dvd_capture.specs.TwoPass.{IsTwoPass}
 use Rattle.dvd_capture.specs.Within.{IsWithin}
-use Rattle.dvd_exercise.specs.Damage.{IsHurt, error_count, error_place, row_of}
+use Rattle.dvd_exercise.specs.Damage.{IsHurt, drawn_errors, error_place, damaged_row}
 
 -- a block with no marks is hurt within the bound that two-pass decoding bears
 abbrev pub HurtIsWithin : Type 0
@@ -34,8 +34,8 @@ SomethingIsHurt =
 
 -- no row of a block is bad or lost twice
 abbrev pub RowsComeOnce : Type 0
-RowsComeOnce = (start n t : ℕ) → n < 208 → t < n → row_of start t ≢ row_of start n
+RowsComeOnce = (start n t : ℕ) → n < 208 → t < n → damaged_row start t ≢ damaged_row start n
 
 -- no place of a row has two errors
 abbrev pub PlacesComeOnce : Type 0
-PlacesComeOnce = (y n t : ℕ) → n < error_count y → t < n → error_place y t ≢ error_place y n
+PlacesComeOnce = (y n t : ℕ) → n < drawn_errors y → t < n → error_place y t ≢ error_place y n

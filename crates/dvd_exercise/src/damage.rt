@@ -4,7 +4,7 @@ ghost use Rattle.dvd_block.specs.Product.{line, place};
 ghost use Rattle.dvd_capture.specs.Within.{IsWithin};
 ghost use Rattle.dvd_capture.specs.Works.{marks_of_work, rows_of, stage_of};
 ghost use Rattle.dvd_capture.specs.declared.stage.Stage.TheVariants.{Fetched};
-ghost use Rattle.dvd_exercise.specs.Damage.{HasErrors, IsChanged, IsHurt, bad_count, combined, error_count, hurt_state, is_hit, lost_count, row_of, row_state, start_row};
+ghost use Rattle.dvd_exercise.specs.Damage.{HasErrors, IsChanged, IsHurt, bad_count, combined, drawn_errors, hurt_state, is_hit, lost_count, damaged_row, row_state, start_row};
 ghost use Rattle.dvd_exercise.specs.Generator.{state_after, state_of};
 ghost use Rattle.dvd_exercise.specs.Inner.Kept.{KeepsRest};
 
@@ -70,7 +70,7 @@ impl Plan {
     // The row that is bad or lost in this turn; the bad rows come first.
     fn row(&self, turn: usize) -> usize
         requires { turn < 208 }
-        ensures row { result ≡ row_of self.now.start turn }
+        ensures row { result ≡ damaged_row self.now.start turn }
         ensures below { result < 208 }
     {
         (self.start + 5 * turn) % 208
@@ -134,7 +134,7 @@ fn hurt_row(rand: &mut Rand, work: &mut Work, i: usize)
     requires row { i < 208 }
     ensures received { HasErrors (state_of rand.old) (line (rows_of work.old) i) (line (rows_of work.new) i) }
     ensures others { rows_of work.new ≡ slice_set (rows_of work.old) i (line (rows_of work.new) i) }
-    ensures drawn { state_of rand.new ≡ state_after (state_of rand.old) (2 + error_count (state_of rand.old)) }
+    ensures drawn { state_of rand.new ≡ state_after (state_of rand.old) (2 + drawn_errors (state_of rand.old)) }
     ensures marks { marks_of_work work.new ≡ marks_of_work work.old }
     ensures rest { KeepsRest work.old work.new }
 {
@@ -149,7 +149,7 @@ fn hurt_row(rand: &mut Rand, work: &mut Work, i: usize)
 // Damages the bad rows in turn.
 fn combine_rows(plan: &Plan, rand: &mut Rand, work: &mut Work)
     requires stage { stage_of work.old ≡ Fetched }
-    ensures received { IsChanged [] plan.now.bad (row_of plan.now.start) (λ t. combined (state_after (state_of rand.old) (182 * t)) (line (rows_of work.old) (row_of plan.now.start t))) (rows_of work.old) (rows_of work.new) }
+    ensures received { IsChanged [] plan.now.bad (damaged_row plan.now.start) (λ t. combined (state_after (state_of rand.old) (182 * t)) (line (rows_of work.old) (damaged_row plan.now.start t))) (rows_of work.old) (rows_of work.new) }
     ensures drawn { state_of rand.new ≡ state_after (state_of rand.old) (182 * plan.now.bad) }
     ensures marks { marks_of_work work.new ≡ marks_of_work work.old }
     ensures rest { KeepsRest work.old work.new }
@@ -162,8 +162,8 @@ fn combine_rows(plan: &Plan, rand: &mut Rand, work: &mut Work)
 // Loses the rows whose turns follow.
 fn lose_rows(plan: &Plan, work: &mut Work)
     requires stage { stage_of work.old ≡ Fetched }
-    ensures received { IsChanged [] plan.now.lost (λ t. row_of plan.now.start (plan.now.bad + t)) (λ t. replicate 182 0) (rows_of work.old) (rows_of work.new) }
-    ensures marks { IsChanged [] plan.now.lost (λ t. row_of plan.now.start (plan.now.bad + t)) (λ t. replicate 182 true) (marks_of_work work.old) (marks_of_work work.new) }
+    ensures received { IsChanged [] plan.now.lost (λ t. damaged_row plan.now.start (plan.now.bad + t)) (λ t. replicate 182 0) (rows_of work.old) (rows_of work.new) }
+    ensures marks { IsChanged [] plan.now.lost (λ t. damaged_row plan.now.start (plan.now.bad + t)) (λ t. replicate 182 true) (marks_of_work work.old) (marks_of_work work.new) }
     ensures rest { KeepsRest work.old work.new }
 {
     for t in 0..plan.lost {

@@ -10,12 +10,14 @@ use Rattle.std.proofs.lemmas.List.FromFn.{get_or-map-range_with_len}
 use Rattle.std.proofs.lemmas.Nat.{xor_lt}
 use Rattle.std.proofs.lemmas.Nat.Bits.{bit_at_xor, same_from_bits}
 use Rattle.std.proofs.lemmas.Slice.Eq.{bytes_eq-Decides}
+use Rattle.gf_field.specs.BitDivision.{plus_front, remainder_by}
+use Rattle.gf_field.proofs.BitDivision.{length-plus_front, remainder_by_twice}
 use Rattle.dvd_frame.specs.Bits.{bits, number_of}
-use Rattle.dvd_frame.specs.Edc.{plus_front, remainder, divisor}
+use Rattle.dvd_frame.specs.Edc.{remainder, divisor}
 use Rattle.dvd_frame.specs.Inner.Registers.{byte_remainder}
 use Rattle.dvd_frame.proofs.BitLists.{length-bits, plus_front-bits, bits-mod, number_of-bits}
-use Rattle.dvd_frame.proofs.Multiples.{IsBit, length-plus_front, bits-bits, length-remainder, bits-remainder, bits-number_of, plus_front_self}
-use Rattle.dvd_frame.proofs.Division.{plus_front-append, remainder_twice, padded, length-padded, bits-padded, bits-byte_remainder}
+use Rattle.dvd_frame.proofs.Multiples.{IsBit, bits-bits, length-remainder, bits-remainder, bits-number_of, plus_front_self}
+use Rattle.dvd_frame.proofs.Division.{plus_front-append, padded, length-padded, bits-padded, bits-byte_remainder}
 use Rattle.dvd_frame.proofs.WordDivision.{divided_sum}
 
 -- what is added within the first of two joined lists leaves the second
@@ -27,7 +29,7 @@ plus_front_within (x ∷ xs) ys (z ∷ added) within = ap (λ (l : List ℕ). bi
 
 -- division leaves what stands behind the bits that its steps reach
 remainder_front : (n : ℕ) (xs ys : List ℕ) → n + 32 ≤ length xs → remainder n (xs ++ ys) ≡ remainder n xs ++ ys
-unfolding remainder
+unfolding remainder_by
 remainder_front zero xs ys within = refl
 remainder_front (suc n) [] ys within = absurd (omega arith)
 remainder_front (suc n) (x ∷ xs) ys within = each (λ zs long. remainder_front n zs ys long) (eqb x 1) where
@@ -122,7 +124,7 @@ byte_more m byte =
     ∙ sym (append_assoc (bits 8 byte) (replicate (8 * m + 32) 0) (replicate 8 0)) in
     ap (λ (k : ℕ). number_of (remainder k (padded (m + 1) byte))) steps
     ∙ ap (λ (l : List ℕ). number_of (remainder (n + 8) l)) longer
-    ∙ ap number_of (remainder_twice n 8 (padded m byte ++ replicate 8 0))
+    ∙ ap number_of (remainder_by_twice (bits 32 divisor) n 8 (padded m byte ++ replicate 8 0))
     ∙ ap (λ (l : List ℕ). number_of (remainder 8 l)) (remainder_front n (padded m byte) (replicate 8 0) (omega (arith, length-padded m byte)))
     ∙ ap (λ (l : List ℕ). number_of (remainder 8 (l ++ replicate 8 0))) (sym (bits-byte_remainder m byte))
 
@@ -161,7 +163,7 @@ three_left byte = bit_xor (bit_xor (byte_remainder 31 byte) (byte_remainder 4 by
 
 -- computed over all bytes: it is what is left with 32 of them
 all_left : map (byte_remainder 32) (range_with_len 0 256) ≡ map three_left (range_with_len 0 256)
-unfolding byte_remainder remainder plus_front bits three_left
+unfolding byte_remainder remainder_by plus_front bits three_left
 all_left = (bytes_eq-Decides _ _).0 refl
 
 -- the same of one byte

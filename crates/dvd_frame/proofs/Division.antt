@@ -7,22 +7,14 @@ use Rattle.std.proofs.lemmas.List.{length-append, length-replicate, append_assoc
 use Rattle.std.proofs.lemmas.List.Elements.{All-append, All-replicate}
 use Rattle.std.proofs.lemmas.Nat.{xor_comm}
 use Rattle.std.proofs.lemmas.Nat.Bits.{bit_at-zero}
+use Rattle.gf_field.specs.BitDivision.{plus_front, remainder_by}
+use Rattle.gf_field.proofs.BitDivision.{length-plus_front, plus_front_twice, remainder_by_twice}
 use Rattle.dvd_frame.specs.Bits.{bits, bits_of, number_of}
-use Rattle.dvd_frame.specs.Edc.{plus_front, remainder, divisor, edc_of}
+use Rattle.dvd_frame.specs.Edc.{remainder, divisor, edc_of}
 use Rattle.dvd_frame.specs.Inner.Registers.{divided_from, byte_remainder}
 use Rattle.dvd_frame.specs.Id.{word_bytes}
 use Rattle.dvd_frame.proofs.BitLists.{length-bits, plus_front-bits, bits-mod, bits-split, number_of-bits}
-use Rattle.dvd_frame.proofs.Multiples.{IsBit, length-plus_front, zeros_plus, length-remainder, bits-bits, bits-remainder, bits-number_of}
-
--- two additions are one of the sum
-pub plus_front_twice : (rest a b : List ℕ) → length b ≤ length a → plus_front (plus_front rest a) b ≡ plus_front rest (plus_front a b)
-unfolding plus_front
-plus_front_twice rest a [] within = refl
-plus_front_twice [] (y ∷ a) (z ∷ b) within = refl
-plus_front_twice (x ∷ rest) (y ∷ a) (z ∷ b) within =
-    ap (λ (bit : ℕ). bit ∷ plus_front (plus_front rest a) b) (xor_assoc x y z)
-    ∙ ap (λ (l : List ℕ). bit_xor x (bit_xor y z) ∷ l) (plus_front_twice rest a b (omega arith))
-plus_front_twice rest [] (z ∷ b) within = absurd (omega arith)
+use Rattle.dvd_frame.proofs.Multiples.{IsBit, zeros_plus, length-remainder, bits-bits, bits-remainder, bits-number_of}
 
 -- lists that begin with equally many bits are added part by part
 pub plus_front-append : (xs ys rest more : List ℕ) → length xs ≡ length ys → plus_front (xs ++ rest) (ys ++ more) ≡ plus_front xs ys ++ plus_front rest more
@@ -60,7 +52,7 @@ plus_front_ending (x ∷ rest) (y ∷ added) n = ap (λ (l : List ℕ). bit_xor 
 
 -- reading nothing more, the register's bits are left
 divided_from_none : (register : ℕ) → divided_from register [] ≡ bits 32 register
-unfolding divided_from remainder bits_of
+unfolding divided_from remainder_by bits_of
 divided_from_none register = plus_front-zeros 32 register
 
 -- the division of a list of bytes begins with a register of zeros
@@ -79,7 +71,7 @@ edc_read register bytes fits read =
 -- n steps of the division, of n + 32 bits to whose end a list is added: it is added to what they leave
 added_behind : (n : ℕ) (ys rest : List ℕ) → length ys ≡ n + 32
     → remainder n (plus_front (replicate n 0 ++ rest) ys) ≡ plus_front rest (remainder n ys)
-unfolding remainder plus_front
+unfolding remainder_by plus_front
 added_behind zero ys rest size = refl
 added_behind (suc n) [] rest size = absurd (omega arith)
 added_behind (suc n) (y ∷ ys) rest size =
@@ -97,21 +89,6 @@ added_behind (suc n) (y ∷ ys) rest size =
         ap (remainder n) (plus_front_twice front ys by (omega (arith, length-bits 32 divisor)))
         ∙ below (plus_front ys by) (omega (arith, length-plus_front ys by))
     each below false = below ys (omega arith)
-
--- nothing leaves nothing
-remainder_none : (n : ℕ) → remainder n [] ≡ []
-unfolding remainder
-remainder_none zero = refl
-remainder_none (suc n) = refl
-
--- m steps and then n
-pub remainder_twice : (m n : ℕ) (ys : List ℕ) → remainder (m + n) ys ≡ remainder n (remainder m ys)
-unfolding remainder
-remainder_twice zero n ys = ap (λ (k : ℕ). remainder k ys) (zero-add n)
-remainder_twice (suc m) n [] = remainder_none (suc m + n) ∙ sym (remainder_none n)
-remainder_twice (suc m) n (y ∷ ys) =
-    let more : suc m + n ≡ suc (m + n) = omega arith in
-    ap (λ (k : ℕ). remainder k (y ∷ ys)) more ∙ remainder_twice m n (cond (eqb y 1) (plus_front ys (bits 32 divisor)) ys)
 
 -- bits that are read next, once a register of 32 bits is added: its leading n bits leave, and the others are added behind
 leading_met : (n m number register : ℕ) (rest : List ℕ)
@@ -192,6 +169,6 @@ byte_read register byte bytes =
     ∙ ap (remainder n) (sym (plus_front_twice behind (bits 32 shifted) (bits 32 entry) (omega (arith, length-bits 32 shifted, length-bits 32 entry))))
     ∙ ap (λ (l : List ℕ). remainder n (plus_front l (bits 32 entry))) (shifted_up register behind)
     ∙ ap (remainder n) (sym (byte_divided leaving (plus_front behind (bits 24 register))))
-    ∙ sym (remainder_twice 8 n (bits 8 leaving ++ plus_front behind (bits 24 register)))
+    ∙ sym (remainder_by_twice (bits 32 divisor) 8 n (bits 8 leaving ++ plus_front behind (bits 24 register)))
     ∙ ap (remainder (8 + n)) (sym (leading_met 8 24 byte register behind) ∙ ap (λ (l : List ℕ). plus_front l (bits 32 register)) (sym (append_assoc (bits 8 byte) (bits_of bytes) (replicate 32 0))))
     ∙ ap (λ (k : ℕ). remainder k (plus_front ((bits 8 byte ++ bits_of bytes) ++ replicate 32 0) (bits 32 register))) (sym count)

@@ -6,7 +6,7 @@ use Rattle.std.specs.Int.Bits.{xor_shr, xor_mod}
 use Rattle.std.proofs.lemmas.Nat.{be_bytes_8}
 use Rattle.std.proofs.lemmas.List.{get_or-drop, get_or-take, length-drop, length-take-le, take_all, take-take, drop-take}
 use Rattle.std.proofs.lemmas.Grind.{same_number_lists}
-use Rattle.dvd_frame.specs.Edc.{plus_front}
+use Rattle.gf_field.specs.BitDivision.{plus_front}
 use Rattle.dvd_frame.specs.Inner.Registers.{keys_from}
 use Rattle.dvd_frame.specs.Bits.{bits}
 use Rattle.dvd_frame.specs.Scrambling.{scrambling_byte, sequence, window}

@@ -8,21 +8,16 @@ use Rattle.std.proofs.lemmas.List.Elements.{All-append, All-cons, All-nil, All-r
 use Rattle.std.proofs.lemmas.List.Sums.{fold-append}
 use Rattle.std.proofs.lemmas.Nat.{xor_comm, xor_lt}
 use Rattle.std.proofs.lemmas.Nat.Bits.{bit_at-lt}
+use Rattle.gf_field.specs.BitDivision.{plus_front, remainder_by}
+use Rattle.gf_field.proofs.BitDivision.{length-plus_front}
 use Rattle.dvd_frame.specs.Bits.{bits, bits_of, number_of}
-use Rattle.dvd_frame.specs.Edc.{plus_front, remainder, divisor, edc_of}
+use Rattle.dvd_frame.specs.Edc.{remainder, divisor, edc_of}
 use Rattle.dvd_frame.specs.Id.{word_bytes}
 use Rattle.dvd_frame.proofs.BitLists.{length-bits, bits_more, bits-mod, fold-bits}
 
 -- a bit is 0 or 1
 abbrev pub IsBit : ℕ → Type 0
 IsBit b = b < 2
-
--- what is added to the front of a list leaves its length
-pub length-plus_front : (xs ys : List ℕ) → length (plus_front xs ys) ≡ length xs
-unfolding plus_front
-length-plus_front xs [] = refl
-length-plus_front [] (y ∷ ys) = refl
-length-plus_front (x ∷ xs) (y ∷ ys) = ap suc (length-plus_front xs ys)
 
 -- bits added to bits are bits
 pub bits-plus_front : (xs ys : List ℕ) → All IsBit xs → All IsBit ys → All IsBit (plus_front xs ys)
@@ -66,7 +61,7 @@ plus_behind (x ∷ xs) tail =
 
 -- each step of the division takes one bit away
 pub length-remainder : (n : ℕ) (ys : List ℕ) → n ≤ length ys → length (remainder n ys) + n ≡ length ys
-unfolding remainder
+unfolding remainder_by
 length-remainder zero ys within = omega arith
 length-remainder (suc n) [] within = absurd (omega arith)
 length-remainder (suc n) (y ∷ ys) within = each (λ zs long. length-remainder n zs long) (eqb y 1) where
@@ -85,7 +80,7 @@ bits-bits (suc n) number = All-cons IsBit (bit_at number n) (bits n number) (bit
 
 -- the division of bits leaves bits
 pub bits-remainder : (n : ℕ) (ys : List ℕ) → All IsBit ys → All IsBit (remainder n ys)
-unfolding remainder
+unfolding remainder_by
 bits-remainder zero ys each = each
 bits-remainder (suc n) [] each = All-nil IsBit
 bits-remainder (suc n) (y ∷ ys) each = either (λ zs all. bits-remainder n zs all) (eqb y 1) where
@@ -98,7 +93,7 @@ bits-remainder (suc n) (y ∷ ys) each = either (λ zs all. bits-remainder n zs 
 
 -- what is added behind the places that the division takes is added to what it leaves
 remainder_behind : (n : ℕ) (ys tail : List ℕ) → n ≤ length ys → remainder n (plus_front ys (replicate n 0 ++ tail)) ≡ plus_front (remainder n ys) tail
-unfolding remainder plus_front
+unfolding remainder_by plus_front
 remainder_behind zero ys tail within = refl
 remainder_behind (suc n) [] tail within = absurd (omega arith)
 remainder_behind (suc n) (y ∷ ys) tail within =

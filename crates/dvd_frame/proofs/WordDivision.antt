@@ -4,18 +4,20 @@ use Rattle.std.specs.Prelude.{bit_xor, replicate}
 use Rattle.std.specs.Int.Bits.{xor_zero_r, xor_assoc}
 use Rattle.std.proofs.lemmas.List.{length-append, length-replicate, append_assoc, append-nil}
 use Rattle.std.proofs.lemmas.List.Elements.{All-append, All-replicate, All-tail}
+use Rattle.gf_field.specs.BitDivision.{plus_front, remainder_by}
+use Rattle.gf_field.proofs.BitDivision.{length-plus_front, plus_front_twice, remainder_by_twice}
 use Rattle.dvd_frame.specs.Bits.{bits, bits_of}
-use Rattle.dvd_frame.specs.Edc.{plus_front, remainder, divisor}
+use Rattle.dvd_frame.specs.Edc.{remainder, divisor}
 use Rattle.dvd_frame.specs.Inner.Registers.{divided_from, byte_remainder}
 use Rattle.dvd_frame.specs.Id.{word_bytes}
 use Rattle.dvd_frame.proofs.BitLists.{length-bits, plus_front-bits}
-use Rattle.dvd_frame.proofs.Division.{plus_front_twice, plus_front-append, plus_front_none, remainder_twice, front_divided, padded, length-padded, bits-padded, bits-byte_remainder}
-use Rattle.dvd_frame.proofs.Multiples.{IsBit, length-plus_front, bits-plus_front, plus_front_swap, plus_front_self, zeros_plus, bits-bits, bits-bits_of, length-bits_of, bits_of-append, bits_of-word_bytes}
+use Rattle.dvd_frame.proofs.Division.{plus_front-append, plus_front_none, front_divided, padded, length-padded, bits-padded, bits-byte_remainder}
+use Rattle.dvd_frame.proofs.Multiples.{IsBit, bits-plus_front, plus_front_swap, plus_front_self, zeros_plus, bits-bits, bits-bits_of, length-bits_of, bits_of-append, bits_of-word_bytes}
 
 -- division takes a sum apart
 pub divided_sum : (n : ℕ) (xs ys : List ℕ) → length xs ≡ n + 32 → length ys ≡ n + 32 → All IsBit xs → All IsBit ys
     → remainder n (plus_front xs ys) ≡ plus_front (remainder n xs) (remainder n ys)
-unfolding remainder plus_front bits
+unfolding remainder_by plus_front bits
 divided_sum zero xs ys size_xs size_ys bits_xs bits_ys = refl
 divided_sum (suc n) [] ys size_xs size_ys bits_xs bits_ys = absurd (omega arith)
 divided_sum (suc n) (x ∷ xs) [] size_xs size_ys bits_xs bits_ys = absurd (omega arith)
@@ -78,8 +80,8 @@ remainders_sum (byte ∷ bytes) = bit_xor (byte_remainder (length bytes) byte) (
 
 -- zeros in front leave nothing
 zeros_divided : (n : ℕ) (ys : List ℕ) → remainder (8 + n) (replicate 8 0 ++ ys) ≡ remainder n ys
-unfolding remainder
-zeros_divided n ys = remainder_twice 8 n (replicate 8 0 ++ ys)
+unfolding remainder_by
+zeros_divided n ys = remainder_by_twice (bits 32 divisor) 8 n (replicate 8 0 ++ ys)
 
 -- one byte more in front
 sum_with : (byte : ℕ) (bytes : List ℕ) → bits 32 (remainders_sum bytes) ≡ remainder (8 * length bytes) (bits_of bytes ++ replicate 32 0)
@@ -110,7 +112,7 @@ sum_with byte bytes is =
 
 -- what division leaves of bytes is the sum of what it leaves of each
 pub bits-remainders_sum : (bytes : List ℕ) → bits 32 (remainders_sum bytes) ≡ remainder (8 * length bytes) (bits_of bytes ++ replicate 32 0)
-unfolding remainders_sum bits bits_of remainder
+unfolding remainders_sum bits bits_of remainder_by
 bits-remainders_sum [] = refl
 bits-remainders_sum (byte ∷ bytes) = sum_with byte bytes (bits-remainders_sum bytes)
 
@@ -144,7 +146,7 @@ word_read register next word bytes size is =
     ∙ ap (λ (l : List ℕ). plus_front l (bits 32 register)) (sym (ap (λ (l : List ℕ). l ++ zeros) (bits_of-append word bytes) ∙ append_assoc (bits_of word) (bits_of bytes) zeros)) in
     ap (λ (l : List ℕ). remainder n (plus_front behind l)) is
     ∙ ap (remainder n) (sym (front_divided 32 (bits_of sum) behind sum_size))
-    ∙ sym (remainder_twice 32 n (bits_of sum ++ behind))
+    ∙ sym (remainder_by_twice (bits 32 divisor) 32 n (bits_of sum ++ behind))
     ∙ ap (λ (k : ℕ). remainder k (bits_of sum ++ behind)) count
     ∙ ap (remainder (8 * length (word ++ bytes))) met
 

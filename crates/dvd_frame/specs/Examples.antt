@@ -1,9 +1,10 @@
 -- Worked values from outside the program.
 use Rattle.std.specs.Prelude.{◌≡◌, true, false, [], ◌∷◌, ◌++◌, refl}
+use Rattle.gf_field.specs.BitDivision.{plus_front, remainder_by}
 use Rattle.gf_field.specs.Field.{shift, shifted, partial_product, product, power}
 use Rattle.gf_field.specs.Words.{value}
 use Rattle.dvd_frame.specs.Bits.{bits, bits_of}
-use Rattle.dvd_frame.specs.Edc.{plus_front, remainder, edc_of}
+use Rattle.dvd_frame.specs.Edc.{edc_of}
 use Rattle.dvd_frame.specs.Id.{id_word, word_bytes, has_check}
 use Rattle.dvd_frame.specs.Scrambling.{preset_of, sequence, scrambling_byte}
 use Rattle.dvd_frame.specs.declared.id.Area.TheVariants.{DataZone, LeadIn}
@@ -37,17 +38,17 @@ check-swapped = refl
 
 -- the EDC of no bytes at all is zero
 edc-none : edc_of [] ≡ 0x00 ∷ 0x00 ∷ 0x00 ∷ 0x00 ∷ []
-unfolding edc_of remainder plus_front bits_of bits
+unfolding edc_of remainder_by plus_front bits_of bits
 edc-none = refl
 
 -- the EDC of the single byte 0x01
 edc-01 : edc_of (0x01 ∷ []) ≡ 0x80 ∷ 0x00 ∷ 0x00 ∷ 0x11 ∷ []
-unfolding edc_of remainder plus_front bits_of bits
+unfolding edc_of remainder_by plus_front bits_of bits
 edc-01 = refl
 
 -- the EDC of the single byte 0x02
 edc-02 : edc_of (0x02 ∷ []) ≡ 0x80 ∷ 0x00 ∷ 0x00 ∷ 0x33 ∷ []
-unfolding edc_of remainder plus_front bits_of bits
+unfolding edc_of remainder_by plus_front bits_of bits
 edc-02 = refl
 
 -- the first data sector has the first preset, as bits b7 to b4 of its number are 0

@@ -1,5 +1,5 @@
 -- Data frames (ECMA-267, 16) of 2,064 bytes, with their Main Data scrambled (17).
-use Rattle.std.specs.Prelude.{ℕ, List, ◌++◌, take, drop, not, if◌then◌else◌, Some, None}
+use Rattle.std.specs.Prelude.{◌≡◌, ℕ, List, ◌++◌, take, drop, not, if◌then◌else◌, Some, None, Result, IfErr, OnErr, OnOk}
 use Rattle.std.specs.Int.{from_be_bytes, w32}
 use Rattle.std.specs.Str.{bytes_eq}
 use Rattle.std.specs.declared.option.Option.{Option}
@@ -33,3 +33,10 @@ frame_cause frame want rule =
     else if not (is_same_place (found_word frame) want) then Some (Address (found_word frame))
     else if not (bytes_eq (drop 2060 frame) (edc_of (take 12 frame ++ main_in frame rule))) then Some Edc
     else None
+
+-- A frame was read as one that is wanted: its Main Data are there, or it has a first cause and nothing changed.
+pub record IsFrameRead (frame : List ℕ) (want : ℕ) (rule : Rule) (old new : List ℕ) (answer : Result (Unit {0}) FrameCause) : Type 0 where
+  pub refused : IfErr answer (λ cause. frame_cause frame want rule ≡ Some cause)
+  pub right : OnOk answer (frame_cause frame want rule ≡ None)
+  pub main : OnOk answer (new ≡ main_in frame rule)
+  pub same : OnErr answer (new ≡ old)

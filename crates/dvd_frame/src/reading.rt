@@ -1,8 +1,8 @@
 //! A data frame that was read: its checks, and its Main Data unscrambled (ECMA-267, 16 and 17).
-ghost use Rattle.std.specs.Prelude.{◌≡◌, ◌≤◌, ◌++◌, length, take, drop, None, Some, IfErr, OnErr, OnOk};
+ghost use Rattle.std.specs.Prelude.{◌≡◌, ◌≤◌, ◌++◌, length, take, drop};
 ghost use Rattle.std.specs.Str.{bytes_eq};
 ghost use Rattle.dvd_frame.specs.Edc.{edc_of};
-ghost use Rattle.dvd_frame.specs.Frame.{found_word, frame_cause, main_in};
+ghost use Rattle.dvd_frame.specs.Frame.{IsFrameRead, found_word};
 ghost use Rattle.dvd_frame.specs.Scrambling.{masked};
 ghost use Rattle.dvd_frame.specs.Id.{has_check};
 
@@ -34,10 +34,7 @@ pub fn read_frame(
     rule: Rule,
     out: &mut [u8; 2048],
 ) -> Result<(), FrameCause>
-    ensures refused { IfErr result (λ cause. frame_cause frame.now want rule ≡ Some cause) }
-    ensures right { OnOk result (frame_cause frame.now want rule ≡ None) }
-    ensures main { OnOk result (out.new ≡ main_in frame.now rule) }
-    ensures same { OnErr result (out.new ≡ out.old) }
+    ensures { IsFrameRead frame.now want rule out.old out.new result }
 {
     read_frame_with(&mut Scrambler::new(), frame, want, rule, out)
 }
@@ -51,10 +48,7 @@ pub fn read_frame_with(
     rule: Rule,
     out: &mut [u8; 2048],
 ) -> Result<(), FrameCause>
-    ensures refused { IfErr result (λ cause. frame_cause frame.now want rule ≡ Some cause) }
-    ensures right { OnOk result (frame_cause frame.now want rule ≡ None) }
-    ensures main { OnOk result (out.new ≡ main_in frame.now rule) }
-    ensures same { OnErr result (out.new ≡ out.old) }
+    ensures { IsFrameRead frame.now want rule out.old out.new result }
 {
     if !has_right_ied(frame) {
         return Err(FrameCause::Ied);

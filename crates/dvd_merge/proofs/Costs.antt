@@ -7,7 +7,7 @@ use Rattle.gf_field.specs.Words.{cost}
 use Rattle.dvd_block.specs.Product.{line, place}
 use Rattle.dvd_capture.specs.Answers.{marks_line}
 use Rattle.dvd_merge.specs.Agreeing.{IsOf}
-use Rattle.dvd_merge.specs.Join.{Table, byte_of, join, join_rows, join_tables, joined, joined_marks, joined_rows, mark_of, place_of, row_of, seen, seen_row, seen_table, unseen}
+use Rattle.dvd_merge.specs.Join.{Table, byte_of, join, join_rows, join_tables, joined, joined_marks, joined_rows, joined_mark, known_at, known_row, seen, seen_row, seen_table, unseen}
 use Rattle.dvd_merge.specs.declared.place.Place.{Place}
 use Rattle.dvd_merge.specs.declared.place.Place.TheVariants.{Unseen, Value}
 use Rattle.dvd_merge.proofs.Lattice.{fold_middle}
@@ -42,15 +42,15 @@ is_of-unseen block i j = inl (same_row 208 i (replicate 182 Unseen) (unseen_plac
 
 -- the join of two tables of a block is of that block
 is_of-join : (block : List (List ℕ)) (a b : Table) → IsOf block a → IsOf block b → IsOf block (join_tables a b)
-is_of-join block a b of_a of_b i j = from (place-join (row_of a i) (row_of b i) j)
+is_of-join block a b of_a of_b i j = from (place-join (known_row a i) (known_row b i) j)
   where
-    here : place_of (join_tables a b) i j ≡ get_or (join_rows (row_of a i) (row_of b i)) j Unseen
+    here : known_at (join_tables a b) i j ≡ get_or (join_rows (known_row a i) (known_row b i)) j Unseen
     here = ap (λ row. get_or row j Unseen) (row-join a b i)
 
-    from : (get_or (join_rows (row_of a i) (row_of b i)) j Unseen ≡ Unseen)
-        ⊎ (get_or (join_rows (row_of a i) (row_of b i)) j Unseen ≡ join (place_of a i j) (place_of b i j)) → Has (place block i j) (place_of (join_tables a b) i j)
+    from : (get_or (join_rows (known_row a i) (known_row b i)) j Unseen ≡ Unseen)
+        ⊎ (get_or (join_rows (known_row a i) (known_row b i)) j Unseen ≡ join (known_at a i j) (known_at b i j)) → Has (place block i j) (known_at (join_tables a b) i j)
     from (inl none) = inl (here ∙ none)
-    from (inr is) = subst (Has (place block i j)) (sym (here ∙ is)) (has-join (place block i j) (place_of a i j) (place_of b i j) (of_a i j) (of_b i j))
+    from (inr is) = subst (Has (place block i j)) (sym (here ∙ is)) (has-join (place block i j) (known_at a i j) (known_at b i j) (of_a i j) (of_b i j))
 
 -- captures that received the bytes of the block alone have such a join
 pub is_of-fold : (block : List (List ℕ)) (start : Table) (tables : List Table) → IsOf block start
@@ -82,7 +82,7 @@ full_weight byte got apart = by_cases (eqb_tells byte got)
 
 -- what a place of a table weighs
 abbrev weight_of : ℕ → Place → ℕ
-weight_of byte p = place_weight byte (byte_of p) (mark_of p)
+weight_of byte p = place_weight byte (byte_of p) (joined_mark p)
 
 -- a place weighs no more than in the one capture
 place_bound : (byte got : ℕ) (mark : Bool) (other : Place) → Has byte other → weight_of byte (join (seen got mark) other) ≤ place_weight byte got mark
@@ -104,7 +104,7 @@ place_bound byte got false other (inr is) = by_cases (eqb_tells byte got)
 
 -- one row
 row_bound : (word row : List ℕ) (marks : List Bool) (others : List Place) → ((j : ℕ) → Has (get_or word j 0) (get_or others j Unseen))
-    → cost word (map byte_of (join_rows (seen_row row marks) others)) (map mark_of (join_rows (seen_row row marks) others)) ≤ cost word row marks
+    → cost word (map byte_of (join_rows (seen_row row marks) others)) (map joined_mark (join_rows (seen_row row marks) others)) ≤ cost word row marks
 unfolding cost
 row_bound [] row marks others has = omega arith
 row_bound (byte ∷ word) [] marks others has = omega arith
@@ -120,33 +120,33 @@ line-map f (row ∷ rows) zero = refl
 line-map f (row ∷ rows) (suc i) = line-map f rows i
 
 -- row i of the bytes of a table has the bytes of its row i
-pub bytes-row : (table : Table) (i : ℕ) → line (joined_rows table) i ≡ map byte_of (row_of table i)
+pub bytes-row : (table : Table) (i : ℕ) → line (joined_rows table) i ≡ map byte_of (known_row table i)
 unfolding joined_rows
 bytes-row = line-map byte_of
 
 -- row i of the marks of a table has the marks of its row i
-pub marks-row : (table : Table) (i : ℕ) → marks_line (joined_marks table) i ≡ map mark_of (row_of table i)
+pub marks-row : (table : Table) (i : ℕ) → marks_line (joined_marks table) i ≡ map joined_mark (known_row table i)
 unfolding joined_marks
-marks-row = line-map mark_of
+marks-row = line-map joined_mark
 
 module _ (block rows : List (List ℕ)) (marks : List (List Bool)) (others : Table) (of_block : IsOf block others) (i : ℕ) where
   -- row i of the one capture, joined with row i of the other captures
   abbrev one : List Place
-  one = join_rows (seen_row (line rows i) (marks_line marks i)) (row_of others i)
+  one = join_rows (seen_row (line rows i) (marks_line marks i)) (known_row others i)
 
   -- it is row i of the join of their tables
-  row_is : row_of (join_tables (seen_table rows marks) others) i ≡ one
-  row_is = row-join (seen_table rows marks) others i ∙ ap (λ row. join_rows row (row_of others i)) (row-seen rows marks i)
+  row_is : known_row (join_tables (seen_table rows marks) others) i ≡ one
+  row_is = row-join (seen_table rows marks) others i ∙ ap (λ row. join_rows row (known_row others i)) (row-seen rows marks i)
 
   -- so row i of the join costs no more against the block than in the one capture
   joined_bound : (all : Table) → all ≡ join_tables (seen_table rows marks) others
       → cost (line block i) (line (joined_rows all) i) (marks_line (joined_marks all) i) ≤ cost (line block i) (line rows i) (marks_line marks i)
   joined_bound all is =
-      let row : row_of all i ≡ one = ap (λ table. row_of table i) is ∙ row_is in
+      let row : known_row all i ≡ one = ap (λ table. known_row table i) is ∙ row_is in
       subst (λ n. n ≤ cost (line block i) (line rows i) (marks_line marks i))
       (sym (ap (λ bytes. cost (line block i) bytes (marks_line (joined_marks all) i)) (bytes-row all i ∙ ap (map byte_of) row)
-      ∙ ap (cost (line block i) (map byte_of one)) (marks-row all i ∙ ap (map mark_of) row)))
-      (row_bound (line block i) (line rows i) (marks_line marks i) (row_of others i) (λ j. of_block i j))
+      ∙ ap (cost (line block i) (map byte_of one)) (marks-row all i ∙ ap (map joined_mark) row)))
+      (row_bound (line block i) (line rows i) (marks_line marks i) (known_row others i) (λ j. of_block i j))
 
 -- each row of the join of all captures
 pub cost_bound : (block rows : List (List ℕ)) (marks : List (List Bool)) (before after : List Table)

@@ -4,7 +4,7 @@ use Rattle.std.specs.Simd.Lanes.{zip2}
 use Rattle.std.specs.Array.{AllZipBelow}
 use Rattle.std.proofs.lemmas.List.{ext_get_or}
 use Rattle.std.proofs.lemmas.Bool.Decides.{eqb_tells}
-use Rattle.dvd_merge.specs.Join.{Table, join, join_rows, join_tables, row_of, seen, seen_row, seen_table}
+use Rattle.dvd_merge.specs.Join.{Table, join, join_rows, join_tables, known_row, seen, seen_row, seen_table}
 use Rattle.dvd_merge.specs.declared.place.Place.{Place}
 use Rattle.dvd_merge.specs.declared.place.Place.TheVariants.{Unseen, Value, Conflict}
 use Rattle.dvd_merge.proofs.Lattice.{zip2-assoc, zip2-comm, zip2-idem, zip2-row}
@@ -122,12 +122,12 @@ unfolding join_tables
 tables-idem = zip2-idem join_rows (zip2-idem join join-idem)
 
 -- row by row
-pub row-join : (a b : Table) (i : ℕ) → row_of (join_tables a b) i ≡ join_rows (row_of a i) (row_of b i)
+pub row-join : (a b : Table) (i : ℕ) → known_row (join_tables a b) i ≡ join_rows (known_row a i) (known_row b i)
 unfolding join_tables
 row-join = zip2-row join
 
 -- row i of the table of a captured block is what its bytes and marks tell
-pub row-seen : (rows : List (List ℕ)) (marks : List (List Bool)) (i : ℕ) → row_of (seen_table rows marks) i ≡ seen_row (get_or rows i []) (get_or marks i [])
+pub row-seen : (rows : List (List ℕ)) (marks : List (List Bool)) (i : ℕ) → known_row (seen_table rows marks) i ≡ seen_row (get_or rows i []) (get_or marks i [])
 unfolding seen_table
 row-seen = zip2-row seen
 

@@ -6,7 +6,7 @@ use Rattle.std.proofs.lemmas.List.{ext_get_or, map-append, take-append-drop, tak
 use Rattle.std.proofs.lemmas.Simd.{get_or-zip2, length-zip2}
 use Rattle.dvd_block.specs.Product.{line}
 use Rattle.dvd_capture.specs.Answers.{marks_line}
-use Rattle.dvd_merge.specs.Join.{Table, join, join_rows, join_tables, row_of, seen, seen_row, seen_table}
+use Rattle.dvd_merge.specs.Join.{Table, join, join_rows, join_tables, known_row, seen, seen_row, seen_table}
 use Rattle.dvd_merge.specs.MarkedText.{number_of_marks, with_digit}
 use Rattle.dvd_merge.specs.declared.place.Place.{Place}
 use Rattle.dvd_merge.specs.declared.place.Place.TheVariants.{Unseen}
@@ -63,11 +63,11 @@ row_taken old now bytes marks old_size bytes_size marks_size now_size each =
 
 -- a received block
 pub table_taken : (old now : Table) (rows : List (List ℕ)) (marks : List (List Bool)) → length old ≡ 208 → length rows ≡ 208 → length marks ≡ 208 → length now ≡ 208
-    → ((q : ℕ) → q < 208 → row_of now q ≡ join_rows (row_of old q) (seen_row (line rows q) (marks_line marks q)))
+    → ((q : ℕ) → q < 208 → known_row now q ≡ join_rows (known_row old q) (seen_row (line rows q) (marks_line marks q)))
     → now ≡ join_tables old (seen_table rows marks)
 unfolding join_tables seen_table
 table_taken old now rows marks old_size rows_size marks_size now_size each =
     zipped_all join_rows old (zip2 seen_row rows marks) now 208 [] [] [] old_size
     (length-zip2 seen_row rows marks (rows_size ∙ sym marks_size) ∙ rows_size) now_size
-    (λ q below. each q below ∙ ap (join_rows (row_of old q))
+    (λ q below. each q below ∙ ap (join_rows (known_row old q))
     (sym (get_or-zip2 seen_row rows marks q [] [] [] (omega (arith, below, rows_size)) (omega (arith, below, marks_size)))))

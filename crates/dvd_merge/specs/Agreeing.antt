@@ -1,9 +1,9 @@
 -- Ours: captures that received no wrong byte.
 use Rattle.std.specs.Prelude.{◌≡◌, ◌⊎◌, ℕ, List}
 use Rattle.dvd_block.specs.Product.{place}
-use Rattle.dvd_merge.specs.Join.{Table, place_of}
+use Rattle.dvd_merge.specs.Join.{Table, known_at}
 use Rattle.dvd_merge.specs.declared.place.Place.TheVariants.{Unseen, Value}
 
 -- Ours: each place of the table that is seen has the byte of this block
 abbrev pub IsOf : List (List ℕ) → Table → Type 0
-IsOf block table = (i j : ℕ) → (place_of table i j ≡ Unseen) ⊎ (place_of table i j ≡ Value (place block i j))
+IsOf block table = (i j : ℕ) → (known_at table i j ≡ Unseen) ⊎ (known_at table i j ≡ Value (place block i j))

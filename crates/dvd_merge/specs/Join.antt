@@ -47,12 +47,12 @@ unfoldable pub joined : List Table → Table
 joined tables = fold join_tables unseen tables
 
 -- what is known of the places of row i
-abbrev pub row_of : Table → ℕ → List Place
-row_of table i = slice_index_or table i []
+abbrev pub known_row : Table → ℕ → List Place
+known_row table i = slice_index_or table i []
 
 -- what is known of the place in row i at j, unseen behind the end
-abbrev pub place_of : Table → ℕ → ℕ → Place
-place_of table i j = slice_index_or (row_of table i) j Unseen
+abbrev pub known_at : Table → ℕ → ℕ → Place
+known_at table i j = slice_index_or (known_row table i) j Unseen
 
 -- Ours: the byte of a place, 0 where none is known
 abbrev pub byte_of : Place → ℕ
@@ -61,10 +61,10 @@ byte_of Unseen = 0
 byte_of Conflict = 0
 
 -- Ours: whether no one byte is known of a place
-abbrev pub mark_of : Place → Bool
-mark_of (Value byte) = false
-mark_of Unseen = true
-mark_of Conflict = true
+abbrev pub joined_mark : Place → Bool
+joined_mark (Value byte) = false
+joined_mark Unseen = true
+joined_mark Conflict = true
 
 -- Ours: the rows of a table as bytes
 unfoldable pub joined_rows : Table → List (List ℕ)
@@ -72,4 +72,4 @@ joined_rows table = map (map byte_of) table
 
 -- Ours: its rows as marks
 unfoldable pub joined_marks : Table → List (List Bool)
-joined_marks table = map (map mark_of) table
+joined_marks table = map (map joined_mark) table

@@ -11,8 +11,8 @@ use Rattle.dvd_merge.specs.Join.{Table, joined, joined_marks, joined_rows, seen_
 use Rattle.dvd_merge.specs.MarkedText.{marked_text}
 
 -- captures in another order, or some of them more than once, have the same join
-abbrev pub OrderDoesNotCount : Type 0
-OrderDoesNotCount = (a b : List Table) → ((table : Table) → Contains a table ↔ Contains b table) → joined a ≡ joined b
+abbrev pub CaptureOrderDoesNotCount : Type 0
+CaptureOrderDoesNotCount = (a b : List Table) → ((table : Table) → Contains a table ↔ Contains b table) → joined a ≡ joined b
 
 -- Where all captures but one have the byte of the block at each place that they have seen, each row of the join costs at
 -- most what it costs in the one.

@@ -3,7 +3,7 @@
 use Rattle.std.specs.Prelude.{ℕ, ◌+◌, ◌*◌, Bool, false, if◌then◌else◌, List, [], ◌∷◌, ◌++◌, map, take, drop}
 use Rattle.std.specs.List.{fold, range_with_len}
 use Rattle.dvd_block.specs.Recording.{recording}
-use Rattle.dvd_merge.specs.Join.{Table, byte_of, mark_of}
+use Rattle.dvd_merge.specs.Join.{Table, byte_of, joined_mark}
 use Rattle.dvd_merge.specs.declared.place.Place.{Place}
 
 -- Ours: a number with one binary digit more at its end, which is this mark
@@ -24,7 +24,7 @@ mark_bytes marks = map (mark_byte marks) (range_with_len 0 23)
 
 -- Ours: a row in the marked form
 unfoldable pub marked_row : List Place → List ℕ
-marked_row places = map byte_of places ++ mark_bytes (map mark_of places)
+marked_row places = map byte_of places ++ mark_bytes (map joined_mark places)
 
 -- Ours: the whole block
 abbrev pub marked_text : Table → List ℕ

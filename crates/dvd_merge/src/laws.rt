@@ -1,9 +1,9 @@
 //! What holds of every join of captures: each function's contract is one law, and its body is empty.
-ghost use Rattle.dvd_merge.specs.Laws.{CostDoesNotGrow, MarkedTextIsCaptured, OrderDoesNotCount};
+ghost use Rattle.dvd_merge.specs.Laws.{CostDoesNotGrow, MarkedTextIsCaptured, CaptureOrderDoesNotCount};
 
 /// Neither the order of captures nor their repetition changes the join.
 pub fn order_of_captures_does_not_count()
-    ensures { OrderDoesNotCount }
+    ensures { CaptureOrderDoesNotCount }
 {}
 
 /// A row that is good in one capture stays good, where all others have the recorded byte at each unmarked place.

@@ -6,7 +6,7 @@ ghost use Rattle.dvd_capture.specs.Rule.{HasBlock};
 ghost use Rattle.dvd_capture.specs.Works.{marks_of_work, rows_of, stage_of};
 ghost use Rattle.dvd_ports.specs.Causes.{HasCause};
 ghost use Rattle.dvd_ports.specs.Whole.{AppendsPrefix};
-ghost use Rattle.dvd_merge.specs.Join.{join, join_rows, join_tables, place_of, row_of, seen_row, seen_table, unseen};
+ghost use Rattle.dvd_merge.specs.Join.{join, join_rows, join_tables, known_at, known_row, seen_row, seen_table, unseen};
 ghost use Rattle.dvd_merge.specs.MarkedText.{marked_text};
 ghost use Rattle.dvd_merge.specs.declared.place.Place.TheVariants.{Value};
 
@@ -47,7 +47,7 @@ impl Merge {
         requires row { i < 208 }
         requires place { j < 182 }
         ensures { table_of self.new ≡ slice_set (table_of self.old) i
-            (slice_set (row_of (table_of self.old) i) j (join (place_of (table_of self.old) i j) (Value byte))) }
+            (slice_set (known_row (table_of self.old) i) j (join (known_at (table_of self.old) i j) (Value byte))) }
     {
         let place = &mut self.rows[i][j];
         *place = place.join(Place::Value(byte));
@@ -69,7 +69,7 @@ impl Merge {
     pub fn place(&self, i: usize, j: usize) -> Place
         requires row { i < 208 }
         requires place { j < 182 }
-        ensures { result ≡ place_of (table_of self.now) i j }
+        ensures { result ≡ known_at (table_of self.now) i j }
     {
         self.rows[i][j]
     }
@@ -90,7 +90,7 @@ impl Merge {
     pub fn take_row(&mut self, i: usize, bytes: &[u8; 182], marks: &[bool; 182])
         requires { i < 208 }
         ensures { table_of self.new ≡ slice_set (table_of self.old) i
-            (join_rows (row_of (table_of self.old) i) (seen_row bytes.now marks.now)) }
+            (join_rows (known_row (table_of self.old) i) (seen_row bytes.now marks.now)) }
     {
         take_row(&mut self.rows[i], bytes, marks);
     }

@@ -1,6 +1,6 @@
 //! What is known of a place of a block.
 ghost use Rattle.std.specs.Prelude.{◌≡◌};
-ghost use Rattle.dvd_merge.specs.Join.{byte_of, join, mark_of, seen};
+ghost use Rattle.dvd_merge.specs.Join.{byte_of, join, joined_mark, seen};
 
 /// What captures of a block know of one of its places.
 #[derive(Clone, Copy, Debug, PartialEq, Eq)]
@@ -50,7 +50,7 @@ impl Place {
 
     // Whether no byte is known.
     pub(crate) fn is_marked(self) -> bool
-        ensures { result ≡ mark_of self }
+        ensures { result ≡ joined_mark self }
     {
         match self {
             Place::Value(_) => false,

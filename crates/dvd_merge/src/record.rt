@@ -1,7 +1,7 @@
 //! Rows in the marked form.
 ghost use Rattle.std.specs.Prelude.{◌≡◌, ◌*◌, ◌++◌, length, map, take, drop};
 ghost use Rattle.std.specs.List.{range_with_len};
-ghost use Rattle.dvd_merge.specs.Join.{byte_of, mark_of};
+ghost use Rattle.dvd_merge.specs.Join.{byte_of, joined_mark};
 ghost use Rattle.dvd_merge.specs.MarkedText.{marked_row, marked_text, number_of_marks};
 
 use crate::place::Place;
@@ -39,7 +39,7 @@ fn fill_record(places: &[Place; 182], bytes: &mut [u8; RECORD])
 fn split(places: &[Place; 182], bytes: &mut [u8], marks: &mut [bool; 184])
     requires { length bytes.old ≡ 182 }
     ensures bytes { bytes.new ≡ map byte_of places.now }
-    ensures marks { marks.new ≡ map mark_of places.now ++ drop 182 marks.old }
+    ensures marks { marks.new ≡ map joined_mark places.now ++ drop 182 marks.old }
 {
     for (j, place) in places.iter().enumerate() {
         bytes[j] = place.byte();

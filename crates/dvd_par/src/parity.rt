@@ -2,7 +2,7 @@
 ghost use Rattle.std.specs.Prelude.{◌≡◌, ℕ, ◌+◌, ◌<◌, ◌≤◌, ◌++◌, length, take, EachIndex};
 ghost use Rattle.gf_field.specs.Words.{IsCodeword, IsEncoded};
 ghost use Rattle.dvd_block.specs.Buffers.{block_rows, cells_all, lines_rows};
-ghost use Rattle.dvd_block.specs.Product.{IsProduct, column, line, place};
+ghost use Rattle.dvd_block.specs.Product.{IsParityAdded, column, line};
 
 use crate::gate::Gate;
 use dvd_block::Block;
@@ -15,8 +15,7 @@ use std::thread::{Threads, for_each_chunk_mut};
 /// this thread.
 pub fn add_parity_par<R: Threads + Sync, G: Gate>(rt: &R, workers: u8, gate: &G, block: &mut Block)
     requires workers { (1 ≤ workers) × (workers ≤ 16) }
-    ensures product { IsProduct (block_rows block.new) }
-    ensures kept { (i j : ℕ) → i < 192 → j < 172 → place (block_rows block.new) i j ≡ place (block_rows block.old) i j }
+    ensures { IsParityAdded (block_rows block.old) (block_rows block.new) }
 {
     if workers == 1 {
         // Both passes at once.

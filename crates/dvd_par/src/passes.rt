@@ -1,13 +1,11 @@
 //! Both passes over a captured block, with several workers in each.
-ghost use Rattle.std.specs.Prelude.{◌≡◌, ◌+◌, ◌<◌, ◌≤◌, None, Some, length, map, IsTrue, IfErr, IfOk, OnErr, OnOk};
+ghost use Rattle.std.specs.Prelude.{◌≡◌, ◌+◌, ◌<◌, ◌≤◌, length, map, IsTrue};
 ghost use Rattle.rs_decode.specs.Filling.{marked};
-ghost use Rattle.dvd_capture.specs.Answers.{AreAnswers};
 ghost use Rattle.dvd_capture.specs.Rule.{HasBlock};
-ghost use Rattle.dvd_capture.specs.TwoPass.{answers_of, failed_of};
-ghost use Rattle.dvd_capture.specs.Works.{answers_of_work, block_of, marks_of_work, rows_of, stage_of};
+ghost use Rattle.dvd_capture.specs.TwoPass.{failed_of};
+ghost use Rattle.dvd_capture.specs.Works.{stage_of};
 ghost use Rattle.dvd_capture.specs.Parts.{marks_rows, received_rows};
-ghost use Rattle.dvd_read.specs.Causes.{two_pass_cause};
-ghost use Rattle.dvd_read.specs.Found.{block_differences, block_found};
+ghost use Rattle.dvd_read.specs.Calls.{IsDecoded};
 ghost use Rattle.dvd_read.specs.Parts.{AreAnswersFrom, AreColumnsFrom, AreOwnFrom, answer_word};
 
 use crate::gate::Gate;
@@ -28,19 +26,7 @@ pub fn two_pass_par<R: Threads + Sync, G: Gate>(
 ) -> Result<Fixed, Cause>
     requires workers { (1 ≤ workers) × (workers ≤ 16) }
     requires stage { HasBlock (stage_of work.old) }
-
-    ensures refused { IfErr result (λ cause. two_pass_cause (answers_of (rows_of work.old) (marks_of_work work.old)) ≡ Some cause) }
-    ensures fixed { OnOk result (two_pass_cause (answers_of (rows_of work.old) (marks_of_work work.old)) ≡ None) }
-    ensures block { OnOk result (block_of work.new ≡ block_found (answers_of (rows_of work.old) (marks_of_work work.old))) }
-    ensures bytes { IfOk result (λ fixed. fixed.bytes ≡ block_differences (rows_of work.old) (block_of work.new)) }
-    ensures failed_rows { IfOk result (λ fixed. fixed.failed_rows ≡ marked (failed_of (answers_of (rows_of work.old) (marks_of_work work.old)))) }
-
-    ensures stage_fixed { OnOk result (stage_of work.new ≡ Stage.Fixed) }
-    ensures stage_refused { OnErr result (stage_of work.new ≡ Stage.Refused) }
-    ensures answers { AreAnswers (rows_of work.old) (marks_of_work work.old) (answers_of_work work.new) }
-    ensures received { work.new.received ≡ work.old.received }
-    ensures marks { work.new.marks ≡ work.old.marks }
-    ensures sectors { work.new.sectors ≡ work.old.sectors }
+    ensures { IsDecoded work.old work.new result }
 {
     work.set_stage(Stage::Fetched);
     let answers = work.answers.rows_mut();

@@ -13,7 +13,7 @@ use Rattle.dvd_capture.specs.TwoPass.{column_answer, from_columns}
 use Rattle.dvd_capture.specs.declared.parts.ColumnAnswer.{ColumnAnswer}
 use Rattle.dvd_capture.proofs.Columns.{from_columns-line}
 use Rattle.dvd_read.specs.Parts.{AreColumnsFrom, column_word}
-use Rattle.dvd_read.specs.Inner.Found.{words_of}
+use Rattle.dvd_read.specs.Inner.Found.{words_of_columns}
 use Rattle.dvd_read.proofs.Positions.{first_passes, none_passes}
 
 -- a column that stands nowhere
@@ -30,19 +30,19 @@ IsRowBefore columns i row j = (k : ℕ) (d : ColumnAnswer) → k < j → get_or 
 
 -- once all places are read, it is the row of the columns' words
 pub row_read : (columns : List ColumnAnswer) (i : ℕ) (row : List ℕ) → i < 208 → length columns ≡ 182 → length row ≡ 182 → IsRowBefore columns i row 182
-    → row ≡ line (from_columns (words_of columns)) i
+    → row ≡ line (from_columns (words_of_columns columns)) i
 row_read columns i row below size row_size read =
     let bytes : ColumnAnswer → List ℕ = λ column. column.bytes in
-    same_number_lists row (map (λ word. slice_index word i) (words_of columns))
-    (row_size ∙ sym (length-map (words_of columns) (λ word. slice_index word i) ∙ length-map columns bytes ∙ size))
+    same_number_lists row (map (λ word. slice_index word i) (words_of_columns columns))
+    (row_size ∙ sym (length-map (words_of_columns columns) (λ word. slice_index word i) ∙ length-map columns bytes ∙ size))
     (λ k within.
     let inside : k < length columns = omega arith in
     let k_below : k < 182 = omega arith in
-    let inside_words : k < length (words_of columns) = rw length-map inside in
+    let inside_words : k < length (words_of_columns columns) = rw length-map inside in
     read k blank_column k_below
     ∙ ap (λ word. slice_index word i) (sym (get_or-map bytes columns k blank_column [] inside))
-    ∙ sym (get_or-map (λ word. slice_index word i) (words_of columns) k [] 0 inside_words))
-    ∙ sym (from_columns-line (words_of columns) i below)
+    ∙ sym (get_or-map (λ word. slice_index word i) (words_of_columns columns) k [] 0 inside_words))
+    ∙ sym (from_columns-line (words_of_columns columns) i below)
 
 -- the answers to all columns from the first on
 pub columns-whole : (answers : List (Option (List ℕ))) (columns : List ColumnAnswer) → length columns ≡ 182

@@ -11,7 +11,7 @@ use Rattle.dvd_capture.specs.declared.parts.ColumnAnswer.{ColumnAnswer}
 use Rattle.dvd_read.specs.Causes.{two_pass_cause}
 use Rattle.dvd_read.specs.Found.{block_found, columns_of}
 use Rattle.dvd_read.specs.Parts.{column_word}
-use Rattle.dvd_read.specs.Inner.Found.{words_of}
+use Rattle.dvd_read.specs.Inner.Found.{words_of_columns}
 use Rattle.dvd_read.specs.declared.cause.Cause.TheVariants.{Column, Row}
 use Rattle.dvd_read.proofs.ColumnAnswers.{AreColumns, blank_column}
 use Rattle.dvd_read.proofs.Outcomes.{missing_column, get_or-columns_of, length-columns_of, column_cause, row_cause, fixed-agrees}
@@ -57,12 +57,12 @@ word-by false bytes is = cc
 
 -- where each column is answered, the columns' words are those of the block found
 pub words-found : (answers : List (Option (List ℕ))) (columns : List ColumnAnswer) → length columns ≡ 182 → AreColumns answers columns
-    → position (λ (column : ColumnAnswer). not column.answered) columns ≡ None → from_columns (words_of columns) ≡ block_found answers
+    → position (λ (column : ColumnAnswer). not column.answered) columns ≡ None → from_columns (words_of_columns columns) ≡ block_found answers
 unfolding block_found
 words-found answers columns size are none =
     let bytes : ColumnAnswer → List ℕ = λ column. column.bytes in
     ap from_columns
-    (ext_get_or [] (words_of columns) (map (λ column. unwrap_or column []) (columns_of answers))
+    (ext_get_or [] (words_of_columns columns) (map (λ column. unwrap_or column []) (columns_of answers))
     (length-map columns bytes ∙ size ∙ sym (length-map (columns_of answers) (λ column. unwrap_or column []) ∙ length-columns_of answers))
     (λ j within.
     let inside : j < length columns = subst (λ n. j < n) (length-map columns bytes) within in
@@ -82,7 +82,7 @@ column_refused answers columns j size are few first = column_cause answers j few
 -- where all columns are answered, the first row that isn't a codeword is the cause
 pub row_refused : (answers : List (Option (List ℕ))) (columns : List ColumnAnswer) (i : ℕ) → length columns ≡ 182 → AreColumns answers columns
     → marked (failed_of answers) ≤ 16 → position (λ (column : ColumnAnswer). not column.answered) columns ≡ None
-    → position (λ row. not (vanishes_at_all 10 row)) (from_columns (words_of columns)) ≡ Some i → two_pass_cause answers ≡ Some (Row i)
+    → position (λ row. not (vanishes_at_all 10 row)) (from_columns (words_of_columns columns)) ≡ Some i → two_pass_cause answers ≡ Some (Row i)
 row_refused answers columns i size are few none first =
     row_cause answers i few (sym (missing-is answers columns size are) ∙ none)
     (ap (position (λ row. not (vanishes_at_all 10 row))) (sym (words-found answers columns size are none)) ∙ first)
@@ -90,7 +90,7 @@ row_refused answers columns i size are few none first =
 -- where all columns are answered and all rows vanish, there is no cause, and the block found agrees
 pub block_accepted : (answers : List (Option (List ℕ))) (columns : List ColumnAnswer) → length answers ≡ 208 → length columns ≡ 182 → AreColumns answers columns
     → marked (failed_of answers) ≤ 16 → position (λ (column : ColumnAnswer). not column.answered) columns ≡ None
-    → position (λ row. not (vanishes_at_all 10 row)) (from_columns (words_of columns)) ≡ None
+    → position (λ row. not (vanishes_at_all 10 row)) (from_columns (words_of_columns columns)) ≡ None
     → (two_pass_cause answers ≡ None) × AgreesWith answers (block_found answers)
 block_accepted answers columns answers_size size are few none fine =
     fixed-agrees answers answers_size few (sym (missing-is answers columns size are) ∙ none)

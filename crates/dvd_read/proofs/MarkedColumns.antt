@@ -10,7 +10,7 @@ use Rattle.rs_decode.specs.Nearest.{near_of}
 use Rattle.rs_decode.proofs.Counting.{counts-from_near}
 use Rattle.rs_decode.proofs.NearSearch.{near_of-alike, near_of-some, none-near_of}
 use Rattle.dvd_block.specs.Product.{column}
-use Rattle.dvd_capture.specs.TwoPass.{answer_column, byte_at, column_answer, failed_of}
+use Rattle.dvd_capture.specs.TwoPass.{answer_column, byte_or_zero, column_answer, failed_of}
 use Rattle.dvd_capture.specs.declared.parts.AnswerRow.{AnswerRow}
 use Rattle.dvd_capture.specs.declared.parts.ColumnAnswer.{ColumnAnswer}
 use Rattle.dvd_read.specs.Parts.{answer_by, answer_word, bytes_of, column_word}
@@ -32,7 +32,7 @@ column_vanishes answers j size bytes vanishes = record {
 }
 
 -- an answer that isn't missing has the byte that stands in its place
-byte_answered : (fix : Option Fix) (bytes : List ℕ) (j : ℕ) → is_none (answer_by fix bytes) ≡ false → slice_index bytes j ≡ byte_at j (answer_by fix bytes)
+byte_answered : (fix : Option Fix) (bytes : List ℕ) (j : ℕ) → is_none (answer_by fix bytes) ≡ false → slice_index bytes j ≡ byte_or_zero j (answer_by fix bytes)
 byte_answered None bytes j answered = cc
 byte_answered (Some fix) bytes j answered = refl
 
@@ -49,8 +49,8 @@ bytes-agree answers j k within clear =
     get_or-map (λ (row : List ℕ). slice_index row j) (bytes_of answers) k [] 0 inside_bytes
     ∙ ap (λ (row : List ℕ). slice_index row j) (get_or-bytes_of answers k inside)
     ∙ byte_answered answer.fix answer.bytes j (ap is_none (sym word) ∙ sym (get_or-map is_none words k None false inside_words) ∙ clear)
-    ∙ ap (byte_at j) (sym word)
-    ∙ sym (get_or-map (byte_at j) words k None 0 inside_words)
+    ∙ ap (byte_or_zero j) (sym word)
+    ∙ sym (get_or-map (byte_or_zero j) words k None 0 inside_words)
 
 -- so the column of these bytes, with the failed rows marked, has the answer of the second pass
 pub marked-answer : (answers : List AnswerRow) (j : ℕ) → length answers ≡ 208
@@ -59,7 +59,7 @@ unfolding answer_column
 marked-answer answers j size =
     let words : List (Option (List ℕ)) = map answer_word answers in
     sym (near_of-alike 208 16 (answer_column words j) (column (bytes_of answers) j) (failed_of words)
-    (length-map words (byte_at j) ∙ length-map answers answer_word ∙ sym (length-map (bytes_of answers) (λ row. slice_index row j) ∙ length-bytes_of answers))
+    (length-map words (byte_or_zero j) ∙ length-map answers answer_word ∙ sym (length-map (bytes_of answers) (λ row. slice_index row j) ∙ length-bytes_of answers))
     (bytes-agree answers j))
 
 -- where more than sixteen rows failed, no column has an answer
@@ -69,7 +69,7 @@ unfolding answer_column
 many-unanswered answers j size many =
     let words : List (Option (List ℕ)) = map answer_word answers in
     let words_size : length words ≡ 208 = length-map answers answer_word ∙ size in
-    none-near_of 208 16 (answer_column words j) (failed_of words) (length-map words (byte_at j) ∙ words_size) (length-map words is_none ∙ words_size)
+    none-near_of 208 16 (answer_column words j) (failed_of words) (length-map words (byte_or_zero j) ∙ words_size) (length-map words is_none ∙ words_size)
     (λ word near. let counts = counts-from_near 208 16 (answer_column words j) word (failed_of words) near in absurd (omega arith))
 
 -- a column whose flag isn't set has no answer

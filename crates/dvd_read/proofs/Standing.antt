@@ -23,7 +23,7 @@ use Rattle.dvd_capture.specs.declared.parts.AnswerRow.{AnswerRow}
 use Rattle.dvd_capture.specs.declared.parts.ColumnAnswer.{ColumnAnswer}
 use Rattle.dvd_capture.proofs.Columns.{from_columns-line, length-from_columns}
 use Rattle.dvd_read.specs.Parts.{AreOwnFrom, answer_by, answer_word, bytes_of}
-use Rattle.dvd_read.specs.Inner.Found.{words_of}
+use Rattle.dvd_read.specs.Inner.Found.{words_of_columns}
 use Rattle.dvd_read.specs.Inner.Standing.{AreCodewords}
 use Rattle.dvd_read.proofs.ColumnAnswers.{blank_column}
 use Rattle.dvd_read.proofs.RowAnswers.{blank_answer, row_fixed}
@@ -146,10 +146,10 @@ AreOwnColumns answers columns = (j : ℕ) (default : ColumnAnswer) → j < 182 �
 
 -- where no row failed and each column is its own answer, the block stands as its rows were answered
 pub stands : (answers : List AnswerRow) (columns : List ColumnAnswer) → length answers ≡ 208 → length columns ≡ 182 → AreCodewords answers
-    → marked (failed_of (map answer_word answers)) ≡ 0 → AreOwnColumns answers columns → from_columns (words_of columns) ≡ bytes_of answers
+    → marked (failed_of (map answer_word answers)) ≡ 0 → AreOwnColumns answers columns → from_columns (words_of_columns columns) ≡ bytes_of answers
 stands answers columns size columns_size codewords none own =
     let word : ColumnAnswer → List ℕ = λ column. column.bytes in
-    let words : List (List ℕ) = words_of columns in
+    let words : List (List ℕ) = words_of_columns columns in
     let rows : List (List ℕ) = bytes_of answers in
     ext_get_or [] (from_columns words) rows (length-from_columns words ∙ sym (length-bytes_of answers ∙ size))
     (λ i within.
@@ -170,7 +170,7 @@ stands answers columns size columns_size codewords none own =
 -- no row of such a block is wrong
 pub rows-stand : (answers : List AnswerRow) (columns : List ColumnAnswer) → length answers ≡ 208 → length columns ≡ 182 → AreCodewords answers
     → marked (failed_of (map answer_word answers)) ≡ 0 → AreOwnColumns answers columns → (k : ℕ) → k < 208
-    → vanishes_at_all 10 (line (from_columns (words_of columns)) k) ≡ true
+    → vanishes_at_all 10 (line (from_columns (words_of_columns columns)) k) ≡ true
 rows-stand answers columns size columns_size codewords none own k below =
     ap (λ (block : List (List ℕ)). vanishes_at_all 10 (line block k)) (stands answers columns size columns_size codewords none own)
     ∙ codeword-vanishes 182 10 (line (bytes_of answers) k) (whole-codewords answers k size below codewords none)

@@ -8,7 +8,7 @@ ghost use Rattle.rs_decode.specs.Nearest.{near_of, vanishes_at_all};
 ghost use Rattle.rs_decode.specs.Filling.{marked};
 ghost use Rattle.dvd_block.specs.Product.{column, line, place};
 ghost use Rattle.dvd_read.specs.Parts.{AreColumnsFrom, AreOwnFrom, answer_word, column_word};
-ghost use Rattle.dvd_read.specs.Inner.Found.{AreRightFrom, IsFirstWrong, words_of};
+ghost use Rattle.dvd_read.specs.Inner.Found.{AreRightFrom, IsFirstWrongRow, words_of_columns};
 ghost use Rattle.dvd_read.specs.Inner.Standing.{AreCopied};
 
 use crate::lanes::lane_of;
@@ -226,7 +226,7 @@ pub(crate) fn first_missing(columns: &[ColumnAnswer]) -> Option<u16>
 /// The first row of the columns' words that isn't a codeword.
 pub(crate) fn first_wrong(columns: &[ColumnAnswer]) -> Option<u16>
     requires { length columns.now ≡ 182 }
-    ensures { result ≡ position (λ row. not (vanishes_at_all 10 row)) (from_columns (words_of columns.now)) }
+    ensures { result ≡ position (λ row. not (vanishes_at_all 10 row)) (from_columns (words_of_columns columns.now)) }
 {
     for group in 0..7usize {
         // The last 32 rows begin at row 176.
@@ -242,7 +242,7 @@ pub(crate) fn first_wrong(columns: &[ColumnAnswer]) -> Option<u16>
 fn first_wrong_from(columns: &[ColumnAnswer], top: usize) -> Option<u16>
     requires columns { length columns.now ≡ 182 }
     requires top { top + 32 ≤ 208 }
-    ensures { MatchOption result (AreRightFrom columns.now top 32) (λ i. IsFirstWrong columns.now top i) }
+    ensures { MatchOption result (AreRightFrom columns.now top 32) (λ i. IsFirstWrongRow columns.now top i) }
 {
     let wrong = any_of(&turned_values(&turned_rows(columns, top)));
     for n in 0..32usize {
@@ -258,7 +258,7 @@ fn turned_rows(columns: &[ColumnAnswer], top: usize) -> [u8x32; 182]
     requires columns { length columns.now ≡ 182 }
     requires top { top + 32 ≤ 208 }
     ensures size { length result ≡ 182 }
-    ensures rows { (n : ℕ) → n < 32 → column result n ≡ line (from_columns (words_of columns.now)) (top + n) }
+    ensures rows { (n : ℕ) → n < 32 → column result n ≡ line (from_columns (words_of_columns columns.now)) (top + n) }
 {
     let mut turned = [u8x32::splat(0); 182];
     for j in 0..182usize {
@@ -279,7 +279,7 @@ fn lanes_at(word: &[u8; 208], at: usize) -> u8x32
 pub(crate) fn read_row(columns: &[ColumnAnswer], i: usize, row: &mut [u8; 182])
     requires columns { length columns.now ≡ 182 }
     requires row { i < 208 }
-    ensures { row.new ≡ line (from_columns (words_of columns.now)) i }
+    ensures { row.new ≡ line (from_columns (words_of_columns columns.now)) i }
 {
     for j in 0..182usize {
         row[j] = columns[j].bytes[i];

@@ -1,12 +1,13 @@
 //! The checks of a block's sixteen data frames, and their Main Data.
-ghost use Rattle.std.specs.Prelude.{◌≡◌, ℕ, ◌+◌, ◌*◌, ◌<◌, ◌≤◌, ◌++◌, None, Some, length, take, replicate, IsTrue, IfErr, OnErr, OnOk};
+ghost use Rattle.std.specs.Prelude.{◌≡◌, ℕ, ◌+◌, ◌*◌, ◌<◌, ◌≤◌, ◌++◌, None, Some, length, take, IsTrue, IfErr, OnOk};
 ghost use Rattle.dvd_block.specs.Product.{line};
 ghost use Rattle.dvd_capture.specs.Parts.{received_rows, sector_bytes};
 ghost use Rattle.dvd_capture.specs.TwoPass.{from_columns};
-ghost use Rattle.dvd_capture.specs.Works.{block_of, rows_of, sectors_of, stage_of};
+ghost use Rattle.dvd_capture.specs.Works.{block_of, rows_of, stage_of};
 ghost use Rattle.dvd_layout.specs.Place.{HasNumbers};
+ghost use Rattle.dvd_read.specs.Calls.{AreFramesChecked};
 ghost use Rattle.dvd_read.specs.Found.{block_differences};
-ghost use Rattle.dvd_read.specs.Inner.Found.{words_of};
+ghost use Rattle.dvd_read.specs.Inner.Found.{words_of_columns};
 ghost use Rattle.dvd_read.specs.Frames.{cause_in, fault_at, frame_of, frames_cause, main_at, main_data};
 
 use crate::cause::Cause;
@@ -22,17 +23,7 @@ use dvd_layout::{BlockPlan, id_of, rule_of};
 pub fn sectors(work: &mut Work, plan: &BlockPlan) -> Result<(), Cause>
     requires stage { stage_of work.old ≡ Stage.Fixed }
     requires numbers { HasNumbers plan.now }
-
-    ensures refused { IfErr result (λ cause. frames_cause (block_of work.old) plan.now ≡ Some cause) }
-    ensures right { OnOk result (frames_cause (block_of work.old) plan.now ≡ None) }
-    ensures main { OnOk result (sectors_of work.new ≡ main_data (block_of work.old) plan.now) }
-    ensures zeros { OnErr result (sectors_of work.new ≡ replicate 16 (replicate 2048 0)) }
-
-    ensures stage { stage_of work.new ≡ Stage.Fixed }
-    ensures received { work.new.received ≡ work.old.received }
-    ensures marks { work.new.marks ≡ work.old.marks }
-    ensures answers { work.new.answers ≡ work.old.answers }
-    ensures columns { work.new.columns ≡ work.old.columns }
+    ensures { AreFramesChecked work.old work.new plan.now result }
 {
     sectors_of_block(work, plan, false)
 }
@@ -43,17 +34,7 @@ pub fn sectors_of_block(work: &mut Work, plan: &BlockPlan, as_received: bool) ->
     requires stage { stage_of work.old ≡ Stage.Fixed }
     requires numbers { HasNumbers plan.now }
     requires as_received { IsTrue as_received → block_differences (rows_of work.old) (block_of work.old) ≡ 0 }
-
-    ensures refused { IfErr result (λ cause. frames_cause (block_of work.old) plan.now ≡ Some cause) }
-    ensures right { OnOk result (frames_cause (block_of work.old) plan.now ≡ None) }
-    ensures main { OnOk result (sectors_of work.new ≡ main_data (block_of work.old) plan.now) }
-    ensures zeros { OnErr result (sectors_of work.new ≡ replicate 16 (replicate 2048 0)) }
-
-    ensures stage { stage_of work.new ≡ Stage.Fixed }
-    ensures received { work.new.received ≡ work.old.received }
-    ensures marks { work.new.marks ≡ work.old.marks }
-    ensures answers { work.new.answers ≡ work.old.answers }
-    ensures columns { work.new.columns ≡ work.old.columns }
+    ensures { AreFramesChecked work.old work.new plan.now result }
 {
     let columns = work.columns.all();
     match read_frames(
@@ -80,11 +61,11 @@ fn read_frames(
     sectors: &mut Sectors,
 ) -> Result<(), Cause>
     requires columns { length columns.now ≡ 182 }
-    requires as_received { IsTrue as_received → block_differences (received_rows received.now) (from_columns (words_of columns.now)) ≡ 0 }
+    requires as_received { IsTrue as_received → block_differences (received_rows received.now) (from_columns (words_of_columns columns.now)) ≡ 0 }
     requires numbers { HasNumbers plan.now }
-    ensures refused { IfErr result (λ cause. frames_cause (from_columns (words_of columns.now)) plan.now ≡ Some cause) }
-    ensures right { OnOk result (frames_cause (from_columns (words_of columns.now)) plan.now ≡ None) }
-    ensures main { OnOk result (sector_bytes sectors.new ≡ main_data (from_columns (words_of columns.now)) plan.now) }
+    ensures refused { IfErr result (λ cause. frames_cause (from_columns (words_of_columns columns.now)) plan.now ≡ Some cause) }
+    ensures right { OnOk result (frames_cause (from_columns (words_of_columns columns.now)) plan.now ≡ None) }
+    ensures main { OnOk result (sector_bytes sectors.new ≡ main_data (from_columns (words_of_columns columns.now)) plan.now) }
 {
     // The frames of a block have one preset.
     let mut scrambler = Scrambler::new();
@@ -143,9 +124,9 @@ fn get_frame(
     frame: &mut [u8; 2064],
 )
     requires columns { length columns.now ≡ 182 }
-    requires as_received { IsTrue as_received → block_differences (received_rows received.now) (from_columns (words_of columns.now)) ≡ 0 }
+    requires as_received { IsTrue as_received → block_differences (received_rows received.now) (from_columns (words_of_columns columns.now)) ≡ 0 }
     requires frame { f < 16 }
-    ensures { frame.new ≡ frame_of (from_columns (words_of columns.now)) f }
+    ensures { frame.new ≡ frame_of (from_columns (words_of_columns columns.now)) f }
 {
     if as_received {
         copy_received(received, f, frame);
@@ -169,7 +150,7 @@ fn copy_received(received: &Received, f: usize, frame: &mut [u8; 2064])
 pub(crate) fn copy_frame(columns: &[ColumnAnswer], f: usize, frame: &mut [u8; 2064])
     requires columns { length columns.now ≡ 182 }
     requires frame { f < 16 }
-    ensures { frame.new ≡ frame_of (from_columns (words_of columns.now)) f }
+    ensures { frame.new ≡ frame_of (from_columns (words_of_columns columns.now)) f }
 {
     let mut row = [0; 182];
     for q in 0..12usize {

@@ -7,10 +7,11 @@ ghost use Rattle.dvd_capture.specs.Rule.{HasAnswers, HasBlock, HasNoTwoPass};
 ghost use Rattle.dvd_capture.specs.TwoPass.{AgreesWith, answers_of, failed_of, from_columns, IsTwoPass};
 ghost use Rattle.dvd_capture.specs.Works.{answers_of_work, block_of, marks_of_work, rows_of, stage_of};
 ghost use Rattle.dvd_capture.specs.Parts.{column_answers, received_rows};
+ghost use Rattle.dvd_read.specs.Calls.{IsDecoded};
 ghost use Rattle.dvd_read.specs.Causes.{two_pass_cause};
 ghost use Rattle.dvd_read.specs.Found.{block_differences, block_found};
 ghost use Rattle.dvd_read.specs.Parts.{AreAnswersFrom, AreColumnsFrom, AreOwnFrom, answer_word, bytes_of};
-ghost use Rattle.dvd_read.specs.Inner.Found.{words_of};
+ghost use Rattle.dvd_read.specs.Inner.Found.{words_of_columns};
 ghost use Rattle.dvd_read.specs.Inner.Standing.{AreCodewords};
 
 use crate::cause::{Cause, Fixed};
@@ -26,18 +27,7 @@ use rs_code::{Pi, Po};
 pub fn two_pass(work: &mut Work) -> Result<Fixed, Cause>
     requires { HasBlock (stage_of work.old) }
 
-    ensures refused { IfErr result (λ cause. two_pass_cause (answers_of (rows_of work.old) (marks_of_work work.old)) ≡ Some cause) }
-    ensures fixed { OnOk result (two_pass_cause (answers_of (rows_of work.old) (marks_of_work work.old)) ≡ None) }
-    ensures block { OnOk result (block_of work.new ≡ block_found (answers_of (rows_of work.old) (marks_of_work work.old))) }
-    ensures bytes { IfOk result (λ fixed. fixed.bytes ≡ block_differences (rows_of work.old) (block_of work.new)) }
-    ensures failed_rows { IfOk result (λ fixed. fixed.failed_rows ≡ marked (failed_of (answers_of (rows_of work.old) (marks_of_work work.old)))) }
-
-    ensures stage_fixed { OnOk result (stage_of work.new ≡ Stage.Fixed) }
-    ensures stage_refused { OnErr result (stage_of work.new ≡ Stage.Refused) }
-    ensures answers { AreAnswers (rows_of work.old) (marks_of_work work.old) (answers_of_work work.new) }
-    ensures received { work.new.received ≡ work.old.received }
-    ensures marks { work.new.marks ≡ work.old.marks }
-    ensures sectors { work.new.sectors ≡ work.old.sectors }
+    ensures { IsDecoded work.old work.new result }
 {
     work.set_stage(Stage::Fetched);
     answer_rows(
@@ -76,18 +66,7 @@ pub fn settle(work: &mut Work, stands: bool) -> Result<Fixed, Cause>
     requires none_failed { IsTrue stands → marked (failed_of (map answer_word (answers_of_work work.old))) ≡ 0 }
     requires own { IsTrue stands → AreOwnFrom (answers_of_work work.old) 0 (column_answers work.old.columns) }
 
-    ensures refused { IfErr result (λ cause. two_pass_cause (answers_of (rows_of work.old) (marks_of_work work.old)) ≡ Some cause) }
-    ensures fixed { OnOk result (two_pass_cause (answers_of (rows_of work.old) (marks_of_work work.old)) ≡ None) }
-    ensures block { OnOk result (block_of work.new ≡ block_found (answers_of (rows_of work.old) (marks_of_work work.old))) }
-    ensures bytes { IfOk result (λ fixed. fixed.bytes ≡ block_differences (rows_of work.old) (block_of work.new)) }
-    ensures failed_rows { IfOk result (λ fixed. fixed.failed_rows ≡ marked (failed_of (answers_of (rows_of work.old) (marks_of_work work.old)))) }
-
-    ensures stage_fixed { OnOk result (stage_of work.new ≡ Stage.Fixed) }
-    ensures stage_refused { OnErr result (stage_of work.new ≡ Stage.Refused) }
-    ensures answers { AreAnswers (rows_of work.old) (marks_of_work work.old) (answers_of_work work.new) }
-    ensures received { work.new.received ≡ work.old.received }
-    ensures marks { work.new.marks ≡ work.old.marks }
-    ensures sectors { work.new.sectors ≡ work.old.sectors }
+    ensures { IsDecoded work.old work.new result }
 {
     match find_block(work, stands) {
         Ok(failed_rows) => {
@@ -131,10 +110,10 @@ fn find_columns(answers: &[AnswerRow], columns: &[ColumnAnswer], stands: bool) -
     requires own { IsTrue stands → AreOwnFrom answers.now 0 columns.now }
     ensures refused { IfErr result (λ cause. two_pass_cause (map answer_word answers.now) ≡ Some cause) }
     ensures found { OnOk result (two_pass_cause (map answer_word answers.now) ≡ None) }
-    ensures block { OnOk result (from_columns (words_of columns.now) ≡ block_found (map answer_word answers.now)) }
-    ensures agrees { OnOk result (AgreesWith (map answer_word answers.now) (from_columns (words_of columns.now))) }
+    ensures block { OnOk result (from_columns (words_of_columns columns.now) ≡ block_found (map answer_word answers.now)) }
+    ensures agrees { OnOk result (AgreesWith (map answer_word answers.now) (from_columns (words_of_columns columns.now))) }
     ensures failed { IfOk result (λ failed. failed ≡ marked (failed_of (map answer_word answers.now))) }
-    ensures stands { IsTrue stands → from_columns (words_of columns.now) ≡ bytes_of answers.now }
+    ensures stands { IsTrue stands → from_columns (words_of_columns columns.now) ≡ bytes_of answers.now }
 {
     let mut failed = [false; 208];
     mark_failed(answers, &mut failed);
@@ -196,7 +175,7 @@ fn row_corrections(row: &[u8; 182], answer: &AnswerRow) -> u32
 // In how many places the block of the columns differs from what was received.
 fn count_differences(received: &Received, columns: &[ColumnAnswer]) -> u32
     requires { length columns.now ≡ 182 }
-    ensures { result ≡ block_differences (received_rows received.now) (from_columns (words_of columns.now)) }
+    ensures { result ≡ block_differences (received_rows received.now) (from_columns (words_of_columns columns.now)) }
 {
     let mut count = 0;
     let mut row = [0; 182];

@@ -34,7 +34,7 @@ use Rattle.dvd_read.proofs.BlockRead.{no_cause-read, read-determined}
 use Rattle.dvd_read.proofs.Outcomes.{agrees-no_cause}
 use Rattle.dvd_read.proofs.Mastered.{within-read}
 use Rattle.dvd_top.specs.Captured.{captured_part}
-use Rattle.dvd_top.specs.Commands.Master.{cpr_in, filled, frames_of, image_bytes}
+use Rattle.dvd_top.specs.Commands.Master.{cpr_in, filled_block, frames_of, image_bytes}
 use Rattle.dvd_top.specs.Commands.Deep.{IsDeepened, IsImageRead, IsReadDeep}
 use Rattle.dvd_top.specs.Commands.Recover.{IsDone, IsImageDone, IsRecovered}
 use Rattle.dvd_top.specs.Inner.Performing.{sectors_out}
@@ -99,14 +99,14 @@ recovered_at layout zones form k entry own steps turn stands is_image does =
 -- Of damage within the bound the block is read, and it is that which was mastered.
 within_is_read : (layout : Layout) (zones : Zones) (form : Form) (cpr : List ℕ) (k : ℕ) (entry : BlockPlan) (image own : List ℕ) (block : List (List ℕ))
     → slice_get (plan_of layout zones) k ≡ Some entry → IsImage entry.content → length cpr ≡ 6 → length image ≡ image_bytes layout entry
-    → IsBlockOf (frames_of layout entry cpr (filled image)) block
+    → IsBlockOf (frames_of layout entry cpr (filled_block image)) block
     → captured_part form own ≡ Whole (length own) → IsWithin block (captured_rows form own) (captured_marks form own)
     → (block_cause (captured_rows form own) (captured_marks form own) entry ≡ None)
-    × (block_sectors (captured_rows form own) (captured_marks form own) entry ≡ sectors_list (filled image))
+    × (block_sectors (captured_rows form own) (captured_marks form own) entry ≡ sectors_list (filled_block image))
 within_is_read layout zones form cpr k entry image own block stands is_image cpr_size image_size is_block size within =
     let few = few-sectors layout entry.content in
     let made = data_block-made layout entry cpr image is_image cpr_size (omega (arith, image_size, few)) in
-    within-read entry (has_two_layers layout.shape) (cpr_in entry.area cpr) (sector (filled image)) (frames_of layout entry cpr (filled image)) block
+    within-read entry (has_two_layers layout.shape) (cpr_in entry.area cpr) (sector (filled_block image)) (frames_of layout entry cpr (filled_block image)) block
     (captured_rows form own) (captured_marks form own) (has_numbers layout zones k entry stands) made is_block (captured-received form own size) within
 
 -- the law: of damage within the bound recovery gives back the image sectors of the block
@@ -119,7 +119,7 @@ repaired layout zones form cpr k entry image own block steps turn stands is_imag
     elim (recovered_at layout zones form k entry own steps turn stands is_image does) [
       | inr refused ↦ let first = refused.first in let none = read.0 in cc
       | inl given ↦
-          let sectors : given.sectors ≡ sectors_list (filled image) = (read-determined rows marks entry given.sectors received.height received.marks_height given.read).1 ∙ read.1 in (
+          let sectors : given.sectors ≡ sectors_list (filled_block image) = (read-determined rows marks entry given.sectors received.height received.marks_height given.read).1 ∙ read.1 in (
             given.writes ∙ ap (λ l. Write l ∷ []) (ap (sectors_out (image_sectors layout entry.content)) sectors ∙ written-image layout entry.content image (few-sectors layout entry.content) image_size),
             given.good,
           )
@@ -130,7 +130,7 @@ abbrev pub RepairsBy : (Layout → Zones → Form → ℕ → List ℕ → List 
 RepairsBy Does =
     (layout : Layout) (zones : Zones) (form : Form) (cpr : List ℕ) (k : ℕ) (entry : BlockPlan) (image own : List ℕ) (block : List (List ℕ)) (steps : List Step) (turn : Turn)
     → slice_get (plan_of layout zones) k ≡ Some entry → IsImage entry.content → length cpr ≡ 6 → length image ≡ image_bytes layout entry
-    → IsBlockOf (frames_of layout entry cpr (filled image)) block
+    → IsBlockOf (frames_of layout entry cpr (filled_block image)) block
     → captured_part form own ≡ Whole (length own) → IsWithin block (captured_rows form own) (captured_marks form own)
     → Does layout zones form k own steps turn → (steps ≡ Write image ∷ []) × (turn ≡ Good)
 
@@ -149,7 +149,7 @@ repaired_deep layout zones form cpr k entry image own block steps turn stands is
     elim (of_image (IsImageRead layout k entry rows marks) entry.content is_image steps turn done) [
       | inr lost ↦ let first = lost.first in let no = deep-no_cause rows marks entry 1 (block_sectors rows marks entry) deep in cc
       | inl given ↦
-          let sectors : given.sectors ≡ sectors_list (filled image) = (deep-once rows marks entry given.round 1 given.sectors (block_sectors rows marks entry) given.read deep).1 ∙ within_read.1 in (
+          let sectors : given.sectors ≡ sectors_list (filled_block image) = (deep-once rows marks entry given.round 1 given.sectors (block_sectors rows marks entry) given.read deep).1 ∙ within_read.1 in (
             given.writes
                 ∙ ap (λ (l : List Step). l ++ Write (sectors_out (image_sectors layout entry.content) given.sectors) ∷ []) (told_none k entry given.round (two_pass_cause (answers_of rows marks)) none)
                 ∙ ap (λ l. Write l ∷ []) (ap (sectors_out (image_sectors layout entry.content)) sectors ∙ written-image layout entry.content image (few-sectors layout entry.content) image_size),

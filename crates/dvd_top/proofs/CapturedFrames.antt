@@ -17,7 +17,7 @@ use Rattle.dvd_layout.specs.declared.layout.Zones.TheVariants.{DataOnly}
 use Rattle.dvd_assemble.specs.Mastered.{AreNamed, NamesItsFrames, word_for}
 use Rattle.dvd_assemble.proofs.Homes.{some_entry, word-at, word_of}
 use Rattle.dvd_assemble.proofs.Mastered.{agree, come_home}
-use Rattle.dvd_top.specs.Commands.Master.{filled, frame_for, frames_of}
+use Rattle.dvd_top.specs.Commands.Master.{filled_block, frame_for, frames_of}
 use Rattle.dvd_top.specs.Laws.{CapturedFramesAreAssembled}
 use Rattle.dvd_top.proofs.BlockFrames.{line-frames_of}
 
@@ -85,4 +85,4 @@ assembled_so layout cpr parts blocks mastered = (
     named k within =
         let entry = get_or (plan_of layout DataOnly) k some_entry in
         let stands = slice_get-get_or (plan_of layout DataOnly) k some_entry within in
-        names layout cpr (filled (parts k)) k entry (blocks k) stands (mastered k entry stands)
+        names layout cpr (filled_block (parts k)) k entry (blocks k) stands (mastered k entry stands)

@@ -2,7 +2,7 @@
 use Rattle.std.proofs.Common.{◌≡◌, ◌⊎◌, inl, inr, ℕ, ◌+◌, ◌-◌, ◌*◌, ◌<◌, ◌≤◌, List, [], ◌++◌, length, length-append, take, drop, Some, None, refl, ap, sym, subst, ◌∙◌, append-nil, arith}
 use Rattle.std.proofs.lemmas.Bool.{cases_lt}
 use Rattle.std.proofs.lemmas.List.{length-take-le, take-append-drop}
-use Rattle.dvd_capture.specs.Captured.{IsLawful, block_size, unit_size}
+use Rattle.dvd_capture.specs.Captured.{BreaksNoRule, block_size, unit_size}
 use Rattle.dvd_capture.specs.Listed.{BreaksLength, BreaksStart, HasBadField, IsBrokenAt, IsUnbroken, end_of, length_of, listed_size, run_count, start_of}
 use Rattle.dvd_capture.specs.declared.form.Form.{Form}
 use Rattle.dvd_capture.specs.declared.form.Form.TheVariants.{Plain, Marked, Listed}
@@ -127,7 +127,7 @@ broken_or_not bytes = elim (broken_at bytes) as (λ x. broken_at bytes ≡ x →
 
 -- A WHOLE BLOCK is as long as its bytes say, and breaks no rule.
 pub whole_size : (form : Form) (bytes : List ℕ) (n : ℕ) → captured_part form bytes ≡ Whole n
-    → (n ≡ unit_size form bytes) × (n ≤ length bytes) × IsLawful form bytes
+    → (n ≡ unit_size form bytes) × (n ≤ length bytes) × BreaksNoRule form bytes
 whole_size Plain bytes n whole = elim (cases_lt (length bytes) 37_856) [
   | inl fewer ↦ absurd (let no : Cut ≡ Whole n = sym (sized_fewer 37_856 bytes fewer) ∙ whole in cc)
   | inr le ↦ let is : Whole 37_856 ≡ Whole n = sym (sized_enough 37_856 bytes le) ∙ whole in let size : n ≡ 37_856 = cc in (size, omega (arith, size, le), tt)
@@ -147,7 +147,7 @@ whole_size Listed bytes n whole = elim (broken_or_not bytes) [
 ]
 
 -- and bytes of that size that break no rule begin with a whole block
-pub size_whole : (form : Form) (bytes : List ℕ) → unit_size form bytes ≤ length bytes → IsLawful form bytes
+pub size_whole : (form : Form) (bytes : List ℕ) → unit_size form bytes ≤ length bytes → BreaksNoRule form bytes
     → captured_part form bytes ≡ Whole (unit_size form bytes)
 size_whole Plain bytes le lawful = sized_enough 37_856 bytes le
 size_whole Marked bytes le lawful = sized_enough 42_640 bytes le
@@ -160,7 +160,7 @@ whole_enough Marked own whole = let is = (whole_size Marked own (length own) who
 whole_enough Listed own whole = let is = (whole_size Listed own (length own) whole).0 in omega (arith, is)
 
 -- fewer bytes that break none are a part of it
-pub size_cut : (form : Form) (bytes : List ℕ) → length bytes < unit_size form bytes → IsLawful form bytes → captured_part form bytes ≡ Cut
+pub size_cut : (form : Form) (bytes : List ℕ) → length bytes < unit_size form bytes → BreaksNoRule form bytes → captured_part form bytes ≡ Cut
 size_cut Plain bytes fewer lawful = sized_fewer 37_856 bytes fewer
 size_cut Marked bytes fewer lawful = sized_fewer 42_640 bytes fewer
 size_cut Listed bytes fewer lawful = listed_sized bytes lawful ∙ sized_fewer (listed_size bytes) bytes fewer
@@ -172,13 +172,13 @@ more_same Marked own more enough = refl
 more_same Listed own more enough = let same = number_same own more (omega (arith, enough)) in omega (arith, same)
 
 -- a block that is lawful is so with more behind it
-lawful_on : (form : Form) (own more : List ℕ) → unit_size form own ≤ length own → IsLawful form own → IsLawful form (own ++ more)
+lawful_on : (form : Form) (own more : List ℕ) → unit_size form own ≤ length own → BreaksNoRule form own → BreaksNoRule form (own ++ more)
 lawful_on Plain own more enough lawful = tt
 lawful_on Marked own more enough lawful = tt
 lawful_on Listed own more enough lawful = unbroken_on own more enough lawful
 
 -- and so are bytes with which lawful ones begin
-lawful_back : (form : Form) (own more : List ℕ) → IsLawful form (own ++ more) → IsLawful form own
+lawful_back : (form : Form) (own more : List ℕ) → BreaksNoRule form (own ++ more) → BreaksNoRule form own
 lawful_back Plain own more lawful = tt
 lawful_back Marked own more lawful = tt
 lawful_back Listed own more lawful = unbroken_back own more lawful
@@ -215,7 +215,7 @@ front_whole form bytes whole =
     let more = drop (unit_size form bytes) bytes in
     let size : length own ≡ unit_size form bytes = length-take-le (unit_size form bytes) bytes is.1 in
     let all : own ++ more ≡ bytes = take-append-drop (unit_size form bytes) bytes in
-    let lawful : IsLawful form own = lawful_back form own more (subst (IsLawful form) (sym all) is.2) in
+    let lawful : BreaksNoRule form own = lawful_back form own more (subst (BreaksNoRule form) (sym all) is.2) in
     let same : unit_size form own ≡ length own = front_size form own more (subst (λ l. unit_size form l ≡ length own) (sym all) (sym size)) in
     (size, size_whole form own (omega (arith, same)) lawful ∙ ap Whole same)
   where
@@ -231,7 +231,7 @@ pub begins_somehow : (form : Form) (bytes : List ℕ)
     ⊎ ((own left : List ℕ) × (at : ℕ) × (bytes ≡ own ++ left) × (captured_part form own ≡ Broken at)))
 begins_somehow form bytes = by_lawful form bytes (lawful_or_not form bytes)
   where
-    lawful_or_not : (form : Form) (bytes : List ℕ) → ((at : ℕ) × (captured_part form bytes ≡ Broken at)) ⊎ IsLawful form bytes
+    lawful_or_not : (form : Form) (bytes : List ℕ) → ((at : ℕ) × (captured_part form bytes ≡ Broken at)) ⊎ BreaksNoRule form bytes
     lawful_or_not Plain bytes = inr tt
     lawful_or_not Marked bytes = inr tt
     lawful_or_not Listed bytes = elim (broken_or_not bytes) [
@@ -239,7 +239,7 @@ begins_somehow form bytes = by_lawful form bytes (lawful_or_not form bytes)
       | inr unbroken ↦ inr unbroken
     ]
 
-    by_lawful : (form : Form) (bytes : List ℕ) → ((at : ℕ) × (captured_part form bytes ≡ Broken at)) ⊎ IsLawful form bytes
+    by_lawful : (form : Form) (bytes : List ℕ) → ((at : ℕ) × (captured_part form bytes ≡ Broken at)) ⊎ BreaksNoRule form bytes
         → ((own left : List ℕ) × (bytes ≡ own ++ left) × (captured_part form own ≡ Whole (length own)))
         ⊎ ((captured_part form bytes ≡ Cut)
         ⊎ ((own left : List ℕ) × (at : ℕ) × (bytes ≡ own ++ left) × (captured_part form own ≡ Broken at)))

@@ -1,6 +1,6 @@
 -- A turn by what was read of a captured block and by what was done for it.
 use Rattle.std.proofs.Common.{◌≡◌, ◌<◌, ◌∙◌, inl, inr, ℕ, Bool, List, [], ◌∷◌, ◌++◌, length, Option, Some, None, Result, Err, refl, ap, sym, subst, arith}
-use Rattle.dvd_capture.specs.Captured.{BreaksAt, Captures, EndsAfter, FailsWithin, IsLawful, unit_size}
+use Rattle.dvd_capture.specs.Captured.{BreaksAt, Captures, EndsAfter, FailsWithin, BreaksNoRule, unit_size}
 use Rattle.dvd_capture.specs.Listed.{IsBrokenAt, listed_size}
 use Rattle.dvd_capture.specs.declared.form.Form.{Form}
 use Rattle.dvd_capture.specs.declared.form.Form.TheVariants.{Plain, Marked, Listed}
@@ -21,7 +21,7 @@ use Rattle.dvd_top.specs.Inner.Performing.{EndsCaptured}
 use Rattle.dvd_top.proofs.CapturedParts.{listed_broken, size_cut, size_whole}
 
 -- HOW BYTES BEGIN. As many bytes as their unit has, which break no rule, are that unit,
-pub captured_whole : (form : Form) (bytes : List ℕ) → length bytes ≡ unit_size form bytes → IsLawful form bytes → captured_part form bytes ≡ Whole (length bytes)
+pub captured_whole : (form : Form) (bytes : List ℕ) → length bytes ≡ unit_size form bytes → BreaksNoRule form bytes → captured_part form bytes ≡ Whole (length bytes)
 captured_whole form bytes size lawful = size_whole form bytes (omega (arith, size)) lawful ∙ ap Whole (sym size)
 
 -- those that break a rule do so at their first field that does,

@@ -2,8 +2,8 @@
 use Rattle.std.proofs.Common.{◌≡◌, ◌≢◌, ◌∙◌, inl, inr, ℕ, ◌+◌, ◌*◌, ◌≤◌, List, [], ◌∷◌, ◌++◌, length, take, drop, refl, ap, sym, subst, append-nil, length-append, arith}
 use Rattle.std.specs.Prelude.{replicate}
 use Rattle.std.proofs.lemmas.List.{length-drop, length-replicate, length-take-le, take_at}
-use Rattle.cd_sector.specs.Causes.{IsFaultless as IsRight}
-use Rattle.cd_sector.specs.Edc.{edc_of}
+use Rattle.cd_sector.specs.Causes.{IsRightSector}
+use Rattle.cd_sector.specs.Edc.{cd_edc_of}
 use Rattle.cd_sector.specs.Laws.{IsBorne}
 use Rattle.cd_sector.specs.Repair.{repaired, with_p_words, with_q_words}
 use Rattle.cd_sector.specs.Sector.{IsSector, covered, sync}
@@ -39,7 +39,7 @@ data_of address user rest size = take_at user rest 2048 size
 -- and are what the sector was made of
 made_data : (address : ℕ) (user sector : List ℕ) → length user ≡ 2048 → IsSector address user sector → user_data sector ≡ user
 made_data address user sector size made =
-    let rest : List ℕ = edc_of (covered address user) ++ (replicate 8 0 ++ drop 2076 sector) in
+    let rest : List ℕ = cd_edc_of (covered address user) ++ (replicate 8 0 ++ drop 2076 sector) in
     ap user_data (made_whole address user sector made) ∙ data_of address user rest size
 
 -- ONE SECTOR. Damage that is borne is repaired, and what was made has no cause.
@@ -49,7 +49,7 @@ borne_given address k user sector read steps turn user_size made size low high d
     let back : repaired read ≡ sector = given_back address user sector read made size low high in
     elim does [
       | inl given ↦ (given.writes ∙ ap (λ l. Write l ∷ []) (ap user_data back ∙ made_data address user sector user_size made), given.good)
-      | inr refused ↦ absurd (no_cause (repaired read) address refused.cause (subst (λ s. IsRight s address) (sym back) (faultless address user sector user_size made)) refused.is_cause)
+      | inr refused ↦ absurd (no_cause (repaired read) address refused.cause (subst (λ s. IsRightSector s address) (sym back) (faultless address user sector user_size made)) refused.is_cause)
     ]
 
 -- a sector that is whole in the input has its bytes

@@ -5,31 +5,23 @@ use Rattle.std.proofs.lemmas.Bool.{cases_eq, cases_lt}
 use Rattle.std.proofs.lemmas.List.Elements.{All-cons, All-nil}
 use Rattle.gf_field.specs.Field.{alpha, power}
 use Rattle.gf_field.specs.Words.{IsByte, IsCodeword, value}
-use Rattle.cd_sector.specs.Causes.{AreRightBelow, IsCause, IsFaultless, found_header, found_number}
-use Rattle.cd_sector.specs.Edc.{edc_of}
+use Rattle.cd_sector.specs.Causes.{AreRightBelow, IsCause, IsRightSector, found_header, found_number}
+use Rattle.cd_sector.specs.Edc.{cd_edc_of}
 use Rattle.cd_sector.specs.Repair.{repaired}
 use Rattle.cd_sector.specs.Sector.{header, sync}
-use Rattle.cd_sector.specs.Words.{IsRight, word_in, word_size}
+use Rattle.cd_sector.specs.Words.{IsRight, sector_word, word_size}
 use Rattle.cd_sector.specs.declared.checking.CdCause.{CdCause}
 use Rattle.cd_sector.specs.declared.checking.CdCause.TheVariants.{Parity, Mode, Address, Edc}
-use Rattle.cd_sector.proofs.OneSector.{no_cause, one_sector}
-use Rattle.cd_sector.proofs.Places.{length-word_in}
+use Rattle.cd_sector.proofs.OneSector.{no_cause}
+use Rattle.cd_sector.proofs.Places.{length-sector_word}
 use Rattle.dvd_loop.specs.Machine.{Step}
 use Rattle.dvd_loop.specs.Machine.Step.{Tell, Write}
 use Rattle.dvd_loop.specs.declared.ends.Turn.{Turn}
 use Rattle.dvd_loop.specs.declared.ends.Turn.TheVariants.{Bad, Good}
 use Rattle.dvd_top.specs.CdLines.{damaged_sector_line}
-use Rattle.dvd_top.specs.Commands.CdMake.{IsMade}
 use Rattle.dvd_top.specs.Commands.CdRead.{IsSectorRead, user_data}
 
--- ONE THING. An address and user data have one sector at most.
-pub made_is_one : (address : ℕ) (user : List ℕ) (steps others : List Step) (turn other : Turn) → IsMade address user steps turn
-    → IsMade address user others other → (steps ≡ others) × (turn ≡ other)
-made_is_one address user steps others turn other p q =
-    let sector : p.sector ≡ q.sector = one_sector address user p.sector q.sector p.is_sector q.is_sector in
-    (p.writes ∙ ap (λ s. Write s ∷ []) sector ∙ sym q.writes, p.good ∙ sym q.good)
-
--- The least word that isn't right is one.
+-- ONE THING. The least word that isn't right is one.
 least_is_one : (sector : List ℕ) (a b : ℕ) → (IsRight sector a → ⊥) → AreRightBelow a sector → (IsRight sector b → ⊥) → AreRightBelow b sector → a ≡ b
 least_is_one sector a b a_wrong a_below b_wrong b_below = elim (cases_lt a b) [
   | inl less ↦ absurd (a_wrong (b_below a less))
@@ -121,7 +113,7 @@ codeword_or_not n word size = elim (bytes_or_not word) [
 -- a word of a sector is right, or it isn't
 right_or_not : (sector : List ℕ) (word : ℕ) → IsRight sector word ⊎ (IsRight sector word → ⊥)
 unfolding IsRight
-right_or_not sector word = codeword_or_not (word_size word) (word_in sector word) (length-word_in sector word)
+right_or_not sector word = codeword_or_not (word_size word) (sector_word sector word) (length-sector_word sector word)
 
 -- so of the words below a number all are right, or one is the least that isn't
 least_wrong : (sector : List ℕ) (end : ℕ)
@@ -139,14 +131,14 @@ least_wrong sector (suc end) = elim (least_wrong sector end) [
 ]
 
 -- A sector has nothing wrong, or it has a cause.
-pub faultless_or_cause : (sector : List ℕ) (address : ℕ) → IsFaultless sector address ⊎ ((cause : CdCause) × IsCause sector address cause)
+pub faultless_or_cause : (sector : List ℕ) (address : ℕ) → IsRightSector sector address ⊎ ((cause : CdCause) × IsCause sector address cause)
 faultless_or_cause sector address = elim (least_wrong sector 138) [
   | inr (word, below, wrong, before) ↦ inr (Parity word, (below, wrong, before))
   | inl words ↦ elim (cases_eq (slice_index sector 15) 1) [
     | inr not ↦ inr (Mode (slice_index sector 15), (words, refl, not))
     | inl mode ↦ elim (same_or_not (found_header sector) (header address)) [
       | inr not ↦ inr (Address (found_number sector), (words, mode, refl, not))
-      | inl header_is ↦ elim (same_or_not (take 4 (drop 2064 sector)) (edc_of (sync ++ take 2052 (drop 12 sector)))) [
+      | inl header_is ↦ elim (same_or_not (take 4 (drop 2064 sector)) (cd_edc_of (sync ++ take 2052 (drop 12 sector)))) [
         | inr not ↦ inr (Edc, (words, mode, header_is, not))
         | inl edc ↦ inl (record { words = words; mode = mode; header_is = header_is; edc = edc })
       ]
@@ -162,7 +154,7 @@ read_some address k read = elim (faultless_or_cause (repaired read) address) [
 ]
 
 -- what is done for a sector by what `repair` answers
-pub given : (address k : ℕ) (read sector : List ℕ) → sector ≡ repaired read → IsFaultless (repaired read) address
+pub given : (address k : ℕ) (read sector : List ℕ) → sector ≡ repaired read → IsRightSector (repaired read) address
     → IsSectorRead address k read (Write (user_data sector) ∷ []) Good
 given address k read sector is right = inl (record { faultless = right; writes = ap (λ s. Write (user_data s) ∷ []) is; good = refl })
 

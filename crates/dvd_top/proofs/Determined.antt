@@ -1,6 +1,7 @@
 -- What each command does for an input is determined.
 use Rattle.std.proofs.Common.{◌≡◌, inl, inr, ℕ, ◌+◌, List, ◌∷◌, ◌++◌, [], length, take, Bool, Some, None, refl, ap, sym, subst, ◌∙◌, ◌⊎◌, Option}
 use Rattle.std.proofs.lemmas.List.FromFn.{length-map-range_with_len}
+use Rattle.cd_sector.proofs.OneSector.{one_sector}
 use Rattle.dvd_block.proofs.OneBlock.{one_block_at_most}
 use Rattle.dvd_block.specs.Product.{IsBlockOf, line}
 use Rattle.dvd_block.specs.Recording.{record_at, recording}
@@ -17,7 +18,7 @@ use Rattle.dvd_layout.specs.declared.layout.Zones.{Zones}
 use Rattle.dvd_layout.proofs.SameLengths.{same_lengths-same}
 use Rattle.dvd_deep.specs.Reading.{deep_cause}
 use Rattle.dvd_read.specs.declared.cause.Cause.{Cause}
-use Rattle.dvd_top.proofs.CdSectors.{made_is_one, read_is_one}
+use Rattle.dvd_top.proofs.CdSectors.{read_is_one}
 use Rattle.dvd_top.proofs.ExerciseRuns.{exercised_is_one}
 use Rattle.dvd_top.proofs.EntryBlocks.{done_at}
 use Rattle.dvd_top.proofs.PlanEntries.{one_entry}
@@ -40,9 +41,10 @@ use Rattle.dvd_top.specs.Commands.{meaning}
 use Rattle.dvd_top.specs.Commands.CdMake.{cdmake_units}
 use Rattle.dvd_top.specs.Commands.CdRead.{cdread_units}
 use Rattle.dvd_top.specs.Commands.Exercise.{exercise_units}
-use Rattle.dvd_top.specs.Commands.Frames.{frames_units, sector_frame}
+use Rattle.dvd_top.specs.Commands.Frames.{frames_units}
 use Rattle.dvd_top.specs.Commands.Info.{GivesFormat, IsAsked, IsControlDone, GivesNoFormat, IsSought, format_lines, info_units}
-use Rattle.dvd_top.specs.Commands.Master.{IsMastered, filled, frames_of, master_units}
+use Rattle.dvd_top.specs.Commands.Making.{IsMade}
+use Rattle.dvd_top.specs.Commands.Master.{IsMastered, filled_block, frames_of, master_units}
 use Rattle.dvd_capture.specs.TwoPass.{answers_of}
 use Rattle.dvd_deep.proofs.Readings.{deep-no_cause, deep-once}
 use Rattle.dvd_read.specs.Causes.{two_pass_cause}
@@ -96,16 +98,17 @@ module _ (units : Units) (form : Form) (begins : (k : ℕ) (own : List ℕ) → 
 one_closing : {closing : List Step} (steps others : List Step) → steps ≡ closing → others ≡ closing → steps ≡ others
 one_closing steps others p q = p ∙ sym q
 
--- FRAMES. The frame of each sector is one.
-frame_is_one : (first k : ℕ) (own : List ℕ) → MayOne (λ steps turn. (steps ≡ Write (sector_frame (first + k) own) ∷ []) × (turn ≡ Good))
-frame_is_one first k own steps others turn other p q = (p.0 ∙ sym q.0, p.1 ∙ sym q.1)
+-- FRAMES, CDMAKE. Where one list of bytes is made of a sector, one thing is done for it.
+made_is_one : (Holds : List ℕ → Type 0) → ((a b : List ℕ) → Holds a → Holds b → a ≡ b) → MayOne (IsMade Holds)
+made_is_one Holds one steps others turn other p q =
+    (p.writes ∙ ap (λ l. Write l ∷ []) (one p.made q.made p.holds q.holds) ∙ sym q.writes, p.good ∙ sym q.good)
 
 -- MASTER. The sixteen frames of a block have one block at most.
 mastered_is_one : (layout : Layout) (zones : Zones) (cpr : List ℕ) (k : ℕ) (own : List ℕ) → MayOne (IsMastered layout zones cpr k own)
 mastered_is_one layout zones cpr k own steps others turn other p q =
     let entry : p.entry ≡ q.entry = one_entry (plan_of layout zones) k p.entry q.entry p.stands q.stands in
     let block : p.block ≡ q.block =
-    one_block_at_most (frames_of layout q.entry cpr (filled own)) p.block q.block (subst (λ e. IsBlockOf (frames_of layout e cpr (filled own)) p.block) entry p.is_block) q.is_block in
+    one_block_at_most (frames_of layout q.entry cpr (filled_block own)) p.block q.block (subst (λ e. IsBlockOf (frames_of layout e cpr (filled_block own)) p.block) entry p.is_block) q.is_block in
     (p.writes ∙ ap (λ b. Write (recording b) ∷ []) block ∙ sym q.writes, p.good ∙ sym q.good)
 
 -- RECOVER. A captured block has 208 rows, with marks for each.
@@ -256,7 +259,7 @@ module _ (settings : Settings) (bytes : List ℕ) (a b : Outcome) (none : IsFaul
   -- for each command, two runs over the same bytes that no fault ended do the same
   by_command : (word : Command) → IsOf word a → IsOf word b → AreSame a b
   by_command command.Frames p q =
-      one_run (frames_units settings.first settings.sectors) (λ k. 2048) (λ k own. refl) (λ before own. frame_is_one settings.first (length before) own)
+      one_run (frames_units settings.first settings.sectors) (λ k. 2048) (λ k own. refl) (λ before own. made_is_one _ (λ a b p q. p ∙ sym q))
       (λ before. one_closing) bytes a b p q none other
   by_command command.Master (layout, is, p) (same, so, q) =
       one_run (master_units layout settings.zones settings.cpr) _ (λ k own. refl)
@@ -278,7 +281,7 @@ module _ (settings : Settings) (bytes : List ℕ) (a b : Outcome) (none : IsFaul
       (λ before. exercised_is_one settings.seed settings.blocks) bytes a b p q none other
   by_command command.CdMake p q =
       one_run (cdmake_units settings.address settings.sectors) (λ k. 2048) (λ k own. refl)
-      (λ before own. made_is_one (settings.address + length before) own) (λ before. one_closing) bytes a b p q none other
+      (λ before own. made_is_one _ (one_sector (settings.address + length before) own)) (λ before. one_closing) bytes a b p q none other
   by_command command.CdRead p q =
       one_run (cdread_units settings.address settings.sectors) (λ k. 2352) (λ k own. refl)
       (λ before own. read_is_one (settings.address + length before) (length before) own) (λ before. one_closing) bytes a b p q none other

@@ -6,8 +6,8 @@ use Rattle.std.proofs.lemmas.List.Elements.{All-from_get_or}
 use Rattle.std.proofs.lemmas.Nat.{xor_lt}
 use Rattle.dvd_block.proofs.OneBlock.{one_block_at_most, some_block}
 use Rattle.dvd_block.specs.Product.{line}
-use Rattle.dvd_exercise.specs.Damage.{IsHurt, error_count, is_hit, row_state}
-use Rattle.dvd_exercise.specs.Generator.{byte_at, bytes_from, state_after, step}
+use Rattle.dvd_exercise.specs.Damage.{IsHurt, drawn_errors, is_hit, row_state}
+use Rattle.dvd_exercise.specs.Generator.{drawn_byte, bytes_from, state_after, step}
 use Rattle.dvd_exercise.proofs.Draws.{get_or-bytes_from, length-bytes_from}
 use Rattle.dvd_exercise.proofs.OnlyOne.{hurt_once}
 use Rattle.dvd_exercise.proofs.SomeHurt.{some_hurt}
@@ -67,7 +67,7 @@ unfolding row_state
 row_state-lt start n y zero below = below
 row_state-lt start n y (suc row) below =
     let before = row_state-lt start n y row below in
-    let words = 2 + error_count (row_state start n y row) in
+    let words = 2 + drawn_errors (row_state start n y row) in
     elim (is_hit start n row) as (λ hit. IsState (cond hit (row_state start n y row) (state_after (row_state start n y row) words))) [
       | true ↦ before
       | false ↦ state_after-lt (row_state start n y row) words before
@@ -81,8 +81,8 @@ state_at-lt seed (suc k) =
     row_state-lt _ _ _ 208 (state_after-lt _ _ (state_after-lt _ 3 (state_after-lt (state_at seed k) 32768 (state_at-lt seed k))))
 
 -- what is drawn are bytes
-byte_at-lt : (x k : ℕ) → IsState x → byte_at x k < 256
-unfolding byte_at
+byte_at-lt : (x k : ℕ) → IsState x → drawn_byte x k < 256
+unfolding drawn_byte
 byte_at-lt x k below = let drawn = state_after-lt x (k + 1) below in omega (arith, drawn)
 
 -- a list that is drawn has so many bytes

@@ -13,7 +13,7 @@ use Rattle.dvd_layout.specs.declared.entry.Content.TheVariants.{Zero, Reference,
 use Rattle.dvd_layout.specs.declared.layout.Layout.{Layout}
 use Rattle.dvd_layout.specs.declared.layout.Shape.{Shape}
 use Rattle.dvd_layout.specs.declared.layout.Shape.TheVariants.{Single, Parallel, Opposite}
-use Rattle.dvd_top.specs.Commands.Master.{cpr_in, filled, main_for}
+use Rattle.dvd_top.specs.Commands.Master.{cpr_in, filled_block, main_for}
 use Rattle.dvd_top.proofs.FrameBytes.{HasBytes, bytes-append, bytes-part, bytes-replicate, two_bytes}
 use Rattle.dvd_top.proofs.ImageInBlocks.{few-sectors}
 
@@ -99,9 +99,9 @@ bytes-cpr LeadOut cpr six = bytes-replicate 6 0 (omega arith)
 bytes-cpr Middle cpr six = bytes-replicate 6 0 (omega arith)
 
 -- the image bytes of a block, with the zeros behind them, are sixteen sectors
-pub bytes-filled : (layout : Layout) (content : Content) (own : List ℕ) → HasBytes (2048 * image_sectors layout content) own
-    → HasBytes 32768 (filled own)
-bytes-filled layout content own all =
+pub bytes-filled_block : (layout : Layout) (content : Content) (own : List ℕ) → HasBytes (2048 * image_sectors layout content) own
+    → HasBytes 32768 (filled_block own)
+bytes-filled_block layout content own all =
     let most : length own ≤ 32768 = omega (arith, all.size, few-sectors layout content) in
     bytes-append (length own) (32768 - length own) 32768 own (replicate (32768 - length own) 0) (omega arith)
     (record { size = refl; bytes = all.bytes }) (bytes-replicate (32768 - length own) 0 (omega arith))

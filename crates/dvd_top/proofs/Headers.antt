@@ -1,7 +1,7 @@
 -- What a header states, and where it breaks a rule.
 use Rattle.std.proofs.Common.{◌≡◌, inr, ℕ, zero, suc, ◌<◌, List, length, None, Some, refl, arith}
 use Rattle.dvd_capture.specs.Header.{header_bytes}
-use Rattle.dvd_capture.specs.Laws.{HasNumbers}
+use Rattle.dvd_capture.specs.Laws.{FitsHeader}
 use Rattle.dvd_capture.specs.declared.header.Header.{Header}
 use Rattle.dvd_layout.specs.Lengths.{first_fault}
 use Rattle.dvd_layout.specs.declared.fault.LayoutFault.{LayoutFault}
@@ -25,7 +25,7 @@ zones_for (suc zero) below = (All, refl)
 zones_for (suc (suc n)) below = absurd (omega arith)
 
 -- A layout and zones with the numbers of a header are those that it states.
-module _ (header : Header) (numbers : HasNumbers header) (zones : Zones) (zones_are : zones_number zones ≡ header.zones) where
+module _ (header : Header) (numbers : FitsHeader header) (zones : Zones) (zones_are : zones_number zones ≡ header.zones) where
   -- a layout with the header's shape and four numbers is the one that it states, in the settings of the words
   pub stated_by : (layout : Layout) → shape_number layout.shape ≡ header.shape → layout.sectors0 ≡ header.sectors0 → layout.sectors1 ≡ header.sectors1
       → layout.initial ≡ header.initial → layout.tail ≡ header.tail

@@ -17,7 +17,7 @@ use Rattle.dvd_layout.specs.declared.entry.Content.{Content}
 use Rattle.dvd_layout.specs.declared.entry.Content.TheVariants.{Zero, Reference, Control, Image}
 use Rattle.dvd_layout.specs.declared.layout.Layout.{Layout}
 use Rattle.dvd_read.specs.Made.{IsMadeOf}
-use Rattle.dvd_top.specs.Commands.Master.{cpr_in, filled, frames_of, main_for}
+use Rattle.dvd_top.specs.Commands.Master.{cpr_in, filled_block, frames_of, main_for}
 use Rattle.dvd_top.specs.Inner.Performing.{sectors_out}
 use Rattle.dvd_top.proofs.BlockFrames.{line-frames_of}
 use Rattle.dvd_top.proofs.SectorsWritten.{sectors_more}
@@ -48,15 +48,15 @@ sectors-joined sectors (suc n) few =
     ∙ ap (λ m. take m sectors) more
 
 -- image bytes filled to sixteen sectors
-length-filled : (image : List ℕ) → length image ≤ 32768 → length (filled image) ≡ 32768
-length-filled image most = omega (arith, length-append image (replicate (32768 - length image) 0), length-replicate {A = ℕ} (32768 - length image) 0)
+length-filled_block : (image : List ℕ) → length image ≤ 32768 → length (filled_block image) ≡ 32768
+length-filled_block image most = omega (arith, length-append image (replicate (32768 - length image) 0), length-replicate {A = ℕ} (32768 - length image) 0)
 
 -- the image sectors of a data block are the image bytes that it was filled from
 pub written-image : (layout : Layout) (content : Content) (image : List ℕ) → image_sectors layout content ≤ 16
     → length image ≡ 2048 * image_sectors layout content
-    → sectors_out (image_sectors layout content) (sectors_list (filled image)) ≡ image
+    → sectors_out (image_sectors layout content) (sectors_list (filled_block image)) ≡ image
 written-image layout content image few size =
-    sectors-joined (filled image) (image_sectors layout content) few
+    sectors-joined (filled_block image) (image_sectors layout content) few
     ∙ take_at image (replicate (32768 - length image) 0) (2048 * image_sectors layout content) size
 
 -- a block has sixteen image sectors at most
@@ -83,12 +83,12 @@ main-image Control layout entry sectors f is = absurd is
 
 -- a data block is made of its image sectors
 pub data_block-made : (layout : Layout) (entry : BlockPlan) (cpr image : List ℕ) → IsImage entry.content → length cpr ≡ 6 → length image ≤ 32768
-    → IsMadeOf entry (has_two_layers layout.shape) (cpr_in entry.area cpr) (sector (filled image)) (frames_of layout entry cpr (filled image))
+    → IsMadeOf entry (has_two_layers layout.shape) (cpr_in entry.area cpr) (sector (filled_block image)) (frames_of layout entry cpr (filled_block image))
 data_block-made layout entry cpr image is_image cpr_size most = record {
   cpr_size = cpr-size entry.area cpr cpr_size;
-  sizes = λ f below. length-sector (filled image) f (length-filled image most) below;
+  sizes = λ f below. length-sector (filled_block image) f (length-filled_block image most) below;
   are = λ f below.
-      line-frames_of layout entry cpr (filled image) f below
+      line-frames_of layout entry cpr (filled_block image) f below
       ∙ ap (λ (main : List ℕ). data_frame (id_word entry.area entry.layer (has_two_layers layout.shape) (entry.first + f)) (cpr_in entry.area cpr) (rule_for entry.content f) main)
-      (main-image entry.content layout entry (filled image) f is_image);
+      (main-image entry.content layout entry (filled_block image) f is_image);
 }

@@ -9,11 +9,11 @@ use Rattle.dvd_layout.specs.declared.layout.Layout.{Layout}
 use Rattle.dvd_layout.specs.declared.layout.Zones.{Zones}
 use Rattle.dvd_loop.specs.Machine.Step.{Write}
 use Rattle.dvd_loop.specs.declared.ends.Turn.TheVariants.{Good}
-use Rattle.dvd_top.specs.Commands.Master.{IsMastered, bytes_of_block, bytes_of_entry, filled, frames_of, image_bytes}
+use Rattle.dvd_top.specs.Commands.Master.{IsMastered, bytes_of_block, bytes_of_entry, filled_block, frames_of, image_bytes}
 
 -- the image bytes of a piece, and the zeros behind them, are the piece
 filled_is : (piece : List ℕ) (size : ℕ) → length piece ≡ 32768 → size ≤ 32768 → drop size piece ≡ replicate (32768 - size) 0
-    → filled (take size piece) ≡ piece
+    → filled_block (take size piece) ≡ piece
 filled_is piece size long most zeros =
     ap (λ n. take size piece ++ replicate (32768 - n) 0) (length-take-le size piece (omega arith)) ∙ ap (λ l. take size piece ++ l) (sym zeros) ∙ take-append-drop size piece
 

@@ -26,7 +26,7 @@ use Rattle.dvd_loop.specs.declared.ends.Turn.{Turn}
 use Rattle.dvd_loop.specs.declared.ends.Turn.TheVariants.{Good}
 use Rattle.dvd_loop.proofs.Sizes.{sized_whole}
 use Rattle.dvd_loop.proofs.Over.{AreGood, InPieces, over, over_is, start, start-le, start-suc}
-use Rattle.dvd_top.specs.Commands.Master.{IsMastered, bytes_of_block, filled, frames_of, image_bytes, master_units}
+use Rattle.dvd_top.specs.Commands.Master.{IsMastered, bytes_of_block, filled_block, frames_of, image_bytes, master_units}
 use Rattle.dvd_top.specs.Commands.Recover.{IsDone, IsRecovered, recover_units}
 use Rattle.dvd_top.specs.Captured.{IsPassedOver}
 use Rattle.dvd_top.specs.Laws.{MasteredStreamIsRecovered}
@@ -79,7 +79,7 @@ passed_back layout Control k entry rows marks image steps turn size done = inr (
 -- What recovery does for a mastered block: the image bytes are written that it was mastered from.
 block_back : (layout : Layout) (zones : Zones) (cpr : List ℕ) (k : ℕ) (entry : BlockPlan) (image : List ℕ) (block : List (List ℕ)) (steps : List Step) (turn : Turn)
     → slice_get (plan_of layout zones) k ≡ Some entry → length cpr ≡ 6 → length image ≡ image_bytes layout entry
-    → IsBlockOf (frames_of layout entry cpr (filled image)) block
+    → IsBlockOf (frames_of layout entry cpr (filled_block image)) block
     → IsRecovered layout zones Plain k (recording block) steps turn → IsBack image steps turn
 block_back layout zones cpr k entry image block steps turn stands cpr_size size is does =
     let rows = captured_rows Plain (recording block) in
@@ -98,7 +98,7 @@ record IsRecorded (layout : Layout) (zones : Zones) (cpr : List ℕ) (k : ℕ) (
   entry : BlockPlan
   stands : slice_get (plan_of layout zones) k ≡ Some entry
   block : List (List ℕ)
-  is_block : IsBlockOf (frames_of layout entry cpr (filled own)) block
+  is_block : IsBlockOf (frames_of layout entry cpr (filled_block own)) block
   writes : out ≡ recording block
 
 -- what mastering does for a block records it

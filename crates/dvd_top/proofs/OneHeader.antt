@@ -4,7 +4,7 @@ use Rattle.std.specs.List.{list_all, range_with_len}
 use Rattle.std.proofs.lemmas.Bool.{cases_lt, lt-ltb}
 use Rattle.std.proofs.lemmas.List.FromFn.{get_or-range_with_len, length-range_with_len}
 use Rattle.std.proofs.lemmas.List.Sums.{AllPass-from_list_all}
-use Rattle.dvd_capture.specs.Header.{IsFirstWrong, header_bytes, may_stand}
+use Rattle.dvd_capture.specs.Header.{IsFirstWrongByte, header_bytes, may_stand}
 use Rattle.dvd_capture.specs.Laws.{StateTheSame}
 use Rattle.dvd_capture.specs.declared.header.Header.{Header}
 use Rattle.dvd_capture.proofs.Headers.{headers_differ}
@@ -36,13 +36,13 @@ header-allowed header place below =
     (AllPass-from_list_all (λ k. may_stand k (slice_index (header_bytes header) k)) (range_with_len 0 32) (all-allowed header) place 0 within)
 
 -- so no byte of it is wrong
-never_wrong : (own : List ℕ) (header : Header) (at : ℕ) → own ≡ header_bytes header → IsFirstWrong own at → ⊥
+never_wrong : (own : List ℕ) (header : Header) (at : ℕ) → own ≡ header_bytes header → IsFirstWrongByte own at → ⊥
 never_wrong own header at is wrong =
     let may = header-allowed header at wrong.within in
     let no : true ≡ false = sym may ∙ ap (λ l. may_stand at (slice_index l at)) (sym is) ∙ wrong.wrong in cc
 
 -- the first wrong byte is one
-first_wrong_once : (own : List ℕ) (a b : ℕ) → IsFirstWrong own a → IsFirstWrong own b → a ≡ b
+first_wrong_once : (own : List ℕ) (a b : ℕ) → IsFirstWrongByte own a → IsFirstWrongByte own b → a ≡ b
 first_wrong_once own a b p q = elim (cases_lt a b) [
   | inl lt ↦ absurd (let no : true ≡ false = sym (q.before a lt) ∙ p.wrong in cc)
   | inr le ↦ elim (cases_lt b a) [

@@ -4,7 +4,7 @@ use Rattle.std.specs.Int.{from_be_bytes, w32}
 use Rattle.std.proofs.lemmas.Bool.{cases_lt}
 use Rattle.std.proofs.lemmas.List.{length-take-le}
 use Rattle.std.proofs.lemmas.List.Elements.{All-drop, All-take}
-use Rattle.dvd_capture.specs.Header.{IsFirstWrong, may_stand}
+use Rattle.dvd_capture.specs.Header.{IsFirstWrongByte, may_stand}
 use Rattle.dvd_capture.specs.declared.form.Form.{Form}
 use Rattle.dvd_capture.specs.declared.form.Form.TheVariants.{Plain, Marked, Listed}
 use Rattle.dvd_capture.specs.declared.header.Header.{Header}
@@ -241,13 +241,13 @@ shape_of (suc (suc (suc n))) below = absurd (omega (arith, below))
 
 -- the first of n bytes that may not stand, or all may
 first_or_none : (own : List ℕ) (n : ℕ) → n ≤ 32
-    → ((at : ℕ) × IsFirstWrong own at) ⊎ ((place : ℕ) → place < n → may_stand place (slice_index own place) ≡ true)
+    → ((at : ℕ) × IsFirstWrongByte own at) ⊎ ((place : ℕ) → place < n → may_stand place (slice_index own place) ≡ true)
 first_or_none own zero within = inr (λ place below. absurd (omega (arith, below)))
 first_or_none own (suc n) within = elim (first_or_none own n (omega (arith, within))) [
   | inl wrong ↦ inl wrong
   | inr may ↦
       elim (may_stand n (slice_index own n)) as (λ b. may_stand n (slice_index own n) ≡ b
-      → ((at : ℕ) × IsFirstWrong own at) ⊎ ((place : ℕ) → place < suc n → may_stand place (slice_index own place) ≡ true)) [
+      → ((at : ℕ) × IsFirstWrongByte own at) ⊎ ((place : ℕ) → place < suc n → may_stand place (slice_index own place) ≡ true)) [
         | false ↦ λ is. inl (n, record { within = omega (arith, within); wrong = is; before = may })
         | true ↦ λ is. inr (λ place below. elim (cases_lt place n) [
           | inl less ↦ may place less

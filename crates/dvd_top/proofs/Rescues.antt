@@ -18,7 +18,7 @@ use Rattle.dvd_read.specs.Salvage.{block_out}
 use Rattle.dvd_read.proofs.Outcomes.{agrees-no_cause}
 use Rattle.dvd_read.proofs.SavedLaws.{good_rows-saved, sixteen-sectors}
 use Rattle.dvd_read.specs.Reading.{block_cause}
-use Rattle.dvd_top.specs.Commands.Master.{cpr_in, filled, frames_of}
+use Rattle.dvd_top.specs.Commands.Master.{cpr_in, filled_block, frames_of}
 use Rattle.dvd_top.specs.Commands.Recover.{IsRefused}
 use Rattle.dvd_top.specs.Laws.{GoodFramesOfARefusedBlockAreGiven}
 use Rattle.dvd_top.specs.Inner.Performing.{sectors_out}
@@ -59,8 +59,8 @@ sector-at sectors count f below widths =
     ∙ part-behind (sectors_out f sectors) (line sectors f) (2048 * f) 2048 before here
 
 -- the image bytes of a block begin what fills it
-sector-filled : (image : List ℕ) (f : ℕ) → 2048 * f + 2048 ≤ length image → sector (filled image) f ≡ take 2048 (drop (2048 * f) image)
-sector-filled image f inside = part-append image (replicate (32768 - length image) 0) (2048 * f) 2048 inside
+sector-filled_block : (image : List ℕ) (f : ℕ) → 2048 * f + 2048 ≤ length image → sector (filled_block image) f ≡ take 2048 (drop (2048 * f) image)
+sector-filled_block image f inside = part-append image (replicate (32768 - length image) 0) (2048 * f) 2048 inside
 
 -- what is written of a refused block
 refused-written : (layout : Layout) (k : ℕ) (entry : BlockPlan) (rows : List (List ℕ)) (marks : List (List Bool)) (steps : List Step) (turn : Turn)
@@ -77,7 +77,7 @@ given_good layout zones form cpr k f entry image own block cause steps turn stan
     let few = few-sectors layout entry.content in
     let received = captured-received form own size in
     let made = data_block-made layout entry cpr image is_image cpr_size (omega (arith, image_size, few)) in
-    let saved = good_rows-saved entry (has_two_layers layout.shape) (cpr_in entry.area cpr) (sector (filled image)) (frames_of layout entry cpr (filled image)) block rows marks cause f
+    let saved = good_rows-saved entry (has_two_layers layout.shape) (cpr_in entry.area cpr) (sector (filled_block image)) (frames_of layout entry cpr (filled_block image)) block rows marks cause f
     (has_numbers layout zones k entry stands) made is_block received first (omega arith) (λ q lt. weightless _ _ (good q lt)) in
     let widths = (sixteen-sectors rows marks received.height received.marks_height entry).1 in
     elim (recovered_at layout zones form k entry own steps turn stands is_image does) [
@@ -88,5 +88,5 @@ given_good layout zones form cpr k f entry image own block cause steps turn stan
           ap (λ l. take 2048 (drop (2048 * f) l)) (refused-written layout k entry rows marks steps turn refused)
           ∙ sector-at (block_out rows marks entry) count f below (λ g lt. widths g (omega arith))
           ∙ saved
-          ∙ sector-filled image f (omega (arith, image_size))
+          ∙ sector-filled_block image f (omega (arith, image_size))
     ]

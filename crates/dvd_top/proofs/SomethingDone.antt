@@ -4,6 +4,7 @@ use Rattle.std.proofs.lemmas.Bool.{cases_lt, lt-leb}
 use Rattle.std.proofs.lemmas.List.{length-take-le}
 use Rattle.std.proofs.lemmas.List.Elements.{All-drop, All-take}
 use Rattle.std.proofs.lemmas.Option.{slice_get_cases}
+use Rattle.cd_sector.specs.Sector.{IsSector}
 use Rattle.cd_sector.proofs.SomeSector.{some_sector}
 use Rattle.dvd_block.proofs.OneBlock.{some_block}
 use Rattle.dvd_block.specs.Product.{line}
@@ -35,7 +36,7 @@ use Rattle.dvd_read.specs.declared.cause.Cause.{Cause}
 use Rattle.dvd_read.proofs.BlockRead.{no_cause-read}
 use Rattle.dvd_report.specs.Lines.{damage_line}
 use Rattle.dvd_top.specs.Commands.{meaning}
-use Rattle.dvd_top.specs.Commands.CdMake.{HasAddresses, IsMade, cdmake_units}
+use Rattle.dvd_top.specs.Commands.CdMake.{HasAddresses, cdmake_units}
 use Rattle.dvd_top.specs.Commands.CdRead.{cdread_units}
 use Rattle.dvd_merge.specs.Join.{joined}
 use Rattle.dvd_merge.specs.MarkedText.{marked_text}
@@ -44,9 +45,10 @@ use Rattle.dvd_top.specs.Commands.Merge.{merge_units, tables_in}
 use Rattle.dvd_top.specs.Commands.Assemble.{assemble_units}
 use Rattle.dvd_top.specs.Commands.Convert.{IsConverted, convert_units}
 use Rattle.dvd_assemble.specs.Frames.{frame_size}
-use Rattle.dvd_top.specs.Commands.Frames.{frames_units, sector_frame}
+use Rattle.dvd_top.specs.Commands.Frames.{frames_units}
 use Rattle.dvd_top.specs.Commands.Info.{IsAsked, IsControlDone, IsSought, format_lines, info_units}
-use Rattle.dvd_top.specs.Commands.Master.{IsMastered, bytes_of_block, bytes_of_entry, cpr_in, filled, frames_of, main_for, master_units}
+use Rattle.dvd_top.specs.Commands.Making.{IsMade}
+use Rattle.dvd_top.specs.Commands.Master.{IsMastered, bytes_of_block, bytes_of_entry, cpr_in, filled_block, frames_of, main_for, master_units}
 use Rattle.dvd_capture.specs.TwoPass.{answers_of}
 use Rattle.dvd_deep.specs.Reading.{deep_cause}
 use Rattle.dvd_deep.proofs.Readings.{deep-some}
@@ -71,7 +73,7 @@ use Rattle.dvd_capture.proofs.ListedWritten.{some_spelling}
 use Rattle.dvd_top.proofs.CdSectors.{read_some}
 use Rattle.dvd_top.proofs.Determined.{length-captured_marks, length-captured_rows}
 use Rattle.dvd_top.proofs.ExerciseRuns.{exercised_some}
-use Rattle.dvd_top.proofs.FormatBytes.{bytes-cpr, bytes-filled, bytes-main_for}
+use Rattle.dvd_top.proofs.FormatBytes.{bytes-cpr, bytes-filled_block, bytes-main_for}
 use Rattle.dvd_top.proofs.FrameBytes.{HasBytes, IsByte, bytes-frame}
 use Rattle.dvd_top.proofs.Layouts.{layout_for}
 use Rattle.dvd_top.proofs.OpenedRuns.{opened_exists, stated-command}
@@ -132,13 +134,13 @@ mastered_some : (layout : Layout) (zones : Zones) (cpr : List ℕ) → HasBytes 
 mastered_some layout zones cpr six k own within are =
     let some = some_entry (plan_of layout zones) k within in
     let entry = some.0 in
-    let piece = bytes-filled layout entry.content own (subst (λ n. HasBytes n own) (ap (bytes_of_entry layout) some.1) are) in
-    let frame : (f : ℕ) → f < 16 → HasBytes 2064 (line (frames_of layout entry cpr (filled own)) f) =
+    let piece = bytes-filled_block layout entry.content own (subst (λ n. HasBytes n own) (ap (bytes_of_entry layout) some.1) are) in
+    let frame : (f : ℕ) → f < 16 → HasBytes 2064 (line (frames_of layout entry cpr (filled_block own)) f) =
     λ f below.
-    subst (HasBytes 2064) (sym (line-frames_of layout entry cpr (filled own) f below))
-    (bytes-frame _ (cpr_in entry.area cpr) _ (main_for entry.content layout entry (filled own) f) (bytes-cpr entry.area cpr six)
-    (bytes-main_for entry.content layout entry (filled own) f below piece)) in
-    let block = some_block (frames_of layout entry cpr (filled own)) (λ f below. (frame f below).size) (λ f below. (frame f below).bytes) in (
+    subst (HasBytes 2064) (sym (line-frames_of layout entry cpr (filled_block own) f below))
+    (bytes-frame _ (cpr_in entry.area cpr) _ (main_for entry.content layout entry (filled_block own) f) (bytes-cpr entry.area cpr six)
+    (bytes-main_for entry.content layout entry (filled_block own) f below piece)) in
+    let block = some_block (frames_of layout entry cpr (filled_block own)) (λ f below. (frame f below).size) (λ f below. (frame f below).bytes) in (
       Write (recording block.0) ∷ [],
       Good,
       record { entry = entry; stands = some.1; block = block.0; is_block = block.1; writes = refl; good = refl },
@@ -252,10 +254,10 @@ surveyed_some layout zones form before own within =
     (_, _, record { entry = some.0; stands = some.1; writes = refl; answers = refl })
 
 -- CDMAKE. Every address below the last has a sector.
-made_some : (address : ℕ) (user : List ℕ) → address < 450000 → HasBytes 2048 user → MaySome (IsMade address user)
+made_some : (address : ℕ) (user : List ℕ) → address < 450000 → HasBytes 2048 user → MaySome (IsMade (IsSector address user))
 made_some address user below are =
     let some = some_sector address user below are.size are.bytes in
-    (Write some.0 ∷ [], Good, record { sector = some.0; is_sector = some.1; writes = refl; good = refl })
+    (Write some.0 ∷ [], Good, record { made = some.0; holds = some.1; writes = refl; good = refl })
 
 -- CONVERT. Whole blocks have a unit.
 converted_some : (form : Form) (own : List ℕ) → captured_part form own ≡ Whole (length own) → MaySome (IsConverted form own)
@@ -277,7 +279,7 @@ module _ (settings : Settings) (bytes : List ℕ) (six : HasBytes 6 settings.cpr
       → Exists (λ outcome. (meaning word).OfUnits settings (λ units. IsOutcome units bytes outcome))
   by_command command.Frames none addresses =
       runs_exist (frames_units settings.first settings.sectors) (λ k. 2048) (λ k own. refl)
-      (λ before own lt is. (Write (sector_frame (settings.first + length before) own) ∷ [], Good, (refl, refl))) (λ before all. no_closing) bytes are
+      (λ before own lt is. (Write _ ∷ [], Good, record { made = _; holds = refl; writes = refl; good = refl })) (λ before all. no_closing) bytes are
   by_command command.Master none addresses =
       with_layout (λ l. master_units l settings.zones settings.cpr) none
       (λ l. runs_exist (master_units l settings.zones settings.cpr) (bytes_of_block l settings.zones) (λ k own. refl)

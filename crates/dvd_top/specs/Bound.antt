@@ -19,7 +19,7 @@ use Rattle.dvd_loop.specs.declared.ends.Turn.TheVariants.{Good}
 use Rattle.dvd_read.specs.Causes.{two_pass_cause}
 use Rattle.dvd_read.specs.declared.cause.Cause.{Cause}
 use Rattle.dvd_top.specs.Captured.{HasBlocks, block_bytes}
-use Rattle.dvd_top.specs.Commands.Master.{filled, frames_of, image_bytes}
+use Rattle.dvd_top.specs.Commands.Master.{filled_block, frames_of, image_bytes}
 use Rattle.dvd_top.specs.Commands.Deep.{IsDeepened}
 use Rattle.dvd_top.specs.Commands.Recover.{IsRecovered}
 use Rattle.dvd_words.specs.Settings.{IsLayoutOf}
@@ -55,7 +55,7 @@ pub record WasMastered (layout : Layout) (zones : Zones) (form : Form) (bytes cp
   pub cpr_size : length cpr ≡ 6
   pub image_size : length image ≡ 2048 * total_sectors layout
   pub block : List (List ℕ)
-  pub is_block : IsBlockOf (frames_of layout entry cpr (filled (image_part layout entry image))) block
+  pub is_block : IsBlockOf (frames_of layout entry cpr (filled_block (image_part layout entry image))) block
 
 -- It was mastered so, and its damage is within the bound: twice the bad rows plus the lost rows is at most 16.
 pub record IsBorneBlock (layout : Layout) (zones : Zones) (form : Form) (bytes cpr image : List ℕ) (k : ℕ) (entry : BlockPlan) : Type 0 where

@@ -17,6 +17,7 @@ use Rattle.dvd_words.specs.declared.settings.Command.TheVariants as command
 pub mod Exercise
 pub mod Frames
 pub mod Info
+pub mod Making
 pub mod Master
 pub mod Recover
 pub mod Survey

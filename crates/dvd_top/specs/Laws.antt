@@ -39,7 +39,7 @@ use Rattle.dvd_top.specs.CdBound.{KeepsSectors}
 use Rattle.dvd_top.specs.Commands.CdMake.{HasAddresses}
 use Rattle.dvd_top.specs.Commands.Exercise.{drawn_frames}
 use Rattle.dvd_top.specs.Commands.Info.{IsSought, format_lines, info_units}
-use Rattle.dvd_top.specs.Commands.Master.{filled, frames_of, image_bytes, master_units}
+use Rattle.dvd_top.specs.Commands.Master.{filled_block, frames_of, image_bytes, master_units}
 use Rattle.dvd_top.specs.Commands.Recover.{IsRecovered, recover_units}
 use Rattle.dvd_top.specs.Headline.{IsLoop, IsRun, breaks}
 use Rattle.dvd_top.specs.Opening.{Behind}
@@ -83,7 +83,7 @@ abbrev pub DamageWithinTheBoundIsRepaired : Type 0
 DamageWithinTheBoundIsRepaired =
     (layout : Layout) (zones : Zones) (form : Form) (cpr : List ℕ) (k : ℕ) (entry : BlockPlan) (image own : List ℕ) (block : List (List ℕ)) (steps : List Step) (turn : Turn)
     → slice_get (plan_of layout zones) k ≡ Some entry → IsImage entry.content → length cpr ≡ 6 → length image ≡ image_bytes layout entry
-    → IsBlockOf (frames_of layout entry cpr (filled image)) block
+    → IsBlockOf (frames_of layout entry cpr (filled_block image)) block
     → captured_part form own ≡ Whole (length own) → IsWithin block (captured_rows form own) (captured_marks form own)
     → IsRecovered layout zones form k own steps turn → (steps ≡ Write image ∷ []) × (turn ≡ Good)
 
@@ -93,7 +93,7 @@ abbrev pub GoodFramesOfARefusedBlockAreGiven : Type 0
 GoodFramesOfARefusedBlockAreGiven =
     (layout : Layout) (zones : Zones) (form : Form) (cpr : List ℕ) (k f : ℕ) (entry : BlockPlan) (image own : List ℕ) (block : List (List ℕ)) (cause : Cause) (steps : List Step) (turn : Turn)
     → slice_get (plan_of layout zones) k ≡ Some entry → IsImage entry.content → length cpr ≡ 6 → length image ≡ image_bytes layout entry
-    → IsBlockOf (frames_of layout entry cpr (filled image)) block → captured_part form own ≡ Whole (length own)
+    → IsBlockOf (frames_of layout entry cpr (filled_block image)) block → captured_part form own ≡ Whole (length own)
     → two_pass_cause (answers_of (captured_rows form own) (captured_marks form own)) ≡ Some cause
     → f < image_sectors layout entry.content → HasGoodRows block (captured_rows form own) (captured_marks form own) f
     → IsRecovered layout zones form k own steps turn → take 2048 (drop (2048 * f) (written steps)) ≡ take 2048 (drop (2048 * f) image)
@@ -182,7 +182,7 @@ BorneSectorsAreKept =
 -- The blocks of the Data Zones as they were mastered, each of its part of an image.
 abbrev pub AreMastered : Layout → List ℕ → (ℕ → List ℕ) → (ℕ → List (List ℕ)) → Type 0
 AreMastered layout cpr parts blocks =
-    (k : ℕ) (entry : BlockPlan) → slice_get (plan_of layout DataOnly) k ≡ Some entry → IsBlockOf (frames_of layout entry cpr (filled (parts k))) (blocks k)
+    (k : ℕ) (entry : BlockPlan) → slice_get (plan_of layout DataOnly) k ≡ Some entry → IsBlockOf (frames_of layout entry cpr (filled_block (parts k))) (blocks k)
 
 -- Frames that were captured of mastered ones, of any image and any CPR_MAI: whatever is lost, their bytes are right at all places
 -- that aren't marked, and at most ten of the first row are. Each has its home where it was mastered; and no place of the blocks

@@ -1,7 +1,7 @@
 -- Ours: the header that a listed capture opens with, and the settings that it states.
 use Rattle.std.specs.Prelude.{◌≡◌, ◌⊎◌, ◌<◌, ℕ, zero, suc, List, [], ◌++◌, length, Some, None}
-use Rattle.dvd_capture.specs.Header.{IsFirstWrong, header_bytes}
-use Rattle.dvd_capture.specs.Laws.{HasNumbers}
+use Rattle.dvd_capture.specs.Header.{IsFirstWrongByte, header_bytes}
+use Rattle.dvd_capture.specs.Laws.{FitsHeader}
 use Rattle.dvd_capture.specs.declared.form.Form.{Form}
 use Rattle.dvd_capture.specs.declared.form.Form.TheVariants.{Plain, Marked, Listed}
 use Rattle.dvd_capture.specs.declared.header.Header.{Header}
@@ -58,14 +58,14 @@ fault_byte (LayerTooLong layer end) = layer_byte layer
 -- These 32 bytes are a header that states these settings.
 pub record IsHeaderOf (settings stated : Settings) (own : List ℕ) : Type 0 where
   pub header : Header
-  pub numbers : HasNumbers header
+  pub numbers : FitsHeader header
   pub bytes : own ≡ header_bytes header
   pub states : IsStated settings header stated
 
 -- They break a rule at that place: a byte can't stand there, or else the layout that they state breaks a rule.
 abbrev pub BreaksHeader : Settings → List ℕ → ℕ → Type 0
 BreaksHeader settings own at =
-    IsFirstWrong own at
+    IsFirstWrongByte own at
     ⊎ ((stated : Settings) × (fault : LayoutFault) × IsHeaderOf settings stated own × (broken_rule stated ≡ Some fault) × (at ≡ fault_byte fault))
 
 -- What comes behind so many bytes that were taken for the header: the input ended within it, or a read failed there; or they are

@@ -20,17 +20,17 @@ status_of (ends.ShortHeader bytes) = status.Short
 status_of (ends.BadHeader at) = status.BadHeader
 
 -- the numbers that the program ends with
-abbrev pub number_of : Status → ℕ
-number_of status.Done = 0
-number_of status.Usage = 1
-number_of status.Setting = 2
-number_of status.ReadFault = 3
-number_of status.WriteFault = 4
-number_of status.Short = 5
-number_of status.Long = 6
-number_of status.Damaged = 7
-number_of status.NoMemory = 8
-number_of status.ReportFault = 9
-number_of status.NoControl = 10
-number_of status.BadHeader = 11
-number_of status.BadMarks = 12
+abbrev pub status_number : Status → ℕ
+status_number status.Done = 0
+status_number status.Usage = 1
+status_number status.Setting = 2
+status_number status.ReadFault = 3
+status_number status.WriteFault = 4
+status_number status.Short = 5
+status_number status.Long = 6
+status_number status.Damaged = 7
+status_number status.NoMemory = 8
+status_number status.ReportFault = 9
+status_number status.NoControl = 10
+status_number status.BadHeader = 11
+status_number status.BadMarks = 12

@@ -1,24 +1,24 @@
 //! The commands: how each begins, and what it does for each unit of its input.
 
-mod captured; // captured blocks
-mod deep; // image sectors by rounds, where two passes refuse a block
 mod assemble; // scattered recording frames put in order
+mod captured; // captured blocks
+mod cd_make; // a CD-ROM sector for each sector of user data
+mod cd_read; // the user data of CD-ROM sectors
+mod convert; // captured blocks in the listed form
+mod deep; // image sectors by rounds, where two passes refuse a block
 mod exercise; // blocks that are drawn, damaged and read back
 mod frames; // a scrambled data frame for each sector
 mod info; // the physical format that the lead-in of a disk tells
+mod making; // what `frames` and `cdmake` have in common: something is made of each sector
 mod master; // the recording frames of each ECC block of a disk
 mod merge; // one stream of captured blocks, joined of several captures
 mod recover; // image sectors from a stream of captured blocks
 mod survey; // a line for each captured block, and a line of totals
 mod workers; // what the workers do for a turn of a command
-mod convert; // captured blocks in the listed form
-mod cd_make; // a CD-ROM sector for each sector of user data
-mod cd_read; // the user data of CD-ROM sectors
 
 pub use assemble::assemble_loop;
 pub(crate) use assemble::run_assemble;
 pub use cd_make::cdmake_loop;
-pub(crate) use cd_make::run_cdmake;
 pub use cd_read::cdread_loop;
 pub use convert::convert_loop;
 pub(crate) use convert::run_convert;
@@ -27,9 +27,9 @@ pub(crate) use deep::run_deep;
 pub use exercise::exercise_loop;
 pub(crate) use exercise::run_exercise;
 pub use frames::frames_loop;
-pub(crate) use frames::run_frames;
 pub use info::info_loop;
 pub(crate) use info::run_info;
+pub(crate) use making::{Made, make_each};
 pub use master::master_loop;
 pub(crate) use master::run_master;
 pub use merge::merge_loop;

@@ -39,11 +39,11 @@ pub enum Status {
 }
 
 impl Status {
-    ghost use Rattle.dvd_top.specs.Statuses.{number_of};
+    ghost use Rattle.dvd_top.specs.Statuses.{status_number};
 
     /// The number that the program ends with.
     pub fn number(self) -> u8
-        ensures { result ≡ number_of self }
+        ensures { result ≡ status_number self }
     {
         self as u8
     }

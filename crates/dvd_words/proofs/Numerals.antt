@@ -6,7 +6,7 @@ use Rattle.std.specs.Result.{result_ok, OkIff}
 use Rattle.std.specs.Str.Parse.{AllDigits, IsNumeral, ParsesUnsigned, digits_value, without_leading_plus}
 use Rattle.std.proofs.lemmas.Bool.{and_parts, le-ltb, cases_lt}
 use Rattle.std.proofs.lemmas.Str.Parse.{without_leading_plus_none}
-use Rattle.dvd_words.specs.Words.{is_numeral, number_of}
+use Rattle.dvd_words.specs.Words.{is_numeral, number_in}
 
 -- digits, as std says it
 pub all_digits : (text : List ℕ) → list_all (λ c. is_digit c 10) text ≡ true → AllDigits 10 text
@@ -27,16 +27,16 @@ pub numeral : (text : List ℕ) → 0 < length text → length text ≤ 10 → l
 numeral text some few digits = grind (arith, digits)
 
 -- and their number is read where it is below 2 ^ 32
-number_below : (text : List ℕ) → is_numeral text ≡ true → digits_value 10 text < 2 ^ 32 → number_of text ≡ Some (digits_value 10 text)
+number_below : (text : List ℕ) → is_numeral text ≡ true → digits_value 10 text < 2 ^ 32 → number_in text ≡ Some (digits_value 10 text)
 number_below text is below = rw (is, lt-ltb (digits_value 10 text) (2 ^ 32) below) refl
 
 -- from 2 ^ 32 on it isn't read
-number_above : (text : List ℕ) → is_numeral text ≡ true → 2 ^ 32 ≤ digits_value 10 text → number_of text ≡ None
+number_above : (text : List ℕ) → is_numeral text ≡ true → 2 ^ 32 ≤ digits_value 10 text → number_in text ≡ None
 number_above text is above = rw (is, le-ltb (digits_value 10 text) (2 ^ 32) above) refl
 
 -- std reads what the definition says
 pub number_read : {E : Type 0} (text : List ℕ) (r : Result ℕ E) → 0 < length text → length text ≤ 10 → list_all (λ c. is_digit c 10) text ≡ true
-    → ParsesUnsigned 32 10 text r → result_ok r ≡ number_of text
+    → ParsesUnsigned 32 10 text r → result_ok r ≡ number_in text
 number_read {E} text r some few digits parsed =
     go r (subst (λ ds. OkIff r (IsNumeral 10 ds × (digits_value 10 ds < 2 ^ 32)) (digits_value 10 ds)) (no_plus text some digits) parsed)
   where
@@ -45,7 +45,7 @@ number_read {E} text r some few digits parsed =
     is = numeral text some few digits
 
     -- by whether std reads it
-    go : (x : Result ℕ E) → OkIff x (IsNumeral 10 text × (digits_value 10 text < 2 ^ 32)) (digits_value 10 text) → result_ok x ≡ number_of text
+    go : (x : Result ℕ E) → OkIff x (IsNumeral 10 text × (digits_value 10 text < 2 ^ 32)) (digits_value 10 text) → result_ok x ≡ number_in text
     go (Ok n) h = ap Some h.1 ∙ sym (number_below text is h.0.1)
     go (Err e) h = elim (cases_lt (digits_value 10 text) (2 ^ 32)) [
       | inl below ↦ absurd (h ((some, all_digits text digits), below))

@@ -8,7 +8,7 @@ use Rattle.dvd_capture.specs.declared.form.Form.TheVariants.{Plain, Marked, List
 use Rattle.dvd_layout.specs.declared.layout.Shape.TheVariants.{Single}
 use Rattle.dvd_layout.specs.declared.layout.Zones.TheVariants.{DataOnly}
 use Rattle.dvd_words.specs.Apps.{app_for}
-use Rattle.dvd_words.specs.Words.{bytes_of, form_of, number_of, number_within, sector_number_of, shape_of, zones_of}
+use Rattle.dvd_words.specs.Words.{hex_bytes, form_of, number_in, number_within, sector_number_of, shape_of, zones_of}
 use Rattle.dvd_words.specs.declared.settings.Command.{Command}
 use Rattle.dvd_words.specs.declared.settings.Command.TheVariants.{Frames, Master, Recover, Info, Survey, Exercise, CdMake, CdRead, Merge, Deep, Assemble, Convert}
 use Rattle.dvd_words.specs.declared.settings.Settings.{Settings}
@@ -99,18 +99,18 @@ has_layout command Marked rows = has_sectors command rows
 unfoldable pub settings_of : Command → List Row → Option Settings
 settings_of command rows = do
   first ← value_or 0 sector_number_of (first_of (codes "first") rows)
-  sectors ← value_or 0 number_of (first_of (codes "sectors") rows)
-  sectors1 ← value_or 0 number_of (first_of (codes "sectors1") rows)
+  sectors ← value_or 0 number_in (first_of (codes "sectors") rows)
+  sectors1 ← value_or 0 number_in (first_of (codes "sectors1") rows)
   shape ← value_or Single shape_of (first_of (codes "shape") rows)
   zones ← value_or DataOnly zones_of (first_of (codes "zones") rows)
-  initial ← value_or 0 number_of (first_of (codes "initial") rows)
-  tail ← value_or 16 number_of (first_of (codes "tail") rows)
-  cpr ← value_or (replicate 6 0) (bytes_of 6) (first_of (codes "cpr") rows)
+  initial ← value_or 0 number_in (first_of (codes "initial") rows)
+  tail ← value_or 16 number_in (first_of (codes "tail") rows)
+  cpr ← value_or (replicate 6 0) (hex_bytes 6) (first_of (codes "cpr") rows)
   form ← value_or Plain form_of (first_of (codes "form") rows)
   workers ← value_or 1 (number_within 1 16) (first_of (codes "workers") rows)
-  seed ← value_or 0 number_of (first_of (codes "seed") rows)
+  seed ← value_or 0 number_in (first_of (codes "seed") rows)
   blocks ← value_or 0 (number_within 1 4096) (first_of (codes "blocks") rows)
-  address ← value_or 0 number_of (first_of (codes "address") rows)
+  address ← value_or 0 number_in (first_of (codes "address") rows)
   captures ← value_or 0 (number_within 2 16) (first_of (codes "captures") rows)
   frames ← value_or 0 (number_within 1 4294967295) (first_of (codes "frames") rows)
   if has_layout command form rows && (is_within command first sectors blocks address && has_room command (sectors + sectors1)) then Some (record {

@@ -19,20 +19,20 @@ abbrev pub is_numeral : List ℕ → Bool
 is_numeral text = nat_le 1 (length text) && (nat_le (length text) 10 && list_all (λ c. is_digit c 10) text)
 
 -- a number below 2 ^ 32
-abbrev pub number_of : List ℕ → Option ℕ
-number_of text = if is_numeral text && nat_lt (digits_value 10 text) (2 ^ 32) then Some (digits_value 10 text) else None
+abbrev pub number_in : List ℕ → Option ℕ
+number_in text = if is_numeral text && nat_lt (digits_value 10 text) (2 ^ 32) then Some (digits_value 10 text) else None
 
 -- a number from `least` to `most`
 abbrev pub number_within : ℕ → ℕ → List ℕ → Option ℕ
-number_within least most text = option_and_then (λ n. if nat_le least n && nat_le n most then Some n else None) (number_of text)
+number_within least most text = option_and_then (λ n. if nat_le least n && nat_le n most then Some n else None) (number_in text)
 
 -- so many bytes, of two hexadecimal digits each, of either case
-abbrev pub bytes_of : ℕ → List ℕ → Option (List ℕ)
-bytes_of n text = result_ok (decode_sized text n)
+abbrev pub hex_bytes : ℕ → List ℕ → Option (List ℕ)
+hex_bytes n text = result_ok (decode_sized text n)
 
 -- a sector number: six hexadecimal digits
 abbrev pub sector_number_of : List ℕ → Option ℕ
-sector_number_of text = option_map (λ bytes. from_be_bytes w32 (0 ∷ bytes)) (bytes_of 3 text)
+sector_number_of text = option_map (λ bytes. from_be_bytes w32 (0 ∷ bytes)) (hex_bytes 3 text)
 
 -- the shape of a disk by its name
 abbrev pub shape_of : List ℕ → Option Shape

@@ -4,7 +4,7 @@ ghost use Rattle.std.specs.Prelude.{◌≡◌, ◌≤◌, max, min, option_map, 
 ghost use Rattle.std.specs.Char.{is_digit};
 ghost use Rattle.std.specs.List.{list_all};
 ghost use Rattle.dvd_words.specs.Reading.{value_or};
-ghost use Rattle.dvd_words.specs.Words.{bytes_of, form_of, number_of, number_within, sector_number_of, shape_of, zones_of};
+ghost use Rattle.dvd_words.specs.Words.{hex_bytes, form_of, number_in, number_within, sector_number_of, shape_of, zones_of};
 
 use dvd_capture::Form;
 use dvd_layout::{Shape, Zones};
@@ -12,7 +12,7 @@ use hex::FromHex;
 
 /// A number of one to ten decimal digits.
 pub fn read_number(text: Option<&str>, default: u32) -> Option<u32>
-    ensures { result ≡ value_or default number_of (option_map (λ s. s.now) text.entry) }
+    ensures { result ≡ value_or default number_in (option_map (λ s. s.now) text.entry) }
 {
     match text {
         Some(text) => number(text),
@@ -21,7 +21,7 @@ pub fn read_number(text: Option<&str>, default: u32) -> Option<u32>
 }
 
 fn number(text: &str) -> Option<u32>
-    ensures { result ≡ number_of text.now }
+    ensures { result ≡ number_in text.now }
 {
     if text.is_empty() || text.len() > 10 || !has_digits_alone(text.as_bytes()) {
         return None;
@@ -76,7 +76,7 @@ pub fn read_sector_number(text: Option<&str>) -> Option<u32>
 
 /// CPR_MAI, as twelve hexadecimal digits.
 pub fn read_cpr(text: Option<&str>) -> Option<[u8; 6]>
-    ensures { result ≡ value_or (replicate 6 0) (bytes_of 6) (option_map (λ s. s.now) text.entry) }
+    ensures { result ≡ value_or (replicate 6 0) (hex_bytes 6) (option_map (λ s. s.now) text.entry) }
 {
     match text {
         Some(text) => <[u8; 6] as FromHex>::from_hex(text).ok(),

@@ -7,7 +7,7 @@ use Rattle.std.proofs.lemmas.List.{get_or-map}
 use Rattle.std.proofs.lemmas.List.FromFn.{get_or-map-range_with_len}
 use Rattle.gf_field.specs.Field.{product, partial_product, shifted, shift, power}
 use Rattle.rs_code.specs.Inner.Polynomials.{sum_of, scaled, times_root}
-use Rattle.rs_code.specs.Inner.Registers.{bytes_of, HasMultiples, AreLater, AreTables, after_byte}
+use Rattle.rs_code.specs.Inner.Registers.{register_bytes, HasMultiples, AreLater, AreTables, after_byte}
 use Rattle.rs_code.specs.declared.tables.TheConstants.{PI_TABLES, PO_TABLES}
 use Rattle.rs_code.proofs.Generator.{generator_of}
 
@@ -16,10 +16,10 @@ multiple_at : List ℕ → ℕ → List ℕ
 multiple_at generator factor = scaled factor generator ++ replicate (16 - length (scaled factor generator)) 0
 
 -- a table with these bytes, entry by entry, has the generator's multiples
-by_rows : (generator table : List ℕ) → length table ≡ 256 → map (bytes_of 16) table ≡ map (multiple_at generator) (range_with_len 0 256) → HasMultiples generator table 256
+by_rows : (generator table : List ℕ) → length table ≡ 256 → map (register_bytes 16) table ≡ map (multiple_at generator) (range_with_len 0 256) → HasMultiples generator table 256
 unfolding multiple_at
 by_rows generator table long rows factor below =
-    sym (get_or-map (bytes_of 16) table factor 0 [] (omega arith)) ∙ ap (λ t. get_or t factor []) rows ∙ get_or-map-range_with_len (multiple_at generator) 0 256 factor factor [] below (zero-add factor)
+    sym (get_or-map (register_bytes 16) table factor 0 [] (omega arith)) ∙ ap (λ t. get_or t factor []) rows ∙ get_or-map-range_with_len (multiple_at generator) 0 256 factor factor [] below (zero-add factor)
 
 -- a table made of entries one byte later has at each factor what is left of the factor's entry
 by_entries : (table entries later : List ℕ) → length entries ≡ 256 → later ≡ map (λ entry. after_byte table entry 0) entries → AreLater table entries later
@@ -40,7 +40,7 @@ all_words (entry ∷ table) all (suc factor) = all_words table (and_parts (nat_l
 -- factor, in 128 bits, and the entries of each further table those of the one before a byte later
 record AreComputed (r : ℕ) (generator : List ℕ) (tables : List (List ℕ)) : Type 0 where
   multiplied : generator_of r ≡ generator
-  rows : map (bytes_of 16) (table_at tables 0) ≡ map (multiple_at generator) (range_with_len 0 256)
+  rows : map (register_bytes 16) (table_at tables 0) ≡ map (multiple_at generator) (range_with_len 0 256)
   words : list_all (λ entry. nat_lt entry (2 ^ 128)) (table_at tables 0) ≡ true
   size0 : length (table_at tables 0) ≡ 256
   size1 : length (table_at tables 1) ≡ 256
@@ -62,12 +62,12 @@ tables_of r generator tables are = record {
 
 -- those of the inner parity
 pub PI-tables : AreTables (generator_of 10) PI_TABLES
-unfolding generator_of times_root sum_of scaled power product partial_product shifted shift multiple_at bytes_of after_byte table_at
+unfolding generator_of times_root sum_of scaled power product partial_product shifted shift multiple_at register_bytes after_byte table_at
 PI-tables = tables_of 10 (0xD8 ∷ 0xC2 ∷ 0x9F ∷ 0x6F ∷ 0xC7 ∷ 0x5E ∷ 0x5F ∷ 0x71 ∷ 0x9D ∷ 0xC1 ∷ []) PI_TABLES
     (record { multiplied = refl; rows = refl; words = refl; size0 = refl; size1 = refl; size2 = refl; one = refl; two = refl; three = refl })
 
 -- those of the outer parity
 pub PO-tables : AreTables (generator_of 16) PO_TABLES
-unfolding generator_of times_root sum_of scaled power product partial_product shifted shift multiple_at bytes_of after_byte table_at
+unfolding generator_of times_root sum_of scaled power product partial_product shifted shift multiple_at register_bytes after_byte table_at
 PO-tables = tables_of 16 (0x3B ∷ 0x0D ∷ 0x68 ∷ 0xBD ∷ 0x44 ∷ 0xD1 ∷ 0x1E ∷ 0x08 ∷ 0xA3 ∷ 0x41 ∷ 0x29 ∷ 0xE5 ∷ 0x62 ∷ 0x32 ∷ 0x24 ∷ 0x3B ∷ []) PO_TABLES
     (record { multiplied = refl; rows = refl; words = refl; size0 = refl; size1 = refl; size2 = refl; one = refl; two = refl; three = refl })

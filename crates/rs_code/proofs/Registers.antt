@@ -8,7 +8,7 @@ use Rattle.std.proofs.lemmas.List.{append_cancel_left, take_at, length-replicate
 use Rattle.gf_field.specs.Field.{plus}
 use Rattle.gf_field.proofs.FieldLaws.{plus-byte, plus-product, plus-pairs, plus-zero, plus-self}
 use Rattle.rs_code.specs.Inner.Polynomials.{sum_of, scaled, IsRemainder}
-use Rattle.rs_code.specs.Inner.Registers.{bytes_of, Holds, HasMultiples, after_byte}
+use Rattle.rs_code.specs.Inner.Registers.{register_bytes, Holds, HasMultiples, after_byte}
 use Rattle.rs_code.proofs.Ring.{ring}
 use Rattle.rs_code.proofs.Values.{length-sum_of, length-scaled}
 use Rattle.rs_code.proofs.Remainders.{next_register, IsRemainder-start, IsRemainder-next}
@@ -16,10 +16,10 @@ use Rattle.rs_code.proofs.Remainders.{next_register, IsRemainder-start, IsRemain
 -- ---- bytes of a number
 
 -- the lowest k bytes are k bytes
-pub length-bytes_of : (k n : ℕ) → length (bytes_of k n) ≡ k
-unfolding bytes_of
-length-bytes_of zero n = refl
-length-bytes_of (suc k) n = ap suc (length-bytes_of k n)
+pub length-register_bytes : (k n : ℕ) → length (register_bytes k n) ≡ k
+unfolding register_bytes
+length-register_bytes zero n = refl
+length-register_bytes (suc k) n = ap suc (length-register_bytes k n)
 
 -- a higher byte of a number is the byte below it of what stands above the lowest one
 byte_at-higher : (k n : ℕ) → byte_at (suc k) n ≡ byte_at k (n / 256)
@@ -28,15 +28,15 @@ byte_at-higher (suc k) n =
     ap (λ m. n / m % 256) (pow-succ' 256 (suc k)) ∙ ap (λ m. m % 256) (sym (div-div-eq-div-mul n 256 (256 ^ suc k)))
 
 -- the upper bytes, and the lowest one
-pub bytes_of-last : (k n : ℕ) → bytes_of (suc k) n ≡ bytes_of k (n / 256) ++ n % 256 ∷ []
-unfolding bytes_of
-bytes_of-last zero n = refl
-bytes_of-last (suc k) n = rw (byte_at-higher k n, bytes_of-last k n) refl
+pub register_bytes-last : (k n : ℕ) → register_bytes (suc k) n ≡ register_bytes k (n / 256) ++ n % 256 ∷ []
+unfolding register_bytes
+register_bytes-last zero n = refl
+register_bytes-last (suc k) n = rw (byte_at-higher k n, register_bytes-last k n) refl
 
 -- the highest byte, and those below it
-pub bytes_of-first : (k n : ℕ) → bytes_of (suc k) n ≡ byte_at k n ∷ bytes_of k n
-unfolding bytes_of
-bytes_of-first k n = refl
+pub register_bytes-first : (k n : ℕ) → register_bytes (suc k) n ≡ byte_at k n ∷ register_bytes k n
+unfolding register_bytes
+register_bytes-first k n = refl
 
 -- joined words are summed part by part
 sum_of-append : (a b c d : List ℕ) → length a ≡ length b → sum_of (a ++ c) (b ++ d) ≡ sum_of a b ++ sum_of c d
@@ -57,30 +57,30 @@ unfolding sum_of
 sum_of-nil ys = refl
 
 -- the lowest 0 bytes of a number are the empty list
-bytes_of-none : (n : ℕ) → bytes_of 0 n ≡ []
-unfolding bytes_of
-bytes_of-none n = refl
+register_bytes-none : (n : ℕ) → register_bytes 0 n ≡ []
+unfolding register_bytes
+register_bytes-none n = refl
 
 -- a sum of numbers is a sum of their bytes
-pub bytes_of-plus : (k a b : ℕ) → bytes_of k (plus a b) ≡ sum_of (bytes_of k a) (bytes_of k b)
-bytes_of-plus zero a b = bytes_of-none (plus a b) ∙ rw (bytes_of-none a, bytes_of-none b) (sym (sum_of-nil []))
-bytes_of-plus (suc k) a b =
+pub register_bytes-plus : (k a b : ℕ) → register_bytes k (plus a b) ≡ sum_of (register_bytes k a) (register_bytes k b)
+register_bytes-plus zero a b = register_bytes-none (plus a b) ∙ rw (register_bytes-none a, register_bytes-none b) (sym (sum_of-nil []))
+register_bytes-plus (suc k) a b =
     let upper : plus a b / 256 ≡ plus (a / 256) (b / 256) = xor_shr a b 8 in
     let lowest : plus a b % 256 ≡ plus (a % 256) (b % 256) = xor_mod a b 8 in
-    bytes_of-last k (plus a b)
-    ∙ rw (upper, lowest, bytes_of-plus k (a / 256) (b / 256), bytes_of-last k a, bytes_of-last k b)
-    (sym (sum_of-append (bytes_of k (a / 256)) (bytes_of k (b / 256)) (a % 256 ∷ []) (b % 256 ∷ []) (length-bytes_of k (a / 256) ∙ sym (length-bytes_of k (b / 256)))
-    ∙ ap (λ xs. sum_of (bytes_of k (a / 256)) (bytes_of k (b / 256)) ++ xs) (sum_of-one (a % 256) (b % 256))))
+    register_bytes-last k (plus a b)
+    ∙ rw (upper, lowest, register_bytes-plus k (a / 256) (b / 256), register_bytes-last k a, register_bytes-last k b)
+    (sym (sum_of-append (register_bytes k (a / 256)) (register_bytes k (b / 256)) (a % 256 ∷ []) (b % 256 ∷ []) (length-register_bytes k (a / 256) ∙ sym (length-register_bytes k (b / 256)))
+    ∙ ap (λ xs. sum_of (register_bytes k (a / 256)) (register_bytes k (b / 256)) ++ xs) (sum_of-one (a % 256) (b % 256))))
 
 -- the lowest k bytes don't depend on the others
-pub bytes_of-rest : (k n : ℕ) → bytes_of k (n % 2 ^ (8 * k)) ≡ bytes_of k n
-bytes_of-rest zero n = bytes_of-none (n % 2 ^ (8 * 0)) ∙ sym (bytes_of-none n)
-bytes_of-rest (suc k) n =
+pub register_bytes-rest : (k n : ℕ) → register_bytes k (n % 2 ^ (8 * k)) ≡ register_bytes k n
+register_bytes-rest zero n = register_bytes-none (n % 2 ^ (8 * 0)) ∙ sym (register_bytes-none n)
+register_bytes-rest (suc k) n =
     let more : 8 * suc k ≡ 8 * k + 8 = omega arith in
     let split : n % 2 ^ (8 * suc k) ≡ (n / 256 % 2 ^ (8 * k)) * 256 + n % 256 = ap (λ m. n % 2 ^ m) more ∙ mod-pow-add n (8 * k) 8 in
     let upper : n % 2 ^ (8 * suc k) / 256 ≡ n / 256 % 2 ^ (8 * k) = omega arith in
     let lowest : n % 2 ^ (8 * suc k) % 256 ≡ n % 256 = omega arith in
-    bytes_of-last k (n % 2 ^ (8 * suc k)) ∙ rw (upper, lowest, bytes_of-rest k (n / 256)) (sym (bytes_of-last k n))
+    register_bytes-last k (n % 2 ^ (8 * suc k)) ∙ rw (upper, lowest, register_bytes-rest k (n / 256)) (sym (register_bytes-last k n))
 
 -- ---- sums and multiples
 
@@ -100,7 +100,7 @@ sum_of-zeros_both (suc n) = rw (plus-self 0, sum_of-zeros_both n) refl
 pub Holds-plus : (x y : ℕ) (a b : List ℕ) → length a ≡ length b → Holds x a → Holds y b → Holds (plus x y) (sum_of a b)
 Holds-plus x y a b same in_x in_y =
     let long : length (sum_of a b) ≡ length a = length-sum_of a b same in
-    bytes_of-plus 16 x y
+    register_bytes-plus 16 x y
     ∙ rw (in_x, in_y, long, ← same)
     (sum_of-append a b (replicate (16 - length a) 0) (replicate (16 - length a) 0) same ∙ ap (λ xs. sum_of a b ++ xs) (sum_of-zeros_both (16 - length a)))
 
@@ -109,33 +109,33 @@ length-zeros : (n : ℕ) → length {A = ℕ} (replicate n 0) ≡ n
 length-zeros n = length-replicate n 0
 
 -- the sixteen bytes of 0 are zeros
-bytes_of-zero : bytes_of 16 0 ≡ replicate 16 0
-unfolding bytes_of
-bytes_of-zero = refl
+register_bytes-zero : register_bytes 16 0 ≡ replicate 16 0
+unfolding register_bytes
+register_bytes-zero = refl
 
 -- the register 0 holds zeros
 pub Holds-zeros : (n : ℕ) → n ≤ 16 → Holds 0 (replicate n 0)
 Holds-zeros n fits =
     let long = length-zeros n in
     let whole : n + (16 - n) ≡ 16 = omega arith in
-    rw long (bytes_of-zero ∙ sym (replicate-append-replicate n (16 - n) 0 ∙ ap (λ m. replicate m 0) whole))
+    rw long (register_bytes-zero ∙ sym (replicate-append-replicate n (16 - n) 0 ∙ ap (λ m. replicate m 0) whole))
 
 -- ---- a byte leaves the register
 
 -- a number shifted up by one byte loses its first byte and gets a zero behind
-bytes_of-left : (n : ℕ) → n < 2 ^ 128 → bytes_of 16 (n * 256 % 2 ^ 128) ≡ bytes_of 15 n ++ 0 ∷ []
-bytes_of-left n is_word =
+register_bytes-left : (n : ℕ) → n < 2 ^ 128 → register_bytes 16 (n * 256 % 2 ^ 128) ≡ register_bytes 15 n ++ 0 ∷ []
+register_bytes-left n is_word =
     let upper : n * 256 % 2 ^ 128 / 256 ≡ n % 2 ^ (8 * 15) = omega arith in
     let lowest : n * 256 % 2 ^ 128 % 256 ≡ 0 = omega arith in
-    bytes_of-last 15 (n * 256 % 2 ^ 128) ∙ rw (upper, lowest, bytes_of-rest 15 n) refl
+    register_bytes-last 15 (n * 256 % 2 ^ 128) ∙ rw (upper, lowest, register_bytes-rest 15 n) refl
 
 -- a register's upper byte is the first that it holds, and its lower fifteen are the others with zeros behind them
-Holds-parts : (n first : ℕ) (rest : List ℕ) → n < 2 ^ 128 → Holds n (first ∷ rest) → (n / 2 ^ 120 ≡ first) × (bytes_of 15 n ≡ rest ++ replicate (16 - length (first ∷ rest)) 0)
+Holds-parts : (n first : ℕ) (rest : List ℕ) → n < 2 ^ 128 → Holds n (first ∷ rest) → (n / 2 ^ 120 ≡ first) × (register_bytes 15 n ≡ rest ++ replicate (16 - length (first ∷ rest)) 0)
 Holds-parts n first rest is_word holds =
-    let parts : byte_at 15 n ∷ bytes_of 15 n ≡ first ∷ (rest ++ replicate (16 - length (first ∷ rest)) 0) = sym (bytes_of-first 15 n) ∙ holds in
+    let parts : byte_at 15 n ∷ register_bytes 15 n ≡ first ∷ (rest ++ replicate (16 - length (first ∷ rest)) 0) = sym (register_bytes-first 15 n) ∙ holds in
     let top : byte_at 15 n ≡ n / 2 ^ 120 = omega arith in
     let is_first : byte_at 15 n ≡ first = cc in
-    let is_rest : bytes_of 15 n ≡ rest ++ replicate (16 - length (first ∷ rest)) 0 = cc in
+    let is_rest : register_bytes 15 n ≡ rest ++ replicate (16 - length (first ∷ rest)) 0 = cc in
     (sym top ∙ is_first, is_rest)
 
 -- a register shifted up holds its word without the first byte, and a zero behind it
@@ -144,7 +144,7 @@ Holds-left n first rest is_word holds =
     let zeros = 16 - length (first ∷ rest) in
     let same : length (rest ++ 0 ∷ []) ≡ length (first ∷ rest) = length-append rest (0 ∷ []) ∙ omega arith in
     let turned : replicate zeros 0 ++ 0 ∷ [] ≡ 0 ∷ replicate zeros 0 = (let more : zeros + 1 ≡ suc zeros = omega arith in replicate_more zeros 0 ∙ ap (λ m. replicate m 0) more) in
-    bytes_of-left n is_word
+    register_bytes-left n is_word
     ∙ ap (λ xs. xs ++ 0 ∷ []) (Holds-parts n first rest is_word holds).1
     ∙ append_assoc rest (replicate zeros 0) (0 ∷ [])
     ∙ ap (λ xs. rest ++ xs) turned
@@ -167,13 +167,13 @@ Holds-next generator n byte entry first rest is_word long holds in_entry =
 
 -- the register holds the remainder of what was read
 pub record HoldsRemainder (generator read : List ℕ) (register : ℕ) : Type 0 where
-  pub remainder : IsRemainder generator read (take (length generator) (bytes_of 16 register))
-  pub zeros : Holds register (take (length generator) (bytes_of 16 register))
+  pub remainder : IsRemainder generator read (take (length generator) (register_bytes 16 register))
+  pub zeros : Holds register (take (length generator) (register_bytes 16 register))
 
 -- a register that holds a remainder's bytes holds the remainder
 HoldsRemainder-from : (generator read bytes : List ℕ) (n : ℕ) → IsRemainder generator read bytes → Holds n bytes → HoldsRemainder generator read n
 HoldsRemainder-from generator read bytes n is holds =
-    let upper : bytes ≡ take (length generator) (bytes_of 16 n) = sym (ap (take (length generator)) holds ∙ take_at bytes (replicate (16 - length bytes) 0) (length generator) is.size) in
+    let upper : bytes ≡ take (length generator) (register_bytes 16 n) = sym (ap (take (length generator)) holds ∙ take_at bytes (replicate (16 - length bytes) 0) (length generator) is.size) in
     record {
       remainder = subst (λ xs. IsRemainder generator read xs) upper is;
       zeros = subst (λ xs. Holds n xs) upper holds;
@@ -212,29 +212,29 @@ pub HoldsRemainder-next : (generator read table : List ℕ) (n byte : ℕ)
     → HoldsRemainder generator (read ++ byte ∷ []) (after_byte table n byte)
 unfolding after_byte
 HoldsRemainder-next generator read table n byte is_word is_byte some_degree has before =
-    next_by_list generator read (take (length generator) (bytes_of 16 n)) table n byte is_word is_byte some_degree has before.remainder before.zeros
+    next_by_list generator read (take (length generator) (register_bytes 16 n)) table n byte is_word is_byte some_degree has before.remainder before.zeros
 
 -- the bytes that are written are the register's first
-pub written_is : (n size : ℕ) (bytes written : List ℕ) → bytes ≡ to_be_bytes w128 n → written ≡ take size bytes → written ≡ take size (bytes_of 16 n)
-unfolding bytes_of
+pub written_is : (n size : ℕ) (bytes written : List ℕ) → bytes ≡ to_be_bytes w128 n → written ≡ take size bytes → written ≡ take size (register_bytes 16 n)
+unfolding register_bytes
 written_is n size bytes written are is = is ∙ ap (take size) are
 
 -- ---- steps of sums
 
 -- the number is known by its bytes
-bytes_of-same : (k a b : ℕ) → a < 2 ^ (8 * k) → b < 2 ^ (8 * k) → bytes_of k a ≡ bytes_of k b → a ≡ b
-bytes_of-same zero a b below_a below_b same = omega (arith, below_a, below_b)
-bytes_of-same (suc k) a b below_a below_b same =
+register_bytes-same : (k a b : ℕ) → a < 2 ^ (8 * k) → b < 2 ^ (8 * k) → register_bytes k a ≡ register_bytes k b → a ≡ b
+register_bytes-same zero a b below_a below_b same = omega (arith, below_a, below_b)
+register_bytes-same (suc k) a b below_a below_b same =
     let more : 8 * suc k ≡ 8 * k + 8 = omega arith in
     let upper_a : a / 2 ^ 8 < 2 ^ (8 * k) = shr_below a (8 * k) 8 (rw (← more) below_a) in
     let upper_b : b / 2 ^ 8 < 2 ^ (8 * k) = shr_below b (8 * k) 8 (rw (← more) below_b) in
-    let both : bytes_of k (a / 256) ++ a % 256 ∷ [] ≡ bytes_of k (b / 256) ++ b % 256 ∷ [] = sym (bytes_of-last k a) ∙ same ∙ bytes_of-last k b in
-    let fronts : bytes_of k (a / 256) ≡ bytes_of k (b / 256) =
-    sym (take_at (bytes_of k (a / 256)) (a % 256 ∷ []) k (length-bytes_of k (a / 256)))
-    ∙ ap (take k) both ∙ take_at (bytes_of k (b / 256)) (b % 256 ∷ []) k (length-bytes_of k (b / 256)) in
-    let ends : a % 256 ∷ [] ≡ b % 256 ∷ [] = append_cancel_left (bytes_of k (a / 256)) (a % 256 ∷ []) (b % 256 ∷ []) (both ∙ ap (λ xs. xs ++ b % 256 ∷ []) (sym fronts)) in
+    let both : register_bytes k (a / 256) ++ a % 256 ∷ [] ≡ register_bytes k (b / 256) ++ b % 256 ∷ [] = sym (register_bytes-last k a) ∙ same ∙ register_bytes-last k b in
+    let fronts : register_bytes k (a / 256) ≡ register_bytes k (b / 256) =
+    sym (take_at (register_bytes k (a / 256)) (a % 256 ∷ []) k (length-register_bytes k (a / 256)))
+    ∙ ap (take k) both ∙ take_at (register_bytes k (b / 256)) (b % 256 ∷ []) k (length-register_bytes k (b / 256)) in
+    let ends : a % 256 ∷ [] ≡ b % 256 ∷ [] = append_cancel_left (register_bytes k (a / 256)) (a % 256 ∷ []) (b % 256 ∷ []) (both ∙ ap (λ xs. xs ++ b % 256 ∷ []) (sym fronts)) in
     let lowest : a % 256 ≡ b % 256 = cc in
-    let upper : a / 256 ≡ b / 256 = bytes_of-same k (a / 256) (b / 256) upper_a upper_b fronts in
+    let upper : a / 256 ≡ b / 256 = register_bytes-same k (a / 256) (b / 256) upper_a upper_b fronts in
     omega arith
 
 -- the entry of a sum is the sum of the entries
@@ -248,7 +248,7 @@ entry-plus generator table a b byte_a byte_b words has =
     let in_sum : Holds (get_or table (plus a b) 0) (sum_of (scaled a generator) (scaled b generator)) = rw (scaled-plus a b generator) at (has (plus a b) (plus-byte a b byte_a byte_b)) in
     let same : length (scaled a generator) ≡ length (scaled b generator) = length-scaled a generator ∙ sym (length-scaled b generator) in
     let by_parts = Holds-plus (get_or table a 0) (get_or table b 0) (scaled a generator) (scaled b generator) same (has a byte_a) (has b byte_b) in
-    bytes_of-same 16 (get_or table (plus a b) 0) (plus (get_or table a 0) (get_or table b 0)) (words (plus a b)) (xor_lt 128 (get_or table a 0) (get_or table b 0) (words a) (words b)) (in_sum ∙ sym by_parts)
+    register_bytes-same 16 (get_or table (plus a b) 0) (plus (get_or table a 0) (get_or table b 0)) (words (plus a b)) (xor_lt 128 (get_or table a 0) (get_or table b 0) (words a) (words b)) (in_sum ∙ sym by_parts)
 
 -- a shift of a sum is the sum of the shifts
 left-plus : (a b : ℕ) → plus a b * 2 ^ 8 % 2 ^ 128 ≡ plus (a * 2 ^ 8 % 2 ^ 128) (b * 2 ^ 8 % 2 ^ 128)

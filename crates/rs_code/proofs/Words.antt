@@ -10,7 +10,7 @@ use Rattle.gf_field.specs.Field.{plus}
 use Rattle.gf_field.specs.Words.{IsByte}
 use Rattle.gf_field.proofs.FieldLaws.{plus-byte, plus-assoc}
 use Rattle.rs_code.specs.Inner.Polynomials.{IsRemainder}
-use Rattle.rs_code.specs.Inner.Registers.{bytes_of, HasMultiples, AreTables, after_byte, after_bytes}
+use Rattle.rs_code.specs.Inner.Registers.{register_bytes, HasMultiples, AreTables, after_byte, after_bytes}
 use Rattle.rs_code.proofs.Registers.{HoldsRemainder, after_byte-sum, after_byte-word, HoldsRemainder-next, HoldsRemainder-start}
 use Rattle.rs_code.proofs.Ring.{ring}
 
@@ -247,7 +247,7 @@ pub written_remainder : (generator message parity others : List ℕ) (tables wor
     → words ≡ first_chunks 4 (length message / 4) message → others ≡ drop (length message / 4 * 4) message
     → after_bytes (get_or tables 0 []) middle (others ++ []) ≡ after_bytes (get_or tables 0 []) 0 (concat words ++ (others ++ []))
     → after_bytes (get_or tables 0 []) register [] ≡ after_bytes (get_or tables 0 []) middle (others ++ [])
-    → parity ≡ take size (bytes_of 16 register) → IsRemainder generator message parity
+    → parity ≡ take size (register_bytes 16 register) → IsRemainder generator message parity
 written_remainder generator message parity others tables words middle register size some fits long are bytes are_words are_others front back written =
     let table = get_or tables 0 [] in
     let read : register ≡ after_bytes table 0 message = message_read table message others words middle register are_words are_others front back in

@@ -5,7 +5,7 @@ ghost use Rattle.std.specs.Prelude.{◌≡◌, ℕ, ◌<◌, ◌≤◌, List, []
 ghost use Rattle.std.specs.List.{concat};
 ghost use Rattle.gf_field.specs.Words.{IsByte};
 ghost use Rattle.rs_code.specs.Inner.Polynomials.{IsRemainder};
-ghost use Rattle.rs_code.specs.Inner.Registers.{AreTables, after_bytes, bytes_of};
+ghost use Rattle.rs_code.specs.Inner.Registers.{AreTables, after_bytes, register_bytes};
 
 /// Sets `parity` to the remainder of `message` by the generator whose tables these are.
 /// That the message is bytes is told too, since a word of constant length doesn't tell it.
@@ -27,7 +27,7 @@ pub fn divide(tables: &[[u128; 256]; 4], message: &[u8], parity: &mut [u8])
 #[inline]
 fn put_register(register: u128, parity: &mut [u8])
     requires { length parity.old ≤ 16 }
-    ensures { parity.new ≡ take (length parity.old) (bytes_of 16 register) }
+    ensures { parity.new ≡ take (length parity.old) (register_bytes 16 register) }
 {
     let size = parity.len();
     parity.copy_from_slice(&register.to_be_bytes()[..size]);

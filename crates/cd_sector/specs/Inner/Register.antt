@@ -11,6 +11,6 @@ after_steps zero register = register
 after_steps (suc n) register = after_steps n (stepped register)
 
 -- the register once these bytes are read too
-unfoldable pub after_bytes : List ℕ → ℕ → ℕ
-after_bytes [] register = register
-after_bytes (byte ∷ bytes) register = after_bytes bytes (after_steps 8 (bit_xor register byte))
+unfoldable pub after_reading : List ℕ → ℕ → ℕ
+after_reading [] register = register
+after_reading (byte ∷ bytes) register = after_reading bytes (after_steps 8 (bit_xor register byte))

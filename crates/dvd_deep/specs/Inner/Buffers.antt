@@ -5,5 +5,5 @@ use Rattle.dvd_capture.specs.declared.parts.Received.{Received}
 use Rattle.dvd_deep.specs.Rounds.{State, state_in}
 
 -- the state that the buffers of rows and of marks hold
-abbrev pub state_of : Received → Marks → State
-state_of rows marks = state_in (received_rows rows) (marks_rows marks)
+abbrev pub buffered_state : Received → Marks → State
+buffered_state rows marks = state_in (received_rows rows) (marks_rows marks)

@@ -10,17 +10,17 @@ use Rattle.dvd_read.specs.Found.{block_found}
 use Rattle.dvd_read.specs.Parts.{answer_word}
 
 -- the words of columns
-abbrev pub words_of : List ColumnAnswer → List (List ℕ)
-words_of columns = map (λ (column : ColumnAnswer). column.bytes) columns
+abbrev pub words_of_columns : List ColumnAnswer → List (List ℕ)
+words_of_columns columns = map (λ (column : ColumnAnswer). column.bytes) columns
 
 -- n rows of the columns' words from row `top` on vanish at the powers of alpha
 abbrev pub AreRightFrom : List ColumnAnswer → ℕ → ℕ → Type 0
-AreRightFrom columns top n = (k : ℕ) → k < n → vanishes_at_all 10 (line (from_columns (words_of columns)) (top + k)) ≡ true
+AreRightFrom columns top n = (k : ℕ) → k < n → vanishes_at_all 10 (line (from_columns (words_of_columns columns)) (top + k)) ≡ true
 
 -- row i is the first of the 32 from row `top` on that doesn't
-abbrev pub IsFirstWrong : List ColumnAnswer → ℕ → ℕ → Type 0
-IsFirstWrong columns top i =
-    (top ≤ i) × (i < top + 32) × AreRightFrom columns top (i - top) × (vanishes_at_all 10 (line (from_columns (words_of columns)) i) ≡ false)
+abbrev pub IsFirstWrongRow : List ColumnAnswer → ℕ → ℕ → Type 0
+IsFirstWrongRow columns top i =
+    (top ≤ i) × (i < top + 32) × AreRightFrom columns top (i - top) × (vanishes_at_all 10 (line (from_columns (words_of_columns columns)) i) ≡ false)
 
 -- These are the columns and the rows' answers of a block, and the flag tells whether two passes fixed it: then the columns hold
 -- the block that was found.
@@ -28,4 +28,4 @@ pub record HoldAnswers (flag : Bool) (all : List ColumnAnswer) (answers : List A
   pub columns : length all ≡ 182
   pub rows : length answers ≡ 208
   pub fixed : flag ≡ is_none (two_pass_cause (map answer_word answers))
-  pub block : flag ≡ true → from_columns (words_of all) ≡ block_found (map answer_word answers)
+  pub block : flag ≡ true → from_columns (words_of_columns all) ≡ block_found (map answer_word answers)

@@ -1,23 +1,14 @@
 -- The command `cdmake`: a CD-ROM sector of Mode 1 (ECMA-130, 14) for each 2,048 bytes of user data.
-use Rattle.std.specs.Prelude.{◌≡◌, ◌≤◌, ℕ, ◌+◌, List, [], ◌∷◌, codes, None}
+use Rattle.std.specs.Prelude.{◌≤◌, ℕ, ◌+◌, codes, None}
 use Rattle.cd_sector.specs.Sector.{IsSector}
-use Rattle.dvd_loop.specs.Machine.{Step, Units, plain_units}
-use Rattle.dvd_loop.specs.Machine.Step.{Write}
-use Rattle.dvd_loop.specs.declared.ends.Turn.{Turn}
-use Rattle.dvd_loop.specs.declared.ends.Turn.TheVariants.{Good}
+use Rattle.dvd_loop.specs.Machine.{Units}
+use Rattle.dvd_top.specs.Commands.Making.{sectors_made}
 use Rattle.dvd_top.specs.Meaning.{Meaning}
 use Rattle.dvd_words.specs.declared.settings.Settings.{Settings}
 
--- the sector of an address and these user data is written
-pub record IsMade (address : ℕ) (user : List ℕ) (steps : List Step) (turn : Turn) : Type 0 where
-  pub sector : List ℕ
-  pub is_sector : IsSector address user sector
-  pub writes : steps ≡ Write sector ∷ []
-  pub good : turn ≡ Good
-
--- sector k has 2,048 bytes of the input as its user data, and the address first + k
+-- the CD-ROM sector of its address is made of each
 abbrev pub cdmake_units : ℕ → ℕ → Units
-cdmake_units first sectors = plain_units sectors (λ k. 2048) (λ k. IsMade (first + k))
+cdmake_units = sectors_made IsSector
 
 -- what holds of `cdmake` and `cdread` by their words: each of their sectors has an address
 abbrev pub HasAddresses : Settings → Type 0

@@ -1,6 +1,6 @@
 -- The command `cdread`: the user data of CD-ROM sectors of Mode 1 (ECMA-130, 14) that were read, each repaired if it can be.
 use Rattle.std.specs.Prelude.{◌≡◌, ◌⊎◌, ℕ, ◌+◌, List, [], ◌∷◌, codes, take, drop, replicate, None}
-use Rattle.cd_sector.specs.Causes.{IsCause, IsFaultless}
+use Rattle.cd_sector.specs.Causes.{IsCause, IsRightSector}
 use Rattle.cd_sector.specs.Repair.{repaired}
 use Rattle.cd_sector.specs.declared.checking.CdCause.{CdCause}
 use Rattle.dvd_loop.specs.Machine.{Step, Units, plain_units}
@@ -16,7 +16,7 @@ user_data sector = take 2048 (drop 16 sector)
 
 -- Nothing is wrong with what the sector is repaired to: its user data are written.
 pub record IsSectorGiven (address : ℕ) (read : List ℕ) (steps : List Step) (turn : Turn) : Type 0 where
-  pub faultless : IsFaultless (repaired read) address
+  pub faultless : IsRightSector (repaired read) address
   pub writes : steps ≡ Write (user_data (repaired read)) ∷ []
   pub good : turn ≡ Good
 

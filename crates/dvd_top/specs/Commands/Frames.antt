@@ -1,22 +1,21 @@
 -- The command `frames`: a scrambled data frame for each sector.
-use Rattle.std.specs.Prelude.{◌≡◌, ◌≤◌, ℕ, ◌+◌, ◌^◌, false, List, [], ◌∷◌, codes, replicate, None}
+use Rattle.std.specs.Prelude.{◌≡◌, ◌≤◌, ℕ, ◌+◌, ◌^◌, false, List, codes, replicate, None}
 use Rattle.dvd_frame.specs.Id.{id_word}
 use Rattle.dvd_frame.specs.Frame.{data_frame}
 use Rattle.dvd_frame.specs.declared.id.Area.TheVariants.{DataZone}
 use Rattle.dvd_frame.specs.declared.scrambling.Rule.TheVariants.{Whole}
-use Rattle.dvd_loop.specs.Machine.{Units, plain_units}
-use Rattle.dvd_loop.specs.Machine.Step.{Write}
-use Rattle.dvd_loop.specs.declared.ends.Turn.TheVariants.{Good}
+use Rattle.dvd_loop.specs.Machine.{Units}
+use Rattle.dvd_top.specs.Commands.Making.{sectors_made}
 use Rattle.dvd_top.specs.Meaning.{Meaning}
 use Rattle.dvd_words.specs.declared.settings.Settings.{Settings}
 
 -- the frame of a sector in the Data Zone of a disk with one layer, with six bytes 00 for CPR_MAI
-abbrev pub sector_frame : ℕ → List ℕ → List ℕ
-sector_frame number sector = data_frame (id_word DataZone 0 false number) (replicate 6 0) Whole sector
+abbrev pub IsSectorFrame : ℕ → List ℕ → List ℕ → Type 0
+IsSectorFrame number sector frame = frame ≡ data_frame (id_word DataZone 0 false number) (replicate 6 0) Whole sector
 
--- sector k has 2,048 bytes of the input and the number first + k; its frame is written
+-- the frame of its number is made of each
 abbrev pub frames_units : ℕ → ℕ → Units
-frames_units first sectors = plain_units sectors (λ k. 2048) (λ k sector steps turn. (steps ≡ Write (sector_frame (first + k) sector) ∷ []) × (turn ≡ Good))
+frames_units = sectors_made IsSectorFrame
 
 -- the meaning of `frames`: its units are sectors, and it has no layout
 abbrev pub frames_meaning : Meaning

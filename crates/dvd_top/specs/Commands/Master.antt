@@ -28,8 +28,8 @@ abbrev pub image_bytes : Layout → BlockPlan → ℕ
 image_bytes layout entry = 2048 * image_sectors layout entry.content
 
 -- its image bytes, filled with zeros to sixteen sectors
-abbrev pub filled : List ℕ → List ℕ
-filled own = own ++ replicate (32768 - length own) 0
+abbrev pub filled_block : List ℕ → List ℕ
+filled_block own = own ++ replicate (32768 - length own) 0
 
 -- Main Data of frame f of a block, of which these are the sixteen sectors
 abbrev pub main_for : Content → Layout → BlockPlan → List ℕ → ℕ → List ℕ
@@ -60,7 +60,7 @@ pub record IsMastered (layout : Layout) (zones : Zones) (cpr : List ℕ) (k : �
   pub entry : BlockPlan
   pub stands : slice_get (plan_of layout zones) k ≡ Some entry
   pub block : List (List ℕ)
-  pub is_block : IsBlockOf (frames_of layout entry cpr (filled own)) block
+  pub is_block : IsBlockOf (frames_of layout entry cpr (filled_block own)) block
   pub writes : steps ≡ Write (recording block) ∷ []
   pub good : turn ≡ Good
 

@@ -3,7 +3,7 @@ ghost use Rattle.std.specs.Thread.{IsSync};
 ghost use Rattle.std.specs.Prelude.{◌≡◌, ◌⊎◌, ◌+◌, ◌-◌, ◌*◌, ◌<◌, ◌≤◌, ◌^◌, ℕ, length, None, replicate, false, true, IsErr};
 ghost use Rattle.std.specs.Str.{bytes_eq};
 ghost use Rattle.dvd_block.specs.Buffers.{block_rows, piece_bytes};
-ghost use Rattle.dvd_block.specs.Product.{IsBlockOf, line};
+ghost use Rattle.dvd_block.specs.Product.{IsBlockOf, IsParityAdded, line};
 ghost use Rattle.dvd_capture.specs.Rule.{HasBlock};
 ghost use Rattle.dvd_capture.specs.Works.{marks_of_work, rows_of, sectors_of, stage_of};
 ghost use Rattle.dvd_exercise.specs.Damage.{IsHurt, hurt_state};
@@ -13,12 +13,13 @@ ghost use Rattle.dvd_layout.specs.Plan.{IsEntry};
 ghost use Rattle.dvd_layout.specs.declared.layout.Shape.TheVariants.{Single};
 ghost use Rattle.dvd_loop.specs.Machine.{IsOutcome};
 ghost use Rattle.dvd_loop.specs.Streams.{streams, HasEnded, no_stream};
+ghost use Rattle.dvd_read.specs.Calls.{IsBlockRead};
 ghost use Rattle.dvd_read.specs.Reading.{block_cause, IsReadAs};
 ghost use Rattle.dvd_top.specs.Commands.Exercise.{IsLeft, drawn_sector, drawn_sectors, exercise_line, exercise_units, no_marks, state_at};
 ghost use Rattle.dvd_top.specs.Commands.Master.{frames_of};
 ghost use Rattle.dvd_top.specs.Inner.Exercising.{CountsOne, IsBehind, IsDiskOf, are_sectors};
 ghost use Rattle.dvd_top.specs.Inner.Performing.{IsPerformedByWords};
-ghost use Rattle.dvd_top.specs.Inner.Workers.{IsAdder, IsBlockRead, IsParityAdded, IsReader};
+ghost use Rattle.dvd_top.specs.Inner.Workers.{IsAdder, IsReader};
 
 use crate::commands::master::fill_block;
 use crate::commands::workers::read_by;
@@ -199,7 +200,7 @@ fn follow_trials<R: Threads + Sync, G: Gate, S: Source, K: Sink, E: Sink>(
     let workers = settings.workers;
     let add = |block: &mut Block|
         requires { IsSync R.row × IsSync G.row × (1 ≤ workers) × (workers ≤ 16) }
-        ensures { IsParityAdded block.entry.now block.exit.now }
+        ensures { IsParityAdded (block_rows block.entry.now) (block_rows block.exit.now) }
     { add_parity_par(rt, workers, gate, block) };
     let read = |work: &mut Work, plan: &BlockPlan| -> Result<Fixed, Cause>
         requires { IsSync R.row

@@ -4,7 +4,7 @@ ghost use Rattle.std.specs.Prelude.{◌≡◌, ◌-◌, ◌*◌, ◌<◌, ◌≤
 ghost use Rattle.std.specs.Io.KnownBytes.{Consumes};
 ghost use Rattle.dvd_ports.specs.Seen.{Seen};
 ghost use Rattle.dvd_block.specs.Buffers.{block_rows, piece_bytes};
-ghost use Rattle.dvd_block.specs.Product.{IsBlockOf};
+ghost use Rattle.dvd_block.specs.Product.{IsBlockOf, IsParityAdded};
 ghost use Rattle.dvd_layout.specs.Place.{HasNumbers};
 ghost use Rattle.dvd_layout.specs.Plan.{IsEntry, plan_of};
 ghost use Rattle.dvd_layout.specs.declared.layout.Layout.{Layout as DiskLayout};
@@ -15,7 +15,7 @@ ghost use Rattle.dvd_loop.specs.Streams.{streams, HasEnded, no_stream};
 ghost use Rattle.dvd_loop.specs.Turns.{EndsShort, HaveCausesFor};
 ghost use Rattle.dvd_top.specs.Commands.Master.{cpr_in, frame_for, frames_of, image_bytes, main_for, master_units};
 ghost use Rattle.dvd_top.specs.Inner.Performing.{IsPerformedByWords};
-ghost use Rattle.dvd_top.specs.Inner.Workers.{IsAdder, IsParityAdded};
+ghost use Rattle.dvd_top.specs.Inner.Workers.{IsAdder};
 ghost use Rattle.dvd_words.specs.Settings.{IsLayoutOf};
 
 use crate::commands::workers::add_by;
@@ -130,7 +130,7 @@ fn follow_blocks<R: Threads + Sync, G: Gate, S: Source, K: Sink, E: Sink>(
     let workers = settings.workers;
     let add = |block: &mut Block|
         requires { IsSync R.row × IsSync G.row × (1 ≤ workers) × (workers ≤ 16) }
-        ensures { IsParityAdded block.entry.now block.exit.now }
+        ensures { IsParityAdded (block_rows block.entry.now) (block_rows block.exit.now) }
     { add_parity_par(rt, workers, gate, block) };
     let master = Master {
         layout: *layout,

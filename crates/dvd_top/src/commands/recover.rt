@@ -12,10 +12,11 @@ ghost use Rattle.dvd_layout.specs.declared.layout.Zones.{Zones as WhichZones};
 ghost use Rattle.dvd_loop.specs.Machine.{IsOutcome};
 ghost use Rattle.dvd_loop.specs.Streams.{streams, HasEnded};
 ghost use Rattle.dvd_loop.specs.Turns.{AreDone};
+ghost use Rattle.dvd_read.specs.Calls.{IsBlockRead};
 ghost use Rattle.dvd_top.specs.Captured.{IsCaptureEnd};
 ghost use Rattle.dvd_top.specs.Commands.Recover.{IsDone, recover_units};
 ghost use Rattle.dvd_top.specs.Inner.Performing.{IsPerformed};
-ghost use Rattle.dvd_top.specs.Inner.Workers.{IsBlockRead, IsReader};
+ghost use Rattle.dvd_top.specs.Inner.Workers.{IsReader};
 ghost use Rattle.dvd_words.specs.Settings.{IsLayoutOf};
 
 use crate::commands::captured::{fetch_block, refuse_block, write_sectors};

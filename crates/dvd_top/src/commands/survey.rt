@@ -15,10 +15,11 @@ ghost use Rattle.dvd_loop.specs.Turns.{AreDone, HaveCausesFor};
 ghost use Rattle.dvd_ports.specs.Seen.{Seen};
 ghost use Rattle.dvd_report.specs.Survey.{StandsFor, surveyed};
 ghost use Rattle.dvd_report.specs.declared.counts.Surveyed.{Surveyed};
+ghost use Rattle.dvd_read.specs.Calls.{IsBlockRead};
 ghost use Rattle.dvd_top.specs.Captured.{IsCaptureEnd};
 ghost use Rattle.dvd_top.specs.Commands.Survey.{found_in, survey_units, turn_by};
 ghost use Rattle.dvd_top.specs.Inner.Performing.{IsPerformed, IsLineDone};
-ghost use Rattle.dvd_top.specs.Inner.Workers.{IsBlockRead, IsReader};
+ghost use Rattle.dvd_top.specs.Inner.Workers.{IsReader};
 ghost use Rattle.dvd_words.specs.Settings.{IsLayoutOf};
 
 use crate::commands::captured::fetch_block;

@@ -5,12 +5,12 @@ use Rattle.gf_field.specs.Field.{plus}
 use Rattle.rs_code.specs.Inner.Polynomials.{scaled}
 
 -- the lowest k bytes of a number, the highest of them first
-unfoldable pub bytes_of : ℕ → ℕ → List ℕ
-bytes_of k number = bytes_high_first k number
+unfoldable pub register_bytes : ℕ → ℕ → List ℕ
+register_bytes k number = bytes_high_first k number
 
 -- the register's upper bytes are these, and the others are zeros
 abbrev pub Holds : ℕ → List ℕ → Type 0
-Holds register bytes = bytes_of 16 register ≡ bytes ++ replicate (16 - length bytes) 0
+Holds register bytes = register_bytes 16 register ≡ bytes ++ replicate (16 - length bytes) 0
 
 -- the table has the generator times each factor below n, at the factor's place
 abbrev pub HasMultiples : List ℕ → List ℕ → ℕ → Type 0

@@ -3,8 +3,8 @@ use Rattle.std.proofs.Common.{List, ℕ, ◌++◌, ap, ◌∙◌, All, arith}
 use Rattle.std.specs.Int.{to_le_bytes, w32}
 use Rattle.std.proofs.lemmas.List.Elements.{All-append, All-from_get_or}
 use Rattle.gf_field.specs.Words.{IsByte}
-use Rattle.cd_sector.specs.Inner.Register.{after_bytes}
-use Rattle.cd_sector.proofs.Division.{edc_read, after_bytes-append}
+use Rattle.cd_sector.specs.Inner.Register.{after_reading}
+use Rattle.cd_sector.proofs.Division.{edc_read, after_reading-append}
 use Rattle.cd_sector.proofs.edc.edc_of_parts.Goals as goal
 
 pub returns : goal.returns
@@ -14,5 +14,5 @@ returns c =
     let each : All IsByte (front ++ back) =
     All-append IsByte front back (All-from_get_or IsByte front 0 (λ i within. omega (arith, c.type_inv.front i))) (All-from_get_or IsByte back 0 (λ i within. omega (arith, c.type_inv.back i))) in
     c.to_le_bytes.ensures
-    ∙ ap (to_le_bytes w32) (c.with_bytes-2.ensures ∙ ap (after_bytes back) c.with_bytes.ensures ∙ after_bytes-append front back 0)
+    ∙ ap (to_le_bytes w32) (c.with_bytes-2.ensures ∙ ap (after_reading back) c.with_bytes.ensures ∙ after_reading-append front back 0)
     ∙ edc_read (front ++ back) each

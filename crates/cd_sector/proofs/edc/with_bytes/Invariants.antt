@@ -1,7 +1,7 @@
 -- What each turn of the loop in `with_bytes` keeps.
 use Rattle.std.proofs.Common.{◌≡◌, drop}
-use Rattle.cd_sector.specs.Inner.Register.{after_bytes}
+use Rattle.cd_sector.specs.Inner.Register.{after_reading}
 use Rattle.cd_sector.proofs.edc.with_bytes.Given as goal
 
 abbrev pub invariant-loop-byte : goal.invariant-loop-byte
-invariant-loop-byte l = after_bytes (drop l.byte-index l.bytes) l.next ≡ after_bytes l.bytes l.register
+invariant-loop-byte l = after_reading (drop l.byte-index l.bytes) l.next ≡ after_reading l.bytes l.register

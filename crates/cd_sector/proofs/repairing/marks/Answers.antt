@@ -1,6 +1,6 @@
 -- The proof of `marks` in src/repairing.rt.
 use Rattle.std.proofs.Common.{refl, arith}
-use Rattle.cd_sector.proofs.Places.{word_size-q, place-q}
+use Rattle.cd_sector.proofs.Places.{word_size-q, sector_place-q}
 use Rattle.cd_sector.proofs.NearWords.{marks_told, no_mark}
 use Rattle.cd_sector.proofs.repairing.marks.Goals as goal
 
@@ -8,7 +8,7 @@ pub place-requires-clause-byte : goal.place-requires-clause-byte
 place-requires-clause-byte c = omega (arith, word_size-q c.args.word c.requires.q_word)
 
 pub overflow_sub-marks : goal.overflow_sub-marks
-overflow_sub-marks c = omega (arith, c.place.ensures.value, place-q c.args.word c.loop-m.m c.requires.q_word (omega arith))
+overflow_sub-marks c = omega (arith, c.place.ensures.value, sector_place-q c.args.word c.loop-m.m c.requires.q_word (omega arith))
 
 pub returns : goal.returns
 returns c = λ read lost_are.

@@ -1,6 +1,6 @@
 -- The proof of `repair` in src/repairing.rt.
 use Rattle.std.proofs.Common.{◌≡◌, List, ℕ, ◌++◌, drop, subst}
-use Rattle.cd_sector.specs.Causes.{IsCause, IsFaultless}
+use Rattle.cd_sector.specs.Causes.{IsCause, IsRightSector}
 use Rattle.cd_sector.specs.Repair.{repaired}
 use Rattle.cd_sector.specs.declared.checking.CdCause.{CdCause}
 use Rattle.cd_sector.proofs.NearWords.{repaired_is, refused}
@@ -20,4 +20,4 @@ returns-clause-repaired c =
     c.copy_from_slice.ensures.after c.repair_p_words-lost.ensures.words c.repair_p_words-lost.ensures.lost c.repair_q_words.ensures.words
 
 pub returns-clause-faultless : goal.returns-clause-faultless
-returns-clause-faultless c = subst (λ (s : List ℕ). IsFaultless s c.args.address) (returns-clause-repaired c) c.in_ok-check.ensures.right
+returns-clause-faultless c = subst (λ (s : List ℕ). IsRightSector s c.args.address) (returns-clause-repaired c) c.in_ok-check.ensures.right

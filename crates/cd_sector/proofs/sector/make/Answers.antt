@@ -1,7 +1,7 @@
 -- The proof of `make` in src/sector.rt.
 use Rattle.std.proofs.Common.{ℕ, ◌<◌, List, ◌∙◌, arith}
-use Rattle.cd_sector.specs.Words.{place, IsRight}
-use Rattle.cd_sector.proofs.Places.{word_size-p, place-p, kept_right}
+use Rattle.cd_sector.specs.Words.{sector_place, IsRight}
+use Rattle.cd_sector.proofs.Places.{word_size-p, sector_place-p, kept_right}
 use Rattle.cd_sector.proofs.Assembly.{same_front, all_words}
 use Rattle.cd_sector.proofs.sector.make.Goals as goal
 
@@ -12,7 +12,7 @@ returns c =
     let whole : List ℕ = c.set_q_words.new.sector in
     let p_right : (word : ℕ) → word < 86 → IsRight whole word = λ word below.
     kept_right p_set whole word
-    (λ m inside. c.set_q_words.ensures.kept (place word m) (omega (arith, place-p word m below, word_size-p word below)))
+    (λ m inside. c.set_q_words.ensures.kept (sector_place word m) (omega (arith, sector_place-p word m below, word_size-p word below)))
     (c.set_p_words.ensures.right word below) in
     record {
       size = c.set_q_words.ensures.size;

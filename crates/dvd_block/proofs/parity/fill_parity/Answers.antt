@@ -3,7 +3,7 @@ use Rattle.std.proofs.Common.{◌≡◌, ℕ, ◌<◌, List, [], ◌++◌, take,
 use Rattle.std.proofs.lemmas.List.{get_or_append_left}
 use Rattle.gf_field.specs.Words.{IsEncoded}
 use Rattle.dvd_block.specs.Product.{line}
-use Rattle.dvd_block.proofs.Filling.{IsFilled, filled_below, cells_of, message_kept, is_product}
+use Rattle.dvd_block.proofs.Filling.{IsFilled, filled_below, cells_of, parity_added}
 use Rattle.dvd_block.proofs.parity.fill_parity.Goals as goal
 
 module _ (c : goal.After-rows-2-1) where
@@ -31,8 +31,5 @@ module _ (c : goal.After-rows-2-1) where
       c.outer_parity.ensures.encoded
       c.outer_parity.ensures.sizes
 
-pub returns-clause-product : goal.returns-clause-product
-returns-clause-product c = is_product (old c) (upper c) (cells_of (lower c)) (upper c ++ lower c) (filled c)
-
-pub returns-clause-kept : goal.returns-clause-kept
-returns-clause-kept c = message_kept (old c) (upper c) (cells_of (lower c)) (upper c ++ lower c) (filled c)
+pub returns-clause-added : goal.returns-clause-added
+returns-clause-added c = parity_added (old c) (upper c) (cells_of (lower c)) (upper c ++ lower c) (filled c)

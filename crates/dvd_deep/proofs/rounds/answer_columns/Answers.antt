@@ -3,7 +3,7 @@ use Rattle.std.proofs.Common.{◌≡◌, ◌∙◌, ℕ, List, Bool, length, is_
 use Rattle.std.specs.List.{list_all, range_with_len}
 use Rattle.dvd_capture.specs.Parts.{marks_rows, received_rows}
 use Rattle.dvd_capture.proofs.WorkParts.{marks-height, marks-width, rows-height}
-use Rattle.dvd_deep.specs.Inner.Buffers.{state_of}
+use Rattle.dvd_deep.specs.Inner.Buffers.{buffered_state}
 use Rattle.dvd_deep.specs.Rounds.{State, are_answered, column_near}
 use Rattle.dvd_deep.proofs.ColumnStep.{AreStepped, columns-all, columns-next, list_all-next, next-near}
 use Rattle.dvd_deep.proofs.rounds.answer_columns.Goals as goal
@@ -11,19 +11,19 @@ use Rattle.dvd_deep.proofs.rounds.answer_columns.Goals as goal
 pub returns-clause-state : goal.returns-clause-state
 returns-clause-state c =
     let last : c.loop-j.j ≡ 182 = omega arith in
-    columns-all c.args.failed.now (state_of c.args.rows.now c.args.marks.now) (received_rows c.loop-j.rows) (marks_rows c.loop-j.marks)
+    columns-all c.args.failed.now (buffered_state c.args.rows.now c.args.marks.now) (received_rows c.loop-j.rows) (marks_rows c.loop-j.marks)
     (rows-height c.loop-j.rows) (marks-height c.loop-j.marks) (marks-width c.loop-j.marks)
-    (subst (AreStepped c.args.failed.now (state_of c.args.rows.now c.args.marks.now) (received_rows c.loop-j.rows) (marks_rows c.loop-j.marks)) last c.loop-j.invariant.part)
+    (subst (AreStepped c.args.failed.now (buffered_state c.args.rows.now c.args.marks.now) (received_rows c.loop-j.rows) (marks_rows c.loop-j.marks)) last c.loop-j.invariant.part)
 
 pub returns-clause-answered : goal.returns-clause-answered
 unfolding are_answered
 returns-clause-answered c =
     let last : c.loop-j.j ≡ 182 = omega arith in
-    c.loop-j.invariant.answered ∙ ap (λ (n : ℕ). list_all (λ j. is_some (column_near c.args.failed.now (state_of c.args.rows.now c.args.marks.now) j)) (range_with_len 0 n)) last
+    c.loop-j.invariant.answered ∙ ap (λ (n : ℕ). list_all (λ j. is_some (column_near c.args.failed.now (buffered_state c.args.rows.now c.args.marks.now) j)) (range_with_len 0 n)) last
 
 pub loop-j-preserved : goal.loop-j-preserved
 loop-j-preserved c =
-    let state : State = state_of c.args.rows.now c.args.marks.now in
+    let state : State = buffered_state c.args.rows.now c.args.marks.now in
     let rows : List (List ℕ) = received_rows c.loop-j.rows in
     let marks : List (List Bool) = marks_rows c.loop-j.marks in
     let height : length (received_rows c.args.rows.now) ≡ 208 = rows-height c.args.rows.now in

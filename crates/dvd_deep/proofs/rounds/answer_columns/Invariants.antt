@@ -2,13 +2,13 @@
 use Rattle.std.proofs.Common.{◌≡◌, is_some}
 use Rattle.std.specs.List.{list_all, range_with_len}
 use Rattle.dvd_capture.specs.Parts.{marks_rows, received_rows}
-use Rattle.dvd_deep.specs.Inner.Buffers.{state_of}
+use Rattle.dvd_deep.specs.Inner.Buffers.{buffered_state}
 use Rattle.dvd_deep.specs.Rounds.{column_near}
 use Rattle.dvd_deep.proofs.ColumnStep.{AreStepped}
 use Rattle.dvd_deep.proofs.rounds.answer_columns.Given as goal
 
 abbrev pub invariant-loop-j : goal.invariant-loop-j
 invariant-loop-j l = record {
-  part : AreStepped l.failed (state_of l.fn.rows l.fn.marks) (received_rows l.rows) (marks_rows l.marks) l.j;
-  answered : l.all ≡ list_all (λ j. is_some (column_near l.failed (state_of l.fn.rows l.fn.marks) j)) (range_with_len 0 l.j);
+  part : AreStepped l.failed (buffered_state l.fn.rows l.fn.marks) (received_rows l.rows) (marks_rows l.marks) l.j;
+  answered : l.all ≡ list_all (λ j. is_some (column_near l.failed (buffered_state l.fn.rows l.fn.marks) j)) (range_with_len 0 l.j);
 }

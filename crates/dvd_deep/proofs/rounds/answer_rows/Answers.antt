@@ -2,18 +2,18 @@
 use Rattle.std.proofs.Common.{◌≡◌, subst, arith}
 use Rattle.dvd_capture.specs.Parts.{marks_rows, received_rows}
 use Rattle.dvd_capture.proofs.WorkParts.{marks-height, rows-height}
-use Rattle.dvd_deep.specs.Inner.Buffers.{state_of}
+use Rattle.dvd_deep.specs.Inner.Buffers.{buffered_state}
 use Rattle.dvd_deep.specs.Rounds.{failed_marks, row_step}
 use Rattle.dvd_deep.proofs.RowStep.{IsStepped, stepped-all}
 use Rattle.dvd_deep.proofs.rounds.answer_rows.Goals as goal
 
 -- with all rows passed, state and flags are those of the row step
-both : (c : goal.After-loop-i) → (state_of c.loop-i.rows c.loop-i.marks ≡ row_step (state_of c.args.rows.now c.args.marks.now)) × (c.loop-i.failed ≡ failed_marks (state_of c.args.rows.now c.args.marks.now))
+both : (c : goal.After-loop-i) → (buffered_state c.loop-i.rows c.loop-i.marks ≡ row_step (buffered_state c.args.rows.now c.args.marks.now)) × (c.loop-i.failed ≡ failed_marks (buffered_state c.args.rows.now c.args.marks.now))
 both c =
     let last : c.loop-i.i ≡ 208 = omega arith in
-    stepped-all (state_of c.args.rows.now c.args.marks.now) (received_rows c.loop-i.rows) (marks_rows c.loop-i.marks) c.loop-i.failed
+    stepped-all (buffered_state c.args.rows.now c.args.marks.now) (received_rows c.loop-i.rows) (marks_rows c.loop-i.marks) c.loop-i.failed
     (rows-height c.loop-i.rows) (marks-height c.loop-i.marks) c.loop-i.invariant.size
-    (subst (IsStepped (state_of c.args.rows.now c.args.marks.now) (received_rows c.loop-i.rows) (marks_rows c.loop-i.marks) c.loop-i.failed) last c.loop-i.invariant.part)
+    (subst (IsStepped (buffered_state c.args.rows.now c.args.marks.now) (received_rows c.loop-i.rows) (marks_rows c.loop-i.marks) c.loop-i.failed) last c.loop-i.invariant.part)
 
 pub returns-clause-state : goal.returns-clause-state
 returns-clause-state c = (both c).0

@@ -4,7 +4,7 @@ use Rattle.dvd_block.specs.Product.{line, place}
 use Rattle.dvd_capture.specs.Works.{rows_of}
 use Rattle.dvd_capture.proofs.WorkParts.{rows-height}
 use Rattle.dvd_exercise.specs.Damage.{combined}
-use Rattle.dvd_exercise.specs.Generator.{byte_at, state_of, step}
+use Rattle.dvd_exercise.specs.Generator.{drawn_byte, state_of, step}
 use Rattle.dvd_exercise.proofs.Changed.{line_more, line_none, line_untouched, line_whole}
 use Rattle.dvd_exercise.proofs.Draws.{byte_more, state_more, state_none}
 use Rattle.dvd_exercise.proofs.Rows.{get_or-combined, length-combined}
@@ -13,7 +13,7 @@ use Rattle.dvd_exercise.proofs.damage.combine_row.Goals as goal
 
 pub loop-j-init : goal.loop-j-init
 loop-j-init c = record {
-  row = line_none 0 c.args.i (λ k. k) (λ k. bit_xor (place (rows_of c.args.work.now) c.args.i k) (byte_at (state_of c.args.rand.now) k)) (rows_of c.args.work.now);
+  row = line_none 0 c.args.i (λ k. k) (λ k. bit_xor (place (rows_of c.args.work.now) c.args.i k) (drawn_byte (state_of c.args.rand.now) k)) (rows_of c.args.work.now);
   width = λ more. absurd (omega arith);
   drawn = sym (state_none (state_of c.args.rand.now));
   marks = refl;
@@ -26,9 +26,9 @@ loop-j-preserved c =
     let y : ℕ = state_of c.args.rand.now in
     let j : ℕ = c.loop-j.j in
     let new = λ (t : ℕ) (below : t < j) (same : t ≡ j). let none : ⊥ = omega arith in none in
-    let byte : c.byte-byte.result ≡ byte_at y j = c.byte-byte.ensures.byte ∙ ap (λ (x : ℕ). step x / 2 ^ 56) c.loop-j.invariant.drawn ∙ byte_more y j in
-    let untouched = line_untouched 0 c.args.i j (λ k. k) (λ k. bit_xor (place rows c.args.i k) (byte_at y k)) rows (rows_of c.loop-j.work) new c.loop-j.invariant.row in record {
-      row = line_more 0 c.args.i j (λ k. k) (λ k. bit_xor (place rows c.args.i k) (byte_at y k)) rows (rows_of c.loop-j.work) (rows_of c.combine.new.work) _
+    let byte : c.byte-byte.result ≡ drawn_byte y j = c.byte-byte.ensures.byte ∙ ap (λ (x : ℕ). step x / 2 ^ 56) c.loop-j.invariant.drawn ∙ byte_more y j in
+    let untouched = line_untouched 0 c.args.i j (λ k. k) (λ k. bit_xor (place rows c.args.i k) (drawn_byte y k)) rows (rows_of c.loop-j.work) new c.loop-j.invariant.row in record {
+      row = line_more 0 c.args.i j (λ k. k) (λ k. bit_xor (place rows c.args.i k) (drawn_byte y k)) rows (rows_of c.loop-j.work) (rows_of c.combine.new.work) _
           (omega (arith, rows-height c.args.work.now.received, c.requires.row)) new c.loop-j.invariant.row c.combine.ensures.received (omega (arith, c.combine.ensures.width))
           (ap (λ (b : ℕ). bit_xor b c.byte-byte.result) untouched ∙ ap (bit_xor (place rows c.args.i j)) byte);
       width = λ more. c.combine.ensures.width;
@@ -42,5 +42,5 @@ returns-clause-received c =
     let row = line (rows_of c.args.work.now) c.args.i in
     let y : ℕ = state_of c.args.rand.now in
     let all : c.loop-j.j ≡ 182 = omega arith in
-    line_whole 0 c.args.i c.loop-j.j (λ k. bit_xor (slice_index row k) (byte_at y k)) (rows_of c.args.work.now) (rows_of c.loop-j.work) (combined y row) c.loop-j.invariant.row
+    line_whole 0 c.args.i c.loop-j.j (λ k. bit_xor (slice_index row k) (drawn_byte y k)) (rows_of c.args.work.now) (rows_of c.loop-j.work) (combined y row) c.loop-j.invariant.row
     (c.loop-j.invariant.width (omega arith) ∙ sym all) (length-combined y row ∙ sym all) (λ k below. get_or-combined y row k (omega arith))

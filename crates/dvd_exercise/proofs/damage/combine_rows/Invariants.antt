@@ -2,15 +2,15 @@
 use Rattle.std.proofs.Common.{◌≡◌, ◌*◌, []}
 use Rattle.dvd_block.specs.Product.{line}
 use Rattle.dvd_capture.specs.Works.{marks_of_work, rows_of}
-use Rattle.dvd_exercise.specs.Damage.{IsChanged, combined, row_of}
+use Rattle.dvd_exercise.specs.Damage.{IsChanged, combined, damaged_row}
 use Rattle.dvd_exercise.specs.Generator.{state_after, state_of}
 use Rattle.dvd_exercise.specs.Inner.Kept.{KeepsRest}
 use Rattle.dvd_exercise.proofs.damage.combine_rows.Given as goal
 
 abbrev pub invariant-loop-turn : goal.invariant-loop-turn
 invariant-loop-turn l = record {
-  rows : IsChanged [] l.turn (row_of l.plan.start)
-      (λ t. combined (state_after (state_of l.fn.rand) (182 * t)) (line (rows_of l.fn.work) (row_of l.plan.start t))) (rows_of l.fn.work) (rows_of l.work);
+  rows : IsChanged [] l.turn (damaged_row l.plan.start)
+      (λ t. combined (state_after (state_of l.fn.rand) (182 * t)) (line (rows_of l.fn.work) (damaged_row l.plan.start t))) (rows_of l.fn.work) (rows_of l.work);
   drawn : state_of l.rand ≡ state_after (state_of l.fn.rand) (182 * l.turn);
   marks : marks_of_work l.work ≡ marks_of_work l.fn.work;
   rest : KeepsRest l.fn.work l.work;

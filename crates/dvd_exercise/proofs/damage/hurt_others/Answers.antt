@@ -2,7 +2,7 @@
 use Rattle.std.proofs.Common.{◌≡◌, ◌∙◌, ℕ, ◌+◌, true, false, refl, sym, ap, subst}
 use Rattle.dvd_block.specs.Product.{line}
 use Rattle.dvd_capture.specs.Works.{marks_of_work, rows_of}
-use Rattle.dvd_exercise.specs.Damage.{HasErrors, error_count, is_hit}
+use Rattle.dvd_exercise.specs.Damage.{HasErrors, drawn_errors, is_hit}
 use Rattle.dvd_exercise.specs.Generator.{state_after, state_of}
 use Rattle.dvd_exercise.specs.Inner.Kept.{KeepsRest}
 use Rattle.dvd_exercise.proofs.Rows.{AreHurtBelow, hurt-errors, hurt-hit, hurt_none, state-errors, state-hit, state_first}
@@ -32,7 +32,7 @@ loop-row-preserved c =
             rows = subst (λ next. AreHurtBelow start n y rows next (row + 1)) (sym is)
                 (hurt-errors start n y rows (rows_of c.loop-row.work) row c.loop-row.invariant.rows (rows_of w.hurt_row.new.work) miss w.hurt_row.ensures.others
                 (subst (λ x. HasErrors x (line (rows_of c.loop-row.work) row) (line (rows_of w.hurt_row.new.work) row)) c.loop-row.invariant.drawn w.hurt_row.ensures.received));
-            drawn = ap state_of w.rand-is ∙ w.hurt_row.ensures.drawn ∙ ap (λ (x : ℕ). state_after x (2 + error_count x)) c.loop-row.invariant.drawn ∙ sym (state-errors start n y row miss);
+            drawn = ap state_of w.rand-is ∙ w.hurt_row.ensures.drawn ∙ ap (λ (x : ℕ). state_after x (2 + drawn_errors x)) c.loop-row.invariant.drawn ∙ sym (state-errors start n y row miss);
             marks = ap marks_of_work w.work-is ∙ w.hurt_row.ensures.marks ∙ c.loop-row.invariant.marks;
             rest = subst (KeepsRest c.args.work.now) (sym w.work-is)
                 (rest-then c.args.work.now c.loop-row.work w.hurt_row.new.work c.loop-row.invariant.rest w.hurt_row.ensures.rest);

@@ -3,8 +3,8 @@ use Rattle.std.proofs.Common.{◌≡◌, ◌∙◌, ℕ, ◌+◌, ◌*◌, ◌/�
 use Rattle.dvd_block.specs.Product.{line, place}
 use Rattle.dvd_capture.specs.Works.{rows_of}
 use Rattle.dvd_capture.proofs.WorkParts.{rows-height}
-use Rattle.dvd_exercise.specs.Damage.{IsChanged, error_byte, error_count, error_place}
-use Rattle.dvd_exercise.specs.Generator.{byte_at, state_after, state_of, step}
+use Rattle.dvd_exercise.specs.Damage.{IsChanged, error_byte, drawn_errors, error_place}
+use Rattle.dvd_exercise.specs.Generator.{drawn_byte, state_after, state_of, step}
 use Rattle.dvd_exercise.proofs.Changed.{line_more, line_none, line_untouched}
 use Rattle.dvd_exercise.proofs.Draws.{byte_more, state_more, two_words, state_one}
 use Rattle.dvd_exercise.proofs.Rows.{place-new}
@@ -12,7 +12,7 @@ use Rattle.dvd_exercise.proofs.Works.{rest-same, rest-then}
 use Rattle.dvd_exercise.proofs.damage.hurt_row.Goals as goal
 
 -- the first word says how many errors there are
-counted : (y word : ℕ) → word ≡ step y → word % 6 ≡ error_count y
+counted : (y word : ℕ) → word ≡ step y → word % 6 ≡ drawn_errors y
 counted y word is = ap (λ (w : ℕ). w % 6) (is ∙ state_one y)
 
 -- the second word of a row is the state after two steps
@@ -36,7 +36,7 @@ loop-u-preserved c =
     let i : ℕ = c.args.i in
     let below : u < 6 = omega arith in
     let here : (c.word-2.result % 182 + 31 * u) % 182 ≡ error_place y u = ap (λ (w : ℕ). (w % 182 + 31 * u) % 182) (second y _ _ c.word.ensures.state c.word-2.ensures.word) in
-    let byte : c.byte-byte.result ≡ byte_at y (2 + u) = c.byte-byte.ensures.byte ∙ ap (λ (x : ℕ). step x / 2 ^ 56) c.loop-u.invariant.drawn ∙ byte_more y (2 + u) in
+    let byte : c.byte-byte.result ≡ drawn_byte y (2 + u) = c.byte-byte.ensures.byte ∙ ap (λ (x : ℕ). step x / 2 ^ 56) c.loop-u.invariant.drawn ∙ byte_more y (2 + u) in
     let new = λ (t : ℕ) (before : t < u). place-new (state_after y 2 % 182) u t below before in
     let untouched = line_untouched 0 i u (error_place y) (λ u. bit_xor (place rows i (error_place y u)) (error_byte y u)) rows (rows_of c.loop-u.work) new c.loop-u.invariant.row in record {
       row = line_more 0 i u (error_place y) (λ u. bit_xor (place rows i (error_place y u)) (error_byte y u)) rows (rows_of c.loop-u.work) (rows_of c.combine.new.work)
@@ -63,5 +63,5 @@ returns-clause-received c =
 pub returns-clause-drawn : goal.returns-clause-drawn
 returns-clause-drawn c =
     let y : ℕ = state_of c.args.rand.now in
-    let all : c.loop-u.u ≡ error_count y = omega (arith, counted y c.word.result c.word.ensures.word) in
+    let all : c.loop-u.u ≡ drawn_errors y = omega (arith, counted y c.word.result c.word.ensures.word) in
     c.loop-u.invariant.drawn ∙ ap (λ (n : ℕ). state_after y (2 + n)) all

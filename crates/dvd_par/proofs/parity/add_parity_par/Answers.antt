@@ -1,7 +1,7 @@
 -- The proof of `add_parity_par` in src/parity.rt.
 use Rattle.std.proofs.Common.{ℕ, List, arith}
 use Rattle.dvd_block.specs.Buffers.{lines_rows, cells_all, block_rows}
-use Rattle.dvd_block.proofs.Filling.{IsFilled, message_kept, is_product}
+use Rattle.dvd_block.proofs.Filling.{IsFilled, parity_added}
 use Rattle.dvd_par.proofs.parity.add_parity_par.Given as given
 use Rattle.dvd_par.proofs.parity.add_parity_par.Goals as goal
 
@@ -29,8 +29,5 @@ module _ (g : given.Over) (c : goal.After-place_parity g) where
     sizes = c.place_parity.ensures.sizes;
   }
 
-pub returns-clause-product : goal.returns-clause-product
-returns-clause-product g c = is_product (old g c) (upper g c) (cells g c) (block g c) (filled g c)
-
-pub returns-clause-kept : goal.returns-clause-kept
-returns-clause-kept g c = message_kept (old g c) (upper g c) (cells g c) (block g c) (filled g c)
+pub returns : goal.returns
+returns g c = parity_added (old g c) (upper g c) (cells g c) (block g c) (filled g c)

@@ -6,7 +6,7 @@ use Rattle.rs_decode.specs.Nearest.{vanishes_at_all}
 use Rattle.rs_lanes.proofs.ColumnLemmas.{length-column}
 use Rattle.dvd_block.specs.Product.{column, line}
 use Rattle.dvd_capture.specs.TwoPass.{from_columns}
-use Rattle.dvd_read.specs.Inner.Found.{words_of}
+use Rattle.dvd_read.specs.Inner.Found.{words_of_columns}
 use Rattle.dvd_read.proofs.LaneValues.{others-fail, zeros-pass}
 use Rattle.dvd_read.proofs.columns.first_wrong_from.Goals as goal
 
@@ -41,6 +41,6 @@ loop-n-preserved c =
     let here = subst (λ (row : List ℕ). vanishes_at_all 10 row ≡ true) (c.turned_rows.ensures.rows n inside) passes in
     λ k below.
     elim (cases_eq k n) [
-      | inl last ↦ ap (λ m. vanishes_at_all 10 (line (from_columns (words_of c.args.columns.now)) (c.args.top + m))) last ∙ here
+      | inl last ↦ ap (λ m. vanishes_at_all 10 (line (from_columns (words_of_columns c.args.columns.now)) (c.args.top + m))) last ∙ here
       | inr not_last ↦ c.loop-n.invariant k (omega (arith, not_last, below))
     ]

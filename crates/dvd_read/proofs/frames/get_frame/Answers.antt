@@ -7,7 +7,7 @@ use Rattle.dvd_capture.specs.TwoPass.{from_columns}
 use Rattle.dvd_capture.specs.declared.parts.ColumnAnswer.{ColumnAnswer}
 use Rattle.dvd_capture.proofs.Columns.{from_columns-line, length-from_columns}
 use Rattle.dvd_capture.proofs.WorkParts.{rows-height}
-use Rattle.dvd_read.specs.Inner.Found.{words_of}
+use Rattle.dvd_read.specs.Inner.Found.{words_of_columns}
 use Rattle.dvd_read.proofs.Differences.{rows-same}
 use Rattle.dvd_read.proofs.FrameFaults.{frames-same}
 use Rattle.dvd_read.proofs.frames.get_frame.Goals as goal
@@ -15,7 +15,7 @@ use Rattle.dvd_read.proofs.frames.get_frame.Goals as goal
 pub returns-then-as_received : goal.returns-then-as_received
 returns-then-as_received c =
     let rows : List (List ℕ) = received_rows c.args.received.now in
-    let words : List (List ℕ) = words_of c.args.columns.now in
+    let words : List (List ℕ) = words_of_columns c.args.columns.now in
     let height : length rows ≡ 208 = rows-height c.args.received.now in
     c.copy_received.ensures.frame
     ∙ frames-same rows (from_columns words) c.args.f

@@ -6,7 +6,7 @@ use Rattle.dvd_capture.specs.Parts.{received_rows}
 use Rattle.dvd_capture.specs.TwoPass.{from_columns}
 use Rattle.dvd_capture.proofs.Columns.{length-from_columns}
 use Rattle.dvd_read.specs.Found.{block_differences}
-use Rattle.dvd_read.specs.Inner.Found.{words_of}
+use Rattle.dvd_read.specs.Inner.Found.{words_of_columns}
 use Rattle.dvd_read.proofs.Differences.{block_differences-none, block_differences-next}
 use Rattle.dvd_read.proofs.passes.count_differences.Goals as goal
 
@@ -16,12 +16,12 @@ loop-i-init c = record { counted = sym block_differences-none; few = omega arith
 pub loop-i-preserved : goal.loop-i-preserved
 loop-i-preserved c =
     let rows = received_rows c.args.received.now in
-    let block = from_columns (words_of c.args.columns.now) in
+    let block = from_columns (words_of_columns c.args.columns.now) in
     let i = c.loop-i.i in
     let size : length rows ≡ 208 = omega (arith, c.args.received.now.size, c.args.received.now.rows.ok.0) in
     record {
       counted = block_differences-next rows block i c.loop-i.count c.row_differences-count.result (omega arith)
-          (omega (arith, length-from_columns (words_of c.args.columns.now))) c.loop-i.invariant.counted
+          (omega (arith, length-from_columns (words_of_columns c.args.columns.now))) c.loop-i.invariant.counted
           (c.row_differences-count.ensures.count ∙ ap (λ row. distance row c.read_row.new.row) c.row.ensures
           ∙ ap (distance _) c.read_row.ensures);
       few = omega (arith, c.loop-i.invariant.few, c.row_differences-count.ensures.most);
@@ -30,8 +30,8 @@ loop-i-preserved c =
 pub returns : goal.returns
 returns c =
     let rows = received_rows c.args.received.now in
-    let block = from_columns (words_of c.args.columns.now) in
+    let block = from_columns (words_of_columns c.args.columns.now) in
     let size : length rows ≡ 208 = omega (arith, c.args.received.now.size, c.args.received.now.rows.ok.0) in
     c.loop-i.invariant.counted
     ∙ ap (λ l. block_differences l (take c.loop-i.i block)) (take_all c.loop-i.i rows (omega arith))
-    ∙ ap (block_differences rows) (take_all c.loop-i.i block (omega (arith, length-from_columns (words_of c.args.columns.now))))
+    ∙ ap (block_differences rows) (take_all c.loop-i.i block (omega (arith, length-from_columns (words_of_columns c.args.columns.now))))

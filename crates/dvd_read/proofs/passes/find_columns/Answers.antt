@@ -10,7 +10,7 @@ use Rattle.dvd_capture.specs.declared.parts.AnswerRow.{AnswerRow}
 use Rattle.dvd_capture.specs.declared.parts.ColumnAnswer.{ColumnAnswer}
 use Rattle.dvd_read.specs.Causes.{two_pass_cause}
 use Rattle.dvd_read.specs.Found.{block_found}
-use Rattle.dvd_read.specs.Inner.Found.{words_of}
+use Rattle.dvd_read.specs.Inner.Found.{words_of_columns}
 use Rattle.dvd_read.specs.Inner.Standing.{AreCodewords}
 use Rattle.dvd_read.specs.Parts.{AreOwnFrom, answer_word, bytes_of}
 use Rattle.dvd_read.proofs.ColumnAnswers.{columns-whole, wrong_none}
@@ -27,7 +27,7 @@ returns-then-failed_rows-gt-MOST_FAILED-clause-refused c =
 -- where the block is said to stand, it does
 pub block_stands : (answers : List AnswerRow) (columns : List ColumnAnswer) (is : Bool) → length answers ≡ 208 → length columns ≡ 182 → AreCodewords answers
     → (IsTrue is → marked (failed_of (map answer_word answers)) ≡ 0) → (IsTrue is → AreOwnFrom answers 0 columns)
-    → IsTrue is → from_columns (words_of columns) ≡ bytes_of answers
+    → IsTrue is → from_columns (words_of_columns columns) ≡ bytes_of answers
 block_stands answers columns is size columns_size codewords none own true_is =
     stands answers columns size columns_size codewords (none true_is) (own-whole answers columns columns_size (own true_is))
 
@@ -54,14 +54,14 @@ returns-then-stands-clause-stands c =
     block_stands c.args.answers.now c.args.columns.now c.args.stands c.requires.rows c.requires.columns c.requires.codewords c.requires.none_failed c.requires.own
 
 -- no row of a block that stands is wrong
-abbrev fine_rows : (c : goal.Then-stands) → position (λ row. not (vanishes_at_all 10 row)) (from_columns (words_of c.args.columns.now)) ≡ None
+abbrev fine_rows : (c : goal.Then-stands) → position (λ row. not (vanishes_at_all 10 row)) (from_columns (words_of_columns c.args.columns.now)) ≡ None
 fine_rows c =
-    let block : List (List ℕ) = from_columns (words_of c.args.columns.now) in
+    let block : List (List ℕ) = from_columns (words_of_columns c.args.columns.now) in
     wrong_none block
     (λ k within.
     rows-stand c.args.answers.now c.args.columns.now c.requires.rows c.requires.columns c.requires.codewords
     (c.requires.none_failed c.if-stands.true) (own-whole c.args.answers.now c.args.columns.now c.requires.columns (c.requires.own c.if-stands.true)) k
-    (omega (arith, within, length-from_columns (words_of c.args.columns.now))))
+    (omega (arith, within, length-from_columns (words_of_columns c.args.columns.now))))
 
 -- the block is found
 abbrev accepted : (c : goal.Then-stands) → (two_pass_cause (map answer_word c.args.answers.now) ≡ None) × AgreesWith (map answer_word c.args.answers.now) (block_found (map answer_word c.args.answers.now))

@@ -10,7 +10,7 @@ use Rattle.dvd_capture.proofs.WorkParts.{marks-height, rows-height}
 use Rattle.dvd_read.specs.Causes.{two_pass_cause}
 use Rattle.dvd_read.specs.Found.{block_found}
 use Rattle.dvd_read.specs.Parts.{answer_word}
-use Rattle.dvd_read.specs.Inner.Found.{words_of}
+use Rattle.dvd_read.specs.Inner.Found.{words_of_columns}
 use Rattle.dvd_read.specs.Salvage.{block_out, frames_saved, saved_in, sectors_saved}
 use Rattle.dvd_read.proofs.RowAnswers.{block_answers}
 use Rattle.dvd_read.proofs.SavedLaws.{fixed-found, fixed-told}
@@ -37,7 +37,7 @@ save_frames-requires-clause-held c =
           c.requires.stage work.refused work.fixed
           ∙ ap (λ answers. is_none (two_pass_cause answers)) same;
       block = λ found.
-          ap (λ (columns : List ColumnAnswer). from_columns (words_of columns)) c.all.ensures.columns
+          ap (λ (columns : List ColumnAnswer). from_columns (words_of_columns columns)) c.all.ensures.columns
           ∙ fixed-found (rows_of work) (marks_of_work work) (rows-height work.received) (marks-height work.marks) (stage_of work) c.is_fixed.result c.is_fixed.ensures (block_of work)
           work.fixed found
           ∙ ap block_found same;

@@ -1,6 +1,6 @@
 -- The proof of `layout_of` in src/opening.rt.
 use Rattle.std.proofs.Common.{◌∙◌, ap, rules}
-use Rattle.dvd_capture.specs.Laws.{HasNumbers}
+use Rattle.dvd_capture.specs.Laws.{FitsHeader}
 use Rattle.dvd_top.specs.Opening.{shape_number}
 use Rattle.dvd_top.proofs.Headers.{broken_by, lawful_by, stated_by, zones_for}
 use Rattle.dvd_top.proofs.OneHeader.{length-header}
@@ -9,7 +9,7 @@ use Rattle.dvd_top.proofs.opening.layout_of.Goals as goal
 pub returns-in-Ok : goal.returns-in-Ok
 returns-in-Ok c = λ left.
     let header = c.args.header.now in
-    let numbers : HasNumbers header = search rules in
+    let numbers : FitsHeader header = search rules in
     let is = c.in-Ok.ensures in
     let layout = c.in-Ok.layout in
     let zones = c.zones_of.result in (
@@ -23,7 +23,7 @@ returns-in-Ok c = λ left.
 pub returns-in-Err : goal.returns-in-Err
 returns-in-Err c = λ left.
     let header = c.args.header.now in
-    let numbers : HasNumbers header = search rules in
+    let numbers : FitsHeader header = search rules in
     let some = zones_for header.zones header.known_zones in (
       length-header header,
       broken_by header numbers some.0 some.1 c.shape_of.result c.in-Err.fault c.shape_of.ensures c.in-Err.ensures.refused c.fault_byte.result c.fault_byte.ensures,

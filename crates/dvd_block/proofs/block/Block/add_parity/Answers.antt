@@ -1,6 +1,6 @@
 -- The proof of `Block::add_parity` in src/block.rt.
-use Rattle.std.proofs.Common.{◌≡◌, ℕ, List, ◌++◌, length, take, drop, sym, ap, ◌∙◌, subst}
-use Rattle.dvd_block.specs.Product.{place, IsProduct}
+use Rattle.std.proofs.Common.{◌≡◌, ℕ, List, ◌++◌, length, take, drop, sym, ◌∙◌, subst}
+use Rattle.dvd_block.specs.Product.{IsParityAdded}
 use Rattle.dvd_block.proofs.RowParts.{lent_whole}
 use Rattle.dvd_block.proofs.block.Block.add_parity.Goals as goal
 
@@ -13,11 +13,7 @@ module _ (c : goal.After-self-1) where
   back : take c.args.self.now.lines.rows.len (rows ++ drop (length rows) c.args.self.now.lines.rows.items) ≡ rows
   back = lent_whole c.args.self.now.lines.rows.len c.args.self.now.lines.rows.items rows (c.fill_parity.ensures.size ∙ sym c.args.self.now.lines.size)
 
-pub returns-clause-product : goal.returns-clause-product
-returns-clause-product c = subst IsProduct (sym (back c)) c.fill_parity.ensures.product
-
-pub returns-clause-kept : goal.returns-clause-kept
-returns-clause-kept c = λ i j above within.
-    ap (λ (block : List (List ℕ)). place block i j) (back c)
-    ∙ c.fill_parity.ensures.kept i j above within
-    ∙ ap (λ (block : List (List ℕ)). place block i j) c.rows_mut.ensures.rows
+pub returns : goal.returns
+returns c =
+    subst (λ (old : List (List ℕ)). IsParityAdded old (take c.args.self.now.lines.rows.len (rows c ++ drop (length (rows c)) c.args.self.now.lines.rows.items)))
+    c.rows_mut.ensures.rows (subst (IsParityAdded c.rows_mut.result.now) (sym (back c)) c.fill_parity.ensures.added)

@@ -6,6 +6,6 @@ use Rattle.dvd_top.proofs.commands.cd_make.cdmake_loop.Goals as goal
 
 pub returns-clause-ends : goal.returns-clause-ends
 returns-clause-ends g c =
-    let f = c.run_cdmake.ensures.comes in
-    plain_end (cdmake_units c.args.settings.now.address c.args.settings.now.sectors) (λ k. 2048) (λ k own. refl) refl f.bytes f.outcome f.holds (λ k before own steps does. let no = does.good in cc) c.run_cdmake.result f.ends
-    (never_told c.run_cdmake.result c.run_cdmake.ensures.causes.report)
+    let f = c.make_each.ensures.comes in
+    plain_end (cdmake_units c.args.settings.now.address c.args.settings.now.sectors) (λ k. 2048) (λ k own. refl) refl f.bytes f.outcome f.holds (λ k before own steps does. let no = does.good in cc) c.make_each.result f.ends
+    (never_told c.make_each.result c.make_each.ensures.causes.report)

@@ -6,6 +6,6 @@ use Rattle.dvd_top.proofs.commands.frames.frames_loop.Goals as goal
 
 pub returns-clause-ends : goal.returns-clause-ends
 returns-clause-ends g c =
-    let f = c.run_frames.ensures.comes in
-    plain_end (frames_units c.args.settings.now.first c.args.settings.now.sectors) (λ k. 2048) (λ k own. refl) refl f.bytes f.outcome f.holds (λ k before own steps does. let no = does.1 in cc) c.run_frames.result f.ends
-    (never_told c.run_frames.result c.run_frames.ensures.causes.report)
+    let f = c.make_each.ensures.comes in
+    plain_end (frames_units c.args.settings.now.first c.args.settings.now.sectors) (λ k. 2048) (λ k own. refl) refl f.bytes f.outcome f.holds (λ k before own steps does. let no = does.good in cc) c.make_each.result f.ends
+    (never_told c.make_each.result c.make_each.ensures.causes.report)

@@ -1,0 +1,16 @@
+-- Division of polynomials over two bits, by which the EDC of a data frame (ECMA-267, 16.4) and that of a CD-ROM sector
+-- (ECMA-130, 14.3) are defined. A polynomial is a list of bits, that of its highest power first. A bit is 0 or 1.
+use Rattle.std.specs.Prelude.{ℕ, zero, suc, ◌==◌, bit_xor, if◌then◌else◌, List, [], ◌∷◌}
+
+-- adds a list of bits to the front of another
+unfoldable pub plus_front : List ℕ → List ℕ → List ℕ
+plus_front xs [] = xs
+plus_front [] (y ∷ ys) = []
+plus_front (x ∷ xs) (y ∷ ys) = bit_xor x y ∷ plus_front xs ys
+
+-- Division in n steps by a divisor, which stands without its leading term: each step drops the leading bit, and where it
+-- was 1 takes the divisor away behind it.
+unfoldable pub remainder_by : List ℕ → ℕ → List ℕ → List ℕ
+remainder_by divisor zero rest = rest
+remainder_by divisor (suc n) [] = []
+remainder_by divisor (suc n) (bit ∷ rest) = remainder_by divisor n (if bit == 1 then plus_front rest divisor else rest)
