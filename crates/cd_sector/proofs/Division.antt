@@ -1,5 +1,5 @@
 -- Division of bits by the divisor of the EDC, seen as steps of a register of 32 bits.
-use Rattle.std.proofs.Common.{◌≡◌, ℕ, zero, suc, ◌+◌, ◌*◌, ◌/◌, ◌%◌, ◌^◌, ◌<◌, List, [], ◌∷◌, ◌++◌, length, All, Bool, true, false, cond, eqb, refl, sym, ◌∙◌, ap, ap₂, zero-add, arith}
+use Rattle.std.proofs.Common.{◌≡◌, ℕ, zero, suc, ◌+◌, ◌*◌, ◌/◌, ◌%◌, ◌^◌, ◌<◌, List, [], ◌∷◌, ◌++◌, length, All, Bool, true, false, cond, eqb, refl, sym, ◌∙◌, ap, ap₂, arith}
 use Rattle.std.specs.Prelude.{bit_xor, replicate}
 use Rattle.std.specs.Int.{to_le_bytes, w32}
 use Rattle.std.specs.Int.Bits.{xor_zero_r}

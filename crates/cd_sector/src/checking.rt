@@ -1,6 +1,6 @@
 //! A sector that was read, checked.
-ghost use Rattle.std.specs.Prelude.{◌≡◌, ◌↔◌, ◌<◌, ◌≤◌, IfErr, OnOk, IsTrue, IfSome, None};
-ghost use Rattle.cd_sector.specs.Causes.{IsCause, IsRightSector, AreRightBelow, found_header, found_number, HasRightEdc};
+ghost use Rattle.std.specs.Prelude.{◌≡◌, ◌↔◌, ◌<◌, IfErr, OnOk, IsTrue, IfSome, None};
+ghost use Rattle.cd_sector.specs.Causes.{IsCause, IsRightSector, AreRightBelow, found_header, HasRightEdc};
 ghost use Rattle.cd_sector.specs.Sector.{header as header_of};
 ghost use Rattle.cd_sector.specs.Words.{IsRight};
 

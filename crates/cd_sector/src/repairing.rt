@@ -1,5 +1,5 @@
 //! A sector that was read, repaired.
-ghost use Rattle.std.specs.Prelude.{◌≡◌, ℕ, List, ◌+◌, ◌-◌, ◌<◌, ◌≤◌, length, drop, replicate, false, slice_index, slice_index_or, IfErr, IfOk, OnErr, OnOk};
+ghost use Rattle.std.specs.Prelude.{◌≡◌, ℕ, List, ◌+◌, ◌-◌, ◌<◌, ◌≤◌, length, drop, false, slice_index_or, IfErr, IfOk, OnErr, OnOk};
 ghost use Rattle.std.specs.Option.{is_none};
 ghost use Rattle.rs_code.specs.Distance.{distance};
 ghost use Rattle.cd_sector.specs.Causes.{IsCause, IsRightSector};

@@ -1,6 +1,6 @@
 //! The words of a sector that correct its errors (ECMA-130, annex A): 86 of P parity and 52 of Q parity, each of which
 //! ends with two bytes of its own.
-ghost use Rattle.std.specs.Prelude.{◌≡◌, ◌≢◌, ◌↔◌, ℕ, ◌+◌, ◌-◌, ◌<◌, ◌≤◌, length, slice_index, EachIndex, IsTrue, IfSome, None, take};
+ghost use Rattle.std.specs.Prelude.{◌≡◌, ◌≢◌, ◌↔◌, ℕ, ◌+◌, ◌-◌, ◌<◌, ◌≤◌, length, slice_index, EachIndex, IsTrue, IfSome, None};
 ghost use Rattle.cd_sector.specs.Words.{sector_place, word_size, IsRight};
 
 use rs_code::Code;

@@ -29,7 +29,6 @@ use Rattle.dvd_loop.specs.Laws.{AreDetermined, IsFaultless}
 use Rattle.dvd_loop.specs.Machine.{IsOutcome, Outcome, Step, Units, sized}
 use Rattle.dvd_loop.specs.Machine.Step.{Write, Tell}
 use Rattle.dvd_loop.specs.declared.ends.Turn.{Turn}
-use Rattle.dvd_loop.specs.declared.ends.Turn.TheVariants.{Good}
 use Rattle.dvd_loop.proofs.Determinacy.{agrees}
 use Rattle.dvd_loop.proofs.Sizes.{broken_stays, whole_stays}
 use Rattle.dvd_read.proofs.BlockRead.{read-determined}
