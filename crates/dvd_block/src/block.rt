@@ -1,8 +1,6 @@
 //! A block: its frames, its parity, its rows as they are recorded.
-ghost use Rattle.std.specs.Prelude.{◌≡◌, ℕ, ◌+◌, ◌*◌, ◌/◌, ◌<◌, ◌≤◌, ◌⊎◌, ◌↔◌, IsTrue, ◌++◌, length, take, drop, IfOk, OnOk, OnErr, replicate, slice_index, EachIndex};
-ghost use Rattle.std.specs.Io.KnownBytes.{Appends};
-ghost use Rattle.dvd_ports.specs.Causes.{HasCause};
-ghost use Rattle.dvd_ports.specs.Whole.{AppendsPrefix};
+ghost use Rattle.std.specs.Prelude.{◌≡◌, ℕ, ◌+◌, ◌*◌, ◌/◌, ◌<◌, ◌≤◌, ◌⊎◌, ◌↔◌, IsTrue, ◌++◌, length, take, drop, IfOk, replicate, slice_index, EachIndex};
+ghost use Rattle.dvd_ports.specs.Whole.{IsWritten};
 ghost use Rattle.dvd_block.specs.Product.{line, place};
 ghost use Rattle.dvd_block.specs.Recording.{recording};
 
@@ -81,9 +79,7 @@ impl Block {
 
     /// Writes the sixteen recording frames in order, 37,856 bytes. After a fault a prefix of them was taken.
     pub fn write_recording<K: Sink>(&self, out: &mut K) -> Result<(), WriteFault>
-        ensures written { OnOk result (Appends (K.seen out.old).bytes (K.seen out.new).bytes (recording (block_rows self.now))) }
-        ensures begun { OnErr result (AppendsPrefix (K.seen out.old).bytes (K.seen out.new).bytes (recording (block_rows self.now))) }
-        ensures cause { HasCause (K.seen out.old).faults (K.seen out.new).faults result }
+        ensures { IsWritten (recording (block_rows self.now)) (K.seen out.old) (K.seen out.new) result }
     {
         write_rows(self.lines.rows(), out)
     }
@@ -103,9 +99,7 @@ impl Block {
 /// taken.
 pub fn write_rows<K: Sink>(rows: &[[u8; 182]], out: &mut K) -> Result<(), WriteFault>
     requires { length rows.now ≡ 208 }
-    ensures written { OnOk result (Appends (K.seen out.old).bytes (K.seen out.new).bytes (recording rows.now)) }
-    ensures begun { OnErr result (AppendsPrefix (K.seen out.old).bytes (K.seen out.new).bytes (recording rows.now)) }
-    ensures cause { HasCause (K.seen out.old).faults (K.seen out.new).faults result }
+    ensures { IsWritten (recording rows.now) (K.seen out.old) (K.seen out.new) result }
 {
     let mut bytes = [0; RECORDING];
     record_rows(rows, &mut bytes);

@@ -1,6 +1,7 @@
 -- What the contracts speak of: captured ECC blocks, the forms in which they are stored, and what two passes determine of them.
 pub mod Answers
 pub mod Captured
+pub mod Fetching
 pub mod Header
 pub mod Inner
 pub mod Laws

@@ -1,14 +1,13 @@
 //! Captured blocks are read from a source.
-ghost use Rattle.std.specs.Prelude.{◌≡◌, ◌≢◌, ℕ, ◌*◌, ◌<◌, ◌≤◌, ◌==◌, if◌then◌else◌, length, take, slice_set};
+ghost use Rattle.std.specs.Prelude.{◌≡◌, ◌≢◌, ℕ, ◌*◌, ◌<◌, ◌==◌, if◌then◌else◌, length, take, slice_set};
 ghost use Rattle.dvd_block.specs.Recording.{row_at};
-ghost use Rattle.dvd_ports.specs.Causes.{Rose};
-ghost use Rattle.dvd_capture.specs.Captured.{BreaksAt, Captures, EndsAfter, FailsWithin, HasSize, marks_in, record_size};
+ghost use Rattle.dvd_capture.specs.Captured.{HasSize, marks_in, record_size};
 ghost use Rattle.dvd_capture.specs.Parts.{marks_rows, received_rows};
-ghost use Rattle.dvd_capture.specs.Inner.Fetching.{Fetches};
+ghost use Rattle.dvd_capture.specs.Fetching.{Fetches};
 ghost use Rattle.dvd_capture.specs.Inner.Putting.{ArePut};
 ghost use Rattle.dvd_capture.specs.Works.{marks_of_work, rows_of, stage_of};
 ghost use Rattle.dvd_capture.specs.declared.stage.Stage.TheVariants.{Empty, Fetched};
-ghost use Rattle.dvd_capture.specs.declared.capture.FetchAnswer.TheVariants.{Full, End, Short, ReadFault, BadMarks};
+ghost use Rattle.dvd_capture.specs.declared.capture.FetchAnswer.TheVariants.{Full, End, Short, BadMarks};
 
 use crate::form::Form;
 use crate::listed::fetch_listed;
@@ -38,14 +37,7 @@ pub enum FetchAnswer {
 
 /// Reads one captured block, by as many calls as it takes. A block that isn't whole leaves the work at stage Empty.
 pub fn fetch<S: Source>(src: &mut S, form: Form, work: &mut Work) -> FetchAnswer
-    ensures full { result ≡ Full → Captures form (S.seen src.old).bytes (S.seen src.new).bytes (rows_of work.new) (marks_of_work work.new) }
-    ensures end { result ≡ End → EndsAfter form (S.seen src.old).bytes (S.seen src.new).bytes 0 }
-    ensures short { (count : ℕ) → result ≡ Short count → (0 < count) × EndsAfter form (S.seen src.old).bytes (S.seen src.new).bytes count }
-    ensures fault { result ≡ ReadFault → FailsWithin form (S.seen src.old).bytes (S.seen src.new).bytes }
-    ensures broken { (at : ℕ) → result ≡ BadMarks at → BreaksAt form (S.seen src.old).bytes (S.seen src.new).bytes at }
-    ensures cause { result ≡ ReadFault → Rose (S.seen src.old).faults (S.seen src.new).faults }
-    ensures steady { result ≢ ReadFault → (S.seen src.new).faults ≡ (S.seen src.old).faults }
-    ensures later { (S.seen src.old).faults ≤ (S.seen src.new).faults }
+    ensures fetches { Fetches form (S.seen src.old) (S.seen src.new) (rows_of work.new) (marks_of_work work.new) result }
     ensures fetched { result ≡ Full → stage_of work.new ≡ Fetched }
     ensures empty { result ≢ Full → stage_of work.new ≡ Empty }
     ensures answers { work.new.answers ≡ work.old.answers }

@@ -1,14 +1,13 @@
 //! Blocks in the listed form: the bytes of the plain form, and behind them fields of two bytes, the number of runs of marked
 //! places and each run's start and length.
 ghost use Rattle.std.specs.Prelude.{◌≡◌, ◌≢◌, ℕ, ◌+◌, ◌<◌, ◌≤◌, ◌⊎◌, true, false, List, ◌++◌, length, IfOk, IfErr, OnOk, OnErr};
-ghost use Rattle.std.specs.Io.KnownBytes.{Appends};
 ghost use Rattle.std.specs.Int.{to_be_bytes, w16};
 ghost use Rattle.dvd_block.specs.Product.{line};
 ghost use Rattle.dvd_ports.specs.Causes.{HasCause, Rose};
-ghost use Rattle.dvd_ports.specs.Whole.{AppendsPrefix};
+ghost use Rattle.dvd_ports.specs.Whole.{IsWritten};
 ghost use Rattle.dvd_capture.specs.Listed.{mark_of};
 ghost use Rattle.dvd_capture.specs.Listing.{AppendsPart, AppendsUnit};
-ghost use Rattle.dvd_capture.specs.Inner.Fetching.{Fetches};
+ghost use Rattle.dvd_capture.specs.Fetching.{Fetches};
 ghost use Rattle.dvd_capture.specs.Inner.Listing.{AppendsAll, AppendsSome, AreRows, HasFetchCause, HasRuns, IsFetched, IsNoField, IsStopped, TakesAll, TakesField, TakesRuns};
 ghost use Rattle.dvd_capture.specs.Parts.{marks_rows, received_rows};
 ghost use Rattle.dvd_capture.specs.Rule.{HasBlock};
@@ -71,9 +70,7 @@ fn write_runs<K: Sink>(marks: &Marks, out: &mut K) -> Result<(), WriteFault>
 fn write_run<K: Sink>(out: &mut K, start: usize, length: usize) -> Result<(), WriteFault>
     requires start { start ≤ 37_856 }
     requires length { length ≤ 37_856 }
-    ensures written { OnOk result (Appends (K.seen out.old).bytes (K.seen out.new).bytes (to_be_bytes w16 start ++ to_be_bytes w16 length)) }
-    ensures begun { OnErr result (AppendsPrefix (K.seen out.old).bytes (K.seen out.new).bytes (to_be_bytes w16 start ++ to_be_bytes w16 length)) }
-    ensures cause { HasCause (K.seen out.old).faults (K.seen out.new).faults result }
+    ensures { IsWritten (to_be_bytes w16 start ++ to_be_bytes w16 length) (K.seen out.old) (K.seen out.new) result }
 {
     let [start1, start0] = (start as u16).to_be_bytes();
     let [length1, length0] = (length as u16).to_be_bytes();
@@ -83,9 +80,7 @@ fn write_run<K: Sink>(out: &mut K, start: usize, length: usize) -> Result<(), Wr
 // Writes a field.
 fn write_field<K: Sink>(out: &mut K, value: usize) -> Result<(), WriteFault>
     requires { value ≤ 37_856 }
-    ensures written { OnOk result (Appends (K.seen out.old).bytes (K.seen out.new).bytes (to_be_bytes w16 value)) }
-    ensures begun { OnErr result (AppendsPrefix (K.seen out.old).bytes (K.seen out.new).bytes (to_be_bytes w16 value)) }
-    ensures cause { HasCause (K.seen out.old).faults (K.seen out.new).faults result }
+    ensures { IsWritten (to_be_bytes w16 value) (K.seen out.old) (K.seen out.new) result }
 {
     write_whole(out, &(value as u16).to_be_bytes())
 }

@@ -4,7 +4,7 @@ use Rattle.std.specs.Io.KnownBytes.{Consumes, IsAtEnd}
 use Rattle.dvd_ports.specs.Seen.{Seen}
 use Rattle.dvd_loop.specs.Machine.{Does, IsUnit, IsTaken, IsEndedWithin, Outcome, Step, Units}
 use Rattle.dvd_loop.specs.Machine.Step.{Write, Tell}
-use Rattle.dvd_loop.specs.Streams.{Comes, HasEnded, HaveCauses, HaveMoved, Streams}
+use Rattle.dvd_loop.specs.Streams.{Comes, HasEnded, HaveCauses, HaveMoved, Streams, streams}
 use Rattle.dvd_loop.specs.declared.ends.Behind.TheVariants.{Asks}
 use Rattle.dvd_loop.specs.declared.ends.LoopEnd.{LoopEnd}
 use Rattle.dvd_loop.specs.declared.ends.LoopEnd.TheVariants.{Done, ReadFault, Short}
@@ -35,6 +35,10 @@ AreSteps steps old new (Err end) = Comes (λ bytes. Does steps Nothing) old new 
 abbrev pub HaveCausesFor : {A : Type 0} → Result A LoopEnd → Streams → Streams → Type 0
 HaveCausesFor (Ok value) old new = HaveCauses Done Done old new
 HaveCausesFor (Err end) old new = HaveCauses end end old new
+
+-- the same of a call that reads alone, beside any output and any report
+abbrev pub HasReadCause : {A : Type 0} → Result A LoopEnd → Seen → Seen → Type 0
+HasReadCause answer old new = (output report : Seen) → HaveCausesFor answer (streams old output report) (streams new output report)
 
 -- Steps that may be taken, for a unit that is then this: these were taken, the answer says what the unit is, and a fault has
 -- raised the count of its stream.

@@ -1,9 +1,7 @@
 //! The bytes of one unit.
 ghost use Rattle.std.specs.Prelude.{◌<◌, ◌^◌, length, IfErr, OnOk};
 ghost use Rattle.std.specs.Io.KnownBytes.{Consumes};
-ghost use Rattle.dvd_ports.specs.Seen.{Seen};
-ghost use Rattle.dvd_loop.specs.Streams.{streams};
-ghost use Rattle.dvd_loop.specs.Turns.{EndsShort, HaveCausesFor};
+ghost use Rattle.dvd_loop.specs.Turns.{EndsShort, HasReadCause};
 
 use crate::LoopEnd;
 use dvd_ports::{Source, read_whole};
@@ -13,8 +11,7 @@ pub fn read_unit<S: Source>(src: &mut S, k: u32, unit: &mut [u8]) -> Result<(), 
     requires { length unit.old < 2 ^ 32 }
     ensures whole { OnOk result (Consumes (S.seen src.old).bytes (S.seen src.new).bytes unit.new) }
     ensures short { IfErr result (EndsShort k (length unit.new) (S.seen src.old) (S.seen src.new)) }
-    ensures causes { (output report : Seen) → HaveCausesFor result
-        (streams (S.seen src.old) output report) (streams (S.seen src.new) output report) }
+    ensures causes { HasReadCause result (S.seen src.old) (S.seen src.new) }
 {
     let held = read_whole(src, unit)?;
     if held < unit.len() {

@@ -1,10 +1,8 @@
 //! What captures of a block know of each of its places.
-ghost use Rattle.std.specs.Prelude.{◌≡◌, ◌<◌, vec_len, slice_set, IfOk, OnOk, OnErr};
-ghost use Rattle.std.specs.Io.KnownBytes.{Appends};
+ghost use Rattle.std.specs.Prelude.{◌≡◌, ◌<◌, vec_len, slice_set, IfOk};
 ghost use Rattle.dvd_capture.specs.Rule.{HasBlock};
 ghost use Rattle.dvd_capture.specs.Works.{marks_of_work, rows_of, stage_of};
-ghost use Rattle.dvd_ports.specs.Causes.{HasCause};
-ghost use Rattle.dvd_ports.specs.Whole.{AppendsPrefix};
+ghost use Rattle.dvd_ports.specs.Whole.{IsWritten};
 ghost use Rattle.dvd_merge.specs.Join.{join, join_rows, join_tables, known_at, known_row, seen_row, seen_table, unseen};
 ghost use Rattle.dvd_merge.specs.MarkedText.{marked_text};
 ghost use Rattle.dvd_merge.specs.declared.place.Place.TheVariants.{Value};
@@ -76,9 +74,7 @@ impl Merge {
     /// Writes the block in the marked form, 42,640 bytes: a place with no known byte is 0 and marked. After a fault a prefix
     /// of them was taken.
     pub fn write_marked<K: Sink>(&self, out: &mut K) -> Result<(), WriteFault>
-        ensures written { OnOk result (Appends (K.seen out.old).bytes (K.seen out.new).bytes (marked_text (table_of self.now))) }
-        ensures begun { OnErr result (AppendsPrefix (K.seen out.old).bytes (K.seen out.new).bytes (marked_text (table_of self.now))) }
-        ensures cause { HasCause (K.seen out.old).faults (K.seen out.new).faults result }
+        ensures { IsWritten (marked_text (table_of self.now)) (K.seen out.old) (K.seen out.new) result }
     {
         let mut text = [0; TEXT];
         fill_text(&self.rows, &mut text);

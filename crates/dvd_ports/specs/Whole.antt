@@ -1,6 +1,8 @@
--- Ours: what is left when a piece was written, or a buffer filled, only in part.
-use Rattle.std.specs.Prelude.{◌≡◌, ◌≢◌, ℕ, ◌<◌, List, [], ◌++◌, length, Option}
+-- Ours: a piece that was written, and what is left where one was written, or a buffer filled, only in part.
+use Rattle.std.specs.Prelude.{◌≡◌, ◌≢◌, ℕ, ◌<◌, List, [], ◌++◌, length, Option, Result, OnErr, OnOk}
 use Rattle.std.specs.Io.KnownBytes.{Appends, Consumes}
+use Rattle.dvd_ports.specs.Causes.{HasCause}
+use Rattle.dvd_ports.specs.Seen.{Seen}
 
 -- known bytes grew by a front of the piece, or by all of it
 pub record AppendsFront (old new : Option (List ℕ)) (piece : List ℕ) : Type 0 where
@@ -16,6 +18,12 @@ pub record AppendsPrefix (old new : Option (List ℕ)) (piece : List ℕ) : Type
   pub grows : Appends old new taken
   pub whole : taken ++ rest ≡ piece
   pub more : rest ≢ []
+
+-- A piece was written: all of it, or the sink failed and took a front of it. A fault has its cause.
+pub record IsWritten {E : Type 0} (piece : List ℕ) (old new : Seen) (answer : Result (Unit {0}) E) : Type 0 where
+  pub written : OnOk answer (Appends old.bytes new.bytes piece)
+  pub begun : OnErr answer (AppendsPrefix old.bytes new.bytes piece)
+  pub cause : HasCause old.faults new.faults answer
 
 -- known bytes lost fewer than so many at their front
 pub record ConsumesFewer (old new : Option (List ℕ)) (size : ℕ) : Type 0 where

@@ -1,18 +1,16 @@
 //! Whole pieces: a write of all bytes, and a read that fills a buffer.
-ghost use Rattle.std.specs.Prelude.{◌<◌, length, take, IfOk, OnOk, OnErr};
+ghost use Rattle.std.specs.Prelude.{◌<◌, length, take, IfOk, OnErr};
 ghost use Rattle.std.specs.Io.{ReadsAtMost};
-ghost use Rattle.std.specs.Io.KnownBytes.{Appends, Consumes, IsAtEnd};
+ghost use Rattle.std.specs.Io.KnownBytes.{Consumes, IsAtEnd};
 ghost use Rattle.dvd_ports.specs.Causes.{HasCause};
-ghost use Rattle.dvd_ports.specs.Whole.{AppendsPrefix, ConsumesFewer};
+ghost use Rattle.dvd_ports.specs.Whole.{ConsumesFewer, IsWritten};
 
 use crate::{Failed, Sink, Source, WriteFault};
 
 /// Writes the whole piece, by as many calls as it takes. After a fault a prefix of it was taken.
 #[tactic(auto, using(crate::proofs::KnownLemmas::write_begun, crate::proofs::KnownLemmas::writes_more))]
 pub fn write_whole<K: Sink>(out: &mut K, buf: &[u8]) -> Result<(), WriteFault>
-    ensures written { OnOk result (Appends (K.seen out.old).bytes (K.seen out.new).bytes buf.now) }
-    ensures begun { OnErr result (AppendsPrefix (K.seen out.old).bytes (K.seen out.new).bytes buf.now) }
-    ensures cause { HasCause (K.seen out.old).faults (K.seen out.new).faults result }
+    ensures { IsWritten buf.now (K.seen out.old) (K.seen out.new) result }
 {
     let mut written = 0;
     while written < buf.len() {

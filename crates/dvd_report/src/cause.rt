@@ -1,10 +1,8 @@
 //! The line of a damaged ECC block: where it stands in the plan and on the disk, the first rule that it breaks, and how many
 //! of its sixteen frames were saved.
-ghost use Rattle.std.specs.Prelude.{◌≡◌, ◌+◌, ◌≤◌, ◌++◌, length, OnOk, OnErr};
-ghost use Rattle.std.specs.Io.KnownBytes.{Appends};
+ghost use Rattle.std.specs.Prelude.{◌≡◌, ◌+◌, ◌≤◌, ◌++◌, length};
 ghost use Rattle.dvd_layout.specs.Place.{HasNumbers};
-ghost use Rattle.dvd_ports.specs.Causes.{HasCause};
-ghost use Rattle.dvd_ports.specs.Whole.{AppendsPrefix};
+ghost use Rattle.dvd_ports.specs.Whole.{IsWritten};
 ghost use Rattle.dvd_report.specs.Lines.{block_text, cause_text, damage_line};
 
 use crate::text::Line;
@@ -24,9 +22,7 @@ pub fn write_cause<E: Sink>(
 ) -> Result<(), WriteFault>
     requires numbers { HasNumbers plan.now }
     requires frames { saved ≤ 16 }
-    ensures written { OnOk result (Appends (E.seen report.old).bytes (E.seen report.new).bytes (damage_line k plan.now cause.now saved)) }
-    ensures begun { OnErr result (AppendsPrefix (E.seen report.old).bytes (E.seen report.new).bytes (damage_line k plan.now cause.now saved)) }
-    ensures cause { HasCause (E.seen report.old).faults (E.seen report.new).faults result }
+    ensures { IsWritten (damage_line k plan.now cause.now saved) (E.seen report.old) (E.seen report.new) result }
 {
     write_whole(report, line_of(k, plan, cause, saved).as_slice())
 }

@@ -1,9 +1,7 @@
 //! The line of an ECC block that two passes refuse, and that a round of iterated reading gave back.
-ghost use Rattle.std.specs.Prelude.{◌≡◌, OnOk, OnErr};
-ghost use Rattle.std.specs.Io.KnownBytes.{Appends};
+ghost use Rattle.std.specs.Prelude.{◌≡◌};
 ghost use Rattle.dvd_layout.specs.Place.{HasNumbers};
-ghost use Rattle.dvd_ports.specs.Causes.{HasCause};
-ghost use Rattle.dvd_ports.specs.Whole.{AppendsPrefix};
+ghost use Rattle.dvd_ports.specs.Whole.{IsWritten};
 ghost use Rattle.dvd_report.specs.Lines.{round_line};
 
 use crate::cause::put_block;
@@ -20,9 +18,7 @@ pub fn write_round<E: Sink>(
     report: &mut E,
 ) -> Result<(), WriteFault>
     requires { HasNumbers plan.now }
-    ensures written { OnOk result (Appends (E.seen report.old).bytes (E.seen report.new).bytes (round_line k plan.now round)) }
-    ensures begun { OnErr result (AppendsPrefix (E.seen report.old).bytes (E.seen report.new).bytes (round_line k plan.now round)) }
-    ensures cause { HasCause (E.seen report.old).faults (E.seen report.new).faults result }
+    ensures { IsWritten (round_line k plan.now round) (E.seen report.old) (E.seen report.new) result }
 {
     write_whole(report, line_of(k, plan, round).as_slice())
 }

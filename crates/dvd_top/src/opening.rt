@@ -3,7 +3,7 @@ ghost use Rattle.std.specs.Prelude.{◌≡◌, ◌<◌, ℕ, List, Some, IfOk, I
 ghost use Rattle.dvd_capture.specs.Header.{header_bytes};
 ghost use Rattle.dvd_layout.specs.Lengths.{initial_fault};
 ghost use Rattle.dvd_loop.specs.Streams.{HaveCauses, streams};
-ghost use Rattle.dvd_loop.specs.Turns.{HaveCausesFor};
+ghost use Rattle.dvd_loop.specs.Turns.{HasReadCause};
 ghost use Rattle.dvd_ports.specs.Seen.{Seen};
 ghost use Rattle.dvd_top.specs.HeaderEnds.{AnswersHeader, ReadsHeader, end_in};
 ghost use Rattle.dvd_top.specs.Inner.Opened.{EndsInHeader, HasBegun, HasOpened, IsWorded, IsWordedInitial};
@@ -196,8 +196,7 @@ pub(crate) struct Stated {
 pub(crate) fn open_listed<S: Source>(settings: &Settings, src: &mut S) -> Result<Stated, LoopEnd>
     ensures opened { IfOk result (λ stated. HasOpened settings.now (S.seen src.old) (S.seen src.new) stated.settings stated.layout) }
     ensures ended { IfErr result (EndsInHeader settings.now (S.seen src.old) (S.seen src.new)) }
-    ensures causes { (output report : Seen) → HaveCausesFor result
-        (streams (S.seen src.old) output report) (streams (S.seen src.new) output report) }
+    ensures causes { HasReadCause result (S.seen src.old) (S.seen src.new) }
 {
     match listed_layout(src) {
         HeaderEnd::Found { layout, zones } => Ok(Stated {
@@ -230,8 +229,7 @@ pub(crate) fn open_blocks<S: Source>(
     ensures layout { IfOk result (λ stated. IsLayoutOf stated.settings stated.layout) }
     ensures workers { IfOk result (λ stated. stated.settings.workers ≡ settings.now.workers) }
     ensures ended { IfErr result (λ end. (settings.now.form ≡ Listed) × EndsInHeader settings.now (S.seen src.old) (S.seen src.new) end) }
-    ensures causes { (output report : Seen) → HaveCausesFor result
-        (streams (S.seen src.old) output report) (streams (S.seen src.new) output report) }
+    ensures causes { HasReadCause result (S.seen src.old) (S.seen src.new) }
 {
     match worded {
         Some(layout) => Ok(Stated {

@@ -1,8 +1,7 @@
 //! The command `assemble`: scattered recording frames put in order.
-ghost use Rattle.std.specs.Prelude.{◌≡◌, ◌+◌, ◌<◌, ◌≤◌, ℕ, length, replicate, IsErr, IfErr, OnErr, OnOk};
+ghost use Rattle.std.specs.Prelude.{◌≡◌, ◌+◌, ◌<◌, ◌≤◌, ℕ, length, replicate, IsErr, IfErr, OnOk};
 ghost use Rattle.std.specs.Option.{option_map_or};
-ghost use Rattle.std.specs.Io.KnownBytes.{Appends};
-ghost use Rattle.dvd_assemble.specs.Assembled.{assembled, settled};
+ghost use Rattle.dvd_assemble.specs.Assembled.{settled};
 ghost use Rattle.dvd_assemble.specs.Frames.{CapturesFrame, frame_size};
 ghost use Rattle.dvd_assemble.specs.Home.{home};
 ghost use Rattle.dvd_assemble.specs.Shelves.{tables_of};
@@ -14,11 +13,9 @@ ghost use Rattle.dvd_layout.specs.declared.layout.Layout.{Layout as DiskLayout};
 ghost use Rattle.dvd_layout.specs.declared.layout.Zones.TheVariants.{DataOnly};
 ghost use Rattle.dvd_loop.specs.Machine.{IsOutcome};
 ghost use Rattle.dvd_loop.specs.Streams.{streams, HasEnded};
-ghost use Rattle.dvd_loop.specs.Turns.{EndsShort, HaveCausesFor};
+ghost use Rattle.dvd_loop.specs.Turns.{EndsShort, HasReadCause};
 ghost use Rattle.dvd_merge.specs.Join.{unseen};
-ghost use Rattle.dvd_ports.specs.Causes.{HasCause};
-ghost use Rattle.dvd_ports.specs.Seen.{Seen};
-ghost use Rattle.dvd_ports.specs.Whole.{AppendsPrefix};
+ghost use Rattle.dvd_ports.specs.Whole.{IsWritten};
 ghost use Rattle.dvd_top.specs.Commands.Assemble.{IsAssembleEnd, IsShelfOf, assemble_units, placed_line, text_of};
 ghost use Rattle.dvd_top.specs.Inner.Performing.{IsPerformedByWords};
 ghost use Rattle.dvd_words.specs.Settings.{IsLayoutOf};
@@ -153,8 +150,7 @@ fn read_frame<S: Source>(
     requires { HasSize form }
     ensures full { OnOk result (CapturesFrame form (S.seen src.old).bytes (S.seen src.new).bytes (captured frame.new)) }
     ensures short { IfErr result (EndsShort k (frame_size form) (S.seen src.old) (S.seen src.new)) }
-    ensures causes { (output report : Seen) → HaveCausesFor result
-        (streams (S.seen src.old) output report) (streams (S.seen src.new) output report) }
+    ensures causes { HasReadCause result (S.seen src.old) (S.seen src.new) }
 {
     match fetch_frame(src, form, frame) {
         FetchAnswer::Full => Ok(()),
@@ -179,9 +175,7 @@ fn settle_frame(layout: &Layout, frame: &FrameWork, shelf: &mut Shelf) -> u32
 
 // Writes all blocks in the marked form.
 fn write_blocks<K: Sink>(shelf: &Shelf, out: &mut K) -> Result<(), WriteFault>
-    ensures written { OnOk result (Appends (K.seen out.old).bytes (K.seen out.new).bytes (text_of (tables_of shelf.now))) }
-    ensures begun { OnErr result (AppendsPrefix (K.seen out.old).bytes (K.seen out.new).bytes (text_of (tables_of shelf.now))) }
-    ensures cause { HasCause (K.seen out.old).faults (K.seen out.new).faults result }
+    ensures { IsWritten (text_of (tables_of shelf.now)) (K.seen out.old) (K.seen out.new) result }
 {
     for k in 0..shelf.blocks() {
         shelf.merged(k).write_marked(out)?;

@@ -1,15 +1,13 @@
 //! Captured blocks, as the commands that read a stream of them take them.
-ghost use Rattle.std.specs.Prelude.{◌≡◌, ◌≤◌, IfErr, OnErr, OnOk};
-ghost use Rattle.std.specs.Io.KnownBytes.{Appends};
+ghost use Rattle.std.specs.Prelude.{◌≤◌, IfErr, OnOk};
 ghost use Rattle.dvd_capture.specs.Captured.{Captures};
 ghost use Rattle.dvd_capture.specs.Rule.{HasAnswers, HasBlock};
 ghost use Rattle.dvd_capture.specs.Works.{rows_of, marks_of_work, sectors_of, stage_of};
 ghost use Rattle.dvd_loop.specs.Streams.{streams};
 ghost use Rattle.dvd_layout.specs.Place.{HasNumbers};
-ghost use Rattle.dvd_loop.specs.Turns.{AreDone, HaveCausesFor};
-ghost use Rattle.dvd_ports.specs.Causes.{HasCause};
+ghost use Rattle.dvd_loop.specs.Turns.{AreDone, HasReadCause};
 ghost use Rattle.dvd_ports.specs.Seen.{Seen};
-ghost use Rattle.dvd_ports.specs.Whole.{AppendsPrefix};
+ghost use Rattle.dvd_ports.specs.Whole.{IsWritten};
 ghost use Rattle.dvd_top.specs.Inner.Performing.{EndsCaptured, IsRefusedFor, sectors_out};
 
 use dvd_capture::{FetchAnswer, Form, Work, fetch};
@@ -29,8 +27,7 @@ pub(crate) fn fetch_block<S: Source>(
     ensures full { OnOk result (Captures form (S.seen src.old).bytes (S.seen src.new).bytes (rows_of work.new) (marks_of_work work.new)) }
     ensures stage { OnOk result (HasBlock (stage_of work.new)) }
     ensures ended { IfErr result (EndsCaptured form k (S.seen src.old) (S.seen src.new)) }
-    ensures causes { (output report : Seen) → HaveCausesFor result
-        (streams (S.seen src.old) output report) (streams (S.seen src.new) output report) }
+    ensures causes { HasReadCause result (S.seen src.old) (S.seen src.new) }
 {
     match fetch(src, form, work) {
         FetchAnswer::Full => Ok(()),
@@ -72,9 +69,7 @@ pub(crate) fn write_sectors<K: Sink>(
     out: &mut K,
 ) -> Result<(), WriteFault>
     requires { count ≤ 16 }
-    ensures written { OnOk result (Appends (K.seen out.old).bytes (K.seen out.new).bytes (sectors_out count (sectors_of work.now))) }
-    ensures begun { OnErr result (AppendsPrefix (K.seen out.old).bytes (K.seen out.new).bytes (sectors_out count (sectors_of work.now))) }
-    ensures cause { HasCause (K.seen out.old).faults (K.seen out.new).faults result }
+    ensures { IsWritten (sectors_out count (sectors_of work.now)) (K.seen out.old) (K.seen out.new) result }
 {
     write_whole(out, work.first_sectors(count))
 }

@@ -2,7 +2,6 @@
 ghost use Rattle.std.specs.Thread.{IsSync};
 ghost use Rattle.std.specs.Prelude.{◌≡◌, ◌-◌, ◌*◌, ◌<◌, ◌≤◌, ℕ, List, length, take, drop, replicate, IfErr, IsErr, OnOk, refl};
 ghost use Rattle.std.specs.Io.KnownBytes.{Consumes};
-ghost use Rattle.dvd_ports.specs.Seen.{Seen};
 ghost use Rattle.dvd_block.specs.Buffers.{block_rows, piece_bytes};
 ghost use Rattle.dvd_block.specs.Product.{IsBlockOf, IsParityAdded};
 ghost use Rattle.dvd_layout.specs.Place.{HasNumbers};
@@ -12,7 +11,7 @@ ghost use Rattle.dvd_layout.specs.declared.layout.Zones.{Zones as WhichZones};
 ghost use Rattle.dvd_loop.specs.Laws.{IsPlainEnd};
 ghost use Rattle.dvd_loop.specs.Machine.{IsOutcome};
 ghost use Rattle.dvd_loop.specs.Streams.{streams, HasEnded, no_stream};
-ghost use Rattle.dvd_loop.specs.Turns.{EndsShort, HaveCausesFor};
+ghost use Rattle.dvd_loop.specs.Turns.{EndsShort, HasReadCause};
 ghost use Rattle.dvd_top.specs.Commands.Master.{cpr_in, frame_for, frames_of, image_bytes, main_for, master_units};
 ghost use Rattle.dvd_top.specs.Inner.Performing.{IsPerformedByWords};
 ghost use Rattle.dvd_top.specs.Inner.Workers.{IsAdder};
@@ -183,8 +182,7 @@ fn read_image<S: Source>(src: &mut S, k: u32, piece: &mut Piece, size: usize) ->
     ensures whole { OnOk result (Consumes (S.seen src.old).bytes (S.seen src.new).bytes (take size (piece_bytes piece.new))) }
     ensures zeros { OnOk result (drop size (piece_bytes piece.new) ≡ replicate (32768 - size) 0) }
     ensures short { IfErr result (EndsShort k size (S.seen src.old) (S.seen src.new)) }
-    ensures causes { (output report : Seen) → HaveCausesFor result
-        (streams (S.seen src.old) output report) (streams (S.seen src.new) output report) }
+    ensures causes { HasReadCause result (S.seen src.old) (S.seen src.new) }
 {
     let bytes = piece.bytes_mut();
     read_unit(src, k, &mut bytes[..size])?;

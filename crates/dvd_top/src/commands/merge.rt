@@ -10,9 +10,8 @@ ghost use Rattle.dvd_layout.specs.declared.layout.Zones.{Zones as WhichZones};
 ghost use Rattle.dvd_loop.specs.Laws.{IsPlainEnd};
 ghost use Rattle.dvd_loop.specs.Machine.{IsOutcome};
 ghost use Rattle.dvd_loop.specs.Streams.{streams, HasEnded, no_stream};
-ghost use Rattle.dvd_loop.specs.Turns.{EndsShort, HaveCausesFor};
+ghost use Rattle.dvd_loop.specs.Turns.{EndsShort, HasReadCause};
 ghost use Rattle.dvd_merge.specs.Merges.{table_of};
-ghost use Rattle.dvd_ports.specs.Seen.{Seen};
 ghost use Rattle.dvd_top.specs.Commands.Merge.{merge_units};
 ghost use Rattle.dvd_top.specs.Inner.Performing.{AreTaken, EndsInCapture, IsPerformedByWords};
 ghost use Rattle.dvd_words.specs.Settings.{IsLayoutOf};
@@ -157,8 +156,7 @@ fn take_captures<S: Source>(
     requires captures { captures ≤ 16 }
     ensures taken { OnOk result (AreTaken captures form (S.seen src.old).bytes (S.seen src.new).bytes (table_of merge.new)) }
     ensures short { IfErr result (EndsShort k (captures * block_size form) (S.seen src.old) (S.seen src.new)) }
-    ensures causes { (output report : Seen) → HaveCausesFor result
-        (streams (S.seen src.old) output report) (streams (S.seen src.new) output report) }
+    ensures causes { HasReadCause result (S.seen src.old) (S.seen src.new) }
 {
     merge.clear();
     for c in 0..captures {
@@ -181,8 +179,7 @@ fn fetch_capture<S: Source>(
     ensures full { OnOk result (Captures form (S.seen src.old).bytes (S.seen src.new).bytes (rows_of work.new) (marks_of_work work.new)) }
     ensures stage { OnOk result (HasBlock (stage_of work.new)) }
     ensures short { IfErr result (EndsInCapture k (c * block_size form) (block_size form) (S.seen src.old) (S.seen src.new)) }
-    ensures causes { (output report : Seen) → HaveCausesFor result
-        (streams (S.seen src.old) output report) (streams (S.seen src.new) output report) }
+    ensures causes { HasReadCause result (S.seen src.old) (S.seen src.new) }
 {
     let held = c * form.size() as u32;
     match fetch(src, form, work) {

@@ -6,21 +6,21 @@ use Rattle.dvd_top.proofs.commands.merge.fetch_capture.Goals as goal
 
 pub overflow_add-result : goal.overflow_add-result
 overflow_add-result g c =
-    let ended = (c.fetch.ensures.short c.in-Short.bytes c.in-Short.is).1 in
+    let ended = (c.fetch.ensures.fetches.short c.in-Short.bytes c.in-Short.is).1 in
     omega (arith, held-few c.args.form c.args.c c.size.result c.in-Short.bytes c.requires.capture c.size.ensures (subst (λ n. c.in-Short.bytes < n) (sized-block c.args.form c.requires.form ended.bytes) ended.fewer))
 
 pub returns-in-Short-clause-short : goal.returns-in-Short-clause-short
 returns-in-Short-clause-short g c =
-    let ended = (c.fetch.ensures.short c.in-Short.bytes c.in-Short.is).1 in
+    let ended = (c.fetch.ensures.fetches.short c.in-Short.bytes c.in-Short.is).1 in
     capture_short c.args.form c.args.k c.args.c c.size.result c.in-Short.bytes (g.S.Source.seen c.args.src.now) (g.S.Source.seen c.fetch.new.src) c.requires.form c.size.ensures ended
 
 pub returns-in-End-clause-short : goal.returns-in-End-clause-short
 returns-in-End-clause-short g c =
-    capture_none c.args.form c.args.k c.args.c c.size.result (g.S.Source.seen c.args.src.now) (g.S.Source.seen c.fetch.new.src) c.requires.form c.size.ensures (c.fetch.ensures.end c.in-End.is)
+    capture_none c.args.form c.args.k c.args.c c.size.result (g.S.Source.seen c.args.src.now) (g.S.Source.seen c.fetch.new.src) c.requires.form c.size.ensures (c.fetch.ensures.fetches.end c.in-End.is)
 
 pub returns-in-ReadFault-clause-short : goal.returns-in-ReadFault-clause-short
 returns-in-ReadFault-clause-short g c =
-    capture_failed c.args.form c.args.k _ (g.S.Source.seen c.args.src.now) (g.S.Source.seen c.fetch.new.src) c.requires.form (c.fetch.ensures.fault c.in-ReadFault.is)
+    capture_failed c.args.form c.args.k _ (g.S.Source.seen c.args.src.now) (g.S.Source.seen c.fetch.new.src) c.requires.form (c.fetch.ensures.fetches.fault c.in-ReadFault.is)
 
 pub returns-in-BadMarks-clause-short : goal.returns-in-BadMarks-clause-short
-returns-in-BadMarks-clause-short g c = absurd (c.requires.form (c.fetch.ensures.broken c.in-BadMarks.at c.in-BadMarks.is).listed)
+returns-in-BadMarks-clause-short g c = absurd (c.requires.form (c.fetch.ensures.fetches.broken c.in-BadMarks.at c.in-BadMarks.is).listed)

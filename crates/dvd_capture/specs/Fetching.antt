@@ -1,4 +1,4 @@
--- Ours: what the reading of a block into its buffers answers.
+-- Ours: what is answered where a captured block is read.
 use Rattle.std.specs.Prelude.{◌≡◌, ◌≢◌, ℕ, ◌<◌, ◌≤◌, Bool, List}
 use Rattle.dvd_ports.specs.Causes.{Rose}
 use Rattle.dvd_ports.specs.Seen.{Seen}
