@@ -11,6 +11,7 @@ pub mod LoopEnds
 pub mod Over
 pub mod PlainEnds
 pub mod Reached
+pub mod Silent
 pub mod Sizes
 pub mod StepLemmas
 pub mod StreamLemmas

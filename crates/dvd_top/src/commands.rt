@@ -29,7 +29,6 @@ pub(crate) use exercise::run_exercise;
 pub use frames::frames_loop;
 pub use info::info_loop;
 pub(crate) use info::run_info;
-pub(crate) use making::{Made, make_each};
 pub use master::master_loop;
 pub(crate) use master::run_master;
 pub use merge::merge_loop;

@@ -6,8 +6,8 @@ ghost use Rattle.dvd_top.specs.Inner.Performing.{IsPerformed};
 ghost use Rattle.dvd_words.specs.Reading.{IsLawful};
 
 use crate::commands::{
-    Made, cdread_loop, make_each, run_assemble, run_convert, run_deep, run_exercise, run_info,
-    run_master, run_merge, run_recover, run_survey,
+    cdmake_loop, cdread_loop, frames_loop, run_assemble, run_convert, run_deep, run_exercise,
+    run_info, run_master, run_merge, run_recover, run_survey,
 };
 use crate::lines::{close_line, refused_line};
 use crate::status::{Refusal, Status};
@@ -67,29 +67,15 @@ fn perform<S: Source, K: Sink, E: Sink, R: Threads + Sync, G: Gate>(
     ensures untouched { IsErr result → (src.new ≡ src.old) × (out.new ≡ out.old) × (report.new ≡ report.old) }
 {
     match settings.command {
-        Command::Frames => Ok(make_each(
-            Made::DataFrame,
-            settings.first,
-            settings.sectors,
-            src,
-            out,
-            report,
-        )),
-        Command::Master => run_master(rt, gate, alloc, settings, src, out, report),
+        Command::Frames => Ok(frames_loop(settings, src, out)),
+        Command::Master => run_master(rt, gate, alloc, settings, src, out),
         Command::Recover => run_recover(rt, gate, alloc, settings, src, out, report),
         Command::Info => run_info(alloc, settings, src, out, report),
-        Command::Survey => run_survey(rt, gate, alloc, settings, src, out, report),
+        Command::Survey => run_survey(rt, gate, alloc, settings, src, out),
         Command::Exercise => run_exercise(rt, gate, alloc, settings, src, out, report),
-        Command::CdMake => Ok(make_each(
-            Made::CdSector,
-            settings.address,
-            settings.sectors,
-            src,
-            out,
-            report,
-        )),
+        Command::CdMake => Ok(cdmake_loop(settings, src, out)),
         Command::CdRead => Ok(cdread_loop(settings, src, out, report)),
-        Command::Merge => run_merge(alloc, settings, src, out, report),
+        Command::Merge => run_merge(alloc, settings, src, out),
         Command::Deep => run_deep(alloc, settings, src, out, report),
         Command::Assemble => run_assemble(alloc, settings, src, out, report),
         Command::Convert => run_convert(alloc, settings, src, out, report),

@@ -11,7 +11,7 @@ ghost use Rattle.dvd_top.specs.Inner.Making.{IsMadeAs, number_limit};
 use cd_sector::make;
 use dvd_frame::{Area, Id, Rule, make_frame};
 use dvd_loop::{LoneTurns, LoopEnd, Turn, follow_lone, read_unit};
-use dvd_ports::{Sink, Source, write_whole};
+use dvd_ports::{NullSink, Sink, Source, write_whole};
 
 /// What is made of a sector of 2,048 bytes.
 #[derive(Clone, Copy, Drop)]
@@ -59,26 +59,24 @@ impl LoneTurns for Making {
     }
 }
 
-/// Makes this of each of so many sectors, the first of which has that number or address. The report stays as it is.
-pub(crate) fn make_each<S: Source, K: Sink, E: Sink>(
+/// Makes this of each of so many sectors, the first of which has that number or address.
+pub(crate) fn make_each<S: Source, K: Sink>(
     made: Made,
     first: u32,
     sectors: u32,
     src: &mut S,
     out: &mut K,
-    report: &mut E,
 ) -> LoopEnd
     requires { first + sectors ≤ number_limit made }
-    ensures { HasEnded (IsOutcome (sectors_made (IsMadeAs made) first sectors))
-        (streams (S.seen src.old) (K.seen out.old) (E.seen report.old))
-        (streams (S.seen src.new) (K.seen out.new) (E.seen report.new)) result }
+    ensures { (report : Seen) → HasEnded (IsOutcome (sectors_made (IsMadeAs made) first sectors))
+        (streams (S.seen src.old) (K.seen out.old) report) (streams (S.seen src.new) (K.seen out.new) report) result }
 {
     let making = Making {
         made,
         first,
         sectors,
     };
-    follow_lone(making, src, out, report)
+    follow_lone(making, src, out, &mut NullSink::new())
 }
 
 // Makes this of one sector and writes it.

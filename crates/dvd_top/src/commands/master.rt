@@ -10,8 +10,9 @@ ghost use Rattle.dvd_layout.specs.declared.layout.Layout.{Layout as DiskLayout};
 ghost use Rattle.dvd_layout.specs.declared.layout.Zones.{Zones as WhichZones};
 ghost use Rattle.dvd_loop.specs.Laws.{IsPlainEnd};
 ghost use Rattle.dvd_loop.specs.Machine.{IsOutcome};
-ghost use Rattle.dvd_loop.specs.Streams.{streams, HasEnded, no_stream};
+ghost use Rattle.dvd_loop.specs.Streams.{streams, HasEnded};
 ghost use Rattle.dvd_loop.specs.Turns.{EndsShort, HasReadCause};
+ghost use Rattle.dvd_ports.specs.Seen.{Seen};
 ghost use Rattle.dvd_top.specs.Commands.Master.{cpr_in, frame_for, frames_of, image_bytes, main_for, master_units};
 ghost use Rattle.dvd_top.specs.Inner.Performing.{IsPerformedByWords};
 ghost use Rattle.dvd_top.specs.Inner.Workers.{IsAdder};
@@ -92,39 +93,9 @@ pub fn master_loop<R: Threads + Sync, G: Gate, S: Source, K: Sink>(
 ) -> LoopEnd
     requires layout { IsLayoutOf settings.now layout.now }
     requires workers { (1 ≤ settings.now.workers) × (settings.now.workers ≤ 16) }
-    ensures follows { HasEnded (IsOutcome (master_units layout.now settings.now.zones settings.now.cpr))
-        (streams (S.seen src.old) (K.seen out.old) no_stream) (streams (S.seen src.new) (K.seen out.new) no_stream) result }
+    ensures follows { (report : Seen) → HasEnded (IsOutcome (master_units layout.now settings.now.zones settings.now.cpr))
+        (streams (S.seen src.old) (K.seen out.old) report) (streams (S.seen src.new) (K.seen out.new) report) result }
     ensures ends { IsPlainEnd (length (plan_of layout.now settings.now.zones)) result }
-{
-    follow_blocks(
-        rt,
-        gate,
-        settings,
-        layout,
-        block,
-        piece,
-        src,
-        out,
-        &mut NullSink::new(),
-    )
-}
-
-// The same beside any report, which stays as it is.
-fn follow_blocks<R: Threads + Sync, G: Gate, S: Source, K: Sink, E: Sink>(
-    rt: &R,
-    gate: &G,
-    settings: &Settings,
-    layout: &Layout,
-    block: &mut Block,
-    piece: &mut Piece,
-    src: &mut S,
-    out: &mut K,
-    report: &mut E,
-) -> LoopEnd
-    requires { (1 ≤ settings.now.workers) × (settings.now.workers ≤ 16) }
-    ensures { HasEnded (IsOutcome (master_units layout.now settings.now.zones settings.now.cpr))
-        (streams (S.seen src.old) (K.seen out.old) (E.seen report.old))
-        (streams (S.seen src.new) (K.seen out.new) (E.seen report.new)) result }
 {
     let workers = settings.workers;
     let add = |block: &mut Block|
@@ -139,31 +110,29 @@ fn follow_blocks<R: Threads + Sync, G: Gate, S: Source, K: Sink, E: Sink>(
         block,
         piece,
     };
-    follow_lone(master, src, out, report)
+    follow_lone(master, src, out, &mut NullSink::new())
 }
 
 /// The command with its buffers, or why it doesn't begin.
-pub(crate) fn run_master<R: Threads + Sync, G: Gate, S: Source, K: Sink, E: Sink>(
+pub(crate) fn run_master<R: Threads + Sync, G: Gate, S: Source, K: Sink>(
     rt: &R,
     gate: &G,
     alloc: Global,
     settings: &Settings,
     src: &mut S,
     out: &mut K,
-    report: &mut E,
 ) -> Result<LoopEnd, Refusal>
     requires command { settings.now.command ≡ Command.Master }
     requires workers { (1 ≤ settings.now.workers) × (settings.now.workers ≤ 16) }
-    ensures performed { IsPerformedByWords settings.now
-        (streams (S.seen src.old) (K.seen out.old) (E.seen report.old))
-        (streams (S.seen src.new) (K.seen out.new) (E.seen report.new)) result }
-    ensures untouched { IsErr result → (src.new ≡ src.old) × (out.new ≡ out.old) × (report.new ≡ report.old) }
+    ensures performed { (report : Seen) → IsPerformedByWords settings.now
+        (streams (S.seen src.old) (K.seen out.old) report) (streams (S.seen src.new) (K.seen out.new) report) result }
+    ensures untouched { IsErr result → (src.new ≡ src.old) × (out.new ≡ out.old) }
 {
     let layout = settings.layout()?;
     let mut block = Block::new(alloc)?;
     let mut piece = Piece::new(alloc)?;
-    Ok(follow_blocks(
-        rt, gate, settings, &layout, &mut block, &mut piece, src, out, report,
+    Ok(master_loop(
+        rt, gate, settings, &layout, &mut block, &mut piece, src, out,
     ))
 }
 

@@ -9,9 +9,10 @@ ghost use Rattle.dvd_layout.specs.declared.layout.Layout.{Layout as DiskLayout};
 ghost use Rattle.dvd_layout.specs.declared.layout.Zones.{Zones as WhichZones};
 ghost use Rattle.dvd_loop.specs.Laws.{IsPlainEnd};
 ghost use Rattle.dvd_loop.specs.Machine.{IsOutcome};
-ghost use Rattle.dvd_loop.specs.Streams.{streams, HasEnded, no_stream};
+ghost use Rattle.dvd_loop.specs.Streams.{streams, HasEnded};
 ghost use Rattle.dvd_loop.specs.Turns.{EndsShort, HasReadCause};
 ghost use Rattle.dvd_merge.specs.Merges.{table_of};
+ghost use Rattle.dvd_ports.specs.Seen.{Seen};
 ghost use Rattle.dvd_top.specs.Commands.Merge.{merge_units};
 ghost use Rattle.dvd_top.specs.Inner.Performing.{AreTaken, EndsInCapture, IsPerformedByWords};
 ghost use Rattle.dvd_words.specs.Settings.{IsLayoutOf};
@@ -78,37 +79,9 @@ pub fn merge_loop<S: Source, K: Sink>(
     requires layout { IsLayoutOf settings.now layout.now }
     requires form { HasSize settings.now.form }
     requires captures { settings.now.captures ≤ 16 }
-    ensures follows { HasEnded (IsOutcome (merge_units layout.now settings.now.zones settings.now.form settings.now.captures))
-        (streams (S.seen src.old) (K.seen out.old) no_stream) (streams (S.seen src.new) (K.seen out.new) no_stream) result }
+    ensures follows { (report : Seen) → HasEnded (IsOutcome (merge_units layout.now settings.now.zones settings.now.form settings.now.captures))
+        (streams (S.seen src.old) (K.seen out.old) report) (streams (S.seen src.new) (K.seen out.new) report) result }
     ensures ends { IsPlainEnd (length (plan_of layout.now settings.now.zones)) result }
-{
-    merge_stream(
-        settings,
-        layout,
-        merge,
-        work,
-        src,
-        out,
-        &mut NullSink::new(),
-    )
-}
-
-// The same beside any report, which stays as it is.
-fn merge_stream<S: Source, K: Sink, E: Sink>(
-    settings: &Settings,
-    layout: &Layout,
-    merge: &mut Merge,
-    work: &mut Work,
-    src: &mut S,
-    out: &mut K,
-    report: &mut E,
-) -> LoopEnd
-    requires layout { IsLayoutOf settings.now layout.now }
-    requires form { HasSize settings.now.form }
-    requires captures { settings.now.captures ≤ 16 }
-    ensures { HasEnded (IsOutcome (merge_units layout.now settings.now.zones settings.now.form settings.now.captures))
-        (streams (S.seen src.old) (K.seen out.old) (E.seen report.old))
-        (streams (S.seen src.new) (K.seen out.new) (E.seen report.new)) result }
 {
     let merging = Merging {
         layout: *layout,
@@ -118,29 +91,27 @@ fn merge_stream<S: Source, K: Sink, E: Sink>(
         merge,
         work,
     };
-    follow_lone(merging, src, out, report)
+    follow_lone(merging, src, out, &mut NullSink::new())
 }
 
 /// The command with its buffers, or why it doesn't begin.
-pub(crate) fn run_merge<S: Source, K: Sink, E: Sink>(
+pub(crate) fn run_merge<S: Source, K: Sink>(
     alloc: Global,
     settings: &Settings,
     src: &mut S,
     out: &mut K,
-    report: &mut E,
 ) -> Result<LoopEnd, Refusal>
     requires command { settings.now.command ≡ Command.Merge }
     requires form { HasSize settings.now.form }
     requires captures { settings.now.captures ≤ 16 }
-    ensures performed { IsPerformedByWords settings.now
-        (streams (S.seen src.old) (K.seen out.old) (E.seen report.old))
-        (streams (S.seen src.new) (K.seen out.new) (E.seen report.new)) result }
-    ensures untouched { IsErr result → (src.new ≡ src.old) × (out.new ≡ out.old) × (report.new ≡ report.old) }
+    ensures performed { (report : Seen) → IsPerformedByWords settings.now
+        (streams (S.seen src.old) (K.seen out.old) report) (streams (S.seen src.new) (K.seen out.new) report) result }
+    ensures untouched { IsErr result → (src.new ≡ src.old) × (out.new ≡ out.old) }
 {
     let layout = settings.layout()?;
     let mut merge = Merge::new(alloc)?;
     let mut work = Work::new(alloc)?;
-    Ok(merge_stream(settings, &layout, &mut merge, &mut work, src, out, report))
+    Ok(merge_loop(settings, &layout, &mut merge, &mut work, src, out))
 }
 
 // Joins the captures of block `k`, these alone, or answers how the loop ends within them.

@@ -103,41 +103,9 @@ pub fn survey_loop<R: Threads + Sync, G: Gate, S: Source, K: Sink>(
     requires layout { IsLayoutOf settings.now layout.now }
     requires workers { (1 ≤ settings.now.workers) × (settings.now.workers ≤ 16) }
     requires empty { StandsFor survey.old [] }
-    ensures follows { HasEnded (IsOutcome (survey_units layout.now settings.now.zones settings.now.form))
-        (streams (S.seen src.old) (K.seen out.old) no_stream) (streams (S.seen src.new) (K.seen out.new) no_stream) result }
+    ensures follows { (report : Seen) → HasEnded (IsOutcome (survey_units layout.now settings.now.zones settings.now.form))
+        (streams (S.seen src.old) (K.seen out.old) report) (streams (S.seen src.new) (K.seen out.new) report) result }
     ensures ends { IsCaptureEnd settings.now.form (length (plan_of layout.now settings.now.zones)) result }
-{
-    survey_stream(
-        rt,
-        gate,
-        settings,
-        layout,
-        survey,
-        work,
-        src,
-        out,
-        &mut NullSink::new(),
-    )
-}
-
-// The same beside any report, which stays as it is.
-fn survey_stream<R: Threads + Sync, G: Gate, S: Source, K: Sink, E: Sink>(
-    rt: &R,
-    gate: &G,
-    settings: &Settings,
-    layout: &Layout,
-    survey: &mut Survey,
-    work: &mut Work,
-    src: &mut S,
-    out: &mut K,
-    report: &mut E,
-) -> LoopEnd
-    requires layout { IsLayoutOf settings.now layout.now }
-    requires workers { (1 ≤ settings.now.workers) × (settings.now.workers ≤ 16) }
-    requires empty { StandsFor survey.old [] }
-    ensures { HasEnded (IsOutcome (survey_units layout.now settings.now.zones settings.now.form))
-        (streams (S.seen src.old) (K.seen out.old) (E.seen report.old))
-        (streams (S.seen src.new) (K.seen out.new) (E.seen report.new)) result }
 {
     let workers = settings.workers;
     let read = |work: &mut Work, plan: &BlockPlan| -> Result<Fixed, Cause>
@@ -149,11 +117,11 @@ fn survey_stream<R: Threads + Sync, G: Gate, S: Source, K: Sink, E: Sink>(
             × HasNumbers plan.now }
         ensures { IsBlockRead work.entry.now work.exit.now plan.entry.now result }
     { read_block_par(rt, workers, gate, work, plan) };
-    survey_by(&read, settings, layout, survey, work, src, out, report)
+    survey_by(&read, settings, layout, survey, work, src, out)
 }
 
 // The same with what reads a block.
-fn survey_by<'a, F: Fn(&mut Work, &BlockPlan) -> Result<Fixed, Cause>, S: Source, K: Sink, E: Sink>(
+fn survey_by<'a, F: Fn(&mut Work, &BlockPlan) -> Result<Fixed, Cause>, S: Source, K: Sink>(
     read: &F,
     settings: &Settings,
     layout: &Layout,
@@ -161,13 +129,11 @@ fn survey_by<'a, F: Fn(&mut Work, &BlockPlan) -> Result<Fixed, Cause>, S: Source
     work: &'a mut Work,
     src: &mut S,
     out: &mut K,
-    report: &mut E,
 ) -> LoopEnd
     requires reader { IsReader F.Fn read.now }
     requires empty { StandsFor survey.old [] }
     ensures { HasEnded (IsOutcome (survey_units layout.now settings.now.zones settings.now.form))
-        (streams (S.seen src.old) (K.seen out.old) (E.seen report.old))
-        (streams (S.seen src.new) (K.seen out.new) (E.seen report.new)) result }
+        (streams (S.seen src.old) (K.seen out.old) no_stream) (streams (S.seen src.new) (K.seen out.new) no_stream) result }
 {
     let mut surveying = Surveying {
         layout: *layout,
@@ -177,31 +143,29 @@ fn survey_by<'a, F: Fn(&mut Work, &BlockPlan) -> Result<Fixed, Cause>, S: Source
         survey,
         work,
     };
-    follow(&mut surveying, src, out, report)
+    follow(&mut surveying, src, out, &mut NullSink::new())
 }
 
 /// The command with its buffers, or why it doesn't begin.
-pub(crate) fn run_survey<R: Threads + Sync, G: Gate, S: Source, K: Sink, E: Sink>(
+pub(crate) fn run_survey<R: Threads + Sync, G: Gate, S: Source, K: Sink>(
     rt: &R,
     gate: &G,
     alloc: Global,
     settings: &Settings,
     src: &mut S,
     out: &mut K,
-    report: &mut E,
 ) -> Result<LoopEnd, Refusal>
     requires command { settings.now.command ≡ Command.Survey }
     requires workers { (1 ≤ settings.now.workers) × (settings.now.workers ≤ 16) }
-    ensures performed { IsPerformed settings.now
-        (streams (S.seen src.old) (K.seen out.old) (E.seen report.old))
-        (streams (S.seen src.new) (K.seen out.new) (E.seen report.new)) result }
-    ensures untouched { IsErr result → (src.new ≡ src.old) × (out.new ≡ out.old) × (report.new ≡ report.old) }
+    ensures performed { (report : Seen) → IsPerformed settings.now
+        (streams (S.seen src.old) (K.seen out.old) report) (streams (S.seen src.new) (K.seen out.new) report) result }
+    ensures untouched { IsErr result → (src.new ≡ src.old) × (out.new ≡ out.old) }
 {
     let worded = worded_layout(settings)?;
     let mut survey = Survey::new(alloc)?;
     let mut work = Work::new(alloc)?;
     match open_blocks(settings, worded, src) {
-        Ok(stated) => Ok(survey_stream(
+        Ok(stated) => Ok(survey_loop(
             rt,
             gate,
             &stated.settings,
@@ -210,7 +174,6 @@ pub(crate) fn run_survey<R: Threads + Sync, G: Gate, S: Source, K: Sink, E: Sink
             &mut work,
             src,
             out,
-            report,
         )),
         Err(end) => Ok(end),
     }

@@ -6,8 +6,8 @@ use Rattle.dvd_top.proofs.HeaderTaken.{gone_over}
 use Rattle.dvd_top.proofs.commands.master.run_master.Goals as goal
 
 pub returns-clause-performed : goal.returns-clause-performed
-returns-clause-performed g c =
+returns-clause-performed g c = λ report.
     let settings = c.args.settings.now in
     let layout = c.in_ok-layout.layout in
     gone_over Master settings c.requires.command (c.in_ok-layout.ensures.lawful refl) (master_units layout settings.zones settings.cpr) (λ P units. (layout, c.in_ok-layout.ensures.lengths, units))
-    _ _ c.follow_blocks.result c.follow_blocks.ensures
+    _ _ c.master_loop.result (c.master_loop.ensures.follows report)

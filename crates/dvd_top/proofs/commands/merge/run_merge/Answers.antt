@@ -6,8 +6,8 @@ use Rattle.dvd_top.proofs.HeaderTaken.{gone_over}
 use Rattle.dvd_top.proofs.commands.merge.run_merge.Goals as goal
 
 pub returns-clause-performed : goal.returns-clause-performed
-returns-clause-performed g c =
+returns-clause-performed g c = λ report.
     let settings = c.args.settings.now in
     let layout = c.in_ok-layout.layout in
     gone_over Merge settings c.requires.command (c.in_ok-layout.ensures.lawful refl) (merge_units layout settings.zones settings.form settings.captures) (λ P units. (layout, c.in_ok-layout.ensures.lengths, units))
-    _ _ c.merge_stream.result c.merge_stream.ensures
+    _ _ c.merge_loop.result (c.merge_loop.ensures.follows report)

@@ -1,0 +1,121 @@
+-- A run whose units tell nothing is the same beside any report, which stays as it is.
+use Rattle.std.proofs.Common.{◌≡◌, ◌∙◌, inl, inr, ℕ, zero, suc, ◌+◌, Bool, true, false, List, [], ◌∷◌, ◌++◌, length, ap, refl, subst, sym, arith}
+use Rattle.std.specs.Io.KnownBytes.{Appends}
+use Rattle.dvd_ports.specs.Causes.{Rose}
+use Rattle.dvd_ports.specs.Seen.{Seen}
+use Rattle.dvd_ports.proofs.KnownLemmas.{Appends-none}
+use Rattle.dvd_loop.specs.Machine.{Does, EndsBehind, Goes, GoesOn, IsOutcome, Outcome, Step, Units, bad_of, plain_units}
+use Rattle.dvd_loop.specs.Machine.Step.{Write, Tell}
+use Rattle.dvd_loop.specs.Streams.{Counts, HasEnded, is_report_fault, no_stream, streams}
+use Rattle.dvd_loop.specs.declared.ends.Behind.{Behind}
+use Rattle.dvd_loop.specs.declared.ends.Behind.TheVariants as behind
+use Rattle.dvd_loop.specs.declared.ends.LoopEnd.{LoopEnd}
+use Rattle.dvd_loop.specs.declared.ends.Turn.{Turn}
+use Rattle.dvd_loop.specs.declared.ends.Turn.TheVariants.{Good, Bad, Last}
+
+-- all of these steps write
+abbrev pub AreWrites : List Step → Type 0
+AreWrites [] = Unit {0}
+AreWrites (Write bytes ∷ steps) = AreWrites steps
+AreWrites (Tell line ∷ steps) = ⊥
+
+-- no step of these units tells a line
+pub record AreSilent (units : Units) : Type 0 where
+  pub opens : AreWrites units.opens
+  pub does : (k : ℕ) (before : List (List ℕ)) (own : List ℕ) (steps : List Step) (turn : Turn) → units.does k before own steps turn → AreWrites steps
+  pub closes : (before : List (List ℕ)) (steps : List Step) → units.closes before steps → AreWrites steps
+
+-- a write alone
+pub one_write : (steps : List Step) (bytes : List ℕ) → steps ≡ Write bytes ∷ [] → AreWrites steps
+one_write steps bytes is = subst AreWrites (sym is) tt
+
+-- units that nothing opens or closes, and for each of which there are only writes
+pub plain_silent : (count : ℕ) (size : ℕ → ℕ) (does : ℕ → List ℕ → List Step → Turn → Type 0)
+    → ((k : ℕ) (own : List ℕ) (steps : List Step) (turn : Turn) → does k own steps turn → AreWrites steps) → AreSilent (plain_units count size does)
+plain_silent count size does write = record {
+  opens = tt;
+  does = λ k before own steps turn done. write k own steps turn done;
+  closes = λ before steps is. subst AreWrites (sym is) tt;
+}
+
+-- these outcomes have no lines
+abbrev HaveNoLines : (Outcome → Type 0) → Type 0
+HaveNoLines A = (a : Outcome) → A a → a.lines ≡ []
+
+-- nor has an outcome that is one of them
+no_lines : (a b : Outcome) → a ≡ b → b.lines ≡ [] → a.lines ≡ []
+no_lines a b is none = ap (λ (o : Outcome). o.lines) is ∙ none
+
+-- behind steps that write, and where one of them fails
+steps_silent : (steps : List Step) → AreWrites steps → (A : Outcome → Type 0) → HaveNoLines A → HaveNoLines (Does steps A)
+steps_silent [] are A none a does = none a does
+steps_silent (Write bytes ∷ steps) are A none a does = elim does [
+  | inl (front, left, whole, some, fails) ↦ no_lines a _ fails refl
+  | inr (after, goes, is) ↦ no_lines a _ is (steps_silent steps are A none after goes)
+]
+steps_silent (Tell line ∷ steps) are A none a does = absurd are
+
+-- behind the last unit
+behind_silent : (stands : Behind) (bad : ℕ) (left : List ℕ) → HaveNoLines (EndsBehind stands bad left)
+behind_silent behind.Done bad left a is = no_lines a _ is refl
+behind_silent behind.NoControl bad left a is = no_lines a _ is refl
+behind_silent behind.Asks bad [] a ends = elim ends [
+  | inl is ↦ no_lines a _ is refl
+  | inr is ↦ no_lines a _ is refl
+]
+behind_silent behind.Asks bad (byte ∷ left) a ends = elim ends [
+  | inl is ↦ no_lines a _ is refl
+  | inr is ↦ no_lines a _ is refl
+]
+
+-- behind a unit
+turn_silent : (turn : Turn) (A : Outcome → Type 0) → HaveNoLines A → HaveNoLines (GoesOn turn A)
+turn_silent Good A none a goes = none a goes
+turn_silent Bad A none a goes = none a goes
+turn_silent Last A none a is = no_lines a _ is refl
+
+-- a count that neither rose nor moved of a stream that is not there, and of any
+none_rose : (rose : Bool) (n : ℕ) → Counts rose 0 0 → Counts rose n n
+none_rose false n is = refl
+none_rose true n is = let rose : Rose 0 0 = is in absurd (omega arith)
+
+module _ (units : Units) (are : AreSilent units) where
+  -- from a unit on
+  goes_silent : (n : ℕ) (before : List (List ℕ)) (bad : ℕ) (bytes : List ℕ) → HaveNoLines (Goes units n before bad bytes)
+  unfolding Goes
+  goes_silent zero before bad bytes a (steps, closes, does) =
+      steps_silent steps (are.closes before steps closes) (EndsBehind units.behind bad bytes) (behind_silent units.behind bad bytes) a does
+  goes_silent (suc n) before bad bytes a goes = elim goes [
+    | inl w ↦ no_lines a _ w.takes refl
+    | inr t ↦
+        let Next = Goes units n (before ++ t.own ∷ []) (bad + bad_of t.turn) t.left in
+        no_lines a _ t.takes (steps_silent t.steps (are.does (length before) before t.own t.steps t.turn t.unit.does) (GoesOn t.turn Next)
+        (turn_silent t.turn Next (goes_silent n (before ++ t.own ∷ []) (bad + bad_of t.turn) t.left)) t.after t.does)
+  ]
+
+  -- a run without a report is one beside any
+  pub beside : (source new_source output new_output report : Seen) (end : LoopEnd)
+      → HasEnded (IsOutcome units) (streams source output no_stream) (streams new_source new_output no_stream) end
+      → HasEnded (IsOutcome units) (streams source output report) (streams new_source new_output report) end
+  beside source new_source output new_output report end ended =
+      let comes = ended.comes in
+      let none = steps_silent units.opens are.opens (Goes units units.count [] 0 comes.bytes) (goes_silent units.count [] 0 comes.bytes) comes.outcome comes.holds in
+      record {
+        comes = record {
+          bytes = comes.bytes;
+          told = comes.told;
+          outcome = comes.outcome;
+          holds = comes.holds;
+          ends = comes.ends;
+          moved = record {
+            reads = comes.moved.reads;
+            writes = comes.moved.writes;
+            tells = subst (Appends report.bytes report.bytes) (sym none) (Appends-none report.bytes);
+          };
+        };
+        causes = record {
+          source = ended.causes.source;
+          output = ended.causes.output;
+          report = none_rose (is_report_fault end) report.faults ended.causes.report;
+        };
+      }

@@ -1,0 +1,57 @@
+-- The proof of `perform` in src/top.rt.
+use Rattle.std.proofs.Common.{◌≡◌, ◌∙◌, Ok, Err, false, refl, subst, sym, true}
+use Rattle.std.specs.Prelude.{Result}
+use Rattle.dvd_capture.specs.Captured.{HasSize}
+use Rattle.dvd_loop.specs.Streams.{Streams}
+use Rattle.dvd_loop.specs.declared.ends.LoopEnd.{LoopEnd}
+use Rattle.dvd_top.specs.Commands.CdMake.{cdmake_units}
+use Rattle.dvd_top.specs.Commands.Frames.{frames_units}
+use Rattle.dvd_top.specs.Inner.Performing.{IsPerformed, IsPerformedByWords}
+use Rattle.dvd_top.specs.declared.status.Refusal.{Refusal}
+use Rattle.dvd_top.specs.declared.status.Refusal.TheVariants.{NoMemory, Setting}
+use Rattle.dvd_words.specs.Reading.{IsLawful, takes_listed}
+use Rattle.dvd_words.specs.declared.settings.Command.{Command}
+use Rattle.dvd_words.specs.declared.settings.Command.TheVariants.{CdMake, Frames, Master, Merge}
+use Rattle.dvd_words.specs.declared.settings.Settings.{Settings}
+use Rattle.dvd_top.proofs.HeaderTaken.{breaks_by_words, gone_over, looped_by_words}
+use Rattle.dvd_top.proofs.top.perform.Goals as goal
+
+-- a command that reads no listed captures is told no such form
+sized : (settings : Settings) (command : Command) → IsLawful settings → settings.command ≡ command → takes_listed command ≡ false → HasSize settings.form
+sized settings command lawful is not listed =
+    let takes : takes_listed command ≡ true = subst (λ c. takes_listed c ≡ true) is (lawful.listed listed) in
+    let no : false ≡ true = sym not ∙ takes in cc
+
+-- what a command did by its words alone is what it did
+by_words : (settings : Settings) → HasSize settings.form → (old new : Streams) (answer : Result LoopEnd Refusal)
+    → IsPerformedByWords settings old new answer → IsPerformed settings old new answer
+by_words settings sized old new (Ok end) gone = looped_by_words settings sized old new end gone
+by_words settings sized old new (Err (Setting fault)) breaks = breaks_by_words settings.form sized settings ∙ breaks
+by_words settings sized old new (Err NoMemory) unbroken = breaks_by_words settings.form sized settings ∙ unbroken
+
+pub returns-in-Frames-clause-performed : goal.returns-in-Frames-clause-performed
+returns-in-Frames-clause-performed g c =
+    let settings = c.args.settings.now in
+    looped_by_words settings (sized settings Frames c.requires c.in-Frames.is refl) _ _ c.frames_loop.result
+    (gone_over Frames settings c.in-Frames.is refl (frames_units settings.first settings.sectors) (λ P holds. holds) _ _ c.frames_loop.result
+    (c.frames_loop.ensures.follows (g.E.Sink.seen c.args.report.now)))
+
+pub returns-in-CdMake-clause-performed : goal.returns-in-CdMake-clause-performed
+returns-in-CdMake-clause-performed g c =
+    let settings = c.args.settings.now in
+    looped_by_words settings (sized settings CdMake c.requires c.in-CdMake.is refl) _ _ c.cdmake_loop.result
+    (gone_over CdMake settings c.in-CdMake.is refl (cdmake_units settings.address settings.sectors) (λ P holds. holds) _ _ c.cdmake_loop.result
+    (c.cdmake_loop.ensures.follows (g.E.Sink.seen c.args.report.now)))
+
+pub returns-in-Master-clause-performed : goal.returns-in-Master-clause-performed
+returns-in-Master-clause-performed g c =
+    let settings = c.args.settings.now in
+    by_words settings (sized settings Master c.requires c.in-Master.is refl) _ _ c.run_master.result (c.run_master.ensures.performed (g.E.Sink.seen c.args.report.now))
+
+pub returns-in-Merge-clause-performed : goal.returns-in-Merge-clause-performed
+returns-in-Merge-clause-performed g c =
+    let settings = c.args.settings.now in
+    by_words settings (sized settings Merge c.requires c.in-Merge.is refl) _ _ c.run_merge.result (c.run_merge.ensures.performed (g.E.Sink.seen c.args.report.now))
+
+pub returns-in-Survey-clause-performed : goal.returns-in-Survey-clause-performed
+returns-in-Survey-clause-performed g c = c.run_survey.ensures.performed (g.E.Sink.seen c.args.report.now)
