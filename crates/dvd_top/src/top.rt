@@ -72,7 +72,7 @@ fn perform<S: Source, K: Sink, E: Sink, R: Threads + Sync, G: Gate>(
         Command::Recover => run_recover(rt, gate, alloc, settings, src, out, report),
         Command::Info => run_info(alloc, settings, src, out, report),
         Command::Survey => run_survey(rt, gate, alloc, settings, src, out),
-        Command::Exercise => run_exercise(rt, gate, alloc, settings, src, out, report),
+        Command::Exercise => run_exercise(rt, gate, alloc, settings, src, out),
         Command::CdMake => Ok(cdmake_loop(settings, src, out)),
         Command::CdRead => Ok(cdread_loop(settings, src, out, report)),
         Command::Merge => run_merge(alloc, settings, src, out),

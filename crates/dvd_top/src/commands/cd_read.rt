@@ -1,5 +1,5 @@
 //! The command `cdread`: the user data of CD-ROM sectors of Mode 1.
-ghost use Rattle.std.specs.Prelude.{◌≡◌, ◌+◌, ◌<◌, ◌≤◌, ℕ, refl};
+ghost use Rattle.std.specs.Prelude.{◌+◌, ◌<◌, ◌≤◌, ℕ, refl};
 ghost use Rattle.dvd_loop.specs.Laws.{IsDamageEnd};
 ghost use Rattle.dvd_loop.specs.Machine.{IsOutcome};
 ghost use Rattle.dvd_loop.specs.Streams.{streams, HasEnded};

@@ -13,6 +13,7 @@ ghost use Rattle.dvd_layout.specs.Plan.{IsEntry};
 ghost use Rattle.dvd_layout.specs.declared.layout.Shape.TheVariants.{Single};
 ghost use Rattle.dvd_loop.specs.Machine.{IsOutcome};
 ghost use Rattle.dvd_loop.specs.Streams.{streams, HasEnded, no_stream};
+ghost use Rattle.dvd_ports.specs.Seen.{Seen};
 ghost use Rattle.dvd_read.specs.Calls.{IsBlockRead};
 ghost use Rattle.dvd_read.specs.Reading.{block_cause, IsReadAs};
 ghost use Rattle.dvd_top.specs.Commands.Exercise.{IsLeft, drawn_sector, drawn_sectors, exercise_line, exercise_units, no_marks, state_at};
@@ -159,8 +160,8 @@ pub fn exercise_loop<R: Threads + Sync, G: Gate, K: Sink>(
     requires some { 1 ≤ settings.now.blocks }
     requires few { settings.now.blocks ≤ 4096 }
     requires workers { (1 ≤ settings.now.workers) × (settings.now.workers ≤ 16) }
-    ensures follows { HasEnded (IsOutcome (exercise_units settings.now.seed settings.now.blocks))
-        (streams no_stream (K.seen out.old) no_stream) (streams no_stream (K.seen out.new) no_stream) result }
+    ensures follows { (report : Seen) → HasEnded (IsOutcome (exercise_units settings.now.seed settings.now.blocks))
+        (streams no_stream (K.seen out.old) report) (streams no_stream (K.seen out.new) report) result }
     ensures ends { (result ≡ LoopEnd.Done) ⊎ (result ≡ LoopEnd.WriteFault) }
     ensures left { IsLeft settings.now.seed (settings.now.blocks - 1) work.new }
 {
@@ -173,12 +174,11 @@ pub fn exercise_loop<R: Threads + Sync, G: Gate, K: Sink>(
         work,
         &mut SliceSource::new(&[]),
         out,
-        &mut NullSink::new(),
     )
 }
 
-// The same beside any source and any report, which stay as they are.
-fn follow_trials<R: Threads + Sync, G: Gate, S: Source, K: Sink, E: Sink>(
+// The same beside any source, which stays as it is.
+fn follow_trials<R: Threads + Sync, G: Gate, S: Source, K: Sink>(
     rt: &R,
     gate: &G,
     settings: &Settings,
@@ -187,14 +187,12 @@ fn follow_trials<R: Threads + Sync, G: Gate, S: Source, K: Sink, E: Sink>(
     work: &mut Work,
     src: &mut S,
     out: &mut K,
-    report: &mut E,
 ) -> LoopEnd
     requires some { 1 ≤ settings.now.blocks }
     requires few { settings.now.blocks ≤ 4096 }
     requires workers { (1 ≤ settings.now.workers) × (settings.now.workers ≤ 16) }
-    ensures follows { HasEnded (IsOutcome (exercise_units settings.now.seed settings.now.blocks))
-        (streams (S.seen src.old) (K.seen out.old) (E.seen report.old))
-        (streams (S.seen src.new) (K.seen out.new) (E.seen report.new)) result }
+    ensures follows { (report : Seen) → HasEnded (IsOutcome (exercise_units settings.now.seed settings.now.blocks))
+        (streams (S.seen src.old) (K.seen out.old) report) (streams (S.seen src.new) (K.seen out.new) report) result }
     ensures left { IsLeft settings.now.seed (settings.now.blocks - 1) work.new }
 {
     let workers = settings.workers;
@@ -211,7 +209,7 @@ fn follow_trials<R: Threads + Sync, G: Gate, S: Source, K: Sink, E: Sink>(
             × HasNumbers plan.now }
         ensures { IsBlockRead work.entry.now work.exit.now plan.entry.now result }
     { read_block_par(rt, workers, gate, work, plan) };
-    follow_by(&add, &read, settings, block, piece, work, src, out, report)
+    follow_by(&add, &read, settings, block, piece, work, src, out)
 }
 
 // The same with what gives a block its parity, and what reads it.
@@ -222,7 +220,6 @@ fn follow_by<
     F: Fn(&mut Work, &BlockPlan) -> Result<Fixed, Cause>,
     S: Source,
     K: Sink,
-    E: Sink,
 >(
     add: &'r A,
     read: &'r F,
@@ -232,15 +229,13 @@ fn follow_by<
     work: &'a mut Work,
     src: &mut S,
     out: &mut K,
-    report: &mut E,
 ) -> LoopEnd
     requires adder { IsAdder A.Fn add.now }
     requires reader { IsReader F.Fn read.now }
     requires some { 1 ≤ settings.now.blocks }
     requires few { settings.now.blocks ≤ 4096 }
-    ensures follows { HasEnded (IsOutcome (exercise_units settings.now.seed settings.now.blocks))
-        (streams (S.seen src.old) (K.seen out.old) (E.seen report.old))
-        (streams (S.seen src.new) (K.seen out.new) (E.seen report.new)) result }
+    ensures follows { (report : Seen) → HasEnded (IsOutcome (exercise_units settings.now.seed settings.now.blocks))
+        (streams (S.seen src.old) (K.seen out.old) report) (streams (S.seen src.new) (K.seen out.new) report) result }
     ensures left { IsLeft settings.now.seed (settings.now.blocks - 1) work.new }
 {
     let mut exercise = Exercise {
@@ -259,33 +254,31 @@ fn follow_by<
         piece,
         work,
     };
-    follow(&mut exercise, src, out, report)
+    follow(&mut exercise, src, out, &mut NullSink::new())
 }
 
 /// The command with its buffers, or why it doesn't begin.
-pub(crate) fn run_exercise<R: Threads + Sync, G: Gate, S: Source, K: Sink, E: Sink>(
+pub(crate) fn run_exercise<R: Threads + Sync, G: Gate, S: Source, K: Sink>(
     rt: &R,
     gate: &G,
     alloc: Global,
     settings: &Settings,
     src: &mut S,
     out: &mut K,
-    report: &mut E,
 ) -> Result<LoopEnd, Refusal>
     requires command { settings.now.command ≡ Command.Exercise }
     requires some { 1 ≤ settings.now.blocks }
     requires few { settings.now.blocks ≤ 4096 }
     requires workers { (1 ≤ settings.now.workers) × (settings.now.workers ≤ 16) }
-    ensures performed { IsPerformedByWords settings.now
-        (streams (S.seen src.old) (K.seen out.old) (E.seen report.old))
-        (streams (S.seen src.new) (K.seen out.new) (E.seen report.new)) result }
-    ensures untouched { IsErr result → (src.new ≡ src.old) × (out.new ≡ out.old) × (report.new ≡ report.old) }
+    ensures performed { (report : Seen) → IsPerformedByWords settings.now
+        (streams (S.seen src.old) (K.seen out.old) report) (streams (S.seen src.new) (K.seen out.new) report) result }
+    ensures untouched { IsErr result → (src.new ≡ src.old) × (out.new ≡ out.old) }
 {
     let mut block = Block::new(alloc)?;
     let mut piece = Piece::new(alloc)?;
     let mut work = Work::new(alloc)?;
     Ok(follow_trials(
-        rt, gate, settings, &mut block, &mut piece, &mut work, src, out, report,
+        rt, gate, settings, &mut block, &mut piece, &mut work, src, out,
     ))
 }
 

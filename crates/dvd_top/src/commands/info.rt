@@ -1,10 +1,9 @@
 //! The command `info`: the physical format that the lead-in of a disk tells.
-ghost use Rattle.std.specs.Prelude.{◌≡◌, ◌≤◌, ◌+◌, ℕ, List, None, IsErr, IfSome, IsSome};
-ghost use Rattle.dvd_block.specs.Product.{line};
+ghost use Rattle.std.specs.Prelude.{◌≡◌, ◌≤◌, ◌+◌, ℕ, None, IsErr, IfSome};
 ghost use Rattle.dvd_capture.specs.Rule.{HasBlock};
 ghost use Rattle.dvd_capture.specs.Works.{rows_of, marks_of_work, stage_of};
 ghost use Rattle.dvd_capture.specs.declared.form.Form.{Form as CaptureForm};
-ghost use Rattle.dvd_control.specs.Format.{control_fault, fields_in, fields_of};
+ghost use Rattle.dvd_control.specs.Format.{fields_of};
 ghost use Rattle.dvd_layout.specs.Lengths.{most_initial};
 ghost use Rattle.dvd_layout.specs.Place.{HasNumbers};
 ghost use Rattle.dvd_loop.specs.Machine.{IsOutcome};

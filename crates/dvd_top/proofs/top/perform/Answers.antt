@@ -11,7 +11,7 @@ use Rattle.dvd_top.specs.declared.status.Refusal.{Refusal}
 use Rattle.dvd_top.specs.declared.status.Refusal.TheVariants.{NoMemory, Setting}
 use Rattle.dvd_words.specs.Reading.{IsLawful, takes_listed}
 use Rattle.dvd_words.specs.declared.settings.Command.{Command}
-use Rattle.dvd_words.specs.declared.settings.Command.TheVariants.{CdMake, Frames, Master, Merge}
+use Rattle.dvd_words.specs.declared.settings.Command.TheVariants.{CdMake, Exercise, Frames, Master, Merge}
 use Rattle.dvd_words.specs.declared.settings.Settings.{Settings}
 use Rattle.dvd_top.proofs.HeaderTaken.{breaks_by_words, gone_over, looped_by_words}
 use Rattle.dvd_top.proofs.top.perform.Goals as goal
@@ -55,3 +55,8 @@ returns-in-Merge-clause-performed g c =
 
 pub returns-in-Survey-clause-performed : goal.returns-in-Survey-clause-performed
 returns-in-Survey-clause-performed g c = c.run_survey.ensures.performed (g.E.Sink.seen c.args.report.now)
+
+pub returns-in-Exercise-clause-performed : goal.returns-in-Exercise-clause-performed
+returns-in-Exercise-clause-performed g c =
+    let settings = c.args.settings.now in
+    by_words settings (sized settings Exercise c.requires c.in-Exercise.is refl) _ _ c.run_exercise.result (c.run_exercise.ensures.performed (g.E.Sink.seen c.args.report.now))

@@ -1,11 +1,23 @@
 -- The proof of `follow_by` in src/commands/exercise.rt.
-use Rattle.std.proofs.Common.{◌≡◌, ◌-◌, rules, refl, ap, subst}
-use Rattle.dvd_top.specs.Commands.Exercise.{IsLeft}
+use Rattle.std.proofs.Common.{◌≡◌, ◌-◌, rules, refl, ap, subst, sym}
+use Rattle.dvd_loop.proofs.Silent.{AreWrites, beside, one_write}
+use Rattle.dvd_top.specs.Commands.Exercise.{IsLeft, exercise_units}
 use Rattle.dvd_top.proofs.ExerciseTrials.{none_behind}
 use Rattle.dvd_top.proofs.commands.exercise.follow_by.Goals as goal
 
 pub follow-requires : goal.follow-requires
 follow-requires g c = (none_behind _ _ _ _ c.rand_of.ensures refl refl refl, c.requires.adder, c.requires.reader)
+
+pub returns-clause-follows : goal.returns-clause-follows
+returns-clause-follows g c = λ report.
+    let settings = c.args.settings.now in
+    beside (exercise_units settings.seed settings.blocks)
+    (record {
+      opens = tt;
+      does = λ k before own steps turn done. subst AreWrites (sym done.0) tt;
+      closes = λ before steps told. one_write steps _ told.writes;
+    })
+    _ _ _ _ report c.follow.result c.follow.ensures.follows
 
 pub returns-clause-left : goal.returns-clause-left
 returns-clause-left g c =

@@ -1,6 +1,6 @@
 -- The proof of `make_each` in src/commands/making.rt.
 use Rattle.dvd_loop.proofs.Silent.{beside, one_write, plain_silent}
-use Rattle.dvd_top.specs.Commands.Making.{IsMade, sectors_made}
+use Rattle.dvd_top.specs.Commands.Making.{sectors_made}
 use Rattle.dvd_top.specs.Inner.Making.{IsMadeAs}
 use Rattle.dvd_top.proofs.commands.making.make_each.Goals as goal
 
