@@ -12,7 +12,9 @@ use Rattle.dvd_loop.specs.Machine.{Step}
 use Rattle.dvd_loop.specs.Machine.Step.{Write}
 use Rattle.dvd_loop.specs.Streams.{Streams}
 use Rattle.dvd_loop.specs.Turns.{AreDone}
+use Rattle.dvd_loop.specs.declared.ends.Turn.{Turn}
 use Rattle.dvd_loop.specs.declared.ends.Turn.TheVariants.{Bad, Good, Last}
+use Rattle.dvd_loop.proofs.Silent.{AreWrites, one_write}
 use Rattle.dvd_top.specs.Commands.Info.{IsAsked, IsControlDone, format_lines, info_units}
 use Rattle.dvd_top.specs.Inner.Performing.{AnswersNothing, Tells}
 use Rattle.dvd_top.proofs.EntryBlocks.{passed_over}
@@ -63,3 +65,14 @@ asked_never_bad (Image sector) entry rows marks steps does = let no = does.1 in 
 pub never_bad : (initial : ℕ) (form : Form) → IsNever (info_units initial form) Bad
 never_bad initial form k before own steps does =
     asked_never_bad does.entry.content does.entry (captured_rows form own) (captured_marks form own) steps does.does
+
+-- no line is told for a block
+pub asked_silent : (content : Content) (entry : BlockPlan) (rows : List (List ℕ)) (marks : List (List Bool)) (steps : List Step) (turn : Turn)
+    → IsAsked content entry rows marks steps turn → AreWrites steps
+asked_silent Control entry rows marks steps turn does = elim does [
+  | inl answer ↦ one_write steps _ answer.writes
+  | inr none ↦ subst AreWrites (sym none.nothing) tt
+]
+asked_silent Zero entry rows marks steps turn does = subst AreWrites (sym does.0) tt
+asked_silent Reference entry rows marks steps turn does = subst AreWrites (sym does.0) tt
+asked_silent (Image sector) entry rows marks steps turn does = subst AreWrites (sym does.0) tt

@@ -70,7 +70,7 @@ fn perform<S: Source, K: Sink, E: Sink, R: Threads + Sync, G: Gate>(
         Command::Frames => Ok(frames_loop(settings, src, out)),
         Command::Master => run_master(rt, gate, alloc, settings, src, out),
         Command::Recover => run_recover(rt, gate, alloc, settings, src, out, report),
-        Command::Info => run_info(alloc, settings, src, out, report),
+        Command::Info => run_info(alloc, settings, src, out),
         Command::Survey => run_survey(rt, gate, alloc, settings, src, out),
         Command::Exercise => run_exercise(rt, gate, alloc, settings, src, out),
         Command::CdMake => Ok(cdmake_loop(settings, src, out)),
@@ -78,7 +78,7 @@ fn perform<S: Source, K: Sink, E: Sink, R: Threads + Sync, G: Gate>(
         Command::Merge => run_merge(alloc, settings, src, out),
         Command::Deep => run_deep(alloc, settings, src, out, report),
         Command::Assemble => run_assemble(alloc, settings, src, out, report),
-        Command::Convert => run_convert(alloc, settings, src, out, report),
+        Command::Convert => run_convert(alloc, settings, src, out),
     }
 }
 

@@ -9,7 +9,8 @@ ghost use Rattle.dvd_layout.specs.declared.layout.Layout.{Layout as DiskLayout};
 ghost use Rattle.dvd_layout.specs.declared.layout.Zones.{Zones as WhichZones};
 ghost use Rattle.dvd_loop.specs.Laws.{IsPlainEnd};
 ghost use Rattle.dvd_loop.specs.Machine.{IsOutcome};
-ghost use Rattle.dvd_loop.specs.Streams.{streams, HasEnded, no_stream};
+ghost use Rattle.dvd_loop.specs.Streams.{streams, HasEnded};
+ghost use Rattle.dvd_ports.specs.Seen.{Seen};
 ghost use Rattle.dvd_top.specs.Commands.Convert.{OfConverted, convert_units};
 ghost use Rattle.dvd_top.specs.Inner.Performing.{IsPerformedByWords};
 ghost use Rattle.dvd_words.specs.Settings.{IsLayoutOf};
@@ -87,26 +88,9 @@ pub fn convert_loop<S: Source, K: Sink>(
 ) -> LoopEnd
     requires layout { IsLayoutOf settings.now layout.now }
     requires form { HasSize settings.now.form }
-    ensures follows { HasEnded (λ bytes outcome. OfConverted settings.now layout.now (λ units. IsOutcome units bytes outcome))
-        (streams (S.seen src.old) (K.seen out.old) no_stream) (streams (S.seen src.new) (K.seen out.new) no_stream) result }
+    ensures follows { (report : Seen) → HasEnded (λ bytes outcome. OfConverted settings.now layout.now (λ units. IsOutcome units bytes outcome))
+        (streams (S.seen src.old) (K.seen out.old) report) (streams (S.seen src.new) (K.seen out.new) report) result }
     ensures ends { IsPlainEnd (length (plan_of layout.now settings.now.zones)) result }
-{
-    convert_stream(settings, layout, work, src, out, &mut NullSink::new())
-}
-
-// The same beside any report, which stays as it is.
-fn convert_stream<S: Source, K: Sink, E: Sink>(
-    settings: &Settings,
-    layout: &Layout,
-    work: &mut Work,
-    src: &mut S,
-    out: &mut K,
-    report: &mut E,
-) -> LoopEnd
-    requires { IsLayoutOf settings.now layout.now }
-    ensures { HasEnded (λ bytes outcome. OfConverted settings.now layout.now (λ units. IsOutcome units bytes outcome))
-        (streams (S.seen src.old) (K.seen out.old) (E.seen report.old))
-        (streams (S.seen src.new) (K.seen out.new) (E.seen report.new)) result }
 {
     let mut converting = Converting {
         layout: *layout,
@@ -115,24 +99,23 @@ fn convert_stream<S: Source, K: Sink, E: Sink>(
         header: header_of(layout, settings.zones),
         work,
     };
-    follow(&mut converting, src, out, report)
+    follow(&mut converting, src, out, &mut NullSink::new())
 }
 
 /// The command with its buffers, or why it doesn't begin.
-pub(crate) fn run_convert<S: Source, K: Sink, E: Sink>(
+pub(crate) fn run_convert<S: Source, K: Sink>(
     alloc: Global,
     settings: &Settings,
     src: &mut S,
     out: &mut K,
-    report: &mut E,
 ) -> Result<LoopEnd, Refusal>
-    requires { settings.now.command ≡ Command.Convert }
-    ensures performed { IsPerformedByWords settings.now
-        (streams (S.seen src.old) (K.seen out.old) (E.seen report.old))
-        (streams (S.seen src.new) (K.seen out.new) (E.seen report.new)) result }
-    ensures untouched { IsErr result → (src.new ≡ src.old) × (out.new ≡ out.old) × (report.new ≡ report.old) }
+    requires command { settings.now.command ≡ Command.Convert }
+    requires form { HasSize settings.now.form }
+    ensures performed { (report : Seen) → IsPerformedByWords settings.now
+        (streams (S.seen src.old) (K.seen out.old) report) (streams (S.seen src.new) (K.seen out.new) report) result }
+    ensures untouched { IsErr result → (src.new ≡ src.old) × (out.new ≡ out.old) }
 {
     let layout = settings.layout()?;
     let mut work = Work::new(alloc)?;
-    Ok(convert_stream(settings, &layout, &mut work, src, out, report))
+    Ok(convert_loop(settings, &layout, &mut work, src, out))
 }

@@ -7,7 +7,7 @@ ghost use Rattle.dvd_control.specs.Format.{fields_of};
 ghost use Rattle.dvd_layout.specs.Lengths.{most_initial};
 ghost use Rattle.dvd_layout.specs.Place.{HasNumbers};
 ghost use Rattle.dvd_loop.specs.Machine.{IsOutcome};
-ghost use Rattle.dvd_loop.specs.Streams.{streams, HasEnded, no_stream};
+ghost use Rattle.dvd_loop.specs.Streams.{streams, HasEnded};
 ghost use Rattle.dvd_loop.specs.Turns.{AreDone};
 ghost use Rattle.dvd_ports.specs.Seen.{Seen};
 ghost use Rattle.dvd_top.specs.Captured.{IsSoughtEnd};
@@ -89,71 +89,51 @@ pub fn info_loop<S: Source, K: Sink>(
     out: &mut K,
 ) -> LoopEnd
     requires { settings.now.initial ≤ most_initial }
-    ensures follows { HasEnded (IsOutcome (info_units settings.now.initial settings.now.form))
-        (streams (S.seen src.old) (K.seen out.old) no_stream) (streams (S.seen src.new) (K.seen out.new) no_stream) result }
+    ensures follows { (report : Seen) → HasEnded (IsOutcome (info_units settings.now.initial settings.now.form))
+        (streams (S.seen src.old) (K.seen out.old) report) (streams (S.seen src.new) (K.seen out.new) report) result }
     ensures ends { IsSoughtEnd settings.now.form (settings.now.initial + 224) result }
-{
-    seek_format(settings, work, src, out, &mut NullSink::new())
-}
-
-// The same beside any report, which stays as it is.
-fn seek_format<S: Source, K: Sink, E: Sink>(
-    settings: &Settings,
-    work: &mut Work,
-    src: &mut S,
-    out: &mut K,
-    report: &mut E,
-) -> LoopEnd
-    requires { settings.now.initial ≤ most_initial }
-    ensures { HasEnded (IsOutcome (info_units settings.now.initial settings.now.form))
-        (streams (S.seen src.old) (K.seen out.old) (E.seen report.old))
-        (streams (S.seen src.new) (K.seen out.new) (E.seen report.new)) result }
 {
     let mut info = Info {
         initial: settings.initial,
         form: settings.form,
         work,
     };
-    follow(&mut info, src, out, report)
+    follow(&mut info, src, out, &mut NullSink::new())
 }
 
 /// The command with its buffers, or why it doesn't begin.
-pub(crate) fn run_info<S: Source, K: Sink, E: Sink>(
+pub(crate) fn run_info<S: Source, K: Sink>(
     alloc: Global,
     settings: &Settings,
     src: &mut S,
     out: &mut K,
-    report: &mut E,
 ) -> Result<LoopEnd, Refusal>
     requires { settings.now.command ≡ Command.Info }
-    ensures performed { IsPerformed settings.now
-        (streams (S.seen src.old) (K.seen out.old) (E.seen report.old))
-        (streams (S.seen src.new) (K.seen out.new) (E.seen report.new)) result }
-    ensures untouched { IsErr result → (src.new ≡ src.old) × (out.new ≡ out.old) × (report.new ≡ report.old) }
+    ensures performed { (report : Seen) → IsPerformed settings.now
+        (streams (S.seen src.old) (K.seen out.old) report) (streams (S.seen src.new) (K.seen out.new) report) result }
+    ensures untouched { IsErr result → (src.new ≡ src.old) × (out.new ≡ out.old) }
 {
     let worded = worded_initial(settings)?;
     let mut work = Work::new(alloc)?;
     match worded {
-        Some(_) => Ok(seek_format(settings, &mut work, src, out, report)),
-        None => Ok(info_listed(settings, &mut work, src, out, report)),
+        Some(_) => Ok(info_loop(settings, &mut work, src, out)),
+        None => Ok(info_listed(settings, &mut work, src, out)),
     }
 }
 
 // The same of a listed capture: its header, and then its blocks.
-fn info_listed<S: Source, K: Sink, E: Sink>(
+fn info_listed<S: Source, K: Sink>(
     settings: &Settings,
     work: &mut Work,
     src: &mut S,
     out: &mut K,
-    report: &mut E,
 ) -> LoopEnd
     requires { settings.now.command ≡ Command.Info }
-    ensures { HasEnded (IsOpened GoesOver settings.now)
-        (streams (S.seen src.old) (K.seen out.old) (E.seen report.old))
-        (streams (S.seen src.new) (K.seen out.new) (E.seen report.new)) result }
+    ensures { (report : Seen) → HasEnded (IsOpened GoesOver settings.now)
+        (streams (S.seen src.old) (K.seen out.old) report) (streams (S.seen src.new) (K.seen out.new) report) result }
 {
     match open_listed(settings, src) {
-        Ok(stated) => seek_format(&stated.settings, work, src, out, report),
+        Ok(stated) => info_loop(&stated.settings, work, src, out),
         Err(end) => end,
     }
 }

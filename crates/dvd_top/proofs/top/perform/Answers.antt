@@ -11,7 +11,7 @@ use Rattle.dvd_top.specs.declared.status.Refusal.{Refusal}
 use Rattle.dvd_top.specs.declared.status.Refusal.TheVariants.{NoMemory, Setting}
 use Rattle.dvd_words.specs.Reading.{IsLawful, takes_listed}
 use Rattle.dvd_words.specs.declared.settings.Command.{Command}
-use Rattle.dvd_words.specs.declared.settings.Command.TheVariants.{CdMake, Exercise, Frames, Master, Merge}
+use Rattle.dvd_words.specs.declared.settings.Command.TheVariants.{CdMake, Convert, Exercise, Frames, Master, Merge}
 use Rattle.dvd_words.specs.declared.settings.Settings.{Settings}
 use Rattle.dvd_top.proofs.HeaderTaken.{breaks_by_words, gone_over, looped_by_words}
 use Rattle.dvd_top.proofs.top.perform.Goals as goal
@@ -60,3 +60,11 @@ pub returns-in-Exercise-clause-performed : goal.returns-in-Exercise-clause-perfo
 returns-in-Exercise-clause-performed g c =
     let settings = c.args.settings.now in
     by_words settings (sized settings Exercise c.requires c.in-Exercise.is refl) _ _ c.run_exercise.result (c.run_exercise.ensures.performed (g.E.Sink.seen c.args.report.now))
+
+pub returns-in-Convert-clause-performed : goal.returns-in-Convert-clause-performed
+returns-in-Convert-clause-performed g c =
+    let settings = c.args.settings.now in
+    by_words settings (sized settings Convert c.requires c.in-Convert.is refl) _ _ c.run_convert.result (c.run_convert.ensures.performed (g.E.Sink.seen c.args.report.now))
+
+pub returns-in-Info-clause-performed : goal.returns-in-Info-clause-performed
+returns-in-Info-clause-performed g c = c.run_info.ensures.performed (g.E.Sink.seen c.args.report.now)

@@ -7,14 +7,14 @@ use Rattle.dvd_top.proofs.HeaderTaken.{gone_over, looped_by_words, looped_listed
 use Rattle.dvd_top.proofs.commands.info.run_info.Goals as goal
 
 pub returns-in-Some-clause-performed : goal.returns-in-Some-clause-performed
-returns-in-Some-clause-performed g c =
+returns-in-Some-clause-performed g c = λ report.
     let settings = c.args.settings.now in
     let worded = subst (IsWordedInitial settings) c.in-Some.is c.in_ok-worded.ensures.worded in
-    looped_by_words settings worded.0 _ _ c.seek_format.result
+    looped_by_words settings worded.0 _ _ c.info_loop.result
     (gone_over Info settings c.requires worded.2 (info_units settings.initial settings.form) (λ P units. units)
-    _ _ c.seek_format.result c.seek_format.ensures)
+    _ _ c.info_loop.result (c.info_loop.ensures.follows report))
 
 pub returns-clause-performed : goal.returns-clause-performed
-returns-clause-performed g c =
+returns-clause-performed g c = λ report.
     let settings = c.args.settings.now in
-    looped_listed settings (subst (IsWordedInitial settings) c.in-None.is c.in_ok-worded.ensures.worded) _ _ c.info_listed.result c.info_listed.ensures
+    looped_listed settings (subst (IsWordedInitial settings) c.in-None.is c.in_ok-worded.ensures.worded) _ _ c.info_listed.result (c.info_listed.ensures report)
