@@ -1,5 +1,6 @@
 //! The loop of the commands that make something of each sector of user data: `frames` and `cdmake`.
 ghost use Rattle.std.specs.Prelude.{◌+◌, ◌<◌, ◌≤◌, ◌^◌, ℕ, refl};
+ghost use Rattle.dvd_loop.specs.Laws.{IsPlainEnd};
 ghost use Rattle.dvd_loop.specs.Machine.{IsOutcome};
 ghost use Rattle.dvd_loop.specs.Streams.{streams, HasEnded};
 ghost use Rattle.dvd_loop.specs.Turns.{AreDone};
@@ -68,8 +69,9 @@ pub(crate) fn make_each<S: Source, K: Sink>(
     out: &mut K,
 ) -> LoopEnd
     requires { first + sectors ≤ number_limit made }
-    ensures { (report : Seen) → HasEnded (IsOutcome (sectors_made (IsMadeAs made) first sectors))
+    ensures follows { (report : Seen) → HasEnded (IsOutcome (sectors_made (IsMadeAs made) first sectors))
         (streams (S.seen src.old) (K.seen out.old) report) (streams (S.seen src.new) (K.seen out.new) report) result }
+    ensures ends { IsPlainEnd sectors result }
 {
     let making = Making {
         made,
