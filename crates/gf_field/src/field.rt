@@ -61,12 +61,12 @@ pub fn alpha_pow(k: u32) -> u8
 
 /// The logarithm of an element that isn't 0: the k below 255 with alpha^k = a.
 #[inline]
-pub fn log(a: u8) -> u32
+pub fn log(a: u8) -> u8
     requires { a ≢ 0 }
     ensures below { result < 255 }
     ensures reaches { power alpha result ≡ a }
 {
-    exponent(a) as u32
+    exponent(a) as u8
 }
 
 /// The exponent of alpha that reaches an element that isn't 0, as a place in the table of powers.
