@@ -17,9 +17,9 @@ fn main(rt: HostRuntime) -> ExitCode {
             let mut report = StdSink::new(rt.stderr());
             run(
                 &rt,
-                &OpenGate,
                 rt.alloc(),
                 &words,
+                &OpenGate,
                 &mut src,
                 &mut out,
                 &mut report,

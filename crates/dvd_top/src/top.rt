@@ -21,11 +21,11 @@ use std::thread::Threads;
 /// Does what the words ask for: reads `src`, writes to `out`, and writes lines to `report`, the last of which tells
 /// how the run ended. Each worker asks the gate before its pieces; nothing that is read, written or told depends on it.
 /// What an input, an output or a report holds is known where these tell theirs.
-pub fn run<S: Source, K: Sink, E: Sink, R: Threads + Sync, G: Gate>(
+pub fn run<R: Threads + Sync, S: Source, K: Sink, E: Sink, G: Gate>(
     rt: &R,
-    gate: &G,
     alloc: Global,
     words: &[String],
+    gate: &G,
     src: &mut S,
     out: &mut K,
     report: &mut E,
@@ -38,7 +38,7 @@ pub fn run<S: Source, K: Sink, E: Sink, R: Threads + Sync, G: Gate>(
     match read(alloc, words) {
         Err(WordsFault::Usage) => refuse(Status::Usage, b"usage\n", report),
         Err(WordsFault::NoMemory) => refuse(Status::NoMemory, b"no memory\n", report),
-        Ok(settings) => match perform(rt, gate, alloc, &settings, src, out, report) {
+        Ok(settings) => match perform(rt, alloc, &settings, gate, src, out, report) {
             Ok(end) => close(end, close_line(settings.command, end).as_slice(), report).into(),
             Err(Refusal::Setting(fault)) => refuse(
                 Status::Setting,
@@ -51,11 +51,11 @@ pub fn run<S: Source, K: Sink, E: Sink, R: Threads + Sync, G: Gate>(
 }
 
 // The loop of the command, or why it doesn't begin.
-fn perform<S: Source, K: Sink, E: Sink, R: Threads + Sync, G: Gate>(
+fn perform<R: Threads + Sync, S: Source, K: Sink, E: Sink, G: Gate>(
     rt: &R,
-    gate: &G,
     alloc: Global,
     settings: &Settings,
+    gate: &G,
     src: &mut S,
     out: &mut K,
     report: &mut E,
@@ -68,11 +68,11 @@ fn perform<S: Source, K: Sink, E: Sink, R: Threads + Sync, G: Gate>(
 {
     match settings.command {
         Command::Frames => Ok(frames_loop(settings, src, out)),
-        Command::Master => run_master(rt, gate, alloc, settings, src, out),
-        Command::Recover => run_recover(rt, gate, alloc, settings, src, out, report),
+        Command::Master => run_master(rt, alloc, settings, gate, src, out),
+        Command::Recover => run_recover(rt, alloc, settings, gate, src, out, report),
         Command::Info => run_info(alloc, settings, src, out),
-        Command::Survey => run_survey(rt, gate, alloc, settings, src, out),
-        Command::Exercise => run_exercise(rt, gate, alloc, settings, src, out),
+        Command::Survey => run_survey(rt, alloc, settings, gate, src, out),
+        Command::Exercise => run_exercise(rt, alloc, settings, gate, src, out),
         Command::CdMake => Ok(cdmake_loop(settings, src, out)),
         Command::CdRead => Ok(cdread_loop(settings, src, out, report)),
         Command::Merge => run_merge(alloc, settings, src, out),

@@ -130,9 +130,9 @@ pub fn run_through<R: AllocGlobal + Threads + Sync, G: Gate>(
     }
     run(
         rt,
-        gate,
         alloc,
         &bench.words,
+        gate,
         &mut bench.source,
         &mut bench.output,
         &mut bench.report,
@@ -152,9 +152,9 @@ pub fn run_to_nothing<R: AllocGlobal + Threads + Sync>(
     }
     run(
         rt,
-        &OpenGate,
         alloc,
         &bench.words,
+        &OpenGate,
         &mut bench.source,
         &mut NullSink::new(),
         &mut bench.report,

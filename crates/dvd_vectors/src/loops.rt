@@ -43,9 +43,9 @@ fn master<R: AllocGlobal + Threads + Sync>(
     let (output, _) = memory.bench.sinks();
     Some(master_loop(
         rt,
-        &OpenGate,
         &settings,
         &layout,
+        &OpenGate,
         block,
         piece,
         &mut SliceSource::new(&memory.common),
@@ -64,9 +64,9 @@ fn recover<R: AllocGlobal + Threads + Sync>(
     let (output, report) = memory.bench.sinks();
     Some(recover_loop(
         rt,
-        &OpenGate,
         &settings,
         &layout,
+        &OpenGate,
         work,
         &mut SliceSource::new(&memory.bytes),
         output,

@@ -148,10 +148,10 @@ impl<'a, 'r, A: Fn(&mut Block), F: Fn(&mut Work, &BlockPlan) -> Result<Fixed, Ca
 }
 
 /// Draws, damages and reads back as many blocks as the settings say, from 1 to 4,096. The work then holds the last of them.
-pub fn exercise_loop<R: Threads + Sync, G: Gate, K: Sink>(
+pub fn exercise_loop<R: Threads + Sync, K: Sink, G: Gate>(
     rt: &R,
-    gate: &G,
     settings: &Settings,
+    gate: &G,
     block: &mut Block,
     piece: &mut Piece,
     work: &mut Work,
@@ -167,8 +167,8 @@ pub fn exercise_loop<R: Threads + Sync, G: Gate, K: Sink>(
 {
     follow_trials(
         rt,
-        gate,
         settings,
+        gate,
         block,
         piece,
         work,
@@ -178,10 +178,10 @@ pub fn exercise_loop<R: Threads + Sync, G: Gate, K: Sink>(
 }
 
 // The same beside any source, which stays as it is.
-fn follow_trials<R: Threads + Sync, G: Gate, S: Source, K: Sink>(
+fn follow_trials<R: Threads + Sync, S: Source, K: Sink, G: Gate>(
     rt: &R,
-    gate: &G,
     settings: &Settings,
+    gate: &G,
     block: &mut Block,
     piece: &mut Piece,
     work: &mut Work,
@@ -258,11 +258,11 @@ fn follow_by<
 }
 
 /// The command with its buffers, or why it doesn't begin.
-pub(crate) fn run_exercise<R: Threads + Sync, G: Gate, S: Source, K: Sink>(
+pub(crate) fn run_exercise<R: Threads + Sync, S: Source, K: Sink, G: Gate>(
     rt: &R,
-    gate: &G,
     alloc: Global,
     settings: &Settings,
+    gate: &G,
     src: &mut S,
     out: &mut K,
 ) -> Result<LoopEnd, Refusal>
@@ -278,7 +278,7 @@ pub(crate) fn run_exercise<R: Threads + Sync, G: Gate, S: Source, K: Sink>(
     let mut piece = Piece::new(alloc)?;
     let mut work = Work::new(alloc)?;
     Ok(follow_trials(
-        rt, gate, settings, &mut block, &mut piece, &mut work, src, out,
+        rt, settings, gate, &mut block, &mut piece, &mut work, src, out,
     ))
 }
 

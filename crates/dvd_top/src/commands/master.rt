@@ -81,11 +81,11 @@ impl<'a, 'r, F: Fn(&mut Block)> LoneTurns for Master<'a, 'r, F> {
 }
 
 /// Masters every block of the plan of the layout and the zones that the settings choose.
-pub fn master_loop<R: Threads + Sync, G: Gate, S: Source, K: Sink>(
+pub fn master_loop<R: Threads + Sync, S: Source, K: Sink, G: Gate>(
     rt: &R,
-    gate: &G,
     settings: &Settings,
     layout: &Layout,
+    gate: &G,
     block: &mut Block,
     piece: &mut Piece,
     src: &mut S,
@@ -114,11 +114,11 @@ pub fn master_loop<R: Threads + Sync, G: Gate, S: Source, K: Sink>(
 }
 
 /// The command with its buffers, or why it doesn't begin.
-pub(crate) fn run_master<R: Threads + Sync, G: Gate, S: Source, K: Sink>(
+pub(crate) fn run_master<R: Threads + Sync, S: Source, K: Sink, G: Gate>(
     rt: &R,
-    gate: &G,
     alloc: Global,
     settings: &Settings,
+    gate: &G,
     src: &mut S,
     out: &mut K,
 ) -> Result<LoopEnd, Refusal>
@@ -132,7 +132,7 @@ pub(crate) fn run_master<R: Threads + Sync, G: Gate, S: Source, K: Sink>(
     let mut block = Block::new(alloc)?;
     let mut piece = Piece::new(alloc)?;
     Ok(master_loop(
-        rt, gate, settings, &layout, &mut block, &mut piece, src, out,
+        rt, settings, &layout, gate, &mut block, &mut piece, src, out,
     ))
 }
 

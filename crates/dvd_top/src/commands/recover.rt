@@ -74,11 +74,11 @@ impl<'a, 'r, F: Fn(&mut Work, &BlockPlan) -> Result<Fixed, Cause>> LoneTurns
 
 /// Reads every block of the plan of the layout and the zones that the settings choose, and writes its image sectors. A line
 /// names each that is refused, and zeros stand in the place of its sectors that aren't saved.
-pub fn recover_loop<R: Threads + Sync, G: Gate, S: Source, K: Sink, E: Sink>(
+pub fn recover_loop<R: Threads + Sync, S: Source, K: Sink, E: Sink, G: Gate>(
     rt: &R,
-    gate: &G,
     settings: &Settings,
     layout: &Layout,
+    gate: &G,
     work: &mut Work,
     src: &mut S,
     out: &mut K,
@@ -112,11 +112,11 @@ pub fn recover_loop<R: Threads + Sync, G: Gate, S: Source, K: Sink, E: Sink>(
 }
 
 /// The command with its buffers, or why it doesn't begin.
-pub(crate) fn run_recover<R: Threads + Sync, G: Gate, S: Source, K: Sink, E: Sink>(
+pub(crate) fn run_recover<R: Threads + Sync, S: Source, K: Sink, E: Sink, G: Gate>(
     rt: &R,
-    gate: &G,
     alloc: Global,
     settings: &Settings,
+    gate: &G,
     src: &mut S,
     out: &mut K,
     report: &mut E,
@@ -133,9 +133,9 @@ pub(crate) fn run_recover<R: Threads + Sync, G: Gate, S: Source, K: Sink, E: Sin
     match open_blocks(settings, worded, src) {
         Ok(stated) => Ok(recover_loop(
             rt,
-            gate,
             &stated.settings,
             &stated.layout,
+            gate,
             &mut work,
             src,
             out,

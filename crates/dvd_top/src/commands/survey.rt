@@ -90,11 +90,11 @@ impl<'a, 'r, F: Fn(&mut Work, &BlockPlan) -> Result<Fixed, Cause>> Turns for Sur
 }
 
 /// Surveys every block of the plan of the layout and the zones that the settings choose. The survey has no block before.
-pub fn survey_loop<R: Threads + Sync, G: Gate, S: Source, K: Sink>(
+pub fn survey_loop<R: Threads + Sync, S: Source, K: Sink, G: Gate>(
     rt: &R,
-    gate: &G,
     settings: &Settings,
     layout: &Layout,
+    gate: &G,
     survey: &mut Survey,
     work: &mut Work,
     src: &mut S,
@@ -147,11 +147,11 @@ fn survey_by<'a, F: Fn(&mut Work, &BlockPlan) -> Result<Fixed, Cause>, S: Source
 }
 
 /// The command with its buffers, or why it doesn't begin.
-pub(crate) fn run_survey<R: Threads + Sync, G: Gate, S: Source, K: Sink>(
+pub(crate) fn run_survey<R: Threads + Sync, S: Source, K: Sink, G: Gate>(
     rt: &R,
-    gate: &G,
     alloc: Global,
     settings: &Settings,
+    gate: &G,
     src: &mut S,
     out: &mut K,
 ) -> Result<LoopEnd, Refusal>
@@ -167,9 +167,9 @@ pub(crate) fn run_survey<R: Threads + Sync, G: Gate, S: Source, K: Sink>(
     match open_blocks(settings, worded, src) {
         Ok(stated) => Ok(survey_loop(
             rt,
-            gate,
             &stated.settings,
             &stated.layout,
+            gate,
             &mut survey,
             &mut work,
             src,
