@@ -43,7 +43,7 @@ pub fn value_at(word: &[u8], exponent: u32) -> u8
     let mut shift = 0;
     for k in (0..word.len()).rev() {
         if word[k] != 0 {
-            sum ^= alpha_pow(u32::from(log(word[k])) + shift);
+            sum ^= alpha_pow(log(word[k]) as u32 + shift);
         }
         shift += exponent;
     }
