@@ -42,6 +42,7 @@ fn id_in(row: &[u8; 182], marks: &[bool; 182]) -> Option<Id>
 
 // The block and the frame that have the place of this ID: the layer tells the first block that may have it, and the
 // sectors behind that block's first one tell the block. Only then is the whole ID compared with the plan's.
+// The definition looks through all frames of the zone; no other one than this can have the ID.
 fn home_of_id(layout: &Layout, id: Id) -> Option<(u16, u8)>
     requires { length (plan_of layout.now DataOnly) ≤ 1024 }
     ensures home { result ≡ option_map block_and_frame (home_in layout.now id) }

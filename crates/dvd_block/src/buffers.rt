@@ -1,4 +1,6 @@
 //! The buffers of a block.
+//! They are on the heap, since what lasts as long as a run doesn't belong on the stack. They are lent one by one, so that
+//! rows and cells can be worked on at once.
 ghost use Rattle.std.specs.Prelude.{◌≡◌, length, vec_len, IfOk, replicate};
 
 use dvd_ports::NoMemory;

@@ -19,6 +19,7 @@ pub struct Received {
 }
 
 /// A mark for each received place, a bit each: 208 rows of 23 bytes, 4,784 bytes in sum.
+/// They are bits, as in the marked form, and are spread out where they are used.
 #[derive(Drop)]
 pub struct Marks {
     rows: Vec<[u8; 23]>,

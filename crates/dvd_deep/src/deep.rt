@@ -13,6 +13,7 @@ use std::alloc::Global;
 
 /// The state of a search: the rows of a block, 37,856 bytes in sum, their marks, 4,784 bytes, and whether the last search
 /// found a block.
+/// They are apart from what was received, so that a block that isn't found can still be salvaged from its first pass.
 #[derive(Drop)]
 pub struct Deep {
     pub(crate) rows: Received,

@@ -15,6 +15,7 @@ use dvd_capture::Work;
 /// its mark stays. At most 16 rows are lost: all their bytes are 0 and marked. Each other row has at most 5 bytes combined
 /// with drawn ones that aren't 0, and its marks stay. Twice the bad rows and the lost rows together are at most 16, so a block
 /// with no marks is damaged no more than two-pass decoding bears.
+/// More isn't drawn: what two passes do with more depends on the numbers, and no clause could say it.
 ///
 /// Drawn are, in this order: how many rows are bad, how many are lost, and which of them comes first, a word each; the bytes
 /// for the bad rows; and for each other row, from row 0 on, how many bytes of it are changed and the place of the first, a

@@ -6,6 +6,7 @@ ghost use Rattle.dvd_exercise.specs.Generator.{bytes_from, state_after, state_of
 use dvd_block::Piece;
 
 /// A generator with a state of 64 bits. It draws the same words for the same seed, and isn't fit for secrets.
+/// It is a plain one of our own, so that its definition is short: every number that it draws is part of what is proved.
 #[derive(Clone, Debug, PartialEq, Eq, Drop)]
 pub struct Rand {
     state: u64,

@@ -42,6 +42,7 @@ unfoldable pub all_pairs : List (List ℕ)
 all_pairs = flat_map (λ first. map (λ second. first ∷ second ∷ []) (range_with_len 0 256)) (range_with_len 0 256)
 
 -- The IED: of all pairs of bytes the one with which the ID is a codeword; there is exactly one.
+-- A formula would be the code once more.
 -- The code doesn't search: it encodes the ID with the code of six bytes and two parity bytes.
 unfoldable pub ied_of : ℕ → List ℕ
 ied_of word = unwrap_or (find (λ pair. has_check (word_bytes word ++ pair)) all_pairs) []

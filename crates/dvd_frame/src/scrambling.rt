@@ -209,6 +209,7 @@ fn word_behind(word: u64, next: u64) -> u64
 }
 
 // Sets the 32 bytes behind the scrambling bytes up to a place: each is the sum of those 240 and 176 places before it.
+// Bits have u(n+120) = u(n) + u(n+32), and so do bytes at twice these distances: no sum waits for one of the last.
 #[inline(always)]
 fn set_vector(keys: &mut [u8], at: usize)
     requires distance { 240 ≤ at }

@@ -46,6 +46,7 @@ pub struct BlockPlan {
 }
 
 /// The ID of frame `f` of a block; `dim` tells that the disk has two layers.
+/// It is no method: an entry doesn't know whether the disk has two layers.
 pub fn id_of(plan: &BlockPlan, dim: bool, f: usize) -> Id
     requires frame { f < 16 }
     requires numbers { HasNumbers plan.now }

@@ -110,6 +110,7 @@ pub(crate) fn blocks_of(sectors: u32) -> u32
 }
 
 // The sector number behind a layer that begins at 030000: its data and the zone behind them.
+// It has 64 bits, since the line of a layer that is too long names its end exactly.
 fn layer_end(sectors: u32, tail: u32) -> u64
     ensures { result ≡ layer_end sectors tail }
 {

@@ -37,6 +37,8 @@ impl Layout {
     }
 
     // The zones that a stream holds, in order.
+    // They are listed anew for each block, on the stack: a list that is kept would have to agree with the layout, and each
+    // clause that names a layout would have to say so.
     fn zone_table(&self, zones: Zones) -> ZoneTable
         ensures { result.items ≡ zone_table self.now zones }
     {

@@ -23,6 +23,8 @@ pub data Step : Type 0 where
 -- How many units there are, and how the bytes of unit k begin. What is done before anything is read; what may be done for
 -- unit k, by the units before it and by its own bytes, and what the unit then is; what may be done behind the last, by all
 -- of them; and what stands there. What is done is a list of steps, taken in their order.
+-- What may be done is a relation and no function, so that a command may name a thing that no formula computes, such as the
+-- one block of sixteen frames. That there is one alone is a law.
 pub record Units : Type 1 where
   pub count : ℕ
   pub begins : ℕ → List ℕ → Part

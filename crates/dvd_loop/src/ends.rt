@@ -28,6 +28,7 @@ pub enum LoopEnd {
     /// This unit breaks a rule of its form at that byte.
     BadMarks { block: u32, at: u32 },
     /// The input ended in the header before its first unit, after so many of its bytes.
+    /// No loop ends so, or as `BadHeader`. Both are here because a run has one end, with its status and its line.
     ShortHeader { bytes: u32 },
     /// That header breaks a rule at that byte.
     BadHeader { at: u32 },

@@ -12,6 +12,7 @@ use dvd_ports::{Sink, Source};
 /// A command that goes over its input unit by unit.
 pub trait Turns {
     /// What its units depend on, and the names of what it borrows. No turn changes it.
+    /// Units are too large a thing for a clause to compare before and after a call.
     ghost Key: { Type 0 };
 
     /// The key of this command.
@@ -35,6 +36,7 @@ pub trait Turns {
         ensures { result ≡ (units (key self.now)).behind };
 
     /// Writes and tells what stands before the first unit.
+    /// It has no body of its own: that would be proved for all units, and most commands open with nothing.
     fn open<K: Sink, E: Sink>(&self, out: &mut K, report: &mut E) -> Result<(), LoopEnd>
         ensures opens { (source : Seen) → AreSteps (units (key self.now)).opens
             (streams source (K.seen out.old) (E.seen report.old)) (streams source (K.seen out.new) (E.seen report.new)) result }

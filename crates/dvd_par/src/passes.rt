@@ -62,6 +62,7 @@ fn row_pass<R: Threads + Sync, G: Gate>(
     for_each_chunk_mut(rt, answers, size, &piece);
 }
 
+// Several workers answer their pieces apart from each other, so that of their answers nothing is known beyond this pass.
 // The second pass, where no more rows failed than it can bear. Answers whether the block is known to stand as its rows were
 // answered.
 fn column_pass<R: Threads + Sync, G: Gate>(

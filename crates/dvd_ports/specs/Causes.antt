@@ -6,6 +6,7 @@ abbrev pub next_count : ℕ → ℕ
 next_count n = min (n + 1) (2 ^ 64 - 1)
 
 -- the count rose: it is greater than before, or stands at its last number
+-- An adapter counts in 64 bits; at the last number a fault may come without a rise.
 abbrev pub Rose : ℕ → ℕ → Type 0
 Rose before now = next_count before ≤ now
 

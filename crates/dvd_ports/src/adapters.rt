@@ -56,6 +56,7 @@ impl<R: Read> Source for StdSource<R> {
 }
 
 /// A sink over a writer, which it flushes after each write. A write that takes nothing of a piece has failed.
+/// So a fault is known at the write that caused it, and a loop over the sink has an end.
 /// It tells no bytes, since a flush may fail when the bytes were taken.
 #[derive(Drop)]
 pub struct StdSink<W: Write> {

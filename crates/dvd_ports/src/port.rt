@@ -26,6 +26,7 @@ pub trait Source {
     ghost seen: { Self → Seen };
 
     /// Moves bytes to the front of `buf` and answers how many. Into a buffer with room, 0 is the end of the input.
+    /// Into an empty buffer nothing is moved and nothing changes, so that such a call is never taken for that end.
     fn read(&mut self, buf: &mut [u8]) -> Result<usize, Failed>
         ensures call { IsRead (seen self.old) (seen self.new) result buf.new }
         ensures empty { length buf.old ≡ 0 → (result ≡ Ok 0) × (self.new ≡ self.old) };

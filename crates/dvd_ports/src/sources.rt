@@ -1,4 +1,5 @@
 //! Sources over memory. They tell their bytes, and fail exactly where they are told to.
+//! They are part of the library, since every crate above tries its faults on them.
 ghost use Rattle.std.specs.Prelude.{◌≡◌, ◌<◌, ◌≤◌, ◌↔◌, ◌++◌, length, take, drop, min, Some, Contains, IfOk, IsErr, OnErr};
 ghost use Rattle.dvd_ports.specs.Calls.{IsRead};
 ghost use Rattle.dvd_ports.specs.Causes.{next_count};

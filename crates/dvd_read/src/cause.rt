@@ -4,6 +4,7 @@ use thiserror::Error;
 
 /// What two passes fixed: the places, marked or not, where the block differs from what was received, and the rows that
 /// failed in the first pass.
+/// A marked place whose byte happens to be right isn't counted, as it needed no correction.
 #[derive(Clone, Copy, Debug, PartialEq, Eq)]
 pub struct Fixed {
     /// How many places differ, at most 37,856.

@@ -47,6 +47,7 @@ pub fn answer_columns(
 }
 
 // Writes columns of the rows' bytes, of failed rows too: sixteen at a time, so that their bytes lie near each other.
+// A failed row is marked, so its bytes don't count and needn't be set to 0: all columns are copied alike.
 fn copy_columns(answers: &[AnswerRow], start: usize, piece: &mut [ColumnAnswer])
     requires rows { length answers.now ≡ 208 }
     requires columns { start + length piece.old ≤ 182 }
@@ -139,6 +140,7 @@ fn answer_copied(
 }
 
 // Answers at most 32 of these columns, by their values. Answers whether each is its own answer.
+// The values that test a column are its syndromes too, so that a column isn't read once more to be decoded.
 fn answer_group(
     code: &Po,
     answers: &[AnswerRow],

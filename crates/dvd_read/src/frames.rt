@@ -19,6 +19,7 @@ use dvd_layout::{BlockPlan, id_of, rule_of};
 
 /// Checks the sixteen data frames of a block that two passes fixed, as those of an entry of a plan, and sets the sectors to
 /// their unscrambled Main Data. After a cause, that of the first frame that has one, the sectors are zeros.
+/// So nothing of an earlier block is left in them.
 /// The stage and all else stay.
 pub fn sectors(work: &mut Work, plan: &BlockPlan) -> Result<(), Cause>
     requires stage { stage_of work.old ≡ Stage.Fixed }

@@ -101,6 +101,8 @@ fn find_block(work: &Work, stands: bool) -> Result<u16, Cause>
 }
 
 // The same of the answers alone.
+// More than 16 failed rows leave no column an answer, so they are counted first. The columns alone don't make a product
+// codeword: without the test of the rows a block could be answered that was never recorded.
 fn find_columns(answers: &[AnswerRow], columns: &[ColumnAnswer], stands: bool) -> Result<u16, Cause>
     requires rows { length answers.now ≡ 208 }
     requires codewords { AreCodewords answers.now }

@@ -29,6 +29,7 @@ const WINDOW: usize = 8;
 const MANY: u32 = 280;
 
 /// A survey: totals over all blocks, the PI error rows of the last eight, and the last block.
+/// It is all that is kept of the list of its blocks, for which contracts take it.
 #[derive(Drop)]
 pub struct Survey {
     totals: Totals,

@@ -1,4 +1,5 @@
 //! The commands: how each begins, and what it does for each unit of its input.
+//! All share one loop. A command without a report lends it a `NullSink`, and promises its run beside any report.
 
 mod assemble; // scattered recording frames put in order
 mod captured; // captured blocks

@@ -1,4 +1,5 @@
 //! The header that a listed capture opens with.
+//! It is read before the loop, which then runs by the settings that it states: so each loop is the one of the other forms.
 ghost use Rattle.std.specs.Prelude.{◌≡◌, ◌<◌, ℕ, List, Some, IfOk, IfErr};
 ghost use Rattle.dvd_capture.specs.Header.{header_bytes};
 ghost use Rattle.dvd_layout.specs.Lengths.{initial_fault};

@@ -1,5 +1,7 @@
 //! What the tests of whole runs are written in: scripts of lines, of which each has parts with `;` between them. A part is a word and
 //! what it works with.
+//! A table of cases would be a tree of values to the checker, which goes through all of it for each function that names
+//! it. A script is one text, which small functions read while the test runs.
 //!
 //! Bytes are made, and what is written where nothing fails:
 //!

@@ -1,4 +1,5 @@
 //! The clap command of each command of the program.
+//! Values are texts to clap and are read by their forms in `values`, so that each refusal of a value is one of ours.
 
 ghost use Rattle.std.specs.Prelude.{◌≡◌, [], ◌∷◌, ◌++◌, codes, false, true, None, Some, IfOk, map, string_bytes};
 ghost use Rattle.clap.specs.Words.{app_of, found_of, rows_of, with_rule};

@@ -1,5 +1,6 @@
 -- Division of polynomials over two bits, by which the EDC of a data frame (ECMA-267, 16.4) and that of a CD-ROM sector
 -- (ECMA-130, 14.3) are defined. A polynomial is a list of bits, that of its highest power first. A bit is 0 or 1.
+-- It is below the crates of both, so that one definition of division serves them.
 use Rattle.std.specs.Prelude.{ℕ, zero, suc, ◌==◌, bit_xor, if◌then◌else◌, List, [], ◌∷◌}
 
 -- adds a list of bits to the front of another

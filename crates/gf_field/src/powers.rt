@@ -1,4 +1,5 @@
 //! The powers of alpha and the logarithms that products, quotients and inverses are read from.
+//! The definitions know shifts alone: the checker computes from them that each entry is right.
 
 /// alpha^k at place k. The sum of two logarithms, or of one and 255, is a place.
 pub static POWERS: [u8; 510] = [

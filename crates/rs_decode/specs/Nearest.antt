@@ -1,5 +1,6 @@
 -- What a received word with marks decodes to: the codeword near it, if there is one, as a search through all words.
 -- The code computes syndromes and a locator instead.
+-- So nobody needs a theory of decoders to know what a word decodes to.
 use Rattle.std.specs.Prelude.{ℕ, zero, suc, Bool, ◌&&◌, ◌==◌, nat_lt, nat_le, List, [], ◌∷◌, length, map, find}
 use Rattle.std.specs.List.{flat_map, range_with_len, list_all}
 use Rattle.std.specs.declared.option.Option.{Option}

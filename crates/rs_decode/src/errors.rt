@@ -89,6 +89,7 @@ pub fn decode_from<const N: usize, const R: usize>(
 }
 
 // Sets the bytes at the marked places and at those where the locator tells an error: to the near codeword, if there is one.
+// What it makes is tested and counted, so nothing is needed of the locator but that it misses no error.
 fn fill_located<const N: usize, const R: usize>(
     code: &Code<N, R>,
     erasures: &Erasures<N>,

@@ -1,5 +1,7 @@
 //! Reed-Solomon parity of whole ECC blocks (ECMA-267, clause 18), and the values of their rows and columns at the powers of
 //! alpha, on vectors of 32 bytes: 32 columns or 32 rows at once.
+//! A product with a constant is then two look-ups among sixteen, one for each half of a byte. Words are tested by their
+//! values and not by a remainder, since a decoder begins with these values.
 //!
 //! - [`columns`]: the outer parity of 192 rows, and the values of 32 columns of a block.
 //! - [`rows`]: the inner parity of 32 rows, and their values.

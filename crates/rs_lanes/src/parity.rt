@@ -1,4 +1,6 @@
 //! The parity of words in 32 lanes, as the sum of the words that a matrix has for each of their values.
+//! The parity is the word that has the same values as its message, with zeros in place of the parity: both together are
+//! then zero at each root.
 ghost use Rattle.std.specs.Prelude.{◌≡◌, ℕ, ◌<◌, length, slice_index, EachIndex, All};
 ghost use Rattle.gf_field.specs.Field.{alpha, plus, product, power};
 ghost use Rattle.gf_field.specs.Words.{IsByte, value};

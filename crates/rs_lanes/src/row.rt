@@ -2,6 +2,7 @@
 ghost use Rattle.std.specs.Prelude.{◌≡◌, ℕ, List};
 
 /// A row of a block, whatever stands beside its bytes.
+/// The answer to a row has its bytes beside what was corrected, and its columns are tested where they are, without a copy.
 pub trait Row {
     ghost word: { Self → List ℕ };
 

@@ -78,6 +78,7 @@ impl<'a> Turns for Assembling<'a> {
         Ok(Turn::Good)
     }
 
+    // Before one byte more is asked for: where the input is too long, the line is true of what was written.
     fn close<K: Sink, E: Sink>(&self, out: &mut K, report: &mut E) -> Result<(), LoopEnd> {
         write_blocks(self.shelf, out)?;
         let line = placed_line(self.placed, self.frames.saturating_sub(self.placed));

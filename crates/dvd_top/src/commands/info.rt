@@ -160,6 +160,7 @@ fn ask_control<K: Sink>(entry: &BlockPlan, work: &mut Work, out: &mut K) -> Resu
     let Some(format) = format_in(entry, work) else {
         return Ok(Turn::Good);
     };
+    // One piece, so that the output has a front of these lines after a fault.
     write_whole(out, format_lines(&format).as_slice())?;
     Ok(Turn::Last)
 }

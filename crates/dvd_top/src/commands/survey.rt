@@ -83,6 +83,7 @@ impl<'a, 'r, F: Fn(&mut Work, &BlockPlan) -> Result<Fixed, Cause>> Turns for Sur
         survey_block(&entry, self.read, self.survey, self.work, out)
     }
 
+    // Before one byte more is asked for, so that an input that is too long has its totals too.
     fn close<K: Sink, E: Sink>(&self, out: &mut K, _report: &mut E) -> Result<(), LoopEnd> {
         self.survey.write_totals(out)?;
         Ok(())
