@@ -3,6 +3,7 @@
 //! answers are those of one worker.
 #![tactic(auto)]
 
+mod cutting; // how a pass is cut into pieces
 mod gate; // what is asked before each piece
 mod parity; // the parity of a block
 mod passes; // both passes over a captured block
@@ -13,6 +14,8 @@ pub use parity::add_parity_par;
 pub use passes::two_pass_par;
 pub use reading::read_block_par;
 
+#[cfg(test)]
+mod asked;
 #[cfg(test)]
 mod tests;
 #[cfg(test)]
