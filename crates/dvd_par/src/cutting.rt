@@ -1,5 +1,5 @@
 //! How a pass over rows or columns is cut into pieces, one for each worker at most.
-ghost use Rattle.std.specs.Prelude.{◌<◌, ◌≤◌, ◌≡◌, length};
+ghost use Rattle.std.specs.Prelude.{ℕ, ◌<◌, ◌≤◌, length};
 ghost use Rattle.std.specs.Fork.{AcceptsAt, AcceptsChunksMut, ChangesAt};
 ghost use Rattle.dvd_par.specs.Cutting.{IsCut, IsPieceSize};
 
@@ -30,12 +30,24 @@ pub fn for_each_piece<R: Threads + Sync, G: Gate, T: Send, F: Fn(usize, &mut [T]
     ensures { IsCut F.Fn work.now workers items.old items.new }
 {
     let size = piece_size(items.len(), workers);
-    let piece = |start: usize, piece: &mut [T]|
+    let asked = |start: usize, piece: &mut [T]|
         requires { (0 < size) × AcceptsAt F.Fn work.now start piece.now }
         ensures { ChangesAt F.Fn work.entry.now start piece.entry.now piece.exit.now }
-    {
-        gate.pass(start / size);
-        work(start, piece);
-    };
-    for_each_chunk_mut(rt, items, size, &piece);
+    { ask_and_do(gate, start / size, start, piece, work) };
+    for_each_chunk_mut(rt, items, size, &asked);
+}
+
+// Asks the gate for a piece, and then does the work on it.
+fn ask_and_do<G: Gate, T, F: Fn(usize, &mut [T])>(
+    gate: &G,
+    number: usize,
+    start: usize,
+    piece: &mut [T],
+    work: &F,
+)
+    requires { AcceptsAt F.Fn work.now start piece.old }
+    ensures { ChangesAt F.Fn work.now start piece.old piece.new }
+{
+    gate.pass(number);
+    work(start, piece);
 }
