@@ -63,11 +63,14 @@ impl Block {
         get_rows(&self.lines.rows()[12 * f..12 * f + 12], out);
     }
 
-    /// Sets the inner and the outer parity: places 172 to 181 of all rows, and rows 192 to 207. All else stays.
+    /// Sets the inner and the outer parity: places 172 to 181 of all rows, and rows 192 to 207. The bytes of the frames stay, and
+    /// the cells are zeros at the end.
     pub fn add_parity(&mut self)
-        ensures { IsParityAdded (block_rows self.old) (block_rows self.new) }
+        ensures parity { IsParityAdded (block_rows self.old) (block_rows self.new) }
+        ensures cells { cells_all self.new.cells ≡ replicate 182 (replicate 16 0) }
     {
         fill_parity(self.lines.rows_mut());
+        self.cells.clear();
     }
 
     /// Whether each row and each column is a codeword.

@@ -72,6 +72,13 @@ impl Cells {
         &self.cells
     }
 
+    /// Sets all cells to zeros.
+    pub fn clear(&mut self)
+        ensures { cells_all self.new ≡ replicate 182 (replicate 16 0) }
+    {
+        self.cells.fill([0; 16]);
+    }
+
     /// The cells, lent for writing. Their number stays.
     pub fn all_mut(&mut self) -> &mut [[u8; 16]]
         ensures* writes_back { sem 𝓛 (LendsCells self.entry result) }

@@ -1,1 +1,2 @@
--- No definitions of its own: what several workers do of a block is said by the crates below.
+-- How a pass is cut. What several workers do of a block is said by the crates below.
+pub mod Cutting

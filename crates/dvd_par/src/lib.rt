@@ -4,6 +4,7 @@
 //! A piece is a slice that one worker writes and nobody else reads, so that no buffer is copied.
 #![tactic(auto)]
 
+mod cutting; // how a pass is cut into pieces
 mod gate; // what is asked before each piece
 mod parity; // the parity of a block
 mod passes; // both passes over a captured block
@@ -14,6 +15,8 @@ pub use parity::add_parity_par;
 pub use passes::two_pass_par;
 pub use reading::read_block_par;
 
+#[cfg(test)]
+mod asked;
 #[cfg(test)]
 mod tests;
 #[cfg(test)]

@@ -1,21 +1,23 @@
 //! The parity of a block, with several workers.
-ghost use Rattle.std.specs.Prelude.{◌≡◌, ℕ, ◌+◌, ◌<◌, ◌≤◌, ◌++◌, length, take, EachIndex};
+ghost use Rattle.std.specs.Prelude.{◌≡◌, ℕ, ◌+◌, ◌<◌, ◌≤◌, ◌++◌, length, take, EachIndex, replicate};
 ghost use Rattle.gf_field.specs.Words.{IsCodeword, IsEncoded};
 ghost use Rattle.dvd_block.specs.Buffers.{block_rows, cells_all, lines_rows};
 ghost use Rattle.dvd_block.specs.Product.{IsParityAdded, column, line};
 
+use crate::cutting::for_each_piece;
 use crate::gate::Gate;
 use dvd_block::Block;
 use dvd_block::parts::{Cells, Lines, column_parity, row_parity};
 use rs_code::{Pi, Po};
-use std::thread::{Threads, for_each_chunk_mut};
+use std::thread::Threads;
 
 /// Sets the inner and the outer parity as `Block::add_parity` does, with so many workers. A worker has the rows of a piece in
 /// the first pass, and the columns of a piece in the second, which begins where the first has ended. One worker works on
-/// this thread.
+/// this thread. The cells are zeros at the end.
 pub fn add_parity_par<R: Threads + Sync, G: Gate>(rt: &R, workers: u8, gate: &G, block: &mut Block)
     requires workers { (1 ≤ workers) × (workers ≤ 16) }
-    ensures { IsParityAdded (block_rows block.old) (block_rows block.new) }
+    ensures parity { IsParityAdded (block_rows block.old) (block_rows block.new) }
+    ensures cells { cells_all block.new.cells ≡ replicate 182 (replicate 16 0) }
 {
     if workers == 1 {
         // Both passes at once.
@@ -27,6 +29,7 @@ pub fn add_parity_par<R: Threads + Sync, G: Gate>(rt: &R, workers: u8, gate: &G,
     inner_parity(rt, workers, gate, &mut block.lines);
     outer_parity(rt, workers, gate, &block.lines, &mut block.cells);
     block.place_parity();
+    block.cells.clear();
 }
 
 // Sets the inner parity of the upper 192 rows.
@@ -45,16 +48,13 @@ fn row_pieces<R: Threads + Sync, G: Gate>(rt: &R, workers: u8, gate: &G, rows: &
     ensures { EachIndex rows.new (λ i. IsEncoded 182 10 (take 172 (line rows.old i)) (line rows.new i)) }
 {
     let code = Pi::new();
-    let size = 192usize.div_ceil(usize::from(workers));
-    let piece = |start: usize, piece: &mut [[u8; 182]]|
-        requires { 0 < size }
+    let encode = |_start: usize, piece: &mut [[u8; 182]]|
         ensures rows { EachIndex piece.exit.now (λ i. IsEncoded 182 10 (take 172 (line piece.entry.now i)) (line piece.exit.now i)) }
         ensures size { length piece.exit.now ≡ length piece.entry.now }
     {
-        gate.pass(start / size);
         encode_rows(&code, piece);
     };
-    for_each_chunk_mut(rt, rows, size, &piece);
+    for_each_piece(rt, workers, gate, rows, &encode);
 }
 
 fn encode_rows(code: &Pi, rows: &mut [[u8; 182]])
@@ -92,16 +92,14 @@ fn cell_pieces<R: Threads + Sync, G: Gate>(
     ensures { EachIndex cells.new (λ j. IsCodeword 208 16 (take 192 (column (lines_rows lines.now) j) ++ line cells.new j)) }
 {
     let code = Po::new();
-    let size = 182usize.div_ceil(usize::from(workers));
-    let piece = |start: usize, piece: &mut [[u8; 16]]|
-        requires { (0 < size) × (start + length piece.now ≤ 182) }
+    let encode = |start: usize, piece: &mut [[u8; 16]]|
+        requires { start + length piece.now ≤ 182 }
         ensures cells { EachIndex piece.exit.now (λ k. IsCodeword 208 16 (take 192 (column (lines_rows lines.entry.now) (start + k)) ++ line piece.exit.now k)) }
         ensures size { length piece.exit.now ≡ length piece.entry.now }
     {
-        gate.pass(start / size);
         encode_cells(&code, lines, start, piece);
     };
-    for_each_chunk_mut(rt, cells, size, &piece);
+    for_each_piece(rt, workers, gate, cells, &encode);
 }
 
 // Sets cells to the outer parity of the columns from `start` on.

@@ -8,13 +8,14 @@ ghost use Rattle.dvd_capture.specs.Parts.{marks_rows, received_rows};
 ghost use Rattle.dvd_read.specs.Calls.{IsDecoded};
 ghost use Rattle.dvd_read.specs.Parts.{AreAnswersFrom, AreColumnsFrom, AreOwnFrom, answer_word};
 
+use crate::cutting::for_each_piece;
 use crate::gate::Gate;
 use dvd_capture::parts::{AnswerRow, ColumnAnswer, Marks, Received};
 use dvd_capture::{Stage, Work};
 use dvd_read::parts::{answer_columns, answer_rows, are_few, mark_failed, settle};
 use dvd_read::{Cause, Fixed};
 use rs_code::{Pi, Po};
-use std::thread::{Threads, for_each_chunk_mut};
+use std::thread::Threads;
 
 /// Decodes a captured block as `dvd_read::two_pass` does, with so many workers. A worker has the rows of a piece in the first
 /// pass, and the columns of a piece in the second, which begins where the first has ended. One worker works on this thread.
@@ -50,16 +51,14 @@ fn row_pass<R: Threads + Sync, G: Gate>(
     ensures { AreAnswersFrom (received_rows received.now) (marks_rows marks.now) 0 answers.new }
 {
     let code = Pi::new();
-    let size = 208usize.div_ceil(usize::from(workers));
-    let piece = |start: usize, piece: &mut [AnswerRow]|
-        requires { (0 < size) × (start + length piece.now ≤ 208) }
+    let answer = |start: usize, piece: &mut [AnswerRow]|
+        requires { start + length piece.now ≤ 208 }
         ensures answers { AreAnswersFrom (received_rows received.entry.now) (marks_rows marks.entry.now) start piece.exit.now }
         ensures size { length piece.exit.now ≡ length piece.entry.now }
     {
-        gate.pass(start / size);
         answer_rows(&code, received, marks, start, piece);
     };
-    for_each_chunk_mut(rt, answers, size, &piece);
+    for_each_piece(rt, workers, gate, answers, &answer);
 }
 
 // Several workers answer their pieces apart from each other, so that of their answers nothing is known beyond this pass.
@@ -108,17 +107,14 @@ fn column_pieces<R: Threads + Sync, G: Gate>(
     ensures { AreColumnsFrom (map answer_word answers.now) 0 columns.new }
 {
     let code = Po::new();
-    let size = 182usize.div_ceil(usize::from(workers));
-    let piece = |start: usize, piece: &mut [ColumnAnswer]|
-        requires { (0 < size)
-            × (start + length piece.now ≤ 182)
+    let answer = |start: usize, piece: &mut [ColumnAnswer]|
+        requires { (start + length piece.now ≤ 182)
             × (length answers.now ≡ 208)
             × (failed.now ≡ failed_of (map answer_word answers.now)) }
         ensures columns { AreColumnsFrom (map answer_word answers.entry.now) start piece.exit.now }
         ensures size { length piece.exit.now ≡ length piece.entry.now }
     {
-        gate.pass(start / size);
         answer_columns(&code, answers, failed, start, piece);
     };
-    for_each_chunk_mut(rt, columns, size, &piece);
+    for_each_piece(rt, workers, gate, columns, &answer);
 }

@@ -20,7 +20,7 @@ const FIRST: BlockPlan = BlockPlan {
 };
 
 // The first data block without its parity.
-fn frames(alloc: Global) -> Result<Block, Fail> {
+pub(crate) fn frames(alloc: Global) -> Result<Block, Fail> {
     let mut block = Block::new(alloc)?;
     let mut main = [0; 2048];
     for f in 0..16u32 {
@@ -37,7 +37,7 @@ fn frames(alloc: Global) -> Result<Block, Fail> {
 
 // The first data block, received so: in each of the `bad` rows from row `from` on, of every `step` rows, eleven bytes are
 // changed, and in each of the `lost` rows behind them all places are marked.
-fn received(
+pub(crate) fn received(
     alloc: Global,
     from: usize,
     step: usize,
@@ -152,6 +152,7 @@ fn parity_is_that_of_one_worker(rt: HostRuntime) -> Result<(), Fail> {
         let mut block = frames(rt.alloc())?;
         add_parity_par(&rt, workers, &OpenGate, &mut block);
         assert!(rt; block.lines.rows() == plain.lines.rows());
+        assert!(rt; block.cells.all() == plain.cells.all());
     }
     Ok(())
 }

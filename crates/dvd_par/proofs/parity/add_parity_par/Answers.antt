@@ -5,7 +5,7 @@ use Rattle.dvd_block.proofs.Filling.{IsFilled, parity_added}
 use Rattle.dvd_par.proofs.parity.add_parity_par.Given as given
 use Rattle.dvd_par.proofs.parity.add_parity_par.Goals as goal
 
-module _ (g : given.Over) (c : goal.After-place_parity g) where
+module _ (g : given.Over) (c : goal.After-clear g) where
   abbrev old : List (List ℕ)
   old = block_rows c.args.block.now
 
@@ -29,5 +29,5 @@ module _ (g : given.Over) (c : goal.After-place_parity g) where
     sizes = c.place_parity.ensures.sizes;
   }
 
-pub returns : goal.returns
-returns g c = parity_added (old g c) (upper g c) (cells g c) (block g c) (filled g c)
+pub returns-clause-parity : goal.returns-clause-parity
+returns-clause-parity g c = parity_added (old g c) (upper g c) (cells g c) (block g c) (filled g c)

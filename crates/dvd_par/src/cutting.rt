@@ -1,0 +1,53 @@
+//! How a pass over rows or columns is cut into pieces, one for each worker at most.
+ghost use Rattle.std.specs.Prelude.{ℕ, ◌<◌, ◌≤◌, length};
+ghost use Rattle.std.specs.Fork.{AcceptsAt, AcceptsChunksMut, ChangesAt};
+ghost use Rattle.dvd_par.specs.Cutting.{IsCut, IsPieceSize};
+
+use crate::gate::Gate;
+use std::thread::{Threads, for_each_chunk_mut};
+
+/// How many of `total` rows or columns a piece has: the least number with which so many workers do them all.
+pub fn piece_size(total: usize, workers: u8) -> usize
+    requires workers { 1 ≤ workers }
+    requires some { 1 ≤ total }
+    ensures { IsPieceSize total workers result }
+{
+    total.div_ceil(usize::from(workers))
+}
+
+/// Does `work` on each piece of the items, with the place where the piece begins, each in a thread of its own where one can be
+/// made. The gate is asked once for each piece, by the thread that then does it. A single piece is done on this thread.
+pub fn for_each_piece<R: Threads + Sync, G: Gate, T: Send, F: Fn(usize, &mut [T]) + Sync>(
+    rt: &R,
+    workers: u8,
+    gate: &G,
+    items: &mut [T],
+    work: &F,
+)
+    requires workers { 1 ≤ workers }
+    requires some { 1 ≤ length items.old }
+    requires accepts { (size : ℕ) → AcceptsChunksMut F.Fn work.now size items.old }
+    ensures { IsCut F.Fn work.now workers items.old items.new }
+{
+    let size = piece_size(items.len(), workers);
+    let asked = |start: usize, piece: &mut [T]|
+        requires { (0 < size) × AcceptsAt F.Fn work.now start piece.now }
+        ensures { ChangesAt F.Fn work.entry.now start piece.entry.now piece.exit.now }
+    { ask_and_do(gate, start / size, start, piece, work) };
+    for_each_chunk_mut(rt, items, size, &asked);
+}
+
+// Asks the gate for a piece, and then does the work on it.
+fn ask_and_do<G: Gate, T, F: Fn(usize, &mut [T])>(
+    gate: &G,
+    number: usize,
+    start: usize,
+    piece: &mut [T],
+    work: &F,
+)
+    requires { AcceptsAt F.Fn work.now start piece.old }
+    ensures { ChangesAt F.Fn work.now start piece.old piece.new }
+{
+    gate.pass(number);
+    work(start, piece);
+}
