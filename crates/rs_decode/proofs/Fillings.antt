@@ -1,19 +1,19 @@
 -- Words that were filled at their marked places.
-use Rattle.std.proofs.Common.{◌≡◌, ◌≢◌, ℕ, zero, suc, ◌<◌, ◌≤◌, Bool, true, false, List, [], ◌∷◌, length, take, get_or, All, refl, sym, ap, subst, ◌∙◌, arith, get_or-take, length-take}
+use Rattle.std.proofs.Common.{◌≡◌, ◌≢◌, ℕ, zero, suc, ◌<◌, ◌≤◌, Bool, true, false, List, [], ◌∷◌, length, get_or, All, refl, sym, ap, subst, ◌∙◌, arith}
 use Rattle.gf_field.specs.Field.{alpha, plus, product, power}
 use Rattle.gf_field.specs.Words.{IsByte, IsCodeword, value}
-use Rattle.gf_field.proofs.FieldLaws.{plus-assoc, plus-pairs, plus-self, plus-zero, plus-product, power-swap}
+use Rattle.gf_field.proofs.FieldLaws.{plus-again, plus-assoc, plus-pairs, plus-zero, plus-zero_same, plus-product, power-swap}
 use Rattle.rs_code.specs.Syndromes.{syndromes_of}
-use Rattle.rs_code.proofs.Distance.{IsCodeword-close}
+use Rattle.rs_code.specs.Inner.Polynomials.{sum_of}
+use Rattle.rs_code.proofs.Distance.{All-sum_of}
 use Rattle.rs_code.specs.Inner.PowerSums.{power_sum, points_of, AreDistinct}
 use Rattle.rs_code.proofs.PowerSums.{length-points_of, AreDistinct-points_of}
 use Rattle.rs_code.proofs.Syndromes.{get_or-syndromes_of, length-syndromes_of}
-use Rattle.rs_code.proofs.Values.{value-cons}
+use Rattle.rs_code.proofs.Values.{length-sum_of, value-cons}
 use Rattle.rs_decode.specs.Filling.{IsFilling, HasNoFilling, AgreeUnmarked, marked}
 use Rattle.rs_decode.specs.Inner.Places.{picked, patched}
-use Rattle.rs_decode.specs.Inner.Sums.{HasSums}
+use Rattle.rs_decode.specs.Inner.Sums.{AreOnly, AreSums}
 use Rattle.rs_decode.proofs.Marks.{All-picked, length-picked}
-use Rattle.rs_decode.proofs.OneNear.{distance-unmarked}
 
 -- ---- the points of marked places differ
 
@@ -32,10 +32,6 @@ marked_points-distinct marks points short is = subst AreDistinct (sym is) (AreDi
 -- there are as many points as places are marked
 pub points-few : (marks : List Bool) (points : List ℕ) → points ≡ picked marks (points_of (length marks)) → length points ≡ marked marks
 points-few marks points are = ap length are ∙ length-picked marks (points_of (length marks)) (length-points_of (length marks))
-
--- the first syndromes, up to r, are as many as were taken
-pub length-first_syndromes : (r count : ℕ) (word syndromes : List ℕ) → syndromes ≡ syndromes_of r word → count ≤ r → length (take count syndromes) ≡ count
-length-first_syndromes r count word syndromes are few = ap (λ xs. length (take count xs)) are ∙ simp (length-take, length-syndromes_of) (omega arith)
 
 -- ---- the filled word
 
@@ -100,57 +96,60 @@ value-filled r word filled syndromes bytes points marks alike fits points_are sy
     ∙ ap (λ xs. plus (value word (power alpha k)) (power_sum bytes xs k)) (sym points_are)
     ∙ ap (λ v. plus v (power_sum bytes points k)) (sym (get_or-syndromes_of r word k below) ∙ ap (λ xs. get_or xs k 0) (sym syndromes_are))
 
--- with the bytes whose sums are the first syndromes, it vanishes at as many powers of alpha as places are marked
-pub filled-codeword : (n r count : ℕ) (word : List ℕ) (marks : List Bool) (points bytes sums : List ℕ)
-    → length word ≡ n
-    → length marks ≡ n
-    → count ≡ marked marks
-    → count ≤ r
-    → points ≡ picked marks (points_of (length marks))
-    → sums ≡ take count (syndromes_of r word)
-    → HasSums points bytes sums
-    → All IsByte (patched word marks bytes)
-    → IsCodeword n (marked marks) (patched word marks bytes)
-filled-codeword n r count word marks points bytes sums size marks_size is_count few points_are sums_are has_sums all =
+-- ---- a codeword that agrees
+
+-- the bytes that a word lacks of another, at the marked places
+abbrev lacking : List Bool → List ℕ → List ℕ → List ℕ
+lacking marks word filling = picked marks (sum_of word filling)
+
+-- with these bytes added it is the other, if they agree elsewhere
+patched-lacking : (word filling : List ℕ) (marks : List Bool) → length word ≡ length marks → length filling ≡ length marks → AgreeUnmarked marks word filling
+    → patched word marks (lacking marks word filling) ≡ filling
+unfolding patched picked sum_of
+patched-lacking [] [] [] size as_long agree = refl
+patched-lacking [] [] (mark ∷ marks) size as_long agree = absurd (omega arith)
+patched-lacking [] (other ∷ filling) marks size as_long agree = absurd (omega arith)
+patched-lacking (byte ∷ word) [] marks size as_long agree = absurd (omega arith)
+patched-lacking (byte ∷ word) (other ∷ filling) [] size as_long agree = absurd (omega arith)
+patched-lacking (byte ∷ word) (other ∷ filling) (true ∷ marks) size as_long agree =
+    let rest = patched-lacking word filling marks (omega arith) (omega arith) (λ k below clear. agree (suc k) (omega arith) clear) in
+    rw (plus-again byte other, rest) refl
+patched-lacking (byte ∷ word) (other ∷ filling) (false ∷ marks) size as_long agree =
+    let rest = patched-lacking word filling marks (omega arith) (omega arith) (λ k below clear. agree (suc k) (omega arith) clear) in
+    let here : other ≡ byte = agree 0 (omega arith) refl in
+    cc
+
+-- what a word lacks of a codeword has the word's syndromes as its power sums
+AreSums-lacking : (n r : ℕ) (word filling syndromes points : List ℕ) (marks : List Bool) → length word ≡ n → length marks ≡ n
+    → points ≡ picked marks (points_of (length marks)) → syndromes ≡ syndromes_of r word → IsFilling n r word marks filling
+    → AreSums points (lacking marks word filling) syndromes
+AreSums-lacking n r word filling syndromes points marks size marks_size points_are syndromes_are is_filling =
     let alike : length word ≡ length marks = size ∙ sym marks_size in
-    let long : length sums ≡ count = ap length sums_are ∙ length-first_syndromes r count word (syndromes_of r word) refl few in
+    let as_long : length filling ≡ length marks = is_filling.codeword.size ∙ sym marks_size in
+    let bytes = lacking marks word filling in
+    let count : length bytes ≡ marked marks = length-picked marks (sum_of word filling) (length-sum_of word filling (alike ∙ sym as_long) ∙ alike) in
     record {
-      size = length-patched word marks bytes ∙ size;
-      bytes = all;
-      vanishes = λ k below.
-          let inside : k < count = omega arith in
-          let inside_all : k < r = omega arith in
-          let sum : power_sum bytes (picked marks (points_of (length word))) k ≡ value word (power alpha k) =
-          ap (λ n. power_sum bytes (picked marks (points_of n)) k) alike ∙ ap (λ xs. power_sum bytes xs k) (sym points_are) ∙ has_sums.sums_are k (omega arith)
-          ∙ ap (λ xs. get_or xs k 0) sums_are ∙ get_or-take count (syndromes_of r word) k 0 inside ∙ get_or-syndromes_of r word k inside_all in
-          value-patched word marks bytes k alike (has_sums.size ∙ long ∙ is_count) ∙ ap (plus (value word (power alpha k))) sum ∙ plus-self (value word (power alpha k));
+      sums_are = λ k inside.
+          let below : k < r = omega (arith, ap length syndromes_are, length-syndromes_of r word) in
+          let x = power alpha k in
+          let sum : power_sum bytes points k ≡ power_sum bytes (picked marks (points_of (length word))) k = ap (λ xs. power_sum bytes xs k) (points_are ∙ ap (λ m. picked marks (points_of m)) (sym alike)) in
+          let vanishes : plus (value word x) (power_sum bytes points k) ≡ 0 =
+          ap (plus (value word x)) sum ∙ sym (value-patched word marks bytes k alike count)
+          ∙ ap (λ w. value w x) (patched-lacking word filling marks alike as_long is_filling.agrees) ∙ is_filling.codeword.vanishes k below in
+          sym (plus-zero_same (value word x) (power_sum bytes points k) vanishes) ∙ sym (get_or-syndromes_of r word k below) ∙ ap (λ xs. get_or xs k 0) (sym syndromes_are);
     }
 
--- if some codeword agrees, it is the filled word
-pub filling-filled : (n r : ℕ) (word filled filling : List ℕ) (marks : List Bool)
-    → n ≤ 255
-    → length marks ≡ n
-    → IsFilling n r word marks filling
-    → AgreeUnmarked marks word filled
-    → IsCodeword n (marked marks) filled
-    → filling ≡ filled
-filling-filled n r word filled filling marks short marks_size is_filling agree codeword =
-    let alike : AgreeUnmarked marks filling filled = λ k below clear. agree k below clear ∙ sym (is_filling.agrees k below clear) in
-    let weaker : IsCodeword n (marked marks) filling = record {
-      size = is_filling.codeword.size;
-      bytes = is_filling.codeword.bytes;
-      vanishes = λ k below. is_filling.codeword.vanishes k (omega (arith, is_filling.within));
-    } in
-    IsCodeword-close n (marked marks) filling filled short weaker codeword
-    (distance-unmarked filling filled marks (is_filling.codeword.size ∙ sym marks_size) (codeword.size ∙ sym marks_size) alike)
-
--- if the filled word isn't a codeword, no codeword agrees at all unmarked places
-pub no_filling : (n r : ℕ) (word filled : List ℕ) (marks : List Bool)
-    → n ≤ 255
-    → length marks ≡ n
-    → AgreeUnmarked marks word filled
-    → IsCodeword n (marked marks) filled
-    → (IsCodeword n r filled → ⊥)
-    → HasNoFilling n r word marks
-no_filling n r word filled marks short marks_size agree codeword fails filling is_filling =
-    fails (subst (IsCodeword n r) (filling-filled n r word filled filling marks short marks_size is_filling agree codeword) is_filling.codeword)
+-- if the word isn't a codeword with the only bytes that can have its syndromes as sums, no codeword agrees at all unmarked places
+pub no_filling : (n r : ℕ) (word syndromes points found : List ℕ) (marks : List Bool) → length word ≡ n → length marks ≡ n → All IsByte word
+    → points ≡ picked marks (points_of (length marks)) → syndromes ≡ syndromes_of r word → AreOnly points syndromes found
+    → (IsCodeword n r (patched word marks found) → ⊥) → HasNoFilling n r word marks
+no_filling n r word syndromes points found marks size marks_size all points_are syndromes_are only fails filling is_filling =
+    let alike : length word ≡ length marks = size ∙ sym marks_size in
+    let as_long : length filling ≡ length marks = is_filling.codeword.size ∙ sym marks_size in
+    let bytes = lacking marks word filling in
+    let count : length bytes ≡ length points =
+    length-picked marks (sum_of word filling) (length-sum_of word filling (alike ∙ sym as_long) ∙ alike) ∙ sym (points-few marks points points_are) in
+    let found_is : bytes ≡ found =
+    only.only bytes count (All-picked IsByte marks (sum_of word filling) (All-sum_of word filling all is_filling.codeword.bytes))
+    (AreSums-lacking n r word filling syndromes points marks size marks_size points_are syndromes_are is_filling) in
+    fails (subst (IsCodeword n r) (sym (ap (patched word marks) (sym found_is) ∙ patched-lacking word filling marks alike as_long is_filling.agrees)) is_filling.codeword)

@@ -5,7 +5,9 @@ pub mod Combinations
 pub mod Connections
 pub mod Counting
 pub mod ErrorsFound
+pub mod Evaluator
 pub mod Fillings
+pub mod Inverses
 pub mod LaneSums
 pub mod Locators
 pub mod Marks
@@ -16,6 +18,5 @@ pub mod OnlyRegister
 pub mod Powers
 pub mod Registers
 pub mod Roots
-pub mod Solving
 pub mod Totals
 pub mod Zeros

@@ -24,7 +24,7 @@ distances-byte [] x = omega arith
 distances-byte (a ∷ others) x = product-byte (plus x a) (distances others x)
 
 -- one point more is its distance as one factor more
-distances-push : (others : List ℕ) (a x : ℕ) → distances (others ++ a ∷ []) x ≡ product (distances others x) (plus x a)
+pub distances-push : (others : List ℕ) (a x : ℕ) → distances (others ++ a ∷ []) x ≡ product (distances others x) (plus x a)
 unfolding distances
 distances-push [] a x = product-comm (plus x a) 1
 distances-push (b ∷ others) a x =

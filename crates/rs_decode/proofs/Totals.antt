@@ -10,7 +10,7 @@ unfolding total
 total-none f = refl
 
 -- one value more
-total-next : (n : ℕ) (f : ℕ → ℕ) → total (suc n) f ≡ plus (total n f) (f n)
+pub total-next : (n : ℕ) (f : ℕ → ℕ) → total (suc n) f ≡ plus (total n f) (f n)
 unfolding total
 total-next n f = refl
 

@@ -1,6 +1,7 @@
-//! Vectors and lists: vectors added to bytes, and lists in the first lanes of vectors.
-ghost use Rattle.std.specs.Prelude.{◌≡◌, ℕ, ◌+◌, ◌<◌, ◌≤◌, length, slice_index, take};
+//! Vectors and lists: vectors added to bytes, lists in the first lanes of vectors, and lanes moved up.
+ghost use Rattle.std.specs.Prelude.{◌≡◌, ℕ, ◌+◌, ◌<◌, ◌≤◌, length, slice_index, take, ◌∷◌};
 ghost use Rattle.gf_field.specs.Field.{plus};
+ghost use Rattle.rs_lanes.specs.Inner.Lanes.{HasLanes};
 
 use std::simd::prelude::*;
 
@@ -25,4 +26,18 @@ pub fn in_front<const N: usize>(list: &[u8]) -> [u8; N]
     let mut bytes = [0; N];
     bytes[..list.len()].copy_from_slice(list);
     bytes
+}
+
+/// Each lane moved up by one, and a byte in the first. What was in the last lane is lost.
+#[inline(always)]
+pub fn moved_up(first: u8, lanes: u8x32) -> u8x32
+    ensures { HasLanes result (λ k. slice_index (first ∷ lanes) k) }
+{
+    u8x32::splat(first).shuffle(
+        lanes,
+        [
+            0, 32, 33, 34, 35, 36, 37, 38, 39, 40, 41, 42, 43, 44, 45, 46, 47, 48, 49, 50, 51, 52,
+            53, 54, 55, 56, 57, 58, 59, 60, 61, 62,
+        ],
+    )
 }

@@ -7,7 +7,6 @@ ghost use Rattle.rs_code.specs.Syndromes.{syndromes_of};
 ghost use Rattle.rs_decode.specs.Filling.{IsFilling, HasNoFilling, marked};
 
 use crate::places::{Erasures, patch};
-use crate::sums::solve;
 use crate::syndromes::{front, power_sums, syndromes};
 use arrayvec::ArrayVec;
 use rs_code::Code;
@@ -49,12 +48,11 @@ pub fn fill_from<const N: usize, const R: usize>(
     ensures same { OnErr result (word.new ≡ word.old) }
 {
     let points = &erasures.points;
-    let count = points.len();
-    if count > R {
+    if points.len() > R {
         return Err(NoCodeword);
     }
-    let mut corrections: ArrayVec<u8, 32> = ArrayVec::try_from(&syndromes[..count]).unwrap();
-    solve(points, &mut corrections);
+    // The bytes that a codeword needs there, if one agrees. Whether it does is tested.
+    let corrections = erasures.corrections(&syndromes);
     patch(word, points, &corrections);
     if !completes(code, word, &syndromes, points, &corrections) {
         // The same bytes added once more give the word back.

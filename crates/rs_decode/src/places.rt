@@ -1,11 +1,15 @@
 //! The marked places of a word.
-ghost use Rattle.std.specs.Prelude.{◌≡◌, ◌↔◌, List, Bool, false, ◌-◌, ◌<◌, ◌≤◌, length, replicate, All, IsTrue, MatchOption};
+ghost use Rattle.std.specs.Prelude.{◌≡◌, ◌↔◌, List, Bool, false, ◌-◌, ◌<◌, ◌≤◌, length, replicate, All, IsTrue, IfSome, MatchOption};
+ghost use Rattle.std.specs.Option.{ForSome};
 ghost use Rattle.gf_field.specs.Field.{alpha, power};
 ghost use Rattle.gf_field.specs.Words.{IsByte};
 ghost use Rattle.rs_decode.specs.Filling.{marked};
 ghost use Rattle.rs_decode.specs.Inner.Places.{ArePlaces, picked, patched};
-ghost use Rattle.rs_code.specs.Inner.PowerSums.{points_of};
+ghost use Rattle.rs_code.specs.Inner.PowerSums.{AreDistinct, points_of};
+ghost use Rattle.rs_decode.specs.Inner.Sums.{AreOnly};
 
+use crate::forney::bytes_at;
+use crate::inverse::Inverse;
 use arrayvec::ArrayVec;
 use gf_field::{alpha_pow, log};
 
@@ -17,9 +21,12 @@ pub struct Erasures<const N: usize> {
     pub marks: [bool; N],
     /// The points of the marked places, in their order.
     pub(crate) points: ArrayVec<u8, 32>,
+    // The inverse of their powers, where many words are to be filled at them.
+    pub(crate) inverse: Option<Inverse>,
     /// A word of `N` bytes has as many places.
     pub ghost size: { length marks ≡ N },
     ghost gathered: { points.items ≡ picked marks (points_of (length marks)) },
+    ghost same_points: { ForSome inverse (λ inverse. inverse.points.items ≡ points.items) },
 }
 
 impl<const N: usize> Erasures<N> {
@@ -30,10 +37,11 @@ impl<const N: usize> Erasures<N> {
         Erasures {
             marks: [false; N],
             points: ArrayVec::new(),
+            inverse: None,
         }
     }
 
-    /// The places of these marks, unless they are more than `most`.
+    /// The places of these marks, unless they are more than `most`: for one word, or a few.
     pub fn new(marks: &[bool; N], most: usize) -> Option<Self>
         requires room { most ≤ 32 }
         requires short { N ≤ 255 }
@@ -43,7 +51,36 @@ impl<const N: usize> Erasures<N> {
         Some(Erasures {
             marks: *marks,
             points,
+            inverse: None,
         })
+    }
+
+    /// The same for many words, for which the inverse of the places' powers is made once. It pays from some ten words on.
+    pub fn shared(marks: &[bool; N], most: usize) -> Option<Self>
+        requires room { most ≤ 32 }
+        requires short { N ≤ 255 }
+        ensures { MatchOption result (most < marked marks.now) (λ erasures. (marked marks.now ≤ most) × (erasures.marks ≡ marks.now)) }
+    {
+        let points = marked_points(marks, most)?;
+        let inverse = inverse_of(&points);
+        Some(Erasures {
+            marks: *marks,
+            points,
+            inverse,
+        })
+    }
+
+    /// The bytes at the marked places that have these power sums, if any have.
+    pub(crate) fn corrections(&self, sums: &[u8]) -> ArrayVec<u8, 32>
+        requires short { N ≤ 255 }
+        requires enough { length self.now.points.items ≤ length sums.now }
+        requires room { length sums.now ≤ 32 }
+        ensures { AreOnly self.now.points.items sums.now result.items }
+    {
+        match &self.inverse {
+            Some(inverse) => inverse.bytes_at(sums),
+            None => bytes_at(&self.points, sums),
+        }
     }
 
     /// Whether no place is marked.
@@ -52,6 +89,17 @@ impl<const N: usize> Erasures<N> {
     {
         self.points.is_empty()
     }
+}
+
+// The inverse of the powers of points, if these are few enough for it.
+fn inverse_of(points: &[u8]) -> Option<Inverse>
+    requires { AreDistinct points.now }
+    ensures { IfSome result (λ inverse. inverse.points.items ≡ points.now) }
+{
+    if points.len() > 16 {
+        return None;
+    }
+    Some(Inverse::new(ArrayVec::try_from(points).unwrap()))
 }
 
 // The powers of alpha that the bytes at the marked places stand at, unless more than `most` places are marked.

@@ -7,7 +7,7 @@ ghost use Rattle.gf_field.specs.Field.{plus, product};
 ghost use Rattle.rs_lanes.specs.Inner.Lanes.{HasLanes};
 ghost use Rattle.rs_decode.specs.Register.{Generates, IsLeast};
 
-use crate::combining::in_front;
+use crate::combining::{in_front, moved_up};
 use arrayvec::ArrayVec;
 use gf_field::inv;
 use rs_lanes::{multiple, store, with_multiple};
@@ -98,20 +98,6 @@ fn scaled(register: Candidate, factor: u8) -> Candidate
         taps: multiple(register.taps, factor),
         connections: multiple(register.connections, factor),
     }
-}
-
-// Each lane moved up by one, and a byte in the first. What was in the last lane is lost.
-#[inline(always)]
-fn moved_up(first: u8, lanes: u8x32) -> u8x32
-    ensures { HasLanes result (λ k. slice_index (first ∷ lanes) k) }
-{
-    u8x32::splat(first).shuffle(
-        lanes,
-        [
-            0, 32, 33, 34, 35, 36, 37, 38, 39, 40, 41, 42, 43, 44, 45, 46, 47, 48, 49, 50, 51, 52,
-            53, 54, 55, 56, 57, 58, 59, 60, 61, 62,
-        ],
-    )
 }
 
 // Each lane moved down by one. What was in the first lane is lost.

@@ -15,6 +15,12 @@ unfoldable pub distances : List ℕ → ℕ → ℕ
 distances [] x = 1
 distances (a ∷ others) x = product (plus x a) (distances others x)
 
+-- The slope of the locator of the others between x and y: what its values there differ by is this times the distance of x and
+-- y. Where both are one point, it is the derivative.
+unfoldable pub slope : List ℕ → ℕ → ℕ → ℕ
+slope [] x y = 0
+slope (a ∷ others) x y = plus (product (plus x a) (slope others x y)) (distances others y)
+
 -- the marks, with each place whose point is a zero of the locator marked too
 unfoldable pub with_zeros : List ℕ → List Bool → List ℕ → List Bool
 with_zeros locator [] points = []

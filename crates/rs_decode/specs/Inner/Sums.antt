@@ -1,12 +1,13 @@
 -- Bytes at points and their power sums.
-use Rattle.std.specs.Prelude.{◌≡◌, ℕ, ◌<◌, List, length, slice_index}
+use Rattle.std.specs.Prelude.{◌≡◌, ℕ, ◌<◌, List, length, slice_index, All}
+use Rattle.gf_field.specs.Words.{IsByte}
 use Rattle.rs_code.specs.Inner.PowerSums.{power_sum}
 
 -- the first power sums of the bytes at the points are these
-pub record HasSums (points bytes sums : List ℕ) : Type 0 where
-  pub size : length bytes ≡ length sums
-  pub sums_are : (k : ℕ) → k < length sums → power_sum bytes points k ≡ slice_index sums k
-
--- the same of as many sums as there are, which may be more or fewer than the bytes
 pub record AreSums (points bytes sums : List ℕ) : Type 0 where
   pub sums_are : (k : ℕ) → k < length sums → power_sum bytes points k ≡ slice_index sums k
+
+-- If any bytes at the points have these sums, they are those that were found. Where none have, anything may be found.
+pub record AreOnly (points sums found : List ℕ) : Type 0 where
+  pub size : length found ≡ length points
+  pub only : (bytes : List ℕ) → length bytes ≡ length points → All IsByte bytes → AreSums points bytes sums → bytes ≡ found

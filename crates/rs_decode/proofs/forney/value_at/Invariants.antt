@@ -1,0 +1,8 @@
+-- What each turn of the loop in `value_at` keeps.
+use Rattle.std.proofs.Common.{◌≡◌, take}
+use Rattle.gf_field.specs.Words.{value}
+use Rattle.rs_decode.proofs.forney.value_at.Given as goal
+
+-- the value of the coefficients so far
+abbrev pub invariant-loop-coefficient : goal.invariant-loop-coefficient
+invariant-loop-coefficient l = l.sum ≡ value (take l.coefficient-index l.polynomial) l.x

@@ -1,0 +1,22 @@
+-- The inverse of the powers of points, and polynomials in lanes that it is made of.
+use Rattle.std.specs.Prelude.{◌≡◌, ℕ, ◌<◌, ◌≤◌, List, length, slice_index, take, ◌==◌, if◌then◌else◌}
+use Rattle.gf_field.specs.Field.{product, power}
+use Rattle.gf_field.specs.Words.{value}
+use Rattle.rs_lanes.specs.Rows.{place}
+use Rattle.rs_decode.specs.Register.{total}
+
+-- the sum of row i's first bytes, each times a power of x, from the power 0 on
+unfoldable pub row_at : ℕ → List (List ℕ) → ℕ → ℕ → ℕ
+row_at count columns i x = total count (λ k. product (place columns k i) (power x k))
+
+-- Times the powers of the points, the matrix is the identity: row i gives 1 at point i, and 0 at all others.
+-- So it takes power sums of bytes at the points back to the bytes.
+pub record IsInverse (points : List ℕ) (columns : List (List ℕ)) : Type 0 where
+  pub identity : (i j : ℕ) → i < length points → j < length points
+      → row_at (length points) columns i (slice_index points j) ≡ (if i == j then 1 else 0)
+
+-- the first lanes are a polynomial, the highest power first, with these values, and all others are zeros
+pub record IsPolynomial (count : ℕ) (lanes : List ℕ) (f : ℕ → ℕ) : Type 0 where
+  pub size : length lanes ≡ 32
+  pub values : (x : ℕ) → value (take count lanes) x ≡ f x
+  pub zeros : (k : ℕ) → count ≤ k → slice_index lanes k ≡ 0

@@ -1,0 +1,101 @@
+//! The bytes at given points that have given power sums, by Forney's formula: at each point the value of an evaluator, divided
+//! by the derivative of the locator, the polynomial that vanishes at the points.
+//!
+//! Where the places are known, this takes the least work: the evaluator comes from the sums by a step for each point, and no
+//! system of equations is solved. The formula finds the only bytes that can have the sums. Whether they have them all, and a
+//! word with them is a codeword, is tested where they are used: no proof rests on their being right for any other word.
+ghost use Rattle.std.specs.Prelude.{◌≡◌, ◌≢◌, ℕ, ◌+◌, ◌*◌, ◌<◌, ◌≤◌, List, length, take, drop, All, slice_index};
+ghost use Rattle.gf_field.specs.Field.{alpha, plus, product, power};
+ghost use Rattle.gf_field.specs.Words.{value};
+ghost use Rattle.rs_code.specs.Inner.PowerSums.{AreDistinct, power_sum};
+ghost use Rattle.rs_lanes.specs.Inner.Lanes.{HasLanes};
+ghost use Rattle.rs_decode.specs.Inner.Locator.{at_points, distances, slope};
+ghost use Rattle.rs_decode.specs.Inner.Sums.{AreOnly, AreSums};
+
+use crate::combining::{in_front, moved_up};
+use arrayvec::ArrayVec;
+use gf_field::{alpha_pow, div, log, mul};
+use rs_lanes::with_multiple;
+use std::simd::prelude::*;
+
+/// The bytes at the points that have these power sums, the lowest first, if any have.
+pub fn bytes_at(points: &[u8], sums: &[u8]) -> ArrayVec<u8, 32>
+    requires distinct { AreDistinct points.now }
+    requires enough { length points.now ≤ length sums.now }
+    requires room { length sums.now ≤ 32 }
+    ensures { AreOnly points.now sums.now result.items }
+{
+    let evaluator = evaluator(points, sums).to_array();
+    let mut bytes = ArrayVec::new();
+    for i in 0..points.len() {
+        let value = value_at(&evaluator[..points.len()], points[i]);
+        bytes.push(div(value, derivative(points, i)));
+    }
+    bytes
+}
+
+/// The derivative of the locator at a point: the product of its distances to the others.
+pub fn derivative(points: &[u8], i: usize) -> u8
+    requires distinct { AreDistinct points.now }
+    requires inside { i < length points.now }
+    requires few { length points.now ≤ 32 }
+    ensures nonzero { result ≢ 0 }
+    ensures slope { result ≡ slope points.now (slice_index points.now i) (slice_index points.now i) }
+{
+    let point = points[i];
+    let before = distance_exponent(point, &points[..i]);
+    let after = distance_exponent(point, &points[i + 1..]);
+    alpha_pow(before + after)
+}
+
+// The logarithm of the product of a point's distances to others, or that and a multiple of 255.
+fn distance_exponent(point: u8, others: &[u8]) -> u32
+    requires apart { All (λ other. point ≢ other) others.now }
+    requires few { length others.now ≤ 32 }
+    ensures small { result ≤ 254 * length others.now }
+    ensures reaches { power alpha result ≡ distances others.now point }
+{
+    let mut exponent = 0;
+    for other in others {
+        exponent += u32::from(log(point ^ *other));
+    }
+    exponent
+}
+
+// The evaluator of power sums, in the first lanes, the highest power first: its value at x is the sum of the bytes, each times
+// the slope of the locator between its point and x.
+fn evaluator(points: &[u8], sums: &[u8]) -> u8x32
+    requires enough { length points.now ≤ length sums.now }
+    requires room { length sums.now ≤ 32 }
+    ensures size { length result ≡ 32 }
+    ensures values { (bytes : List ℕ) → AreSums points.now bytes sums.now
+        → (x : ℕ) → value (take (length points.now) result) x ≡ power_sum (at_points (slope points.now x) bytes points.now) points.now 0 }
+{
+    let mut lanes = u8x32::from_array(in_front(sums));
+    for point in points {
+        lanes = times_distance(lanes, *point);
+    }
+    lanes
+}
+
+/// A polynomial times (x + `point`), where the highest power of both stands in the first lane.
+#[inline(always)]
+pub fn times_distance(lanes: u8x32, point: u8) -> u8x32
+    requires { length lanes ≡ 32 }
+    ensures size { length result ≡ 32 }
+    ensures first { slice_index result 0 ≡ slice_index lanes 0 }
+    ensures each { (k : ℕ) → k < 31 → slice_index result (k + 1) ≡ plus (slice_index lanes (k + 1)) (product point (slice_index lanes k)) }
+{
+    with_multiple(lanes, moved_up(0, lanes), point)
+}
+
+// The value of a polynomial, the highest power first, by Horner's rule.
+fn value_at(polynomial: &[u8], x: u8) -> u8
+    ensures { result ≡ value polynomial.now x }
+{
+    let mut sum = 0;
+    for coefficient in polynomial {
+        sum = mul(x, sum) ^ *coefficient;
+    }
+    sum
+}

@@ -1,0 +1,132 @@
+//! The inverse of the powers of points: what Forney's formula gives for the points alone. Many words whose marked places are
+//! the same are filled by it, each by sums of multiples of its columns.
+ghost use Rattle.std.specs.Prelude.{◌≡◌, ◌≢◌, ℕ, ◌+◌, ◌<◌, ◌≤◌, length, take, slice_index, ◌==◌, if◌then◌else◌};
+ghost use Rattle.gf_field.specs.Field.{product};
+ghost use Rattle.gf_field.specs.Words.{value};
+ghost use Rattle.rs_code.specs.Inner.PowerSums.{AreDistinct};
+ghost use Rattle.rs_lanes.specs.Rows.{place};
+ghost use Rattle.rs_decode.specs.Inner.Inverse.{IsInverse, IsPolynomial, row_at};
+ghost use Rattle.rs_decode.specs.Inner.Locator.{distances};
+ghost use Rattle.rs_decode.specs.Register.{total};
+ghost use Rattle.rs_lanes.specs.Inner.Lanes.{HoldsLanes};
+ghost use Rattle.rs_decode.specs.Inner.Sums.{AreOnly};
+
+use crate::forney::{derivative, times_distance};
+use crate::syndromes::front;
+use arrayvec::ArrayVec;
+use gf_field::inv;
+use rs_lanes::scaled;
+use std::simd::prelude::*;
+
+/// The inverse of the matrix whose row k has the k-th powers of at most sixteen points: its row i, times power sums, is the
+/// byte at point i. It is as wide as there are points, and zeros stand in the rest.
+#[derive(Drop)]
+pub struct Inverse {
+    /// The points, none of which stands twice.
+    pub(crate) points: ArrayVec<u8, 32>,
+    /// Its columns: byte i of column k is in row i.
+    pub(crate) columns: [[u8; 16]; 16],
+    /// They are as many as a vector has lanes, or fewer.
+    pub ghost few: { length points.items ≤ 16 },
+    /// It is the inverse.
+    pub ghost inverse: { IsInverse points.items columns },
+}
+
+impl Inverse {
+    /// That of the powers of these points.
+    pub fn new(points: ArrayVec<u8, 32>) -> Self
+        requires distinct { AreDistinct points.items }
+        requires few { length points.items ≤ 16 }
+        ensures { result.points.items ≡ points.items }
+    {
+        let columns = inverse_columns(&points);
+        Inverse { points, columns }
+    }
+
+    /// The bytes at the points that have these power sums, the lowest first, if any have.
+    pub fn bytes_at(&self, sums: &[u8]) -> ArrayVec<u8, 32>
+        requires { length self.now.points.items ≤ length sums.now }
+        ensures { AreOnly self.now.points.items sums.now result.items }
+    {
+        let count = self.points.len();
+        front(combined(&self.columns, &sums[..count]), count)
+    }
+}
+
+// The columns of the inverse, row by row.
+fn inverse_columns(points: &[u8]) -> [[u8; 16]; 16]
+    requires distinct { AreDistinct points.now }
+    requires few { length points.now ≤ 16 }
+    ensures { IsInverse points.now result }
+{
+    let mut columns = [[0; 16]; 16];
+    for i in 0..points.len() {
+        set_row(&mut columns, i, &basis(points, i)[..points.len()]);
+    }
+    columns
+}
+
+// The polynomial that is 1 at point `i` and 0 at all others, the highest power in the first lane.
+fn basis(points: &[u8], i: usize) -> [u8; 32]
+    requires distinct { AreDistinct points.now }
+    requires inside { i < length points.now }
+    requires few { length points.now ≤ 16 }
+    ensures size { length result ≡ 32 }
+    ensures values { (j : ℕ) → j < length points.now
+        → value (take (length points.now) result) (slice_index points.now j) ≡ (if i == j then 1 else 0) }
+{
+    let mut leading = [0; 32];
+    leading[0] = inv(derivative(points, i));
+    let before = times_distances(u8x32::from_array(leading), &points[..i]);
+    times_distances(before, &points[i + 1..]).to_array()
+}
+
+// A polynomial times (x + a) for each `a` of the others.
+fn times_distances(lanes: u8x32, others: &[u8]) -> u8x32
+    requires { length lanes ≡ 32 }
+    ensures size { length result ≡ 32 }
+    ensures product { (count : ℕ) (f : ℕ → ℕ) → count + length others.now ≤ 32 → IsPolynomial count lanes f
+        → IsPolynomial (count + length others.now) result (λ x. product (f x) (distances others.now x)) }
+{
+    let mut product = lanes;
+    for other in others {
+        product = times_distance(product, *other);
+    }
+    product
+}
+
+// Sets row `i` to the coefficients of a polynomial, of which the highest power stands first in the list.
+fn set_row(columns: &mut [[u8; 16]; 16], i: usize, polynomial: &[u8])
+    requires inside { i < 16 }
+    requires few { length polynomial.now ≤ 16 }
+    ensures row { (x : ℕ) → row_at (length polynomial.now) columns.new i x ≡ value polynomial.now x }
+    ensures others { (k r : ℕ) → r ≢ i → place columns.new k r ≡ place columns.old k r }
+{
+    let size = polynomial.len();
+    for k in 0..size {
+        columns[k] = with_byte(columns[k], i, polynomial[size - 1 - k]);
+    }
+}
+
+// A column with a byte set.
+fn with_byte(column: [u8; 16], i: usize, byte: u8) -> [u8; 16]
+    requires { i < 16 }
+    ensures set { slice_index result i ≡ byte }
+    ensures others { (k : ℕ) → k ≢ i → slice_index result k ≡ slice_index column k }
+{
+    let mut column = column;
+    column[i] = byte;
+    column
+}
+
+// The sum of the columns, each times one of the sums.
+fn combined(columns: &[[u8; 16]; 16], sums: &[u8]) -> u8x16
+    requires { length sums.now ≤ 16 }
+    ensures { HoldsLanes 16 result (λ i. total (length sums.now) (λ k. product (place columns.now k i) (slice_index sums.now k))) }
+{
+    let mut bytes = u8x16::splat(0);
+    for k in 0..sums.len() {
+        bytes = bytes ^ scaled(u8x16::from_array(columns[k]), sums[k]);
+    }
+    bytes
+}
