@@ -46,6 +46,7 @@ pub mod Rescues
 pub mod RunEnds
 pub mod RunLemmas
 pub mod SectorsWritten
+pub mod SeveralWrites
 pub mod SomethingDone
 pub mod SurveyBlocks
 pub mod TwoSteps
