@@ -12,6 +12,7 @@ use Rattle.dvd_assemble.specs.Frames.{Frame, frame_in, frame_size}
 use Rattle.dvd_assemble.specs.Home.{home}
 use Rattle.dvd_assemble.proofs.Assembling.{length-assembled, none_yet, one_more}
 use Rattle.dvd_capture.specs.declared.form.Form.{Form}
+use Rattle.dvd_capture.proofs.ListedWritten.{prefix-behind}
 use Rattle.dvd_layout.specs.Lengths.{has_two_layers}
 use Rattle.dvd_layout.specs.declared.layout.Shape.{Shape}
 use Rattle.dvd_layout.specs.declared.layout.Shape.TheVariants.{Single, Parallel, Opposite}
@@ -133,24 +134,11 @@ module _ (old mid new : Option (List ℕ)) (tables : List Table) (k : ℕ) (with
   -- a part of one
   pub block_begun : AppendsPrefix mid new (marked_text (get_or tables k unseen)) → AppendsPrefix old new (text_of tables)
   block_begun begun =
-      let done : List ℕ = text_of (take k tables) in
+      let next : List ℕ = marked_text (get_or tables k unseen) in
       let behind : List ℕ = text_of (drop (k + 1) tables) in
-      record {
-        taken = done ++ begun.taken;
-        rest = begun.rest ++ behind;
-        grows = Appends-then old mid new done begun.taken before begun.grows;
-        whole =
-            append_assoc done begun.taken (begun.rest ++ behind)
-            ∙ ap (λ (l : List ℕ). done ++ l) (sym (append_assoc begun.taken begun.rest behind) ∙ ap (λ (l : List ℕ). l ++ behind) begun.whole)
-            ∙ sym (append_assoc done (marked_text (get_or tables k unseen)) behind)
-            ∙ ap (λ (l : List ℕ). l ++ behind) (sym (text-more tables k within))
-            ∙ sym (text-split tables (k + 1));
-        more = begins_more begun.rest behind begun.more;
-      }
-    where
-      begins_more : (xs ys : List ℕ) → xs ≢ [] → xs ++ ys ≢ []
-      begins_more [] ys some none = some refl
-      begins_more (x ∷ xs) ys some none = cc
+      let is : text_of (take k tables) ++ (next ++ behind) ≡ text_of tables =
+      sym (append_assoc (text_of (take k tables)) next behind) ∙ ap (λ (l : List ℕ). l ++ behind) (sym (text-more tables k within)) ∙ sym (text-split tables (k + 1)) in
+      subst (AppendsPrefix old new) is (prefix-behind old mid new (text_of (take k tables)) next behind before begun)
 
 -- the closing of a shelf
 abbrev pub closing_of : List Table → ℕ → ℕ → List Step

@@ -30,7 +30,7 @@ use Rattle.dvd_top.specs.Commands.Deep.{IsDeepened}
 use Rattle.dvd_top.specs.Commands.Master.{bytes_of_block, image_bytes}
 use Rattle.dvd_top.specs.Commands.Recover.{IsRecovered}
 use Rattle.dvd_top.specs.Headline.{GoesOver, IsLoop}
-use Rattle.dvd_top.specs.Laws.{BoundIsKept}
+use Rattle.dvd_top.specs.Laws.{BoundIsKept, LoopsKeepTheBound}
 use Rattle.dvd_top.specs.Lines.{closing_line}
 use Rattle.dvd_words.specs.Settings.{IsLayoutOf}
 use Rattle.dvd_words.specs.declared.settings.Command.{Command}
@@ -186,6 +186,10 @@ kept_by settings CdRead bytes outcome loop rescues is holds none out = absurd re
 kept_by settings Merge bytes outcome loop rescues is holds none out = absurd rescues
 kept_by settings Assemble bytes outcome loop rescues is holds none out = absurd rescues
 kept_by settings Convert bytes outcome loop rescues is holds none out = absurd rescues
+
+-- the law: a loop that no fault ended gives back the image sectors of each block that is borne
+pub loops_keep : LoopsKeepTheBound
+loops_keep settings bytes loop rescues goes none = kept_by settings settings.command bytes loop loop rescues refl goes none refl
 
 -- the law: a run that no fault ended gives back the image sectors of each block that is borne
 pub kept : BoundIsKept

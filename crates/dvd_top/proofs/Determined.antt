@@ -246,7 +246,7 @@ surveyed_is_one layout zones form k before own steps others turn other p q =
     )
 
 -- the layout of the settings is one
-one_layout : (settings : Settings) (a b : Layout) → IsLayoutOf settings a → IsLayoutOf settings b → a ≡ b
+pub one_layout : (settings : Settings) (a b : Layout) → IsLayoutOf settings a → IsLayoutOf settings b → a ≡ b
 one_layout settings a b p q =
     same_lengths-same a b (p.shape ∙ sym q.shape) (p.sectors0 ∙ sym q.sectors0) (p.sectors1 ∙ sym q.sectors1) (p.initial ∙ sym q.initial) (p.tail ∙ sym q.tail)
 

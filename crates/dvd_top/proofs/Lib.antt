@@ -31,6 +31,7 @@ pub mod InfoBlocks
 pub mod InfoFound
 pub mod Layouts
 pub mod MasterBlocks
+pub mod MasteredRuns
 pub mod MasteredStream
 pub mod MergeCaptures
 pub mod OneHeader
@@ -46,8 +47,10 @@ pub mod Rescues
 pub mod RunEnds
 pub mod RunLemmas
 pub mod SectorsWritten
+pub mod SeveralWrites
 pub mod SomethingDone
 pub mod SurveyBlocks
 pub mod TwoSteps
 pub mod UnitsOf
+pub mod WorkersAlike
 pub mod Written

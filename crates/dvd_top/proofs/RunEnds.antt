@@ -39,7 +39,7 @@ line_is closing end line does sound = elim does [
 ]
 
 -- so it is behind any loop
-closes_is : (closing : LoopEnd → List ℕ) (within : LoopEnd) (line : Outcome) → Closes closing within line → line.end ≢ ReportFault
+pub closes_is : (closing : LoopEnd → List ℕ) (within : LoopEnd) (line : Outcome) → Closes closing within line → line.end ≢ ReportFault
     → line ≡ record { taken = []; out = []; lines = closing within; end = within }
 closes_is closing ReportFault line is sound = absurd (sound (ap (λ (o : Outcome). o.end) is))
 closes_is closing end line does sound = line_is closing end line does sound

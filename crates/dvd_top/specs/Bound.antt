@@ -12,14 +12,15 @@ use Rattle.dvd_layout.specs.Plan.{plan_of}
 use Rattle.dvd_layout.specs.declared.entry.BlockPlan.{BlockPlan}
 use Rattle.dvd_layout.specs.declared.layout.Layout.{Layout}
 use Rattle.dvd_layout.specs.declared.layout.Zones.{Zones}
-use Rattle.dvd_loop.specs.Machine.{Outcome, Step}
+use Rattle.dvd_loop.specs.Laws.{IsFaultless}
+use Rattle.dvd_loop.specs.Machine.{IsOutcome, Outcome, Step}
 use Rattle.dvd_loop.specs.Machine.Step.{Write}
 use Rattle.dvd_loop.specs.declared.ends.Turn.{Turn}
 use Rattle.dvd_loop.specs.declared.ends.Turn.TheVariants.{Good}
 use Rattle.dvd_read.specs.Causes.{two_pass_cause}
 use Rattle.dvd_read.specs.declared.cause.Cause.{Cause}
 use Rattle.dvd_top.specs.Captured.{HasBlocks, block_bytes}
-use Rattle.dvd_top.specs.Commands.Master.{filled_block, frames_of, image_bytes}
+use Rattle.dvd_top.specs.Commands.Master.{filled_block, frames_of, image_bytes, master_units}
 use Rattle.dvd_top.specs.Commands.Deep.{IsDeepened}
 use Rattle.dvd_top.specs.Commands.Recover.{IsRecovered}
 use Rattle.dvd_words.specs.Settings.{IsLayoutOf}
@@ -88,3 +89,15 @@ pub record KeepsBound (settings : Settings) (bytes : List ℕ) (outcome : Outcom
   pub alone : (cpr image : List ℕ) (k : ℕ) (entry : BlockPlan) → IsBorneBlock layout settings.zones settings.form bytes cpr image k entry
       → (steps : List Step) (turn : Turn) → IsRescued settings.command layout settings.zones settings.form k (block_bytes settings.form bytes k) steps turn
       → (steps ≡ Write (image_part layout entry image) ∷ []) × (turn ≡ Good)
+
+-- `master` writes this stream of the whole image, by the layout and the zones of the settings and some CPR_MAI.
+pub record IsMasteredStream (settings : Settings) (image stream : List ℕ) : Type 0 where
+  pub layout : Layout
+  pub is_layout : IsLayoutOf settings layout
+  pub cpr : List ℕ
+  pub cpr_size : length cpr ≡ 6
+  pub image_size : length image ≡ 2048 * total_sectors layout
+  pub mastered : Outcome
+  pub masters : IsOutcome (master_units layout settings.zones cpr) image mastered
+  pub faultless : IsFaultless mastered.end
+  pub writes : stream ≡ mastered.out

@@ -13,7 +13,7 @@ use Rattle.dvd_loop.specs.declared.ends.LoopEnd.TheVariants as ends
 use Rattle.dvd_ports.specs.Causes.{Rose}
 use Rattle.dvd_ports.specs.Seen.{Seen}
 use Rattle.dvd_ports.specs.Whole.{AppendsPrefix}
-use Rattle.dvd_top.specs.Bound.{KeepsBound, KeepsGoodFrames, Rescues}
+use Rattle.dvd_top.specs.Bound.{IsMasteredStream, KeepsBound, KeepsGoodFrames, Rescues}
 use Rattle.dvd_top.specs.CdBound.{KeepsSectors}
 use Rattle.dvd_top.specs.Commands.{meaning}
 use Rattle.dvd_top.specs.Lines.{closing_line, setting_line}
@@ -135,3 +135,9 @@ pub record Headline (Untouched : Type 0) (words : List (List ℕ)) (old new : St
   -- The same for `cdread`: each CD-ROM sector whose damage is borne has given exactly its user data.
   pub sectors : (some : LoopEnd) → result ≡ status_of some → IsFaultless some → (settings : Settings) → reading words ≡ Some settings → settings.command ≡ CdRead
       → (end : LoopEnd) × (result ≡ status_of end) × Comes (λ bytes outcome. IsRun settings end bytes outcome × KeepsSectors settings bytes outcome) old new end
+  -- From the stream that `master` wrote of a whole image `recover` gives the image back, and reports `done` alone, where no stream failed
+  -- and there was memory.
+  pub mastered : (settings : Settings) (image stream : List ℕ) → reading words ≡ Some settings → breaks settings ≡ None → settings.command ≡ Recover
+      → settings.form ≡ Plain → IsMasteredStream settings image stream → old.source.bytes ≡ Some stream
+      → (Rose old.source.faults new.source.faults → ⊥) → (Rose old.output.faults new.output.faults → ⊥) → (Rose old.report.faults new.report.faults → ⊥)
+      → (result ≡ status.NoMemory) ⊎ ((result ≡ status.Done) × HaveMoved old new stream image (codes "done\n"))

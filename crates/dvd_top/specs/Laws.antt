@@ -41,7 +41,7 @@ use Rattle.dvd_top.specs.Commands.Exercise.{drawn_frames}
 use Rattle.dvd_top.specs.Commands.Info.{IsSought, format_lines, info_units}
 use Rattle.dvd_top.specs.Commands.Master.{filled_block, frames_of, image_bytes, master_units}
 use Rattle.dvd_top.specs.Commands.Recover.{IsRecovered, recover_units}
-use Rattle.dvd_top.specs.Headline.{IsLoop, IsRun, breaks}
+use Rattle.dvd_top.specs.Headline.{GoesOver, IsLoop, IsRun, breaks}
 use Rattle.dvd_top.specs.Opening.{Behind}
 use Rattle.dvd_words.specs.declared.settings.Command.TheVariants.{CdMake, CdRead, Convert, Recover}
 use Rattle.dvd_words.specs.declared.settings.Settings.{Settings}
@@ -52,6 +52,14 @@ abbrev pub WhatIsDoneIsDetermined : Type 0
 WhatIsDoneIsDetermined =
     (settings : Settings) (bytes : List ℕ) (a b : Outcome) → IsLoop settings bytes a → IsLoop settings bytes b → IsFaultless a.end → IsFaultless b.end
     → (a.out ≡ b.out) × (a.lines ≡ b.lines) × (a.end ≡ b.end) × (IsNotBadMarks a.end → a.taken ≡ b.taken)
+
+-- How many workers there are changes nothing: settings that differ in that number alone have the same loops and the same runs, of
+-- a listed capture too.
+abbrev pub WorkersChangeNothing : Type 0
+WorkersChangeNothing =
+    (settings : Settings) (workers : ℕ) (bytes : List ℕ) (outcome : Outcome)
+    → (IsLoop settings bytes outcome ↔ IsLoop (record settings { workers = workers }) bytes outcome)
+    × ((within : LoopEnd) → IsRun settings within bytes outcome ↔ IsRun (record settings { workers = workers }) within bytes outcome)
 
 -- numbers that are bytes
 abbrev pub AreBytes : List ℕ → Type 0
@@ -109,6 +117,13 @@ abbrev pub BoundIsKept : Type 0
 BoundIsKept =
     (settings : Settings) (within : LoopEnd) (bytes : List ℕ) (outcome : Outcome) → Rescues settings.command → IsRun settings within bytes outcome → IsFaultless outcome.end
     → Behind settings.form (λ stated left. KeepsBound stated left outcome) settings bytes
+
+-- Of a loop of recovery, by two passes or by rounds, that no fault ended, before its closing line: the bound is kept. The bytes are
+-- those of the blocks, after the header of a listed capture.
+abbrev pub LoopsKeepTheBound : Type 0
+LoopsKeepTheBound =
+    (settings : Settings) (bytes : List ℕ) (outcome : Outcome) → Rescues settings.command → GoesOver settings bytes outcome → IsFaultless outcome.end
+    → KeepsBound settings bytes outcome
 
 -- Of a run of `recover` that no fault ended: the good frames of the blocks that two passes refuse are kept.
 abbrev pub GoodFramesAreKept : Type 0

@@ -1,9 +1,14 @@
 //! What holds of every run of a command: each function's contract is one law, and its body is empty.
-ghost use Rattle.dvd_top.specs.Laws.{WhatIsDoneIsDetermined, SomethingIsDone, ImageIsTakenInOrder, ImageIsTakenWhole, DamageWithinTheBoundIsRepaired, GoodFramesOfARefusedBlockAreGiven, BoundIsKept, GoodFramesAreKept, DrawnFramesAreMastered, MasteredStreamIsRecovered, InfoFindsTheFirstAnswer, BorneSectorsAreKept, CapturedFramesAreAssembled, BrokenFieldIsFound, ConvertedIsRead};
+ghost use Rattle.dvd_top.specs.Laws.{WhatIsDoneIsDetermined, WorkersChangeNothing, SomethingIsDone, ImageIsTakenInOrder, ImageIsTakenWhole, DamageWithinTheBoundIsRepaired, GoodFramesOfARefusedBlockAreGiven, BoundIsKept, LoopsKeepTheBound, GoodFramesAreKept, DrawnFramesAreMastered, MasteredStreamIsRecovered, InfoFindsTheFirstAnswer, BorneSectorsAreKept, CapturedFramesAreAssembled, BrokenFieldIsFound, ConvertedIsRead};
 
 /// What is done for an input, where no fault ends it, is determined, but for how much is taken of a block that breaks a rule.
 pub fn what_is_done_is_determined()
     ensures { WhatIsDoneIsDetermined }
+{}
+
+/// How many workers there are changes nothing.
+pub fn workers_change_nothing()
+    ensures { WorkersChangeNothing }
 {}
 
 /// Something is done for every input.
@@ -34,6 +39,11 @@ pub fn good_frames_of_a_refused_block_are_given()
 /// A run of recovery, by two passes or by rounds, keeps the bound for each of its blocks.
 pub fn bound_is_kept()
     ensures { BoundIsKept }
+{}
+
+/// A loop of recovery, by two passes or by rounds, keeps the bound before its closing line.
+pub fn loops_keep_the_bound()
+    ensures { LoopsKeepTheBound }
 {}
 
 /// A run of `recover` keeps the good frames of each of its blocks that two passes refuse.

@@ -19,7 +19,7 @@ over; image 17; run 2*block master --sectors 17; case
 words recover --sectors 17
 ends Done 34816 done/
 digest 821668C219648D7615F82E4B86593C1CF57D7E05FB1A5D71ABEF9E28059A6162
-keep; pieces; fails source 5000 1 17; fails output 5000 1 8; fails report 7 1 1
+keep; pieces; fails source 5000 1 17; fails output 5000 1 17; fails report 7 1 1
 
 # Two blocks, the second before the first: zeros.
 over; image 32; run 2*block master --sectors 32; from block; case
@@ -27,7 +27,7 @@ words recover --sectors 32
 ends Damaged 65536 block 0 sector 030000 layer 0: address 0 found 00030010 saved 0/\
 block 1 sector 030010 layer 0: address 0 found 00030000 saved 0/damaged: 2 blocks/
 digest DE2F256064A0AF797747C2B97505DC0B9F3DF0DE4F489EAC731C23AE9CA9CC31
-keep; pieces; fails source 5000 1 17; fails output 5000 1 14; fails report 7 1 23
+keep; pieces; fails source 5000 1 17; fails output 5000 1 32; fails report 7 1 23
 
 # The first control block stands behind 32 others, and nothing behind it is read: 33 blocks of eight calls.
 over; image 16; run 273*block master --sectors 16 --zones all; front 34*block; case
@@ -73,7 +73,7 @@ over; image 17; run 2*block master --sectors 17; case
 words deep --sectors 17
 ends Done 34816 done/
 digest 821668C219648D7615F82E4B86593C1CF57D7E05FB1A5D71ABEF9E28059A6162
-keep; pieces; fails source 5000 1 17; fails output 5000 1 8; fails report 7 1 1
+keep; pieces; fails source 5000 1 17; fails output 5000 1 17; fails report 7 1 1
 
 # The frames of two blocks from the ninth on, those before it behind them; the disk has the first block alone.
 over; image 17; run 2*block master --sectors 17; from 8*frame; case

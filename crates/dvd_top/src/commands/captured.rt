@@ -62,7 +62,7 @@ pub(crate) fn refuse_block<K: Sink, E: Sink>(
     Ok(Turn::Bad)
 }
 
-/// Writes the first sectors as one piece.
+/// Writes the first sectors, one after the other.
 pub(crate) fn write_sectors<K: Sink>(
     work: &Work,
     count: usize,
@@ -71,5 +71,15 @@ pub(crate) fn write_sectors<K: Sink>(
     requires { count ≤ 16 }
     ensures { IsWritten (sectors_out count (sectors_of work.now)) (K.seen out.old) (K.seen out.new) result }
 {
-    write_whole(out, work.first_sectors(count))
+    write_each(work.first_sectors(count), out)
+}
+
+/// Writes the sectors that these bytes are, each as one piece. After a fault a prefix of the bytes was taken.
+pub(crate) fn write_each<K: Sink>(sectors: &[u8], out: &mut K) -> Result<(), WriteFault>
+    ensures { IsWritten sectors.now (K.seen out.old) (K.seen out.new) result }
+{
+    for sector in sectors.chunks(2048) {
+        write_whole(out, sector)?;
+    }
+    Ok(())
 }

@@ -21,7 +21,7 @@ ghost use Rattle.dvd_top.specs.Commands.Deep.{IsReadDeep, deep_units};
 ghost use Rattle.dvd_top.specs.Inner.Performing.{IsFoundBy, IsPerformed, TellsAndWrites};
 ghost use Rattle.dvd_words.specs.Settings.{IsLayoutOf};
 
-use crate::commands::captured::{fetch_block, refuse_block, write_sectors};
+use crate::commands::captured::{fetch_block, refuse_block, write_each, write_sectors};
 use crate::opening::{open_blocks, worded_layout};
 use crate::status::Refusal;
 use dvd_block::Piece;
@@ -29,7 +29,7 @@ use dvd_capture::{Form, Work};
 use dvd_deep::Deep;
 use dvd_layout::{BlockPlan, Content, Layout, Zones};
 use dvd_loop::{LoneTurns, LoopEnd, Turn, follow_lone};
-use dvd_ports::{Sink, Source, WriteFault, write_whole};
+use dvd_ports::{Sink, Source, WriteFault};
 use dvd_read::{Cause, read_block};
 use dvd_report::write_round;
 use dvd_words::{Command, Settings};
@@ -201,7 +201,7 @@ fn search_block(
     }
 }
 
-// Tells the line of a block that a round gave back, and writes its image sectors as one piece.
+// Tells the line of a block that a round gave back, and writes its image sectors.
 fn give_back<K: Sink, E: Sink>(
     k: u32,
     entry: &BlockPlan,
@@ -217,6 +217,6 @@ fn give_back<K: Sink, E: Sink>(
     if let Err(WriteFault) = write_round(u64::from(k), entry, round, report) {
         return Err(LoopEnd::ReportFault);
     }
-    write_whole(out, sectors)?;
+    write_each(sectors, out)?;
     Ok(Turn::Good)
 }

@@ -1,6 +1,6 @@
 //! The command `survey`: a line for each captured block, and a line of totals.
 ghost use Rattle.std.specs.Thread.{IsSync};
-ghost use Rattle.std.specs.Prelude.{◌≡◌, ◌++◌, ◌<◌, ◌≤◌, ◌^◌, List, [], ◌∷◌, length, IsErr};
+ghost use Rattle.std.specs.Prelude.{◌≡◌, ◌≢◌, ◌++◌, ◌<◌, ◌≤◌, ◌^◌, List, [], ◌∷◌, length, IsErr};
 ghost use Rattle.std.specs.Result.{result_err};
 ghost use Rattle.dvd_capture.specs.Rule.{HasBlock};
 ghost use Rattle.dvd_capture.specs.Works.{rows_of, marks_of_work, stage_of};
@@ -107,6 +107,7 @@ pub fn survey_loop<R: Threads + Sync, S: Source, K: Sink, G: Gate>(
     ensures follows { (report : Seen) → HasEnded (IsOutcome (survey_units layout.now settings.now.zones settings.now.form))
         (streams (S.seen src.old) (K.seen out.old) report) (streams (S.seen src.new) (K.seen out.new) report) result }
     ensures ends { IsCaptureEnd settings.now.form (length (plan_of layout.now settings.now.zones)) result }
+    ensures no_report { result ≢ LoopEnd.ReportFault }
 {
     let workers = settings.workers;
     let read = |work: &mut Work, plan: &BlockPlan| -> Result<Fixed, Cause>

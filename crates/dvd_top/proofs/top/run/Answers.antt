@@ -1,5 +1,5 @@
 -- The proof of `run` in src/top.rt.
-use Rattle.std.proofs.Common.{◌≡◌, ◌≢◌, true, false, inl, None, Some, map, string_bytes, ap, sym, subst, ◌∙◌}
+use Rattle.std.proofs.Common.{◌≡◌, ◌≢◌, true, false, inl, inr, None, Some, map, string_bytes, ap, sym, subst, ◌∙◌}
 use Rattle.dvd_capture.specs.declared.form.Form.TheVariants.{Listed}
 use Rattle.dvd_loop.specs.Streams.{streams}
 use Rattle.dvd_words.specs.Reading.{IsLawful, reading, takes_listed}
@@ -7,6 +7,7 @@ use Rattle.dvd_words.specs.declared.settings.Command.TheVariants.{CdRead}
 use Rattle.dvd_words.specs.declared.settings.Settings.{Settings}
 use Rattle.dvd_top.specs.Headline.{HasRun, HaveRisen, breaks}
 use Rattle.dvd_top.specs.Lines.{closing_line}
+use Rattle.dvd_top.proofs.MasteredRuns.{mastered_back}
 use Rattle.dvd_top.proofs.RunEnds.{bound_kept, complete_run, ends_there_run, good_frames_kept, risen, sectors_kept}
 use Rattle.dvd_top.proofs.RunLemmas.{has_run, same_settings}
 use Rattle.dvd_top.proofs.top.run.Given as given
@@ -50,6 +51,8 @@ returns-in-Ok-perform g c =
       read_fault = λ is settings reads. ends_there_run settings old new c.into.result (begun g c settings reads) is;
       bound = λ some whole none settings reads is. bound_kept settings old new c.into.result (begun g c settings reads) some whole none is;
       good_frames = λ some whole none settings reads is. good_frames_kept settings old new c.into.result (begun g c settings reads) some whole none is;
+      mastered = λ settings image stream reads lawful is plain wrote told source output report.
+          inr (mastered_back settings old new c.into.result (begun g c settings reads) counts image stream is plain wrote told source output report);
       sectors = λ some whole none settings reads is.
           sectors_kept settings old new c.into.result (begun g c settings reads) some whole none
           (is, subst (λ (s : Settings). s.command ≡ CdRead → s.form ≢ Listed) (same_settings _ _ _ read reads) (not_listed c.in-Ok.settings c.in-Ok.ensures.lawful) is);

@@ -1,5 +1,6 @@
 -- The proof of `survey_loop` in src/commands/survey.rt.
 use Rattle.std.proofs.Common.{refl}
+use Rattle.dvd_loop.proofs.LoopEnds.{never_told}
 use Rattle.dvd_loop.proofs.Silent.{beside, one_write}
 use Rattle.dvd_top.specs.Commands.Survey.{survey_units}
 use Rattle.dvd_top.proofs.CaptureEnds.{capture_end}
@@ -21,3 +22,6 @@ returns-clause-ends g c =
     let f = c.survey_by.ensures.comes in
     let settings = c.args.settings.now in
     capture_end settings.form (survey_units c.args.layout.now settings.zones settings.form) (λ k own. refl) refl f.bytes f.outcome f.holds c.survey_by.result f.ends
+
+pub returns-clause-no_report : goal.returns-clause-no_report
+returns-clause-no_report g c = never_told c.survey_by.result c.survey_by.ensures.causes.report
