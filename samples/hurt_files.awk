@@ -7,8 +7,8 @@ NR == FNR { lost[$1 + 0]; next }
     first = substr($0, RSTART + 1) + 0
     name = substr($0, RSTART + RLENGTH + 2)
     sub(/ $/, "", name)
-    for (sector in lost)
-        if (sector + 0 >= first && sector + 0 < first + $5 / 2048) {
+    for (sector = first; sector < first + $5 / 2048; sector++)
+        if (sector in lost) {
             print folder name
             break
         }
