@@ -2,6 +2,7 @@
 use crate::cutting::{for_each_piece, piece_size};
 use crate::tests::{frames, received};
 use crate::{Gate, add_parity_par, two_pass_par};
+use dvd_capture::Stage;
 use std::sync::atomic::{AtomicU64, Ordering};
 use std::test::Fail;
 
@@ -58,7 +59,9 @@ fn each_piece_of_both_passes_is_asked_for_once_a_pass(rt: HostRuntime) -> Result
     for (workers, digits) in ASKED {
         let mut work = received(rt.alloc(), 3, 13, 8, 0)?;
         let gate = Counting::new();
-        two_pass_par(&rt, workers, &gate, &mut work).is_ok();
+        if work.stage() == Stage::Fetched {
+            two_pass_par(&rt, workers, &gate, &mut work).is_ok();
+        }
         assert_eq!(rt; gate.digits(), Some(digits));
     }
     Ok(())
