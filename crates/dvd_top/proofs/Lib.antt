@@ -47,6 +47,7 @@ pub mod RunEnds
 pub mod RunLemmas
 pub mod SectorsWritten
 pub mod SomethingDone
+pub mod SourceCounts
 pub mod SurveyBlocks
 pub mod TwoSteps
 pub mod UnitsOf

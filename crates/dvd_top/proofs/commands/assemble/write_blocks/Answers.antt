@@ -1,12 +1,13 @@
 -- The proof of `write_blocks` in src/commands/assemble.rt.
-use Rattle.std.proofs.Common.{◌∙◌, ◌<◌, ◌≤◌, ℕ, List, Ok, Err, length, refl, sym, subst, arith}
+use Rattle.std.proofs.Common.{◌<◌, ℕ, List, Ok, Err, length, sym, subst, arith}
 use Rattle.std.specs.Prelude.{IsErr, Result}
 use Rattle.std.specs.Io.KnownBytes.{Appends}
-use Rattle.dvd_ports.specs.Causes.{Rose}
+use Rattle.dvd_ports.specs.Causes.{HasFailed}
 use Rattle.dvd_ports.specs.Seen.{Seen}
 use Rattle.dvd_ports.specs.Whole.{AppendsPrefix, IsWritten}
 use Rattle.dvd_ports.specs.declared.port.WriteFault.{WriteFault}
 use Rattle.dvd_ports.proofs.KnownLemmas.{Appends-none}
+use Rattle.dvd_ports.proofs.StopLemmas.{fails_after, goes_on, unmoved}
 use Rattle.dvd_merge.specs.Join.{Table}
 use Rattle.dvd_merge.specs.MarkedText.{marked_text}
 use Rattle.dvd_assemble.specs.Shelves.{tables_of}
@@ -14,7 +15,7 @@ use Rattle.dvd_top.proofs.AssembleFrames.{block_begun, block_written, no_text}
 use Rattle.dvd_top.proofs.commands.assemble.write_blocks.Goals as goal
 
 pub loop-k-init : goal.loop-k-init
-loop-k-init g c = record { bytes = subst (Appends _ _) (sym (no_text (tables_of c.args.shelf.now))) (Appends-none _); steady = refl }
+loop-k-init g c = record { bytes = subst (Appends _ _) (sym (no_text (tables_of c.args.shelf.now))) (Appends-none _); steady = unmoved _ }
 
 pub loop-k-preserved : goal.loop-k-preserved
 loop-k-preserved g c =
@@ -24,27 +25,25 @@ loop-k-preserved g c =
       bytes = block_written _ _ _ tables c.loop-k.k within c.loop-k.invariant.bytes
           (subst (λ (table : Table). Appends (g.K.Sink.seen c.loop-k.out).bytes (g.K.Sink.seen c.write_marked.new.out).bytes (marked_text table)) c.merged.ensures
           c.in_ok-write_marked.ensures.written);
-      steady = c.in_ok-write_marked.ensures.cause.steady ∙ c.loop-k.invariant.steady;
+      steady = goes_on _ _ _ c.loop-k.invariant.steady c.in_ok-write_marked.ensures.cause.steady;
     }
 
 -- a piece of which the sink took a front
 failed : (answer : Result (Unit {0}) WriteFault) (piece : List ℕ) (old new : Seen) → IsErr answer → AppendsPrefix old.bytes new.bytes piece
-    → old.faults ≤ new.faults → Rose old.faults new.faults → IsWritten piece old new answer
-failed (Ok value) piece old new is begun later rose = cc
-failed (Err fault) piece old new is begun later rose = record {
+    → HasFailed old new → IsWritten piece old new answer
+failed (Ok value) piece old new is begun fault = cc
+failed (Err error) piece old new is begun fault = record {
   written = tt;
   begun = begun;
-  cause = record { later = later; failed = rose; steady = tt };
+  cause = record { failed = fault; steady = tt };
 }
 
 pub returns-in_err-write_marked : goal.returns-in_err-write_marked
 returns-in_err-write_marked g c =
     let tables = tables_of c.args.shelf.now in
     let within : c.loop-k.k < length tables = omega (arith, c.loop-k-test.true, c.blocks-k-end.ensures) in
-    let steady = c.loop-k.invariant.steady in
-    let cause = c.in_err-write_marked.ensures.cause in
     failed c.from_residual.result _ _ _ c.from_residual.ensures.0
     (block_begun _ _ _ tables c.loop-k.k within c.loop-k.invariant.bytes
     (subst (λ (table : Table). AppendsPrefix (g.K.Sink.seen c.loop-k.out).bytes (g.K.Sink.seen c.write_marked.new.out).bytes (marked_text table)) c.merged.ensures
     c.in_err-write_marked.ensures.begun))
-    (rw steady at cause.later) (rw steady at cause.failed)
+    (fails_after _ _ _ c.loop-k.invariant.steady c.in_err-write_marked.ensures.cause.failed)
