@@ -1,12 +1,12 @@
 //! A captured recording frame: thirteen rows with their marks.
-ghost use Rattle.std.specs.Prelude.{◌≡◌, ◌≢◌, ℕ, ◌<◌, ◌≤◌, false, length, replicate, take};
+ghost use Rattle.std.specs.Prelude.{◌≡◌, ◌≢◌, ℕ, ◌<◌, false, length, replicate, take};
 ghost use Rattle.dvd_block.specs.Product.{line};
 ghost use Rattle.dvd_capture.specs.Answers.{marks_line};
 ghost use Rattle.dvd_capture.specs.Captured.{HasSize, marks_in, record_size};
 ghost use Rattle.dvd_capture.specs.MarkBits.{mark_at, marks_of};
 ghost use Rattle.dvd_capture.specs.declared.capture.FetchAnswer.TheVariants.{Full, End, Short, ReadFault, BadMarks};
+ghost use Rattle.dvd_capture.specs.Fetching.{FetchCounts};
 ghost use Rattle.dvd_merge.specs.Merges.{table_of};
-ghost use Rattle.dvd_ports.specs.Causes.{Rose};
 ghost use Rattle.dvd_ports.specs.Whole.{ConsumesFewer};
 ghost use Rattle.dvd_assemble.specs.Frames.{CapturesFrame, FrameEndsAfter, frame_in, frame_size};
 ghost use Rattle.dvd_assemble.specs.Assembled.{with_frame};
@@ -136,6 +136,7 @@ fn is_marked(bits: &[u8; BITS], j: usize) -> bool
 
 /// Reads one recording frame, by as many calls as it takes: 2,366 bytes in the plain form, 2,665 in the marked form.
 /// One that isn't whole leaves the frame as it was.
+#[tactic(auto, using(dvd_capture::proofs::FetchedCounts::cut_counts))]
 pub fn fetch_frame<S: Source>(src: &mut S, form: Form, frame: &mut FrameWork) -> FetchAnswer
     requires { HasSize form }
     ensures full { result ≡ Full → CapturesFrame form (S.seen src.old).bytes (S.seen src.new).bytes (captured frame.new) }
@@ -143,9 +144,7 @@ pub fn fetch_frame<S: Source>(src: &mut S, form: Form, frame: &mut FrameWork) ->
     ensures short { (count : ℕ) → result ≡ Short count → (0 < count) × FrameEndsAfter form (S.seen src.old).bytes (S.seen src.new).bytes count }
     ensures no_rule { (at : ℕ) → result ≢ BadMarks at }
     ensures fault { result ≡ ReadFault → ConsumesFewer (S.seen src.old).bytes (S.seen src.new).bytes (frame_size form) }
-    ensures cause { result ≡ ReadFault → Rose (S.seen src.old).faults (S.seen src.new).faults }
-    ensures steady { result ≢ ReadFault → (S.seen src.new).faults ≡ (S.seen src.old).faults }
-    ensures later { (S.seen src.old).faults ≤ (S.seen src.new).faults }
+    ensures counts { FetchCounts result (S.seen src.old) (S.seen src.new) }
     ensures same { result ≢ Full → frame.new ≡ frame.old }
 {
     let size = 13 * record_size(form);

@@ -5,6 +5,7 @@ pub mod Columns
 pub mod Mapped
 pub mod MarkLists
 pub mod WorkParts
+pub mod FetchedCounts
 pub mod Fetching
 pub mod RecordedRows
 pub mod Headers

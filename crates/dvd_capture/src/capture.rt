@@ -68,6 +68,7 @@ fn fetch_parts<S: Source>(
 }
 
 // Reads the 208 recorded rows of a block.
+#[tactic(auto, using(crate::proofs::FetchedCounts::cut_counts))]
 pub(crate) fn fetch_rows<S: Source>(
     src: &mut S,
     form: Form,

@@ -3,16 +3,15 @@
 ghost use Rattle.std.specs.Prelude.{◌≡◌, ◌≢◌, ℕ, ◌+◌, ◌<◌, ◌≤◌, ◌⊎◌, true, false, List, ◌++◌, length, IfOk, IfErr, OnOk, OnErr};
 ghost use Rattle.std.specs.Int.{to_be_bytes, w16};
 ghost use Rattle.dvd_block.specs.Product.{line};
-ghost use Rattle.dvd_ports.specs.Causes.{HasCause, Rose};
+ghost use Rattle.dvd_ports.specs.Causes.{HasCause};
 ghost use Rattle.dvd_ports.specs.Whole.{IsWritten};
 ghost use Rattle.dvd_capture.specs.Listed.{mark_of};
 ghost use Rattle.dvd_capture.specs.Listing.{AppendsPart, AppendsUnit};
-ghost use Rattle.dvd_capture.specs.Fetching.{Fetches};
+ghost use Rattle.dvd_capture.specs.Fetching.{FetchCounts, Fetches};
 ghost use Rattle.dvd_capture.specs.Inner.Listing.{AppendsAll, AppendsSome, AreRows, HasFetchCause, HasRuns, IsFetched, IsNoField, IsStopped, TakesAll, TakesField, TakesRuns};
 ghost use Rattle.dvd_capture.specs.Parts.{marks_rows, received_rows};
 ghost use Rattle.dvd_capture.specs.Rule.{HasBlock};
 ghost use Rattle.dvd_capture.specs.Works.{marks_of_work, rows_of, stage_of};
-ghost use Rattle.dvd_capture.specs.declared.capture.FetchAnswer.TheVariants.{ReadFault};
 ghost use Rattle.dvd_capture.specs.declared.form.Form.TheVariants.{Listed};
 
 use crate::capture::{FetchAnswer, fetch_rows};
@@ -31,7 +30,7 @@ pub fn write_listed<K: Sink>(work: &Work, out: &mut K) -> Result<(), WriteFault>
     requires { HasBlock (stage_of work.now) }
     ensures written { OnOk result (AppendsUnit (K.seen out.old).bytes (K.seen out.new).bytes (rows_of work.now) (marks_of_work work.now)) }
     ensures begun { OnErr result (AppendsPart (K.seen out.old).bytes (K.seen out.new).bytes (rows_of work.now) (marks_of_work work.now)) }
-    ensures cause { HasCause (K.seen out.old).faults (K.seen out.new).faults result }
+    ensures cause { HasCause (K.seen out.old) (K.seen out.new) result }
 {
     see_rows(&work.received);
     write_rows(work.received.rows(), out)?;
@@ -53,7 +52,7 @@ fn write_runs<K: Sink>(marks: &Marks, out: &mut K) -> Result<(), WriteFault>
         → OnOk result (AppendsAll before (mark_of (marks_rows marks.now)) (K.seen out.old).bytes (K.seen out.new).bytes) }
     ensures begun { (before : List ℕ) → length before ≡ 37_856
         → OnErr result (AppendsSome before (mark_of (marks_rows marks.now)) (K.seen out.old).bytes (K.seen out.new).bytes) }
-    ensures cause { HasCause (K.seen out.old).faults (K.seen out.new).faults result }
+    ensures cause { HasCause (K.seen out.old) (K.seen out.new) result }
 {
     let number = count_runs(marks);
     write_field(out, number)?;
@@ -103,9 +102,7 @@ pub(crate) fn fetch_listed<S: Source>(
 fn fetch_marks<S: Source>(src: &mut S, marks: &mut Marks) -> FetchAnswer
     ensures fetched { (before : List ℕ) → AreRows before (mark_of (marks_rows marks.old))
         → IsFetched before (mark_of (marks_rows marks.new)) (S.seen src.old).bytes (S.seen src.new).bytes result }
-    ensures cause { result ≡ ReadFault → Rose (S.seen src.old).faults (S.seen src.new).faults }
-    ensures steady { result ≢ ReadFault → (S.seen src.new).faults ≡ (S.seen src.old).faults }
-    ensures later { (S.seen src.old).faults ≤ (S.seen src.new).faults }
+    ensures counts { FetchCounts result (S.seen src.old) (S.seen src.new) }
 {
     match fetch_runs(src, marks) {
         Ok(()) => FetchAnswer::Full,
@@ -119,8 +116,7 @@ fn fetch_runs<S: Source>(src: &mut S, marks: &mut Marks) -> Result<(), FetchAnsw
         → OnOk result (TakesAll before (mark_of (marks_rows marks.new)) (S.seen src.old).bytes (S.seen src.new).bytes) }
     ensures stopped { (before : List ℕ) → AreRows before (mark_of (marks_rows marks.old))
         → IfErr result (IsStopped before (S.seen src.old).bytes (S.seen src.new).bytes) }
-    ensures cause { HasFetchCause result (S.seen src.old).faults (S.seen src.new).faults }
-    ensures later { (S.seen src.old).faults ≤ (S.seen src.new).faults }
+    ensures cause { HasFetchCause result (S.seen src.old) (S.seen src.new) }
 {
     let number = fetch_field(src, PLACES)?;
     if number > MOST_RUNS {
@@ -145,8 +141,7 @@ fn fetch_run<S: Source>(
         → IfOk result (λ next. TakesRuns before count (i + 1) next (mark_of (marks_rows marks.new)) (S.seen src.old).bytes (S.seen src.new).bytes) }
     ensures stopped { (before : List ℕ) (count : ℕ) → i < count → HasRuns before count i end (mark_of (marks_rows marks.old))
         → IfErr result (IsStopped before (S.seen src.old).bytes (S.seen src.new).bytes) }
-    ensures cause { HasFetchCause result (S.seen src.old).faults (S.seen src.new).faults }
-    ensures later { (S.seen src.old).faults ≤ (S.seen src.new).faults }
+    ensures cause { HasFetchCause result (S.seen src.old) (S.seen src.new) }
 {
     let at = PLACES + 2 + 4 * i;
     let start = fetch_field(src, at)?;
@@ -185,8 +180,7 @@ fn fetch_field<S: Source>(src: &mut S, held: usize) -> Result<usize, FetchAnswer
     ensures field { IfOk result (TakesField (S.seen src.old).bytes (S.seen src.new).bytes) }
     ensures small { IfOk result (λ value. value < 65_536) }
     ensures stopped { IfErr result (IsNoField held (S.seen src.old).bytes (S.seen src.new).bytes) }
-    ensures cause { HasFetchCause result (S.seen src.old).faults (S.seen src.new).faults }
-    ensures later { (S.seen src.old).faults ≤ (S.seen src.new).faults }
+    ensures cause { HasFetchCause result (S.seen src.old) (S.seen src.new) }
 {
     let mut bytes = [0; 2];
     match read_whole(src, &mut bytes) {

@@ -2,7 +2,7 @@
 use Rattle.std.proofs.Common.{◌≡◌, inl, inr, ℕ, List, [], ◌∷◌, refl, ap, sym, subst, ◌∙◌}
 use Rattle.dvd_loop.specs.Machine.{Closes, Does, IsClosed, Outcome, ended}
 use Rattle.dvd_loop.specs.Machine.Step.{Tell}
-use Rattle.dvd_loop.specs.Streams.{Counts, HaveCauses, Streams, is_read_fault, is_report_fault, is_write_fault}
+use Rattle.dvd_loop.specs.Streams.{Counts, HaveCauses, SourceCounts, Streams, is_report_fault, is_write_fault}
 use Rattle.dvd_loop.specs.declared.ends.LoopEnd.{LoopEnd}
 use Rattle.dvd_loop.specs.declared.ends.LoopEnd.TheVariants.{ReportFault}
 use Rattle.dvd_loop.proofs.StepLemmas.{and_then}
@@ -25,11 +25,11 @@ pub closed : (closing : LoopEnd → List ℕ) (May : Outcome → Type 0) (within
 closed closing May within loop line runs ends closes = record { loop = loop; runs = runs; ends = ends; line = line; closes = closes; all = refl }
 
 -- The counts of a loop and of its closing line: the line's is the report's alone.
-pub causes_closed : (within end : LoopEnd) (old mid new : Streams) → HaveCauses within within old mid → new.source.faults ≡ mid.source.faults
-    → new.output.faults ≡ mid.output.faults
-    → Counts (is_report_fault end) old.report.faults new.report.faults → HaveCauses within end old new
+pub causes_closed : (within end : LoopEnd) (old mid new : Streams) → HaveCauses within within old mid → new.source ≡ mid.source
+    → new.output ≡ mid.output
+    → Counts (is_report_fault end) old.report new.report → HaveCauses within end old new
 causes_closed within end old mid new loop source output report = record {
-  source = subst (λ n. Counts (is_read_fault within) old.source.faults n) (sym source) loop.source;
-  output = subst (λ n. Counts (is_write_fault within) old.output.faults n) (sym output) loop.output;
+  source = subst (SourceCounts within old.source) (sym source) loop.source;
+  output = subst (Counts (is_write_fault within) old.output) (sym output) loop.output;
   report = report;
 }

@@ -1,6 +1,7 @@
 -- What stands behind the last unit, as a loop comes to it, and the closing line behind the loop.
 use Rattle.std.proofs.Common.{◌≡◌, ◌≢◌, inl, inr, ℕ, ◌<◌, List, [], ◌∷◌, ◌++◌, length, refl, ap, sym, subst, arith}
 use Rattle.std.specs.Io.KnownBytes.{Appends, Consumes, IsAtEnd}
+use Rattle.dvd_ports.specs.Causes.{HasGoneOn}
 use Rattle.dvd_ports.specs.Seen.{Seen}
 use Rattle.dvd_ports.specs.Whole.{AppendsPrefix}
 use Rattle.dvd_ports.proofs.KnownLemmas.{Appends-none}
@@ -88,8 +89,8 @@ closes_as : (closing : LoopEnd → List ℕ) (end : LoopEnd) (outcome : Outcome)
 closes_as closing ReportFault outcome not does = absurd (not refl)
 closes_as closing end outcome not does = does
 
--- a count that stayed is right for an end that isn't a fault of the report
-pub not_report : (end : LoopEnd) → end ≢ ReportFault → (old new : ℕ) → new ≡ old → Counts (is_report_fault end) old new
+-- a report that didn't fail is right for an end that isn't its fault
+pub not_report : (end : LoopEnd) → end ≢ ReportFault → (old new : Seen) → HasGoneOn old new → Counts (is_report_fault end) old new
 not_report ReportFault not old new same = absurd (not refl)
 not_report end not old new same = same
 

@@ -1,6 +1,6 @@
 -- How a loop over units of given sizes may end.
 use Rattle.std.proofs.Common.{◌≡◌, ◌≢◌, ℕ, List, refl, sym, subst, ◌∙◌, arith}
-use Rattle.dvd_loop.specs.Streams.{Counts, is_report_fault}
+use Rattle.dvd_loop.specs.Streams.{Counts, is_report_fault, no_stream}
 use Rattle.dvd_loop.specs.Laws.{IsDamageEnd, IsNever, IsPlainEnd, IsSearchEnd}
 use Rattle.dvd_loop.specs.Machine.{IsOutcome, Outcome, Units, sized}
 use Rattle.dvd_loop.specs.declared.ends.Behind.TheVariants.{Asks, NoControl as StopsNoControl}
@@ -67,7 +67,7 @@ search_end units size begins stands never bytes outcome runs (ShortHeader held) 
 search_end units size begins stands never bytes outcome runs (BadHeader at) is told = absurd (never_bad_header units bytes outcome runs at is)
 
 -- the report of a stream that is not there can't fail
-pub never_told : (end : LoopEnd) → Counts (is_report_fault end) 0 0 → end ≢ ReportFault
+pub never_told : (end : LoopEnd) → Counts (is_report_fault end) no_stream no_stream → end ≢ ReportFault
 never_told end counts is =
-    let rose : Counts (is_report_fault ReportFault) 0 0 = subst (λ e. Counts (is_report_fault e) 0 0) is counts in
-    omega arith
+    let failed : Counts (is_report_fault ReportFault) no_stream no_stream = subst (λ e. Counts (is_report_fault e) no_stream no_stream) is counts in
+    omega (arith, failed.faults)

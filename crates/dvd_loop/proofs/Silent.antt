@@ -1,7 +1,7 @@
 -- A run whose units tell nothing is the same beside any report, which stays as it is.
 use Rattle.std.proofs.Common.{◌≡◌, ◌∙◌, inl, inr, ℕ, zero, suc, ◌+◌, Bool, true, false, List, [], ◌∷◌, ◌++◌, length, ap, refl, subst, sym, arith}
 use Rattle.std.specs.Io.KnownBytes.{Appends}
-use Rattle.dvd_ports.specs.Causes.{Rose}
+use Rattle.dvd_ports.proofs.StopLemmas.{unmoved}
 use Rattle.dvd_ports.specs.Seen.{Seen}
 use Rattle.dvd_ports.proofs.KnownLemmas.{Appends-none}
 use Rattle.dvd_loop.specs.Machine.{Does, EndsBehind, Goes, GoesOn, IsOutcome, Outcome, Step, Units, bad_of, plain_units}
@@ -74,10 +74,10 @@ turn_silent Good A none a goes = none a goes
 turn_silent Bad A none a goes = none a goes
 turn_silent Last A none a is = no_lines a _ is refl
 
--- a count that neither rose nor moved of a stream that is not there, and of any
-none_rose : (rose : Bool) (n : ℕ) → Counts rose 0 0 → Counts rose n n
-none_rose false n is = refl
-none_rose true n is = let rose : Rose 0 0 = is in absurd (omega arith)
+-- a stream that is not there never failed, and so one that nobody touched hasn't
+none_failed : (fails : Bool) (s : Seen) → Counts fails no_stream no_stream → Counts fails s s
+none_failed false s on = unmoved s
+none_failed true s failed = absurd (omega (arith, failed.faults))
 
 module _ (units : Units) (are : AreSilent units) where
   -- from a unit on
@@ -116,6 +116,6 @@ module _ (units : Units) (are : AreSilent units) where
         causes = record {
           source = ended.causes.source;
           output = ended.causes.output;
-          report = none_rose (is_report_fault end) report.faults ended.causes.report;
+          report = none_failed (is_report_fault end) report ended.causes.report;
         };
       }

@@ -1,11 +1,14 @@
 -- Streams over several calls.
-use Rattle.std.proofs.Common.{◌≡◌, ℕ, List, [], ◌++◌, Option, Some, None, refl, ap, subst, ◌∙◌}
+use Rattle.std.proofs.Common.{◌≡◌, inl, inr, ℕ, Bool, true, false, List, [], ◌++◌, Option, Some, None, refl, ap, subst, sym, ◌∙◌}
 use Rattle.std.specs.Io.KnownBytes.{Consumes, IsAtEnd}
 use Rattle.dvd_ports.proofs.KnownLemmas.{Appends-none, Appends-then, Consumes-then}
+use Rattle.dvd_ports.proofs.StopLemmas.{ends_after, fails_after, goes_on, unmoved}
+use Rattle.dvd_ports.specs.Causes.{HasGoneOn}
+use Rattle.dvd_ports.specs.Seen.{Seen}
 use Rattle.dvd_loop.specs.Machine.{Outcome}
-use Rattle.dvd_loop.specs.Streams.{Comes, Counts, HasEnded, HaveCauses, HaveMoved, IsTold, Streams, is_read_fault, is_report_fault, is_write_fault}
+use Rattle.dvd_loop.specs.Streams.{Comes, Counts, HasEnded, HaveCauses, HaveGoneOn, HaveMoved, IsTold, SourceCounts, Streams, is_report_fault, is_write_fault, streams}
 use Rattle.dvd_loop.specs.declared.ends.LoopEnd.{LoopEnd}
-use Rattle.dvd_loop.specs.declared.ends.LoopEnd.TheVariants.{Done}
+use Rattle.dvd_loop.specs.declared.ends.LoopEnd.TheVariants.{Damaged, Done, ReadFault, Short, ShortHeader}
 use Rattle.dvd_loop.proofs.StepLemmas.{and_then, onto}
 
 -- where nothing happens, no bytes are consumed
@@ -61,14 +64,60 @@ comes_after P Q old now new end taken out lines moved reaches comes = record {
   moved = moves_on old now new taken out lines comes.outcome.taken comes.outcome.out comes.outcome.lines moved comes.moved;
 }
 
--- no count has moved, and then they moved so
-pub causes_first : (old now new : Streams) (within end : LoopEnd) → HaveCauses Done Done old now → HaveCauses within end now new
+-- no call of the source stopped, and then its counts are those of such an end
+source_after : (end : LoopEnd) (a b c : Seen) → HasGoneOn a b → SourceCounts end b c → SourceCounts end a c
+source_after ReadFault a b c first next = fails_after a b c first next
+source_after (Short unit bytes) a b c first next = ends_after a b c first next
+source_after (ShortHeader bytes) a b c first next = ends_after a b c first next
+source_after (Damaged units) a b c first next = ends_after a b c first next
+source_after Done a b c first next = elim next [
+  | inl met ↦ inl (ends_after a b c first met)
+  | inr on ↦ inr (goes_on a b c first on)
+]
+source_after other a b c first next = goes_on a b c first next
+
+-- no call of a sink failed, and then one did, or none
+pub counts_after : (fails : Bool) (a b c : Seen) → HasGoneOn a b → Counts fails b c → Counts fails a c
+counts_after true a b c first next = fails_after a b c first next
+counts_after false a b c first next = goes_on a b c first next
+
+-- streams that nobody touched have gone on
+pub all_unmoved : (old : Streams) → HaveGoneOn old old
+all_unmoved old = record { source = unmoved old.source; output = unmoved old.output; report = unmoved old.report }
+
+-- no stream stopped, and then none
+pub go_on : (old now new : Streams) → HaveGoneOn old now → HaveGoneOn now new → HaveGoneOn old new
+go_on old now new first next = record {
+  source = goes_on old.source now.source new.source first.source next.source;
+  output = goes_on old.output now.output new.output first.output next.output;
+  report = goes_on old.report now.report new.report first.report next.report;
+}
+
+-- no stream stopped, and then their counts are these
+pub causes_first : (old now new : Streams) (within end : LoopEnd) → HaveGoneOn old now → HaveCauses within end now new
     → HaveCauses within end old new
 causes_first old now new within end first next = record {
-  source = subst (λ n. Counts (is_read_fault within) n new.source.faults) first.source next.source;
-  output = subst (λ n. Counts (is_write_fault within) n new.output.faults) first.output next.output;
-  report = subst (λ n. Counts (is_report_fault end) n new.report.faults) first.report next.report;
+  source = source_after within old.source now.source new.source first.source next.source;
+  output = counts_after (is_write_fault within) old.output now.output new.output first.output next.output;
+  report = counts_after (is_report_fault end) old.report now.report new.report first.report next.report;
 }
+
+-- a call that reads alone, and goes on
+pub reads_on : (old new output report : Seen) → HasGoneOn old new → HaveGoneOn (streams old output report) (streams new output report)
+reads_on old new output report on = record { source = on; output = unmoved output; report = unmoved report }
+
+-- one that reads alone, and so ends the loop by no fault of a sink
+pub reads_end : (end : LoopEnd) (old new output report : Seen) → is_write_fault end ≡ false → is_report_fault end ≡ false → SourceCounts end old new
+    → HaveCauses end end (streams old output report) (streams new output report)
+reads_end end old new output report not_write not_report counts = record {
+  source = counts;
+  output = subst (λ fails. Counts fails output output) (sym not_write) (unmoved output);
+  report = subst (λ fails. Counts fails report report) (sym not_report) (unmoved report);
+}
+
+-- a loop is done where no stream stopped
+pub done_on : (old new : Streams) → HaveGoneOn old new → HaveCauses Done Done old new
+done_on old new on = record { source = inr on.source; output = on.output; report = on.report }
 
 -- what a loop has ended with may be said otherwise
 pub ended_as : (P Q : List ℕ → Outcome → Type 0) (old new : Streams) (end : LoopEnd)

@@ -2,20 +2,21 @@
 use Rattle.std.proofs.Common.{◌≡◌, ◌<◌, inl, inr, ℕ, List, [], ◌∷◌, ◌++◌, length, IsErrAnd, Result, Ok, Err, refl, ap, sym, subst, ◌∙◌, append-nil}
 use Rattle.std.specs.Io.KnownBytes.{Appends, Consumes}
 use Rattle.dvd_ports.specs.Seen.{Seen}
-use Rattle.dvd_ports.specs.Causes.{Rose}
+use Rattle.dvd_ports.specs.Causes.{HasFailed, HasGoneOn}
 use Rattle.dvd_ports.specs.Whole.{AppendsPrefix}
 use Rattle.dvd_ports.proofs.KnownLemmas.{Appends-none}
+use Rattle.dvd_ports.proofs.StopLemmas.{unmoved}
 use Rattle.dvd_loop.specs.Machine.{Does, EndsWithin, IsUnit, Step, Units, ended, sized, stepping, taking}
 use Rattle.dvd_loop.specs.Machine.Part.{Cut}
 use Rattle.dvd_loop.specs.Machine.Step.{Write, Tell}
-use Rattle.dvd_loop.specs.Streams.{Comes, HaveCauses, HaveMoved, IsTold, Streams, streams}
+use Rattle.dvd_loop.specs.Streams.{Comes, HaveCauses, HaveGoneOn, HaveMoved, IsTold, Streams, streams}
 use Rattle.dvd_loop.specs.Turns.{AreDone, AreSteps, EndsAt, EndsShort, HaveCausesFor, IsTurn, Nothing, told, written}
 use Rattle.dvd_loop.specs.declared.ends.LoopEnd.{LoopEnd}
-use Rattle.dvd_loop.specs.declared.ends.LoopEnd.TheVariants.{Done, ReportFault, WriteFault}
+use Rattle.dvd_loop.specs.declared.ends.LoopEnd.TheVariants.{ReportFault, WriteFault}
 use Rattle.dvd_loop.specs.declared.ends.Turn.{Turn}
 use Rattle.dvd_loop.proofs.Sizes.{sized_fewer, sized_whole}
 use Rattle.dvd_loop.proofs.StepLemmas.{onto, taken_then}
-use Rattle.dvd_loop.proofs.StreamLemmas.{Consumes-none, causes_first, comes_after, comes_of_none, left_of, moves_on, none_left, told_before}
+use Rattle.dvd_loop.proofs.StreamLemmas.{Consumes-none, causes_first, comes_after, comes_of_none, go_on, left_of, moves_on, none_left, told_before}
 
 -- an answer that is this error
 pub err_is : {A : Type 0} (answer : Result A LoopEnd) (end : LoopEnd) → IsErrAnd answer (λ e. e ≡ end) → answer ≡ Err end
@@ -59,7 +60,7 @@ module _ (units : Units) (before : List (List ℕ)) where
 
   -- the unit was read whole, and steps that may be taken for it were: all of them, or the loop ended within them
   pub turn_of : (ready : List (List ℕ) → Type 0) (old now new : Streams) (own : List ℕ) (steps : List Step) (turn : Turn)
-      → IsUnit units before own steps turn → HaveMoved old now own [] [] → HaveCauses Done Done old now → ready (before ++ own ∷ [])
+      → IsUnit units before own steps turn → HaveMoved old now own [] [] → HaveGoneOn old now → ready (before ++ own ∷ [])
       → (answer : Result Turn LoopEnd) → AreSteps steps now new answer → ((value : Turn) → answer ≡ Ok value → value ≡ turn) → HaveCausesFor answer now new
       → IsTurn units before ready old new answer
   turn_of ready old now new own steps turn unit moved first next (Ok value) done same causes = record {
@@ -67,7 +68,7 @@ module _ (units : Units) (before : List (List ℕ)) where
     steps = steps;
     unit = subst (IsUnit units before own steps) (sym (same value refl)) unit;
     moved = subst (λ l. HaveMoved old new l (written steps) (told steps)) (append-nil own) (moves_on old now new own [] [] [] (written steps) (told steps) moved done);
-    causes = causes_first old now new Done Done first causes;
+    causes = go_on old now new first causes;
     next = next;
   }
   turn_of ready old now new own steps turn unit moved first next (Err end) done same causes = record {
@@ -131,7 +132,7 @@ steps_behind_write bytes steps old now new (Err end) wrote done =
 -- one write is all that is done for a unit that is then this
 module _ (May : List Step → Turn → Type 0) (bytes : List ℕ) (turn : Turn) (may : May (Write bytes ∷ []) turn) (source output new_output report : Seen) where
   -- the write was whole, so all was done for the unit
-  pub write_done : Appends output.bytes new_output.bytes bytes → new_output.faults ≡ output.faults
+  pub write_done : Appends output.bytes new_output.bytes bytes → HasGoneOn output new_output
       → AreDone May (streams source output report) (streams source new_output report) (Ok turn)
   write_done writes steady = record {
     steps = Write bytes ∷ [];
@@ -139,20 +140,20 @@ module _ (May : List Step → Turn → Type 0) (bytes : List ℕ) (turn : Turn) 
     may = may;
     done = step_written source output new_output report bytes writes;
     is = λ value is. cc;
-    causes = record { source = refl; output = steady; report = refl };
+    causes = record { source = unmoved source; output = steady; report = unmoved report };
   }
 
   -- the output failed within the write, which ends the loop
-  pub write_begun : (answer : Result Turn LoopEnd) → answer ≡ Err WriteFault → AppendsPrefix output.bytes new_output.bytes bytes → Rose output.faults new_output.faults
+  pub write_begun : (answer : Result Turn LoopEnd) → answer ≡ Err WriteFault → AppendsPrefix output.bytes new_output.bytes bytes → HasFailed output new_output
       → AreDone May (streams source output report) (streams source new_output report) answer
-  write_begun answer is begun rose =
+  write_begun answer is begun failed =
       subst (AreDone May (streams source output report) (streams source new_output report)) (sym is) (record {
         steps = Write bytes ∷ [];
         turn = turn;
         may = may;
         done = step_begun source output new_output report bytes [] begun;
         is = λ value ok. cc;
-        causes = record { source = refl; output = rose; report = refl };
+        causes = record { source = unmoved source; output = failed; report = unmoved report };
       })
 
 -- Units of given sizes: a turn by what was read and by what was done.
@@ -170,7 +171,7 @@ module _ (units : Units) (size : ℕ → ℕ) (begins : (k : ℕ) (own : List �
 
   -- a unit of which all bytes came, and what was done for it, is a turn
   pub sized_done : (own : List ℕ) → length own ≡ size k → Consumes source.bytes new_source.bytes own
-      → HaveCauses Done Done (streams source output report) (streams new_source output report)
+      → HaveGoneOn (streams source output report) (streams new_source output report)
       → (new_output new_report : Seen) (answer : Result Turn LoopEnd)
       → AreDone (units.does k before own) (streams new_source output report) (streams new_source new_output new_report) answer → ready (before ++ own ∷ [])
       → IsTurn units before ready (streams source output report) (streams new_source new_output new_report) answer

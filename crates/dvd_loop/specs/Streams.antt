@@ -1,11 +1,11 @@
 -- The three streams that a command is handed, and what a call has done to them.
-use Rattle.std.specs.Prelude.{◌≡◌, ℕ, Option, Some, None, Bool, true, false, List}
+use Rattle.std.specs.Prelude.{◌≡◌, ◌⊎◌, ℕ, Option, Some, None, Bool, true, false, List}
 use Rattle.std.specs.Io.KnownBytes.{Appends, Consumes}
-use Rattle.dvd_ports.specs.Causes.{Rose}
+use Rattle.dvd_ports.specs.Causes.{HasFailed, HasGoneOn, HasMetEnd}
 use Rattle.dvd_ports.specs.Seen.{Seen}
 use Rattle.dvd_loop.specs.Machine.{Outcome}
 use Rattle.dvd_loop.specs.declared.ends.LoopEnd.{LoopEnd}
-use Rattle.dvd_loop.specs.declared.ends.LoopEnd.TheVariants.{ReadFault, WriteFault, ReportFault}
+use Rattle.dvd_loop.specs.declared.ends.LoopEnd.TheVariants.{Damaged, Done, ReadFault, ReportFault, Short, ShortHeader, WriteFault}
 
 -- what is seen of the source, of the output and of the report
 pub record Streams : Type 0 where
@@ -19,7 +19,7 @@ streams source output report = record { source = source; output = output; report
 
 -- a stream that is not there
 abbrev pub no_stream : Seen
-no_stream = record { bytes = None; faults = 0 }
+no_stream = record { bytes = None; faults = 0; ends = 0; stopped = false }
 
 -- what a stream tells, where it tells it, is this
 abbrev pub IsTold : Option (List ℕ) → List ℕ → Type 0
@@ -42,12 +42,23 @@ pub record Comes (P : List ℕ → Outcome → Type 0) (old new : Streams) (end 
   pub ends : outcome.end ≡ end
   pub moved : HaveMoved old new outcome.taken outcome.out outcome.lines
 
--- whether a loop ended because a read failed
-abbrev pub is_read_fault : LoopEnd → Bool
-is_read_fault ReadFault = true
-is_read_fault end = false
+-- None of the streams stopped.
+pub record HaveGoneOn (old new : Streams) : Type 0 where
+  pub source : HasGoneOn old.source new.source
+  pub output : HasGoneOn old.output new.output
+  pub report : HasGoneOn old.report new.report
 
--- because a write failed
+-- The counts of the source by the end of a loop. The one read that failed was its last, or the one that met the end of the
+-- input; where the loop is done, none need have met it, since a command may ask for nothing after its last unit.
+abbrev pub SourceCounts : LoopEnd → Seen → Seen → Type 0
+SourceCounts ReadFault old new = HasFailed old new
+SourceCounts (Short unit bytes) old new = HasMetEnd old new
+SourceCounts (ShortHeader bytes) old new = HasMetEnd old new
+SourceCounts (Damaged units) old new = HasMetEnd old new
+SourceCounts Done old new = HasMetEnd old new ⊎ HasGoneOn old new
+SourceCounts other old new = HasGoneOn old new
+
+-- whether a loop ended because a write failed
 abbrev pub is_write_fault : LoopEnd → Bool
 is_write_fault WriteFault = true
 is_write_fault end = false
@@ -57,20 +68,20 @@ abbrev pub is_report_fault : LoopEnd → Bool
 is_report_fault ReportFault = true
 is_report_fault end = false
 
--- a count of faults that rose, or stayed
-abbrev pub Counts : Bool → ℕ → ℕ → Type 0
-Counts true old new = Rose old new
-Counts false old new = new ≡ old
+-- the one call of a sink that failed was its last, or none failed
+abbrev pub Counts : Bool → Seen → Seen → Type 0
+Counts true old new = HasFailed old new
+Counts false old new = HasGoneOn old new
 
--- The loop ended so, and with its closing line so: each fault among the two has raised the count of its stream, and no
--- other count has moved.
+-- The loop ended so, and with its closing line so: each fault among the two is one failed call of its stream, and its last
+-- call; no other stream failed.
 pub record HaveCauses (within end : LoopEnd) (old new : Streams) : Type 0 where
-  pub source : Counts (is_read_fault within) old.source.faults new.source.faults
-  pub output : Counts (is_write_fault within) old.output.faults new.output.faults
-  pub report : Counts (is_report_fault end) old.report.faults new.report.faults
+  pub source : SourceCounts within old.source new.source
+  pub output : Counts (is_write_fault within) old.output new.output
+  pub report : Counts (is_report_fault end) old.report new.report
 
--- A loop has ended so: with an outcome of P, to which the streams have come, and each fault has raised the count of its
--- stream.
+-- A loop has ended so: with an outcome of P, to which the streams have come, and after a fault or the end of the input its
+-- stream was asked for nothing more.
 pub record HasEnded (P : List ℕ → Outcome → Type 0) (old new : Streams) (end : LoopEnd) : Type 0 where
   pub comes : Comes P old new end
   pub causes : HaveCauses end end old new

@@ -4,10 +4,10 @@ use Rattle.std.specs.Io.KnownBytes.{Consumes, IsAtEnd}
 use Rattle.dvd_ports.specs.Seen.{Seen}
 use Rattle.dvd_loop.specs.Machine.{Does, IsUnit, IsTaken, IsEndedWithin, Outcome, Step, Units}
 use Rattle.dvd_loop.specs.Machine.Step.{Write, Tell}
-use Rattle.dvd_loop.specs.Streams.{Comes, HasEnded, HaveCauses, HaveMoved, Streams, streams}
+use Rattle.dvd_loop.specs.Streams.{Comes, HasEnded, HaveCauses, HaveGoneOn, HaveMoved, Streams, streams}
 use Rattle.dvd_loop.specs.declared.ends.Behind.TheVariants.{Asks}
 use Rattle.dvd_loop.specs.declared.ends.LoopEnd.{LoopEnd}
-use Rattle.dvd_loop.specs.declared.ends.LoopEnd.TheVariants.{Done, ReadFault, Short}
+use Rattle.dvd_loop.specs.declared.ends.LoopEnd.TheVariants.{ReadFault, Short}
 use Rattle.dvd_loop.specs.declared.ends.Turn.{Turn}
 
 -- the bytes that these steps write
@@ -31,17 +31,17 @@ abbrev pub AreSteps : {A : Type 0} → List Step → Streams → Streams → Res
 AreSteps steps old new (Ok value) = HaveMoved old new [] (written steps) (told steps)
 AreSteps steps old new (Err end) = Comes (λ bytes. Does steps Nothing) old new end
 
--- the counts of faults by a call's answer
+-- the counts of the streams by a call's answer
 abbrev pub HaveCausesFor : {A : Type 0} → Result A LoopEnd → Streams → Streams → Type 0
-HaveCausesFor (Ok value) old new = HaveCauses Done Done old new
+HaveCausesFor (Ok value) old new = HaveGoneOn old new
 HaveCausesFor (Err end) old new = HaveCauses end end old new
 
 -- the same of a call that reads alone, beside any output and any report
 abbrev pub HasReadCause : {A : Type 0} → Result A LoopEnd → Seen → Seen → Type 0
 HasReadCause answer old new = (output report : Seen) → HaveCausesFor answer (streams old output report) (streams new output report)
 
--- Steps that may be taken, for a unit that is then this: these were taken, the answer says what the unit is, and a fault has
--- raised the count of its stream.
+-- Steps that may be taken, for a unit that is then this: these were taken, the answer says what the unit is, and a fault is
+-- the last call of its stream.
 pub record AreDone (May : List Step → Turn → Type 0) (old new : Streams) (answer : Result Turn LoopEnd) : Type 0 where
   pub steps : List Step
   pub turn : Turn
@@ -63,7 +63,7 @@ pub record IsTurnDone (units : Units) (before : List (List ℕ)) (ready : List (
   pub steps : List Step
   pub unit : IsUnit units before own steps turn
   pub moved : HaveMoved old new own (written steps) (told steps)
-  pub causes : HaveCauses Done Done old new
+  pub causes : HaveGoneOn old new
   pub next : ready (before ++ own ∷ [])
 
 -- the loop ends within the unit behind those, or within its steps

@@ -8,7 +8,8 @@ ghost use Rattle.dvd_loop.specs.declared.ends.LoopEnd.{LoopEnd as HowItEnds};
 use crate::{Behind, LoopEnd, Turns};
 use dvd_ports::{Failed, Sink, Source, WriteFault, read_whole, write_whole};
 
-/// Opens a command, goes over its units, closes it, and looks at what stands behind the last unit.
+/// Opens a command, goes over its units, closes it, and looks at what stands behind the last unit. Nothing is tried again:
+/// a failed call, and a read that met the end of the input, is the last of its stream.
 pub fn follow<C: Turns, S: Source, K: Sink, E: Sink>(
     command: &mut C,
     src: &mut S,
@@ -64,7 +65,7 @@ pub fn close<E: Sink>(end: LoopEnd, line: &[u8], report: &mut E) -> LoopEnd
     ensures closes { (closing : HowItEnds → List ℕ) (source output : Seen) → closing end ≡ line.now → Comes (λ bytes. Closes closing end)
         (streams source output (E.seen report.old)) (streams source output (E.seen report.new)) result }
     ensures same { result ≢ LoopEnd.ReportFault → result ≡ end }
-    ensures cause { end ≢ LoopEnd.ReportFault → Counts (is_report_fault result) (E.seen report.old).faults (E.seen report.new).faults }
+    ensures cause { end ≢ LoopEnd.ReportFault → Counts (is_report_fault result) (E.seen report.old) (E.seen report.new) }
     ensures none { end ≡ LoopEnd.ReportFault → report.new ≡ report.old }
 {
     match end {

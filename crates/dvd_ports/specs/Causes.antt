@@ -1,5 +1,6 @@
--- When a call may answer that an object failed: only where the object's count of faults rose.
-use Rattle.std.specs.Prelude.{ℕ, ◌+◌, ◌-◌, ◌^◌, ◌≤◌, ◌≡◌, min, Result, OnOk, OnErr}
+-- What calls leave of the counts of an object, and when one of them may answer that the object failed.
+use Rattle.std.specs.Prelude.{ℕ, ◌+◌, ◌-◌, ◌^◌, ◌<◌, ◌≤◌, ◌≡◌, min, true, Result, IfOk, OnOk, OnErr}
+use Rattle.dvd_ports.specs.Seen.{Seen}
 
 -- one more, but a count stays at the last number of 64 bits
 abbrev pub next_count : ℕ → ℕ
@@ -10,8 +11,31 @@ next_count n = min (n + 1) (2 ^ 64 - 1)
 abbrev pub Rose : ℕ → ℕ → Type 0
 Rose before now = next_count before ≤ now
 
--- the count hasn't fallen; the call failed only where it rose, and where it succeeded the count is as it was
-pub record HasCause {T E : Type 0} (before now : ℕ) (result : Result T E) : Type 0 where
-  pub later : before ≤ now
-  pub failed : OnErr result (Rose before now)
-  pub steady : OnOk result (now ≡ before)
+-- No call failed, and none met the end of the input.
+pub record HasGoneOn (before now : Seen) : Type 0 where
+  pub faults : now.faults ≡ before.faults
+  pub ends : now.ends ≡ before.ends
+
+-- One call failed, and it was the last: nothing was tried again.
+pub record HasFailed (before now : Seen) : Type 0 where
+  pub faults : now.faults ≡ next_count before.faults
+  pub ends : now.ends ≡ before.ends
+  pub last : now.stopped ≡ true
+  pub later : before.faults ≤ now.faults
+
+-- One call met the end of the input, and it was the last: the end was believed at once.
+pub record HasMetEnd (before now : Seen) : Type 0 where
+  pub faults : now.faults ≡ before.faults
+  pub ends : now.ends ≡ next_count before.ends
+  pub last : now.stopped ≡ true
+
+-- Calls that answer so together: they failed where one of them did, the last; and where they succeeded none did.
+pub record HasCause {T E : Type 0} (before now : Seen) (result : Result T E) : Type 0 where
+  pub failed : OnErr result (HasFailed before now)
+  pub steady : OnOk result (HasGoneOn before now)
+
+-- The same of reads that answer how many of these bytes came: fewer come only where the last read met the end of the input.
+pub record HasFilled {E : Type 0} (size : ℕ) (before now : Seen) (result : Result ℕ E) : Type 0 where
+  pub failed : OnErr result (HasFailed before now)
+  pub full : IfOk result (λ count. size ≤ count → HasGoneOn before now)
+  pub ended : IfOk result (λ count. count < size → HasMetEnd before now)

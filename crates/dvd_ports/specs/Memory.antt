@@ -1,17 +1,20 @@
 -- What the contracts see of a source and of a sink in memory.
-use Rattle.std.specs.Prelude.{ℕ, List, Some}
+use Rattle.std.specs.Prelude.{ℕ, Bool, List, Some}
 use Rattle.dvd_ports.specs.Seen.{Seen}
 
--- The bytes left, how many a call gives at most, the numbers of the calls that fail, the number of the next call,
--- and how often a call failed. Only calls into a buffer that isn't empty have numbers.
+-- The bytes left, how many a call gives at most, the numbers of the calls that fail, the number of the next call, how often
+-- a call failed and how often one met the end, and whether the last did either. Only calls into a buffer that isn't empty
+-- count.
 pub record SourceState : Type 0 where
   pub left : List ℕ
   pub step : ℕ
   pub fails : List ℕ
   pub calls : ℕ
   pub faults : ℕ
+  pub ends : ℕ
+  pub stopped : Bool
 
--- The bytes taken, how many there is room for, and the rest as for a source.
+-- The bytes taken, how many there is room for, and the rest as for a source; a sink has no end.
 pub record SinkState : Type 0 where
   pub held : List ℕ
   pub room : ℕ
@@ -19,15 +22,22 @@ pub record SinkState : Type 0 where
   pub fails : List ℕ
   pub calls : ℕ
   pub faults : ℕ
+  pub stopped : Bool
+
+-- Of a source over a slice, which never fails: the bytes left, how often a call met the end, and whether the last did.
+pub record SliceState : Type 0 where
+  pub left : List ℕ
+  pub ends : ℕ
+  pub stopped : Bool
 
 -- what is seen of a source: all bytes that it has left
 abbrev pub source_seen : SourceState → Seen
-source_seen s = record { bytes = Some s.left; faults = s.faults }
+source_seen s = record { bytes = Some s.left; faults = s.faults; ends = s.ends; stopped = s.stopped }
 
 -- what is seen of a sink: all bytes that it holds
 abbrev pub sink_seen : SinkState → Seen
-sink_seen s = record { bytes = Some s.held; faults = s.faults }
+sink_seen s = record { bytes = Some s.held; faults = s.faults; ends = 0; stopped = s.stopped }
 
--- what is seen of a source over a slice, which never fails
-abbrev pub slice_seen : List ℕ → Seen
-slice_seen left = record { bytes = Some left; faults = 0 }
+-- what is seen of a source over a slice
+abbrev pub slice_seen : SliceState → Seen
+slice_seen s = record { bytes = Some s.left; faults = 0; ends = s.ends; stopped = s.stopped }

@@ -19,11 +19,11 @@ pub record AppendsPrefix (old new : Option (List ℕ)) (piece : List ℕ) : Type
   pub whole : taken ++ rest ≡ piece
   pub more : rest ≢ []
 
--- A piece was written: all of it, or the sink failed and took a front of it. A fault has its cause.
+-- A piece was written: all of it, or the sink failed and took a front of it. A fault has its cause, the last call of the sink.
 pub record IsWritten {E : Type 0} (piece : List ℕ) (old new : Seen) (answer : Result (Unit {0}) E) : Type 0 where
   pub written : OnOk answer (Appends old.bytes new.bytes piece)
   pub begun : OnErr answer (AppendsPrefix old.bytes new.bytes piece)
-  pub cause : HasCause old.faults new.faults answer
+  pub cause : HasCause old new answer
 
 -- known bytes lost fewer than so many at their front
 pub record ConsumesFewer (old new : Option (List ℕ)) (size : ℕ) : Type 0 where

@@ -1,5 +1,6 @@
-//! Sources and sinks over std's readers and writers. Each counts its own errors, in 64 bits; the last number stays.
-ghost use Rattle.std.specs.Prelude.{◌≡◌, ◌<◌, length, take, None, IfOk, OnErr, is_ok, if◌then◌else◌};
+//! Sources and sinks over std's readers and writers. Each counts its own errors, and a source how often its input ended, in
+//! 64 bits; the last number stays.
+ghost use Rattle.std.specs.Prelude.{◌≡◌, ◌<◌, length, take, None, IfOk, OnErr, is_ok, false, if◌then◌else◌};
 ghost use Rattle.std.specs.Io.KnownBytes.{Appends};
 ghost use Rattle.dvd_ports.specs.Calls.{IsRead, IsWrite};
 ghost use Rattle.dvd_ports.specs.Causes.{next_count};
@@ -16,6 +17,8 @@ mod tests;
 pub struct StdSource<R: Read> {
     reader: R,
     faults: u64,
+    ends: u64,
+    stopped: bool,
 }
 
 impl<R: Read> StdSource<R> {
@@ -24,14 +27,19 @@ impl<R: Read> StdSource<R> {
     /// A source over this reader, of which nothing is read here.
     pub fn new(reader: R) -> StdSource<R>
         ensures reader { source_reader result ≡ reader }
-        ensures seen { ⟦<StdSource<R> as Source>⟧.seen result ≡ record { bytes = R.remaining reader; faults = 0 } }
+        ensures seen { ⟦<StdSource<R> as Source>⟧.seen result ≡ record { bytes = R.remaining reader; faults = 0; ends = 0; stopped = false } }
     {
-        StdSource { reader, faults: 0 }
+        StdSource {
+            reader,
+            faults: 0,
+            ends: 0,
+            stopped: false,
+        }
     }
 }
 
 impl<R: Read> Source for StdSource<R> {
-    ghost seen = { λ s. record { bytes = R.remaining s.reader; faults = s.faults } };
+    ghost seen = { λ s. record { bytes = R.remaining s.reader; faults = s.faults; ends = s.ends; stopped = s.stopped } };
 
     fn read(&mut self, buf: &mut [u8]) -> Result<usize, Failed>
         ensures counts { (⟦<StdSource<R> as Source>⟧.seen self.new).faults
@@ -45,8 +53,16 @@ impl<R: Read> Source for StdSource<R> {
         if buf.is_empty() {
             return Ok(0);
         }
+        self.stopped = true;
         match self.reader.read(buf) {
-            Ok(count) => Ok(count),
+            Ok(0) => {
+                self.ends = self.ends.saturating_add(1);
+                Ok(0)
+            }
+            Ok(count) => {
+                self.stopped = false;
+                Ok(count)
+            }
             Err(_) => {
                 self.faults = self.faults.saturating_add(1);
                 Err(Failed)
@@ -62,6 +78,7 @@ impl<R: Read> Source for StdSource<R> {
 pub struct StdSink<W: Write> {
     writer: W,
     faults: u64,
+    stopped: bool,
 }
 
 impl<W: Write> StdSink<W> {
@@ -70,16 +87,20 @@ impl<W: Write> StdSink<W> {
     /// A sink over this writer, to which nothing is written here.
     pub fn new(writer: W) -> StdSink<W>
         ensures writer { sink_writer result ≡ writer }
-        ensures seen { ⟦<StdSink<W> as Sink>⟧.seen result ≡ record { bytes = None; faults = 0 } }
+        ensures seen { ⟦<StdSink<W> as Sink>⟧.seen result ≡ record { bytes = None; faults = 0; ends = 0; stopped = false } }
     {
-        StdSink { writer, faults: 0 }
+        StdSink {
+            writer,
+            faults: 0,
+            stopped: false,
+        }
     }
 }
 
 impl<W: Write> Sink for StdSink<W> {
     ghost use Rattle.dvd_ports.specs.Adapters.{sink_writer};
 
-    ghost seen = { λ s. record { bytes = None; faults = s.faults } };
+    ghost seen = { λ s. record { bytes = None; faults = s.faults; ends = 0; stopped = s.stopped } };
 
     #[tactic(auto, using(crate::proofs::KnownLemmas::write_front, crate::proofs::KnownLemmas::front_kept))]
     fn write(&mut self, buf: &[u8]) -> Result<usize, Failed>
@@ -99,9 +120,13 @@ impl<W: Write> Sink for StdSink<W> {
         if buf.is_empty() {
             return Ok(0);
         }
+        self.stopped = true;
         match self.writer.write(buf) {
             Ok(count) if count > 0 => match self.writer.flush() {
-                Ok(()) => Ok(count),
+                Ok(()) => {
+                    self.stopped = false;
+                    Ok(count)
+                }
                 Err(_) => {
                     self.faults = self.faults.saturating_add(1);
                     Err(Failed)

@@ -5,7 +5,7 @@ ghost use Rattle.dvd_ports.specs.Seen.{Seen};
 
 use thiserror::Error;
 
-/// A single call of a source or a sink failed. The object's count of faults has risen.
+/// A single call of a source or a sink failed. The object's count of faults has risen by one.
 #[derive(Clone, Copy, Debug, PartialEq, Eq, Drop, Error)]
 #[error("the call failed")]
 pub struct Failed;
@@ -22,7 +22,7 @@ pub struct NoMemory;
 
 /// Where bytes come from.
 pub trait Source {
-    /// The bytes that are left, where they are told, and the count of faults.
+    /// The bytes that are left, where they are told, the counts of faults and of ends, and whether the last call stopped.
     ghost seen: { Self → Seen };
 
     /// Moves bytes to the front of `buf` and answers how many. Into a buffer with room, 0 is the end of the input.
@@ -34,7 +34,7 @@ pub trait Source {
 
 /// Where bytes go.
 pub trait Sink {
-    /// The bytes taken so far, where they are told, and the count of faults.
+    /// The bytes taken so far, where they are told, the count of faults, and whether the last call failed.
     ghost seen: { Self → Seen };
 
     /// Takes bytes from the front of `buf` and answers how many: at least one, if there is one.

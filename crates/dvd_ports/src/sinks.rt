@@ -1,5 +1,5 @@
 //! Sinks over memory. They fail exactly where they are told to.
-ghost use Rattle.std.specs.Prelude.{◌≡◌, ◌<◌, ◌≤◌, ◌↔◌, ◌-◌, ◌⊎◌, ◌++◌, [], length, take, min, Some, None, Contains, IfOk, IsErr, OnErr};
+ghost use Rattle.std.specs.Prelude.{◌≡◌, ◌<◌, ◌≤◌, ◌↔◌, ◌-◌, ◌⊎◌, ◌++◌, [], length, take, min, Some, None, Contains, IfOk, IsErr, OnErr, true, false};
 ghost use Rattle.dvd_ports.specs.Calls.{IsWrite};
 ghost use Rattle.dvd_ports.specs.Causes.{next_count};
 ghost use Rattle.dvd_ports.specs.Memory.{sink_seen};
@@ -19,6 +19,7 @@ pub struct MemSink {
     fails: Vec<u64>,
     calls: u64,
     faults: u64,
+    stopped: bool,
 }
 
 impl Model for MemSink {
@@ -27,7 +28,7 @@ impl Model for MemSink {
 
     ghost Value = { SinkState };
 
-    ghost view = { λ s. record { held = s.held.items; room = s.room; step = s.step; fails = s.fails.items; calls = s.calls; faults = s.faults } };
+    ghost view = { λ s. record { held = s.held.items; room = s.room; step = s.step; fails = s.fails.items; calls = s.calls; faults = s.faults; stopped = s.stopped } };
 
     ghost invariant = { λ s. (vec_len s.held ≤ s.room) × (s.room ≤ vec_capacity s.held) × (1 ≤ s.step) };
 }
@@ -42,7 +43,7 @@ impl MemSink {
     ) -> Result<MemSink, NoMemory>
         requires { 1 ≤ step }
         ensures { IfOk result (λ sink. sink
-            ≡ record { held = []; room = room; step = step; fails = fails.items; calls = 0; faults = 0 }) }
+            ≡ record { held = []; room = room; step = step; fails = fails.items; calls = 0; faults = 0; stopped = false }) }
     {
         let held = Vec::with_capacity(alloc, room).map_err(|_| NoMemory)?;
         Ok(MemSink {
@@ -52,6 +53,7 @@ impl MemSink {
             fails,
             calls: 0,
             faults: 0,
+            stopped: false,
         })
     }
 
@@ -72,9 +74,9 @@ impl Sink for MemSink {
         ensures takes { IfOk result (λ count.
             count ≡ min self.old.step (min (length buf.now) (self.old.room - length self.old.held))) }
         ensures leaves { 0 < length buf.now → IfOk result (λ count.
-            self.new ≡ record self.old { held = self.old.held ++ take count buf.now; calls = next_count self.old.calls }) }
+            self.new ≡ record self.old { held = self.old.held ++ take count buf.now; calls = next_count self.old.calls; stopped = false }) }
         ensures failed { OnErr result (self.new
-            ≡ record self.old { calls = next_count self.old.calls; faults = next_count self.old.faults }) }
+            ≡ record self.old { calls = next_count self.old.calls; faults = next_count self.old.faults; stopped = true }) }
 
         // As every sink.
         ensures call { IsWrite (sink_seen self.old) (sink_seen self.new) result buf.now }
@@ -85,7 +87,8 @@ impl Sink for MemSink {
         }
         let call = self.calls;
         self.calls = call.saturating_add(1);
-        if self.fails.contains(&call) || self.held.len() == self.room {
+        self.stopped = self.fails.contains(&call) || self.held.len() == self.room;
+        if self.stopped {
             self.faults = self.faults.saturating_add(1);
             return Err(Failed);
         }
@@ -104,14 +107,14 @@ pub struct NullSink;
 impl NullSink {
     /// The sink that keeps nothing.
     pub fn new() -> NullSink
-        ensures { ⟦<NullSink as Sink>⟧.seen result ≡ record { bytes = None; faults = 0 } }
+        ensures { ⟦<NullSink as Sink>⟧.seen result ≡ record { bytes = None; faults = 0; ends = 0; stopped = false } }
     {
         NullSink
     }
 }
 
 impl Sink for NullSink {
-    ghost seen = { λ _. record { bytes = None; faults = 0 } };
+    ghost seen = { λ _. record { bytes = None; faults = 0; ends = 0; stopped = false } };
 
     fn write(&mut self, buf: &[u8]) -> Result<usize, Failed>
         ensures takes { result ≡ Ok (length buf.now) }

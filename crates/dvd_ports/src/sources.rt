@@ -1,6 +1,6 @@
 //! Sources over memory. They tell their bytes, and fail exactly where they are told to.
 //! They are part of the library, since every crate above tries its faults on them.
-ghost use Rattle.std.specs.Prelude.{◌≡◌, ◌<◌, ◌≤◌, ◌↔◌, ◌++◌, length, take, drop, min, Some, Contains, IfOk, IsErr, OnErr};
+ghost use Rattle.std.specs.Prelude.{◌≡◌, ◌<◌, ◌≤◌, ◌↔◌, ◌++◌, length, take, drop, min, Some, Contains, IfOk, IsErr, OnErr, OnOk, true, false};
 ghost use Rattle.dvd_ports.specs.Calls.{IsRead};
 ghost use Rattle.dvd_ports.specs.Causes.{next_count};
 ghost use Rattle.dvd_ports.specs.Memory.{slice_seen, source_seen};
@@ -12,22 +12,28 @@ use std::marker::Model;
 #[derive(Drop)]
 pub struct SliceSource<'a> {
     rest: &'a [u8],
+    ends: u64,
+    stopped: bool,
 }
 
 impl<'a> Model for SliceSource<'a> {
-    ghost use Rattle.std.specs.Prelude.{ℕ, List};
+    ghost use Rattle.dvd_ports.specs.Memory.{SliceState};
 
-    ghost Value = { List ℕ };
+    ghost Value = { SliceState };
 
-    ghost view = { λ s. s.rest.now };
+    ghost view = { λ s. record { left = s.rest.now; ends = s.ends; stopped = s.stopped } };
 }
 
 impl<'a> SliceSource<'a> {
     /// A source of these bytes.
     pub fn new(bytes: &'a [u8]) -> SliceSource<'a>
-        ensures { result ≡ bytes.now }
+        ensures { result ≡ record { left = bytes.now; ends = 0; stopped = false } }
     {
-        SliceSource { rest: bytes }
+        SliceSource {
+            rest: bytes,
+            ends: 0,
+            stopped: false,
+        }
     }
 }
 
@@ -35,14 +41,25 @@ impl<'a> Source for SliceSource<'a> {
     ghost seen = { slice_seen };
 
     fn read(&mut self, buf: &mut [u8]) -> Result<usize, Failed>
-        ensures gives { result ≡ Ok (min (length buf.old) (length self.old)) }
-        ensures fills { IfOk result (λ count. buf.new ≡ take count self.old ++ drop count buf.old) }
-        ensures leaves { IfOk result (λ count. self.new ≡ drop count self.old) }
+        ensures gives { result ≡ Ok (min (length buf.old) (length self.old.left)) }
+        ensures fills { IfOk result (λ count. buf.new ≡ take count self.old.left ++ drop count buf.old) }
+        ensures leaves { 0 < length buf.old → 0 < length self.old.left → IfOk result (λ count.
+            self.new ≡ record self.old { left = drop count self.old.left; stopped = false }) }
+        ensures ended { 0 < length buf.old → length self.old.left ≡ 0
+            → self.new ≡ record self.old { ends = next_count self.old.ends; stopped = true } }
 
         // As every source.
         ensures call { IsRead (slice_seen self.old) (slice_seen self.new) result buf.new }
         ensures empty { length buf.old ≡ 0 → (result ≡ Ok 0) × (self.new ≡ self.old) }
     {
+        if buf.is_empty() {
+            return Ok(0);
+        }
+        self.stopped = self.rest.is_empty();
+        if self.stopped {
+            self.ends = self.ends.saturating_add(1);
+            return Ok(0);
+        }
         let count = buf.len().min(self.rest.len());
         buf[..count].copy_from_slice(&self.rest[..count]);
         self.rest = &self.rest[count..];
@@ -60,6 +77,8 @@ pub struct MemSource {
     fails: Vec<u64>,
     calls: u64,
     faults: u64,
+    ends: u64,
+    stopped: bool,
 }
 
 impl Model for MemSource {
@@ -68,7 +87,7 @@ impl Model for MemSource {
 
     ghost Value = { SourceState };
 
-    ghost view = { λ s. record { left = drop s.at s.bytes.items; step = s.step; fails = s.fails.items; calls = s.calls; faults = s.faults } };
+    ghost view = { λ s. record { left = drop s.at s.bytes.items; step = s.step; fails = s.fails.items; calls = s.calls; faults = s.faults; ends = s.ends; stopped = s.stopped } };
 
     ghost invariant = { λ s. (s.at ≤ vec_len s.bytes) × (1 ≤ s.step) };
 }
@@ -77,7 +96,7 @@ impl MemSource {
     /// A source of these bytes, at most `step` of them a call; the calls with these numbers fail.
     pub fn new(bytes: Vec<u8>, step: usize, fails: Vec<u64>) -> MemSource
         requires { 1 ≤ step }
-        ensures { result ≡ record { left = bytes.items; step = step; fails = fails.items; calls = 0; faults = 0 } }
+        ensures { result ≡ record { left = bytes.items; step = step; fails = fails.items; calls = 0; faults = 0; ends = 0; stopped = false } }
     {
         MemSource {
             bytes,
@@ -86,6 +105,8 @@ impl MemSource {
             fails,
             calls: 0,
             faults: 0,
+            ends: 0,
+            stopped: false,
         }
     }
 }
@@ -97,10 +118,12 @@ impl Source for MemSource {
         ensures fails { IsErr result ↔ ((0 < length buf.old) × Contains self.old.fails self.old.calls) }
         ensures gives { IfOk result (λ count. count ≡ min self.old.step (min (length buf.old) (length self.old.left))) }
         ensures fills { IfOk result (λ count. buf.new ≡ take count self.old.left ++ drop count buf.old) }
-        ensures leaves { 0 < length buf.old → IfOk result (λ count.
-            self.new ≡ record self.old { left = drop count self.old.left; calls = next_count self.old.calls }) }
+        ensures leaves { 0 < length buf.old → 0 < length self.old.left → IfOk result (λ count.
+            self.new ≡ record self.old { left = drop count self.old.left; calls = next_count self.old.calls; stopped = false }) }
+        ensures ended { 0 < length buf.old → length self.old.left ≡ 0 → OnOk result (self.new
+            ≡ record self.old { calls = next_count self.old.calls; ends = next_count self.old.ends; stopped = true }) }
         ensures failed { OnErr result (self.new
-            ≡ record self.old { calls = next_count self.old.calls; faults = next_count self.old.faults }) }
+            ≡ record self.old { calls = next_count self.old.calls; faults = next_count self.old.faults; stopped = true }) }
         ensures untouched { OnErr result (buf.new ≡ buf.old) }
 
         // As every source.
@@ -112,10 +135,16 @@ impl Source for MemSource {
         }
         let call = self.calls;
         self.calls = call.saturating_add(1);
+        self.stopped = true;
         if self.fails.contains(&call) {
             self.faults = self.faults.saturating_add(1);
             return Err(Failed);
         }
+        if self.at == self.bytes.len() {
+            self.ends = self.ends.saturating_add(1);
+            return Ok(0);
+        }
+        self.stopped = false;
         let count = self.step.min(buf.len().min(self.bytes.len() - self.at));
         buf[..count].copy_from_slice(&self.bytes[self.at..self.at + count]);
         self.at += count;

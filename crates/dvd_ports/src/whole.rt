@@ -2,12 +2,13 @@
 ghost use Rattle.std.specs.Prelude.{◌<◌, length, take, IfOk, OnErr};
 ghost use Rattle.std.specs.Io.{ReadsAtMost};
 ghost use Rattle.std.specs.Io.KnownBytes.{Consumes, IsAtEnd};
-ghost use Rattle.dvd_ports.specs.Causes.{HasCause};
+ghost use Rattle.dvd_ports.specs.Causes.{HasFilled};
 ghost use Rattle.dvd_ports.specs.Whole.{ConsumesFewer, IsWritten};
 
 use crate::{Failed, Sink, Source, WriteFault};
 
-/// Writes the whole piece, by as many calls as it takes. After a fault a prefix of it was taken.
+/// Writes the whole piece, by as many calls as it takes. After a fault a prefix of it was taken, and the failed call is
+/// the last.
 #[tactic(auto, using(crate::proofs::KnownLemmas::write_begun, crate::proofs::KnownLemmas::writes_more))]
 pub fn write_whole<K: Sink>(out: &mut K, buf: &[u8]) -> Result<(), WriteFault>
     ensures { IsWritten buf.now (K.seen out.old) (K.seen out.new) result }
@@ -23,14 +24,15 @@ pub fn write_whole<K: Sink>(out: &mut K, buf: &[u8]) -> Result<(), WriteFault>
 }
 
 /// Fills the buffer, by as many calls as it takes, and answers how many bytes came: fewer than the buffer's length
-/// only at the end of the input. After a fault fewer bytes than that were taken from the source.
+/// only at the end of the input, which is believed at once. After a fault fewer bytes than that were taken from the
+/// source, and the failed call is the last.
 #[tactic(auto, using(crate::proofs::KnownLemmas::reads_more, crate::proofs::KnownLemmas::reads_inside))]
 pub fn read_whole<S: Source>(src: &mut S, buf: &mut [u8]) -> Result<usize, Failed>
     ensures bound { ReadsAtMost result buf.new }
     ensures taken { IfOk result (λ count. Consumes (S.seen src.old).bytes (S.seen src.new).bytes (take count buf.new)) }
     ensures end { IfOk result (λ count. count < length buf.new → IsAtEnd (S.seen src.new).bytes) }
     ensures begun { OnErr result (ConsumesFewer (S.seen src.old).bytes (S.seen src.new).bytes (length buf.new)) }
-    ensures cause { HasCause (S.seen src.old).faults (S.seen src.new).faults result }
+    ensures stops { HasFilled (length buf.new) (S.seen src.old) (S.seen src.new) result }
 {
     let mut filled = 0;
     while filled < buf.len() {

@@ -94,7 +94,7 @@ impl Survey {
             → OnOk result (Appends (K.seen out.old).bytes (K.seen out.new).bytes (survey_line (length blocks - 1) plan.now blocks)) }
         ensures begun { (blocks : List Surveyed) → StandsFor self.now blocks
             → OnErr result (AppendsPrefix (K.seen out.old).bytes (K.seen out.new).bytes (survey_line (length blocks - 1) plan.now blocks)) }
-        ensures cause { HasCause (K.seen out.old).faults (K.seen out.new).faults result }
+        ensures cause { HasCause (K.seen out.old) (K.seen out.new) result }
     {
         write_whole(out, self.last_line(plan).as_slice())
     }
@@ -106,7 +106,7 @@ impl Survey {
             → OnOk result (Appends (K.seen out.old).bytes (K.seen out.new).bytes (totals_line blocks)) }
         ensures begun { (blocks : List Surveyed) → StandsFor self.now blocks
             → OnErr result (AppendsPrefix (K.seen out.old).bytes (K.seen out.new).bytes (totals_line blocks)) }
-        ensures cause { HasCause (K.seen out.old).faults (K.seen out.new).faults result }
+        ensures cause { HasCause (K.seen out.old) (K.seen out.new) result }
     {
         write_whole(out, line_of_totals(&self.totals).as_slice())
     }

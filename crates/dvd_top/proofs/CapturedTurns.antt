@@ -6,10 +6,10 @@ use Rattle.dvd_capture.specs.declared.form.Form.{Form}
 use Rattle.dvd_capture.specs.declared.form.Form.TheVariants.{Plain, Marked, Listed}
 use Rattle.dvd_loop.specs.Machine.{EndsWithin, Units}
 use Rattle.dvd_loop.specs.Machine.Part.{Whole, Broken}
-use Rattle.dvd_loop.specs.Streams.{HaveCauses, streams}
+use Rattle.dvd_loop.specs.Streams.{HaveCauses, HaveGoneOn, streams}
 use Rattle.dvd_loop.specs.Turns.{AreDone, IsTurn}
 use Rattle.dvd_loop.specs.declared.ends.LoopEnd.{LoopEnd}
-use Rattle.dvd_loop.specs.declared.ends.LoopEnd.TheVariants.{BadMarks, Done, ReadFault, Short}
+use Rattle.dvd_loop.specs.declared.ends.LoopEnd.TheVariants.{BadMarks, ReadFault, Short}
 use Rattle.dvd_loop.specs.declared.ends.Turn.{Turn}
 use Rattle.dvd_loop.proofs.Sizes.{sized_fewer}
 use Rattle.dvd_loop.proofs.StreamLemmas.{left_of, none_left}
@@ -90,7 +90,7 @@ module _ (units : Units) (form : Form) (begins : (k : ℕ) (own : List ℕ) → 
 
   -- a block that was read whole, and what was done for it, is a turn
   pub captured_done : (rows : List (List ℕ)) (marks : List (List Bool)) → (fetched : Captures form source.bytes new_source.bytes rows marks)
-      → HaveCauses Done Done (streams source output report) (streams new_source output report)
+      → HaveGoneOn (streams source output report) (streams new_source output report)
       → (new_output new_report : Seen) (answer : Result Turn LoopEnd)
       → AreDone (units.does k before fetched.bytes) (streams new_source output report) (streams new_source new_output new_report) answer
       → ready (before ++ fetched.bytes ∷ [])

@@ -14,13 +14,15 @@ use Rattle.dvd_layout.specs.declared.layout.Shape.TheVariants.{Single}
 use Rattle.dvd_layout.specs.declared.layout.Zones.TheVariants.{DataOnly}
 use Rattle.dvd_loop.specs.Machine.{IsOutcome, Outcome}
 use Rattle.dvd_loop.specs.Machine.Part.{Cut, Whole}
-use Rattle.dvd_loop.specs.Streams.{Comes, Counts as FaultCounts, is_read_fault, no_stream, streams}
+use Rattle.dvd_loop.specs.Streams.{Comes, SourceCounts, no_stream, streams}
 use Rattle.dvd_loop.specs.declared.ends.Behind.TheVariants as behind
 use Rattle.dvd_loop.specs.declared.ends.LoopEnd.{LoopEnd}
 use Rattle.dvd_loop.specs.declared.ends.LoopEnd.TheVariants.{BadHeader, BadMarks, Damaged, Done, Long, NoControl, ReadFault, ReportFault, Short, ShortHeader, WriteFault}
 use Rattle.dvd_loop.proofs.PlainEnds.{never_bad_header, never_bad_marks, never_damaged, never_long, never_no_control, never_short, never_short_header}
 use Rattle.dvd_loop.proofs.Sizes.{sized_enough, sized_never_broken}
+use Rattle.dvd_ports.specs.Memory.{SliceState, slice_seen}
 use Rattle.dvd_ports.specs.Seen.{Seen}
+use Rattle.dvd_ports.proofs.StopLemmas.{unmoved}
 use Rattle.dvd_read.specs.Reading.{IsReadAs, block_cause}
 use Rattle.dvd_top.specs.Commands.Exercise.{IsHurtBlock, IsLeft, drawn_sectors, exercise_units, no_marks, state_at}
 use Rattle.dvd_top.specs.Commands.Master.{frames_of}
@@ -100,10 +102,15 @@ no_source P source new_source output new_output report new_report end comes = re
 }
 
 -- so no read fails
-pub never_read : (end : LoopEnd) → FaultCounts (is_read_fault end) 0 0 → end ≢ ReadFault
-never_read end counts is =
-    let rose : FaultCounts (is_read_fault ReadFault) 0 0 = subst (λ e. FaultCounts (is_read_fault e) 0 0) is counts in
-    omega arith
+pub never_read : (end : LoopEnd) (old new : SliceState) → SourceCounts end (slice_seen old) (slice_seen new) → end ≢ ReadFault
+never_read end old new counts is =
+    let failed : SourceCounts ReadFault (slice_seen old) (slice_seen new) = subst (λ e. SourceCounts e (slice_seen old) (slice_seen new)) is counts in
+    omega (arith, failed.faults)
+
+-- and a source that is not there never stopped
+pub unread : (end : LoopEnd) → (end ≡ Done) ⊎ (end ≡ WriteFault) → SourceCounts end no_stream no_stream
+unread end (inl is) = subst (λ e. SourceCounts e no_stream no_stream) (sym is) (inr (unmoved no_stream))
+unread end (inr is) = subst (λ e. SourceCounts e no_stream no_stream) (sym is) (unmoved no_stream)
 
 -- the loop is done, or its line can't be written
 pub write_end : (seed blocks : ℕ) (bytes : List ℕ) (outcome : Outcome) → IsOutcome (exercise_units seed blocks) bytes outcome

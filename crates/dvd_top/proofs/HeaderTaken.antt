@@ -6,9 +6,8 @@ use Rattle.dvd_capture.specs.declared.form.Form.{Form}
 use Rattle.dvd_capture.specs.declared.form.Form.TheVariants.{Plain, Marked, Listed}
 use Rattle.dvd_layout.specs.declared.layout.Layout.{Layout}
 use Rattle.dvd_loop.specs.Machine.{Outcome, ended, taking, IsOutcome, Units}
-use Rattle.dvd_loop.specs.Streams.{HasEnded, HaveCauses, Streams, streams}
+use Rattle.dvd_loop.specs.Streams.{HasEnded, HaveCauses, HaveGoneOn, Streams, streams}
 use Rattle.dvd_loop.specs.declared.ends.LoopEnd.{LoopEnd}
-use Rattle.dvd_loop.specs.declared.ends.LoopEnd.TheVariants.{Done}
 use Rattle.dvd_loop.proofs.StreamLemmas.{causes_first, comes_after, ended_as, told_before}
 use Rattle.dvd_ports.specs.Seen.{Seen}
 use Rattle.dvd_ports.proofs.KnownLemmas.{Appends-none}
@@ -69,7 +68,7 @@ looped_by_words settings sized old new end gone = record {
 -- A HEADER was taken, and behind it came a loop over the units that the command has by the settings that the header states.
 pub opened_over : (command : Command) (settings stated : Settings) (layout : Layout) → settings.command ≡ command
     → (old read output report : Seen) (new : Streams) (end : LoopEnd) → HasOpened settings old read stated layout
-    → HaveCauses Done Done (streams old output report) (streams read output report)
+    → HaveGoneOn (streams old output report) (streams read output report)
     → (units : Units) → ((P : Units → Type 0) → P units → (meaning command).OfUnits stated P)
     → HasEnded (IsOutcome units) (streams read output report) new end → HasEnded (IsOpened GoesOver settings) (streams old output report) new end
 opened_over command settings stated layout is old read output report new end opened causes units has ended =
@@ -134,7 +133,7 @@ looped_listed settings is old new end ended = record {
 pub looped_over : (command : Command) (settings stated : Settings) (layout : Layout) → settings.command ≡ command
     → (broken_rule settings ≡ None → (meaning command).breaks settings ≡ None)
     → (old read output report : Seen) (new : Streams) (end : LoopEnd) → HasBegun settings old read stated layout
-    → HaveCauses Done Done (streams old output report) (streams read output report)
+    → HaveGoneOn (streams old output report) (streams read output report)
     → (units : Units) → ((P : Units → Type 0) → P units → (meaning command).OfUnits stated P)
     → HasEnded (IsOutcome units) (streams read output report) new end → HasLooped settings (streams old output report) new end
 looped_over command settings stated layout is lawful old read output report new end (inl (sized, unbroken, same, unread)) causes units has ended =

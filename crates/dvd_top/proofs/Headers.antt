@@ -9,9 +9,9 @@ use Rattle.dvd_layout.specs.declared.layout.Layout.{Layout}
 use Rattle.dvd_layout.specs.declared.layout.Shape.{Shape}
 use Rattle.dvd_layout.specs.declared.layout.Zones.{Zones}
 use Rattle.dvd_layout.specs.declared.layout.Zones.TheVariants.{DataOnly, All}
-use Rattle.dvd_loop.specs.Streams.{HaveCauses, Streams}
-use Rattle.dvd_loop.specs.declared.ends.LoopEnd.TheVariants as ends
-use Rattle.dvd_top.specs.HeaderEnds.{AnswersHeader, end_in, with_layout}
+use Rattle.dvd_ports.specs.Causes.{HasGoneOn}
+use Rattle.dvd_ports.specs.Seen.{Seen}
+use Rattle.dvd_top.specs.HeaderEnds.{AnswersHeader, HeaderCounts, with_layout}
 use Rattle.dvd_top.specs.Opening.{BreaksHeader, IsHeaderOf, fault_byte, shape_number, zones_number}
 use Rattle.dvd_top.specs.declared.opening.HeaderEnd.{HeaderEnd}
 use Rattle.dvd_top.specs.declared.opening.HeaderEnd.TheVariants as found
@@ -65,10 +65,10 @@ pub lawful_by : (layout : Layout) (zones : Zones) (shape : Shape) (sectors0 sect
 lawful_by layout zones shape sectors0 sectors1 initial tail shape_is sectors0_is sectors1_is initial_is tail_is lawful settings =
     rw (shape_is, sectors0_is, sectors1_is, initial_is, tail_is) lawful
 
--- Of all 32 bytes no fault of a read is answered.
-pub sound_causes : (end : HeaderEnd) (own left : List ℕ) → length own ≡ 32 → AnswersHeader end own left → (old new : Streams)
-    → HaveCauses ends.Done ends.Done old new → HaveCauses (end_in end) (end_in end) old new
-sound_causes (found.Found layout zones) own left size answers old new causes = record { source = causes.source; output = causes.output; report = causes.report }
-sound_causes (found.BadHeader at) own left size answers old new causes = record { source = causes.source; output = causes.output; report = causes.report }
-sound_causes (found.Short bytes) own left size answers old new causes = absurd (let few = answers.0 in omega (arith, few, size))
-sound_causes found.ReadFault own left size answers old new causes = absurd (omega (arith, answers, size))
+-- Of all 32 bytes neither a fault of a read nor the end of the input is answered.
+pub whole_counts : (end : HeaderEnd) (own left : List ℕ) → length own ≡ 32 → AnswersHeader end own left → (old new : Seen) → HasGoneOn old new
+    → HeaderCounts end old new
+whole_counts (found.Found layout zones) own left size answers old new on = on
+whole_counts (found.BadHeader at) own left size answers old new on = on
+whole_counts (found.Short bytes) own left size answers old new on = absurd (let few = answers.0 in omega (arith, few, size))
+whole_counts found.ReadFault own left size answers old new on = absurd (omega (arith, answers, size))

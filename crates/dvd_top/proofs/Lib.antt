@@ -49,6 +49,7 @@ pub mod RunLemmas
 pub mod SectorsWritten
 pub mod SeveralWrites
 pub mod SomethingDone
+pub mod SourceCounts
 pub mod SurveyBlocks
 pub mod TwoSteps
 pub mod UnitsOf

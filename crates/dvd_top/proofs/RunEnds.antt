@@ -1,19 +1,22 @@
--- What follows for a run: what a failed read leaves, what is kept of its blocks and CD-ROM sectors, and which counts rise.
-use Rattle.std.proofs.Common.{◌≡◌, ◌≢◌, inl, inr, ℕ, List, [], ◌∷◌, ◌++◌, refl, ap, sym, subst, ◌∙◌, append-nil}
-use Rattle.dvd_ports.specs.Causes.{Rose}
+-- What follows for a run: what a failed read leaves, what is kept of its blocks and CD-ROM sectors, and which calls failed.
+use Rattle.std.proofs.Common.{◌≡◌, ◌≢◌, ◌⊎◌, inl, inr, ℕ, List, [], ◌∷◌, ◌++◌, refl, ap, sym, subst, ◌∙◌, append-nil}
+use Rattle.dvd_ports.specs.Causes.{HasGoneOn, HasMetEnd, Rose}
+use Rattle.dvd_ports.specs.Seen.{Seen}
+use Rattle.dvd_ports.proofs.StopLemmas.{rose}
 use Rattle.dvd_capture.specs.declared.form.Form.{Form}
 use Rattle.dvd_capture.specs.declared.form.Form.TheVariants.{Plain, Marked, Listed}
 use Rattle.dvd_loop.specs.Laws.{IsFaultless}
 use Rattle.dvd_loop.specs.Machine.{Closes, Does, IsOutcome, Outcome, ended}
 use Rattle.dvd_loop.specs.Machine.Step.{Tell}
-use Rattle.dvd_loop.specs.Streams.{Comes, Counts, HaveCauses, HaveMoved, Streams, is_report_fault}
+use Rattle.dvd_loop.specs.Streams.{Comes, Counts, HaveCauses, HaveMoved, SourceCounts, Streams, is_report_fault}
 use Rattle.dvd_loop.specs.declared.ends.LoopEnd.{LoopEnd}
 use Rattle.dvd_loop.specs.declared.ends.LoopEnd.TheVariants.{ReadFault, ReportFault, WriteFault}
+use Rattle.dvd_loop.specs.declared.ends.LoopEnd.TheVariants as ends
 use Rattle.dvd_loop.proofs.Faults.{ends_there}
 use Rattle.dvd_loop.proofs.StepLemmas.{and_then}
 use Rattle.dvd_top.specs.Bound.{KeepsBound, KeepsGoodFrames, Rescues}
 use Rattle.dvd_top.specs.CdBound.{KeepsSectors}
-use Rattle.dvd_top.specs.Headline.{EndsThere, GoesOver, HasRun, HaveRisen, IsLoop, IsRun}
+use Rattle.dvd_top.specs.Headline.{EndsThere, GoesOver, HasRun, HaveFailed, IsLoop, IsRun}
 use Rattle.dvd_top.specs.Opening.{Behind}
 use Rattle.dvd_top.specs.Statuses.{status_of}
 use Rattle.dvd_top.specs.Lines.{closing_line}
@@ -172,32 +175,43 @@ sectors_kept =
     (λ settings within bytes outcome is run none.
     in_words settings.form (λ stated left. KeepsSectors stated left outcome) settings bytes is.1 (kept_sectors settings within bytes outcome is.0 run none))
 
--- the counts by the status of a run that begins
+-- the counts of its source by an end that no fault made
+source_sound : (end : LoopEnd) → IsFaultless end → (old new : Seen) → SourceCounts end old new → HasMetEnd old new ⊎ HasGoneOn old new
+source_sound ends.ReadFault none old new counts = absurd none
+source_sound ends.Done none old new counts = counts
+source_sound (ends.Short unit bytes) none old new counts = inl counts
+source_sound (ends.ShortHeader bytes) none old new counts = inl counts
+source_sound (ends.Damaged blocks) none old new counts = inl counts
+source_sound other none old new counts = inr counts
+
+-- which calls failed, by the status of a run that begins
 pub risen : (within end : LoopEnd) (old new : Streams) → (end ≢ ReportFault → end ≡ within) → HaveCauses within end old new
-    → HaveRisen (status_of end) old new
+    → HaveFailed (status_of end) old new
 risen within end old new same causes = risen_by end old new (λ not. subst (λ w. HaveCauses w end old new) (sym (same not)) causes) causes.report
   where
     risen_by : (end : LoopEnd) (old new : Streams) → (end ≢ ReportFault → HaveCauses end end old new)
-        → Counts (is_report_fault end) old.report.faults new.report.faults → HaveRisen (status_of end) old new
+        → Counts (is_report_fault end) old.report new.report → HaveFailed (status_of end) old new
     risen_by ReportFault old new causes report = report
-    risen_by ReadFault old new causes report = (causes (λ is. cc)).source
-    risen_by WriteFault old new causes report = (causes (λ is. cc)).output
-    risen_by end old new causes report = let c = causes (λ is. cc) in (c.source, c.output, c.report)
+    risen_by ReadFault old new causes report = let c = causes (λ is. cc) in (c.source, c.output, c.report)
+    risen_by WriteFault old new causes report = let c = causes (λ is. cc) in (c.source, c.output, c.report)
+    risen_by end old new causes report = let c = causes (λ is. cc) in (source_sound end tt old.source new.source c.source, c.output, c.report)
 
 -- where no count rose, no fault ended it
-pub sound_end : (end : LoopEnd) (old new : Streams) → HaveRisen (status_of end) old new → (Rose old.source.faults new.source.faults → ⊥)
+pub sound_end : (end : LoopEnd) (old new : Streams) → HaveFailed (status_of end) old new → (Rose old.source.faults new.source.faults → ⊥)
     → (Rose old.output.faults new.output.faults → ⊥) → (Rose old.report.faults new.report.faults → ⊥) → IsFaultless end
 sound_end =
-    by_fault (λ end. (old new : Streams) → HaveRisen (status_of end) old new → (Rose old.source.faults new.source.faults → ⊥)
+    by_fault (λ end. (old new : Streams) → HaveFailed (status_of end) old new → (Rose old.source.faults new.source.faults → ⊥)
     → (Rose old.output.faults new.output.faults → ⊥) → (Rose old.report.faults new.report.faults → ⊥) → IsFaultless end)
-    (λ old new risen source output report. source risen) (λ old new risen source output report. output risen) (λ old new risen source output report. report risen)
-    (λ end none sound old new risen source output report. none)
+    (λ old new failed source output report. source (rose old.source new.source failed.0))
+    (λ old new failed source output report. output (rose old.output new.output failed.1))
+    (λ old new failed source output report. report (rose old.report new.report failed))
+    (λ end none sound old new failed source output report. none)
 
 -- and the run ends as its loop does
-pub complete_run : (settings : Settings) (old new : Streams) (result : Status) → HasRun settings old new result → HaveRisen result old new
+pub complete_run : (settings : Settings) (old new : Streams) (result : Status) → HasRun settings old new result → HaveFailed result old new
     → (Rose old.source.faults new.source.faults → ⊥) → (Rose old.output.faults new.output.faults → ⊥) → (Rose old.report.faults new.report.faults → ⊥)
     → (end : LoopEnd) × (result ≡ status_of end) × IsFaultless end × Comes (IsRun settings end) old new end
 complete_run settings old new result run counts source output report =
-    let sound = sound_end run.end old new (subst (λ s. HaveRisen s old new) run.is_status counts) source output report in
+    let sound = sound_end run.end old new (subst (λ s. HaveFailed s old new) run.is_status counts) source output report in
     let same : run.end ≡ run.within = run.same_end (λ is. subst IsFaultless is sound) in
     (run.end, run.is_status, sound, subst (λ w. Comes (IsRun settings w) old new run.end) (sym same) run.comes)

@@ -1,12 +1,13 @@
 -- A run by its loop and its closing line.
-use Rattle.std.proofs.Common.{◌≡◌, ◌≢◌, ◌⊎◌, inl, inr, ℕ, Option, Some, refl, ap, sym, subst, ◌∙◌}
+use Rattle.std.proofs.Common.{◌≡◌, ◌≢◌, ◌⊎◌, inl, inr, Option, Some, refl, ap, sym, subst, ◌∙◌}
+use Rattle.dvd_ports.specs.Causes.{HasGoneOn}
 use Rattle.dvd_ports.specs.Seen.{Seen}
 use Rattle.dvd_loop.specs.Machine.{Closes, Outcome}
 use Rattle.dvd_loop.specs.Streams.{Comes, Counts, Streams, is_report_fault, streams}
 use Rattle.dvd_loop.specs.declared.ends.LoopEnd.{LoopEnd}
 use Rattle.dvd_loop.specs.declared.ends.LoopEnd.TheVariants.{ReportFault}
 use Rattle.dvd_loop.proofs.ClosedLemmas.{causes_closed, closed, closes_takes}
-use Rattle.dvd_loop.proofs.StreamLemmas.{comes_then}
+use Rattle.dvd_loop.proofs.StreamLemmas.{comes_then, counts_after}
 use Rattle.dvd_top.specs.Headline.{HasRun, IsLoop, IsRun}
 use Rattle.dvd_top.specs.Statuses.{status_of}
 use Rattle.dvd_top.specs.Lines.{closing_line}
@@ -18,28 +19,28 @@ use Rattle.dvd_top.specs.declared.status.Status.{Status}
 pub same_settings : (read : Option Settings) (a b : Settings) → read ≡ Some a → read ≡ Some b → a ≡ b
 same_settings read a b p q = cc
 
--- an end is that of a failed line, or it isn't and the faults of the report stay as many
-report_or_not : (end : LoopEnd) → (end ≡ ReportFault) ⊎ ((end ≢ ReportFault) × ((old new : ℕ) → Counts (is_report_fault end) old new → new ≡ old))
+-- an end is that of a failed line, or it isn't and the report hasn't failed
+report_or_not : (end : LoopEnd) → (end ≡ ReportFault) ⊎ ((end ≢ ReportFault) × ((old new : Seen) → Counts (is_report_fault end) old new → HasGoneOn old new))
 report_or_not ReportFault = inl refl
-report_or_not end = inr (λ is. cc, λ old new stays. stays)
+report_or_not end = inr (λ is. cc, λ old new on. on)
 
 module _ (settings : Settings) (old : Streams) (source output mid_report new_report : Seen) (within end : LoopEnd) (looped : HasLooped settings old (streams source output mid_report) within)
     (line : Comes (λ bytes. Closes (closing_line settings.command) within) (streams source output mid_report) (streams source output new_report) end)
     (none : within ≡ ReportFault → new_report ≡ mid_report) (cause : within ≢ ReportFault
-    → Counts (is_report_fault end) mid_report.faults new_report.faults) where
+    → Counts (is_report_fault end) mid_report new_report) where
   -- a loop that the report failed in has no closing line, and its end is that of the run
   end_is : within ≡ ReportFault → end ≡ ReportFault
   end_is is =
       let fails : line.outcome ≡ _ = subst (λ w. Closes (closing_line settings.command) w line.outcome) is line.holds in
       sym line.ends ∙ ap (λ (o : Outcome). o.end) fails
 
-  -- the faults of the report rose exactly where the run ended in one
-  report_counts : Counts (is_report_fault end) old.report.faults new_report.faults
+  -- the report failed exactly where the run ended in its fault
+  report_counts : Counts (is_report_fault end) old.report new_report
   report_counts = elim (report_or_not within) [
-    | inl is ↦ subst (λ e. Counts (is_report_fault e) old.report.faults new_report.faults) (sym (end_is is))
-        (subst (λ (s : Seen). Counts (is_report_fault ReportFault) old.report.faults s.faults) (sym (none is))
-        (subst (λ w. Counts (is_report_fault w) old.report.faults mid_report.faults) is looped.loop.causes.report))
-    | inr (not, stays) ↦ subst (λ n. Counts (is_report_fault end) n new_report.faults) (stays old.report.faults mid_report.faults looped.loop.causes.report) (cause not)
+    | inl is ↦ subst (λ e. Counts (is_report_fault e) old.report new_report) (sym (end_is is))
+        (subst (Counts (is_report_fault ReportFault) old.report) (sym (none is))
+        (subst (λ w. Counts (is_report_fault w) old.report mid_report) is looped.loop.causes.report))
+    | inr (not, on) ↦ counts_after (is_report_fault end) old.report mid_report new_report (on old.report mid_report looped.loop.causes.report) (cause not)
   ]
 
   -- so the loop and its closing line are a run, with the status of its end

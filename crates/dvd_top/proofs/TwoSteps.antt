@@ -1,9 +1,10 @@
 -- A unit for which nothing is done, and one for which a line is told and then bytes are written.
-use Rattle.std.proofs.Common.{◌≡◌, List, [], ◌∷◌, ℕ, Result, Ok, Err, refl, sym, subst}
+use Rattle.std.proofs.Common.{◌≡◌, List, [], ◌∷◌, ℕ, Result, Ok, Err, sym, subst}
 use Rattle.std.specs.Io.KnownBytes.{Appends}
-use Rattle.dvd_ports.specs.Causes.{Rose}
+use Rattle.dvd_ports.specs.Causes.{HasFailed, HasGoneOn}
 use Rattle.dvd_ports.specs.Seen.{Seen}
 use Rattle.dvd_ports.specs.Whole.{AppendsPrefix}
+use Rattle.dvd_ports.proofs.StopLemmas.{unmoved}
 use Rattle.dvd_loop.specs.Machine.{Step}
 use Rattle.dvd_loop.specs.Machine.Step.{Tell, Write}
 use Rattle.dvd_loop.specs.Streams.{Streams, streams}
@@ -11,7 +12,7 @@ use Rattle.dvd_loop.specs.Turns.{AreDone}
 use Rattle.dvd_loop.specs.declared.ends.LoopEnd.{LoopEnd}
 use Rattle.dvd_loop.specs.declared.ends.LoopEnd.TheVariants.{ReportFault, WriteFault}
 use Rattle.dvd_loop.specs.declared.ends.Turn.{Turn}
-use Rattle.dvd_loop.proofs.StreamLemmas.{stays}
+use Rattle.dvd_loop.proofs.StreamLemmas.{all_unmoved, stays}
 use Rattle.dvd_loop.proofs.TurnLemmas.{line_begun, step_begun, step_told, step_written, steps_behind_line}
 
 -- what may be done may be said otherwise
@@ -28,29 +29,29 @@ nothing_done May turn may old = record {
   may = may;
   done = stays old;
   is = λ value is. cc;
-  causes = record { source = refl; output = refl; report = refl };
+  causes = all_unmoved old;
 }
 
 module _ (May : List Step → Turn → Type 0) (line bytes : List ℕ) (turn : Turn) (may : May (Tell line ∷ Write bytes ∷ []) turn) where
   -- the report failed within the line
   pub line_fails : (source output report new_report : Seen) (answer : Result Turn LoopEnd) → answer ≡ Err ReportFault
-      → AppendsPrefix report.bytes new_report.bytes line → Rose report.faults new_report.faults
+      → AppendsPrefix report.bytes new_report.bytes line → HasFailed report new_report
       → AreDone May (streams source output report) (streams source output new_report) answer
-  line_fails source output report new_report answer is begun rose =
+  line_fails source output report new_report answer is begun failed =
       subst (AreDone May (streams source output report) (streams source output new_report)) (sym is) (record {
         steps = Tell line ∷ Write bytes ∷ [];
         turn = turn;
         may = may;
         done = line_begun source output report new_report line (Write bytes ∷ []) begun;
         is = λ value ok. cc;
-        causes = record { source = refl; output = refl; report = rose };
+        causes = record { source = unmoved source; output = unmoved output; report = failed };
       })
 
-  module _ (source output new_output report new_report : Seen) (tells : Appends report.bytes new_report.bytes line) (steady : new_report.faults ≡ report.faults) where
+  module _ (source output new_output report new_report : Seen) (tells : Appends report.bytes new_report.bytes line) (steady : HasGoneOn report new_report) where
     -- the line was told, and the output failed within the bytes
-    pub bytes_fail : (answer : Result Turn LoopEnd) → answer ≡ Err WriteFault → AppendsPrefix output.bytes new_output.bytes bytes → Rose output.faults new_output.faults
+    pub bytes_fail : (answer : Result Turn LoopEnd) → answer ≡ Err WriteFault → AppendsPrefix output.bytes new_output.bytes bytes → HasFailed output new_output
         → AreDone May (streams source output report) (streams source new_output new_report) answer
-    bytes_fail answer is begun rose =
+    bytes_fail answer is begun failed =
         subst (AreDone May (streams source output report) (streams source new_output new_report)) (sym is) (record {
           steps = Tell line ∷ Write bytes ∷ [];
           turn = turn;
@@ -58,11 +59,11 @@ module _ (May : List Step → Turn → Type 0) (line bytes : List ℕ) (turn : T
           done = steps_behind_line line (Write bytes ∷ []) (streams source output report) (streams source output new_report) (streams source new_output new_report) {A = Turn} (Err WriteFault)
               (step_told source output report new_report line tells) (step_begun source output new_output new_report bytes [] begun);
           is = λ value ok. cc;
-          causes = record { source = refl; output = rose; report = steady };
+          causes = record { source = unmoved source; output = failed; report = steady };
         })
 
     -- both were done
-    pub both_done : Appends output.bytes new_output.bytes bytes → new_output.faults ≡ output.faults
+    pub both_done : Appends output.bytes new_output.bytes bytes → HasGoneOn output new_output
         → AreDone May (streams source output report) (streams source new_output new_report) (Ok turn)
     both_done writes written = record {
       steps = Tell line ∷ Write bytes ∷ [];
@@ -71,5 +72,5 @@ module _ (May : List Step → Turn → Type 0) (line bytes : List ℕ) (turn : T
       done = steps_behind_line line (Write bytes ∷ []) (streams source output report) (streams source output new_report) (streams source new_output new_report) {A = Turn} (Ok turn)
           (step_told source output report new_report line tells) (step_written source output new_output new_report bytes writes);
       is = λ value is. cc;
-      causes = record { source = refl; output = written; report = steady };
+      causes = record { source = unmoved source; output = written; report = steady };
     }

@@ -4,8 +4,7 @@ use Rattle.std.specs.Io.KnownBytes.{Consumes}
 use Rattle.dvd_layout.specs.declared.layout.Layout.{Layout}
 use Rattle.dvd_layout.specs.declared.layout.Zones.{Zones}
 use Rattle.dvd_loop.specs.Streams.{IsTold}
-use Rattle.dvd_loop.specs.declared.ends.LoopEnd.{LoopEnd}
-use Rattle.dvd_loop.specs.declared.ends.LoopEnd.TheVariants as ends
+use Rattle.dvd_ports.specs.Causes.{HasFailed, HasGoneOn, HasMetEnd}
 use Rattle.dvd_ports.specs.Seen.{Seen}
 use Rattle.dvd_top.specs.Opening.{BreaksHeader, IsHeaderOf}
 use Rattle.dvd_top.specs.declared.opening.HeaderEnd.{HeaderEnd}
@@ -13,12 +12,13 @@ use Rattle.dvd_top.specs.declared.opening.HeaderEnd.TheVariants as header
 use Rattle.dvd_words.specs.Settings.{broken_rule}
 use Rattle.dvd_words.specs.declared.settings.Settings.{Settings}
 
--- how a loop ends by what is answered of its header, where that isn't found
-abbrev pub end_in : HeaderEnd → LoopEnd
-end_in (header.Found layout zones) = ends.Done
-end_in (header.BadHeader at) = ends.BadHeader at
-end_in (header.Short bytes) = ends.ShortHeader bytes
-end_in header.ReadFault = ends.ReadFault
+-- the counts of the source by what is answered of its header: the one read that failed, or that met the end of the input,
+-- was its last
+abbrev pub HeaderCounts : HeaderEnd → Seen → Seen → Type 0
+HeaderCounts (header.Found layout zones) old new = HasGoneOn old new
+HeaderCounts (header.BadHeader at) old new = HasGoneOn old new
+HeaderCounts (header.Short bytes) old new = HasMetEnd old new
+HeaderCounts header.ReadFault old new = HasFailed old new
 
 -- settings with this layout and these zones in place of their own
 abbrev pub with_layout : Settings → Layout → Zones → Settings

@@ -10,7 +10,7 @@ use Rattle.dvd_loop.specs.Machine.{IsClosed, IsOutcome, Outcome}
 use Rattle.dvd_loop.specs.Streams.{Comes, HaveCauses, HaveMoved, Streams}
 use Rattle.dvd_loop.specs.declared.ends.LoopEnd.{LoopEnd}
 use Rattle.dvd_loop.specs.declared.ends.LoopEnd.TheVariants as ends
-use Rattle.dvd_ports.specs.Causes.{Rose}
+use Rattle.dvd_ports.specs.Causes.{HasFailed, HasGoneOn, HasMetEnd, Rose}
 use Rattle.dvd_ports.specs.Seen.{Seen}
 use Rattle.dvd_ports.specs.Whole.{AppendsPrefix}
 use Rattle.dvd_top.specs.Bound.{IsMasteredStream, KeepsBound, KeepsGoodFrames, Rescues}
@@ -78,7 +78,7 @@ abbrev pub IsRun : Settings → LoopEnd → List ℕ → Outcome → Type 0
 IsRun settings within bytes outcome = IsClosed (closing_line settings.command) (IsLoop settings bytes) within outcome
 
 -- The streams have come to a run over some bytes, those of the source where it tells them. `within` is how its loop ended, `end`
--- the same, or ReportFault where the closing line failed; each of these raised the count of its stream, and no other count moved.
+-- the same, or ReportFault where the closing line failed; each of these is one failed call of its stream, and its last.
 pub record HasRun (settings : Settings) (old new : Streams) (result : Status) : Type 0 where
   pub within : LoopEnd
   pub end : LoopEnd
@@ -90,18 +90,20 @@ pub record HasRun (settings : Settings) (old new : Streams) (result : Status) : 
 -- A run that doesn't begin: its line is told and its status this one, or the report failed within the line.
 abbrev pub HasNotBegun : Status → List ℕ → Seen → Seen → Status → Type 0
 HasNotBegun wanted line old new result =
-    ((result ≡ wanted) × Appends old.bytes new.bytes line × (new.faults ≡ old.faults)) ⊎ ((result ≡ status.ReportFault) × AppendsPrefix old.bytes new.bytes line × Rose old.faults new.faults)
+    ((result ≡ wanted) × Appends old.bytes new.bytes line × HasGoneOn old new) ⊎ ((result ≡ status.ReportFault) × AppendsPrefix old.bytes new.bytes line × HasFailed old new)
 
 -- MEMORY. There is none for the words or for the buffers of the command. Nothing was read then, and later none is taken.
 abbrev pub HasNoMemory : Seen → Seen → Status → Type 0
 HasNoMemory old new result = HasNotBegun status.NoMemory (codes "no memory\n") old new result
 
--- FAULTS. A fault is the status only where that stream's count rose; after any other status no count has moved.
-abbrev pub HaveRisen : Status → Streams → Streams → Type 0
-HaveRisen status.ReadFault old new = Rose old.source.faults new.source.faults
-HaveRisen status.WriteFault old new = Rose old.output.faults new.output.faults
-HaveRisen status.ReportFault old new = Rose old.report.faults new.report.faults
-HaveRisen other old new = (new.source.faults ≡ old.source.faults) × (new.output.faults ≡ old.output.faults) × (new.report.faults ≡ old.report.faults)
+-- FAULTS. Nothing is tried again. A fault of the source or of the output is the status where one call of it failed, its last,
+-- and no other stream failed; ReportFault where one call of the report failed, its last. After any other status no call has
+-- failed. The source was asked for nothing more after a read that met the end of its input.
+abbrev pub HaveFailed : Status → Streams → Streams → Type 0
+HaveFailed status.ReadFault old new = HasFailed old.source new.source × HasGoneOn old.output new.output × HasGoneOn old.report new.report
+HaveFailed status.WriteFault old new = HasGoneOn old.source new.source × HasFailed old.output new.output × HasGoneOn old.report new.report
+HaveFailed status.ReportFault old new = HasFailed old.report new.report
+HaveFailed other old new = (HasMetEnd old.source new.source ⊎ HasGoneOn old.source new.source) × HasGoneOn old.output new.output × HasGoneOn old.report new.report
 
 -- With the status ReadFault output and report are as if the input had ended there, but for the closing line.
 pub record EndsThere (settings : Settings) (old new : Streams) : Type 0 where
@@ -119,7 +121,7 @@ pub record Headline (Untouched : Type 0) (words : List (List ℕ)) (old new : St
   -- else the command runs
   pub runs : (settings : Settings) → reading words ≡ Some settings → breaks settings ≡ None
       → HasRun settings old new result ⊎ (Untouched × HasNoMemory old.report new.report result)
-  pub faults : HaveRisen result old new
+  pub faults : HaveFailed result old new
   -- These follow. Where no stream failed, the run ended as its loop, by no fault. What a failed read leaves. And if no fault
   -- ended `recover` or `deep`, each captured block whose damage is within the bound (twice its bad rows plus its lost rows is at most 16),
   -- against any block that was mastered for its place, has given exactly the mastered sectors, whatever became of the others;

@@ -3,10 +3,8 @@
 ghost use Rattle.std.specs.Prelude.{◌≡◌, ◌<◌, ℕ, List, Some, IfOk, IfErr};
 ghost use Rattle.dvd_capture.specs.Header.{header_bytes};
 ghost use Rattle.dvd_layout.specs.Lengths.{initial_fault};
-ghost use Rattle.dvd_loop.specs.Streams.{HaveCauses, streams};
 ghost use Rattle.dvd_loop.specs.Turns.{HasReadCause};
-ghost use Rattle.dvd_ports.specs.Seen.{Seen};
-ghost use Rattle.dvd_top.specs.HeaderEnds.{AnswersHeader, ReadsHeader, end_in};
+ghost use Rattle.dvd_top.specs.HeaderEnds.{AnswersHeader, HeaderCounts, ReadsHeader};
 ghost use Rattle.dvd_top.specs.Inner.Opened.{EndsInHeader, HasBegun, HasOpened, IsWorded, IsWordedInitial};
 ghost use Rattle.dvd_top.specs.Opening.{IsHeaderOf, fault_byte, layer_byte, shape_number, zones_number};
 ghost use Rattle.dvd_capture.specs.Captured.{HasSize};
@@ -38,8 +36,7 @@ pub enum HeaderEnd {
 /// where a read failed.
 pub fn listed_layout<S: Source>(src: &mut S) -> HeaderEnd
     ensures header { ReadsHeader result (S.seen src.old) (S.seen src.new) }
-    ensures causes { (output report : Seen) → HaveCauses (end_in result) (end_in result)
-        (streams (S.seen src.old) output report) (streams (S.seen src.new) output report) }
+    ensures counts { HeaderCounts result (S.seen src.old) (S.seen src.new) }
 {
     let mut bytes = [0; 32];
     match read_whole(src, &mut bytes) {

@@ -2,7 +2,9 @@
 use Rattle.std.specs.Prelude.{◌≡◌, ℕ, ◌+◌, ◌-◌, ◌*◌, ◌<◌, ◌≤◌, ◌==◌, not, Bool, false, ◌&&◌, ◌||◌, if◌then◌else◌, zero, suc, List, ◌++◌, length, slice_index, Result, Ok, Err}
 use Rattle.std.specs.Io.KnownBytes.{Appends, Consumes, IsAtEnd}
 use Rattle.std.specs.declared.option.Option.{Option}
-use Rattle.dvd_ports.specs.Causes.{Rose}
+use Rattle.dvd_ports.specs.Causes.{HasGoneOn}
+use Rattle.dvd_ports.specs.Seen.{Seen}
+use Rattle.dvd_capture.specs.Fetching.{FetchCounts}
 use Rattle.dvd_ports.specs.Whole.{AppendsPrefix, ConsumesFewer}
 use Rattle.dvd_capture.specs.Listed.{IsBrokenAt, IsUnbroken, end_of, field_at, listed_size, marked_by, run_count}
 use Rattle.dvd_capture.specs.declared.capture.FetchAnswer.{FetchAnswer}
@@ -98,11 +100,10 @@ IsNoField held old new (Short count) = EndsInField held old new count
 IsNoField held old new ReadFault = ConsumesFewer old new 2
 IsNoField held old new (BadMarks at) = ⊥
 
--- a read failed only where the count of faults rose, and else it stays
-abbrev pub HasFetchCause : {A : Type 0} → Result A FetchAnswer → ℕ → ℕ → Type 0
-HasFetchCause (Ok value) old new = new ≡ old
-HasFetchCause (Err ReadFault) old new = Rose old new
-HasFetchCause (Err other) old new = new ≡ old
+-- the counts of the source: no read stopped, or they are those of why a part wasn't taken
+abbrev pub HasFetchCause : {A : Type 0} → Result A FetchAnswer → Seen → Seen → Type 0
+HasFetchCause (Ok value) old new = HasGoneOn old new
+HasFetchCause (Err answer) old new = FetchCounts answer old new
 
 -- how many runs start below place n: at each marked place with none marked before it
 unfoldable pub starts_below : (ℕ → Bool) → ℕ → ℕ

@@ -153,6 +153,9 @@ fn reads(
     if answer != wanted || source.reader.calls != calls || source.faults != faults {
         Err((case.0, call))?;
     }
+    if source.stopped != matches!(answer, Ok(0) | Err(Failed)) {
+        Err((case.0, call))?;
+    }
     if let Ok(count) = answer {
         got.extend_from_slice(&buf[..count])?;
     }
@@ -217,6 +220,7 @@ struct Wanted {
     calls: usize,
     flushes: usize,
     faults: u64,
+    stopped: bool,
 }
 
 impl Wanted {
@@ -231,6 +235,7 @@ impl Wanted {
         self.calls = self.calls.saturating_add(1);
         self.flushes = self.flushes.saturating_add(usize::from(taken > 0));
         self.faults = self.faults.saturating_add(u64::from(fault));
+        self.stopped = fault;
         self.held.extend_from_slice(&piece[..taken])?;
         Ok(if fault { Err(Failed) } else { Ok(taken) })
     }
@@ -241,6 +246,7 @@ impl Wanted {
             && sink.writer.calls == self.calls
             && sink.writer.flushes == self.flushes
             && sink.faults == self.faults
+            && sink.stopped == self.stopped
     }
 }
 
@@ -270,6 +276,7 @@ fn takes(alloc: Global, case: &Writes, kind: ErrorKind) -> Result<(), Fail> {
         calls: 0,
         flushes: 0,
         faults: 0,
+        stopped: false,
     };
     for _ in 0..6 {
         writes(&mut sink, &piece, &mut wanted, case)?;

@@ -18,7 +18,5 @@ returns-in-Ok-2-clause-fetches g c =
       short = search rules;
       fault = search rules;
       broken = search rules;
-      cause = search rules;
-      steady = search rules;
-      later = search rules;
+      counts = c.in-Ok.ensures.stops.full (omega (arith, c.if-count-size.false, size));
     }

@@ -1,7 +1,8 @@
 -- The proof of `fetch_listed` in src/listed.rt.
-use Rattle.std.proofs.Common.{◌≡◌, ◌∙◌, sym, arith}
+use Rattle.std.proofs.Common.{subst}
 use Rattle.dvd_capture.specs.Parts.{marks_rows}
-use Rattle.dvd_capture.specs.declared.capture.FetchAnswer.TheVariants.{Full, ReadFault}
+use Rattle.dvd_capture.specs.Fetching.{FetchCounts}
+use Rattle.dvd_capture.proofs.FetchedCounts.{fetched_after}
 use Rattle.dvd_capture.proofs.ListedUnit.{rows-ended, rows-failed, rows-unmarked, unit-broken, unit-end, unit-fault, unit-full, unit-short}
 use Rattle.dvd_capture.proofs.WorkParts.{marks-height, marks-width}
 use Rattle.dvd_capture.proofs.listed.fetch_listed.Goals as goal
@@ -14,15 +15,13 @@ returns-in-Full g c =
     let high = marks-height marks in
     let wide = marks-width marks in
     let fetched = c.fetch_marks.ensures.fetched captured.bytes (rows-unmarked _ _ _ _ captured) in
-    let same = c.fetch_rows.ensures.fetches.steady (λ fault. let no : Full ≡ ReadFault = sym c.in-Full.is ∙ fault in cc) in record {
+    let first = subst (λ a. FetchCounts a (g.S.Source.seen c.args.src.now) (g.S.Source.seen c.fetch_rows.new.src)) c.in-Full.is c.fetch_rows.ensures.fetches.counts in record {
       full = unit-full _ _ _ _ _ (marks_rows marks) captured high wide answer fetched;
       end = λ is. absurd (unit-end _ _ _ _ _ (marks_rows marks) captured high wide answer fetched is);
       short = λ count. unit-short _ _ _ _ _ (marks_rows marks) captured high wide answer count fetched;
       fault = unit-fault _ _ _ _ _ (marks_rows marks) captured high wide answer fetched;
       broken = λ at. unit-broken _ _ _ _ _ (marks_rows marks) captured high wide answer at fetched;
-      cause = λ is. omega (arith, same, c.fetch_marks.ensures.cause is);
-      steady = λ is. c.fetch_marks.ensures.steady is ∙ same;
-      later = omega (arith, same, c.fetch_marks.ensures.later);
+      counts = fetched_after answer _ _ _ first c.fetch_marks.ensures.counts;
     }
 
 pub returns-in_default : goal.returns-in_default
@@ -33,7 +32,5 @@ returns-in_default g c =
       short = λ count is. let ends = rows.short count is in (ends.0, rows-ended _ _ count ends.1);
       fault = λ is. rows-failed _ _ (rows.fault is);
       broken = λ at is. absurd (c.fetch_rows.ensures.never at is);
-      cause = rows.cause;
-      steady = rows.steady;
-      later = rows.later;
+      counts = rows.counts;
     }

@@ -1,5 +1,6 @@
 -- The proof of `fetch_runs` in src/listed.rt.
-use Rattle.std.proofs.Common.{◌∙◌, ◌+◌, ◌++◌}
+use Rattle.std.proofs.Common.{◌+◌, ◌++◌}
+use Rattle.dvd_ports.proofs.StopLemmas.{goes_on}
 use Rattle.dvd_capture.specs.Listed.{mark_of}
 use Rattle.dvd_capture.specs.Inner.Listing.{IsStopped}
 use Rattle.dvd_capture.specs.Parts.{marks_rows}
@@ -33,5 +34,5 @@ loop-i-preserved g c = record {
       let t = c.loop-i.invariant.taken before are in
       runs-behind before _ _ _ c.in_ok-number.number c.loop-i.i c.loop-i.end c.in_ok-end.end (c.loop-i.i + 1) _ _ t
       (c.in_ok-end.ensures.run (before ++ t.own) c.in_ok-number.number c.loop-i-test.true t.runs);
-  steady = c.in_ok-end.ensures.cause ∙ c.loop-i.invariant.steady;
+  steady = goes_on _ _ _ c.loop-i.invariant.steady c.in_ok-end.ensures.cause;
 }

@@ -1,5 +1,6 @@
 -- The proof of `write_runs` in src/listed.rt.
-use Rattle.std.proofs.Common.{◌∙◌, arith}
+use Rattle.std.proofs.Common.{arith}
+use Rattle.dvd_ports.proofs.StopLemmas.{goes_on}
 use Rattle.dvd_block.proofs.Recorded.{on_err}
 use Rattle.dvd_capture.specs.Listed.{mark_of}
 use Rattle.dvd_capture.specs.Parts.{marks_rows}
@@ -39,7 +40,7 @@ loop-run-preserved g c = record {
       (record { starts = c.next_place-start.ensures; ends = c.next_place-end.ensures })
       (omega (arith, c.loop-run-test.true, c.count_runs-number.ensures)) c.in_ok-write_run.ensures.written;
   within = c.next_place-end.ensures.within;
-  steady = c.in_ok-write_run.ensures.cause.steady ∙ c.loop-run.invariant.steady;
+  steady = goes_on _ _ _ c.loop-run.invariant.steady c.in_ok-write_run.ensures.cause.steady;
 }
 
 pub returns-clause-written : goal.returns-clause-written

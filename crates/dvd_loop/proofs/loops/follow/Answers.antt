@@ -8,7 +8,7 @@ use Rattle.dvd_loop.specs.declared.ends.LoopEnd.TheVariants.{Done}
 use Rattle.dvd_loop.specs.declared.ends.Turn.{Turn}
 use Rattle.dvd_loop.specs.declared.ends.Turn.TheVariants.{Good, Bad, Last}
 use Rattle.dvd_loop.proofs.Reached.{behind_ends, closing_ends, last_ends, opening_ends, reached_first, reached_next, turn_ends}
-use Rattle.dvd_loop.proofs.StreamLemmas.{causes_first}
+use Rattle.dvd_loop.proofs.StreamLemmas.{causes_first, done_on, go_on}
 use Rattle.dvd_loop.proofs.loops.follow.Goals as goal
 
 -- a turn of the units of one key is one of the units of an equal key
@@ -48,7 +48,7 @@ returns-in-Ok-clause-follows g c =
     let done = turn_as g.C.Turns.units _ _ i.before _ _ _ (Ok c.in-Ok.turn) i.same (c.in-Ok.ensures.turn i.before i.reached.number i.ready) in record {
       comes = last_ends _ _ _ _ _ _ i.reached _ _ c.in-Ok.turn done
           (omega (arith, i.last)) (c.is_last.ensures.yes c.if-is_last.true);
-      causes = causes_first _ _ _ Done Done i.causes done.causes;
+      causes = causes_first _ _ _ Done Done i.causes (done_on _ _ done.causes);
     }
 
 pub returns-in-Err-turn-clause-follows : goal.returns-in-Err-turn-clause-follows
@@ -76,7 +76,7 @@ loop-k-preserved g c =
           (omega (arith, i.last)) (c.is_last.ensures.no c.if-is_last.false) (c.loop-k.bad + c.bad-bad.result) (ap (λ n. c.loop-k.bad + n) c.bad-bad.ensures);
       few = omega (arith, i.few, c.bad-bad.ensures, bad-le c.in-Ok.turn);
       last = i.last;
-      causes = causes_first _ _ _ Done Done i.causes done.causes;
+      causes = go_on _ _ _ i.causes done.causes;
     }
 
 pub returns-in-Ok-close-clause-follows : goal.returns-in-Ok-close-clause-follows
@@ -92,7 +92,7 @@ returns-in-Ok-close-clause-follows g c =
           (subst (λ b. Comes (EndsBehind b c.loop-k.bad) mid new c.seek_end.result) (c.behind.ensures ∙ ap (λ key. (g.C.Turns.units key).behind) i.same)
           (c.seek_end.ensures.comes (g.K.Sink.seen c.close.new.out) (g.E.Sink.seen c.close.new.report)));
       causes = causes_first _ _ _ c.seek_end.result c.seek_end.result
-          (causes_first _ _ _ Done Done i.causes (c.in-Ok-close.ensures.causes (g.S.Source.seen c.loop-k.src)))
+          (go_on _ _ _ i.causes (c.in-Ok-close.ensures.causes (g.S.Source.seen c.loop-k.src)))
           (c.seek_end.ensures.causes (g.K.Sink.seen c.close.new.out) (g.E.Sink.seen c.close.new.report));
     }
 

@@ -1,7 +1,6 @@
 -- What each turn of the loop in `follow` keeps.
 use Rattle.std.proofs.Common.{◌≡◌, ◌≤◌, ℕ, List}
-use Rattle.dvd_loop.specs.Streams.{streams, HaveCauses}
-use Rattle.dvd_loop.specs.declared.ends.LoopEnd.TheVariants.{Done}
+use Rattle.dvd_loop.specs.Streams.{streams, HaveGoneOn}
 use Rattle.dvd_loop.proofs.Reached.{Reached}
 use Rattle.dvd_loop.proofs.loops.follow.Given as goal
 
@@ -16,5 +15,5 @@ invariant-loop-k g l =
       reached : Reached (g.C.Turns.units key) l.k before old now l.bad;
       few : l.bad ≤ l.k;
       last : l.k-end ≡ (g.C.Turns.units key).count;
-      causes : HaveCauses Done Done old now;
+      causes : HaveGoneOn old now;
     }

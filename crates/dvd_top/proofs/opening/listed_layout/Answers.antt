@@ -1,9 +1,9 @@
 -- The proof of `listed_layout` in src/opening.rt.
-use Rattle.std.proofs.Common.{◌≡◌, length, subst, refl, [], rules, arith}
+use Rattle.std.proofs.Common.{◌≡◌, length, subst, [], rules, arith}
 use Rattle.std.specs.Io.KnownBytes.{Consumes}
 use Rattle.std.proofs.lemmas.List.{take_all}
 use Rattle.dvd_loop.proofs.StreamLemmas.{left_of}
-use Rattle.dvd_top.proofs.Headers.{sound_causes}
+use Rattle.dvd_top.proofs.Headers.{whole_counts}
 use Rattle.dvd_top.proofs.opening.listed_layout.Goals as goal
 
 pub returns-in-Ok-2-clause-header : goal.returns-in-Ok-2-clause-header
@@ -20,11 +20,11 @@ returns-in-Ok-2-clause-header g c =
       answers = c.layout_in.ensures (left_of new.bytes).0;
     }
 
-pub returns-in-Ok-2-clause-causes : goal.returns-in-Ok-2-clause-causes
-returns-in-Ok-2-clause-causes g c = λ output report.
+pub returns-in-Ok-2-clause-counts : goal.returns-in-Ok-2-clause-counts
+returns-in-Ok-2-clause-counts g c =
     let bytes = c.read_whole.new.buf in
     let size : length bytes ≡ 32 = search rules in
-    sound_causes c.layout_in.result bytes [] size (c.layout_in.ensures []) _ _ (record { source = c.in-Ok.ensures.cause.steady; output = refl; report = refl })
+    whole_counts c.layout_in.result bytes [] size (c.layout_in.ensures []) _ _ (c.in-Ok.ensures.stops.full (omega (arith, size, c.if-count-lt32.false)))
 
 pub returns-in-Err-clause-header : goal.returns-in-Err-clause-header
 returns-in-Err-clause-header g c =

@@ -1,6 +1,10 @@
 -- The proof of `open_listed` in src/opening.rt.
-use Rattle.std.proofs.Common.{inl, inr, refl, subst}
-use Rattle.dvd_top.specs.HeaderEnds.{ReadsHeader}
+use Rattle.std.proofs.Common.{◌≡◌, inl, inr, refl, subst}
+use Rattle.dvd_ports.specs.Seen.{Seen}
+use Rattle.dvd_loop.specs.declared.ends.LoopEnd.TheVariants.{BadHeader, ReadFault, ShortHeader}
+use Rattle.dvd_loop.proofs.StreamLemmas.{reads_end, reads_on}
+use Rattle.dvd_top.specs.HeaderEnds.{HeaderCounts, ReadsHeader}
+use Rattle.dvd_top.specs.declared.opening.HeaderEnd.{HeaderEnd}
 use Rattle.dvd_top.proofs.opening.open_listed.Goals as goal
 
 pub returns-in-Found-clause-opened : goal.returns-in-Found-clause-opened
@@ -23,3 +27,19 @@ returns-in-BadHeader-clause-ended g c =
       told = header.told;
       ends = inr (header.answers.0, inl (c.in-BadHeader.at, header.answers.1 c.args.settings.now, refl));
     }
+
+-- the counts of the source by what was answered of its header
+counts_as : (found end : HeaderEnd) (old new : Seen) → found ≡ end → HeaderCounts found old new → HeaderCounts end old new
+counts_as found end old new is = subst (λ e. HeaderCounts e old new) is
+
+pub returns-in-Found-clause-causes : goal.returns-in-Found-clause-causes
+returns-in-Found-clause-causes g c = λ output report. reads_on _ _ output report (counts_as _ _ _ _ c.in-Found.is c.listed_layout.ensures.counts)
+
+pub returns-in-Short-clause-causes : goal.returns-in-Short-clause-causes
+returns-in-Short-clause-causes g c = λ output report. reads_end (ShortHeader c.in-Short.bytes) _ _ output report refl refl (counts_as _ _ _ _ c.in-Short.is c.listed_layout.ensures.counts)
+
+pub returns-in-BadHeader-clause-causes : goal.returns-in-BadHeader-clause-causes
+returns-in-BadHeader-clause-causes g c = λ output report. reads_end (BadHeader c.in-BadHeader.at) _ _ output report refl refl (counts_as _ _ _ _ c.in-BadHeader.is c.listed_layout.ensures.counts)
+
+pub returns-in-ReadFault-clause-causes : goal.returns-in-ReadFault-clause-causes
+returns-in-ReadFault-clause-causes g c = λ output report. reads_end ReadFault _ _ output report refl refl (counts_as _ _ _ _ c.in-ReadFault.is c.listed_layout.ensures.counts)

@@ -5,7 +5,7 @@ use Rattle.dvd_loop.specs.Streams.{streams}
 use Rattle.dvd_words.specs.Reading.{IsLawful, reading, takes_listed}
 use Rattle.dvd_words.specs.declared.settings.Command.TheVariants.{CdRead}
 use Rattle.dvd_words.specs.declared.settings.Settings.{Settings}
-use Rattle.dvd_top.specs.Headline.{HasRun, HaveRisen, breaks}
+use Rattle.dvd_top.specs.Headline.{HasRun, HaveFailed, breaks}
 use Rattle.dvd_top.specs.Lines.{closing_line}
 use Rattle.dvd_top.proofs.MasteredRuns.{mastered_back}
 use Rattle.dvd_top.proofs.RunEnds.{bound_kept, complete_run, ends_there_run, good_frames_kept, risen, sectors_kept}
@@ -40,7 +40,7 @@ returns-in-Ok-perform g c =
     let new = streams (g.S.Source.seen c.perform.new.src) (g.K.Sink.seen c.perform.new.out) (g.E.Sink.seen c.close.new.report) in
     let read : reading (map string_bytes c.args.words.now) ≡ Some c.in-Ok.settings = c.in-Ok.ensures.read in
     let run = begun g c c.in-Ok.settings read in
-    let counts : HaveRisen c.into.result old new = subst (λ s. HaveRisen s old new) (sym run.is_status) (risen run.within run.end old new run.same_end run.causes) in record {
+    let counts : HaveFailed c.into.result old new = subst (λ s. HaveFailed s old new) (sym run.is_status) (risen run.within run.end old new run.same_end run.causes) in record {
       usage = λ none. absurd (let no : None ≡ Some c.in-Ok.settings = sym none ∙ read in cc);
       setting = λ settings fault reads broken.
           absurd (let no : breaks settings ≡ None = subst (λ s. breaks s ≡ None) (same_settings _ _ _ read reads) c.in-Ok-perform.ensures.performed.lawful in let two : None ≡ Some fault = sym no ∙ broken in cc);

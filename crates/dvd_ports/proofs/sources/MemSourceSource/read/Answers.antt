@@ -12,5 +12,7 @@ returns-clause-call c = record {
       let bytes = c.self.inside.bytes.items in
       rw (← c.self.view_is) (gives_front (drop c.self.inside.at bytes) (drop (c.self.inside.at + c.min-count.result) bytes) c.args.buf.now _ _ c.self.inside.step
       (search rules) (grind (arith, common_steps)) (omega (arith, length-drop c.self.inside.at bytes)) (grind (arith, common_steps)) (sym (drop-drop c.min-count.result c.self.inside.at bytes)));
-  cause = search rules;
+  moved = search rules;
+  ended = λ none some. absurd (omega arith);
+  failed = search rules;
 }

@@ -1,6 +1,8 @@
 -- The proof of `read_frame` in src/commands/assemble.rt.
-use Rattle.std.proofs.Common.{inl, ap, sym, arith}
-use Rattle.dvd_loop.specs.declared.ends.LoopEnd.TheVariants.{Short}
+use Rattle.std.proofs.Common.{inl, refl, ap, sym, arith}
+use Rattle.dvd_loop.specs.declared.ends.LoopEnd.TheVariants.{ReadFault, Short}
+use Rattle.dvd_loop.proofs.StreamLemmas.{reads_end, reads_on}
+use Rattle.dvd_top.proofs.SourceCounts.{counts_of}
 use Rattle.dvd_top.proofs.commands.assemble.read_frame.Goals as goal
 
 pub returns-in-Short-clause-short : goal.returns-in-Short-clause-short
@@ -17,3 +19,15 @@ returns-in-BadMarks-clause-short g c = absurd (c.fetch_frame.ensures.no_rule c.i
 
 pub returns-in-BadMarks-clause-causes : goal.returns-in-BadMarks-clause-causes
 returns-in-BadMarks-clause-causes g c = absurd (c.fetch_frame.ensures.no_rule c.in-BadMarks.at c.in-BadMarks.is)
+
+pub returns-in-Full-clause-causes : goal.returns-in-Full-clause-causes
+returns-in-Full-clause-causes g c = λ output report. reads_on _ _ output report (counts_of _ _ _ _ c.in-Full.is c.fetch_frame.ensures.counts)
+
+pub returns-in-End-clause-causes : goal.returns-in-End-clause-causes
+returns-in-End-clause-causes g c = λ output report. reads_end (Short c.args.k 0) _ _ output report refl refl (counts_of _ _ _ _ c.in-End.is c.fetch_frame.ensures.counts)
+
+pub returns-in-Short-clause-causes : goal.returns-in-Short-clause-causes
+returns-in-Short-clause-causes g c = λ output report. reads_end (Short c.args.k c.in-Short.bytes) _ _ output report refl refl (counts_of _ _ _ _ c.in-Short.is c.fetch_frame.ensures.counts)
+
+pub returns-in-ReadFault-clause-causes : goal.returns-in-ReadFault-clause-causes
+returns-in-ReadFault-clause-causes g c = λ output report. reads_end ReadFault _ _ output report refl refl (counts_of _ _ _ _ c.in-ReadFault.is c.fetch_frame.ensures.counts)

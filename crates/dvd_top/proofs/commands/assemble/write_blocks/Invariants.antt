@@ -1,6 +1,7 @@
 -- What each turn of the loop in `write_blocks` keeps.
-use Rattle.std.proofs.Common.{◌≡◌, take}
+use Rattle.std.proofs.Common.{take}
 use Rattle.std.specs.Io.KnownBytes.{Appends}
+use Rattle.dvd_ports.specs.Causes.{HasGoneOn}
 use Rattle.dvd_assemble.specs.Shelves.{tables_of}
 use Rattle.dvd_top.specs.Commands.Assemble.{text_of}
 use Rattle.dvd_top.proofs.commands.assemble.write_blocks.Given as goal
@@ -8,5 +9,5 @@ use Rattle.dvd_top.proofs.commands.assemble.write_blocks.Given as goal
 abbrev pub invariant-loop-k : goal.invariant-loop-k
 invariant-loop-k g l = record {
   bytes : Appends (g.K.Sink.seen l.fn.out).bytes (g.K.Sink.seen l.out).bytes (text_of (take l.k (tables_of l.shelf)));
-  steady : (g.K.Sink.seen l.out).faults ≡ (g.K.Sink.seen l.fn.out).faults;
+  steady : HasGoneOn (g.K.Sink.seen l.fn.out) (g.K.Sink.seen l.out);
 }

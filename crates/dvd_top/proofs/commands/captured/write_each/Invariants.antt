@@ -2,6 +2,7 @@
 use Rattle.std.proofs.Common.{◌≡◌, ℕ, List, ◌++◌}
 use Rattle.std.specs.Io.KnownBytes.{Appends}
 use Rattle.std.specs.Slice.Iter.{chunks_rest, chunks_size}
+use Rattle.dvd_ports.specs.Causes.{HasGoneOn}
 use Rattle.dvd_top.proofs.commands.captured.write_each.Given as goal
 
 abbrev pub invariant-loop-sector : goal.invariant-loop-sector
@@ -9,5 +10,5 @@ invariant-loop-sector g l =
     (goal.iterator-loop-sector g).can_next l.sector-iterator
     × (goal.iterator-loop-sector g).is_finite l.sector-iterator
     × (chunks_size l.sector-iterator ≡ 2048)
-    × ((g.K.Sink.seen l.out).faults ≡ (g.K.Sink.seen l.fn.out).faults)
+    × HasGoneOn (g.K.Sink.seen l.fn.out) (g.K.Sink.seen l.out)
     × ((done : List ℕ) × Appends (g.K.Sink.seen l.fn.out).bytes (g.K.Sink.seen l.out).bytes done × (done ++ chunks_rest l.sector-iterator ≡ l.fn.sectors))

@@ -1,6 +1,9 @@
 -- The proof of `fetch_capture` in src/commands/merge.rt.
-use Rattle.std.proofs.Common.{◌<◌, subst, arith}
+use Rattle.std.proofs.Common.{◌<◌, refl, subst, arith}
 use Rattle.dvd_capture.proofs.Fetching.{sized-block}
+use Rattle.dvd_loop.specs.declared.ends.LoopEnd.TheVariants.{BadMarks, ReadFault, Short}
+use Rattle.dvd_loop.proofs.StreamLemmas.{reads_end, reads_on}
+use Rattle.dvd_top.proofs.SourceCounts.{counts_of}
 use Rattle.dvd_top.proofs.MergeCaptures.{capture_failed, capture_none, capture_short, held-few}
 use Rattle.dvd_top.proofs.commands.merge.fetch_capture.Goals as goal
 
@@ -24,3 +27,18 @@ returns-in-ReadFault-clause-short g c =
 
 pub returns-in-BadMarks-clause-short : goal.returns-in-BadMarks-clause-short
 returns-in-BadMarks-clause-short g c = absurd (c.requires.form (c.fetch.ensures.fetches.broken c.in-BadMarks.at c.in-BadMarks.is).listed)
+
+pub returns-in-Full-clause-causes : goal.returns-in-Full-clause-causes
+returns-in-Full-clause-causes g c = λ output report. reads_on _ _ output report (counts_of _ _ _ _ c.in-Full.is c.fetch.ensures.fetches.counts)
+
+pub returns-in-End-clause-causes : goal.returns-in-End-clause-causes
+returns-in-End-clause-causes g c = λ output report. reads_end (Short c.args.k _) _ _ output report refl refl (counts_of _ _ _ _ c.in-End.is c.fetch.ensures.fetches.counts)
+
+pub returns-in-Short-clause-causes : goal.returns-in-Short-clause-causes
+returns-in-Short-clause-causes g c = λ output report. reads_end (Short c.args.k _) _ _ output report refl refl (counts_of _ _ _ _ c.in-Short.is c.fetch.ensures.fetches.counts)
+
+pub returns-in-ReadFault-clause-causes : goal.returns-in-ReadFault-clause-causes
+returns-in-ReadFault-clause-causes g c = λ output report. reads_end ReadFault _ _ output report refl refl (counts_of _ _ _ _ c.in-ReadFault.is c.fetch.ensures.fetches.counts)
+
+pub returns-in-BadMarks-clause-causes : goal.returns-in-BadMarks-clause-causes
+returns-in-BadMarks-clause-causes g c = λ output report. reads_end (BadMarks c.args.k c.in-BadMarks.at) _ _ output report refl refl (counts_of _ _ _ _ c.in-BadMarks.is c.fetch.ensures.fetches.counts)

@@ -1,5 +1,5 @@
 -- What each turn of the loop in `take_captures` keeps.
-use Rattle.std.proofs.Common.{◌≡◌}
+use Rattle.dvd_ports.specs.Causes.{HasGoneOn}
 use Rattle.dvd_merge.specs.Merges.{table_of}
 use Rattle.dvd_top.specs.Inner.Performing.{AreTaken}
 use Rattle.dvd_top.proofs.commands.merge.take_captures.Given as goal
@@ -7,5 +7,5 @@ use Rattle.dvd_top.proofs.commands.merge.take_captures.Given as goal
 abbrev pub invariant-loop-c : goal.invariant-loop-c
 invariant-loop-c g l = record {
   taken : AreTaken l.c l.form (g.S.Source.seen l.fn.src).bytes (g.S.Source.seen l.src).bytes (table_of l.merge);
-  steady : (g.S.Source.seen l.src).faults ≡ (g.S.Source.seen l.fn.src).faults;
+  steady : HasGoneOn (g.S.Source.seen l.fn.src) (g.S.Source.seen l.src);
 }

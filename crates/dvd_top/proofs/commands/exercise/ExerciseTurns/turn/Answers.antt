@@ -3,7 +3,7 @@ use Rattle.std.proofs.Common.{◌∙◌, ◌+◌, [], ◌∷◌, length-append, 
 use Rattle.dvd_block.specs.Buffers.{block_rows, piece_bytes}
 use Rattle.dvd_exercise.specs.Generator.{state_of}
 use Rattle.dvd_layout.specs.declared.layout.Zones.TheVariants.{DataOnly}
-use Rattle.dvd_loop.proofs.StreamLemmas.{stays}
+use Rattle.dvd_loop.proofs.StreamLemmas.{all_unmoved, stays}
 use Rattle.dvd_top.specs.Inner.Exercising.{IsBehind}
 use Rattle.dvd_top.proofs.ExerciseBlocks.{length-data_plan}
 use Rattle.dvd_top.proofs.ExerciseTurns.{no_cause, turn_behind}
@@ -53,6 +53,6 @@ returns-clause-turn g c = λ before number ready.
       steps = [];
       unit = record { whole = refl; does = (refl, refl) };
       moved = stays _;
-      causes = record { source = refl; output = refl; report = refl };
+      causes = all_unmoved _;
       next = (subst (λ n. IsBehind e.seed n new_state counts new_work) (sym (length-append before ([] ∷ []) ∙ ap (λ n. n + 1) number)) next, ready.1, ready.2);
     }
