@@ -12,7 +12,7 @@ use Rattle.dvd_ports.specs.Causes.{Rose}
 use Rattle.dvd_top.specs.Bound.{IsMasteredStream}
 use Rattle.dvd_top.specs.Commands.{meaning}
 use Rattle.dvd_top.specs.Commands.Recover.{recover_units}
-use Rattle.dvd_top.specs.Headline.{GoesOver, HasRun, HaveRisen, IsLoop, IsRun}
+use Rattle.dvd_top.specs.Headline.{GoesOver, HasRun, HaveFailed, IsLoop, IsRun}
 use Rattle.dvd_top.specs.Lines.{closing_line}
 use Rattle.dvd_top.specs.Opening.{Opens}
 use Rattle.dvd_top.specs.Statuses.{status_of}
@@ -61,7 +61,7 @@ run_back settings image stream end a is plain m c none =
     )
 
 -- So the status is Done where no count rose, and no more than the image was written and the closing line told.
-pub mastered_back : (settings : Settings) (old new : Streams) (result : Status) → HasRun settings old new result → HaveRisen result old new
+pub mastered_back : (settings : Settings) (old new : Streams) (result : Status) → HasRun settings old new result → HaveFailed result old new
     → (image stream : List ℕ) → settings.command ≡ Recover → settings.form ≡ Plain → IsMasteredStream settings image stream → old.source.bytes ≡ Some stream
     → (Rose old.source.faults new.source.faults → ⊥) → (Rose old.output.faults new.output.faults → ⊥) → (Rose old.report.faults new.report.faults → ⊥)
     → (result ≡ status.Done) × HaveMoved old new stream image (codes "done\n")
