@@ -34,6 +34,7 @@
 //! left 32 192    they leave what is kept, where blocks 32 to 223 are destroyed one after the other, from the first on
 //! nothing        to an output that keeps nothing they end with Done
 //! meet 2         two workers meet in two passes
+//! asks 222h      the gate is asked for each of three pieces twice, and for no other: a digit a piece, that of piece 0 the last
 //! loops          the loops of `master` and `recover` make them of those in common, and those of them
 //! ```
 use crate::fixture::{
@@ -41,7 +42,7 @@ use crate::fixture::{
 };
 use crate::loops::leave_both;
 use crate::making::{Numbers, numbers, take};
-use crate::workers::meet;
+use crate::workers::{ask, meet};
 use dvd_par::OpenGate;
 use dvd_top::Status;
 use sha2::{Digest, Sha256};
@@ -185,6 +186,7 @@ fn holds<R: AllocGlobal + Threads + Sync>(
         "left" => answer_in_turn(rt, &numbers(rest), memory),
         "nothing" => to_nothing(rt, memory),
         "meet" => meet(rt, &numbers(rest), memory),
+        "asks" => ask(rt, &numbers(rest), memory),
         "loops" => leave_both(rt, memory),
         _ => memory.holds(verb, rest),
     }

@@ -1,4 +1,5 @@
-//! Several workers on one run: what comes out is that of one worker, and two workers work at the same time.
+//! Several workers on one run: what comes out is that of one worker, two workers work at the same time, and each of three has its
+//! piece of each pass.
 use crate::fixture::{ALL_SOUND, run_through};
 use crate::making::Numbers;
 use crate::script::{Held, Memory, follow};
@@ -88,6 +89,39 @@ fn meet_once<R: AllocGlobal + Threads + Sync>(rt: &R, passes: u64, memory: &mut 
     (status == Status::Done) & gate.is_met(passes)
 }
 
+// A gate that counts and lets nobody wait.
+#[derive(Drop)]
+struct Counting {
+    digits: AtomicU64, // calls of each piece: a hexadecimal digit each, that of piece 0 the lowest
+    others: AtomicU64, // calls of a piece that can't be
+}
+
+impl Gate for Counting {
+    fn pass(&self, piece: usize) {
+        if piece < 16 {
+            self.digits.fetch_add(1 << (4 * piece), Ordering::SeqCst);
+        } else {
+            self.others.fetch_add(1, Ordering::SeqCst);
+        }
+    }
+}
+
+/// In one run the gate is asked for each piece as often as its digit says, and for no other.
+pub fn ask<R: AllocGlobal + Threads + Sync>(rt: &R, n: &Numbers, memory: &mut Memory) -> bool {
+    let gate = Counting {
+        digits: AtomicU64::new(0),
+        others: AtomicU64::new(0),
+    };
+    let Some(words) = memory.words.get(0) else {
+        return false;
+    };
+    let bench = &mut memory.bench;
+    let status = run_through(rt, &gate, words, &memory.bytes, &ALL_SOUND, bench);
+    (status == Status::Done)
+        & (gate.digits.load(Ordering::SeqCst) == n[0] as u64)
+        & (gate.others.load(Ordering::SeqCst) == 0)
+}
+
 const WORKERS: &str = "
 # Two workers work at the same time.
 over; image 16; run block master --sectors 16; case
@@ -101,6 +135,19 @@ meet 2
 over; case
 words exercise --seed 1 --blocks 1 --workers 2
 meet 4
+
+# Each of three workers has one piece of each pass.
+over; image 16; run block master --sectors 16; case
+words recover --sectors 16 --workers 3
+asks 222h
+words survey --sectors 16 --workers 3
+asks 222h
+over; bytes 32768 00h; case
+words master --sectors 16 --workers 3
+asks 222h
+over; case
+words exercise --seed 1 --blocks 1 --workers 3
+asks 444h
 
 # Three blocks: five bytes of each row of the first are wrong, more than can be fixed of six rows of the second, and of twenty rows of
 # the third.
