@@ -1,5 +1,5 @@
 -- The rows of a received block that have a PI error, by the answers to them.
-use Rattle.std.proofs.Common.{◌≡◌, ◌≢◌, ◌∙◌, ℕ, ◌⊎◌, ◌↔◌, ◌+◌, ◌<◌, ◌≤◌, Bool, true, false, cond, not, ◌||◌, nat_lt, List, [], ◌∷◌, length, map, get_or, take, All, count_by, inl, inr, refl, sym, ap, subst, arith, Some, None, is_none, IfSome}
+use Rattle.std.proofs.Common.{◌≡◌, ◌≢◌, ◌∙◌, ℕ, ◌⊎◌, ◌↔◌, ◌+◌, ◌<◌, ◌≤◌, Bool, true, false, cond, not, ◌||◌, nat_lt, List, [], ◌∷◌, length, get_or, take, All, count_by, inl, inr, refl, sym, ap, subst, arith, Some, None, is_none, IfSome}
 use mir.Val.{bool_byte}
 use Rattle.std.specs.List.{list_any, range_with_len}
 use Rattle.std.specs.declared.option.Option.{Option}

@@ -1,5 +1,5 @@
 -- The proof of `put_column` in src/rounds.rt.
-use Rattle.std.proofs.Common.{◌≡◌, ◌∙◌, ◌<◌, false, length, map, set, refl, sym, ap, arith}
+use Rattle.std.proofs.Common.{◌∙◌, ◌<◌, false, length, map, set, refl, sym, ap, arith}
 use Rattle.std.proofs.lemmas.List.{length-map, map-set}
 use Rattle.dvd_capture.specs.Parts.{marks_of_row}
 use Rattle.dvd_capture.proofs.MarkLists.{length-line, line-marks}

@@ -1,5 +1,5 @@
 -- The proof of `read_block` in src/rounds.rt.
-use Rattle.std.proofs.Common.{◌≡◌, ◌∙◌, ℕ, ◌<◌, Bool, List, [], length, set, sym, ap, subst, arith}
+use Rattle.std.proofs.Common.{◌≡◌, ◌∙◌, ℕ, Bool, List, [], length, sym, ap, arith}
 use Rattle.std.proofs.lemmas.List.{ext_get_or, length-map, length-set, map-set}
 use Rattle.dvd_capture.specs.Answers.{marks_line}
 use Rattle.dvd_capture.specs.Parts.{marks_of_row}
