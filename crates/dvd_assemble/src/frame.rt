@@ -3,7 +3,7 @@ ghost use Rattle.std.specs.Prelude.{◌≡◌, ◌≢◌, ℕ, ◌<◌, false, l
 ghost use Rattle.dvd_block.specs.Product.{line};
 ghost use Rattle.dvd_capture.specs.Answers.{marks_line};
 ghost use Rattle.dvd_capture.specs.Captured.{HasSize, marks_in, record_size};
-ghost use Rattle.dvd_capture.specs.MarkBits.{mark_at, marks_of};
+ghost use Rattle.dvd_capture.specs.Parts.{marks_of_row};
 ghost use Rattle.dvd_capture.specs.declared.capture.FetchAnswer.TheVariants.{Full, End, Short, ReadFault, BadMarks};
 ghost use Rattle.dvd_capture.specs.Fetching.{FetchCounts};
 ghost use Rattle.dvd_merge.specs.Merges.{table_of};
@@ -13,7 +13,7 @@ ghost use Rattle.dvd_assemble.specs.Assembled.{with_frame};
 ghost use Rattle.dvd_assemble.specs.Works.{captured};
 
 use dvd_block::row_of_record;
-use dvd_capture::{FetchAnswer, Form, cut_off};
+use dvd_capture::{FetchAnswer, Form, RowMarks, cut_off};
 use dvd_merge::Merge;
 use dvd_ports::{Failed, Source, read_whole};
 
@@ -29,7 +29,7 @@ const MOST: usize = 13 * (ROW + BITS);
 #[derive(Clone, Copy, Debug, PartialEq, Eq)]
 pub struct FrameWork {
     rows: [[u8; ROW]; 13],
-    marks: [[u8; BITS]; 13],
+    marks: [RowMarks; 13],
 }
 
 impl FrameWork {
@@ -42,7 +42,7 @@ impl FrameWork {
     {
         FrameWork {
             rows: [[0; ROW]; 13],
-            marks: [[0; BITS]; 13],
+            marks: [RowMarks::none(); 13],
         }
     }
 
@@ -70,7 +70,7 @@ impl FrameWork {
         requires { q < 13 }
         ensures { out.new ≡ marks_line (frame_marks self.now) q }
     {
-        read_bits(&self.marks[q], out);
+        self.marks[q].unpack(out);
     }
 
     // Joins the frame into a block as its recording frame `f`.
@@ -96,42 +96,25 @@ fn record_size(form: Form) -> usize
     }
 }
 
-// Sets a row and its mark bits to those in the bytes of a recorded row.
-fn put_row(row: &mut [u8; ROW], bits: &mut [u8; BITS], form: Form, bytes: &[u8])
+// Sets a row and its marks to those in the bytes of a recorded row.
+fn put_row(row: &mut [u8; ROW], marks: &mut RowMarks, form: Form, bytes: &[u8])
     requires { length bytes.now ≡ record_size form }
     ensures row { row.new ≡ take 182 bytes.now }
-    ensures marks { marks_of bits.new ≡ marks_in form bytes.now }
+    ensures marks { marks_of_row marks.new ≡ marks_in form bytes.now }
 {
     row.copy_from_slice(&bytes[..ROW]);
-    put_bits(bits, form, bytes);
+    put_marks(marks, form, bytes);
 }
 
-// Sets the mark bits of a row to those in a recorded row.
-fn put_bits(bits: &mut [u8; BITS], form: Form, row: &[u8])
+// Sets the marks of a row to those in a recorded row.
+fn put_marks(marks: &mut RowMarks, form: Form, row: &[u8])
     requires { length row.now ≡ record_size form }
-    ensures { marks_of bits.new ≡ marks_in form row.now }
+    ensures { marks_of_row marks.new ≡ marks_in form row.now }
 {
     match form {
-        Form::Plain | Form::Listed => *bits = [0; BITS],
-        Form::Marked => bits.copy_from_slice(&row[ROW..]),
+        Form::Plain | Form::Listed => *marks = RowMarks::none(),
+        Form::Marked => marks.copy_from_bits(&row[ROW..]),
     }
-}
-
-// Writes the marks of a row by its bits.
-fn read_bits(bits: &[u8; BITS], marks: &mut [bool; ROW])
-    ensures { marks.new ≡ marks_of bits.now }
-{
-    for (j, mark) in marks.iter_mut().enumerate() {
-        *mark = is_marked(bits, j);
-    }
-}
-
-// The mark of place `j`: the most significant bit of a byte is that of its first place.
-fn is_marked(bits: &[u8; BITS], j: usize) -> bool
-    requires { j < 182 }
-    ensures { result ≡ mark_at bits.now j }
-{
-    bits[j / 8] >> (7 - j % 8) & 1 == 1
 }
 
 /// Reads one recording frame, by as many calls as it takes: 2,366 bytes in the plain form, 2,665 in the marked form.

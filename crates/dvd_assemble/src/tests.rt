@@ -121,3 +121,26 @@ fn frames_are_fetched_whole(rt: HostRuntime) -> Result<(), Fail> {
     assert!(rt; frame == FrameWork::new());
     Ok(())
 }
+
+// A frame in the marked form of zeros, but for one byte.
+fn frame_with(alloc: Global, at: usize, byte: u8) -> Result<FrameWork, Fail> {
+    let mut bytes = vec![in alloc; 0; 2665]?;
+    if let Some(place) = bytes.get_mut(at) {
+        *place = byte;
+    }
+    let mut frame = FrameWork::new();
+    let mut source = MemSource::new(bytes, 1000, Vec::new(alloc));
+    match fetch_frame(&mut source, Form::Marked, &mut frame) {
+        FetchAnswer::Full => Ok(frame),
+        answer => Err(answer.into()),
+    }
+}
+
+#[test]
+fn frames_are_alike_in_rows_and_marks(rt: HostRuntime) -> Result<(), Fail> {
+    let row = frame_with(rt.alloc(), 0, 1)?;
+    let mark = frame_with(rt.alloc(), 182, 0x80)?;
+    assert!(rt; frame_with(rt.alloc(), 0, 0)? == FrameWork::new());
+    assert!(rt; row != FrameWork::new() && mark != FrameWork::new() && row != mark);
+    Ok(())
+}

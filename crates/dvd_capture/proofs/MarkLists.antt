@@ -1,12 +1,13 @@
 -- Marks as bits and as lists.
-use Rattle.std.proofs.Common.{◌≡◌, ◌≢◌, ◌⊎◌, ◌∙◌, ℕ, ◌-◌, ◌/◌, ◌%◌, ◌<◌, ◌==◌, Bool, true, false, List, [], length, map, set, replicate, slice_index, get_or, inl, inr, refl, sym, ap, subst, arith}
+use Rattle.std.proofs.Common.{◌≡◌, ◌≢◌, ◌⊎◌, ◌∙◌, ℕ, zero, suc, ◌-◌, ◌/◌, ◌%◌, ◌<◌, ◌==◌, Bool, true, false, List, [], ◌∷◌, length, map, set, replicate, slice_index, get_or, inl, inr, refl, sym, ap, subst, arith}
 use Rattle.std.specs.Int.{bit_at}
 use Rattle.std.proofs.lemmas.Bool.Decides.{eqb_tells}
 use Rattle.std.proofs.lemmas.List.{get_or-map, get_or-set_same, get_or-set_other, length-set}
 use Rattle.std.proofs.lemmas.List.FromFn.{length-map-range_with_len, get_or-map-range_with_len}
-use Rattle.dvd_block.specs.Product.{line}
 use Rattle.dvd_capture.specs.Answers.{marks_line}
 use Rattle.dvd_capture.specs.MarkBits.{mark_at, marks_of}
+use Rattle.dvd_capture.specs.Parts.{marks_of_row}
+use Rattle.dvd_capture.specs.declared.row_marks.RowMarks.{RowMarks}
 use Rattle.dvd_capture.proofs.Mapped.{mapped}
 
 -- a row of marks has 182, one for each byte of a row
@@ -29,9 +30,10 @@ pub zero_marks : marks_of (replicate 23 0) ≡ replicate 182 false
 unfolding marks_of
 zero_marks = refl
 
--- and rows of no bits are rows without a mark
-pub no_marks : map marks_of (replicate 208 (replicate 23 0)) ≡ replicate 208 (replicate 182 false)
-no_marks = rw zero_marks refl
+-- and rows of no marks are rows without a mark
+pub no_marks : (n : ℕ) (none : RowMarks) → marks_of_row none ≡ replicate 182 false → map marks_of_row (replicate n none) ≡ replicate n (replicate 182 false)
+no_marks zero none is = refl
+no_marks (suc n) none is = rw is (ap (λ rows. replicate 182 false ∷ rows) (no_marks n none is))
 
 -- a bit that is set or cleared is a mark that is set or cleared
 pub set-marks : (bytes : List ℕ) (j byte : ℕ) (mark : Bool) → length bytes ≡ 23 → j < 182 → (bit_at byte (7 - j % 8) == 1) ≡ mark
@@ -67,5 +69,11 @@ set-marks bytes j byte mark size below same others =
           ∙ sym (get_or-set_other (marks_of bytes) j k mark false is.1 ∙ mark-marks_of bytes k inside)
 
 -- the marks of row i
-pub line-marks : (rows : List (List ℕ)) (i : ℕ) → i < length rows → marks_line (map marks_of rows) i ≡ marks_of (line rows i)
-line-marks rows i within = get_or-map marks_of rows i [] [] within
+pub line-marks : (rows : List RowMarks) (i : ℕ) (default : RowMarks) → i < length rows → marks_line (map marks_of_row rows) i ≡ marks_of_row (get_or rows i default)
+line-marks rows i default within = get_or-map marks_of_row rows i default [] within
+
+-- and there are 182
+pub length-line : (rows : List RowMarks) (i : ℕ) → i < length rows → length (marks_line (map marks_of_row rows) i) ≡ 182
+length-line rows i within =
+    let default : RowMarks = record { bits = [] } in
+    ap length (line-marks rows i default within) ∙ length-marks_of (get_or rows i default).bits

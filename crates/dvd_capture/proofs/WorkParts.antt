@@ -3,15 +3,14 @@ use Rattle.std.proofs.Common.{◌≡◌, ◌∙◌, ℕ, ◌<◌, false, List, [
 use Rattle.std.proofs.lemmas.List.{get_or-map, length-map}
 use Rattle.dvd_block.specs.Product.{place}
 use Rattle.dvd_capture.specs.Answers.{marks_line}
-use Rattle.dvd_capture.specs.MarkBits.{marks_of}
-use Rattle.dvd_capture.specs.Parts.{column_answers, column_words, marks_rows, received_rows}
+use Rattle.dvd_capture.specs.Parts.{column_answers, column_words, marks_of_row, marks_rows, received_rows}
 use Rattle.dvd_capture.specs.TwoPass.{from_columns}
 use Rattle.dvd_capture.specs.declared.parts.ColumnAnswer.{ColumnAnswer}
 use Rattle.dvd_capture.specs.declared.parts.Columns.{Columns}
 use Rattle.dvd_capture.specs.declared.parts.Marks.{Marks}
 use Rattle.dvd_capture.specs.declared.parts.Received.{Received}
 use Rattle.dvd_capture.proofs.Columns.{from_columns-line}
-use Rattle.dvd_capture.proofs.MarkLists.{length-marks_of, line-marks}
+use Rattle.dvd_capture.proofs.MarkLists.{length-line}
 
 -- there are 208 rows
 pub rows-height : (received : Received) → length (received_rows received) ≡ 208
@@ -19,12 +18,11 @@ rows-height received = sym received.rows.ok.0 ∙ received.size
 
 -- and as many rows of marks
 pub marks-height : (marks : Marks) → length (marks_rows marks) ≡ 208
-marks-height marks = length-map marks.rows.items marks_of ∙ sym marks.rows.ok.0 ∙ marks.size
+marks-height marks = length-map marks.rows.items marks_of_row ∙ sym marks.rows.ok.0 ∙ marks.size
 
 -- each of these has 182 marks
 pub marks-width : (marks : Marks) (i : ℕ) → i < 208 → length (marks_line (marks_rows marks) i) ≡ 182
-marks-width marks i below =
-    ap length (line-marks marks.rows.items i (omega (arith, marks.size, marks.rows.ok.0))) ∙ length-marks_of (get_or marks.rows.items i [])
+marks-width marks i below = length-line marks.rows.items i (omega (arith, marks.size, marks.rows.ok.0))
 
 -- byte i of column j stands in row i of the block at place j
 pub block-place : (columns : Columns) (i j : ℕ) → i < 208 → j < 182

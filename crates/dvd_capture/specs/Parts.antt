@@ -8,14 +8,19 @@ use Rattle.dvd_capture.specs.declared.parts.Answers.{Answers}
 use Rattle.dvd_capture.specs.declared.parts.ColumnAnswer.{ColumnAnswer}
 use Rattle.dvd_capture.specs.declared.parts.Columns.{Columns}
 use Rattle.dvd_capture.specs.declared.parts.Sectors.{Sectors}
+use Rattle.dvd_capture.specs.declared.row_marks.RowMarks.{RowMarks}
 
 -- the 208 received rows of 182 bytes
 abbrev pub received_rows : Received → List (List ℕ)
 received_rows received = received.rows.items
 
--- the marks of these rows
+-- the marks of one row
+abbrev pub marks_of_row : RowMarks → List Bool
+marks_of_row marks = marks_of marks.bits
+
+-- the marks of the received rows
 abbrev pub marks_rows : Marks → List (List Bool)
-marks_rows marks = map marks_of marks.rows.items
+marks_rows marks = map marks_of_row marks.rows.items
 
 -- the 208 row answers
 abbrev pub answer_rows : Answers → List AnswerRow

@@ -9,6 +9,7 @@ pub mod laws; // what holds of every captured block, as contracts alone
 mod listed; // blocks in the listed form, written and read
 pub mod parts; // the buffers of a captured block, lent one by one
 mod places; // the marks of a block in the order of recording
+mod row_marks; // the marks of one row
 mod stage; // how far a captured block is
 mod work; // a captured block with all that is found of it
 
@@ -16,9 +17,12 @@ pub use capture::{FetchAnswer, cut_off, fetch};
 pub use form::Form;
 pub use header::{Header, HeaderFault};
 pub use listed::write_listed;
+pub use row_marks::RowMarks;
 pub use stage::Stage;
 pub use work::Work;
 
+#[cfg(test)]
+mod equality_tests;
 #[cfg(test)]
 mod listed_tests;
 #[cfg(test)]

@@ -1,11 +1,11 @@
 //! The buffers of a captured block. Whoever decodes several rows or columns at once lends them one by one.
-ghost use Rattle.std.specs.Prelude.{◌≡◌, ◌↔◌, ℕ, ◌<◌, ◌≤◌, ◌≢◌, ◌==◌, Bool, false, List, [], length, take, vec_len, IfOk, IsTrue, replicate, slice_index_or, slice_set, map};
+ghost use Rattle.std.specs.Prelude.{◌≡◌, ◌↔◌, ◌<◌, ◌≤◌, false, length, take, vec_len, IfOk, IsTrue, replicate, slice_index_or, slice_set};
 ghost use Rattle.std.specs.List.{flat_map};
-ghost use Rattle.std.specs.declared.option.Option.TheVariants.{None, Some};
-ghost use Rattle.std.specs.Int.{bit_at};
+ghost use Rattle.std.specs.declared.option.Option.TheVariants.{None};
 ghost use Rattle.dvd_block.specs.Product.{line};
-ghost use Rattle.dvd_capture.specs.MarkBits.{mark_at, marks_of};
+ghost use Rattle.dvd_capture.specs.MarkBits.{marks_of};
 
+use crate::row_marks::RowMarks;
 use dvd_ports::NoMemory;
 use rs_decode::Fix;
 use rs_lanes::Row;
@@ -22,7 +22,7 @@ pub struct Received {
 /// They are bits, as in the marked form, and are spread out where they are used.
 #[derive(Drop)]
 pub struct Marks {
-    rows: Vec<[u8; 23]>,
+    rows: Vec<RowMarks>,
     pub ghost size: { vec_len rows ≡ 208 },
 }
 
@@ -124,15 +124,23 @@ impl Received {
 }
 
 impl Marks {
-    ghost use Rattle.dvd_capture.specs.Parts.{marks_rows};
+    ghost use Rattle.dvd_capture.specs.Parts.{marks_of_row, marks_rows};
     ghost use Rattle.dvd_capture.specs.Answers.{marks_line};
 
     /// No marks. `NoMemory` may come at any time, and nothing is taken then.
     pub fn new(alloc: Global) -> Result<Marks, NoMemory>
         ensures { IfOk result (λ marks. marks_rows marks ≡ replicate 208 (replicate 182 false)) }
     {
-        let rows = vec![in alloc; [0; 23]; 208].map_err(|_| NoMemory)?;
+        let rows = vec![in alloc; RowMarks::none(); 208].map_err(|_| NoMemory)?;
         Ok(Marks { rows })
+    }
+
+    /// The marks of row `i`, lent.
+    pub(crate) fn row_marks(&self, i: usize) -> &RowMarks
+        requires { i < 208 }
+        ensures { marks_of_row result.now ≡ marks_line (marks_rows self.now) i }
+    {
+        &self.rows[i]
     }
 
     /// Writes the marks of row `i`.
@@ -140,9 +148,7 @@ impl Marks {
         requires { i < 208 }
         ensures { out.new ≡ marks_line (marks_rows self.now) i }
     {
-        for (j, mark) in out.iter_mut().enumerate() {
-            *mark = is_marked(&self.rows[i], j);
-        }
+        self.rows[i].unpack(out);
     }
 
     /// Whether no place of row `i` is marked.
@@ -150,7 +156,7 @@ impl Marks {
         requires { i < 208 }
         ensures { IsTrue result ↔ (marks_line (marks_rows self.now) i ≡ replicate 182 false) }
     {
-        has_no_mark(&self.rows[i])
+        self.rows[i].is_clear()
     }
 
     /// The mark in row `i` at place `j`.
@@ -159,7 +165,7 @@ impl Marks {
         requires place { j < 182 }
         ensures { result ≡ slice_index_or (marks_line (marks_rows self.now) i) j false }
     {
-        is_marked(&self.rows[i], j)
+        self.rows[i].get(j)
     }
 
     /// Sets the mark in row `i` at place `j`, and nothing else.
@@ -168,7 +174,7 @@ impl Marks {
         requires place { j < 182 }
         ensures { marks_rows self.new ≡ slice_set (marks_rows self.old) i (slice_set (marks_line (marks_rows self.old) i) j mark) }
     {
-        set_mark(&mut self.rows[i], j, mark);
+        self.rows[i].set(j, mark);
     }
 
     /// Sets the mark bits of row `i`, and nothing else.
@@ -177,7 +183,7 @@ impl Marks {
         requires size { length bits.now ≡ 23 }
         ensures { marks_rows self.new ≡ slice_set (marks_rows self.old) i (marks_of bits.now) }
     {
-        self.rows[i].copy_from_slice(bits);
+        self.rows[i].copy_from_bits(bits);
     }
 
     /// Takes the marks of row `i` away, and no others.
@@ -185,7 +191,7 @@ impl Marks {
         requires { i < 208 }
         ensures { marks_rows self.new ≡ slice_set (marks_rows self.old) i (replicate 182 false) }
     {
-        self.set_row(i, &[0; 23]);
+        self.rows[i] = RowMarks::none();
     }
 
     /// Sets all marks to those of another buffer.
@@ -199,41 +205,8 @@ impl Marks {
     pub(crate) fn clear(&mut self)
         ensures { marks_rows self.new ≡ replicate 208 (replicate 182 false) }
     {
-        self.rows.fill([0; 23]);
+        self.rows.fill(RowMarks::none());
     }
-}
-
-// Whether no place has a mark; the two spare bits don't count.
-fn has_no_mark(row: &[u8; 23]) -> bool
-    ensures { IsTrue result ↔ (marks_of row.now ≡ replicate 182 false) }
-{
-    row[..22] == [0; 22] && row[22] < 4
-}
-
-// The mark of place `j` in a row of mark bits.
-fn is_marked(bits: &[u8; 23], j: usize) -> bool
-    requires { j < 182 }
-    ensures { result ≡ mark_at bits.now j }
-{
-    bits[j / 8] >> (7 - j % 8) & 1 == 1
-}
-
-// Sets it.
-fn set_mark(bits: &mut [u8; 23], j: usize, mark: bool)
-    requires { j < 182 }
-    ensures { marks_of bits.new ≡ slice_set (marks_of bits.old) j mark }
-{
-    bits[j / 8] = with_bit(bits[j / 8], 7 - j % 8, mark);
-}
-
-// A byte with this bit.
-fn with_bit(byte: u8, place: usize, set: bool) -> u8
-    requires { place < 8 }
-    ensures same { (bit_at result place == 1) ≡ set }
-    ensures others { (k : ℕ) → k < 8 → k ≢ place → bit_at result k ≡ bit_at byte k }
-{
-    let bit = 1u8 << place;
-    if set { byte | bit } else { byte & !bit }
 }
 
 impl AnswerRow {

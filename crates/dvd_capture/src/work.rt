@@ -11,6 +11,7 @@ ghost use Rattle.dvd_capture.specs.TwoPass.{IsTwoPass, from_columns};
 ghost use Rattle.dvd_capture.specs.declared.stage.Stage.TheVariants.{Empty, Fetched, Refused, Fixed};
 
 use crate::parts::{Answers, Columns, Marks, Received, Sectors};
+use crate::row_marks::RowMarks;
 use crate::stage::Stage;
 use dvd_block::Block;
 use dvd_ports::NoMemory;
@@ -40,6 +41,7 @@ pub struct Work {
 
 impl Work {
     ghost use Rattle.dvd_block.specs.Buffers.{block_rows};
+    ghost use Rattle.dvd_capture.specs.Parts.{marks_of_row};
     ghost use Rattle.dvd_capture.specs.Works.{answers_of_work, block_of, marks_of_work, rows_of, sectors_of, stage_of};
 
     /// No block: all bytes 0, no marks, no row and no column answered. `NoMemory` may come at any time, and nothing is taken then.
@@ -134,6 +136,24 @@ impl Work {
         ensures { result ≡ slice_index_or (marks_line (marks_of_work self.now) i) j false }
     {
         self.marks.get(i, j)
+    }
+
+    /// The received bytes of row `i`.
+    pub fn row(&self, i: usize) -> &[u8; 182]
+        requires stage { HasBlock (stage_of self.now) }
+        requires row { i < 208 }
+        ensures { result.now ≡ line (rows_of self.now) i }
+    {
+        self.received.row(i)
+    }
+
+    /// Their marks.
+    pub fn row_marks(&self, i: usize) -> &RowMarks
+        requires stage { HasBlock (stage_of self.now) }
+        requires row { i < 208 }
+        ensures { marks_of_row result.now ≡ marks_line (marks_of_work self.now) i }
+    {
+        self.marks.row_marks(i)
     }
 
     /// What the answer to row `i` corrects: none exactly where no codeword is near the row.

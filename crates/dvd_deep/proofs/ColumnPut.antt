@@ -5,12 +5,14 @@ use Rattle.std.proofs.lemmas.List.{get_or-set_same, get_or-set_other, length-set
 use Rattle.dvd_block.specs.Product.{line, place}
 use Rattle.dvd_capture.specs.Answers.{marks_line}
 use Rattle.dvd_deep.specs.Rounds.{mark_in}
-use Rattle.dvd_deep.specs.Inner.Steps.{AreMarksTaken, IsColumnPut}
+use Rattle.dvd_deep.specs.Inner.Steps.{AreMarksTaken, AreWide, IsColumnPut}
 
 -- the first i rows have their byte and no mark at place j, and all else is as it was
 pub record IsPutBefore (j : ℕ) (word : List ℕ) (old now : List (List ℕ)) (marks_old marks_now : List (List Bool)) (i : ℕ) : Type 0 where
+  pub height : length now ≡ 208
+  pub marks_height : length marks_now ≡ 208
+  pub wide : AreWide now
   pub put : (k : ℕ) → k < i → place now k j ≡ slice_index word k
-  pub wide : (k : ℕ) → k < i → length (line now k) ≡ 182
   pub taken : (k : ℕ) → k < i → mark_in marks_now k j ≡ false
   pub others : (k p : ℕ) → k < 208 → p < 182 → p ≢ j → place now k p ≡ place old k p
   pub marks_others : (k p : ℕ) → k < 208 → p < 182 → p ≢ j → mark_in marks_now k p ≡ mark_in marks_old k p
@@ -39,16 +41,16 @@ set-elsewhere rows i j k p x d apart = ap (λ row. get_or row p d) (get_or-set_o
 
 -- one row more
 pub put-next : (j : ℕ) (word : List ℕ) (old now new : List (List ℕ)) (marks_old marks_now marks_new : List (List Bool)) (i : ℕ)
-    → length now ≡ 208 → length marks_now ≡ 208 → i < 208 → j < 182 → length (marks_line marks_now i) ≡ 182
-    → new ≡ set now i (set (line now i) j (slice_index word i)) → length (line new i) ≡ 182
-    → marks_new ≡ set marks_now i (set (marks_line marks_now i) j false)
+    → i < 208 → j < 182 → length (marks_line marks_now i) ≡ 182
+    → new ≡ set now i (set (line now i) j (slice_index word i)) → marks_new ≡ set marks_now i (set (marks_line marks_now i) j false)
     → IsPutBefore j word old now marks_old marks_now i → IsPutBefore j word old new marks_old marks_new (i + 1)
-put-next j word old now new marks_old marks_now marks_new i height marks_height below inside marks_width new_is width marks_is part =
-    let within : i < length now = omega (arith, height) in
-    let marks_within : i < length marks_now = omega (arith, marks_height) in
-    let row_width : length (line now i) ≡ 182 =
-    sym (length-set (line now i) j (slice_index word i)) ∙ sym (ap length (ap (λ l. line l i) new_is ∙ get_or-set_same now i (set (line now i) j (slice_index word i)) [] within)) ∙ width in
+put-next j word old now new marks_old marks_now marks_new i below inside marks_width new_is marks_is part =
+    let within : i < length now = omega (arith, part.height) in
+    let marks_within : i < length marks_now = omega (arith, part.marks_height) in
+    let row_width : length (line now i) ≡ 182 = part.wide i below in
     record {
+      height = ap length new_is ∙ length-set now i (set (line now i) j (slice_index word i)) ∙ part.height;
+      marks_height = ap length marks_is ∙ length-set marks_now i (set (marks_line marks_now i) j false) ∙ part.marks_height;
       put = λ k k_below. elim (cases_eq k i) [
         | inl same ↦
             ap (λ n. place new n j) same ∙ ap (λ l. place l i j) new_is ∙ set-same now i j (slice_index word i) 0 within (omega (arith, row_width))
@@ -56,9 +58,11 @@ put-next j word old now new marks_old marks_now marks_new i height marks_height 
         | inr apart ↦ ap (λ l. place l k j) new_is ∙ set-elsewhere now i j k j (slice_index word i) 0 apart ∙ part.put k (omega arith)
       ];
       wide = λ k k_below. elim (cases_eq k i) [
-        | inl same ↦ ap (λ n. length (line new n)) same ∙ width
+        | inl same ↦
+            ap (λ n. length (line new n)) same ∙ ap (λ l. length (line l i)) new_is
+            ∙ ap length (get_or-set_same now i (set (line now i) j (slice_index word i)) [] within) ∙ length-set (line now i) j (slice_index word i) ∙ row_width
         | inr apart ↦
-            ap (λ l. length (line l k)) new_is ∙ ap length (get_or-set_other now i k (set (line now i) j (slice_index word i)) [] apart) ∙ part.wide k (omega arith)
+            ap (λ l. length (line l k)) new_is ∙ ap length (get_or-set_other now i k (set (line now i) j (slice_index word i)) [] apart) ∙ part.wide k k_below
       ];
       taken = λ k k_below. elim (cases_eq k i) [
         | inl same ↦

@@ -98,3 +98,13 @@ stepped-all state rows marks failed height marks_height size part =
       ap (λ l. state_in l marks) rows_are ∙ ap (state_in (map (row_then state) (range_with_len 0 208))) marks_are,
       fill_by_all (λ i. is_none (row_near state i)) failed 208 false size part.failed_done,
     )
+
+-- ---- the rows of a received block, one after the other
+
+-- one more element is copied
+pub copied-next : {X : Type 0} (xs ys : List X) (i : ℕ) (x d : X) → i < length xs → x ≡ get_or ys i d → ((k : ℕ) → k < i → get_or xs k d ≡ get_or ys k d)
+    → (k : ℕ) → k < i + 1 → get_or (set xs i x) k d ≡ get_or ys k d
+copied-next xs ys i x d within is before k below = elim (cases_eq k i) [
+  | inl same ↦ ap (λ n. get_or (set xs i x) n d) same ∙ get_or-set_same xs i x d within ∙ is ∙ ap (λ n. get_or ys n d) (sym same)
+  | inr other ↦ get_or-set_other xs i k x d other ∙ before k (omega arith)
+]

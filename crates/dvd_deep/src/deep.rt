@@ -5,9 +5,8 @@ ghost use Rattle.dvd_capture.specs.Rule.{HasBlock};
 ghost use Rattle.dvd_capture.specs.Works.{marks_of_work, rows_of, stage_of};
 ghost use Rattle.dvd_deep.specs.Rounds.{deep_block, deep_round};
 
-use crate::rounds::play_rounds;
-use dvd_capture::Work;
-use dvd_capture::parts::{Marks, Received};
+use crate::rounds::{Marks, Rows, play_rounds, read_block};
+use dvd_capture::{RowMarks, Work};
 use dvd_ports::NoMemory;
 use std::alloc::Global;
 
@@ -16,8 +15,8 @@ use std::alloc::Global;
 /// They are apart from what was received, so that a block that isn't found can still be salvaged from its first pass.
 #[derive(Drop)]
 pub struct Deep {
-    pub(crate) rows: Received,
-    marks: Marks,
+    pub(crate) rows: Box<Rows>,
+    marks: Box<Marks>,
     has_found: bool,
 }
 
@@ -29,8 +28,8 @@ impl Deep {
         ensures { IfOk result (λ deep. has_found deep ≡ false) }
     {
         Ok(Deep {
-            rows: Received::new(alloc)?,
-            marks: Marks::new(alloc)?,
+            rows: Box::new(alloc, [[0; 182]; 208]).map_err(|_| NoMemory)?,
+            marks: Box::new(alloc, [RowMarks::none(); 208]).map_err(|_| NoMemory)?,
             has_found: false,
         })
     }
@@ -45,8 +44,7 @@ impl Deep {
         ensures block { IfSome result (λ _. deep_block (rows_of work.now) (marks_of_work work.now) ≡ Some (rows_of_deep self.new)) }
         ensures found { has_found self.new ≡ is_some result }
     {
-        self.rows.copy_from(&work.received);
-        self.marks.copy_from(&work.marks);
+        read_block(work, &mut self.rows, &mut self.marks);
         let round = play_rounds(&mut self.rows, &mut self.marks);
         self.has_found = round.is_some();
         round
@@ -59,6 +57,6 @@ impl Deep {
         requires place { j < 182 }
         ensures { result ≡ place (rows_of_deep self.now) i j }
     {
-        self.rows.row(i)[j]
+        self.rows[i][j]
     }
 }

@@ -4,20 +4,38 @@ ghost use Rattle.std.specs.List.{list_all};
 ghost use Rattle.std.specs.Option.{option_or};
 ghost use Rattle.rs_decode.specs.Nearest.{near_of, vanishes_at_all};
 ghost use Rattle.dvd_block.specs.Product.{column, line};
-ghost use Rattle.dvd_capture.specs.Parts.{marks_rows, received_rows};
-ghost use Rattle.dvd_deep.specs.Inner.Buffers.{buffered_state};
-ghost use Rattle.dvd_deep.specs.Rounds.{after, are_answered, column_marks, column_near, column_step, failed_marks, finishes, first_round, round, row_near, row_step};
+ghost use Rattle.dvd_capture.specs.Rule.{HasBlock};
+ghost use Rattle.dvd_capture.specs.Works.{marks_of_work, rows_of, stage_of};
+ghost use Rattle.dvd_deep.specs.Inner.Buffers.{buffered_state, marks_of_rows};
+ghost use Rattle.dvd_deep.specs.Rounds.{after, are_answered, column_marks, column_near, column_step, failed_marks, finishes, first_round, round, row_near, row_step, state_in};
 ghost use Rattle.dvd_deep.specs.Inner.Steps.{AreMarksTaken, AreWide, IsColumnPut};
 
-use dvd_capture::parts::{Marks, Received};
+use dvd_capture::{RowMarks, Work};
 use rs_code::{Code, Pi, Po};
 use rs_decode::decode;
+
+/// The rows of a block: 37,856 bytes.
+pub(crate) type Rows = [[u8; 182]; 208];
+
+/// Their marks: 4,784 bytes.
+pub(crate) type Marks = [RowMarks; 208];
 
 // How many rounds there are at most.
 const MOST_ROUNDS: u8 = 4;
 
+/// Sets rows and marks to those of a received block.
+pub(crate) fn read_block(work: &Work, rows: &mut Rows, marks: &mut Marks)
+    requires { HasBlock (stage_of work.now) }
+    ensures { buffered_state rows.new marks.new ≡ state_in (rows_of work.now) (marks_of_work work.now) }
+{
+    for i in 0..208usize {
+        rows[i] = *work.row(i);
+        marks[i] = *work.row_marks(i);
+    }
+}
+
 /// Plays up to four rounds. Answers the number of the first that finishes, whose state then stands.
-pub(crate) fn play_rounds(rows: &mut Received, marks: &mut Marks) -> Option<u8>
+pub(crate) fn play_rounds(rows: &mut Rows, marks: &mut Marks) -> Option<u8>
     ensures first { result ≡ first_round (buffered_state rows.old marks.old) }
     ensures state { IfSome result (λ t. buffered_state rows.new marks.new ≡ after t (buffered_state rows.old marks.old)) }
 {
@@ -30,7 +48,7 @@ pub(crate) fn play_rounds(rows: &mut Received, marks: &mut Marks) -> Option<u8>
 }
 
 // Plays one round. Answers whether it finishes.
-fn play_round(rows: &mut Received, marks: &mut Marks) -> bool
+fn play_round(rows: &mut Rows, marks: &mut Marks) -> bool
     ensures state { buffered_state rows.new marks.new ≡ round (buffered_state rows.old marks.old) }
     ensures finishes { result ≡ finishes (buffered_state rows.old marks.old) }
 {
@@ -41,10 +59,10 @@ fn play_round(rows: &mut Received, marks: &mut Marks) -> bool
 }
 
 // The row step. Notes which rows fail.
-fn answer_rows(rows: &mut Received, marks: &mut Marks, failed: &mut [bool; 208])
+fn answer_rows(rows: &mut Rows, marks: &mut Marks, failed: &mut [bool; 208])
     ensures state { buffered_state rows.new marks.new ≡ row_step (buffered_state rows.old marks.old) }
     ensures failed { failed.new ≡ failed_marks (buffered_state rows.old marks.old) }
-    ensures wide { AreWide (received_rows rows.new) }
+    ensures wide { AreWide rows.new }
 {
     let code = Pi::new();
     for i in 0..208usize {
@@ -53,20 +71,19 @@ fn answer_rows(rows: &mut Received, marks: &mut Marks, failed: &mut [bool; 208])
 }
 
 // Answers row `i`: it becomes the codeword near it and loses its marks, if there is one. Answers whether there is.
-fn answer_row(code: &Pi, rows: &mut Received, marks: &mut Marks, i: usize) -> bool
+fn answer_row(code: &Pi, rows: &mut Rows, marks: &mut Marks, i: usize) -> bool
     requires { i < 208 }
     ensures answered { result ≡ is_some (row_near (buffered_state rows.old marks.old) i) }
-    ensures row { received_rows rows.new ≡ slice_set (received_rows rows.old) i (unwrap_or (row_near (buffered_state rows.old marks.old) i) (line (received_rows rows.old) i)) }
-    ensures wide { length (line (received_rows rows.new) i) ≡ 182 }
-    ensures marks { marks_rows marks.new ≡ (if result then slice_set (marks_rows marks.old) i (replicate 182 false) else marks_rows marks.old) }
+    ensures row { rows.new ≡ slice_set rows.old i (unwrap_or (row_near (buffered_state rows.old marks.old) i) (line rows.old i)) }
+    ensures wide { length (line rows.new i) ≡ 182 }
+    ensures marks { marks_of_rows marks.new ≡ (if result then slice_set (marks_of_rows marks.old) i (replicate 182 false) else marks_of_rows marks.old) }
+    ensures height { length marks.new ≡ 208 }
 {
-    let mut row = *rows.row(i);
     let mut row_marks = [false; 182];
-    marks.row(i, &mut row_marks);
-    let answered = answer_word(code, &mut row, &row_marks);
-    rows.set_row(i, &row);
+    marks[i].unpack(&mut row_marks);
+    let answered = answer_word(code, &mut rows[i], &row_marks);
     if answered {
-        marks.clear_row(i);
+        marks[i] = RowMarks::none();
     }
     answered
 }
@@ -79,6 +96,7 @@ fn answer_word<const N: usize, const R: usize>(
 ) -> bool
     ensures answered { result ≡ is_some (near_of N R word.old marks.now) }
     ensures word { word.new ≡ unwrap_or (near_of N R word.old marks.now) word.old }
+    ensures size { length word.new ≡ N }
 {
     match decode(code, word, marks) {
         Ok(_) => true,
@@ -87,8 +105,8 @@ fn answer_word<const N: usize, const R: usize>(
 }
 
 // The column step. Answers whether all columns are answered.
-fn answer_columns(rows: &mut Received, marks: &mut Marks, failed: &[bool; 208]) -> bool
-    requires wide { AreWide (received_rows rows.old) }
+fn answer_columns(rows: &mut Rows, marks: &mut Marks, failed: &[bool; 208]) -> bool
+    requires wide { AreWide rows.old }
     ensures state { buffered_state rows.new marks.new ≡ column_step failed.now (buffered_state rows.old marks.old) }
     ensures answered { result ≡ are_answered failed.now (buffered_state rows.old marks.old) }
 {
@@ -104,18 +122,19 @@ fn answer_columns(rows: &mut Received, marks: &mut Marks, failed: &[bool; 208]) 
 // Answers whether there is.
 fn answer_column(
     code: &Po,
-    rows: &mut Received,
+    rows: &mut Rows,
     marks: &mut Marks,
     failed: &[bool; 208],
     j: usize,
 ) -> bool
     requires place { j < 182 }
-    requires wide { AreWide (received_rows rows.old) }
+    requires wide { AreWide rows.old }
     ensures answered { result ≡ is_some (column_near failed.now (buffered_state rows.old marks.old) j) }
-    ensures column { IsColumnPut j (unwrap_or (column_near failed.now (buffered_state rows.old marks.old) j) (column (received_rows rows.old) j)) (received_rows rows.old) (received_rows rows.new) }
-    ensures marks { IsTrue result → AreMarksTaken j (marks_rows marks.old) (marks_rows marks.new) }
-    ensures same { result ≡ false → marks_rows marks.new ≡ marks_rows marks.old }
-    ensures wide { AreWide (received_rows rows.new) }
+    ensures column { IsColumnPut j (unwrap_or (column_near failed.now (buffered_state rows.old marks.old) j) (column rows.old j)) rows.old rows.new }
+    ensures marks { IsTrue result → AreMarksTaken j (marks_of_rows marks.old) (marks_of_rows marks.new) }
+    ensures same { result ≡ false → marks_of_rows marks.new ≡ marks_of_rows marks.old }
+    ensures wide { AreWide rows.new }
+    ensures height { length marks.new ≡ 208 }
 {
     let mut word = [0; 208];
     read_column(rows, j, &mut word);
@@ -135,8 +154,8 @@ fn answer_column_word(
     j: usize,
 ) -> bool
     requires { j < 182 }
-    ensures answered { result ≡ is_some (option_or (near_of 208 16 word.old failed.now) (near_of 208 16 word.old (column_marks (marks_rows marks.now) j))) }
-    ensures word { word.new ≡ unwrap_or (option_or (near_of 208 16 word.old failed.now) (near_of 208 16 word.old (column_marks (marks_rows marks.now) j))) word.old }
+    ensures answered { result ≡ is_some (option_or (near_of 208 16 word.old failed.now) (near_of 208 16 word.old (column_marks (marks_of_rows marks.now) j))) }
+    ensures word { word.new ≡ unwrap_or (option_or (near_of 208 16 word.old failed.now) (near_of 208 16 word.old (column_marks (marks_of_rows marks.now) j))) word.old }
 {
     if answer_word(code, word, failed) {
         return true;
@@ -147,45 +166,47 @@ fn answer_column_word(
 }
 
 // Writes the bytes of column `j`.
-fn read_column(rows: &Received, j: usize, word: &mut [u8; 208])
+fn read_column(rows: &Rows, j: usize, word: &mut [u8; 208])
     requires { j < 182 }
-    ensures { word.new ≡ column (received_rows rows.now) j }
+    ensures { word.new ≡ column rows.now j }
 {
     for i in 0..208usize {
-        word[i] = rows.row(i)[j];
+        word[i] = rows[i][j];
     }
 }
 
 // Writes the marks of column `j`.
 fn read_marks(marks: &Marks, j: usize, own: &mut [bool; 208])
     requires { j < 182 }
-    ensures { own.new ≡ column_marks (marks_rows marks.now) j }
+    ensures { own.new ≡ column_marks (marks_of_rows marks.now) j }
 {
     for i in 0..208usize {
-        own[i] = marks.get(i, j);
+        own[i] = marks[i].get(j);
     }
 }
 
 // Sets column `j` to a word, and takes its marks away.
-fn put_column(rows: &mut Received, marks: &mut Marks, j: usize, word: &[u8; 208])
-    requires { j < 182 }
-    ensures column { IsColumnPut j word.now (received_rows rows.old) (received_rows rows.new) }
-    ensures marks { AreMarksTaken j (marks_rows marks.old) (marks_rows marks.new) }
-    ensures wide { AreWide (received_rows rows.new) }
+fn put_column(rows: &mut Rows, marks: &mut Marks, j: usize, word: &[u8; 208])
+    requires place { j < 182 }
+    requires wide { AreWide rows.old }
+    ensures column { IsColumnPut j word.now rows.old rows.new }
+    ensures marks { AreMarksTaken j (marks_of_rows marks.old) (marks_of_rows marks.new) }
+    ensures wide { AreWide rows.new }
+    ensures height { length marks.new ≡ 208 }
 {
     for i in 0..208usize {
-        rows.set(i, j, word[i]);
-        marks.set(i, j, false);
+        rows[i][j] = word[i];
+        marks[i].set(j, false);
     }
 }
 
 // Whether all rows are codewords.
-fn are_codewords(rows: &Received) -> bool
-    ensures { result ≡ list_all (vanishes_at_all 10) (received_rows rows.now) }
+fn are_codewords(rows: &Rows) -> bool
+    ensures { result ≡ list_all (vanishes_at_all 10) rows.now }
 {
     let code = Pi::new();
     for i in 0..208usize {
-        if !is_codeword(&code, rows.row(i)) {
+        if !is_codeword(&code, &rows[i]) {
             return false;
         }
     }

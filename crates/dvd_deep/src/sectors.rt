@@ -2,13 +2,12 @@
 ghost use Rattle.std.specs.Prelude.{◌≡◌, ◌*◌, ◌+◌, ◌<◌, ◌++◌, IfErr, IsTrue, None, OnErr, OnOk, Some, length, replicate, take};
 ghost use Rattle.std.specs.List.{flat_map};
 ghost use Rattle.dvd_block.specs.Buffers.{piece_bytes};
-ghost use Rattle.dvd_capture.specs.Parts.{received_rows};
 ghost use Rattle.dvd_layout.specs.Place.{HasNumbers};
 ghost use Rattle.dvd_read.specs.Frames.{frames_cause, main_data};
 
 use crate::deep::Deep;
+use crate::rounds::Rows;
 use dvd_block::Piece;
-use dvd_capture::parts::Received;
 use dvd_layout::BlockPlan;
 use dvd_read::{Cause, read_frame_at};
 
@@ -30,12 +29,12 @@ impl Deep {
 }
 
 // Writes the Main Data of the frames of a block, or zeros after a cause.
-fn read_frames(rows: &Received, plan: &BlockPlan, out: &mut [u8]) -> Result<(), Cause>
+fn read_frames(rows: &Rows, plan: &BlockPlan, out: &mut [u8]) -> Result<(), Cause>
     requires size { length out.old ≡ 32768 }
     requires numbers { HasNumbers plan.now }
-    ensures refused { IfErr result (λ cause. frames_cause (received_rows rows.now) plan.now ≡ Some cause) }
-    ensures right { OnOk result (frames_cause (received_rows rows.now) plan.now ≡ None) }
-    ensures main { OnOk result (out.new ≡ flat_map (λ sector. sector) (main_data (received_rows rows.now) plan.now)) }
+    ensures refused { IfErr result (λ cause. frames_cause rows.now plan.now ≡ Some cause) }
+    ensures right { OnOk result (frames_cause rows.now plan.now ≡ None) }
+    ensures main { OnOk result (out.new ≡ flat_map (λ sector. sector) (main_data rows.now plan.now)) }
     ensures zeros { OnErr result (out.new ≡ replicate 32768 0) }
     ensures size { length out.new ≡ 32768 }
 {

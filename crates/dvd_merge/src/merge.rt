@@ -57,8 +57,8 @@ impl Merge {
     {
         let mut marks = [false; 182];
         for (i, places) in self.rows.iter_mut().enumerate() {
-            work.marks.row(i, &mut marks);
-            take_row(places, work.received.row(i), &marks);
+            work.row_marks(i).unpack(&mut marks);
+            take_row(places, work.row(i), &marks);
         }
     }
 

@@ -241,3 +241,20 @@ fn a_failed_write_leaves_a_prefix(rt: HostRuntime) -> Result<(), Fail> {
     assert!(rt; out.held().len() == 2000);
     Ok(())
 }
+
+static PLACES: [Place; 4] = [
+    Place::Unseen,
+    Place::Value(0),
+    Place::Value(1),
+    Place::Conflict,
+];
+
+#[test]
+fn places_are_like_themselves_alone(rt: HostRuntime) -> Result<(), Fail> {
+    for (a, place) in PLACES.iter().enumerate() {
+        for (b, other) in PLACES.iter().enumerate() {
+            assert_eq!(rt; place == other, a == b);
+        }
+    }
+    Ok(())
+}

@@ -12,8 +12,8 @@ use Rattle.rs_decode.proofs.NearSearch.{near_of-some}
 use Rattle.rs_decode.proofs.Marks.{marked-next}
 use Rattle.dvd_block.specs.Product.{line}
 use Rattle.dvd_capture.proofs.Columns.{length-answers_of}
+use Rattle.dvd_capture.proofs.WorkParts.{marks-height, rows-height}
 use Rattle.dvd_capture.specs.Answers.{AreAnswers, IsAnswer, IsFix, marks_line}
-use Rattle.dvd_capture.specs.MarkBits.{marks_of}
 use Rattle.dvd_capture.specs.Parts.{marks_rows, received_rows}
 use Rattle.dvd_capture.specs.declared.parts.Marks.{Marks}
 use Rattle.dvd_capture.specs.declared.parts.Received.{Received}
@@ -129,19 +129,9 @@ flag-few marks i count few = omega (arith, as_number (get_or marks i false), fla
 pub block_answers : (received : Received) (marks : Marks) (answers : List AnswerRow) → length answers ≡ 208
     → AreAnswers (received_rows received) (marks_rows marks) answers → map answer_word answers ≡ answers_of (received_rows received) (marks_rows marks)
 block_answers received marks answers size are =
-    answers-are (received_rows received) (marks_rows marks) answers (omega (arith, received.size, received.rows.ok.0))
-    (length-map marks.rows.items marks_of ∙ rows_size) size are
-  where
-    -- there are 208 rows of marks
-    rows_size : length marks.rows.items ≡ 208
-    rows_size = omega (arith, marks.size, marks.rows.ok.0)
+    answers-are (received_rows received) (marks_rows marks) answers (rows-height received) (marks-height marks) size are
 
 -- a captured block has 208 answers
 pub length-block_answers : (received : Received) (marks : Marks) → length (answers_of (received_rows received) (marks_rows marks)) ≡ 208
 length-block_answers received marks =
-    length-answers_of (received_rows received) (marks_rows marks) 208 (omega (arith, received.size, received.rows.ok.0))
-    (length-map marks.rows.items marks_of ∙ rows_size)
-  where
-    -- there are 208 rows of marks
-    rows_size : length marks.rows.items ≡ 208
-    rows_size = omega (arith, marks.size, marks.rows.ok.0)
+    length-answers_of (received_rows received) (marks_rows marks) 208 (rows-height received) (marks-height marks)

@@ -17,7 +17,7 @@ use Rattle.dvd_capture.specs.Answers.{IsAnswer, IsFix, marks_line}
 use Rattle.dvd_capture.specs.Rule.{HasAnswers}
 use Rattle.dvd_capture.specs.Works.{answers_of_work, marks_of_work, rows_of, stage_of}
 use Rattle.dvd_capture.specs.declared.work.Work.{Work}
-use Rattle.dvd_capture.proofs.MarkLists.{length-marks_of, line-marks}
+use Rattle.dvd_capture.proofs.WorkParts.{marks-width}
 use Rattle.dvd_capture.specs.TwoPass.{failed_of, from_columns}
 use Rattle.dvd_capture.specs.declared.parts.AnswerRow.{AnswerRow}
 use Rattle.dvd_capture.specs.declared.parts.ColumnAnswer.{ColumnAnswer}
@@ -189,8 +189,7 @@ row-counted work i row default count below stage is counted =
     let answers : List AnswerRow = answers_of_work work in
     let marks : List Bool = marks_line (marks_of_work work) i in
     let inside : i < length answers = omega (arith, work.answers.size, work.answers.rows.ok.0) in
-    let inside_marks : i < length work.marks.rows.items = omega (arith, work.marks.size, work.marks.rows.ok.0) in
-    let width : length marks ≡ 182 = ap length (line-marks work.marks.rows.items i inside_marks) ∙ length-marks_of (line work.marks.rows.items i) in
+    let width : length marks ≡ 182 = marks-width work.marks i below in
     let told : IsAnswer row marks (get_or answers i default) = subst (λ (r : List ℕ). IsAnswer r marks (get_or answers i default)) (sym is) (work.answered stage i default below) in
     counted marks width told
     ∙ ap (λ (r : List ℕ). distance r (get_or answers i default).bytes) is

@@ -86,16 +86,16 @@ fn read_frames(
 /// Reads data frame `f` of a block as that of an entry of a plan: checks it, and writes its unscrambled Main Data. After a
 /// cause these mean nothing.
 pub fn read_frame_at(
-    rows: &Received,
+    rows: &[[u8; 182]; 208],
     plan: &BlockPlan,
     f: usize,
     main: &mut [u8; 2048],
 ) -> Result<(), Cause>
     requires numbers { HasNumbers plan.now }
     requires frame { f < 16 }
-    ensures refused { IfErr result (λ cause. fault_at (received_rows rows.now) plan.now f ≡ Some cause) }
-    ensures right { OnOk result (fault_at (received_rows rows.now) plan.now f ≡ None) }
-    ensures main { OnOk result (main.new ≡ main_at (received_rows rows.now) plan.now f) }
+    ensures refused { IfErr result (λ cause. fault_at rows.now plan.now f ≡ Some cause) }
+    ensures right { OnOk result (fault_at rows.now plan.now f ≡ None) }
+    ensures main { OnOk result (main.new ≡ main_at rows.now plan.now f) }
 {
     let mut frame = [0; 2064];
     copy_received(rows, f, &mut frame);
@@ -130,20 +130,21 @@ fn get_frame(
     ensures { frame.new ≡ frame_of (from_columns (words_of_columns columns.now)) f }
 {
     if as_received {
-        copy_received(received, f, frame);
+        copy_received(received.rows(), f, frame);
     } else {
         copy_frame(columns, f, frame);
     }
 }
 
-// Writes frame `f` of the received rows. That they have 182 bytes is told too, since a row of a buffer doesn't tell it.
-fn copy_received(received: &Received, f: usize, frame: &mut [u8; 2064])
-    requires { f < 16 }
-    ensures frame { frame.new ≡ frame_of (received_rows received.now) f }
-    ensures widths { (q : ℕ) → q < 12 → length (line (received_rows received.now) (12 * f + q)) ≡ 182 }
+// Writes frame `f` of these rows. That they have 182 bytes is told too, since a row of a buffer doesn't tell it.
+fn copy_received(rows: &[[u8; 182]], f: usize, frame: &mut [u8; 2064])
+    requires rows { length rows.now ≡ 208 }
+    requires frame { f < 16 }
+    ensures frame { frame.new ≡ frame_of rows.now f }
+    ensures widths { (q : ℕ) → q < 12 → length (line rows.now (12 * f + q)) ≡ 182 }
 {
     for q in 0..12usize {
-        put_front(frame, 172 * q, received.row(12 * f + q));
+        put_front(frame, 172 * q, &rows[12 * f + q]);
     }
 }
 

@@ -1,23 +1,26 @@
 -- The rows of a received block that have a PI error, by the answers to them.
-use Rattle.std.proofs.Common.{◌≡◌, ◌≢◌, ◌∙◌, ℕ, ◌+◌, ◌<◌, Bool, true, false, cond, not, ◌||◌, nat_lt, List, [], ◌∷◌, length, map, get_or, All, count_by, refl, sym, ap, subst, arith, Some, None, MatchOption}
+use Rattle.std.proofs.Common.{◌≡◌, ◌≢◌, ◌∙◌, ℕ, ◌⊎◌, ◌↔◌, ◌+◌, ◌<◌, ◌≤◌, Bool, true, false, cond, not, ◌||◌, nat_lt, List, [], ◌∷◌, length, get_or, take, All, count_by, inl, inr, refl, sym, ap, subst, arith, Some, None, is_none, IfSome}
 use mir.Val.{bool_byte}
 use Rattle.std.specs.List.{list_any, range_with_len}
-use Rattle.std.proofs.lemmas.Bool.{lt-ltb}
+use Rattle.std.specs.declared.option.Option.{Option}
+use Rattle.std.proofs.lemmas.Bool.{cases_lt, lt-ltb}
 use Rattle.std.proofs.lemmas.Bool.Decides.{nat_tests}
-use Rattle.std.proofs.lemmas.List.{get_or-map}
+use Rattle.std.proofs.lemmas.List.{get_or-map, length-map, take_all}
 use Rattle.gf_field.specs.Words.{IsByte}
+use Rattle.rs_decode.specs.Errors.{error_count}
 use Rattle.rs_decode.specs.Filling.{marked}
 use Rattle.rs_decode.specs.Nearest.{near_of, vanishes_at_all}
+use Rattle.rs_decode.specs.declared.errors.Fix.{Fix}
+use Rattle.rs_decode.proofs.Counting.{error_count-self}
 use Rattle.rs_decode.proofs.NearSearch.{codeword-vanishes, near_of-is_near, vanishing-codeword}
 use Rattle.dvd_block.specs.Product.{line}
-use Rattle.dvd_capture.specs.Answers.{IsAnswer, IsFix, marks_line}
-use Rattle.dvd_capture.specs.MarkBits.{marks_of}
-use Rattle.dvd_capture.specs.declared.parts.AnswerRow.{AnswerRow}
-use Rattle.dvd_capture.proofs.MarkLists.{length-marks_of}
+use Rattle.dvd_capture.specs.Answers.{IsFix, marks_line, row_answer}
+use Rattle.dvd_capture.specs.TwoPass.{answers_of, failed_of}
+use Rattle.dvd_capture.proofs.Columns.{length-answers_of}
 use Rattle.dvd_read.proofs.MarkedColumns.{own-marked}
-use Rattle.dvd_read.proofs.RowAnswers.{as_number}
+use Rattle.dvd_read.proofs.RowAnswers.{as_number, get_or-answers_of}
 use Rattle.dvd_read.proofs.SavedFrames.{count-next}
-use Rattle.dvd_report.specs.Survey.{has_pi_error, pi_rows}
+use Rattle.dvd_report.specs.Survey.{failed_rows, has_pi_error, pi_rows}
 
 -- some place is marked where their number isn't 0
 any_marked : (marks : List Bool) → list_any (λ mark. mark) marks ≡ nat_lt 0 (marked marks)
@@ -76,13 +79,68 @@ unmarked-pi_error row word marks same size marks_size bytes none found equal oth
         let same_word : word ≡ row = cc in
         absurd (other is same_word)
 
--- what an answer tells where it has no fix
-pub told-none : (row : List ℕ) (marks : List Bool) (answer : AnswerRow) → answer.fix ≡ None → IsAnswer row marks answer → near_of 182 10 row marks ≡ None
-told-none row marks answer fix_is told = subst (λ fix. MatchOption fix (near_of 182 10 row marks ≡ None) (IsFix row marks answer.bytes)) fix_is told
+-- without a mark and without an error the codeword is the row
+no_errors : (row word : List ℕ) (marks : List Bool) → length row ≡ length marks → length word ≡ length marks → marked marks ≡ 0 → error_count row word marks ≡ 0 → word ≡ row
+unfolding error_count marked
+no_errors [] [] marks size word_size clear none = refl
+no_errors [] (y ∷ word) marks size word_size clear none = absurd (omega (arith, size, word_size))
+no_errors (x ∷ row) [] marks size word_size clear none = absurd (omega (arith, size, word_size))
+no_errors (x ∷ row) (y ∷ word) [] size word_size clear none = absurd (omega (arith, size))
+no_errors (x ∷ row) (y ∷ word) (true ∷ marks) size word_size clear none = absurd (omega (arith, clear))
+no_errors (x ∷ row) (y ∷ word) (false ∷ marks) size word_size clear none =
+    let same : y ≡ x = grind (arith, nat_tests, none) in
+    ap (λ byte. byte ∷ word) same
+    ∙ ap (λ rest. x ∷ rest) (no_errors row word marks (omega (arith, size)) (omega (arith, word_size)) (omega (arith, clear)) (grind (arith, nat_tests, none)))
 
--- the marks of a row are 182
-pub length-marks_line : (rows : List (List ℕ)) (i : ℕ) → i < length rows → length (marks_line (map marks_of rows) i) ≡ 182
-length-marks_line rows i within = ap length (get_or-map marks_of rows i [] [] within) ∙ length-marks_of (get_or rows i [])
+-- an answered row has a PI error where a place is marked or corrected
+fixed-pi_error : (row word : List ℕ) (marks : List Bool) (fix : Fix) → length row ≡ 182 → length marks ≡ 182 → All IsByte row → IsFix row marks word fix
+    → nat_lt 0 (fix.errors + fix.erased) ≡ has_pi_error row marks
+fixed-pi_error row word marks fix size marks_size bytes fixed = by_counts (cases_lt 0 fix.erased) (cases_lt 0 fix.errors) where
+  by_counts : (0 < fix.erased) ⊎ (fix.erased ≤ 0) → (0 < fix.errors) ⊎ (fix.errors ≤ 0) → nat_lt 0 (fix.errors + fix.erased) ≡ has_pi_error row marks
+  by_counts (inl erased) errors = lt-ltb 0 (fix.errors + fix.erased) (omega (arith, erased)) ∙ marked-pi_error row marks (omega (arith, erased, fixed.2))
+  by_counts (inr clear) (inl errors) =
+      lt-ltb 0 (fix.errors + fix.erased) (omega (arith, errors))
+      ∙ unmarked-pi_error row word marks false size marks_size bytes (omega (arith, clear, fixed.2)) fixed.0 (λ no. cc)
+      (λ _ same. absurd (
+      let none : error_count row word marks ≡ 0 = ap (λ w. error_count row w marks) same ∙ error_count-self row marks in
+      omega (arith, errors, fixed.1, none)))
+  by_counts (inr clear) (inr right) =
+      let unmarked : marked marks ≡ 0 = omega (arith, clear, fixed.2) in
+      let near = near_of-is_near 182 10 row word marks size marks_size fixed.0 in
+      grind (arith, nat_tests, clear, right)
+      ∙ unmarked-pi_error row word marks true size marks_size bytes unmarked fixed.0
+      (λ _. no_errors row word marks (size ∙ sym marks_size) (near.codeword.size ∙ sym marks_size) unmarked (omega (arith, right, fixed.1))) (λ no. cc)
+
+-- what is found of a row by its answer is whether it has a PI error
+pub flag-pi_error : (row : List ℕ) (marks : List Bool) (answer : Option Fix) (flag : Bool) → length row ≡ 182 → length marks ≡ 182 → All IsByte row
+    → (answer ≡ None) ↔ (near_of 182 10 row marks ≡ None) → ((word : List ℕ) → near_of 182 10 row marks ≡ Some word → IfSome answer (IsFix row marks word))
+    → (answer ≡ None → flag ≡ true) → IfSome answer (λ fix. flag ≡ nat_lt 0 (fix.errors + fix.erased)) → flag ≡ has_pi_error row marks
+flag-pi_error row marks answer flag size marks_size bytes failed fixed of_none of_some = by_near (near_of 182 10 row marks) refl answer refl where
+  by_near : (near : Option (List ℕ)) → near_of 182 10 row marks ≡ near → (found : Option Fix) → answer ≡ found → flag ≡ has_pi_error row marks
+  by_near None near_is found found_is = of_none (failed.1 near_is) ∙ failed-pi_error row marks size marks_size bytes near_is
+  by_near (Some word) near_is None found_is = absurd (let no : None ≡ Some word = sym (failed.0 found_is) ∙ near_is in cc)
+  by_near (Some word) near_is (Some fix) found_is =
+      subst (λ a. IfSome a (λ fix. flag ≡ nat_lt 0 (fix.errors + fix.erased))) found_is of_some
+      ∙ fixed-pi_error row word marks fix size marks_size bytes (subst (λ a. IfSome a (IsFix row marks word)) found_is (fixed word near_is))
+
+-- and whether it has an answer, whether it failed
+pub flag-failed : (rows : List (List ℕ)) (marks : List (List Bool)) (i : ℕ) (answer : Option Fix) → length rows ≡ 208 → length marks ≡ 208 → i < 208
+    → (answer ≡ None) ↔ (row_answer rows marks i ≡ None) → is_none answer ≡ get_or (failed_of (answers_of rows marks)) i false
+flag-failed rows marks i answer size marks_size below failed =
+    by_near (row_answer rows marks i) refl answer refl
+    ∙ sym (get_or-map is_none (answers_of rows marks) i None false (omega (arith, length-answers_of rows marks 208 size marks_size))
+    ∙ ap is_none (get_or-answers_of rows marks i None (omega (arith, size)) (omega (arith, marks_size)))) where
+      by_near : (near : Option (List ℕ)) → row_answer rows marks i ≡ near → (found : Option Fix) → answer ≡ found → is_none answer ≡ is_none (row_answer rows marks i)
+      by_near None near_is found found_is = rw (failed.1 near_is, near_is) refl
+      by_near (Some word) near_is None found_is = absurd (let no : None ≡ Some word = sym (failed.0 found_is) ∙ near_is in cc)
+      by_near (Some word) near_is (Some fix) found_is = rw (found_is, near_is) refl
+
+-- all 208 failed rows counted
+pub failed_rows-counted : (rows : List (List ℕ)) (marks : List (List Bool)) (count n : ℕ) → length rows ≡ 208 → length marks ≡ 208 → n ≡ 208
+    → count ≡ marked (take n (failed_of (answers_of rows marks))) → count ≡ failed_rows rows marks
+failed_rows-counted rows marks count n size marks_size all counted =
+    let failed : List Bool = failed_of (answers_of rows marks) in
+    counted ∙ ap marked (take_all n failed (omega (arith, all, length-map (answers_of rows marks) is_none, length-answers_of rows marks 208 size marks_size)))
 
 -- all 208 rows counted
 pub pi_rows-counted : (rows : List (List ℕ)) (marks : List (List Bool)) (count n : ℕ) → n ≡ 208

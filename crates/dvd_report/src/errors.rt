@@ -1,57 +1,67 @@
 //! The rows of a captured block that have a PI error, and those that failed.
-ghost use Rattle.std.specs.Prelude.{◌≡◌, Bool, List, length};
+ghost use Rattle.std.specs.Prelude.{◌≡◌, ◌+◌, nat_lt, true, length, All, IfSome};
 ghost use Rattle.std.specs.Result.{result_err};
-ghost use Rattle.dvd_capture.specs.Answers.{IsAnswer};
+ghost use Rattle.std.specs.declared.option.Option.TheVariants.{None};
+ghost use Rattle.gf_field.specs.Words.{IsByte};
 ghost use Rattle.dvd_capture.specs.Rule.{HasAnswers};
 ghost use Rattle.dvd_capture.specs.Works.{marks_of_work, rows_of, stage_of};
-ghost use Rattle.dvd_report.specs.Survey.{failed_rows, has_pi_error, pi_rows, surveyed_with};
+ghost use Rattle.dvd_report.specs.Survey.{failed_rows, pi_rows, surveyed_with};
 
 use crate::counts::Surveyed;
 use dvd_capture::Work;
-use dvd_capture::parts::AnswerRow;
-use dvd_read::{Cause, Fixed, parts};
+use dvd_read::{Cause, Fixed};
+use rs_decode::Fix;
 
 /// What a survey keeps of a block that was read with this answer.
 pub(crate) fn survey_block(work: &Work, answer: &Result<Fixed, Cause>) -> Surveyed
     requires { HasAnswers (stage_of work.now) }
     ensures { result ≡ surveyed_with (rows_of work.now) (marks_of_work work.now) (result_err answer.now) }
 {
+    let (pi, failed) = count_rows(work);
     Surveyed {
-        pi: count_errors(work),
-        failed: count_failed(work),
+        pi,
+        failed,
         cause: answer.err(),
     }
 }
 
-// How many received rows have a PI error.
-fn count_errors(work: &Work) -> u8
+// How many received rows have a PI error, and how many failed.
+fn count_rows(work: &Work) -> (u8, u8)
     requires { HasAnswers (stage_of work.now) }
-    ensures { result ≡ pi_rows (rows_of work.now) (marks_of_work work.now) }
+    ensures pi { result.0 ≡ pi_rows (rows_of work.now) (marks_of_work work.now) }
+    ensures failed { result.1 ≡ failed_rows (rows_of work.now) (marks_of_work work.now) }
 {
-    let answers = work.answers.rows();
-    let mut count = 0;
+    let mut pi = 0;
+    let mut failed = 0;
     for i in 0..208usize {
-        count += u8::from(has_pi_error(work.received.row(i), &answers[i]));
+        prove_row(work.row(i));
+        let answer = work.answer(i);
+        pi += u8::from(has_pi_error(answer));
+        failed += u8::from(answer.is_none());
     }
-    count
+    (pi, failed)
 }
 
-// Whether a row was received with a PI error: no codeword is near it, a place of it was marked, or another word is near.
-fn has_pi_error(row: &[u8; 182], answer: &AnswerRow) -> bool
-    ensures { (marks : List Bool) → length marks ≡ 182 → IsAnswer row.now marks answer.now → result ≡ has_pi_error row.now marks }
+// Whether a row with this answer was received with a PI error: it failed, or a place was corrected or marked.
+fn has_pi_error(answer: Option<Fix>) -> bool
+    ensures failed { answer ≡ None → result ≡ true }
+    ensures answered { IfSome answer (λ fix. result ≡ nat_lt 0 (fix.errors + fix.erased)) }
 {
-    match answer.fix {
-        Some(fix) => fix.erased > 0 || answer.bytes != *row,
+    match answer {
+        Some(fix) => fix.errors > 0 || fix.erased > 0,
         None => true,
     }
 }
 
-// How many rows have no near codeword.
-fn count_failed(work: &Work) -> u8
-    requires { HasAnswers (stage_of work.now) }
-    ensures { result ≡ failed_rows (rows_of work.now) (marks_of_work work.now) }
+// A row has 182 bytes. That isn't known of it as a line of a block; this says it, and does nothing when it runs.
+fn prove_row(row: &[u8; 182])
+    ensures size { length row.now ≡ 182 }
+    ensures bytes { All IsByte row.now }
 {
-    let mut failed = [false; 208];
-    parts::mark_failed(work.answers.rows(), &mut failed);
-    parts::count_failed(&failed) as u8
+    prove_bytes(row);
 }
+
+// What a slice of bytes has is bytes.
+fn prove_bytes(bytes: &[u8])
+    ensures { All IsByte bytes.now }
+{}

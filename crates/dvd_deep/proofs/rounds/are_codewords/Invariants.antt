@@ -2,8 +2,7 @@
 use Rattle.std.proofs.Common.{◌≡◌, ℕ, ◌<◌, true}
 use Rattle.rs_decode.specs.Nearest.{vanishes_at_all}
 use Rattle.dvd_block.specs.Product.{line}
-use Rattle.dvd_capture.specs.Parts.{received_rows}
 use Rattle.dvd_deep.proofs.rounds.are_codewords.Given as goal
 
 abbrev pub invariant-loop-i : goal.invariant-loop-i
-invariant-loop-i l = (k : ℕ) → k < l.i → vanishes_at_all 10 (line (received_rows l.rows) k) ≡ true
+invariant-loop-i l = (k : ℕ) → k < l.i → vanishes_at_all 10 (line l.rows k) ≡ true

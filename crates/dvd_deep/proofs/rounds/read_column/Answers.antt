@@ -3,14 +3,12 @@ use Rattle.std.proofs.Common.{◌≡◌, ◌∙◌, ◌<◌, ℕ, List, length, 
 use Rattle.std.proofs.lemmas.Grind.{same_number_lists}
 use Rattle.dvd_block.specs.Product.{column}
 use Rattle.dvd_block.proofs.Columns.{get_or-column, length-column}
-use Rattle.dvd_capture.proofs.WorkParts.{rows-height}
-use Rattle.dvd_capture.specs.Parts.{received_rows}
 use Rattle.dvd_deep.proofs.rounds.read_column.Goals as goal
 
 pub returns : goal.returns
 returns c =
-    let rows : List (List ℕ) = received_rows c.args.rows.now in
-    let height : length rows ≡ 208 = rows-height c.args.rows.now in
+    let rows : List (List ℕ) = c.args.rows.now in
+    let height : length rows ≡ 208 = c.told-rows in
     same_number_lists c.loop-i.word (column rows c.args.j) (c.loop-i.invariant.size ∙ sym (length-column rows c.args.j ∙ height))
     (λ k within.
     let below : k < 208 = omega (arith, c.loop-i.invariant.size) in

@@ -1,13 +1,12 @@
 -- What each turn of the loop in `copy_received` keeps.
 use Rattle.std.proofs.Common.{◌≡◌, ℕ, ◌+◌, ◌*◌, ◌<◌, length, take}
 use Rattle.dvd_block.specs.Product.{line}
-use Rattle.dvd_capture.specs.Parts.{received_rows}
 use Rattle.dvd_read.proofs.FrameFaults.{fronts}
 use Rattle.dvd_read.proofs.frames.copy_received.Given as goal
 
 abbrev pub invariant-loop-q : goal.invariant-loop-q
 invariant-loop-q l = record {
   size : length l.frame ≡ 2064;
-  front : take (172 * l.q) l.frame ≡ fronts (received_rows l.received) l.f l.q;
-  widths : (k : ℕ) → k < l.q → length (line (received_rows l.received) (12 * l.f + k)) ≡ 182;
+  front : take (172 * l.q) l.frame ≡ fronts l.rows l.f l.q;
+  widths : (k : ℕ) → k < l.q → length (line l.rows (12 * l.f + k)) ≡ 182;
 }

@@ -7,6 +7,7 @@ use Rattle.dvd_capture.specs.TwoPass.{from_columns}
 use Rattle.dvd_capture.specs.declared.parts.ColumnAnswer.{ColumnAnswer}
 use Rattle.dvd_capture.proofs.Columns.{from_columns-line, length-from_columns}
 use Rattle.dvd_capture.proofs.WorkParts.{rows-height}
+use Rattle.dvd_read.specs.Frames.{frame_of}
 use Rattle.dvd_read.specs.Inner.Found.{words_of_columns}
 use Rattle.dvd_read.proofs.Differences.{rows-same}
 use Rattle.dvd_read.proofs.FrameFaults.{frames-same}
@@ -17,7 +18,7 @@ returns-then-as_received c =
     let rows : List (List ℕ) = received_rows c.args.received.now in
     let words : List (List ℕ) = words_of_columns c.args.columns.now in
     let height : length rows ≡ 208 = rows-height c.args.received.now in
-    c.copy_received.ensures.frame
+    c.copy_received.ensures.frame ∙ ap (λ (l : List (List ℕ)). frame_of l c.args.f) c.rows.ensures.rows
     ∙ frames-same rows (from_columns words) c.args.f
     (λ q below.
     let i : ℕ = 12 * c.args.f + q in
@@ -25,4 +26,4 @@ returns-then-as_received c =
     ap length (from_columns-line words i (omega (arith, c.requires.frame))) ∙ length-map words (λ word. slice_index word i)
     ∙ length-map c.args.columns.now (λ (column : ColumnAnswer). column.bytes) ∙ c.requires.columns in
     rows-same rows (from_columns words) i (c.requires.as_received c.if-as_received.true) (omega (arith, height, c.requires.frame))
-    (omega (arith, length-from_columns words, c.requires.frame)) (c.copy_received.ensures.widths q below ∙ sym width))
+    (omega (arith, length-from_columns words, c.requires.frame)) (sym (ap (λ (l : List (List ℕ)). length (line l i)) c.rows.ensures.rows) ∙ c.copy_received.ensures.widths q below ∙ sym width))

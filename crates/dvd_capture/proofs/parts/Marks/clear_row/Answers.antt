@@ -1,8 +1,12 @@
 -- The proof of `Marks::clear_row` in src/parts.rt.
-use Rattle.std.proofs.Common.{◌∙◌, Bool, List, ap, set}
-use Rattle.dvd_capture.specs.Parts.{marks_rows}
-use Rattle.dvd_capture.proofs.MarkLists.{zero_marks}
+use Rattle.std.proofs.Common.{◌∙◌, Bool, List, ap, map, set}
+use Rattle.std.proofs.lemmas.List.{map-set}
+use Rattle.dvd_capture.specs.Parts.{marks_of_row}
+use Rattle.dvd_capture.specs.declared.row_marks.RowMarks.{RowMarks}
 use Rattle.dvd_capture.proofs.parts.Marks.clear_row.Goals as goal
 
 pub returns : goal.returns
-returns c = c.set_row.ensures ∙ ap (λ (marks : List Bool). set (marks_rows c.args.self.now) c.args.i marks) zero_marks
+returns c =
+    let rows : List RowMarks = c.args.self.now.rows.items in
+    map-set marks_of_row rows c.args.i c.none.result
+    ∙ ap (λ (marks : List Bool). set (map marks_of_row rows) c.args.i marks) c.none.ensures

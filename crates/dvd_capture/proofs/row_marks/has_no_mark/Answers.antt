@@ -1,9 +1,9 @@
--- The proof of `has_no_mark` in src/parts.rt.
+-- The proof of `has_no_mark` in src/row_marks.rt.
 use Rattle.std.proofs.Common.{◌≡◌, ◌∙◌, ℕ, true, false, List, replicate, take, nat_eq, sym, arith}
 use Rattle.std.proofs.lemmas.Bool.Decides.{nat_tests}
 use Rattle.std.specs.Cmp.Lexicographic.{bytes_decides, pointwise, same_text}
 use Rattle.dvd_capture.proofs.ClearMarks.{clear_front, clear_last, clear_marks}
-use Rattle.dvd_capture.proofs.parts.has_no_mark.Goals as goal
+use Rattle.dvd_capture.proofs.row_marks.has_no_mark.Goals as goal
 
 pub returns-then-eq : goal.returns-then-eq
 returns-then-eq c =

@@ -1,7 +1,7 @@
--- The proof of `with_bit` in src/parts.rt.
+-- The proof of `with_bit` in src/row_marks.rt.
 use Rattle.std.proofs.Common.{◌∙◌, ◌==◌, sym, ap, w8}
 use Rattle.std.proofs.lemmas.Nat.Bits.{bit_at_set_same, bit_at_set_other, bit_at_clear_same, bit_at_clear_other}
-use Rattle.dvd_capture.proofs.parts.with_bit.Goals as goal
+use Rattle.dvd_capture.proofs.row_marks.with_bit.Goals as goal
 
 pub returns-then-set-clause-same : goal.returns-then-set-clause-same
 returns-then-set-clause-same c = ap (λ b. b == 1) (bit_at_set_same w8 c.args.byte c.args.place c.requires) ∙ sym c.if-set.true
