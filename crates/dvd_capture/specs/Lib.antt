@@ -4,6 +4,7 @@ pub mod Captured
 pub mod Fetching
 pub mod Header
 pub mod Inner
+pub mod Kept
 pub mod Laws
 pub mod Lends
 pub mod Listed

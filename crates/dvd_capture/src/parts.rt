@@ -65,7 +65,7 @@ impl Received {
     ghost use Rattle.dvd_capture.specs.Parts.{received_rows};
 
     /// Zeros. `NoMemory` may come at any time, and nothing is taken then.
-    pub fn new(alloc: Global) -> Result<Received, NoMemory>
+    pub(crate) fn new(alloc: Global) -> Result<Received, NoMemory>
         ensures { IfOk result (λ received. received_rows received ≡ replicate 208 (replicate 182 0)) }
     {
         let rows = vec![in alloc; [0; 182]; 208].map_err(|_| NoMemory)?;
@@ -88,13 +88,6 @@ impl Received {
         &self.rows[i]
     }
 
-    /// Sets all rows to those of another buffer.
-    pub fn copy_from(&mut self, other: &Received)
-        ensures { received_rows self.new ≡ received_rows other.now }
-    {
-        self.set_rows(&other.rows);
-    }
-
     /// Sets all rows.
     pub(crate) fn set_rows(&mut self, rows: &[[u8; 182]])
         requires { length rows.now ≡ 208 }
@@ -104,7 +97,7 @@ impl Received {
     }
 
     /// Sets row `i`, and nothing else.
-    pub fn set_row(&mut self, i: usize, row: &[u8])
+    pub(crate) fn set_row(&mut self, i: usize, row: &[u8])
         requires row { i < 208 }
         requires size { length row.now ≡ 182 }
         ensures { received_rows self.new ≡ slice_set (received_rows self.old) i row.now }
@@ -113,7 +106,7 @@ impl Received {
     }
 
     /// Sets the byte in row `i` at place `j`, and nothing else.
-    pub fn set(&mut self, i: usize, j: usize, byte: u8)
+    pub(crate) fn set(&mut self, i: usize, j: usize, byte: u8)
         requires row { i < 208 }
         requires place { j < 182 }
         ensures received { received_rows self.new ≡ slice_set (received_rows self.old) i (slice_set (line (received_rows self.old) i) j byte) }
@@ -128,7 +121,7 @@ impl Marks {
     ghost use Rattle.dvd_capture.specs.Answers.{marks_line};
 
     /// No marks. `NoMemory` may come at any time, and nothing is taken then.
-    pub fn new(alloc: Global) -> Result<Marks, NoMemory>
+    pub(crate) fn new(alloc: Global) -> Result<Marks, NoMemory>
         ensures { IfOk result (λ marks. marks_rows marks ≡ replicate 208 (replicate 182 false)) }
     {
         let rows = vec![in alloc; RowMarks::none(); 208].map_err(|_| NoMemory)?;
@@ -160,7 +153,7 @@ impl Marks {
     }
 
     /// The mark in row `i` at place `j`.
-    pub fn get(&self, i: usize, j: usize) -> bool
+    pub(crate) fn get(&self, i: usize, j: usize) -> bool
         requires row { i < 208 }
         requires place { j < 182 }
         ensures { result ≡ slice_index_or (marks_line (marks_rows self.now) i) j false }
@@ -169,7 +162,7 @@ impl Marks {
     }
 
     /// Sets the mark in row `i` at place `j`, and nothing else.
-    pub fn set(&mut self, i: usize, j: usize, mark: bool)
+    pub(crate) fn set(&mut self, i: usize, j: usize, mark: bool)
         requires row { i < 208 }
         requires place { j < 182 }
         ensures { marks_rows self.new ≡ slice_set (marks_rows self.old) i (slice_set (marks_line (marks_rows self.old) i) j mark) }
@@ -187,18 +180,11 @@ impl Marks {
     }
 
     /// Takes the marks of row `i` away, and no others.
-    pub fn clear_row(&mut self, i: usize)
+    pub(crate) fn clear_row(&mut self, i: usize)
         requires { i < 208 }
         ensures { marks_rows self.new ≡ slice_set (marks_rows self.old) i (replicate 182 false) }
     {
         self.rows[i] = RowMarks::none();
-    }
-
-    /// Sets all marks to those of another buffer.
-    pub fn copy_from(&mut self, other: &Marks)
-        ensures { marks_rows self.new ≡ marks_rows other.now }
-    {
-        self.rows.copy_from_slice(&other.rows);
     }
 
     /// Takes all marks away.
@@ -348,7 +334,7 @@ impl Sectors {
     }
 
     /// The first `count` sectors, one behind the other.
-    pub fn first(&self, count: usize) -> &[u8]
+    pub(crate) fn first(&self, count: usize) -> &[u8]
         requires { count ≤ 16 }
         ensures { result.now ≡ flat_map (λ sector. sector) (take count (sector_bytes self.now)) }
     {

@@ -7,13 +7,15 @@ use Rattle.dvd_exercise.specs.Inner.Kept.{KeepsRest}
 
 -- before the first step all is as it was
 pub rest-same : (work : Work) → stage_of work ≡ Fetched → KeepsRest work work
-rest-same work stage = record { stage = stage; answers = refl; columns = refl; sectors = refl }
+rest-same work stage = record { stage = stage; found = record { answers = refl; columns = refl; sectors = refl } }
 
 -- what each of two steps keeps, both keep
 pub rest-then : (old mid new : Work) → KeepsRest old mid → KeepsRest mid new → KeepsRest old new
 rest-then old mid new first next = record {
   stage = next.stage;
-  answers = next.answers ∙ first.answers;
-  columns = next.columns ∙ first.columns;
-  sectors = next.sectors ∙ first.sectors;
+  found = record {
+    answers = next.found.answers ∙ first.found.answers;
+    columns = next.found.columns ∙ first.found.columns;
+    sectors = next.found.sectors ∙ first.found.sectors;
+  };
 }

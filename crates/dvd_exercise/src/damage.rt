@@ -1,6 +1,7 @@
 //! Damage to a received block: bad rows, lost rows, and single errors in all other rows.
 ghost use Rattle.std.specs.Prelude.{◌≡◌, ℕ, ◌+◌, ◌*◌, ◌<◌, ◌≤◌, true, false, [], length, replicate, slice_set, bit_xor};
 ghost use Rattle.dvd_block.specs.Product.{line, place};
+ghost use Rattle.dvd_capture.specs.Kept.{KeepsFound};
 ghost use Rattle.dvd_capture.specs.Within.{IsWithin};
 ghost use Rattle.dvd_capture.specs.Works.{marks_of_work, rows_of, stage_of};
 ghost use Rattle.dvd_capture.specs.declared.stage.Stage.TheVariants.{Fetched};
@@ -26,9 +27,7 @@ pub fn hurt(rand: &mut Rand, work: &mut Work)
     ensures drawn { state_of rand.new ≡ hurt_state (state_of rand.old) }
     ensures within { marks_of_work work.old ≡ replicate 208 (replicate 182 false) → IsWithin (rows_of work.old) (rows_of work.new) (marks_of_work work.new) }
     ensures stage { stage_of work.new ≡ Fetched }
-    ensures answers { work.new.answers ≡ work.old.answers }
-    ensures columns { work.new.columns ≡ work.old.columns }
-    ensures sectors { work.new.sectors ≡ work.old.sectors }
+    ensures found { KeepsFound work.old work.new }
 {
     let plan = Plan::draw(rand);
     combine_rows(&plan, rand, work);

@@ -104,3 +104,13 @@ fn a_block_is_hurt_twice(rt: HostRuntime) -> Result<(), Fail> {
     assert_eq!(rt; digest(alloc, &work)?, AGAIN);
     Ok(())
 }
+
+#[test]
+fn generators_are_alike_in_one_state(rt: HostRuntime) -> Result<(), Fail> {
+    let mut rand = Rand::new(1);
+    let copy = rand.clone()?;
+    assert!(rt; rand == copy);
+    rand.word();
+    assert!(rt; rand != copy && rand != Rand::new(1) && copy == Rand::new(1));
+    Ok(())
+}

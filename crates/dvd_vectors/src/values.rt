@@ -1,6 +1,5 @@
 //! Derived equality and copying: each value is like its copy, and unlike each other one.
 use crate::script::Held;
-use dvd_capture::parts::{AnswerRow, ColumnAnswer};
 use dvd_capture::{FetchAnswer, Form, Stage};
 use dvd_control::{ControlFault, PhysicalFormat};
 use dvd_frame::{Area, FrameCause, Id, Rule};
@@ -264,39 +263,6 @@ static FETCHES: [FetchAnswer; 7] = [
     FetchAnswer::BadMarks { at: 2 },
 ];
 
-static ROW_ANSWERS: [AnswerRow; 3] = [
-    AnswerRow {
-        bytes: [0; 182],
-        fix: None,
-    },
-    AnswerRow {
-        bytes: [1; 182],
-        fix: None,
-    },
-    AnswerRow {
-        bytes: [0; 182],
-        fix: Some(Fix {
-            errors: 0,
-            erased: 0,
-        }),
-    },
-];
-
-static COLUMN_ANSWERS: [ColumnAnswer; 3] = [
-    ColumnAnswer {
-        bytes: [0; 208],
-        answered: false,
-    },
-    ColumnAnswer {
-        bytes: [1; 208],
-        answered: false,
-    },
-    ColumnAnswer {
-        bytes: [0; 208],
-        answered: true,
-    },
-];
-
 static FIXED: [Fixed; 3] = [
     Fixed {
         bytes: 1,
@@ -458,9 +424,7 @@ fn each_part_of_a_disk_is_like_itself_alone(_rt: HostRuntime) -> Held {
             & are_unlike(&ZONE_LIST)
             & are_unlike(&FORMS)
             & are_unlike(&STAGES)
-            & are_unlike(&FETCHES)
-            & are_unlike(&ROW_ANSWERS)
-            & are_unlike(&COLUMN_ANSWERS),
+            & are_unlike(&FETCHES),
     )
 }
 

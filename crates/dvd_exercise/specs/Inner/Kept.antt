@@ -1,5 +1,6 @@
 -- Ours: what no step of the damage changes.
 use Rattle.std.specs.Prelude.{◌≡◌}
+use Rattle.dvd_capture.specs.Kept.{KeepsFound}
 use Rattle.dvd_capture.specs.Works.{stage_of}
 use Rattle.dvd_capture.specs.declared.stage.Stage.TheVariants.{Fetched}
 use Rattle.dvd_capture.specs.declared.work.Work.{Work}
@@ -7,6 +8,4 @@ use Rattle.dvd_capture.specs.declared.work.Work.{Work}
 -- the block is still a fetched one, and answers, columns and sectors are as they were
 pub record KeepsRest (old new : Work) : Type 0 where
   pub stage : stage_of new ≡ Fetched
-  pub answers : new.answers ≡ old.answers
-  pub columns : new.columns ≡ old.columns
-  pub sectors : new.sectors ≡ old.sectors
+  pub found : KeepsFound old new

@@ -23,7 +23,7 @@ loop-j-preserved c = record {
   marks = line_more false c.args.i c.loop-j.j (λ k. k) (λ _. true) _ _ _ true (omega (arith, marks-height c.args.work.now.marks, c.requires.row)) (λ t below same. omega arith)
       c.loop-j.invariant.marks c.damage.ensures.marks (omega (arith, marks-width c.damage.new.self.marks c.args.i c.requires.row)) refl;
   rest = rest-then c.args.work.now c.loop-j.work c.damage.new.self c.loop-j.invariant.rest
-      (record { stage = c.damage.ensures.stage; answers = c.damage.ensures.answers; columns = c.damage.ensures.columns; sectors = c.damage.ensures.sectors });
+      (record { stage = c.damage.ensures.stage; found = record { answers = c.damage.ensures.answers; columns = c.damage.ensures.columns; sectors = c.damage.ensures.sectors } });
 }
 
 pub returns-clause-received : goal.returns-clause-received
