@@ -121,3 +121,22 @@ fn a_wrong_edc(rt: HostRuntime) {
     assert!(rt; check(&sector, 150) == Err(CdCause::Edc));
     assert!(rt; repair(&mut sector, 150) == Err(CdCause::Edc));
 }
+
+/// Each cause is equal to itself, and to no other: of another kind, or of the same with another number.
+#[test]
+fn causes_differ(rt: HostRuntime) {
+    let causes = [
+        CdCause::Parity { word: 1 },
+        CdCause::Parity { word: 2 },
+        CdCause::Mode { byte: 1 },
+        CdCause::Mode { byte: 2 },
+        CdCause::Address { found: 1 },
+        CdCause::Address { found: 2 },
+        CdCause::Edc,
+    ];
+    for (i, cause) in causes.iter().enumerate() {
+        for (k, other) in causes.iter().enumerate() {
+            assert_eq!(rt; cause == other, i == k, "at {i}, {k}");
+        }
+    }
+}

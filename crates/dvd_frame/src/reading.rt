@@ -9,6 +9,7 @@ ghost use Rattle.dvd_frame.specs.Id.{has_check};
 use crate::checks::edc_of_parts;
 use crate::id::Id;
 use crate::scrambling::{Rule, Scrambler, scramble_slice};
+use byteorder::{BigEndian, ByteOrder};
 use rs_code::Ied;
 use thiserror::Error;
 
@@ -72,7 +73,7 @@ pub fn found_id(bytes: &[u8]) -> Id
     requires { 4 ≤ length bytes.now }
     ensures { result ≡ found_word bytes.now }
 {
-    Id::from_word(u32::from_be_bytes([bytes[0], bytes[1], bytes[2], bytes[3]]))
+    Id::from_word(BigEndian::read_u32(bytes))
 }
 
 /// Whether the first six bytes are an ID with its right check.
