@@ -1,6 +1,7 @@
 //! The header of a listed capture, which states the layout of the disk.
 ghost use Rattle.std.specs.Prelude.{◌≡◌, ◌<◌, IfOk, Err};
 
+use byteorder::{BigEndian, ByteOrder};
 use thiserror::Error;
 
 /// What a header states, by its numbers: the shape (0 single, 1 parallel, 2 opposite), the zones (0 data, 1 all), and, in
@@ -39,16 +40,14 @@ impl Header {
     pub fn to_bytes(&self, out: &mut [u8; 32])
         ensures { out.new ≡ header_bytes self.now }
     {
-        let [zero3, zero2, zero1, zero0] = self.sectors0.to_be_bytes();
-        let [one3, one2, one1, one0] = self.sectors1.to_be_bytes();
-        let [initial3, initial2, initial1, initial0] = self.initial.to_be_bytes();
-        let [tail3, tail2, tail1, tail0] = self.tail.to_be_bytes();
-        let [d, v, e, e2, c, c2, n1, n0] = INITIAL;
-        *out = [
-            d, v, e, e2, c, c2, n1, n0, self.shape, self.zones, 0, 0, zero3, zero2, zero1, zero0,
-            one3, one2, one1, one0, initial3, initial2, initial1, initial0, tail3, tail2, tail1,
-            tail0, 0, 0, 0, 0,
-        ];
+        *out = [0; 32];
+        out[..8].copy_from_slice(&INITIAL);
+        out[8] = self.shape;
+        out[9] = self.zones;
+        BigEndian::write_u32(&mut out[12..], self.sectors0);
+        BigEndian::write_u32(&mut out[16..], self.sectors1);
+        BigEndian::write_u32(&mut out[20..], self.initial);
+        BigEndian::write_u32(&mut out[24..], self.tail);
     }
 
     /// Reads 32 bytes, or answers the first byte that no header has there.
@@ -65,10 +64,10 @@ impl Header {
         Ok(Header {
             shape: bytes[8],
             zones: bytes[9],
-            sectors0: u32::from_be_bytes([bytes[12], bytes[13], bytes[14], bytes[15]]),
-            sectors1: u32::from_be_bytes([bytes[16], bytes[17], bytes[18], bytes[19]]),
-            initial: u32::from_be_bytes([bytes[20], bytes[21], bytes[22], bytes[23]]),
-            tail: u32::from_be_bytes([bytes[24], bytes[25], bytes[26], bytes[27]]),
+            sectors0: BigEndian::read_u32(&bytes[12..]),
+            sectors1: BigEndian::read_u32(&bytes[16..]),
+            initial: BigEndian::read_u32(&bytes[20..]),
+            tail: BigEndian::read_u32(&bytes[24..]),
         })
     }
 

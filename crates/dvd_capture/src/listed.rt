@@ -19,6 +19,7 @@ use crate::form::Form;
 use crate::parts::{Marks, Received};
 use crate::places::{PLACES, count_runs, mark_places, next_place};
 use crate::work::Work;
+use byteorder::{BigEndian, ByteOrder};
 use dvd_block::write_rows;
 use dvd_ports::{Failed, Sink, Source, WriteFault, read_whole, write_whole};
 
@@ -71,9 +72,10 @@ fn write_run<K: Sink>(out: &mut K, start: usize, length: usize) -> Result<(), Wr
     requires length { length ≤ 37_856 }
     ensures { IsWritten (to_be_bytes w16 start ++ to_be_bytes w16 length) (K.seen out.old) (K.seen out.new) result }
 {
-    let [start1, start0] = (start as u16).to_be_bytes();
-    let [length1, length0] = (length as u16).to_be_bytes();
-    write_whole(out, &[start1, start0, length1, length0])
+    let mut run = [0; 4];
+    BigEndian::write_u16(&mut run, start as u16);
+    BigEndian::write_u16(&mut run[2..], length as u16);
+    write_whole(out, &run)
 }
 
 // Writes a field.
@@ -81,7 +83,9 @@ fn write_field<K: Sink>(out: &mut K, value: usize) -> Result<(), WriteFault>
     requires { value ≤ 37_856 }
     ensures { IsWritten (to_be_bytes w16 value) (K.seen out.old) (K.seen out.new) result }
 {
-    write_whole(out, &(value as u16).to_be_bytes())
+    let mut field = [0; 2];
+    BigEndian::write_u16(&mut field, value as u16);
+    write_whole(out, &field)
 }
 
 /// Reads a unit into its buffers.
@@ -184,7 +188,7 @@ fn fetch_field<S: Source>(src: &mut S, held: usize) -> Result<usize, FetchAnswer
 {
     let mut bytes = [0; 2];
     match read_whole(src, &mut bytes) {
-        Ok(2) => Ok(usize::from(u16::from_be_bytes(bytes))),
+        Ok(2) => Ok(usize::from(BigEndian::read_u16(&bytes))),
         Ok(count) => Err(FetchAnswer::Short {
             bytes: (held + count) as u32,
         }),

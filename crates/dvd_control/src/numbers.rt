@@ -3,6 +3,7 @@ ghost use Rattle.std.specs.Prelude.{◌≡◌, ◌+◌, ◌-◌, ◌<◌, ◌≤
 ghost use Rattle.dvd_layout.specs.Lengths.{data_first, padded};
 ghost use Rattle.dvd_control.specs.Format.{HasLeadIn, fields_for, number_at, three_bytes};
 
+use byteorder::{BigEndian, ByteOrder};
 use dvd_layout::{DATA_FIRST, Layout, Shape};
 
 // The last of these data sectors, which fill whole ECC blocks from `first` on.
@@ -41,11 +42,9 @@ pub(crate) fn three_bytes(number: u32) -> [u8; 3]
     requires { number < 2 ^ 24 }
     ensures { result ≡ three_bytes number }
 {
-    [
-        (number / 65536) as u8,
-        (number / 256 % 256) as u8,
-        (number % 256) as u8,
-    ]
+    let mut bytes = [0; 3];
+    BigEndian::write_u24(&mut bytes, number);
+    bytes
 }
 
 // The sector number in three bytes from place i on.
@@ -54,5 +53,5 @@ pub(crate) fn number_at(bytes: &[u8; 2048], i: usize) -> u32
     ensures value { result ≡ number_at bytes.now i }
     ensures number { result < 2 ^ 24 }
 {
-    65536 * u32::from(bytes[i]) + 256 * u32::from(bytes[i + 1]) + u32::from(bytes[i + 2])
+    BigEndian::read_u24(&bytes[i..])
 }

@@ -37,7 +37,7 @@ pub fn answer_columns(
     ensures own { IsTrue result → AreOwnFrom answers.now start piece.new }
 {
     copy_columns(answers, start, piece);
-    match Erasures::new(failed, usize::from(MOST_FAILED)) {
+    match Erasures::shared(failed, usize::from(MOST_FAILED)) {
         Some(erasures) => answer_copied(code, answers, &erasures, start, piece),
         None => {
             leave_unanswered(piece);

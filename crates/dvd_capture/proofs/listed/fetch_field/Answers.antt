@@ -12,5 +12,5 @@ returns-in-Ok-eq2-clause-field g c =
       own = bytes;
       size = size;
       taken = subst (Consumes _ _) (take_all c.in-Ok-eq2.field-0 bytes (omega (arith, size, c.in-Ok-eq2.field-0-is))) c.in-Ok-eq2.ensures.taken;
-      is = sym (field-read bytes size) ∙ sym c.from_be_bytes.ensures ∙ sym c.from.ensures;
+      is = sym (field-read bytes size) ∙ sym c.read_u16.ensures ∙ sym c.from.ensures;
     }
