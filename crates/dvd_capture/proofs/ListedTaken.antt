@@ -3,6 +3,7 @@ use Rattle.std.proofs.Common.{◌≡◌, ◌⊎◌, ◌∙◌, ℕ, ◌+◌, ◌
 use Rattle.std.specs.Int.{from_be_bytes, w16}
 use Rattle.std.specs.Result.{IfErr, IsErrAnd}
 use Rattle.std.specs.Io.KnownBytes.{Consumes}
+use Rattle.byteorder.specs.Endian.{big_number}
 use Rattle.dvd_ports.proofs.KnownLemmas.{Consumes-then}
 use Rattle.dvd_capture.specs.Listed.{field_at, marked_by, run_count}
 use Rattle.dvd_capture.specs.Inner.Listing.{AreRows, HasRuns, IsNoField, IsStop, IsStopped, TakesField, TakesRuns}
@@ -23,10 +24,15 @@ pub if_err : {A : Type 0} (answer : Result A FetchAnswer) (error : FetchAnswer) 
 if_err (Ok value) error P is holds = absurd is
 if_err (Err e) error P is holds = subst P (sym is) holds
 
--- a field by the bytes that were read
+-- a field by its two bytes
 pub field-read : (bytes : List ℕ) → length bytes ≡ 2 → from_be_bytes w16 bytes ≡ field_at bytes 0
 unfolding field_at
 field-read bytes size = omega arith
+
+-- a field by the number that is read of it
+pub field-number : (bytes : List ℕ) → big_number 2 bytes ≡ field_at bytes 0
+unfolding field_at
+field-number bytes = omega arith
 
 module _ (bytes : List ℕ) (count n end : ℕ) (mark : ℕ → Bool) (has : HasRuns bytes count n end mark) (below : n < count) (old : Option (List ℕ)) where
   -- the unit isn't fetched for want of the start of run n

@@ -1,5 +1,6 @@
 //! The header of a listed capture, which states the layout of the disk.
-ghost use Rattle.std.specs.Prelude.{◌≡◌, ◌<◌, IfOk, Err};
+ghost use Rattle.std.specs.Prelude.{◌≡◌, ◌+◌, ◌<◌, ◌≤◌, [], ◌∷◌, slice_index, IfOk, Err};
+ghost use Rattle.std.specs.Int.{from_be_bytes, w32};
 
 use byteorder::{BigEndian, ByteOrder};
 use thiserror::Error;
@@ -64,10 +65,10 @@ impl Header {
         Ok(Header {
             shape: bytes[8],
             zones: bytes[9],
-            sectors0: BigEndian::read_u32(&bytes[12..]),
-            sectors1: BigEndian::read_u32(&bytes[16..]),
-            initial: BigEndian::read_u32(&bytes[20..]),
-            tail: BigEndian::read_u32(&bytes[24..]),
+            sectors0: number_at(bytes, 12),
+            sectors1: number_at(bytes, 16),
+            initial: number_at(bytes, 20),
+            tail: number_at(bytes, 24),
         })
     }
 
@@ -85,4 +86,13 @@ impl Header {
             _ => true,
         }
     }
+}
+
+// The number in four bytes from a place on.
+fn number_at(bytes: &[u8; 32], at: usize) -> u32
+    requires { at ≤ 28 }
+    ensures { result
+        ≡ from_be_bytes w32 (slice_index bytes.now at ∷ slice_index bytes.now (at + 1) ∷ slice_index bytes.now (at + 2) ∷ slice_index bytes.now (at + 3) ∷ []) }
+{
+    BigEndian::read_u32(&bytes[at..])
 }

@@ -2,7 +2,7 @@
 use Rattle.std.proofs.Common.{rules, ◌∙◌, ◌≡◌, length, List, ℕ, sym, subst, arith}
 use Rattle.std.specs.Io.KnownBytes.{Consumes}
 use Rattle.std.proofs.lemmas.List.{take_all}
-use Rattle.dvd_capture.proofs.ListedTaken.{field-read}
+use Rattle.dvd_capture.proofs.ListedTaken.{field-number}
 use Rattle.dvd_capture.proofs.listed.fetch_field.Goals as goal
 
 pub returns-in-Ok-eq2-clause-field : goal.returns-in-Ok-eq2-clause-field
@@ -12,5 +12,5 @@ returns-in-Ok-eq2-clause-field g c =
       own = bytes;
       size = size;
       taken = subst (Consumes _ _) (take_all c.in-Ok-eq2.field-0 bytes (omega (arith, size, c.in-Ok-eq2.field-0-is))) c.in-Ok-eq2.ensures.taken;
-      is = sym (field-read bytes size) ∙ sym c.read_u16.ensures ∙ sym c.from.ensures;
+      is = sym (field-number bytes) ∙ sym c.read_u16.ensures ∙ sym c.from.ensures;
     }

@@ -13,5 +13,5 @@ pub returns-clause-fields : goal.returns-clause-fields
 returns-clause-fields c =
     let size : length c.args.bytes.now ≡ 32 = search rules in
     header-is (slice_index c.args.bytes.now) (λ k below. c.loop-at.invariant k (omega arith)) (λ k below. search rules) _ refl refl
-    c.from_be_bytes.ensures c.from_be_bytes-2.ensures c.from_be_bytes-3.ensures c.from_be_bytes-4.ensures
+    c.number_at.ensures c.number_at-2.ensures c.number_at-3.ensures c.number_at-4.ensures
     ∙ each_byte c.args.bytes.now size
