@@ -4,6 +4,7 @@ ghost use Rattle.std.specs.Prelude.{◌≡◌, ◌⊎◌, ◌+◌, ◌-◌, ◌*
 ghost use Rattle.std.specs.Str.{bytes_eq};
 ghost use Rattle.dvd_block.specs.Buffers.{block_rows, piece_bytes};
 ghost use Rattle.dvd_block.specs.Product.{IsBlockOf, IsParityAdded, line};
+ghost use Rattle.dvd_capture.specs.Kept.{KeepsReceived};
 ghost use Rattle.dvd_capture.specs.Rule.{HasBlock};
 ghost use Rattle.dvd_capture.specs.Works.{marks_of_work, rows_of, sectors_of, stage_of};
 ghost use Rattle.dvd_exercise.specs.Damage.{IsHurt, hurt_state};
@@ -344,8 +345,7 @@ fn read_back<F: Fn(&mut Work, &BlockPlan) -> Result<Fixed, Cause>>(
     ensures fixed_most { counts.new.fixed ≤ counts.old.fixed + 2 ^ 32 }
     ensures failed_most { counts.new.failed ≤ counts.old.failed + 2 ^ 16 }
     ensures stage { stage_of work.new ≡ Stage.Fixed }
-    ensures received { work.new.received ≡ work.old.received }
-    ensures marks { work.new.marks ≡ work.old.marks }
+    ensures received { KeepsReceived work.old work.new }
 {
     if let Ok(fixed) = read_by(read, work, entry) {
         counts.add(fixed, has_sectors(work, image));

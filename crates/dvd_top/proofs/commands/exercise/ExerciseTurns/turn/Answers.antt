@@ -48,7 +48,7 @@ returns-clause-turn g c = λ before number ready.
     let next : IsBehind e.seed (k + 1) new_state counts new_work =
     turn_behind e.blocks k x e.layout e.shape c.requires.unit e.few entry stands piece block work made.drawn made.made made.hurt
     e.seed c.bytes.result.now c.bytes.ensures.bytes e.counts counts e.work.now new_work new_state behind made.state
-    read.read read.counted read.fixed_most read.failed_most read.stage read.received read.marks in record {
+    read.read read.counted read.fixed_most read.failed_most read.stage read.received.received read.received.marks in record {
       own = [];
       steps = [];
       unit = record { whole = refl; does = (refl, refl) };
