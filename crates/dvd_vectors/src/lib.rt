@@ -50,6 +50,8 @@ mod scratched; // a disk with a burst and scattered errors
 #[cfg(test)]
 mod script; // what the tests of whole runs are written in
 #[cfg(test)]
+mod stops; // no stream is asked again
+#[cfg(test)]
 mod survey; // surveys of streams
 #[cfg(test)]
 mod usage; // words that ask for nothing

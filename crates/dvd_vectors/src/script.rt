@@ -35,6 +35,7 @@
 //! nothing        to an output that keeps nothing they end with Done
 //! meet 2         two workers meet in two passes
 //! asks 222h      the gate is asked for each of three pieces twice, and for no other: a digit a piece, that of piece 0 the last
+//! stops 700 7    nothing is tried again, of 700 bytes a call, where one of the first seven calls of a stream fails
 //! loops          the loops of `master` and `recover` make them of those in common, and those of them
 //! ```
 use crate::fixture::{
@@ -42,6 +43,7 @@ use crate::fixture::{
 };
 use crate::loops::leave_both;
 use crate::making::{Numbers, numbers, take};
+use crate::stops::stop_in_turn;
 use crate::workers::{ask, meet};
 use dvd_par::OpenGate;
 use dvd_top::Status;
@@ -187,6 +189,7 @@ fn holds<R: AllocGlobal + Threads + Sync>(
         "nothing" => to_nothing(rt, memory),
         "meet" => meet(rt, &numbers(rest), memory),
         "asks" => ask(rt, &numbers(rest), memory),
+        "stops" => stop_in_turn(rt, &numbers(rest), memory),
         "loops" => leave_both(rt, memory),
         _ => memory.holds(verb, rest),
     }
