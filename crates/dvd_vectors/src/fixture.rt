@@ -1,6 +1,6 @@
 //! What the tests share: a bench, on which words are run over bytes, and the ports of a run.
 use dvd_par::{Gate, OpenGate};
-use dvd_ports::{MemSink, MemSource, NullSink};
+use dvd_ports::{MemSink, MemSource, NullSink, Source};
 use dvd_top::{Status, run};
 use std::alloc::Global;
 use std::thread::Threads;
@@ -74,6 +74,20 @@ impl Bench {
     /// Puts an output and a report in their places, where there is memory.
     pub fn set_sinks(&mut self, alloc: Global, output: Port, report: Port) -> bool {
         set_sink(alloc, output, &mut self.output) && set_sink(alloc, report, &mut self.report)
+    }
+
+    /// How many of so many bytes the last run has read. The rest is read here.
+    pub fn taken(&mut self, given: usize) -> usize {
+        let mut rest: usize = 0;
+        let mut bytes = [0; 4096];
+        for _ in 0..given {
+            match self.source.read(&mut bytes) {
+                Ok(0) => break,
+                Ok(count) => rest = rest.saturating_add(count),
+                Err(_) => {}
+            }
+        }
+        given.saturating_sub(rest)
     }
 
     /// The output and the report of a run.

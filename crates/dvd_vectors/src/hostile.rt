@@ -1,24 +1,46 @@
 //! Every command over a small input: in pieces of every kind, and with each call of its source, its output and its report
-//! failing in turn. Each digest was computed by another program.
+//! failing in turn. Each digest was computed by another program. These are the hostile streams and objects, and the module of each:
+//!
+//! | What is hostile | Module |
+//! |---|---|
+//! | two blocks cut to 0, 1, 37,855, 37,856, 37,857 and 75,711 bytes, or with a byte after them | `recover` |
+//! | a block of which every byte is marked | `recover` |
+//! | a control block, from a disk with all zones, in the place of a data block | `recover` |
+//! | a block of the first of two layers, in the place of one of a disk of one layer | `recover` |
+//! | a source, an output or a report of which each call fails in turn, over blocks that are whole, cut, long and exchanged | here |
+//! | a report of which the first call fails, before the sectors of a refused block | `faults` |
+//! | an output that keeps nothing | `recover` |
 use crate::script::{Held, follow};
 
-const COMMANDS: &str = "
-over; image 2; case
-words frames --first 030000 --sectors 2
-ends Done 4128 done/
-digest E5FA46EFBFA66147C8E3190FC0F94B28730E6829799EAA1DFE3EB74B9EDD77DE
-keep; pieces; fails source 700 1 7; fails output 1000 1 6; fails report 2 1 3
-
+const STREAMS: &str = "
+# Two blocks, and an image that ends within the second one.
 over; image 17; case
 words master --sectors 17
+or master --sectors 17 --workers 5
+or master --sectors 17 --workers 16
 ends Done 2*block done/
 digest E72C18C8A280B741A3163FA45B59ACB1854E77AC43A64B8C23638295A634C02A
 keep; pieces; fails source 5000 1 9; fails output 5000 1 16; fails report 7 1 1
+case; front 32773
+ends Short block short: block 1, 5 bytes/
+keep; pieces; fails source 5000 1 9; fails output 5000 1 8; fails report 7 1 4
 
-over; image 17; run 2*block master --sectors 17; case
+# Both blocks, the same without the last byte, and with one more.
+over; image 17; run 2*block master --sectors 17
 words recover --sectors 17
+or recover --sectors 17 --workers 5
+or recover --sectors 17 --workers 16
+gives; image 17
+case
 ends Done 34816 done/
 digest 821668C219648D7615F82E4B86593C1CF57D7E05FB1A5D71ABEF9E28059A6162
+keep; pieces; fails source 5000 1 17; fails output 5000 1 17; fails report 7 1 1
+case; cut 1
+ends Short 32768 short: block 1, 37855 bytes/
+keep; pieces; fails source 5000 1 17; fails output 5000 1 16; fails report 7 1 4
+gives; image 17
+case; bytes 1 55h
+ends Long 34816 long/
 keep; pieces; fails source 5000 1 17; fails output 5000 1 17; fails report 7 1 1
 
 # Two blocks, the second before the first: zeros.
@@ -28,6 +50,19 @@ ends Damaged 65536 block 0 sector 030000 layer 0: address 0 found 00030010 saved
 block 1 sector 030010 layer 0: address 0 found 00030000 saved 0/damaged: 2 blocks/
 digest DE2F256064A0AF797747C2B97505DC0B9F3DF0DE4F489EAC731C23AE9CA9CC31
 keep; pieces; fails source 5000 1 17; fails output 5000 1 32; fails report 7 1 23
+";
+
+#[test]
+fn blocks_in_pieces_and_with_each_call_failing(rt: HostRuntime) -> Held {
+    follow(&rt, STREAMS)
+}
+
+const COMMANDS: &str = "
+over; image 2; case
+words frames --first 030000 --sectors 2
+ends Done 4128 done/
+digest E5FA46EFBFA66147C8E3190FC0F94B28730E6829799EAA1DFE3EB74B9EDD77DE
+keep; pieces; fails source 700 1 7; fails output 1000 1 6; fails report 2 1 3
 
 # The first control block stands behind 32 others, and nothing behind it is read: 33 blocks of eight calls.
 over; image 16; run 273*block master --sectors 16 --zones all; front 34*block; case

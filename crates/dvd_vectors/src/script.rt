@@ -17,14 +17,18 @@
 //! ```text
 //! words W        these words; behind it `or W`: and these
 //! source 700 2   in the next run the source gives 700 bytes a call, and call 2 fails; `output` and `report` have their room behind it
-//! ends S N R     the words end with status S, wrote N bytes, a front of what is written, and told R; each / of R is the end of a line
+//! ends S N R     the words end with status S, wrote N bytes, a front of what is written, and told R; each / of R is the end of a line.
+//!                Where S is Usage or Setting they have read nothing
+//! took N         they have read N bytes
 //! holds N B      what was written last has the bytes B at place N; `last T`: it ends with the text T and the end of a line
 //! digest B       what was written last has this SHA-256
 //! keep           what the first words leave is kept
 //! same           each of the words leaves what is kept
 //! pieces         they do, whatever the pieces in which they read and write
-//! fails source 700 1 7    where calls 0 to 6 of the source fail, of 700 bytes each, they leave a front and tell it; with call 7 they
-//!                leave what is kept
+//! fails source 700 1 7    where calls 0 to 6 of the source fail, of 700 bytes each, they leave what they leave of the bytes that they
+//!                had read, and report the fault; with call 7 they leave what is kept
+//! fails output 700 1 7    the same of the output, where they leave a front of what is kept, and `report`, where the output is whole if
+//!                the closing line is the one that failed
 //! left 32 192    they leave what is kept, where blocks 32 to 223 are destroyed one after the other, from the first on
 //! nothing        to an output that keeps nothing they end with Done
 //! meet 2         two workers meet in two passes
@@ -73,6 +77,8 @@ pub struct Memory {
     ports: Ports,
     /// Where it is run.
     pub bench: Bench,
+    // Where the bytes are run that a run had read whose source failed.
+    front: Bench,
     // How the last run ended.
     status: Status,
     // How the run ended that is kept, and what it told.
@@ -92,9 +98,9 @@ pub fn follow_over<R: AllocGlobal + Threads + Sync>(
     script: &'static str,
 ) -> Held {
     let alloc = rt.alloc();
-    match new_bench(alloc) {
-        Some(bench) => follow_on(rt, overs, script, bench),
-        None => Err("no memory"),
+    match (new_bench(alloc), new_bench(alloc)) {
+        (Some(bench), Some(front)) => follow_on(rt, overs, script, bench, front),
+        _ => Err("no memory"),
     }
 }
 
@@ -103,6 +109,7 @@ fn follow_on<R: AllocGlobal + Threads + Sync>(
     overs: &[&'static str],
     script: &'static str,
     bench: Bench,
+    front: Bench,
 ) -> Held {
     let alloc = rt.alloc();
     let mut memory = Memory {
@@ -116,6 +123,7 @@ fn follow_on<R: AllocGlobal + Threads + Sync>(
         words: Vec::new(alloc),
         ports: ALL_SOUND,
         bench,
+        front,
         status: Status::NoMemory,
         kept: Status::NoMemory,
         told: Vec::new(alloc),
@@ -250,17 +258,60 @@ fn pieces<R: AllocGlobal + Threads + Sync>(rt: &R, memory: &mut Memory) -> bool 
     are_all_same
 }
 
-// Behind the port: the most bytes of a call, how far those calls are apart that fail, and how many do.
+// After the port: the most bytes of a call, how far those calls are apart that fail, and how many do.
 fn fail_in_turn<R: AllocGlobal + Threads + Sync>(rt: &R, text: &str, memory: &mut Memory) -> bool {
     let (side, rest) = text.split_once(' ').unwrap_or((text, ""));
     let n = numbers(rest);
-    let mut leave_fronts = n[2] < usize::MAX;
+    let mut all_leave = n[2] < usize::MAX;
     for run in 0..n[2] {
         memory.ports = failing(side, n[0], n[1].saturating_mul(run));
-        leave_fronts &= go(rt, 0, memory) && memory.leaves_front(side);
+        all_leave &= go(rt, 0, memory) && leaves_after(rt, side, memory);
     }
     memory.ports = failing(side, n[0], n[1].saturating_mul(n[2]));
-    are_same(rt, memory) && leave_fronts
+    are_same(rt, memory) && all_leave
+}
+
+// Whether the last run, in which a call of this port failed, left what it has to.
+fn leaves_after<R: AllocGlobal + Threads + Sync>(rt: &R, side: &str, memory: &mut Memory) -> bool {
+    match side {
+        "source" => leaves_front_read(rt, memory),
+        "output" => memory.leaves_front_written(),
+        _ => memory.leaves_front_told(),
+    }
+}
+
+// Whether the last run, whose source failed, left what a run over the bytes that it had read leaves, with the fault in the place of the
+// closing line.
+fn leaves_front_read<R: AllocGlobal + Threads + Sync>(rt: &R, memory: &mut Memory) -> bool {
+    let Some(words) = memory.words.get(0) else {
+        return false;
+    };
+    let taken = memory.bench.taken(memory.bytes.len());
+    let bytes = memory.bytes.get(..taken).unwrap_or(&[]);
+    let front = &mut memory.front;
+    (run_through(rt, &OpenGate, words, bytes, &ALL_SOUND, front) != Status::NoMemory)
+        & (memory.status == Status::ReadFault)
+        & (memory.bench.written() == front.written())
+        & has_fault(memory.bench.told(), b"read fault\n", front.told())
+}
+
+// Whether the fault came in the place of the closing line.
+fn has_fault(told: &[u8], fault: &[u8], whole: &[u8]) -> bool {
+    let Some(lines) = told.strip_suffix(fault) else {
+        return false;
+    };
+    match whole.strip_prefix(lines) {
+        Some(rest) => is_last_line(rest),
+        None => false,
+    }
+}
+
+// Whether this is a line, or the end of one, and nothing comes after it.
+fn is_last_line(text: &[u8]) -> bool {
+    match text.strip_suffix(b"\n") {
+        Some(line) => !line.contains(&b'\n'),
+        None => false,
+    }
 }
 
 fn answer_in_turn<R: AllocGlobal + Threads + Sync>(
@@ -327,6 +378,7 @@ impl Memory {
             "source" | "output" | "report" => self.set_port(verb, &numbers(rest)),
             "holds" => self.has_bytes(rest),
             "last" => self.has_last(rest.as_bytes()),
+            "took" => self.has_taken(numbers(rest)[0]),
             "digest" => self.has_digest(rest),
             _ => take(self.alloc, verb, rest, &mut self.bytes, &mut self.spare),
         }
@@ -378,13 +430,26 @@ impl Memory {
         true
     }
 
+    // Whether the last run has read so many bytes.
+    fn has_taken(&mut self, count: usize) -> bool {
+        self.bench.taken(self.bytes.len()) == count
+    }
+
+    // Whether the last run has read nothing, where it did not begin.
+    fn has_begun_or_read_nothing(&mut self) -> bool {
+        let has_begun = !matches!(self.status, Status::Usage | Status::Setting);
+        has_begun || self.has_taken(0)
+    }
+
     // Whether the last run ended so.
     fn ends(&mut self, end: &str) -> bool {
         let (status, rest) = end.split_once(' ').unwrap_or((end, ""));
         let (length, report) = rest.split_once(' ').unwrap_or((rest, ""));
         let is_room = put_lines(&mut self.spare, report);
+        let is_unread = self.has_begun_or_read_nothing();
         let written = self.bench.written();
         is_room
+            & is_unread
             & is_status(self.status, status)
             & (written.len() == numbers(length)[0])
             & (self.is_any | self.whole.starts_with(written))
@@ -430,16 +495,22 @@ impl Memory {
             & (self.bench.told() == self.told.as_slice())
     }
 
-    // Whether the last run, in which a call of this port failed, wrote a front and told so: some of the lines, and then the fault. A
-    // report that failed is a front of the whole.
-    fn leaves_front(&self, side: &str) -> bool {
-        let told = self.bench.told();
-        let is_told = match side {
-            "source" => (self.status == Status::ReadFault) & self.tells(b"read fault\n"),
-            "output" => (self.status == Status::WriteFault) & self.tells(b"write fault\n"),
-            _ => (self.status == Status::ReportFault) & self.told.starts_with(told),
+    // Whether the last run, whose output failed, wrote a front, and reported some of the lines and the fault.
+    fn leaves_front_written(&self) -> bool {
+        (self.status == Status::WriteFault)
+            & self.whole.starts_with(self.bench.written())
+            & self.tells(b"write fault\n")
+    }
+
+    // Whether the last run, whose report failed, wrote a front, and reported one. Where the closing line failed all was written.
+    fn leaves_front_told(&self) -> bool {
+        let written = self.bench.written();
+        let Some(rest) = self.told.strip_prefix(self.bench.told()) else {
+            return false;
         };
-        is_told & self.whole.starts_with(self.bench.written())
+        (self.status == Status::ReportFault)
+            & self.whole.starts_with(written)
+            & (!is_last_line(rest) | (self.whole.len() == written.len()))
     }
 
     // Whether some of the lines were told that are kept, but not all, since the last one is told at the end, and then the fault.
