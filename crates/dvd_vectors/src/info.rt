@@ -10,8 +10,10 @@ line version 1; line rate 2; line layers 1; line path parallel; line kind 1; lin
 line first 030000; line last 03000F; line layer0 000000; line bca 0
 case
 ends Done 110 done/
+took 33*block
 keep; left 32 192
 ends NoControl 0 no control block/
+took 224*block
 
 over; image 37
 run 519*block master --sectors 32 --sectors1 5 --shape parallel --zones all --initial 2 --tail 0
@@ -25,6 +27,7 @@ case; zero 34*block blockx1
 ends Done 110 done/
 case; zero 34*block 191*blockx1
 ends Done 110 done/
+took 226*block
 case; zero 34*block 192*blockx1
 ends NoControl 0 no control block/
 

@@ -19,6 +19,9 @@ case; front 75711
 ends Short 32768 short: block 1, 37855 bytes/
 case; bytes 1 55h
 ends Long 65536 long/
+case; bytes 9 55h
+ends Long 65536 long/
+took 2*block+1
 
 over; image 17; run 2*block master --sectors 17
 words recover --sectors 17
@@ -45,6 +48,16 @@ words recover --sectors 16
 gives; bytes 32768 00h
 case
 ends Damaged 32768 block 0 sector 030000 layer 0: address 0 found 0402FE00 saved 0/damaged: 1 blocks/
+
+# Two more ways to write sixteen.
+over; image 16; run block master --sectors 16
+words recover --sectors=16
+or recover --sectors 0016
+gives; image 16
+case
+ends Done 32768 done/
+case; front 0
+ends Short 0 short: block 0, 0 bytes/
 
 # The first of two layers, read as a disk of one: the bit of the number of layers plays no part.
 over; image 32; run 2*block master --sectors 16 --sectors1 16 --shape opposite; front block

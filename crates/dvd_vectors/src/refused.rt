@@ -49,6 +49,7 @@ case; set 01h 30
 ends BadHeader 0 bad header: byte 30/
 case; set 80h 31
 ends BadHeader 0 bad header: byte 31/
+took 32
 ";
 
 #[test]

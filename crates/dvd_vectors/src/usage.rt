@@ -22,6 +22,11 @@ or frames --first 030000 --sectors 1 -- 1
 or frames --first 30000 --sectors 1
 or frames --first 03000g --sectors 1
 or master --sectors 17 --sectors 17
+or master --sectors 16 --cpr 00
+or recover
+or recover --sectors 16 --sectors 16
+or recover --sectors +16
+or recover --sectors 16 --workers 17
 or merge --sectors 16 --captures 1
 or merge --sectors 16 --captures 17
 or assemble --sectors 16385 --frames 1
