@@ -2,9 +2,10 @@
 use crate::script::{Held, follow};
 
 const SCATTERED: &str = "
-# Two blocks whose frames come in reverse order, and the first one again.
+# Two blocks whose frames come in reverse order, and the first one again: what was mastered, without a mark.
 over; image 17; run 2*block master --sectors 17; reversed frame; again frame
 words assemble --sectors 17 --frames 33
+gives; image 17; run 2*block master --sectors 17; marked
 case
 ends Done 2*capture placed 33 strays 0/done/
 words recover --sectors 17 --form marked
@@ -12,10 +13,11 @@ gives; image 17
 case; run 2*capture assemble --sectors 17 --frames 33
 ends Done 34816 done/
 
-# A block of each of two layers, whose frames come in reverse order behind one of zeros.
+# A block of each of two layers, whose frames come in reverse order after one of zeros.
 over; image 32; run 2*block master --sectors 16 --sectors1 16 --shape opposite
 reversed frame; bytes frame 00h; from 2*block
 words assemble --sectors 16 --sectors1 16 --shape opposite --frames 33
+gives; image 32; run 2*block master --sectors 16 --sectors1 16 --shape opposite; marked
 case
 ends Done 2*capture placed 32 strays 1/done/
 words recover --sectors 16 --sectors1 16 --shape opposite --form marked

@@ -43,6 +43,7 @@ case; bytes 2048 00h
 ends Usage 0 usage/
 
 words cdread --address 150 --sectors 1
+gives; bytes 4096 00h
 case
 ends Short 0 short: sector 0, 0 bytes/
 case; bytes 2351 00h
@@ -62,7 +63,12 @@ or cdread --address 150 --sectors 1 --form plain
 case; bytes 2352 00h
 ends Usage 0 usage/
 
-# A sector of another address.
+# A sector of another address: of zeros, and of counted bytes.
+over; bytes 2048 00h; run 2352 cdmake --address 150 --sectors 1
+words cdread --address 151 --sectors 1
+gives; bytes 2048 00h
+case
+ends Damaged 2048 sector 0: address found 000200/damaged: 1 sectors/
 over; counted; run 2352 cdmake --address 150 --sectors 1
 words cdread --address 151 --sectors 1
 gives; bytes 2048 00h

@@ -53,6 +53,25 @@ doubtful 5Ah 55*row+20 9x183; doubtful 5Ah 65*row+29; doubtful 5Ah 66*row+20 7x1
 gives; image 16; zero 0 6*2048x1
 case
 ends Damaged 32768 block 0 sector 030000 layer 0: rows 68 saved 10/damaged: 1 blocks/
+
+# A block without errors, where each byte that is marked is right: eleven places side by side in each of rows 0 to 19.
+over; image 16; run block master --sectors 16; marked
+words deep --sectors 16 --form marked
+gives; image 16
+case; doubtful 00h 0 12x191 11x1; doubtful 00h 13*row+108 8x191 11x1
+ends Done 32768 block 0 sector 030000 layer 0: round 1/done/
+# Ten in each of them, and the first place of each.
+case; doubtful 00h 0 12xrow; doubtful 00h 13*row 8xrow; doubtful 00h 1 12x191 10x1; doubtful 00h 13*row+109 8x191 10x1
+ends Done 32768 block 0 sector 030000 layer 0: round 2/done/
+# Rows 0 to 16, which no round gives back.
+or recover --sectors 16 --form marked
+gives; image 16; zero 0 2*2048x1
+case; doubtful 00h 0 12*rowx1; doubtful 00h 13*row 5*rowx1
+ends Damaged 32768 block 0 sector 030000 layer 0: rows 17 saved 14/damaged: 1 blocks/
+# What the two passes leave of the first of these.
+words recover --sectors 16 --form marked
+case; doubtful 00h 0 12x191 11x1; doubtful 00h 13*row+108 8x191 11x1
+ends Damaged 32768 block 0 sector 030000 layer 0: rows 20 saved 14/damaged: 1 blocks/
 ";
 
 #[test]
