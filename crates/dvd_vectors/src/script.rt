@@ -304,8 +304,11 @@ fn leaves_front_read<R: AllocGlobal + Threads + Sync>(rt: &R, memory: &mut Memor
 
 // Whether the fault came in the place of the closing line.
 fn has_fault(told: &[u8], fault: &[u8], whole: &[u8]) -> bool {
-    match told.strip_suffix(fault) {
-        Some(lines) => whole.strip_prefix(lines).is_some_and(is_last_line),
+    let Some(lines) = told.strip_suffix(fault) else {
+        return false;
+    };
+    match whole.strip_prefix(lines) {
+        Some(rest) => is_last_line(rest),
         None => false,
     }
 }
@@ -509,12 +512,12 @@ impl Memory {
     // Whether the last run, whose report failed, wrote a front, and reported one. Where the closing line failed all was written.
     fn leaves_front_told(&self) -> bool {
         let written = self.bench.written();
-        let is_written = match self.told.strip_prefix(self.bench.told()) {
-            Some(rest) if is_last_line(rest) => self.whole.as_slice() == written,
-            Some(_) => self.whole.starts_with(written),
-            None => false,
+        let Some(rest) = self.told.strip_prefix(self.bench.told()) else {
+            return false;
         };
-        is_written & (self.status == Status::ReportFault)
+        (self.status == Status::ReportFault)
+            & self.whole.starts_with(written)
+            & (!is_last_line(rest) | (self.whole.len() == written.len()))
     }
 
     // Whether some of the lines were told that are kept, but not all, since the last one is told at the end, and then the fault.
