@@ -127,6 +127,17 @@ impl<'a> Write for Output<'a> {
 // the report and of its flushes.
 type Fails = [u64; 5];
 
+// Runs the words over these streams.
+fn run_over<R: AllocGlobal + Threads + Sync>(
+    rt: &R,
+    words: &[String],
+    src: &mut StdSource<Input>,
+    out: &mut StdSink<Output>,
+    report: &mut StdSink<Output>,
+) -> Status {
+    run(rt, rt.alloc(), words, &OpenGate, src, out, report)
+}
+
 // Runs the words over these bytes, and looks at the calls of its streams.
 fn is_kept<R: AllocGlobal + Threads + Sync>(
     rt: &R,
@@ -162,11 +173,9 @@ fn is_kept<R: AllocGlobal + Threads + Sync>(
         has_failed: false,
         calls: 0,
     };
-    let status = run(
+    let status = run_over(
         rt,
-        rt.alloc(),
         words,
-        &OpenGate,
         &mut StdSource::new(input),
         &mut StdSink::new(output),
         &mut StdSink::new(report),
