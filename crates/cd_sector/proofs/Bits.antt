@@ -4,7 +4,7 @@ use Rattle.std.specs.Prelude.{bit_xor, replicate}
 use Rattle.std.specs.Int.Bits.{xor_zero_l, xor_zero_r}
 use Rattle.std.proofs.lemmas.Nat.{xor_shr, xor_mod}
 use Rattle.std.proofs.Math.Nat.{pow-suc}
-use Rattle.gf_field.specs.BitDivision.{plus_front}
+use Rattle.coding.specs.BitDivision.{plus_front}
 use Rattle.cd_sector.specs.Bits.{rising_bits, rising_number}
 
 -- the lowest n bits of a number are n bits

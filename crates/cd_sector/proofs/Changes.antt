@@ -3,7 +3,7 @@ use Rattle.std.proofs.Common.{◌≡◌, ◌≢◌, ℕ, ◌+◌, ◌<◌, ◌�
 use Rattle.std.proofs.lemmas.Bool.Decides.{nat_tests}
 use Rattle.std.proofs.Math.Seq.{drop-cons}
 use Rattle.std.proofs.lemmas.List.{drop_all}
-use Rattle.rs_code.specs.Distance.{distance}
+use Rattle.coding.specs.Distance.{distance}
 
 -- one place more
 pub distance-next : (xs ys : List ℕ) (i : ℕ) → i < length xs → i < length ys

@@ -2,8 +2,8 @@
 use Rattle.std.proofs.Common.{◌≡◌, ◌≢◌, ℕ, zero, suc, ◌*◌, ◌<◌, ◌≤◌, List, [], ◌∷◌, length, get_or, Bool, true, false, cond, eqb, refl, arith}
 use Rattle.std.specs.Prelude.{replicate}
 use Rattle.std.proofs.lemmas.Bool.Decides.{nat_tests}
-use Rattle.gf_field.specs.Words.{cost}
-use Rattle.rs_code.specs.Distance.{distance}
+use Rattle.coding.specs.Words.{cost}
+use Rattle.coding.specs.Distance.{distance}
 
 -- a place without a mark costs twice what it counts in the distance
 twice : (same : Bool) → ◌≡◌ {A = ℕ} (cond same 0 2) (2 * cond same 0 1)

@@ -8,8 +8,8 @@ use Rattle.std.proofs.lemmas.List.Elements.{All-tail}
 use Rattle.std.proofs.lemmas.Nat.{xor_comm}
 use Rattle.std.proofs.lemmas.Nat.Bits.{same_from_bits, bit_at_xor}
 use Rattle.std.proofs.Math.Nat.{pow-suc}
-use Rattle.gf_field.specs.BitDivision.{plus_front, remainder_by}
-use Rattle.gf_field.specs.Words.{IsByte}
+use Rattle.coding.specs.BitDivision.{plus_front, remainder_by}
+use Rattle.coding.specs.Words.{IsByte}
 use Rattle.gf_field.proofs.BitDivision.{plus_front_twice, remainder_by_twice}
 use Rattle.cd_sector.specs.Bits.{rising_bits, rising_bits_of, rising_number}
 use Rattle.cd_sector.specs.Edc.{cd_divisor, cd_edc_of}

@@ -2,7 +2,7 @@
 use Rattle.std.proofs.Common.{◌≡◌, ◌≢◌, ◌⊎◌, inl, inr, ℕ, ◌-◌, ◌<◌, ◌≤◌, List, ◌++◌, length, get_or, set, take, sym, ◌∙◌, ap, subst, arith}
 use Rattle.std.proofs.lemmas.Bool.{cases_lt}
 use Rattle.std.proofs.lemmas.List.{get_or-take, get_or-set_same, get_or-set_other, length-set, take_at}
-use Rattle.gf_field.specs.Words.{IsCodeword, IsEncoded}
+use Rattle.coding.specs.Words.{IsCodeword, IsEncoded}
 use Rattle.cd_sector.specs.Words.{sector_place, word_size, sector_word, IsRight}
 use Rattle.cd_sector.proofs.Spread.{distinct}
 use Rattle.cd_sector.proofs.Places.{whole_word}

@@ -8,9 +8,9 @@ use Rattle.std.proofs.lemmas.Bool.Decides.{nat_tests}
 use Rattle.std.specs.List.{range_with_len}
 use Rattle.std.proofs.lemmas.List.{get_or-set_other, ext_get_or, length-map}
 use Rattle.std.proofs.lemmas.List.FromFn.{get_or-map-range_with_len, length-range_with_len}
-use Rattle.gf_field.specs.Words.{IsNear}
+use Rattle.coding.specs.Words.{IsNear}
 use Rattle.rs_decode.specs.Errors.{HasNoneNear}
-use Rattle.rs_decode.specs.Nearest.{near_of}
+use Rattle.coding.specs.Nearest.{near_of}
 use Rattle.rs_decode.proofs.NearSearch.{near_of-some, none-near_of}
 use Rattle.cd_sector.specs.Repair.{with_word_bytes, with_word, near_word, is_lost, with_p_words, word_marks, with_q_words, repaired}
 use Rattle.cd_sector.specs.Sector.{sync}

@@ -3,7 +3,7 @@ use Rattle.std.proofs.Common.{◌≡◌, ◌⊎◌, inl, inr, ℕ, zero, suc, �
 use Rattle.std.specs.Prelude.{replicate}
 use Rattle.std.proofs.lemmas.Bool.{cases_lt}
 use Rattle.std.proofs.lemmas.List.{length-set, get_or-set_same, get_or-set_other}
-use Rattle.rs_decode.specs.Nearest.{near_of}
+use Rattle.coding.specs.Nearest.{near_of}
 use Rattle.cd_sector.specs.Repair.{with_word_bytes, with_word, near_word, with_p_words, word_marks, with_q_words}
 use Rattle.cd_sector.specs.Words.{sector_place, word_size, sector_word}
 use Rattle.cd_sector.proofs.Places.{whole_word, same_word, sector_place-p, word_size-p}

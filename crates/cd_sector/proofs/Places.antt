@@ -5,7 +5,7 @@ use Rattle.std.proofs.lemmas.Bool.Decides.{nat_tests}
 use Rattle.std.proofs.lemmas.List.{length-map}
 use Rattle.std.proofs.lemmas.List.FromFn.{get_or-map-range_with_len, length-range_with_len}
 use Rattle.std.proofs.lemmas.Grind.{same_number_lists}
-use Rattle.gf_field.specs.Words.{IsCodeword}
+use Rattle.coding.specs.Words.{IsCodeword}
 use Rattle.cd_sector.specs.Words.{sector_place, word_size, sector_word, IsRight}
 
 -- a P word has 26 bytes

@@ -5,8 +5,8 @@ use Rattle.std.specs.Int.{to_le_bytes, w32}
 use Rattle.std.proofs.lemmas.Bool.{cases_lt}
 use Rattle.std.proofs.lemmas.List.{length-set, get_or-set_other, get_or-take, length-take-le, length-append, length-replicate, take_at}
 use Rattle.std.proofs.lemmas.List.Elements.{All-append, All-cons, All-nil, All-from_get_or, All-replicate, All-set, All-take}
-use Rattle.gf_field.specs.BitDivision.{remainder_by}
-use Rattle.gf_field.specs.Words.{IsByte, IsEncoded}
+use Rattle.coding.specs.BitDivision.{remainder_by}
+use Rattle.coding.specs.Words.{IsByte, IsEncoded}
 use Rattle.rs_code.proofs.Codewords.{encodable}
 use Rattle.cd_sector.specs.Bits.{rising_bits_of, rising_number}
 use Rattle.cd_sector.specs.Edc.{cd_divisor, cd_edc_of}

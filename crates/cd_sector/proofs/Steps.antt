@@ -7,7 +7,7 @@ use Rattle.std.proofs.lemmas.List.{drop_all}
 use Rattle.std.proofs.lemmas.Nat.{xor_lt, xor_shr, xor_mod, xor_block}
 use Rattle.std.proofs.lemmas.Nat.Bits.{same_from_bits, bit_at_xor}
 use Rattle.std.proofs.lemmas.List.Elements.{All-tail}
-use Rattle.gf_field.specs.Words.{IsByte}
+use Rattle.coding.specs.Words.{IsByte}
 use Rattle.cd_sector.specs.Inner.Register.{stepped, after_steps, after_reading}
 use Rattle.cd_sector.proofs.Bits.{xor_half, xor_lowest}
 

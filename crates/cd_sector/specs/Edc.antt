@@ -3,7 +3,7 @@
 -- The least significant bit of each byte comes first. The code keeps one word of 32 bits instead of the list.
 use Rattle.std.specs.Prelude.{ℕ, ◌*◌, List, ◌++◌, length, replicate, reverse}
 use Rattle.std.specs.Int.{to_le_bytes, w32}
-use Rattle.gf_field.specs.BitDivision.{remainder_by}
+use Rattle.coding.specs.BitDivision.{remainder_by}
 use Rattle.cd_sector.specs.Bits.{rising_bits, rising_bits_of, rising_number}
 
 -- the coefficients of the divisor without its leading term, that of x^31 first

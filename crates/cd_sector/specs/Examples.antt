@@ -1,6 +1,6 @@
 -- Worked values from outside the program.
 use Rattle.std.specs.Prelude.{◌≡◌, [], ◌∷◌, refl}
-use Rattle.gf_field.specs.BitDivision.{plus_front, remainder_by}
+use Rattle.coding.specs.BitDivision.{plus_front, remainder_by}
 use Rattle.cd_sector.specs.Bits.{rising_bits, rising_bits_of, rising_number}
 use Rattle.cd_sector.specs.Edc.{cd_edc_of}
 use Rattle.cd_sector.specs.Sector.{header}

@@ -1,7 +1,7 @@
 -- What holds of every sector, and what repair gives back.
 use Rattle.std.specs.Prelude.{◌≡◌, ◌≢◌, ◌⊎◌, ℕ, ◌%◌, ◌<◌, ◌≤◌, List, length, slice_index, All}
-use Rattle.gf_field.specs.Words.{IsByte}
-use Rattle.rs_code.specs.Distance.{distance}
+use Rattle.coding.specs.Words.{IsByte}
+use Rattle.coding.specs.Distance.{distance}
 use Rattle.cd_sector.specs.Causes.{IsRightSector, IsCause}
 use Rattle.cd_sector.specs.declared.checking.CdCause.{CdCause}
 use Rattle.cd_sector.specs.Repair.{repaired}

@@ -4,7 +4,7 @@ use Rattle.std.specs.Prelude.{ℕ, zero, suc, ◌+◌, ◌-◌, ◌%◌, ◌&&�
 use Rattle.std.specs.List.{range_with_len}
 use Rattle.std.specs.Option.{is_none}
 use Rattle.std.specs.declared.option.Option.{Option}
-use Rattle.rs_decode.specs.Nearest.{near_of}
+use Rattle.coding.specs.Nearest.{near_of}
 use Rattle.cd_sector.specs.Sector.{sync}
 use Rattle.cd_sector.specs.Words.{sector_place, word_size, sector_word}
 

@@ -2,7 +2,7 @@
 -- bytes are coded apart: 43 P codewords and 26 Q codewords of pairs are 138 words of bytes.
 use Rattle.std.specs.Prelude.{ℕ, ◌+◌, ◌-◌, ◌*◌, ◌/◌, ◌%◌, nat_lt, if◌then◌else◌, List, map, slice_index}
 use Rattle.std.specs.List.{range_with_len}
-use Rattle.gf_field.specs.Words.{IsCodeword}
+use Rattle.coding.specs.Words.{IsCodeword}
 
 -- the m-th pair of P codeword n
 abbrev pub p_pair : ℕ → ℕ → ℕ

@@ -1,7 +1,7 @@
 //! A sector that was read, repaired.
 ghost use Rattle.std.specs.Prelude.{◌≡◌, ℕ, List, ◌+◌, ◌-◌, ◌<◌, ◌≤◌, length, drop, false, slice_index_or, IfErr, IfOk, OnErr, OnOk};
 ghost use Rattle.std.specs.Option.{is_none};
-ghost use Rattle.rs_code.specs.Distance.{distance};
+ghost use Rattle.coding.specs.Distance.{distance};
 ghost use Rattle.cd_sector.specs.Causes.{IsCause, IsRightSector};
 ghost use Rattle.cd_sector.specs.Repair.{with_word_bytes, with_word, near_word, is_lost, with_p_words, word_marks, with_q_words, repaired};
 ghost use Rattle.cd_sector.specs.Words.{word_size};

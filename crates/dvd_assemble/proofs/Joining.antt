@@ -2,7 +2,7 @@
 use Rattle.std.proofs.Common.{◌≡◌, ◌≢◌, ◌⊎◌, inl, inr, ◌∙◌, sym, ap, ℕ, ◌+◌, ◌*◌, ◌/◌, ◌%◌, ◌<◌, ◌≤◌, ◌==◌, if◌then◌else◌, List, [], length, set, refl, arith}
 use Rattle.std.proofs.lemmas.Bool.Decides.{eqb_tells}
 use Rattle.std.proofs.lemmas.List.{get_or-set_same, get_or-set_other, length-set}
-use Rattle.dvd_block.specs.Recording.{record_at, row_at}
+use Rattle.coding.specs.Recording.{record_at, row_at}
 use Rattle.dvd_capture.proofs.Fetching.{record_at-row_at, row_at-lt, row_at-record_at}
 use Rattle.dvd_capture.proofs.Mapped.{mapped}
 use Rattle.dvd_merge.specs.Join.{Table, join_rows, known_row}

@@ -11,13 +11,13 @@ use Rattle.std.proofs.lemmas.Bool.Decides.{eqb_tells, nat_tests}
 use Rattle.std.proofs.lemmas.Nat.{from_be_bytes-to_be_bytes_4}
 use Rattle.std.proofs.lemmas.List.{get_or-map, get_or_past, length-map, take_at}
 use Rattle.std.proofs.lemmas.List.FromFn.{length-map-range_with_len, get_or-map-range_with_len}
-use Rattle.gf_field.specs.Words.{IsCodeword}
-use Rattle.rs_decode.specs.Filling.{AgreeUnmarked}
-use Rattle.rs_decode.specs.Nearest.{near_of}
+use Rattle.coding.specs.Words.{IsCodeword}
+use Rattle.coding.specs.Filling.{AgreeUnmarked}
+use Rattle.coding.specs.Nearest.{near_of}
 use Rattle.rs_decode.proofs.OneNear.{filling_near}
 use Rattle.rs_decode.proofs.NearSearch.{near_of-some}
-use Rattle.dvd_block.specs.Product.{line, place}
-use Rattle.dvd_block.specs.Recording.{record_at, row_at}
+use Rattle.coding.specs.Product.{line, place}
+use Rattle.coding.specs.Recording.{record_at, row_at}
 use Rattle.dvd_capture.specs.Answers.{marks_line}
 use Rattle.dvd_capture.proofs.Fetching.{row_at-record_at}
 use Rattle.dvd_frame.specs.Frame.{found_word}

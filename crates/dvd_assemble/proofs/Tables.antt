@@ -7,7 +7,7 @@ use Rattle.std.proofs.lemmas.List.{ext_get_or, get_or-replicate, length-replicat
 use Rattle.std.proofs.lemmas.List.Sums.{fold-append}
 use Rattle.std.proofs.lemmas.List.FromFn.{length-map-range_with_len, get_or-map-range_with_len}
 use Rattle.std.proofs.lemmas.Simd.{length-zip2}
-use Rattle.dvd_block.specs.Recording.{record_at}
+use Rattle.coding.specs.Recording.{record_at}
 use Rattle.dvd_capture.proofs.Mapped.{mapped}
 use Rattle.dvd_merge.specs.Join.{Table, join, join_rows, join_tables, joined, known_row, unseen}
 use Rattle.dvd_merge.specs.declared.place.Place.{Place}

@@ -4,7 +4,7 @@ use Rattle.std.specs.Prelude.{ℕ, ◌+◌, ◌/◌, ◌%◌, Bool, List, map, t
 use Rattle.std.specs.List.{flat_map, range_with_len}
 use Rattle.std.specs.Option.{option_and_then}
 use Rattle.std.specs.declared.option.Option.{Option}
-use Rattle.rs_decode.specs.Nearest.{near_of}
+use Rattle.coding.specs.Nearest.{near_of}
 use Rattle.dvd_frame.specs.Frame.{found_word}
 use Rattle.dvd_frame.specs.Id.{has_check, id_word, is_same_place}
 use Rattle.dvd_layout.specs.Lengths.{has_two_layers}
@@ -12,7 +12,7 @@ use Rattle.dvd_layout.specs.Plan.{plan_of}
 use Rattle.dvd_layout.specs.declared.entry.BlockPlan.{BlockPlan}
 use Rattle.dvd_layout.specs.declared.layout.Layout.{Layout}
 use Rattle.dvd_layout.specs.declared.layout.Zones.TheVariants.{DataOnly}
-use Rattle.dvd_block.specs.Product.{line}
+use Rattle.coding.specs.Product.{line}
 use Rattle.dvd_capture.specs.Answers.{marks_line}
 use Rattle.dvd_assemble.specs.Frames.{Frame}
 

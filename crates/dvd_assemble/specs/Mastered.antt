@@ -1,8 +1,8 @@
 -- Frames that were captured of mastered blocks.
 use Rattle.std.specs.Prelude.{◌≡◌, ℕ, ◌+◌, ◌*◌, ◌<◌, ◌≤◌, List, ◌++◌, length, take, slice_index}
-use Rattle.rs_decode.specs.Filling.{AgreeUnmarked, marked}
-use Rattle.dvd_block.specs.Product.{IsProduct, line}
-use Rattle.dvd_block.specs.Recording.{row_at}
+use Rattle.coding.specs.Filling.{AgreeUnmarked, marked}
+use Rattle.coding.specs.Product.{IsProduct, line}
+use Rattle.coding.specs.Recording.{row_at}
 use Rattle.dvd_frame.specs.Id.{ied_of, word_bytes}
 use Rattle.dvd_layout.specs.Plan.{plan_of}
 use Rattle.dvd_layout.specs.declared.layout.Layout.{Layout}

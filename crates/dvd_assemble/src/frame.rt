@@ -1,6 +1,6 @@
 //! A captured recording frame: thirteen rows with their marks.
 ghost use Rattle.std.specs.Prelude.{◌≡◌, ◌≢◌, ℕ, ◌<◌, false, length, replicate, take};
-ghost use Rattle.dvd_block.specs.Product.{line};
+ghost use Rattle.coding.specs.Product.{line};
 ghost use Rattle.dvd_capture.specs.Answers.{marks_line};
 ghost use Rattle.dvd_capture.specs.Captured.{HasSize, marks_in, record_size};
 ghost use Rattle.dvd_capture.specs.Parts.{marks_of_row};

@@ -2,9 +2,9 @@
 use Rattle.std.proofs.Common.{◌≡◌, ℕ, ◌<◌, ◌≤◌, List, ◌++◌, length, get_or, take, drop, sym, ◌∙◌, ap, subst, arith}
 use Rattle.std.proofs.lemmas.List.{get_or-take, length-take, take_all, take_at, take-append-drop}
 use Rattle.std.proofs.lemmas.Grind.{same_number_lists}
-use Rattle.gf_field.specs.Words.{IsCodeword, IsEncoded}
+use Rattle.coding.specs.Words.{IsCodeword, IsEncoded}
 pub use Rattle.rs_lanes.proofs.ColumnLemmas.{length-column, get_or-column}
-use Rattle.dvd_block.specs.Product.{place, column}
+use Rattle.coding.specs.Product.{place, column}
 
 -- bytes that agree with a column place by place are its upper end
 pub upper_end : (block : List (List ℕ)) (j n : ℕ) (top : List ℕ) → length top ≡ n → n ≤ length block

@@ -5,9 +5,9 @@ use Rattle.std.proofs.lemmas.List.{get_or-take, get_or-drop, take-map, take-appe
 use Rattle.std.specs.List.{range_with_len}
 use Rattle.std.proofs.lemmas.List.FromFn.{get_or-map-range_with_len}
 use Rattle.std.proofs.lemmas.Grind.{same_number_lists}
-use Rattle.gf_field.specs.Field.{alpha, power}
-use Rattle.gf_field.specs.Words.{IsByte, IsCodeword, IsEncoded}
-use Rattle.dvd_block.specs.Product.{line, place, column, IsParityAdded, IsProduct}
+use Rattle.coding.specs.Field.{alpha, power}
+use Rattle.coding.specs.Words.{IsByte, IsCodeword, IsEncoded}
+use Rattle.coding.specs.Product.{line, place, column, IsParityAdded, IsProduct}
 use Rattle.dvd_block.proofs.Columns.{length-column, get_or-column}
 use Rattle.dvd_block.proofs.Linear.{rows_vanish}
 

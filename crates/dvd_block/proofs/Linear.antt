@@ -5,14 +5,14 @@ use Rattle.std.specs.Prelude.{◌==◌, if◌then◌else◌}
 use Rattle.std.proofs.lemmas.List.{get_or-map, length-map, length-replicate, get_or-replicate}
 use Rattle.std.proofs.lemmas.List.Elements.{All-replicate, All-nil, All-cons}
 use Rattle.std.proofs.lemmas.Bool.Decides.{nat_tests}
-use Rattle.gf_field.specs.Field.{alpha, plus, product, power}
-use Rattle.gf_field.specs.Words.{IsByte, IsCodeword, value}
+use Rattle.coding.specs.Field.{alpha, plus, product, power}
+use Rattle.coding.specs.Words.{IsByte, IsCodeword, value}
 use Rattle.gf_field.proofs.FieldLaws.{product-byte, product-comm, product-zero}
-use Rattle.rs_code.specs.Distance.{weight}
+use Rattle.coding.specs.Distance.{weight}
 use Rattle.rs_code.specs.Inner.Polynomials.{sum_of, scaled}
 use Rattle.rs_code.proofs.Distance.{IsCodeword-light, IsCodeword-sum_of}
 use Rattle.rs_code.proofs.Values.{value-nil, value-cons, value-scaled, value-zeros, length-scaled}
-use Rattle.dvd_block.specs.Product.{line, column}
+use Rattle.coding.specs.Product.{line, column}
 
 -- the zero word
 IsCodeword-zeros : (n r : ℕ) → IsCodeword n r (replicate n 0)

@@ -5,9 +5,9 @@ use Rattle.std.proofs.lemmas.Bool.{cases_lt}
 use Rattle.std.proofs.lemmas.Grind.{same_number_lists}
 use Rattle.std.proofs.lemmas.List.{get_or-take, get_or-drop, get_or_append_left, get_or_push, get_or-map, get_or_default, length-take-le, length-drop, length_push, take-append-drop, take_all, ext_get_or}
 use Rattle.std.proofs.lemmas.List.FromFn.{length-map-range_with_len, get_or-map-range_with_len}
-use Rattle.gf_field.specs.Words.{IsByte, IsCodeword, IsEncoded}
+use Rattle.coding.specs.Words.{IsByte, IsCodeword, IsEncoded}
 use Rattle.rs_code.proofs.Codewords.{encodable, encoded_once}
-use Rattle.dvd_block.specs.Product.{line, place, column, HoldsFrame, IsBlockOf}
+use Rattle.coding.specs.Product.{line, place, column, HoldsFrame, IsBlockOf}
 use Rattle.dvd_block.proofs.Columns.{length-column, get_or-column}
 use Rattle.dvd_block.proofs.Filling.{IsFilled, is_product, message_kept}
 

@@ -1,8 +1,18 @@
 -- Rows in the order of recording, one behind the other.
 use Rattle.std.proofs.Common.{◌≡◌, ℕ, zero, suc, ◌+◌, List, [], ◌++◌, Result, Ok, Err, OnErr, refl, sym, ◌∙◌, ap, append_assoc, arith}
 use Rattle.std.proofs.lemmas.List.{append-nil}
-use Rattle.dvd_block.specs.Product.{line}
-use Rattle.dvd_block.specs.Recording.{row_at, recorded}
+use Rattle.coding.specs.Product.{line}
+use Rattle.std.specs.List.{flat_map, range_with_len}
+use Rattle.coding.specs.Recording.{recorded_rows, recording, row_at}
+
+-- the bytes of so many recorded rows from recorded row m on
+unfoldable pub recorded : ℕ → ℕ → List (List ℕ) → List ℕ
+recorded m count block = flat_map (λ k. line block (row_at k)) (range_with_len m count)
+
+-- all of them are the recording of the block
+pub recording-is : (block : List (List ℕ)) → recording block ≡ recorded 0 208 block
+unfolding recording recorded_rows recorded
+recording-is block = refl
 
 -- no rows are no bytes
 pub recorded-none : (m : ℕ) (block : List (List ℕ)) → recorded m 0 block ≡ []

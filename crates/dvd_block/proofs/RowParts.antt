@@ -2,7 +2,7 @@
 use Rattle.std.proofs.Common.{◌≡◌, ℕ, ◌+◌, ◌-◌, ◌*◌, ◌<◌, ◌≤◌, ◌⊎◌, inl, inr, List, [], ◌++◌, length, get_or, take, drop, sym, ◌∙◌, ap, arith}
 use Rattle.std.proofs.lemmas.List.{take_at, get_or-take, get_or-drop, get_or_append_left, get_or-append_right, length-append, length-drop, length-take-le}
 use Rattle.std.proofs.lemmas.Bool.{cases_lt}
-use Rattle.dvd_block.specs.Product.{line, place, HoldsFrame}
+use Rattle.coding.specs.Product.{line, place, HoldsFrame}
 
 -- a list that was lent whole and came back as long as it was
 pub lent_whole : {X : Type 0} (n : ℕ) (was now : List X) → length now ≡ n → take n (now ++ drop (length now) was) ≡ now

@@ -1,7 +1,7 @@
 -- Sixteen frames have exactly one block.
 use Rattle.std.specs.Prelude.{◌≡◌, ℕ, ◌<◌, List, length, All}
-use Rattle.gf_field.specs.Words.{IsByte}
-use Rattle.dvd_block.specs.Product.{line, IsBlockOf}
+use Rattle.coding.specs.Words.{IsByte}
+use Rattle.coding.specs.Product.{line, IsBlockOf}
 
 -- at most one
 abbrev pub OneBlockAtMost : Type 0

@@ -1,8 +1,8 @@
 //! A block: its frames, its parity, its rows as they are recorded.
 ghost use Rattle.std.specs.Prelude.{◌≡◌, ℕ, ◌+◌, ◌*◌, ◌/◌, ◌<◌, ◌≤◌, ◌⊎◌, ◌↔◌, IsTrue, ◌++◌, length, take, drop, IfOk, replicate, slice_index, EachIndex};
 ghost use Rattle.dvd_ports.specs.Whole.{IsWritten};
-ghost use Rattle.dvd_block.specs.Product.{line, place};
-ghost use Rattle.dvd_block.specs.Recording.{recording};
+ghost use Rattle.coding.specs.Product.{line, place};
+ghost use Rattle.coding.specs.Recording.{recording};
 
 use crate::buffers::{Cells, Lines};
 use crate::order::row_of_record;
@@ -22,8 +22,8 @@ pub struct Block {
 
 impl Block {
     ghost use Rattle.dvd_block.specs.Buffers.{block_rows, cells_all};
-    ghost use Rattle.dvd_block.specs.Product.{line, place, IsProduct, IsParityAdded, HoldsFrame};
-    ghost use Rattle.dvd_block.specs.Recording.{recording};
+    ghost use Rattle.coding.specs.Product.{line, place, IsProduct, IsParityAdded, HoldsFrame};
+    ghost use Rattle.coding.specs.Recording.{recording};
 
     /// Zeros. `NoMemory` may come at any time, and nothing is taken then.
     pub fn new(alloc: Global) -> Result<Block, NoMemory>

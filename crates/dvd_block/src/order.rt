@@ -1,6 +1,6 @@
 //! The order of recording (ECMA-267, 19): behind each twelve rows of data stands a row of outer parity.
 ghost use Rattle.std.specs.Prelude.{◌≡◌, ◌<◌};
-ghost use Rattle.dvd_block.specs.Recording.{row_at, record_at};
+ghost use Rattle.coding.specs.Recording.{row_at, record_at};
 
 /// The row of the block that stands at recorded row `m`.
 pub fn row_of_record(m: usize) -> usize

@@ -1,9 +1,9 @@
 //! The parity of rows and columns (ECMA-267, 18): ten bytes of inner parity (PI) end a row, sixteen of outer
 //! parity (PO) end a column.
 ghost use Rattle.std.specs.Prelude.{◌≡◌, ℕ, ◌<◌, ◌≤◌, ◌++◌, length, take, slice_index, EachIndex, All, ◌↔◌, IsTrue};
-ghost use Rattle.gf_field.specs.Words.{IsCodeword, IsEncoded};
+ghost use Rattle.coding.specs.Words.{IsCodeword, IsEncoded};
 ghost use Rattle.dvd_block.specs.Buffers.{lines_rows};
-ghost use Rattle.dvd_block.specs.Product.{line, place, column, IsParityAdded};
+ghost use Rattle.coding.specs.Product.{line, place, column, IsParityAdded};
 
 use crate::buffers::Lines;
 use rs_code::{Pi, Po};

@@ -4,14 +4,14 @@ use Rattle.std.specs.declared.option.Option.{Option}
 use Rattle.std.proofs.lemmas.Bool.Decides.{nat_tests}
 use Rattle.std.proofs.lemmas.Bool.Decides.{leb_tells}
 use Rattle.std.proofs.lemmas.List.Elements.{All-head, All-tail}
-use Rattle.gf_field.specs.Words.{IsCodeword, IsNear, cost}
-use Rattle.rs_decode.specs.Filling.{marked}
+use Rattle.coding.specs.Words.{IsCodeword, IsNear, cost}
+use Rattle.coding.specs.Filling.{marked}
 use Rattle.rs_decode.specs.Errors.{HasNoneNear}
-use Rattle.rs_decode.specs.Nearest.{near_of}
+use Rattle.coding.specs.Nearest.{near_of}
 use Rattle.rs_decode.proofs.NearSearch.{near_of-some, none-near_of}
-use Rattle.dvd_block.specs.Product.{IsProduct}
-use Rattle.dvd_capture.specs.TwoPass.{IsTwoPass, answer_column, answers_of, byte_or_zero, failed_of}
-use Rattle.dvd_capture.specs.Within.{IsWithin, block_weight, row_weight}
+use Rattle.coding.specs.Product.{IsProduct}
+use Rattle.coding.specs.TwoPass.{IsTwoPass, answer_column, answers_of, byte_or_zero, failed_of}
+use Rattle.coding.specs.Within.{IsWithin, block_weight, row_weight}
 
 -- each marked place costs one at least
 pub marked-cost : (word row : List ℕ) (marks : List Bool) → length word ≡ length marks → length row ≡ length marks → marked marks ≤ cost word row marks

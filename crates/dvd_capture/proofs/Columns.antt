@@ -5,12 +5,12 @@ use Rattle.std.proofs.lemmas.List.{get_or-map, ext_get_or, length-map}
 use Rattle.std.proofs.lemmas.Grind.{same_number_lists}
 use Rattle.std.proofs.lemmas.List.FromFn.{length-map-range_with_len, get_or-map-range_with_len}
 use Rattle.std.proofs.lemmas.List.Elements.{All-from_get_or}
-use Rattle.gf_field.specs.Words.{IsCodeword, IsNear, cost}
+use Rattle.coding.specs.Words.{IsCodeword, IsNear, cost}
 use Rattle.rs_decode.proofs.OneNear.{near_once}
 use Rattle.rs_decode.proofs.NearSearch.{near_of-some}
-use Rattle.dvd_block.specs.Product.{IsProduct, column, line, place}
-use Rattle.dvd_capture.specs.TwoPass.{AgreesWith, IsTwoPass, answer_column, answers_of, byte_or_zero, column_answer, failed_of, from_columns}
-use Rattle.rs_decode.specs.Filling.{marked}
+use Rattle.coding.specs.Product.{IsProduct, column, line, place}
+use Rattle.coding.specs.TwoPass.{AgreesWith, IsTwoPass, answer_column, answers_of, byte_or_zero, column_answer, failed_of, from_columns}
+use Rattle.coding.specs.Filling.{marked}
 use Rattle.dvd_capture.proofs.Bound.{marked-cost}
 
 -- a column of row answers has one byte or none for each row

@@ -1,5 +1,5 @@
 -- The counts of a source over the parts of a block.
-use Rattle.std.proofs.Common.{◌≡◌, ◌==◌, if◌then◌else◌, zero, suc, ℕ, Bool, true, false, cond, refl, subst, sym}
+use Rattle.std.proofs.Common.{◌≡◌, ◌==◌, if◌then◌else◌, ℕ, Bool, true, false, cond, subst, sym}
 use Rattle.dvd_ports.specs.Causes.{HasGoneOn, HasMetEnd}
 use Rattle.dvd_ports.specs.Seen.{Seen}
 use Rattle.dvd_ports.proofs.StopLemmas.{ends_after, fails_after, goes_on}

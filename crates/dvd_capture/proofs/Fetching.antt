@@ -4,8 +4,8 @@ use Rattle.std.proofs.lemmas.Bool.Decides.{eqb_tells, nat_tests}
 use Rattle.std.proofs.Math.Seq.{drop-append_seam}
 use Rattle.std.proofs.lemmas.List.{take_all, take-append-le, length-take-le, drop-append-le, get_or-set_same, get_or-set_other}
 use Rattle.std.specs.Io.KnownBytes.{Consumes}
-use Rattle.dvd_block.specs.Product.{line}
-use Rattle.dvd_block.specs.Recording.{record_at, row_at}
+use Rattle.coding.specs.Product.{line}
+use Rattle.coding.specs.Recording.{record_at, row_at}
 use Rattle.dvd_capture.specs.Answers.{marks_line}
 use Rattle.dvd_capture.specs.Captured.{Captures, HasSize, BreaksNoRule, block_size, captured_marks, captured_rows, marks_in, record_marks, record_of, record_size, unit_size}
 use Rattle.dvd_capture.specs.Inner.Putting.{ArePut}

@@ -4,7 +4,7 @@ use Rattle.std.specs.List.{range_with_len}
 use Rattle.std.proofs.lemmas.List.{get_or-replicate}
 use Rattle.std.proofs.lemmas.List.FromFn.{length-map-range_with_len, get_or-map-range_with_len}
 use Rattle.dvd_ports.proofs.KnownLemmas.{Consumes-then}
-use Rattle.dvd_block.specs.Recording.{record_at, row_at}
+use Rattle.coding.specs.Recording.{record_at, row_at}
 use Rattle.dvd_capture.specs.Answers.{marks_line}
 use Rattle.dvd_capture.specs.Captured.{BreaksAt, Captures, EndsAfter, FailsWithin, captured_marks, captured_rows, record_marks, record_of}
 use Rattle.dvd_capture.specs.Listed.{listed_size, mark_of, marked_by, run_count}

@@ -4,7 +4,7 @@ use Rattle.std.proofs.lemmas.Bool.Decides.{leb_tells, nat_tests}
 use Rattle.std.proofs.lemmas.Grind.{same_number_lists}
 use Rattle.std.proofs.lemmas.List.{get_or-drop, get_or-take}
 use Rattle.std.proofs.lemmas.List.FromFn.{get_or-map-range_with_len}
-use Rattle.dvd_block.specs.Recording.{record_at, row_at}
+use Rattle.coding.specs.Recording.{record_at, row_at}
 use Rattle.dvd_capture.specs.Captured.{IsUnitOf, captured_marks, captured_rows, record_marks, record_of}
 use Rattle.dvd_capture.specs.Laws.{MarksHaveOneSpelling}
 use Rattle.dvd_capture.specs.Listed.{end_of, field_at, length_of, mark_of, marked_by, run_count, start_of}

@@ -1,9 +1,9 @@
 -- The recording of a block has its rows at their recorded rows.
 use Rattle.std.proofs.Common.{◌≡◌, ◌∙◌, ℕ, zero, suc, ◌+◌, ◌-◌, ◌*◌, ◌<◌, ◌≤◌, List, [], ◌++◌, length, take, drop, All, sym, ap, arith, length-append}
 use Rattle.std.proofs.lemmas.List.{take_all}
-use Rattle.dvd_block.specs.Product.{line}
-use Rattle.dvd_block.specs.Recording.{record_at, recorded, recording, row_at}
-use Rattle.dvd_block.proofs.Recorded.{recorded-add, recorded-more, recorded-none}
+use Rattle.coding.specs.Product.{line}
+use Rattle.coding.specs.Recording.{record_at, recording, row_at}
+use Rattle.dvd_block.proofs.Recorded.{recorded, recorded-add, recorded-more, recorded-none, recording-is}
 use Rattle.dvd_capture.specs.Captured.{captured_rows, record_of, record_size}
 use Rattle.dvd_capture.specs.declared.form.Form.{Form}
 use Rattle.dvd_capture.specs.declared.form.Form.TheVariants.{Plain}
@@ -30,7 +30,7 @@ module _ (form : Form) (rows : List (List ℕ)) (width : (i : ℕ) → i < 208 �
   split : (m : ℕ) → m < 208 → recording rows ≡ (recorded 0 m rows ++ line rows (row_at m)) ++ recorded (0 + (m + 1)) (207 - m) rows
   split m below =
       let all : m + 1 + (207 - m) ≡ 208 = omega arith in
-      ap (λ k. recorded 0 k rows) (sym all) ∙ recorded-add 0 (m + 1) (207 - m) rows
+      recording-is rows ∙ ap (λ k. recorded 0 k rows) (sym all) ∙ recorded-add 0 (m + 1) (207 - m) rows
       ∙ ap (λ front. front ++ recorded (0 + (m + 1)) (207 - m) rows) (one_more m)
 
   -- recorded row m is the row that stands there
@@ -51,7 +51,7 @@ module _ (block : List (List ℕ)) (height : length block ≡ 208) (widths : All
 
   -- recorded they are 37,856 bytes
   pub length-recording : length (recording block) ≡ 37_856
-  length-recording = length-recorded Plain block width 208 (omega arith)
+  length-recording = ap length (recording-is block) ∙ length-recorded Plain block width 208 (omega arith)
 
   -- so the rows captured from a block's recording are the block
   pub recording_captured : captured_rows Plain (recording block) ≡ block

@@ -1,10 +1,10 @@
 -- A block without damage and without marks is within the bound.
 use Rattle.std.proofs.Common.{◌≡◌, ◌∙◌, ℕ, zero, suc, ◌+◌, nat_le, nat_lt, if◌then◌else◌, false, List, [], ◌∷◌, replicate, refl, ap, arith}
 use Rattle.std.proofs.lemmas.Bool.Decides.{nat_tests}
-use Rattle.gf_field.specs.Words.{cost}
-use Rattle.rs_decode.specs.Filling.{marked}
+use Rattle.coding.specs.Words.{cost}
+use Rattle.coding.specs.Filling.{marked}
 use Rattle.dvd_capture.specs.Captured.{captured_marks}
-use Rattle.dvd_capture.specs.Within.{IsWithin, block_weight}
+use Rattle.coding.specs.Within.{IsWithin, block_weight}
 use Rattle.dvd_capture.specs.declared.form.Form.TheVariants.{Plain}
 
 -- no place of a plain row is marked

@@ -4,9 +4,9 @@ use Rattle.std.specs.Prelude.{◌≡◌, ℕ, ◌<◌, Bool, List, [], slice_ind
 use Rattle.std.specs.declared.option.Option.{Option}
 use Rattle.rs_decode.specs.declared.errors.Fix.{Fix}
 use Rattle.rs_decode.specs.Errors.{error_count}
-use Rattle.rs_decode.specs.Filling.{marked}
-use Rattle.rs_decode.specs.Nearest.{near_of}
-use Rattle.dvd_block.specs.Product.{line}
+use Rattle.coding.specs.Filling.{marked}
+use Rattle.coding.specs.Nearest.{near_of}
+use Rattle.coding.specs.Product.{line}
 use Rattle.dvd_capture.specs.declared.parts.AnswerRow.{AnswerRow}
 
 -- the marks of row i

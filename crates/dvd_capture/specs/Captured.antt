@@ -4,7 +4,7 @@ use Rattle.std.specs.Prelude.{◌≡◌, ◌≢◌, ℕ, ◌*◌, ◌<◌, ◌�
 use Rattle.std.specs.List.{range_with_len}
 use Rattle.std.specs.Io.KnownBytes.{Consumes, IsAtEnd}
 use Rattle.std.specs.declared.option.Option.{Option}
-use Rattle.dvd_block.specs.Recording.{record_at}
+use Rattle.coding.specs.Recording.{record_at}
 use Rattle.dvd_capture.specs.Listed.{IsBrokenAt, IsUnbroken, listed_row, listed_size}
 use Rattle.dvd_capture.specs.MarkBits.{marks_of}
 use Rattle.dvd_capture.specs.declared.form.Form.{Form}

@@ -1,11 +1,11 @@
 -- The laws of captured blocks and of two-pass decoding.
 use Rattle.std.specs.Prelude.{◌≡◌, ℕ, ◌<◌, ◌^◌, Bool, List, All, length}
-use Rattle.dvd_block.specs.Product.{IsProduct}
-use Rattle.dvd_block.specs.Recording.{recording}
+use Rattle.coding.specs.Product.{IsProduct}
+use Rattle.coding.specs.Recording.{recording}
 use Rattle.dvd_capture.specs.Captured.{IsUnitOf, captured_rows}
 use Rattle.dvd_capture.specs.Header.{header_bytes}
-use Rattle.dvd_capture.specs.TwoPass.{IsTwoPass}
-use Rattle.dvd_capture.specs.Within.{IsWithin}
+use Rattle.coding.specs.TwoPass.{IsTwoPass}
+use Rattle.coding.specs.Within.{IsWithin}
 use Rattle.dvd_capture.specs.declared.form.Form.TheVariants.{Plain}
 use Rattle.dvd_capture.specs.declared.header.Header.{Header}
 

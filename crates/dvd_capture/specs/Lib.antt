@@ -12,6 +12,4 @@ pub mod Listing
 pub mod MarkBits
 pub mod Parts
 pub mod Rule
-pub mod TwoPass
-pub mod Within
 pub mod Works

@@ -2,7 +2,7 @@
 -- bytes: the number of its runs, and for each run its start and its length. A run marks so many places from its start on.
 use Rattle.std.specs.Prelude.{◌≡◌, ◌⊎◌, ℕ, zero, suc, ◌+◌, ◌-◌, ◌*◌, ◌/◌, ◌%◌, ◌<◌, ◌≤◌, Bool, false, nat_le, nat_lt, ◌&&◌, ◌||◌, List, length, map, slice_index, slice_index_or}
 use Rattle.std.specs.List.{range_with_len}
-use Rattle.dvd_block.specs.Recording.{row_at}
+use Rattle.coding.specs.Recording.{row_at}
 use Rattle.dvd_capture.specs.Answers.{marks_line}
 
 -- the field at an offset, its first byte being the most significant

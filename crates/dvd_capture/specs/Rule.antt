@@ -2,7 +2,7 @@
 use Rattle.std.specs.Prelude.{ℕ, Bool, List, ⊤}
 use Rattle.std.proofs.Props.{props}
 use Rattle.std.specs.declared.option.Option.{Option}
-use Rattle.dvd_capture.specs.TwoPass.{AgreesWith, IsTwoPass}
+use Rattle.coding.specs.TwoPass.{AgreesWith, IsTwoPass}
 use Rattle.dvd_capture.specs.declared.stage.Stage.{Stage}
 use Rattle.dvd_capture.specs.declared.stage.Stage.TheVariants.{Empty, Fetched, Refused, Fixed}
 

@@ -4,7 +4,7 @@ use Rattle.dvd_capture.specs.declared.stage.Stage.{Stage}
 use Rattle.dvd_capture.specs.declared.parts.AnswerRow.{AnswerRow}
 use Rattle.dvd_capture.specs.declared.work.Work.{Work}
 use Rattle.dvd_capture.specs.Parts.{answer_rows, column_words, marks_rows, received_rows, sector_bytes}
-use Rattle.dvd_capture.specs.TwoPass.{from_columns}
+use Rattle.coding.specs.TwoPass.{from_columns}
 
 -- its stage
 abbrev pub stage_of : Work → Stage

@@ -1,6 +1,6 @@
 //! Captured blocks are read from a source.
 ghost use Rattle.std.specs.Prelude.{◌≡◌, ◌≢◌, ℕ, ◌*◌, ◌<◌, ◌==◌, if◌then◌else◌, length, take, slice_set};
-ghost use Rattle.dvd_block.specs.Recording.{row_at};
+ghost use Rattle.coding.specs.Recording.{row_at};
 ghost use Rattle.dvd_capture.specs.Captured.{HasSize, marks_in, record_size};
 ghost use Rattle.dvd_capture.specs.Parts.{marks_rows, received_rows};
 ghost use Rattle.dvd_capture.specs.Fetching.{Fetches};

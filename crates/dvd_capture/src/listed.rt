@@ -2,7 +2,7 @@
 //! places and each run's start and length.
 ghost use Rattle.std.specs.Prelude.{◌≡◌, ◌≢◌, ℕ, ◌+◌, ◌<◌, ◌≤◌, ◌⊎◌, true, false, List, ◌++◌, length, IfOk, IfErr, OnOk, OnErr};
 ghost use Rattle.std.specs.Int.{to_be_bytes, w16};
-ghost use Rattle.dvd_block.specs.Product.{line};
+ghost use Rattle.coding.specs.Product.{line};
 ghost use Rattle.dvd_ports.specs.Causes.{HasCause};
 ghost use Rattle.dvd_ports.specs.Whole.{IsWritten};
 ghost use Rattle.dvd_capture.specs.Listed.{mark_of};

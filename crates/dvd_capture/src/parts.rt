@@ -2,7 +2,7 @@
 ghost use Rattle.std.specs.Prelude.{◌≡◌, ◌↔◌, ◌<◌, ◌≤◌, false, length, take, vec_len, IfOk, IsTrue, replicate, slice_index_or, slice_set};
 ghost use Rattle.std.specs.List.{flat_map};
 ghost use Rattle.std.specs.declared.option.Option.TheVariants.{None};
-ghost use Rattle.dvd_block.specs.Product.{line};
+ghost use Rattle.coding.specs.Product.{line};
 ghost use Rattle.dvd_capture.specs.MarkBits.{marks_of};
 
 use crate::row_marks::RowMarks;

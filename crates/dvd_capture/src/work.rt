@@ -3,11 +3,11 @@ ghost use Rattle.std.proofs.Props.{props};
 ghost use Rattle.std.specs.Prelude.{◌≡◌, ℕ, ◌<◌, ◌≤◌, ◌≢◌, ◌↔◌, Bool, false, List, length, take, replicate, slice_index, slice_index_or, slice_set, IfOk, IfSome, IfNone, OnSome};
 ghost use Rattle.std.specs.List.{flat_map};
 ghost use Rattle.std.specs.declared.option.Option.TheVariants.{None, Some};
-ghost use Rattle.dvd_block.specs.Product.{line, place};
+ghost use Rattle.coding.specs.Product.{line, place};
 ghost use Rattle.dvd_capture.specs.Answers.{AreAnswers, IsFix, marks_line, row_answer};
 ghost use Rattle.dvd_capture.specs.Parts.{answer_rows, column_answers, column_words, marks_rows, received_rows};
 ghost use Rattle.dvd_capture.specs.Rule.{AgreesWith-prop, HasAnswers, HasBlock, HasNoTwoPass};
-ghost use Rattle.dvd_capture.specs.TwoPass.{IsTwoPass, from_columns};
+ghost use Rattle.coding.specs.TwoPass.{IsTwoPass, from_columns};
 ghost use Rattle.dvd_capture.specs.declared.stage.Stage.TheVariants.{Empty, Fetched, Refused, Fixed};
 
 use crate::parts::{Answers, Columns, Marks, Received, Sectors};

@@ -2,7 +2,7 @@
 use Rattle.std.proofs.Common.{◌≡◌, ◌≢◌, ◌∙◌, ℕ, ◌+◌, ◌<◌, Bool, false, List, [], length, get_or, set, slice_index, inl, inr, sym, ap, arith}
 use Rattle.std.proofs.lemmas.Bool.{cases_eq}
 use Rattle.std.proofs.lemmas.List.{get_or-set_same, get_or-set_other, length-set}
-use Rattle.dvd_block.specs.Product.{line, place}
+use Rattle.coding.specs.Product.{line, place}
 use Rattle.dvd_capture.specs.Answers.{marks_line}
 use Rattle.dvd_deep.specs.Rounds.{mark_in}
 use Rattle.dvd_deep.specs.Inner.Steps.{AreMarksTaken, AreWide, IsColumnPut}

@@ -8,7 +8,7 @@ use Rattle.std.proofs.lemmas.Grind.{same_number_lists}
 use Rattle.std.proofs.lemmas.List.Concat.{flat_map-append}
 use Rattle.std.proofs.lemmas.List.FromFn.{map-range_with_len_more}
 use Rattle.dvd_layout.specs.declared.entry.BlockPlan.{BlockPlan}
-use Rattle.dvd_read.specs.Frames.{main_at, main_data}
+use Rattle.dvd_decoding.specs.Frames.{main_at, main_data}
 
 -- the Main Data of the first n frames
 abbrev pub mains : List (List ℕ) → BlockPlan → ℕ → List ℕ

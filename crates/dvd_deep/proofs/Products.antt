@@ -8,12 +8,12 @@ use Rattle.std.proofs.lemmas.List.{get_or-map, length-map}
 use Rattle.std.proofs.lemmas.List.FromFn.{length-map-range_with_len, get_or-map-range_with_len, get_or-range_with_len, length-range_with_len}
 use Rattle.std.proofs.lemmas.List.Sums.{AllPass-from_list_all}
 use Rattle.std.proofs.lemmas.List.Elements.{All-from_get_or}
-use Rattle.gf_field.specs.Words.{IsByte, IsCodeword}
-use Rattle.rs_decode.specs.Nearest.{near_of, vanishes_at_all}
+use Rattle.coding.specs.Words.{IsByte, IsCodeword}
+use Rattle.coding.specs.Nearest.{near_of, vanishes_at_all}
 use Rattle.rs_decode.proofs.NearSearch.{near_of-is_near, vanishing-codeword}
-use Rattle.dvd_block.specs.Product.{IsProduct, column, line}
+use Rattle.coding.specs.Product.{IsProduct, column, line}
 use Rattle.dvd_block.proofs.Columns.{length-column}
-use Rattle.dvd_capture.specs.TwoPass.{from_columns}
+use Rattle.coding.specs.TwoPass.{from_columns}
 use Rattle.dvd_capture.proofs.Columns.{column-from_columns, from_columns-line, length-from_columns}
 use Rattle.dvd_deep.specs.Rounds.{State, after, are_answered, column_marks, column_near, column_step, deep_block, failed_marks, finishes, first_round, mark_in, round, row_near, row_step, state_in}
 use Rattle.dvd_deep.specs.Laws.{WhatIsFoundIsProduct}

@@ -2,13 +2,13 @@
 use Rattle.std.proofs.Common.{◌≡◌, ◌∙◌, ℕ, Bool, true, List, length, refl, sym, ap, Some, None, is_some}
 use Rattle.std.specs.Option.{option_map, option_or}
 use Rattle.std.specs.declared.option.Option.{Option}
-use Rattle.dvd_capture.specs.TwoPass.{answers_of}
+use Rattle.coding.specs.TwoPass.{answers_of}
 use Rattle.dvd_capture.proofs.Columns.{length-answers_of}
 use Rattle.dvd_layout.specs.declared.entry.BlockPlan.{BlockPlan}
-use Rattle.dvd_read.specs.Causes.{two_pass_cause}
-use Rattle.dvd_read.specs.Frames.{frames_cause, main_data}
-use Rattle.dvd_read.specs.Reading.{IsReadAs, block_cause, block_in, block_sectors}
-use Rattle.dvd_read.specs.declared.cause.Cause.{Cause}
+use Rattle.dvd_decoding.specs.Causes.{two_pass_cause}
+use Rattle.dvd_decoding.specs.Frames.{frames_cause, main_data}
+use Rattle.dvd_decoding.specs.Reading.{IsReadAs, block_cause, block_in, block_sectors}
+use Rattle.dvd_decoding.specs.declared.cause.Cause.{Cause}
 use Rattle.dvd_read.proofs.BlockRead.{no_cause-read}
 use Rattle.dvd_read.proofs.Outcomes.{no_cause-agrees}
 use Rattle.dvd_deep.specs.Reading.{IsDeep, cause_by, deep_cause}

@@ -6,13 +6,13 @@ use Rattle.std.specs.declared.option.Option.{Option}
 use Rattle.std.proofs.lemmas.List.{get_or-map, length-map}
 use Rattle.std.proofs.lemmas.List.FromFn.{fill_by_all, length-map-range_with_len, get_or-map-range_with_len, get_or-range_with_len, length-range_with_len}
 use Rattle.std.proofs.lemmas.List.Sums.{list_all-from_AllPass}
-use Rattle.gf_field.specs.Words.{IsNear, cost}
-use Rattle.rs_decode.specs.Nearest.{near_of, vanishes_at_all}
+use Rattle.coding.specs.Words.{IsNear, cost}
+use Rattle.coding.specs.Nearest.{near_of, vanishes_at_all}
 use Rattle.rs_decode.proofs.OneNear.{cost-alike}
 use Rattle.rs_decode.proofs.NearSearch.{codeword-vanishes, near_of-some}
-use Rattle.dvd_block.specs.Product.{IsProduct, column, line}
+use Rattle.coding.specs.Product.{IsProduct, column, line}
 use Rattle.dvd_block.proofs.Columns.{get_or-column, length-column}
-use Rattle.dvd_capture.specs.TwoPass.{IsTwoPass, answer_column, answers_of, byte_or_zero, failed_of}
+use Rattle.coding.specs.TwoPass.{IsTwoPass, answer_column, answers_of, byte_or_zero, failed_of}
 use Rattle.dvd_capture.proofs.Columns.{from_columns-product, length-answer_column, length-answers_of}
 use Rattle.dvd_read.proofs.RowAnswers.{get_or-answers_of}
 use Rattle.dvd_deep.specs.Laws.{TwoPassIsRoundOne}

@@ -5,8 +5,8 @@ use Rattle.std.specs.declared.option.Option.{Option}
 use Rattle.std.proofs.lemmas.Bool.{cases_eq}
 use Rattle.std.proofs.lemmas.List.{get_or-set_same, get_or-set_other}
 use Rattle.std.proofs.lemmas.List.FromFn.{fill_by_all}
-use Rattle.rs_decode.specs.Nearest.{near_of}
-use Rattle.dvd_block.specs.Product.{line}
+use Rattle.coding.specs.Nearest.{near_of}
+use Rattle.coding.specs.Product.{line}
 use Rattle.dvd_capture.specs.Answers.{marks_line}
 use Rattle.dvd_deep.specs.Rounds.{State, failed_marks, row_near, row_step, state_in}
 

@@ -2,7 +2,7 @@
 use Rattle.std.proofs.Common.{◌≡◌, ◌∙◌, ℕ, zero, suc, ◌+◌, ◌-◌, ◌<◌, ◌≤◌, Bool, true, false, ◌&&◌, List, find, inl, inr, refl, ap, arith, Some, None}
 use Rattle.std.specs.List.{list_all, range_with_len}
 use Rattle.std.proofs.lemmas.Bool.{cases_eq}
-use Rattle.rs_decode.specs.Nearest.{vanishes_at_all}
+use Rattle.coding.specs.Nearest.{vanishes_at_all}
 use Rattle.dvd_deep.specs.Rounds.{State, after, are_answered, column_step, failed_marks, finishes, first_round, round, row_step}
 
 -- the first number from a on that passes a test

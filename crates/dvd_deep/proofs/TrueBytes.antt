@@ -4,12 +4,12 @@ use Rattle.std.specs.List.{range_with_len}
 use Rattle.std.specs.declared.option.Option.{Option}
 use Rattle.std.proofs.lemmas.List.{get_or-map, length-map, length-replicate}
 use Rattle.std.proofs.lemmas.List.FromFn.{length-map-range_with_len, get_or-map-range_with_len}
-use Rattle.gf_field.specs.Words.{IsCodeword, IsNear, cost}
-use Rattle.rs_decode.specs.Filling.{AgreeUnmarked, marked}
-use Rattle.rs_decode.specs.Nearest.{near_of}
+use Rattle.coding.specs.Words.{IsCodeword, IsNear, cost}
+use Rattle.coding.specs.Filling.{AgreeUnmarked, marked}
+use Rattle.coding.specs.Nearest.{near_of}
 use Rattle.rs_decode.proofs.OneNear.{filling_near, near_once}
 use Rattle.rs_decode.proofs.NearSearch.{near_of-is_near}
-use Rattle.dvd_block.specs.Product.{IsProduct, column, line, place}
+use Rattle.coding.specs.Product.{IsProduct, column, line, place}
 use Rattle.dvd_block.proofs.Columns.{get_or-column, length-column}
 use Rattle.dvd_capture.specs.Answers.{marks_line}
 use Rattle.dvd_capture.proofs.Bound.{marked-cost}

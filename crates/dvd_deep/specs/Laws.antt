@@ -1,10 +1,10 @@
 -- The laws of iterated reading.
 use Rattle.std.specs.Prelude.{◌≡◌, ℕ, ◌<◌, Bool, List, Some, length}
-use Rattle.rs_decode.specs.Filling.{AgreeUnmarked}
-use Rattle.dvd_block.specs.Product.{IsProduct, line}
+use Rattle.coding.specs.Filling.{AgreeUnmarked}
+use Rattle.coding.specs.Product.{IsProduct, line}
 use Rattle.dvd_capture.specs.Answers.{marks_line}
-use Rattle.dvd_capture.specs.TwoPass.{IsTwoPass}
-use Rattle.dvd_read.specs.Made.{IsReceived}
+use Rattle.coding.specs.TwoPass.{IsTwoPass}
+use Rattle.dvd_decoding.specs.Made.{IsReceived}
 use Rattle.dvd_deep.specs.Rounds.{deep_block, deep_round}
 
 -- where two passes determine a block, round 1 gives it back

@@ -3,9 +3,9 @@
 use Rattle.std.specs.Prelude.{◌≡◌, ℕ, Bool, List, None, Some}
 use Rattle.std.specs.declared.option.Option.{Option}
 use Rattle.dvd_layout.specs.declared.entry.BlockPlan.{BlockPlan}
-use Rattle.dvd_read.specs.Frames.{frames_cause, main_data}
-use Rattle.dvd_read.specs.Reading.{block_cause}
-use Rattle.dvd_read.specs.declared.cause.Cause.{Cause}
+use Rattle.dvd_decoding.specs.Frames.{frames_cause, main_data}
+use Rattle.dvd_decoding.specs.Reading.{block_cause}
+use Rattle.dvd_decoding.specs.declared.cause.Cause.{Cause}
 use Rattle.dvd_deep.specs.Rounds.{deep_block, deep_round}
 
 -- the cause of the block that was found, or else that of the two passes

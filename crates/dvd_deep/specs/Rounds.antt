@@ -4,10 +4,10 @@ use Rattle.std.specs.Prelude.{ℕ, zero, suc, ◌-◌, Bool, false, ◌&&◌, Li
 use Rattle.std.specs.List.{list_all, range_with_len}
 use Rattle.std.specs.Option.{option_map, option_or}
 use Rattle.std.specs.declared.option.Option.{Option}
-use Rattle.rs_decode.specs.Nearest.{near_of, vanishes_at_all}
-use Rattle.dvd_block.specs.Product.{column, line}
+use Rattle.coding.specs.Nearest.{near_of, vanishes_at_all}
+use Rattle.coding.specs.Product.{column, line}
 use Rattle.dvd_capture.specs.Answers.{marks_line, row_answer}
-use Rattle.dvd_capture.specs.TwoPass.{from_columns}
+use Rattle.coding.specs.TwoPass.{from_columns}
 
 -- the rows of a block, and the marks of each
 pub record State : Type 0 where

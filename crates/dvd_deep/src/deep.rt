@@ -1,6 +1,6 @@
 //! A search for the block behind a captured one, by rounds.
 ghost use Rattle.std.specs.Prelude.{◌≡◌, ◌<◌, IfOk, IfSome, IsTrue, Some, false, is_some};
-ghost use Rattle.dvd_block.specs.Product.{place};
+ghost use Rattle.coding.specs.Product.{place};
 ghost use Rattle.dvd_capture.specs.Rule.{HasBlock};
 ghost use Rattle.dvd_capture.specs.Works.{marks_of_work, rows_of, stage_of};
 ghost use Rattle.dvd_deep.specs.Rounds.{deep_block, deep_round};

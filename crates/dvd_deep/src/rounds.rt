@@ -2,8 +2,8 @@
 ghost use Rattle.std.specs.Prelude.{◌≡◌, ◌<◌, IfSome, IsTrue, Some, false, true, if◌then◌else◌, is_some, length, replicate, slice_set, unwrap_or};
 ghost use Rattle.std.specs.List.{list_all};
 ghost use Rattle.std.specs.Option.{option_or};
-ghost use Rattle.rs_decode.specs.Nearest.{near_of, vanishes_at_all};
-ghost use Rattle.dvd_block.specs.Product.{column, line};
+ghost use Rattle.coding.specs.Nearest.{near_of, vanishes_at_all};
+ghost use Rattle.coding.specs.Product.{column, line};
 ghost use Rattle.dvd_capture.specs.Rule.{HasBlock};
 ghost use Rattle.dvd_capture.specs.Works.{marks_of_work, rows_of, stage_of};
 ghost use Rattle.dvd_deep.specs.Inner.Buffers.{buffered_state, marks_of_rows};

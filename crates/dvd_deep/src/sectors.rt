@@ -3,7 +3,7 @@ ghost use Rattle.std.specs.Prelude.{◌≡◌, ◌*◌, ◌+◌, ◌<◌, ◌++�
 ghost use Rattle.std.specs.List.{flat_map};
 ghost use Rattle.dvd_block.specs.Buffers.{piece_bytes};
 ghost use Rattle.dvd_layout.specs.Place.{HasNumbers};
-ghost use Rattle.dvd_read.specs.Frames.{frames_cause, main_data};
+ghost use Rattle.dvd_decoding.specs.Frames.{frames_cause, main_data};
 
 use crate::deep::Deep;
 use crate::rounds::Rows;

@@ -2,9 +2,9 @@
 use Rattle.std.proofs.Common.{◌≡◌, ◌≢◌, ◌⊎◌, ◌∙◌, ℕ, zero, suc, ◌+◌, ◌-◌, ◌*◌, ◌<◌, ◌≤◌, ◌==◌, Bool, true, false, nat_lt, if◌then◌else◌, List, [], ◌∷◌, length, get_or, replicate, slice_index, inl, inr, min, refl, sym, ap, subst, arith}
 use Rattle.std.proofs.lemmas.Bool.Decides.{eqb_tells, leb_tells, nat_tests}
 use Rattle.std.proofs.lemmas.List.{get_or-replicate}
-use Rattle.gf_field.specs.Words.{cost}
-use Rattle.rs_decode.specs.Filling.{marked}
-use Rattle.dvd_capture.specs.Within.{IsWithin, block_weight, row_weight}
+use Rattle.coding.specs.Words.{cost}
+use Rattle.coding.specs.Filling.{marked}
+use Rattle.coding.specs.Within.{IsWithin, block_weight, row_weight}
 use Rattle.dvd_exercise.specs.Damage.{HasErrors, IsHurt, IsHurtBy, bad_count, drawn_errors, error_place, lost_count, damaged_row, row_state, start_row}
 use Rattle.dvd_exercise.specs.Generator.{state_after}
 use Rattle.dvd_exercise.specs.Laws.{HurtIsWithin}

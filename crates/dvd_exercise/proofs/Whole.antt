@@ -1,6 +1,6 @@
 -- The whole damage from its three parts: bad rows, lost rows, and single errors in the others.
 use Rattle.std.proofs.Common.{◌≡◌, ◌∙◌, ℕ, ◌+◌, ◌*◌, ◌<◌, Bool, true, false, List, [], length, replicate, refl, sym, subst, arith}
-use Rattle.dvd_block.specs.Product.{line}
+use Rattle.coding.specs.Product.{line}
 use Rattle.dvd_exercise.specs.Damage.{HasErrors, IsChanged, IsHurt, IsHurtBy, bad_count, combined, is_hit, lost_count, damaged_row, row_state, start_row}
 use Rattle.dvd_exercise.specs.Generator.{state_after}
 use Rattle.dvd_exercise.proofs.Rows.{hit_at, not_hit, damaged_row-new}

@@ -3,7 +3,7 @@ use Rattle.std.proofs.Common.{◌≡◌, ◌∙◌, ℕ, suc, ◌+◌, ◌-◌, 
 use Rattle.std.proofs.lemmas.Bool.Decides.{leb_tells}
 use Rattle.std.proofs.lemmas.List.{get_or-replicate, length-replicate}
 use Rattle.std.proofs.lemmas.List.Elements.{All-from_get_or}
-use Rattle.dvd_block.specs.Product.{line}
+use Rattle.coding.specs.Product.{line}
 use Rattle.dvd_capture.proofs.Bound.{within_agrees}
 use Rattle.dvd_exercise.specs.Damage.{IsHurt, IsHurtBy, bad_count, lost_count, damaged_row, start_row}
 use Rattle.dvd_exercise.specs.Generator.{state_after}

@@ -2,7 +2,7 @@
 -- each other row has a few single errors. All is drawn from one state x, word by word.
 use Rattle.std.specs.Prelude.{◌≡◌, ◌≢◌, ℕ, zero, suc, ◌+◌, ◌-◌, ◌*◌, ◌%◌, ◌<◌, Bool, true, false, ◌==◌, if◌then◌else◌, List, [], length, map, replicate, slice_index, slice_index_or, bit_or, bit_xor}
 use Rattle.std.specs.List.{list_any, range_with_len}
-use Rattle.dvd_block.specs.Product.{line}
+use Rattle.coding.specs.Product.{line}
 use Rattle.dvd_exercise.specs.Generator.{drawn_byte, state_after}
 
 -- From state x on, the first word says how many rows are bad, 8 at most,

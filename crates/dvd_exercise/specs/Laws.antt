@@ -1,8 +1,8 @@
 -- The laws of the damage.
 use Rattle.std.specs.Prelude.{◌≡◌, ◌≢◌, ℕ, ◌<◌, All, Bool, false, List, length, replicate}
-use Rattle.dvd_block.specs.Product.{IsProduct}
-use Rattle.dvd_capture.specs.TwoPass.{IsTwoPass}
-use Rattle.dvd_capture.specs.Within.{IsWithin}
+use Rattle.coding.specs.Product.{IsProduct}
+use Rattle.coding.specs.TwoPass.{IsTwoPass}
+use Rattle.coding.specs.Within.{IsWithin}
 use Rattle.dvd_exercise.specs.Damage.{IsHurt, drawn_errors, error_place, damaged_row}
 
 -- a block with no marks is hurt within the bound that two-pass decoding bears

@@ -1,8 +1,8 @@
 //! Damage to a received block: bad rows, lost rows, and single errors in all other rows.
 ghost use Rattle.std.specs.Prelude.{◌≡◌, ℕ, ◌+◌, ◌*◌, ◌<◌, ◌≤◌, true, false, [], length, replicate, slice_set, bit_xor};
-ghost use Rattle.dvd_block.specs.Product.{line, place};
+ghost use Rattle.coding.specs.Product.{line, place};
 ghost use Rattle.dvd_capture.specs.Kept.{KeepsFound};
-ghost use Rattle.dvd_capture.specs.Within.{IsWithin};
+ghost use Rattle.coding.specs.Within.{IsWithin};
 ghost use Rattle.dvd_capture.specs.Works.{marks_of_work, rows_of, stage_of};
 ghost use Rattle.dvd_capture.specs.declared.stage.Stage.TheVariants.{Fetched};
 ghost use Rattle.dvd_exercise.specs.Damage.{HasErrors, IsChanged, IsHurt, bad_count, combined, drawn_errors, hurt_state, is_hit, lost_count, damaged_row, row_state, start_row};

@@ -6,8 +6,8 @@ use Rattle.std.proofs.lemmas.Nat.{xor_lt, field_of, mod-pow-add, pow-add}
 use Rattle.std.proofs.Math.Nat.{pow-suc, div-div-eq-div-mul}
 use Rattle.std.proofs.Math.Pow.{mod-mod-pow}
 use Rattle.std.proofs.lemmas.Nat.Bits.{bit_at_xor, bit_at-lt, bit_at-suc, bit_at_lowest}
-use Rattle.gf_field.specs.BitDivision.{plus_front}
-use Rattle.dvd_frame.specs.Bits.{bits, number_of}
+use Rattle.coding.specs.BitDivision.{plus_front}
+use Rattle.coding.specs.Bits.{bits, number_of}
 
 -- the lowest n bits of a number are n bits
 pub length-bits : (n number : ℕ) → length (bits n number) ≡ n

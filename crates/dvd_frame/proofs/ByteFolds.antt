@@ -10,9 +10,9 @@ use Rattle.std.proofs.lemmas.List.FromFn.{get_or-map-range_with_len}
 use Rattle.std.proofs.lemmas.Nat.{xor_lt}
 use Rattle.std.proofs.lemmas.Nat.Bits.{bit_at_xor, same_from_bits}
 use Rattle.std.proofs.lemmas.Slice.Eq.{bytes_eq-Decides}
-use Rattle.gf_field.specs.BitDivision.{plus_front, remainder_by}
+use Rattle.coding.specs.BitDivision.{plus_front, remainder_by}
 use Rattle.gf_field.proofs.BitDivision.{length-plus_front, remainder_by_twice}
-use Rattle.dvd_frame.specs.Bits.{bits, number_of}
+use Rattle.coding.specs.Bits.{bits, number_of}
 use Rattle.dvd_frame.specs.Edc.{remainder, divisor}
 use Rattle.dvd_frame.specs.Inner.Registers.{byte_remainder}
 use Rattle.dvd_frame.proofs.BitLists.{length-bits, plus_front-bits, bits-mod, number_of-bits}

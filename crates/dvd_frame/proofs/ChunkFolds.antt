@@ -8,9 +8,9 @@ use Rattle.std.specs.Simd.Lanes.{zip2, put_chunk}
 use Rattle.std.proofs.lemmas.List.{length-append, length-drop}
 use Rattle.std.proofs.lemmas.Simd.{length-chunk, chunk-drop}
 use Rattle.std.proofs.lemmas.Nat.Bits.{bit_at_xor, same_from_bits}
-use Rattle.gf_field.specs.BitDivision.{plus_front}
+use Rattle.coding.specs.BitDivision.{plus_front}
 use Rattle.gf_field.proofs.BitDivision.{length-plus_front}
-use Rattle.dvd_frame.specs.Bits.{bits}
+use Rattle.coding.specs.Bits.{bits}
 use Rattle.dvd_frame.specs.Inner.Registers.{divided_from, byte_remainder}
 use Rattle.dvd_frame.proofs.Division.{divided_from_zero}
 use Rattle.dvd_frame.proofs.WordDivision.{remainders_sum, bits-remainders_sum}

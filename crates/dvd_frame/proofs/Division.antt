@@ -7,9 +7,9 @@ use Rattle.std.proofs.lemmas.List.{length-append, length-replicate, append_assoc
 use Rattle.std.proofs.lemmas.List.Elements.{All-append, All-replicate}
 use Rattle.std.proofs.lemmas.Nat.{xor_comm}
 use Rattle.std.proofs.lemmas.Nat.Bits.{bit_at-zero}
-use Rattle.gf_field.specs.BitDivision.{plus_front, remainder_by}
+use Rattle.coding.specs.BitDivision.{plus_front, remainder_by}
 use Rattle.gf_field.proofs.BitDivision.{length-plus_front, plus_front_twice, remainder_by_twice}
-use Rattle.dvd_frame.specs.Bits.{bits, bits_of, number_of}
+use Rattle.coding.specs.Bits.{bits, bits_of, number_of}
 use Rattle.dvd_frame.specs.Edc.{remainder, divisor, edc_of}
 use Rattle.dvd_frame.specs.Inner.Registers.{divided_from, byte_remainder}
 use Rattle.dvd_frame.specs.Id.{word_bytes}

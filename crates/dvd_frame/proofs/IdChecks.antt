@@ -9,8 +9,8 @@ use Rattle.std.proofs.lemmas.List.{drop_more, drop_all, drop_at, take-append-dro
 use Rattle.std.proofs.lemmas.List.Elements.{All-append, All-cons, All-nil, All-tail, All-map, All-drop}
 use Rattle.std.proofs.lemmas.List.Folds.{list_any-append, list_any_at}
 use Rattle.std.proofs.lemmas.List.FromFn.{length-range_with_len, get_or-range_with_len, length-map-range_with_len, get_or-map-range_with_len}
-use Rattle.gf_field.specs.Field.{alpha, power}
-use Rattle.gf_field.specs.Words.{IsByte, IsCodeword, IsEncoded, value}
+use Rattle.coding.specs.Field.{alpha, power}
+use Rattle.coding.specs.Words.{IsByte, IsCodeword, IsEncoded, value}
 use Rattle.gf_field.proofs.FieldLaws.{power-zero, power-one}
 use Rattle.rs_code.proofs.Codewords.{encodable, encoded_once}
 use Rattle.dvd_frame.specs.Id.{word_bytes, has_check, all_pairs, ied_of}

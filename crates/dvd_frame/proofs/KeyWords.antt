@@ -6,9 +6,9 @@ use Rattle.std.specs.Int.Bits.{xor_shr, xor_mod}
 use Rattle.std.proofs.lemmas.Nat.{be_bytes_8}
 use Rattle.std.proofs.lemmas.List.{get_or-drop, get_or-take, length-drop, length-take-le, take_all, take-take, drop-take}
 use Rattle.std.proofs.lemmas.Grind.{same_number_lists}
-use Rattle.gf_field.specs.BitDivision.{plus_front}
+use Rattle.coding.specs.BitDivision.{plus_front}
 use Rattle.dvd_frame.specs.Inner.Registers.{keys_from}
-use Rattle.dvd_frame.specs.Bits.{bits}
+use Rattle.coding.specs.Bits.{bits}
 use Rattle.dvd_frame.specs.Scrambling.{scrambling_byte, sequence, window}
 use Rattle.dvd_frame.proofs.Sequences.{shifted_window, byte_shown}
 use Rattle.dvd_frame.proofs.Recurrence.{Recurs, terms, length-terms, get_or-terms, terms_sum, byte_fits, bytes_recur, bytes_recur_by_vectors}

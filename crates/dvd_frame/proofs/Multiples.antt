@@ -8,9 +8,9 @@ use Rattle.std.proofs.lemmas.List.Elements.{All-append, All-cons, All-nil, All-r
 use Rattle.std.proofs.lemmas.List.Sums.{fold-append}
 use Rattle.std.proofs.lemmas.Nat.{xor_comm, xor_lt}
 use Rattle.std.proofs.lemmas.Nat.Bits.{bit_at-lt}
-use Rattle.gf_field.specs.BitDivision.{plus_front, remainder_by}
+use Rattle.coding.specs.BitDivision.{plus_front, remainder_by}
 use Rattle.gf_field.proofs.BitDivision.{length-plus_front}
-use Rattle.dvd_frame.specs.Bits.{bits, bits_of, number_of}
+use Rattle.coding.specs.Bits.{bits, bits_of, number_of}
 use Rattle.dvd_frame.specs.Edc.{remainder, divisor, edc_of}
 use Rattle.dvd_frame.specs.Id.{word_bytes}
 use Rattle.dvd_frame.proofs.BitLists.{length-bits, bits_more, bits-mod, fold-bits}

@@ -8,8 +8,8 @@ use Rattle.std.proofs.lemmas.List.Elements.{All-nil, All-cons, All-append, All-d
 use Rattle.std.proofs.lemmas.List.FromFn.{length-map-range_with_len, get_or-map-range_with_len}
 use Rattle.std.proofs.lemmas.Grind.{same_number_lists}
 use Rattle.std.proofs.lemmas.Nat.{xor_lt}
-use Rattle.gf_field.specs.BitDivision.{plus_front}
-use Rattle.dvd_frame.specs.Bits.{bits, number_of}
+use Rattle.coding.specs.BitDivision.{plus_front}
+use Rattle.coding.specs.Bits.{bits, number_of}
 use Rattle.dvd_frame.specs.Scrambling.{sequence, scrambling_byte}
 use Rattle.dvd_frame.proofs.BitLists.{plus_front-bits, number_of-bits}
 use Rattle.dvd_frame.proofs.Multiples.{IsBit, bits-bits, bits-number_of}

@@ -2,8 +2,8 @@
 use Rattle.std.proofs.Common.{◌≡◌, ℕ, zero, suc, ◌+◌, ◌*◌, ◌/◌, ◌%◌, ◌^◌, ◌≤◌, List, [], ◌∷◌, ◌++◌, length, get_or, take, drop, refl, sym, ◌∙◌, ap, arith}
 use Rattle.std.specs.Prelude.{bit_xor}
 use Rattle.std.proofs.lemmas.List.{length_push, get_or-drop, drop-append-le, drop-drop, take_at}
-use Rattle.gf_field.specs.BitDivision.{plus_front}
-use Rattle.dvd_frame.specs.Bits.{bits, number_of}
+use Rattle.coding.specs.BitDivision.{plus_front}
+use Rattle.coding.specs.Bits.{bits, number_of}
 use Rattle.dvd_frame.specs.Scrambling.{sequence, scrambling_byte, window}
 use Rattle.dvd_frame.proofs.BitLists.{length-bits, bits-mod, bits-split, plus_front-bits, number_of-bits}
 

@@ -1,8 +1,8 @@
 -- The error detection code, the EDC (ECMA-267, 16.4): the remainder of a list of bits, as a polynomial times x^32,
 -- by x^32 + x^31 + x^4 + 1. The code keeps one word of 32 bits instead of the list.
 use Rattle.std.specs.Prelude.{ℕ, ◌*◌, List, ◌++◌, length, replicate}
-use Rattle.gf_field.specs.BitDivision.{remainder_by}
-use Rattle.dvd_frame.specs.Bits.{bits, bits_of, number_of}
+use Rattle.coding.specs.BitDivision.{remainder_by}
+use Rattle.coding.specs.Bits.{bits, bits_of, number_of}
 use Rattle.dvd_frame.specs.Id.{word_bytes}
 
 -- the divisor without its leading term

@@ -1,9 +1,9 @@
 -- Worked values from outside the program.
 use Rattle.std.specs.Prelude.{◌≡◌, true, false, [], ◌∷◌, ◌++◌, refl}
-use Rattle.gf_field.specs.BitDivision.{plus_front, remainder_by}
-use Rattle.gf_field.specs.Field.{shift, shifted, partial_product, product, power}
-use Rattle.gf_field.specs.Words.{value}
-use Rattle.dvd_frame.specs.Bits.{bits, bits_of}
+use Rattle.coding.specs.BitDivision.{plus_front, remainder_by}
+use Rattle.coding.specs.Field.{shift, shifted, partial_product, product, power}
+use Rattle.coding.specs.Words.{value}
+use Rattle.coding.specs.Bits.{bits, bits_of}
 use Rattle.dvd_frame.specs.Edc.{edc_of}
 use Rattle.dvd_frame.specs.Id.{id_word, word_bytes, has_check}
 use Rattle.dvd_frame.specs.Scrambling.{preset_of, sequence, scrambling_byte}

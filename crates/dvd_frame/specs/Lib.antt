@@ -1,5 +1,4 @@
 -- What the contracts speak of: data frames, their IDs and their checks, and how their Main Data are scrambled.
-pub mod Bits
 pub mod Edc
 pub mod Examples
 pub mod Frame

@@ -2,7 +2,7 @@
 -- The standard's circuit is a register of 15 bits; here its bits are one sequence.
 use Rattle.std.specs.Prelude.{ℕ, zero, suc, ◌+◌, ◌*◌, ◌/◌, ◌%◌, bit_xor, nat_lt, if◌then◌else◌, List, [], ◌∷◌, ◌++◌, length, drop, map, slice_index}
 use Rattle.std.specs.List.{range_with_len}
-use Rattle.dvd_frame.specs.Bits.{bits, number_of}
+use Rattle.coding.specs.Bits.{bits, number_of}
 use Rattle.dvd_frame.specs.declared.scrambling.Rule.{Rule}
 use Rattle.dvd_frame.specs.declared.scrambling.Rule.TheVariants.{Whole, Off, First160}
 

@@ -2,7 +2,7 @@
 //! and the EDC over its first 2,060 bytes (16.4).
 ghost use Rattle.std.specs.Prelude.{◌≡◌, ℕ, ◌+◌, ◌≤◌, List, [], ◌∷◌, ◌++◌, length};
 ghost use Rattle.std.specs.List.{concat};
-ghost use Rattle.gf_field.specs.Words.{IsCodeword};
+ghost use Rattle.coding.specs.Words.{IsCodeword};
 ghost use Rattle.dvd_frame.specs.Edc.{edc_of};
 ghost use Rattle.dvd_frame.specs.Id.{word_bytes, ied_of};
 ghost use Rattle.dvd_frame.specs.Inner.Registers.{divided_from};

@@ -4,7 +4,7 @@
 //! x^(32 n) + x^(31 n) + x^(4 n) + 1 is a multiple of the divisor for each power of two n, and a chunk of n bits may be added
 //! to those that stand 1, 28 and 32 chunks behind it and then left out.
 ghost use Rattle.std.specs.Prelude.{◌≡◌, ℕ, ◌+◌, ◌*◌, ◌^◌, ◌≤◌, ◌++◌, length, drop, replicate};
-ghost use Rattle.gf_field.specs.BitDivision.{plus_front};
+ghost use Rattle.coding.specs.BitDivision.{plus_front};
 ghost use Rattle.dvd_frame.specs.Inner.Registers.{divided_from};
 
 use crate::parts::load;

@@ -1,6 +1,6 @@
 //! What holds of every data frame. Each function's contract is a law of the definitions; the bodies are empty.
 ghost use Rattle.std.specs.Prelude.{◌≡◌, ℕ, ◌*◌, ◌<◌, ◌^◌, List, ◌++◌, length, replicate, None};
-ghost use Rattle.dvd_frame.specs.Bits.{bits_of};
+ghost use Rattle.coding.specs.Bits.{bits_of};
 ghost use Rattle.dvd_frame.specs.Edc.{edc_of, remainder};
 ghost use Rattle.dvd_frame.specs.Frame.{data_frame, frame_cause, main_in};
 ghost use Rattle.dvd_frame.specs.Scrambling.{masked};

@@ -1,7 +1,7 @@
 //! Division for the EDC (ECMA-267, 16.4), a byte or four at once.
 ghost use Rattle.std.specs.Prelude.{◌≡◌, ℕ, ◌++◌, map, replicate};
 ghost use Rattle.std.specs.List.{range_with_len};
-ghost use Rattle.dvd_frame.specs.Bits.{bits, bits_of};
+ghost use Rattle.coding.specs.Bits.{bits, bits_of};
 ghost use Rattle.dvd_frame.specs.Edc.{remainder};
 ghost use Rattle.dvd_frame.specs.Inner.Registers.{byte_remainder};
 

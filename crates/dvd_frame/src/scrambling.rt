@@ -1,7 +1,7 @@
 //! Scrambling of Main Data (ECMA-267, 17): each byte is combined with a byte of a sequence that the ID selects.
 ghost use Rattle.std.specs.Prelude.{◌≡◌, ℕ, ◌+◌, ◌^◌, ◌<◌, ◌≤◌, List, bit_xor, slice_index, length, take};
 ghost use Rattle.std.specs.Int.{to_be_bytes, w64};
-ghost use Rattle.dvd_frame.specs.Bits.{bits};
+ghost use Rattle.coding.specs.Bits.{bits};
 ghost use Rattle.dvd_frame.specs.Inner.Registers.{keys_from};
 ghost use Rattle.dvd_frame.specs.Scrambling.{presets, preset_of, scrambled_count, scrambling_byte, masked, window};
 

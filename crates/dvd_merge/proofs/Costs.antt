@@ -3,8 +3,8 @@ use Rattle.std.proofs.Common.{◌≡◌, ◌≢◌, ◌⊎◌, ℕ, zero, suc, �
 use Rattle.std.specs.List.{fold}
 use Rattle.std.proofs.lemmas.Bool.Decides.{eqb_tells}
 use Rattle.std.proofs.lemmas.List.Elements.{All-append}
-use Rattle.gf_field.specs.Words.{cost}
-use Rattle.dvd_block.specs.Product.{line, place}
+use Rattle.coding.specs.Words.{cost}
+use Rattle.coding.specs.Product.{line, place}
 use Rattle.dvd_capture.specs.Answers.{marks_line}
 use Rattle.dvd_merge.specs.Agreeing.{IsOf}
 use Rattle.dvd_merge.specs.Join.{Table, byte_of, join, join_rows, join_tables, joined, joined_marks, joined_rows, joined_mark, known_at, known_row, seen, seen_row, seen_table, unseen}

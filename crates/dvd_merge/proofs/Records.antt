@@ -4,7 +4,7 @@ use Rattle.std.specs.Simd.Lanes.{zip2}
 use Rattle.std.proofs.lemmas.List.Sums.{fold_more}
 use Rattle.std.proofs.lemmas.List.{ext_get_or, map-append, take-append-drop, take_all, take_more, take_more_set}
 use Rattle.std.proofs.lemmas.Simd.{get_or-zip2, length-zip2}
-use Rattle.dvd_block.specs.Product.{line}
+use Rattle.coding.specs.Product.{line}
 use Rattle.dvd_capture.specs.Answers.{marks_line}
 use Rattle.dvd_merge.specs.Join.{Table, join, join_rows, join_tables, known_row, seen, seen_row, seen_table}
 use Rattle.dvd_merge.specs.MarkedText.{number_of_marks, with_digit}

@@ -6,8 +6,8 @@ use Rattle.std.proofs.Math.Seq.{drop-append_seam}
 use Rattle.std.proofs.lemmas.List.{get_or-drop, get_or-map, get_or-take, get_or_append_left, length-drop, length-map, length-take-le, take_all}
 use Rattle.std.proofs.lemmas.List.FromFn.{length-map-range_with_len, get_or-map-range_with_len}
 use Rattle.std.proofs.lemmas.Nat.Bits.{bit_at-suc, bit_at_lowest}
-use Rattle.dvd_block.specs.Product.{line}
-use Rattle.dvd_block.specs.Recording.{record_at}
+use Rattle.coding.specs.Product.{line}
+use Rattle.coding.specs.Recording.{record_at}
 use Rattle.dvd_capture.specs.Captured.{captured_marks, captured_rows, marks_in, record_of}
 use Rattle.dvd_capture.specs.MarkBits.{mark_at, marks_of}
 use Rattle.dvd_capture.specs.declared.form.Form.TheVariants.{Marked}

@@ -1,9 +1,9 @@
 -- A marked text as its recorded rows are put one behind the other.
 use Rattle.std.proofs.Common.{◌≡◌, ℕ, ◌+◌, ◌<◌, List, [], ◌++◌, length, get_or, map, sym, ◌∙◌, ap, arith}
 use Rattle.std.proofs.lemmas.List.{get_or-map}
-use Rattle.dvd_block.specs.Product.{line}
-use Rattle.dvd_block.specs.Recording.{recorded, row_at}
-use Rattle.dvd_block.proofs.Recorded.{recorded-more}
+use Rattle.coding.specs.Product.{line}
+use Rattle.coding.specs.Recording.{row_at}
+use Rattle.dvd_block.proofs.Recorded.{recorded, recorded-more}
 use Rattle.dvd_merge.specs.Join.{Table}
 use Rattle.dvd_merge.specs.MarkedText.{marked_row}
 

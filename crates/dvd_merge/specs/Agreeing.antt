@@ -1,6 +1,6 @@
 -- Ours: captures that received no wrong byte.
 use Rattle.std.specs.Prelude.{◌≡◌, ◌⊎◌, ℕ, List}
-use Rattle.dvd_block.specs.Product.{place}
+use Rattle.coding.specs.Product.{place}
 use Rattle.dvd_merge.specs.Join.{Table, known_at}
 use Rattle.dvd_merge.specs.declared.place.Place.TheVariants.{Unseen, Value}
 

@@ -1,8 +1,8 @@
 -- The laws of the join of several captures.
 use Rattle.std.specs.Prelude.{◌≡◌, ◌≤◌, ◌↔◌, ℕ, Bool, List, ◌∷◌, ◌++◌, length, All}
 use Rattle.std.specs.List.{Contains}
-use Rattle.gf_field.specs.Words.{cost}
-use Rattle.dvd_block.specs.Product.{line}
+use Rattle.coding.specs.Words.{cost}
+use Rattle.coding.specs.Product.{line}
 use Rattle.dvd_capture.specs.Answers.{marks_line}
 use Rattle.dvd_capture.specs.Captured.{captured_marks, captured_rows}
 use Rattle.dvd_capture.specs.declared.form.Form.TheVariants.{Marked}

@@ -2,7 +2,7 @@
 -- and 23 bytes of mark bits.
 use Rattle.std.specs.Prelude.{ℕ, ◌+◌, ◌*◌, Bool, false, if◌then◌else◌, List, [], ◌∷◌, ◌++◌, map, take, drop}
 use Rattle.std.specs.List.{fold, range_with_len}
-use Rattle.dvd_block.specs.Recording.{recording}
+use Rattle.coding.specs.Recording.{recording}
 use Rattle.dvd_merge.specs.Join.{Table, byte_of, joined_mark}
 use Rattle.dvd_merge.specs.declared.place.Place.{Place}
 

@@ -1,8 +1,8 @@
 //! The parity of a block, with several workers.
 ghost use Rattle.std.specs.Prelude.{◌≡◌, ℕ, ◌+◌, ◌<◌, ◌≤◌, ◌++◌, length, take, EachIndex, replicate};
-ghost use Rattle.gf_field.specs.Words.{IsCodeword, IsEncoded};
+ghost use Rattle.coding.specs.Words.{IsCodeword, IsEncoded};
 ghost use Rattle.dvd_block.specs.Buffers.{block_rows, cells_all, lines_rows};
-ghost use Rattle.dvd_block.specs.Product.{IsParityAdded, column, line};
+ghost use Rattle.coding.specs.Product.{IsParityAdded, column, line};
 
 use crate::cutting::for_each_piece;
 use crate::gate::Gate;

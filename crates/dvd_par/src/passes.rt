@@ -1,8 +1,8 @@
 //! Both passes over a captured block, with several workers in each.
 ghost use Rattle.std.specs.Prelude.{◌≡◌, ◌+◌, ◌<◌, ◌≤◌, length, map, IsTrue};
-ghost use Rattle.rs_decode.specs.Filling.{marked};
+ghost use Rattle.coding.specs.Filling.{marked};
 ghost use Rattle.dvd_capture.specs.Rule.{HasBlock};
-ghost use Rattle.dvd_capture.specs.TwoPass.{failed_of};
+ghost use Rattle.coding.specs.TwoPass.{failed_of};
 ghost use Rattle.dvd_capture.specs.Works.{stage_of};
 ghost use Rattle.dvd_capture.specs.Parts.{marks_rows, received_rows};
 ghost use Rattle.dvd_read.specs.Calls.{IsDecoded};

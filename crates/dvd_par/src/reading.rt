@@ -15,7 +15,7 @@ use std::thread::Threads;
 
 /// Reads a captured block as `dvd_read::read_block` does, with so many workers in both passes. The frames are checked on this
 /// thread.
-#[tactic(auto, unfolding(dvd_read::specs::Reading::block_cause))]
+#[tactic(auto, unfolding(dvd_decoding::specs::Reading::block_cause))]
 pub fn read_block_par<R: Threads + Sync, G: Gate>(
     rt: &R,
     workers: u8,

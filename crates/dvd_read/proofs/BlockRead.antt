@@ -2,13 +2,13 @@
 use Rattle.std.proofs.Common.{◌≡◌, ◌∙◌, ℕ, Bool, cond, List, length, replicate, refl, sym, ap, is_none, Some, None}
 use Rattle.std.specs.Option.{option_or}
 use Rattle.std.specs.declared.option.Option.{Option}
-use Rattle.dvd_capture.specs.TwoPass.{answers_of}
+use Rattle.coding.specs.TwoPass.{answers_of}
 use Rattle.dvd_capture.proofs.Columns.{length-answers_of}
 use Rattle.dvd_layout.specs.declared.entry.BlockPlan.{BlockPlan}
-use Rattle.dvd_read.specs.declared.cause.Cause.{Cause}
-use Rattle.dvd_read.specs.Causes.{two_pass_cause}
-use Rattle.dvd_read.specs.Frames.{frames_cause, main_data}
-use Rattle.dvd_read.specs.Reading.{block_cause, block_in, block_sectors, IsReadAs}
+use Rattle.dvd_decoding.specs.declared.cause.Cause.{Cause}
+use Rattle.dvd_decoding.specs.Causes.{two_pass_cause}
+use Rattle.dvd_decoding.specs.Frames.{frames_cause, main_data}
+use Rattle.dvd_decoding.specs.Reading.{block_cause, block_in, block_sectors, IsReadAs}
 use Rattle.dvd_read.proofs.Outcomes.{agrees-no_cause, found-agrees, no_cause-agrees}
 
 module _ (rows : List (List ℕ)) (marks : List (List Bool)) (entry : BlockPlan) where

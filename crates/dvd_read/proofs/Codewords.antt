@@ -2,12 +2,12 @@
 use Rattle.std.proofs.Common.{◌≡◌, ◌∙◌, ℕ, Bool, true, nat_lt, List, get_or, sym, Some}
 use Rattle.std.proofs.lemmas.Bool.{and_parts, eqb-true, ltb-true}
 use Rattle.std.proofs.lemmas.List.Sums.{AllPass-from_list_all}
-use Rattle.gf_field.specs.Words.{IsCodeword}
-use Rattle.rs_decode.specs.Nearest.{all_words, is_near, near_of}
+use Rattle.coding.specs.Words.{IsCodeword}
+use Rattle.coding.specs.Nearest.{all_words, is_near, near_of}
 use Rattle.rs_decode.proofs.NearSearch.{find-some, vanishing-codeword}
 use Rattle.dvd_capture.specs.Answers.{AreAnswers, marks_line}
 use Rattle.dvd_capture.specs.declared.parts.AnswerRow.{AnswerRow}
-use Rattle.dvd_block.specs.Product.{line}
+use Rattle.coding.specs.Product.{line}
 use Rattle.dvd_read.specs.Inner.Standing.{AreCodewords}
 use Rattle.dvd_read.proofs.RowAnswers.{answer_word-is}
 

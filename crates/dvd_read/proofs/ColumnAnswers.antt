@@ -5,11 +5,11 @@ use Rattle.std.specs.declared.option.Option.{Option}
 use Rattle.std.proofs.lemmas.Bool.{cases_lt}
 use Rattle.std.proofs.lemmas.List.{get_or-map, length-map}
 use Rattle.std.proofs.lemmas.Grind.{same_number_lists}
-use Rattle.gf_field.specs.Words.{IsByte, IsCodeword}
-use Rattle.rs_decode.specs.Nearest.{vanishes_at_all}
+use Rattle.coding.specs.Words.{IsByte, IsCodeword}
+use Rattle.coding.specs.Nearest.{vanishes_at_all}
 use Rattle.rs_decode.proofs.NearSearch.{codeword-vanishes, vanishing-codeword}
-use Rattle.dvd_block.specs.Product.{line}
-use Rattle.dvd_capture.specs.TwoPass.{column_answer, from_columns}
+use Rattle.coding.specs.Product.{line}
+use Rattle.coding.specs.TwoPass.{column_answer, from_columns}
 use Rattle.dvd_capture.specs.declared.parts.ColumnAnswer.{ColumnAnswer}
 use Rattle.dvd_capture.proofs.Columns.{from_columns-line}
 use Rattle.dvd_read.specs.Parts.{AreColumnsFrom, column_word}

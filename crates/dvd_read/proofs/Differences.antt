@@ -4,9 +4,9 @@ use mir.Val.{bool_byte}
 use Rattle.std.proofs.Math.Seq.{take-suc}
 use Rattle.std.proofs.lemmas.Bool.Decides.{nat_tests}
 use Rattle.std.proofs.lemmas.List.{length-take-le}
-use Rattle.rs_code.specs.Distance.{distance}
-use Rattle.dvd_block.specs.Product.{line}
-use Rattle.dvd_read.specs.Found.{block_differences}
+use Rattle.coding.specs.Distance.{distance}
+use Rattle.coding.specs.Product.{line}
+use Rattle.coding.specs.Found.{block_differences}
 
 -- one byte more at the end of both words counts where the two bytes differ
 distance-push : (xs ys : List ℕ) (x y : ℕ) → length xs ≡ length ys → distance (xs ++ x ∷ []) (ys ++ y ∷ []) ≡ distance xs ys + cond (nat_eq x y) 0 1

@@ -4,15 +4,15 @@ use Rattle.std.specs.List.{prefix_len}
 use Rattle.std.specs.declared.option.Option.{Option}
 use Rattle.std.proofs.lemmas.Bool.{not-false}
 use Rattle.std.proofs.lemmas.List.{get_or-map, ext_get_or, length-map}
-use Rattle.rs_decode.specs.Nearest.{vanishes_at_all}
-use Rattle.rs_decode.specs.Filling.{marked}
-use Rattle.dvd_capture.specs.TwoPass.{AgreesWith, failed_of, from_columns}
+use Rattle.coding.specs.Nearest.{vanishes_at_all}
+use Rattle.coding.specs.Filling.{marked}
+use Rattle.coding.specs.TwoPass.{AgreesWith, failed_of, from_columns}
 use Rattle.dvd_capture.specs.declared.parts.ColumnAnswer.{ColumnAnswer}
-use Rattle.dvd_read.specs.Causes.{two_pass_cause}
-use Rattle.dvd_read.specs.Found.{block_found, columns_of}
+use Rattle.dvd_decoding.specs.Causes.{two_pass_cause}
+use Rattle.coding.specs.Found.{block_found, columns_of}
 use Rattle.dvd_read.specs.Parts.{column_word}
 use Rattle.dvd_read.specs.Inner.Found.{words_of_columns}
-use Rattle.dvd_read.specs.declared.cause.Cause.TheVariants.{Column, Row}
+use Rattle.dvd_decoding.specs.declared.cause.Cause.TheVariants.{Column, Row}
 use Rattle.dvd_read.proofs.ColumnAnswers.{AreColumns, blank_column}
 use Rattle.dvd_read.proofs.Outcomes.{missing_column, get_or-columns_of, length-columns_of, column_cause, row_cause, fixed-agrees}
 use Rattle.dvd_read.proofs.Positions.{none_fails}

@@ -7,14 +7,14 @@ use Rattle.std.proofs.lemmas.Bool.{cases_eq}
 use Rattle.std.proofs.lemmas.List.{append-nil, get_or-set_same, get_or-set_other, map-id, take_all}
 use Rattle.std.proofs.lemmas.List.Concat.{flat_map-append}
 use Rattle.std.proofs.lemmas.List.FromFn.{fill_by_all, map-range_with_len_more}
-use Rattle.dvd_block.specs.Product.{line}
+use Rattle.coding.specs.Product.{line}
 use Rattle.dvd_frame.specs.Frame.{frame_cause, main_in}
 use Rattle.dvd_frame.specs.declared.reading.FrameCause.{FrameCause}
 use Rattle.dvd_frame.specs.declared.scrambling.Rule.{Rule}
 use Rattle.dvd_layout.specs.declared.entry.BlockPlan.{BlockPlan}
 use Rattle.dvd_layout.specs.Place.{rule_for}
-use Rattle.dvd_read.specs.declared.cause.Cause.{Cause}
-use Rattle.dvd_read.specs.Frames.{cause_in, fault_at, frame_of, frames_cause, main_data, wanted_word}
+use Rattle.dvd_decoding.specs.declared.cause.Cause.{Cause}
+use Rattle.dvd_decoding.specs.Frames.{cause_in, fault_at, frame_of, frames_cause, main_data, wanted_word}
 
 -- places 0 to 171 of the first n rows of frame f
 abbrev pub fronts : List (List ℕ) → ℕ → ℕ → List ℕ

@@ -1,14 +1,14 @@
 -- The values of 32 words at the powers of alpha, as vectors: what a lane of them tells of its word.
 use Rattle.std.proofs.Common.{◌≡◌, ◌∙◌, ℕ, ◌<◌, false, true, List, length, All, sym, arith}
 use Rattle.std.proofs.lemmas.Grind.{same_number_lists}
-use Rattle.gf_field.specs.Field.{alpha, power}
-use Rattle.gf_field.specs.Words.{IsByte, value}
+use Rattle.coding.specs.Field.{alpha, power}
+use Rattle.coding.specs.Words.{IsByte, value}
 use Rattle.rs_code.specs.Syndromes.{syndromes_of}
 use Rattle.rs_code.proofs.Syndromes.{get_or-syndromes_of, length-syndromes_of}
-use Rattle.rs_decode.specs.Nearest.{vanishes_at_all}
+use Rattle.coding.specs.Nearest.{vanishes_at_all}
 use Rattle.rs_decode.proofs.NearSearch.{codeword-vanishes}
 use Rattle.rs_lanes.proofs.ColumnLemmas.{get_or-column, length-column}
-use Rattle.dvd_block.specs.Product.{column, place}
+use Rattle.coding.specs.Product.{column, place}
 use Rattle.dvd_read.proofs.ColumnAnswers.{codeword_tested}
 
 -- a lane that has the values of a word has its syndromes

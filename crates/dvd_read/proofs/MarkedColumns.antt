@@ -2,15 +2,15 @@
 use Rattle.std.proofs.Common.{◌≡◌, ◌∙◌, ℕ, ◌<◌, ◌≤◌, Bool, false, if◌then◌else◌, List, [], length, map, get_or, slice_index, All, refl, sym, ap, subst, arith, Some, None, is_none}
 use Rattle.std.specs.declared.option.Option.{Option}
 use Rattle.std.proofs.lemmas.List.{get_or-map, length-map}
-use Rattle.gf_field.specs.Field.{alpha, power}
-use Rattle.gf_field.specs.Words.{IsByte, IsCodeword, value}
-use Rattle.rs_decode.specs.Filling.{AgreeUnmarked, marked}
+use Rattle.coding.specs.Field.{alpha, power}
+use Rattle.coding.specs.Words.{IsByte, IsCodeword, value}
+use Rattle.coding.specs.Filling.{AgreeUnmarked, marked}
 use Rattle.rs_decode.specs.declared.errors.Fix.{Fix}
-use Rattle.rs_decode.specs.Nearest.{near_of}
+use Rattle.coding.specs.Nearest.{near_of}
 use Rattle.rs_decode.proofs.Counting.{counts-from_near}
 use Rattle.rs_decode.proofs.NearSearch.{near_of-alike, near_of-some, none-near_of}
-use Rattle.dvd_block.specs.Product.{column}
-use Rattle.dvd_capture.specs.TwoPass.{answer_column, byte_or_zero, column_answer, failed_of}
+use Rattle.coding.specs.Product.{column}
+use Rattle.coding.specs.TwoPass.{answer_column, byte_or_zero, column_answer, failed_of}
 use Rattle.dvd_capture.specs.declared.parts.AnswerRow.{AnswerRow}
 use Rattle.dvd_capture.specs.declared.parts.ColumnAnswer.{ColumnAnswer}
 use Rattle.dvd_read.specs.Parts.{answer_by, answer_word, bytes_of, column_word}

@@ -9,7 +9,7 @@ use Rattle.std.proofs.lemmas.Nat.Bits.{bit_at_and, bit_at_above, bit_at_cat_low,
 use Rattle.std.proofs.lemmas.List.FromFn.{length-map-range_with_len, get_or-map-range_with_len}
 use Rattle.std.proofs.lemmas.List.{get_or-take, get_or-drop, length-take-le, length-drop}
 use Rattle.std.proofs.lemmas.Grind.{same_number_lists}
-use Rattle.dvd_block.specs.Product.{HoldsFrame, IsBlockOf, IsProduct, line}
+use Rattle.coding.specs.Product.{HoldsFrame, IsBlockOf, IsProduct, line}
 use Rattle.std.proofs.Math.Seq.{take-add}
 use Rattle.std.proofs.lemmas.List.{take_all, length-append}
 use Rattle.dvd_frame.specs.Edc.{edc_of}
@@ -24,11 +24,11 @@ use Rattle.dvd_frame.specs.declared.scrambling.Rule.{Rule}
 use Rattle.dvd_frame.proofs.ReadBack.{read_back}
 use Rattle.dvd_layout.specs.declared.entry.BlockPlan.{BlockPlan}
 use Rattle.dvd_layout.specs.Place.{HasNumbers, rule_for}
-use Rattle.dvd_read.specs.Frames.{cause_in, fault_at, frame_of, frames_cause, main_data, wanted_word}
-use Rattle.dvd_capture.specs.Within.{IsWithin}
+use Rattle.dvd_decoding.specs.Frames.{cause_in, fault_at, frame_of, frames_cause, main_data, wanted_word}
+use Rattle.coding.specs.Within.{IsWithin}
 use Rattle.dvd_capture.proofs.Bound.{within_agrees}
-use Rattle.dvd_read.specs.Made.{IsMadeOf, IsReceived}
-use Rattle.dvd_read.specs.Reading.{block_cause, block_sectors, IsReadAs}
+use Rattle.dvd_decoding.specs.Made.{IsMadeOf, IsReceived}
+use Rattle.dvd_decoding.specs.Reading.{block_cause, block_sectors, IsReadAs}
 use Rattle.dvd_read.proofs.BlockRead.{read-determined}
 use Rattle.dvd_read.proofs.FrameFaults.{fault-none, fronts, fronts-more, mains-all}
 

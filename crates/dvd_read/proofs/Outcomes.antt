@@ -7,17 +7,17 @@ use Rattle.std.proofs.lemmas.Bool.Decides.{nat_tests}
 use Rattle.std.proofs.lemmas.List.{get_or-map, length-map}
 use Rattle.std.proofs.lemmas.List.FromFn.{length-map-range_with_len, get_or-map-range_with_len}
 use Rattle.std.proofs.lemmas.List.Elements.{All-from_get_or}
-use Rattle.gf_field.specs.Words.{IsByte, IsNear}
-use Rattle.rs_decode.specs.Filling.{marked}
-use Rattle.rs_decode.specs.Nearest.{vanishes_at_all}
+use Rattle.coding.specs.Words.{IsByte, IsNear}
+use Rattle.coding.specs.Filling.{marked}
+use Rattle.coding.specs.Nearest.{vanishes_at_all}
 use Rattle.rs_decode.proofs.NearSearch.{near_of-is_near, codeword-vanishes, vanishing-codeword}
-use Rattle.dvd_block.specs.Product.{line}
-use Rattle.dvd_capture.specs.TwoPass.{AgreesWith, answer_column, column_answer, failed_of, from_columns}
+use Rattle.coding.specs.Product.{line}
+use Rattle.coding.specs.TwoPass.{AgreesWith, answer_column, column_answer, failed_of, from_columns}
 use Rattle.dvd_capture.proofs.Columns.{AreNearColumns, agrees-from_columns, column-answered, few_fail, from_columns-line, length-answer_column, length-from_columns, near_columns-agree}
-use Rattle.dvd_read.specs.Causes.{two_pass_cause}
-use Rattle.dvd_read.specs.Found.{block_found, columns_of}
-use Rattle.dvd_read.specs.declared.cause.Cause.{Cause}
-use Rattle.dvd_read.specs.declared.cause.Cause.TheVariants.{Rows, Column, Row}
+use Rattle.dvd_decoding.specs.Causes.{two_pass_cause}
+use Rattle.coding.specs.Found.{block_found, columns_of}
+use Rattle.dvd_decoding.specs.declared.cause.Cause.{Cause}
+use Rattle.dvd_decoding.specs.declared.cause.Cause.TheVariants.{Rows, Column, Row}
 use Rattle.dvd_read.proofs.Positions.{none_passes, none_fails}
 
 -- the first column without an answer

@@ -3,21 +3,21 @@ use Rattle.std.proofs.Common.{◌≡◌, ◌∙◌, ℕ, zero, suc, ◌+◌, ◌
 use mir.Val.{bool_byte}
 use Rattle.std.specs.declared.option.Option.{Option}
 use Rattle.std.proofs.lemmas.List.{get_or-map, ext_get_or, length-map}
-use Rattle.gf_field.specs.Words.{IsNear}
+use Rattle.coding.specs.Words.{IsNear}
 use Rattle.rs_decode.specs.Errors.{error_count}
-use Rattle.rs_decode.specs.Filling.{marked}
-use Rattle.rs_decode.specs.Nearest.{near_of}
+use Rattle.coding.specs.Filling.{marked}
+use Rattle.coding.specs.Nearest.{near_of}
 use Rattle.rs_decode.specs.declared.errors.Fix.{Fix}
 use Rattle.rs_decode.proofs.NearSearch.{near_of-some}
 use Rattle.rs_decode.proofs.Marks.{marked-next}
-use Rattle.dvd_block.specs.Product.{line}
+use Rattle.coding.specs.Product.{line}
 use Rattle.dvd_capture.proofs.Columns.{length-answers_of}
 use Rattle.dvd_capture.proofs.WorkParts.{marks-height, rows-height}
 use Rattle.dvd_capture.specs.Answers.{AreAnswers, IsAnswer, IsFix, marks_line}
 use Rattle.dvd_capture.specs.Parts.{marks_rows, received_rows}
 use Rattle.dvd_capture.specs.declared.parts.Marks.{Marks}
 use Rattle.dvd_capture.specs.declared.parts.Received.{Received}
-use Rattle.dvd_capture.specs.TwoPass.{answers_of, failed_of}
+use Rattle.coding.specs.TwoPass.{answers_of, failed_of}
 use Rattle.dvd_capture.specs.declared.parts.AnswerRow.{AnswerRow}
 use Rattle.dvd_read.specs.Parts.{AreAnswersFrom, answer_by, answer_word}
 

@@ -9,18 +9,18 @@ use Rattle.std.proofs.lemmas.List.Edits.{fill_by_more}
 use Rattle.std.proofs.lemmas.List.Folds.{list_any_at, list_any_more}
 use Rattle.std.proofs.lemmas.List.FromFn.{fill_by_all, sum_by-map-range_with_len_more}
 use Rattle.rs_decode.specs.declared.errors.Fix.{Fix}
-use Rattle.dvd_block.specs.Product.{line}
+use Rattle.coding.specs.Product.{line}
 use Rattle.dvd_capture.specs.declared.parts.AnswerRow.{AnswerRow}
 use Rattle.dvd_frame.specs.Frame.{frame_cause, main_in}
 use Rattle.dvd_frame.specs.declared.reading.FrameCause.{FrameCause}
 use Rattle.dvd_frame.specs.declared.scrambling.Rule.{Rule}
 use Rattle.dvd_layout.specs.declared.entry.BlockPlan.{BlockPlan}
 use Rattle.dvd_layout.specs.Place.{rule_for}
-use Rattle.dvd_read.specs.Causes.{two_pass_cause}
-use Rattle.dvd_read.specs.Found.{block_found}
+use Rattle.dvd_decoding.specs.Causes.{two_pass_cause}
+use Rattle.coding.specs.Found.{block_found}
 use Rattle.dvd_read.specs.Parts.{answer_by, answer_word}
-use Rattle.dvd_read.specs.Frames.{frame_of, wanted_word}
-use Rattle.dvd_read.specs.Salvage.{answered_block, candidate, lacks_row, main_if_right, rescued, sectors_saved}
+use Rattle.dvd_decoding.specs.Frames.{frame_of, wanted_word}
+use Rattle.dvd_decoding.specs.Salvage.{answered_block, candidate, lacks_row, main_if_right, rescued, sectors_saved}
 use Rattle.dvd_read.proofs.FrameFaults.{cause_as}
 use Rattle.dvd_read.proofs.RowAnswers.{as_number, flag-by, flag_small}
 

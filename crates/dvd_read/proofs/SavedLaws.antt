@@ -7,27 +7,27 @@ use Rattle.std.proofs.lemmas.Bool.{cases_eq}
 use Rattle.std.proofs.lemmas.List.{get_or-map, length-append, length-drop, length-replicate, length-take-le}
 use Rattle.std.proofs.lemmas.List.FromFn.{get_or-map-range_with_len, length-map-range_with_len, length-range_with_len}
 use Rattle.std.proofs.lemmas.List.Sums.{count_by-le-length}
-use Rattle.gf_field.specs.Words.{IsNear, cost}
-use Rattle.rs_decode.specs.Nearest.{near_of}
+use Rattle.coding.specs.Words.{IsNear, cost}
+use Rattle.coding.specs.Nearest.{near_of}
 use Rattle.rs_decode.proofs.NearSearch.{near_of-some}
-use Rattle.dvd_block.specs.Product.{IsBlockOf, IsProduct, line}
+use Rattle.coding.specs.Product.{IsBlockOf, IsProduct, line}
 use Rattle.dvd_capture.specs.Answers.{marks_line}
 use Rattle.dvd_capture.specs.Rule.{HasAnswers, HasNoTwoPass}
 use Rattle.dvd_capture.specs.declared.stage.Stage.{Stage}
 use Rattle.dvd_capture.specs.declared.stage.Stage.TheVariants.{Empty, Fetched, Refused, Fixed}
-use Rattle.dvd_capture.specs.TwoPass.{IsTwoPass, answers_of}
+use Rattle.coding.specs.TwoPass.{IsTwoPass, answers_of}
 use Rattle.dvd_capture.proofs.Columns.{length-answers_of}
 use Rattle.dvd_frame.specs.Frame.{found_word, frame_cause, main_in}
 use Rattle.dvd_frame.proofs.Masking.{length-masked}
 use Rattle.dvd_layout.specs.declared.entry.BlockPlan.{BlockPlan}
 use Rattle.dvd_layout.specs.Place.{HasNumbers, rule_for}
-use Rattle.dvd_read.specs.declared.cause.Cause.{Cause}
-use Rattle.dvd_read.specs.Causes.{two_pass_cause}
-use Rattle.dvd_read.specs.Found.{block_found}
-use Rattle.dvd_read.specs.Frames.{cause_in, fault_at, frame_of, frames_cause, main_data, wanted_word}
-use Rattle.dvd_read.specs.Made.{IsMadeOf, IsReceived}
-use Rattle.dvd_read.specs.Reading.{block_cause, block_in}
-use Rattle.dvd_read.specs.Salvage.{answered_block, block_out, candidate, lacks_row, main_if_right, rescued, saved_in, sectors_saved}
+use Rattle.dvd_decoding.specs.declared.cause.Cause.{Cause}
+use Rattle.dvd_decoding.specs.Causes.{two_pass_cause}
+use Rattle.coding.specs.Found.{block_found}
+use Rattle.dvd_decoding.specs.Frames.{cause_in, fault_at, frame_of, frames_cause, main_data, wanted_word}
+use Rattle.dvd_decoding.specs.Made.{IsMadeOf, IsReceived}
+use Rattle.dvd_decoding.specs.Reading.{block_cause, block_in}
+use Rattle.dvd_decoding.specs.Salvage.{answered_block, block_out, candidate, lacks_row, main_if_right, rescued, saved_in, sectors_saved}
 use Rattle.dvd_read.proofs.BlockRead.{both_of_none}
 use Rattle.dvd_read.proofs.Codewords.{near_of-codeword}
 use Rattle.dvd_read.proofs.FrameFaults.{frames-same, fronts, fronts-more, mains-all}

@@ -4,21 +4,21 @@ use Rattle.std.specs.declared.option.Option.{Option}
 use Rattle.std.proofs.lemmas.Bool.Decides.{nat_tests}
 use Rattle.std.proofs.lemmas.List.{get_or-map, ext_get_or, length-map, length-replicate}
 use Rattle.std.proofs.lemmas.Grind.{same_number_lists}
-use Rattle.gf_field.specs.Words.{IsCodeword, IsNear}
-use Rattle.rs_code.specs.Distance.{distance}
+use Rattle.coding.specs.Words.{IsCodeword, IsNear}
+use Rattle.coding.specs.Distance.{distance}
 use Rattle.rs_decode.specs.Errors.{error_count}
-use Rattle.rs_decode.specs.Filling.{marked}
-use Rattle.rs_decode.specs.Nearest.{near_of, vanishes_at_all}
+use Rattle.coding.specs.Filling.{marked}
+use Rattle.coding.specs.Nearest.{near_of, vanishes_at_all}
 use Rattle.rs_decode.specs.declared.errors.Fix.{Fix}
 use Rattle.rs_decode.proofs.Counting.{IsNear-from_counts, error_count-self}
 use Rattle.rs_decode.proofs.NearSearch.{codeword-vanishes}
-use Rattle.dvd_block.specs.Product.{column, line}
+use Rattle.coding.specs.Product.{column, line}
 use Rattle.dvd_capture.specs.Answers.{IsAnswer, IsFix, marks_line}
 use Rattle.dvd_capture.specs.Rule.{HasAnswers}
 use Rattle.dvd_capture.specs.Works.{answers_of_work, marks_of_work, rows_of, stage_of}
 use Rattle.dvd_capture.specs.declared.work.Work.{Work}
 use Rattle.dvd_capture.proofs.WorkParts.{marks-width}
-use Rattle.dvd_capture.specs.TwoPass.{failed_of, from_columns}
+use Rattle.coding.specs.TwoPass.{failed_of, from_columns}
 use Rattle.dvd_capture.specs.declared.parts.AnswerRow.{AnswerRow}
 use Rattle.dvd_capture.specs.declared.parts.ColumnAnswer.{ColumnAnswer}
 use Rattle.dvd_capture.proofs.Columns.{from_columns-line, length-from_columns}

@@ -1,19 +1,19 @@
 -- Ours: what the calls that decode and read a captured block do, whoever does the pieces of both passes.
 use Rattle.std.specs.Prelude.{◌≡◌, None, Some, replicate, Result, IfErr, IfOk, OnErr, OnOk}
-use Rattle.rs_decode.specs.Filling.{marked}
+use Rattle.coding.specs.Filling.{marked}
 use Rattle.dvd_capture.specs.Answers.{AreAnswers}
 use Rattle.dvd_capture.specs.Rule.{HasAnswers}
-use Rattle.dvd_capture.specs.TwoPass.{answers_of, failed_of}
+use Rattle.coding.specs.TwoPass.{answers_of, failed_of}
 use Rattle.dvd_capture.specs.Works.{answers_of_work, block_of, marks_of_work, rows_of, sectors_of, stage_of}
 use Rattle.dvd_capture.specs.declared.stage.Stage.TheVariants.{Fixed as StageFixed, Refused as StageRefused}
 use Rattle.dvd_capture.specs.declared.work.Work.{Work}
 use Rattle.dvd_layout.specs.declared.entry.BlockPlan.{BlockPlan}
-use Rattle.dvd_read.specs.Causes.{two_pass_cause}
-use Rattle.dvd_read.specs.Found.{block_differences, block_found}
-use Rattle.dvd_read.specs.Frames.{frames_cause, main_data}
-use Rattle.dvd_read.specs.Reading.{block_cause, block_in, IsReadAs}
-use Rattle.dvd_read.specs.declared.cause.Cause.{Cause}
-use Rattle.dvd_read.specs.declared.cause.Fixed.{Fixed}
+use Rattle.dvd_decoding.specs.Causes.{two_pass_cause}
+use Rattle.coding.specs.Found.{block_differences, block_found}
+use Rattle.dvd_decoding.specs.Frames.{frames_cause, main_data}
+use Rattle.dvd_decoding.specs.Reading.{block_cause, block_in, IsReadAs}
+use Rattle.dvd_decoding.specs.declared.cause.Cause.{Cause}
+use Rattle.dvd_read.specs.declared.fixed.Fixed.{Fixed}
 
 -- A captured block was decoded by two passes: its columns are a block, or there is a first cause, and the stage says which.
 pub record IsDecoded (old new : Work) (answer : Result Fixed Cause) : Type 0 where

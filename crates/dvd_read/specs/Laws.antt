@@ -1,19 +1,19 @@
 -- The laws of reading a block.
 use Rattle.std.specs.Prelude.{◌≡◌, ℕ, ◌+◌, ◌*◌, ◌<◌, ◌≤◌, Bool, List, map, length, None, Some}
 use Rattle.std.specs.List.{range_with_len}
-use Rattle.gf_field.specs.Words.{cost}
-use Rattle.dvd_block.specs.Product.{IsBlockOf, line}
+use Rattle.coding.specs.Words.{cost}
+use Rattle.coding.specs.Product.{IsBlockOf, line}
 use Rattle.dvd_capture.specs.Answers.{marks_line}
-use Rattle.dvd_capture.specs.TwoPass.{IsTwoPass, answers_of}
-use Rattle.dvd_capture.specs.Within.{IsWithin}
+use Rattle.coding.specs.TwoPass.{IsTwoPass, answers_of}
+use Rattle.coding.specs.Within.{IsWithin}
 use Rattle.dvd_layout.specs.declared.entry.BlockPlan.{BlockPlan}
 use Rattle.dvd_layout.specs.Place.{HasNumbers}
-use Rattle.dvd_read.specs.Causes.{two_pass_cause}
-use Rattle.dvd_read.specs.Frames.{main_data}
-use Rattle.dvd_read.specs.Salvage.{block_out, saved_in}
-use Rattle.dvd_read.specs.declared.cause.Cause.{Cause}
-use Rattle.dvd_read.specs.Made.{IsMadeOf, IsReceived}
-use Rattle.dvd_read.specs.Reading.{block_cause, block_in, block_sectors, IsReadAs}
+use Rattle.dvd_decoding.specs.Causes.{two_pass_cause}
+use Rattle.dvd_decoding.specs.Frames.{main_data}
+use Rattle.dvd_decoding.specs.Salvage.{block_out, saved_in}
+use Rattle.dvd_decoding.specs.declared.cause.Cause.{Cause}
+use Rattle.dvd_decoding.specs.Made.{IsMadeOf, IsReceived}
+use Rattle.dvd_decoding.specs.Reading.{block_cause, block_in, block_sectors, IsReadAs}
 
 -- where two passes have no cause, the block found has two-pass agreement
 abbrev pub NoCauseIsTwoPass : Type 0

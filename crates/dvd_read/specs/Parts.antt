@@ -3,11 +3,11 @@
 use Rattle.std.specs.Prelude.{◌≡◌, ◌+◌, ◌<◌, ℕ, Bool, List, length, map, slice_index_or, Some, None, if◌then◌else◌}
 use Rattle.std.specs.declared.option.Option.{Option}
 use Rattle.rs_decode.specs.declared.errors.Fix.{Fix}
-use Rattle.dvd_block.specs.Product.{column, line}
+use Rattle.coding.specs.Product.{column, line}
 use Rattle.dvd_capture.specs.Answers.{IsAnswer, marks_line}
 use Rattle.dvd_capture.specs.declared.parts.AnswerRow.{AnswerRow}
 use Rattle.dvd_capture.specs.declared.parts.ColumnAnswer.{ColumnAnswer}
-use Rattle.dvd_capture.specs.TwoPass.{column_answer}
+use Rattle.coding.specs.TwoPass.{column_answer}
 
 -- a row's answer as a word or none
 abbrev pub answer_by : Option Fix → List ℕ → Option (List ℕ)

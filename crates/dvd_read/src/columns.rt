@@ -1,12 +1,12 @@
 //! The second pass: each column of the rows' answers is answered by the codeword near it, the failed rows being marked.
 ghost use Rattle.std.specs.Prelude.{◌≡◌, ℕ, ◌+◌, ◌<◌, ◌≤◌, IsTrue, false, length, map, slice_index, slice_index_or, position, not, MatchOption};
-ghost use Rattle.gf_field.specs.Field.{alpha, power};
-ghost use Rattle.gf_field.specs.Words.{IsCodeword, value};
+ghost use Rattle.coding.specs.Field.{alpha, power};
+ghost use Rattle.coding.specs.Words.{IsCodeword, value};
 ghost use Rattle.rs_code.specs.Syndromes.{syndromes_of};
-ghost use Rattle.dvd_capture.specs.TwoPass.{failed_of, from_columns};
-ghost use Rattle.rs_decode.specs.Nearest.{near_of, vanishes_at_all};
-ghost use Rattle.rs_decode.specs.Filling.{marked};
-ghost use Rattle.dvd_block.specs.Product.{column, line, place};
+ghost use Rattle.coding.specs.TwoPass.{failed_of, from_columns};
+ghost use Rattle.coding.specs.Nearest.{near_of, vanishes_at_all};
+ghost use Rattle.coding.specs.Filling.{marked};
+ghost use Rattle.coding.specs.Product.{column, line, place};
 ghost use Rattle.dvd_read.specs.Parts.{AreColumnsFrom, AreOwnFrom, answer_word, column_word};
 ghost use Rattle.dvd_read.specs.Inner.Found.{AreRightFrom, IsFirstWrongRow, words_of_columns};
 ghost use Rattle.dvd_read.specs.Inner.Standing.{AreCopied};

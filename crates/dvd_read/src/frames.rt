@@ -1,19 +1,19 @@
 //! The checks of a block's sixteen data frames, and their Main Data.
 ghost use Rattle.std.specs.Prelude.{◌≡◌, ℕ, ◌+◌, ◌*◌, ◌<◌, ◌≤◌, ◌++◌, None, Some, length, take, IsTrue, IfErr, OnOk};
-ghost use Rattle.dvd_block.specs.Product.{line};
+ghost use Rattle.coding.specs.Product.{line};
 ghost use Rattle.dvd_capture.specs.Parts.{received_rows, sector_bytes};
-ghost use Rattle.dvd_capture.specs.TwoPass.{from_columns};
+ghost use Rattle.coding.specs.TwoPass.{from_columns};
 ghost use Rattle.dvd_capture.specs.Works.{block_of, rows_of, stage_of};
 ghost use Rattle.dvd_layout.specs.Place.{HasNumbers};
 ghost use Rattle.dvd_read.specs.Calls.{AreFramesChecked};
-ghost use Rattle.dvd_read.specs.Found.{block_differences};
+ghost use Rattle.coding.specs.Found.{block_differences};
 ghost use Rattle.dvd_read.specs.Inner.Found.{words_of_columns};
-ghost use Rattle.dvd_read.specs.Frames.{cause_in, fault_at, frame_of, frames_cause, main_at, main_data};
+ghost use Rattle.dvd_decoding.specs.Frames.{cause_in, fault_at, frame_of, frames_cause, main_at, main_data};
 
-use crate::cause::Cause;
 use crate::columns::read_row;
 use dvd_capture::parts::{ColumnAnswer, Received, Sectors};
 use dvd_capture::{Stage, Work};
+use dvd_decoding::Cause;
 use dvd_frame::{FrameCause, Scrambler, read_frame, read_frame_with};
 use dvd_layout::{BlockPlan, id_of, rule_of};
 

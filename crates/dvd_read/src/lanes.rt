@@ -1,9 +1,9 @@
 //! The values of 32 words at powers of alpha, as vectors: the syndromes of word `n` are the lanes with this number.
 ghost use Rattle.std.specs.Prelude.{◌≡◌, ℕ, ◌<◌, ◌≤◌, List, slice_index};
-ghost use Rattle.gf_field.specs.Field.{alpha, power};
-ghost use Rattle.gf_field.specs.Words.{value};
+ghost use Rattle.coding.specs.Field.{alpha, power};
+ghost use Rattle.coding.specs.Words.{value};
 ghost use Rattle.rs_code.specs.Syndromes.{syndromes_of};
-ghost use Rattle.dvd_block.specs.Product.{column, place};
+ghost use Rattle.coding.specs.Product.{column, place};
 
 use arrayvec::ArrayVec;
 use std::simd::prelude::*;

@@ -2,8 +2,8 @@
 //! agrees with what was received, and the checks of its sixteen data frames (clauses 16 and 17) give their Main Data.
 #![tactic(auto)]
 
-mod cause; // why a block is refused, and what was fixed
 mod columns; // the second pass: columns of the rows' answers
+mod fixed; // what was fixed of a block that is read
 mod frames; // the checks of the sixteen data frames
 mod lanes; // the values of 32 words, as the syndromes of each
 pub mod laws; // what holds of every captured block that is read
@@ -13,7 +13,8 @@ mod reading; // a captured block read as an entry of a plan
 mod rescue; // the frames that can be saved, of a refused block too
 mod rows; // the first pass: rows
 
-pub use cause::{Cause, Fixed};
+pub use dvd_decoding::Cause;
+pub use fixed::Fixed;
 pub use frames::{read_frame_at, sectors};
 pub use passes::two_pass;
 pub use reading::read_block;

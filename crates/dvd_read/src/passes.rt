@@ -1,24 +1,25 @@
 //! Both passes over a captured block, and the test of the rows.
 ghost use Rattle.std.specs.Prelude.{◌≡◌, ◌<◌, ◌≤◌, Bool, List, None, Some, length, map, IsTrue, IfErr, IfOk, OnErr, OnOk};
-ghost use Rattle.rs_code.specs.Distance.{distance};
-ghost use Rattle.rs_decode.specs.Filling.{marked};
+ghost use Rattle.coding.specs.Distance.{distance};
+ghost use Rattle.coding.specs.Filling.{marked};
 ghost use Rattle.dvd_capture.specs.Answers.{AreAnswers, IsAnswer};
 ghost use Rattle.dvd_capture.specs.Rule.{HasAnswers, HasBlock, HasNoTwoPass};
-ghost use Rattle.dvd_capture.specs.TwoPass.{AgreesWith, answers_of, failed_of, from_columns, IsTwoPass};
+ghost use Rattle.coding.specs.TwoPass.{AgreesWith, answers_of, failed_of, from_columns, IsTwoPass};
 ghost use Rattle.dvd_capture.specs.Works.{answers_of_work, block_of, marks_of_work, rows_of, stage_of};
 ghost use Rattle.dvd_capture.specs.Parts.{column_answers, received_rows};
 ghost use Rattle.dvd_read.specs.Calls.{IsDecoded};
-ghost use Rattle.dvd_read.specs.Causes.{two_pass_cause};
-ghost use Rattle.dvd_read.specs.Found.{block_differences, block_found};
+ghost use Rattle.dvd_decoding.specs.Causes.{two_pass_cause};
+ghost use Rattle.coding.specs.Found.{block_differences, block_found};
 ghost use Rattle.dvd_read.specs.Parts.{AreAnswersFrom, AreColumnsFrom, AreOwnFrom, answer_word, bytes_of};
 ghost use Rattle.dvd_read.specs.Inner.Found.{words_of_columns};
 ghost use Rattle.dvd_read.specs.Inner.Standing.{AreCodewords};
 
-use crate::cause::{Cause, Fixed};
 use crate::columns::{answer_columns, first_missing, first_wrong, read_row};
+use crate::fixed::Fixed;
 use crate::rows::{MOST_FAILED, answer_rows, are_few, count_failed, mark_failed};
 use dvd_capture::parts::{AnswerRow, ColumnAnswer, Received};
 use dvd_capture::{Stage, Work};
+use dvd_decoding::Cause;
 use rs_code::{Pi, Po};
 
 /// Decodes a captured block: each received row is answered by the codeword near it or fails; each column of the answers,

@@ -4,15 +4,16 @@ ghost use Rattle.dvd_capture.specs.Works.{stage_of};
 ghost use Rattle.dvd_layout.specs.Place.{HasNumbers};
 ghost use Rattle.dvd_read.specs.Calls.{IsBlockRead};
 
-use crate::cause::{Cause, Fixed};
+use crate::fixed::Fixed;
 use crate::frames::sectors_of_block;
 use crate::passes::two_pass;
 use dvd_capture::Work;
+use dvd_decoding::Cause;
 use dvd_layout::BlockPlan;
 
 /// Reads a captured block as an entry of a plan: two passes, then the checks of its frames. The sixteen sectors are then the
 /// Main Data of the block, or zeros after a cause. Received bytes and marks stay.
-#[tactic(auto, unfolding(crate::specs::Reading::block_cause))]
+#[tactic(auto, unfolding(dvd_decoding::specs::Reading::block_cause))]
 pub fn read_block(work: &mut Work, plan: &BlockPlan) -> Result<Fixed, Cause>
     requires stage { HasBlock (stage_of work.old) }
     requires numbers { HasNumbers plan.now }

@@ -6,8 +6,8 @@ ghost use Rattle.dvd_capture.specs.Works.{marks_of_work, rows_of, sectors_of, st
 ghost use Rattle.dvd_layout.specs.Place.{HasNumbers};
 ghost use Rattle.dvd_read.specs.Parts.{answer_word};
 ghost use Rattle.dvd_read.specs.Inner.Found.{HoldAnswers};
-ghost use Rattle.dvd_read.specs.Frames.{frame_of};
-ghost use Rattle.dvd_read.specs.Salvage.{answered_block, block_out, candidate, frames_saved, lacks_row, rescued, saved_in, sectors_saved};
+ghost use Rattle.dvd_decoding.specs.Frames.{frame_of};
+ghost use Rattle.dvd_decoding.specs.Salvage.{answered_block, block_out, candidate, frames_saved, lacks_row, rescued, saved_in, sectors_saved};
 
 use crate::frames::{copy_frame, put_front};
 use dvd_capture::parts::{AnswerRow, ColumnAnswer, Sectors};

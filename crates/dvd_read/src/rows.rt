@@ -1,12 +1,12 @@
 //! The first pass: each received row is answered by the codeword near it, or it fails.
 ghost use Rattle.std.specs.Prelude.{◌≡◌, ℕ, ◌+◌, ◌<◌, ◌≤◌, ◌↔◌, IsTrue, false, length, map, replicate};
-ghost use Rattle.gf_field.specs.Field.{alpha, power};
-ghost use Rattle.gf_field.specs.Words.{value};
+ghost use Rattle.coding.specs.Field.{alpha, power};
+ghost use Rattle.coding.specs.Words.{value};
 ghost use Rattle.rs_code.specs.Syndromes.{syndromes_of};
-ghost use Rattle.rs_decode.specs.Filling.{marked};
+ghost use Rattle.coding.specs.Filling.{marked};
 ghost use Rattle.dvd_capture.specs.Answers.{IsAnswer};
 ghost use Rattle.dvd_capture.specs.Parts.{marks_rows, received_rows};
-ghost use Rattle.dvd_capture.specs.TwoPass.{failed_of};
+ghost use Rattle.coding.specs.TwoPass.{failed_of};
 ghost use Rattle.dvd_read.specs.Parts.{AreAnswersFrom, answer_word};
 
 use crate::lanes::lane_of;

@@ -2,9 +2,9 @@
 use Rattle.std.proofs.Common.{◌≡◌, ◌∙◌, ℕ, Bool, List, length, ap, sym, IfErr, OnOk, Ok, Err, Some, Result}
 use Rattle.std.specs.Result.{result_err}
 use Rattle.dvd_layout.specs.declared.entry.BlockPlan.{BlockPlan}
-use Rattle.dvd_read.specs.Reading.{block_cause, IsReadAs}
-use Rattle.dvd_read.specs.declared.cause.Cause.{Cause}
-use Rattle.dvd_read.specs.declared.cause.Fixed.{Fixed}
+use Rattle.dvd_decoding.specs.Reading.{block_cause, IsReadAs}
+use Rattle.dvd_decoding.specs.declared.cause.Cause.{Cause}
+use Rattle.dvd_read.specs.declared.fixed.Fixed.{Fixed}
 use Rattle.dvd_read.proofs.BlockRead.{read-determined}
 use Rattle.dvd_report.specs.Survey.{StandsFor, surveyed, surveyed_with, SurveyState}
 use Rattle.dvd_report.specs.declared.counts.Surveyed.{Surveyed}

@@ -6,16 +6,16 @@ use Rattle.std.specs.declared.option.Option.{Option}
 use Rattle.std.proofs.lemmas.Bool.{cases_lt, lt-ltb}
 use Rattle.std.proofs.lemmas.Bool.Decides.{nat_tests}
 use Rattle.std.proofs.lemmas.List.{get_or-map, length-map, take_all}
-use Rattle.gf_field.specs.Words.{IsByte}
+use Rattle.coding.specs.Words.{IsByte}
 use Rattle.rs_decode.specs.Errors.{error_count}
-use Rattle.rs_decode.specs.Filling.{marked}
-use Rattle.rs_decode.specs.Nearest.{near_of, vanishes_at_all}
+use Rattle.coding.specs.Filling.{marked}
+use Rattle.coding.specs.Nearest.{near_of, vanishes_at_all}
 use Rattle.rs_decode.specs.declared.errors.Fix.{Fix}
 use Rattle.rs_decode.proofs.Counting.{error_count-self}
 use Rattle.rs_decode.proofs.NearSearch.{codeword-vanishes, near_of-is_near, vanishing-codeword}
-use Rattle.dvd_block.specs.Product.{line}
+use Rattle.coding.specs.Product.{line}
 use Rattle.dvd_capture.specs.Answers.{IsFix, marks_line, row_answer}
-use Rattle.dvd_capture.specs.TwoPass.{answers_of, failed_of}
+use Rattle.coding.specs.TwoPass.{answers_of, failed_of}
 use Rattle.dvd_capture.proofs.Columns.{length-answers_of}
 use Rattle.dvd_read.proofs.MarkedColumns.{own-marked}
 use Rattle.dvd_read.proofs.RowAnswers.{as_number, get_or-answers_of}

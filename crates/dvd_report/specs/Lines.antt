@@ -3,8 +3,8 @@
 use Rattle.std.specs.Prelude.{ℕ, zero, suc, ◌/◌, ◌%◌, List, [], ◌∷◌, ◌++◌, true, codes, decimal}
 use Rattle.std.specs.Fmt.{digit_glyph}
 use Rattle.dvd_layout.specs.declared.entry.BlockPlan.{BlockPlan}
-use Rattle.dvd_read.specs.declared.cause.Cause.{Cause}
-use Rattle.dvd_read.specs.declared.cause.Cause.TheVariants.{Rows, Column, Row, Ied, Address, Edc}
+use Rattle.dvd_decoding.specs.declared.cause.Cause.{Cause}
+use Rattle.dvd_decoding.specs.declared.cause.Cause.TheVariants.{Rows, Column, Row, Ied, Address, Edc}
 
 -- The last so many hexadecimal digits of a number, in capitals, the highest first. The code makes the highest first;
 -- this peels off the lowest.

@@ -2,7 +2,7 @@
 ghost use Rattle.std.specs.Prelude.{◌≡◌, ◌+◌, nat_lt, true, length, All, IfSome};
 ghost use Rattle.std.specs.Result.{result_err};
 ghost use Rattle.std.specs.declared.option.Option.TheVariants.{None};
-ghost use Rattle.gf_field.specs.Words.{IsByte};
+ghost use Rattle.coding.specs.Words.{IsByte};
 ghost use Rattle.dvd_capture.specs.Rule.{HasAnswers};
 ghost use Rattle.dvd_capture.specs.Works.{marks_of_work, rows_of, stage_of};
 ghost use Rattle.dvd_report.specs.Survey.{failed_rows, pi_rows, surveyed_with};

@@ -1,7 +1,7 @@
 -- Frames that are put into a block one after the other.
 use Rattle.std.proofs.Common.{◌≡◌, ◌⊎◌, inl, ℕ, ◌+◌, ◌*◌, ◌<◌, ◌≤◌, List, [], sym, ap, subst, ◌∙◌, slice_index, arith}
 use Rattle.std.proofs.lemmas.List.FromFn.{get_or-map-range_with_len}
-use Rattle.dvd_block.specs.Product.{line, place, IsProduct, HoldsFrame, IsBlockOf}
+use Rattle.coding.specs.Product.{line, place, IsProduct, HoldsFrame, IsBlockOf}
 use Rattle.dvd_layout.specs.declared.entry.BlockPlan.{BlockPlan}
 use Rattle.dvd_layout.specs.declared.layout.Layout.{Layout}
 use Rattle.dvd_top.specs.Commands.Master.{frame_for, frames_of}

@@ -3,12 +3,12 @@ use Rattle.std.proofs.Common.{◌≡◌, ◌∙◌, ℕ, ◌+◌, ◌*◌, ◌<�
 use Rattle.std.proofs.lemmas.List.{length-take-le, length-drop, length-replicate}
 use Rattle.std.proofs.lemmas.List.Elements.{All-from_get_or}
 use Rattle.std.proofs.lemmas.List.FromFn.{length-map-range_with_len, get_or-map-range_with_len}
-use Rattle.dvd_block.specs.Recording.{record_at}
+use Rattle.coding.specs.Recording.{record_at}
 use Rattle.dvd_capture.specs.Listed.{marked_by, run_count}
 use Rattle.dvd_capture.specs.Captured.{block_size, captured_marks, captured_rows, record_marks, record_of}
-use Rattle.dvd_block.specs.Product.{IsBlockOf}
-use Rattle.dvd_capture.specs.TwoPass.{answers_of}
-use Rattle.dvd_capture.specs.Within.{IsWithin}
+use Rattle.coding.specs.Product.{IsBlockOf}
+use Rattle.coding.specs.TwoPass.{answers_of}
+use Rattle.coding.specs.Within.{IsWithin}
 use Rattle.dvd_capture.proofs.Columns.{length-answers_of}
 use Rattle.dvd_capture.specs.declared.form.Form.{Form}
 use Rattle.dvd_capture.specs.declared.form.Form.TheVariants.{Listed, Plain, Marked}
@@ -27,9 +27,9 @@ use Rattle.dvd_loop.specs.Machine.Part.{Whole}
 use Rattle.dvd_loop.specs.Machine.Step.{Write}
 use Rattle.dvd_loop.specs.declared.ends.Turn.{Turn}
 use Rattle.dvd_loop.specs.declared.ends.Turn.TheVariants.{Good}
-use Rattle.dvd_read.specs.Made.{IsReceived}
-use Rattle.dvd_read.specs.Causes.{two_pass_cause}
-use Rattle.dvd_read.specs.Reading.{block_cause, block_sectors}
+use Rattle.dvd_decoding.specs.Made.{IsReceived}
+use Rattle.dvd_decoding.specs.Causes.{two_pass_cause}
+use Rattle.dvd_decoding.specs.Reading.{block_cause, block_sectors}
 use Rattle.dvd_read.proofs.BlockRead.{no_cause-read, read-determined}
 use Rattle.dvd_read.proofs.Outcomes.{agrees-no_cause}
 use Rattle.dvd_read.proofs.Mastered.{within-read}

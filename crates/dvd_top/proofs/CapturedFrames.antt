@@ -2,8 +2,8 @@
 use Rattle.std.proofs.Common.{◌≡◌, ◌∙◌, sym, ap, subst, ℕ, ◌+◌, ◌*◌, ◌<◌, List, [], ◌++◌, length, get_or, take, Some, slice_get, arith}
 use Rattle.std.proofs.lemmas.List.{ext_get_or, get_or_append_left, get_or-take, length-append, length-take-le}
 use Rattle.std.proofs.lemmas.Option.{get_or_from_slice_get, slice_get-get_or, slice_get_within}
-use Rattle.gf_field.specs.Words.{IsCodeword}
-use Rattle.dvd_block.specs.Product.{HoldsFrame, IsBlockOf, line}
+use Rattle.coding.specs.Words.{IsCodeword}
+use Rattle.coding.specs.Product.{HoldsFrame, IsBlockOf, line}
 use Rattle.dvd_frame.specs.Edc.{edc_of}
 use Rattle.dvd_frame.specs.Frame.{data_frame, frame_head}
 use Rattle.dvd_frame.specs.Id.{ied_of, word_bytes}

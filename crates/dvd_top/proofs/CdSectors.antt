@@ -3,8 +3,8 @@ use Rattle.std.proofs.Common.{◌≡◌, ◌≢◌, ◌⊎◌, inl, inr, ℕ, ze
 use Rattle.std.specs.Prelude.{replicate, slice_index}
 use Rattle.std.proofs.lemmas.Bool.{cases_eq, cases_lt}
 use Rattle.std.proofs.lemmas.List.Elements.{All-cons, All-nil}
-use Rattle.gf_field.specs.Field.{alpha, power}
-use Rattle.gf_field.specs.Words.{IsByte, IsCodeword, value}
+use Rattle.coding.specs.Field.{alpha, power}
+use Rattle.coding.specs.Words.{IsByte, IsCodeword, value}
 use Rattle.cd_sector.specs.Causes.{AreRightBelow, IsCause, IsRightSector, found_header, found_number}
 use Rattle.cd_sector.specs.Edc.{cd_edc_of}
 use Rattle.cd_sector.specs.Repair.{repaired}

@@ -3,8 +3,8 @@ use Rattle.std.proofs.Common.{◌≡◌, inl, inr, ℕ, ◌+◌, List, ◌∷◌
 use Rattle.std.proofs.lemmas.List.FromFn.{length-map-range_with_len}
 use Rattle.cd_sector.proofs.OneSector.{one_sector}
 use Rattle.dvd_block.proofs.OneBlock.{one_block_at_most}
-use Rattle.dvd_block.specs.Product.{IsBlockOf, line}
-use Rattle.dvd_block.specs.Recording.{record_at, recording}
+use Rattle.coding.specs.Product.{IsBlockOf, line}
+use Rattle.coding.specs.Recording.{record_at, recording}
 use Rattle.dvd_capture.specs.Captured.{captured_marks, captured_rows, record_marks, record_of}
 use Rattle.dvd_capture.specs.declared.form.Form.{Form}
 use Rattle.dvd_layout.specs.Place.{image_sectors}
@@ -17,7 +17,7 @@ use Rattle.dvd_layout.specs.declared.layout.Layout.{Layout}
 use Rattle.dvd_layout.specs.declared.layout.Zones.{Zones}
 use Rattle.dvd_layout.proofs.SameLengths.{same_lengths-same}
 use Rattle.dvd_deep.specs.Reading.{deep_cause}
-use Rattle.dvd_read.specs.declared.cause.Cause.{Cause}
+use Rattle.dvd_decoding.specs.declared.cause.Cause.{Cause}
 use Rattle.dvd_top.proofs.CdSectors.{read_is_one}
 use Rattle.dvd_top.proofs.ExerciseRuns.{exercised_is_one}
 use Rattle.dvd_top.proofs.EntryBlocks.{done_at}
@@ -32,8 +32,8 @@ use Rattle.dvd_loop.specs.declared.ends.Turn.{Turn}
 use Rattle.dvd_loop.proofs.Determinacy.{agrees}
 use Rattle.dvd_loop.proofs.Sizes.{broken_stays, whole_stays}
 use Rattle.dvd_read.proofs.BlockRead.{read-determined}
-use Rattle.dvd_read.specs.Reading.{block_cause}
-use Rattle.dvd_read.specs.Salvage.{block_out, saved_in}
+use Rattle.dvd_decoding.specs.Reading.{block_cause}
+use Rattle.dvd_decoding.specs.Salvage.{block_out, saved_in}
 use Rattle.dvd_report.specs.Lines.{damage_line}
 use Rattle.dvd_report.specs.Survey.{survey_line}
 use Rattle.dvd_top.specs.Commands.{meaning}
@@ -44,9 +44,9 @@ use Rattle.dvd_top.specs.Commands.Frames.{frames_units}
 use Rattle.dvd_top.specs.Commands.Info.{GivesFormat, IsAsked, IsControlDone, GivesNoFormat, IsSought, format_lines, info_units}
 use Rattle.dvd_top.specs.Commands.Making.{IsMade}
 use Rattle.dvd_top.specs.Commands.Master.{IsMastered, filled_block, frames_of, master_units}
-use Rattle.dvd_capture.specs.TwoPass.{answers_of}
+use Rattle.coding.specs.TwoPass.{answers_of}
 use Rattle.dvd_deep.proofs.Readings.{deep-no_cause, deep-once}
-use Rattle.dvd_read.specs.Causes.{two_pass_cause}
+use Rattle.dvd_decoding.specs.Causes.{two_pass_cause}
 use Rattle.dvd_top.specs.Commands.Deep.{IsDeepened, IsGivenBack, IsImageRead, IsReadDeep, deep_units, round_told}
 use Rattle.dvd_top.specs.Commands.Recover.{IsDone, IsGiven, IsImageDone, IsRecovered, IsRefused, recover_units}
 use Rattle.dvd_top.specs.Commands.Merge.{merge_units}

@@ -5,8 +5,8 @@ use Rattle.std.proofs.lemmas.Bool.Decides.{nat_tests}
 use Rattle.std.proofs.lemmas.List.{length-drop, length-replicate, length-take-le}
 use Rattle.std.proofs.lemmas.List.FromFn.{get_or-map-range_with_len}
 use Rattle.std.proofs.lemmas.Option.{slice_get_within}
-use Rattle.dvd_block.specs.Product.{line}
-use Rattle.dvd_capture.specs.TwoPass.{IsTwoPass, answers_of}
+use Rattle.coding.specs.Product.{line}
+use Rattle.coding.specs.TwoPass.{IsTwoPass, answers_of}
 use Rattle.dvd_capture.proofs.Columns.{length-answers_of}
 use Rattle.dvd_exercise.specs.Generator.{bytes_from, state_after}
 use Rattle.dvd_exercise.proofs.Draws.{length-bytes_from}
@@ -25,8 +25,8 @@ use Rattle.dvd_layout.specs.declared.layout.Layout.{Layout}
 use Rattle.dvd_layout.specs.declared.layout.Shape.TheVariants.{Single}
 use Rattle.dvd_layout.specs.declared.layout.Zones.TheVariants.{DataOnly}
 use Rattle.dvd_layout.proofs.Blocks.{block-at, length-entries_of}
-use Rattle.dvd_read.specs.Made.{IsMadeOf}
-use Rattle.dvd_read.specs.Reading.{IsReadAs, block_cause, block_in}
+use Rattle.dvd_decoding.specs.Made.{IsMadeOf}
+use Rattle.dvd_decoding.specs.Reading.{IsReadAs, block_cause, block_in}
 use Rattle.dvd_read.proofs.BlockRead.{read-determined}
 use Rattle.dvd_read.proofs.Mastered.{made-read}
 use Rattle.dvd_read.proofs.Outcomes.{found-agrees}

@@ -5,7 +5,7 @@ use Rattle.std.proofs.lemmas.List.{ext_get_or, length-replicate}
 use Rattle.std.proofs.lemmas.List.Elements.{All-from_get_or}
 use Rattle.std.proofs.lemmas.Nat.{xor_lt}
 use Rattle.dvd_block.proofs.OneBlock.{one_block_at_most, some_block}
-use Rattle.dvd_block.specs.Product.{line}
+use Rattle.coding.specs.Product.{line}
 use Rattle.dvd_exercise.specs.Damage.{IsHurt, drawn_errors, is_hit, row_state}
 use Rattle.dvd_exercise.specs.Generator.{drawn_byte, bytes_from, state_after, step}
 use Rattle.dvd_exercise.proofs.Draws.{get_or-bytes_from, length-bytes_from}

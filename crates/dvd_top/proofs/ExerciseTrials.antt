@@ -7,15 +7,15 @@ use Rattle.std.proofs.lemmas.List.{get_or_append_left, get_or_push}
 use Rattle.std.proofs.lemmas.List.FromFn.{get_or-map-range_with_len, get_or-range_with_len, length-range_with_len}
 use Rattle.std.proofs.lemmas.List.Sums.{list_all-from_AllPass, sum_by-append}
 use Rattle.std.proofs.lemmas.Slice.Eq.{bytes_eq-Decides}
-use Rattle.rs_decode.specs.Filling.{marked}
-use Rattle.dvd_block.specs.Product.{line}
-use Rattle.dvd_capture.specs.TwoPass.{answers_of, failed_of}
+use Rattle.coding.specs.Filling.{marked}
+use Rattle.coding.specs.Product.{line}
+use Rattle.coding.specs.TwoPass.{answers_of, failed_of}
 use Rattle.dvd_capture.specs.declared.work.Work.{Work}
 use Rattle.dvd_exercise.specs.Damage.{hurt_state}
 use Rattle.dvd_exercise.specs.Generator.{state_after}
 use Rattle.dvd_loop.specs.Machine.Step.{Write}
-use Rattle.dvd_read.specs.Found.{block_differences}
-use Rattle.dvd_read.specs.Reading.{block_in}
+use Rattle.coding.specs.Found.{block_differences}
+use Rattle.dvd_decoding.specs.Reading.{block_in}
 use Rattle.dvd_top.specs.Commands.Exercise.{AreTrials, IsExercised, IsLeft, IsTrial, Trial, drawn_sector, drawn_sectors, exercise_line, fixed_in, state_at}
 use Rattle.dvd_top.specs.Inner.Exercising.{CountsOne, IsBehind, are_sectors}
 use Rattle.dvd_top.specs.declared.commands.exercise.Counts.{Counts}

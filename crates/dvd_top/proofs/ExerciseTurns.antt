@@ -1,6 +1,6 @@
 -- A turn of `exercise`, and how its loop ends.
 use Rattle.std.proofs.Common.{◌≡◌, ◌≢◌, ◌∙◌, ◌⊎◌, inl, inr, ℕ, ◌+◌, ◌^◌, ◌<◌, ◌≤◌, List, replicate, slice_get, None, Some, refl, sym, ap, subst, arith}
-use Rattle.dvd_block.specs.Product.{IsBlockOf}
+use Rattle.coding.specs.Product.{IsBlockOf}
 use Rattle.dvd_capture.specs.Parts.{marks_rows, received_rows}
 use Rattle.dvd_capture.specs.Works.{marks_of_work, rows_of, sectors_of, stage_of}
 use Rattle.dvd_capture.specs.declared.stage.Stage.TheVariants.{Fixed}
@@ -23,7 +23,7 @@ use Rattle.dvd_loop.proofs.Sizes.{sized_enough, sized_never_broken}
 use Rattle.dvd_ports.specs.Memory.{SliceState, slice_seen}
 use Rattle.dvd_ports.specs.Seen.{Seen}
 use Rattle.dvd_ports.proofs.StopLemmas.{unmoved}
-use Rattle.dvd_read.specs.Reading.{IsReadAs, block_cause}
+use Rattle.dvd_decoding.specs.Reading.{IsReadAs, block_cause}
 use Rattle.dvd_top.specs.Commands.Exercise.{IsHurtBlock, IsLeft, drawn_sectors, exercise_units, no_marks, state_at}
 use Rattle.dvd_top.specs.Commands.Master.{frames_of}
 use Rattle.dvd_top.specs.Inner.Exercising.{CountsOne, IsBehind}

@@ -4,7 +4,7 @@ use Rattle.std.specs.Prelude.{◌^◌, bit_xor}
 use Rattle.std.proofs.lemmas.List.{length-append, length-drop, length-replicate, length-take-le}
 use Rattle.std.proofs.lemmas.List.Elements.{All-append, All-cons, All-drop, All-from_get_or, All-nil, All-replicate, All-take}
 use Rattle.std.proofs.lemmas.Nat.{xor_lt}
-use Rattle.dvd_frame.specs.Bits.{bits}
+use Rattle.coding.specs.Bits.{bits}
 use Rattle.dvd_frame.specs.Edc.{edc_of}
 use Rattle.dvd_frame.specs.Frame.{data_frame, frame_head}
 use Rattle.dvd_frame.specs.Id.{ied_of, word_bytes}

@@ -1,8 +1,8 @@
 -- One block that `master` reads, makes and writes.
 use Rattle.std.proofs.Common.{◌≡◌, ℕ, ◌-◌, ◌≤◌, List, [], ◌∷◌, ◌++◌, length, take, drop, replicate, slice_get, Some, refl, sym, ap, subst, ◌∙◌, arith, take-append-drop}
 use Rattle.std.proofs.lemmas.List.{length-take-le}
-use Rattle.dvd_block.specs.Product.{IsBlockOf}
-use Rattle.dvd_block.specs.Recording.{recording}
+use Rattle.coding.specs.Product.{IsBlockOf}
+use Rattle.coding.specs.Recording.{recording}
 use Rattle.dvd_layout.specs.Plan.{plan_of}
 use Rattle.dvd_layout.specs.declared.entry.BlockPlan.{BlockPlan}
 use Rattle.dvd_layout.specs.declared.layout.Layout.{Layout}

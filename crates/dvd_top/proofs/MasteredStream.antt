@@ -2,10 +2,10 @@
 use Rattle.std.proofs.Common.{◌≡◌, ◌∙◌, ◌⊎◌, inl, inr, ℕ, suc, ◌+◌, ◌-◌, ◌*◌, ◌<◌, ◌≤◌, Bool, List, [], ◌∷◌, length, take, drop, slice_get, All, Some, refl, ap, sym, subst, append-nil, arith}
 use Rattle.std.specs.List.{flat_map, range_with_len}
 use Rattle.std.proofs.lemmas.List.{length-drop, length-take-le, nil_from_length, take_all}
-use Rattle.dvd_block.specs.Product.{IsBlockOf, IsProduct}
-use Rattle.dvd_block.specs.Recording.{recording}
+use Rattle.coding.specs.Product.{IsBlockOf, IsProduct}
+use Rattle.coding.specs.Recording.{recording}
 use Rattle.dvd_capture.specs.Captured.{captured_marks, captured_rows}
-use Rattle.dvd_capture.specs.Within.{IsWithin}
+use Rattle.coding.specs.Within.{IsWithin}
 use Rattle.dvd_capture.specs.declared.form.Form.TheVariants.{Plain}
 use Rattle.dvd_capture.proofs.RecordedRows.{length-recording, recording_captured}
 use Rattle.dvd_capture.proofs.Undamaged.{undamaged_within}

@@ -11,9 +11,9 @@ use Rattle.dvd_loop.specs.Machine.{Step}
 use Rattle.dvd_loop.specs.Machine.Step.{Write}
 use Rattle.dvd_loop.specs.declared.ends.Turn.{Turn}
 use Rattle.dvd_loop.specs.declared.ends.Turn.TheVariants.{Good}
-use Rattle.dvd_read.specs.Reading.{IsReadAs}
-use Rattle.dvd_read.specs.Salvage.{saved_in}
-use Rattle.dvd_read.specs.declared.cause.Cause.{Cause}
+use Rattle.dvd_decoding.specs.Reading.{IsReadAs}
+use Rattle.dvd_decoding.specs.Salvage.{saved_in}
+use Rattle.dvd_decoding.specs.declared.cause.Cause.{Cause}
 use Rattle.dvd_read.proofs.SavedLaws.{sixteen-sectors}
 use Rattle.dvd_report.specs.Lines.{damage_line}
 use Rattle.dvd_top.specs.Commands.Recover.{IsImageDone, IsRefused}

@@ -6,7 +6,7 @@ use Rattle.std.proofs.lemmas.List.Folds.{flat_map-map}
 use Rattle.std.proofs.lemmas.List.FromFn.{take-map-range_with_len}
 use Rattle.dvd_frame.specs.Frame.{found_word}
 use Rattle.dvd_frame.proofs.Masking.{length-masked}
-use Rattle.dvd_block.specs.Product.{IsProduct, line}
+use Rattle.coding.specs.Product.{IsProduct, line}
 use Rattle.dvd_capture.specs.Captured.{captured_marks, captured_rows}
 use Rattle.dvd_capture.specs.declared.form.Form.{Form}
 use Rattle.dvd_layout.specs.Place.{image_sectors, rule_for}
@@ -25,14 +25,14 @@ use Rattle.dvd_loop.specs.declared.ends.Turn.TheVariants.{Good, Bad, Last}
 use Rattle.dvd_loop.proofs.Over.{start}
 use Rattle.dvd_deep.proofs.Products.{found_is_product}
 use Rattle.dvd_layout.specs.Plan.{plan_of}
-use Rattle.dvd_read.specs.Causes.{two_pass_cause}
-use Rattle.dvd_read.specs.declared.cause.Cause.{Cause}
-use Rattle.dvd_capture.specs.TwoPass.{answers_of}
-use Rattle.dvd_read.specs.Frames.{frame_of, main_at, main_data}
-use Rattle.dvd_read.specs.Salvage.{block_out}
+use Rattle.dvd_decoding.specs.Causes.{two_pass_cause}
+use Rattle.dvd_decoding.specs.declared.cause.Cause.{Cause}
+use Rattle.coding.specs.TwoPass.{answers_of}
+use Rattle.dvd_decoding.specs.Frames.{frame_of, main_at, main_data}
+use Rattle.dvd_decoding.specs.Salvage.{block_out}
 use Rattle.dvd_read.proofs.SavedLaws.{sixteen-sectors}
 use Rattle.dvd_deep.specs.Reading.{deep_cause}
-use Rattle.dvd_read.specs.Reading.{block_cause}
+use Rattle.dvd_decoding.specs.Reading.{block_cause}
 use Rattle.dvd_top.specs.Captured.{IfImage, IsDoneByEntry, IsPassedOver, captured_units}
 use Rattle.dvd_top.specs.Commands.Master.{bytes_of_block, image_bytes}
 use Rattle.dvd_top.specs.Commands.Deep.{IsDeepened, IsImageRead, round_told}

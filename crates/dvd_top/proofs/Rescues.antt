@@ -2,9 +2,9 @@
 use Rattle.std.proofs.Common.{◌≡◌, ◌∙◌, inl, inr, ℕ, ◌+◌, ◌-◌, ◌*◌, ◌<◌, ◌≤◌, Bool, true, false, nat_le, if◌then◌else◌, List, ◌++◌, length, length-append, take, drop, replicate, ap, sym, append-nil, arith}
 use Rattle.std.specs.List.{flat_map}
 use Rattle.std.proofs.lemmas.Bool.Decides.{leb_tells}
-use Rattle.dvd_block.specs.Product.{line}
+use Rattle.coding.specs.Product.{line}
 use Rattle.dvd_capture.specs.Captured.{captured_marks, captured_rows}
-use Rattle.dvd_capture.specs.TwoPass.{answers_of}
+use Rattle.coding.specs.TwoPass.{answers_of}
 use Rattle.dvd_capture.proofs.Columns.{length-answers_of}
 use Rattle.dvd_capture.proofs.Fetching.{part-append, part-behind}
 use Rattle.dvd_layout.specs.Lengths.{has_two_layers}
@@ -14,10 +14,10 @@ use Rattle.dvd_layout.specs.declared.entry.BlockPlan.{BlockPlan}
 use Rattle.dvd_loop.specs.Machine.{Step}
 use Rattle.dvd_loop.specs.Turns.{written}
 use Rattle.dvd_loop.specs.declared.ends.Turn.{Turn}
-use Rattle.dvd_read.specs.Salvage.{block_out}
+use Rattle.dvd_decoding.specs.Salvage.{block_out}
 use Rattle.dvd_read.proofs.Outcomes.{agrees-no_cause}
 use Rattle.dvd_read.proofs.SavedLaws.{good_rows-saved, sixteen-sectors}
-use Rattle.dvd_read.specs.Reading.{block_cause}
+use Rattle.dvd_decoding.specs.Reading.{block_cause}
 use Rattle.dvd_top.specs.Commands.Master.{cpr_in, filled_block, frames_of}
 use Rattle.dvd_top.specs.Commands.Recover.{IsRefused}
 use Rattle.dvd_top.specs.Laws.{GoodFramesOfARefusedBlockAreGiven}

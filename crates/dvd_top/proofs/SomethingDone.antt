@@ -7,8 +7,8 @@ use Rattle.std.proofs.lemmas.Option.{slice_get_cases}
 use Rattle.cd_sector.specs.Sector.{IsSector}
 use Rattle.cd_sector.proofs.SomeSector.{some_sector}
 use Rattle.dvd_block.proofs.OneBlock.{some_block}
-use Rattle.dvd_block.specs.Product.{line}
-use Rattle.dvd_block.specs.Recording.{recording}
+use Rattle.coding.specs.Product.{line}
+use Rattle.coding.specs.Recording.{recording}
 use Rattle.dvd_capture.specs.Captured.{block_size, captured_marks, captured_rows}
 use Rattle.dvd_capture.specs.declared.form.Form.{Form}
 use Rattle.dvd_capture.specs.declared.form.Form.TheVariants.{Plain, Marked, Listed}
@@ -30,9 +30,9 @@ use Rattle.dvd_loop.specs.declared.ends.Turn.{Turn}
 use Rattle.dvd_loop.specs.declared.ends.Turn.TheVariants.{Good, Bad, Last}
 use Rattle.dvd_loop.proofs.Sizes.{sized_fewer, sized_whole}
 use Rattle.dvd_loop.proofs.Totality.{Exists, closed_exists, cut_exists, exists, one_fewer, steps_exist, taken_exists}
-use Rattle.dvd_read.specs.Reading.{block_cause, block_sectors}
-use Rattle.dvd_read.specs.Salvage.{block_out, saved_in}
-use Rattle.dvd_read.specs.declared.cause.Cause.{Cause}
+use Rattle.dvd_decoding.specs.Reading.{block_cause, block_sectors}
+use Rattle.dvd_decoding.specs.Salvage.{block_out, saved_in}
+use Rattle.dvd_decoding.specs.declared.cause.Cause.{Cause}
 use Rattle.dvd_read.proofs.BlockRead.{no_cause-read}
 use Rattle.dvd_report.specs.Lines.{damage_line}
 use Rattle.dvd_top.specs.Commands.{meaning}
@@ -49,10 +49,10 @@ use Rattle.dvd_top.specs.Commands.Frames.{frames_units}
 use Rattle.dvd_top.specs.Commands.Info.{IsAsked, IsControlDone, IsSought, format_lines, info_units}
 use Rattle.dvd_top.specs.Commands.Making.{IsMade}
 use Rattle.dvd_top.specs.Commands.Master.{IsMastered, bytes_of_block, bytes_of_entry, cpr_in, filled_block, frames_of, main_for, master_units}
-use Rattle.dvd_capture.specs.TwoPass.{answers_of}
+use Rattle.coding.specs.TwoPass.{answers_of}
 use Rattle.dvd_deep.specs.Reading.{deep_cause}
 use Rattle.dvd_deep.proofs.Readings.{deep-some}
-use Rattle.dvd_read.specs.Causes.{two_pass_cause}
+use Rattle.dvd_decoding.specs.Causes.{two_pass_cause}
 use Rattle.dvd_top.specs.Commands.Deep.{IsDeepened, IsImageRead, IsReadDeep, deep_units, round_told}
 use Rattle.dvd_top.specs.Commands.Recover.{IsDone, IsImageDone, IsRecovered, IsRefused, recover_units}
 use Rattle.dvd_top.specs.Commands.Survey.{IsSurveyed, survey_units}

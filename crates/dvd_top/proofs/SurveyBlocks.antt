@@ -15,9 +15,9 @@ use Rattle.dvd_capture.specs.declared.work.Work.{Work}
 use Rattle.dvd_loop.specs.Machine.{Step}
 use Rattle.dvd_loop.specs.Machine.Step.{Write}
 use Rattle.dvd_loop.specs.declared.ends.Turn.{Turn}
-use Rattle.dvd_read.specs.Reading.{block_cause}
-use Rattle.dvd_read.specs.declared.cause.Cause.{Cause}
-use Rattle.dvd_read.specs.declared.cause.Fixed.{Fixed}
+use Rattle.dvd_decoding.specs.Reading.{block_cause}
+use Rattle.dvd_decoding.specs.declared.cause.Cause.{Cause}
+use Rattle.dvd_read.specs.declared.fixed.Fixed.{Fixed}
 use Rattle.dvd_report.specs.Survey.{StandsFor, SurveyState, survey_line, surveyed, surveyed_with}
 use Rattle.dvd_report.specs.declared.counts.Surveyed.{Surveyed}
 use Rattle.dvd_top.specs.Commands.Survey.{IsSurveyed, found_in, found_of, turn_by}

@@ -1,10 +1,10 @@
 -- The bound of recovery: what a run gives back where the damage of a block is within the bound.
 use Rattle.std.specs.Prelude.{◌≡◌, ℕ, ◌+◌, ◌*◌, ◌<◌, ⊤, Bool, List, [], ◌∷◌, length, take, drop, Some, slice_get}
-use Rattle.dvd_block.specs.Product.{IsBlockOf, line}
+use Rattle.coding.specs.Product.{IsBlockOf, line}
 use Rattle.dvd_capture.specs.Answers.{marks_line}
 use Rattle.dvd_capture.specs.Captured.{captured_marks, captured_rows}
-use Rattle.dvd_capture.specs.TwoPass.{answers_of}
-use Rattle.dvd_capture.specs.Within.{IsWithin, row_weight}
+use Rattle.coding.specs.TwoPass.{answers_of}
+use Rattle.coding.specs.Within.{IsWithin, row_weight}
 use Rattle.dvd_capture.specs.declared.form.Form.{Form}
 use Rattle.dvd_layout.specs.Content.{IsImage, image_from}
 use Rattle.dvd_layout.specs.Place.{image_sectors, total_sectors}
@@ -17,8 +17,8 @@ use Rattle.dvd_loop.specs.Machine.{IsOutcome, Outcome, Step}
 use Rattle.dvd_loop.specs.Machine.Step.{Write}
 use Rattle.dvd_loop.specs.declared.ends.Turn.{Turn}
 use Rattle.dvd_loop.specs.declared.ends.Turn.TheVariants.{Good}
-use Rattle.dvd_read.specs.Causes.{two_pass_cause}
-use Rattle.dvd_read.specs.declared.cause.Cause.{Cause}
+use Rattle.dvd_decoding.specs.Causes.{two_pass_cause}
+use Rattle.dvd_decoding.specs.declared.cause.Cause.{Cause}
 use Rattle.dvd_top.specs.Captured.{HasBlocks, block_bytes}
 use Rattle.dvd_top.specs.Commands.Master.{filled_block, frames_of, image_bytes, master_units}
 use Rattle.dvd_top.specs.Commands.Deep.{IsDeepened}

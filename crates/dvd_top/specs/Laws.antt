@@ -4,11 +4,11 @@ use Rattle.dvd_assemble.specs.Assembled.{assembled}
 use Rattle.dvd_assemble.specs.Frames.{Frame}
 use Rattle.dvd_assemble.specs.Home.{home}
 use Rattle.dvd_assemble.specs.Mastered.{IsCaptureOf, IsCaptured}
-use Rattle.dvd_block.specs.Product.{IsBlockOf}
+use Rattle.coding.specs.Product.{IsBlockOf}
 use Rattle.dvd_capture.specs.Captured.{HasSize, captured_rows, captured_marks}
 use Rattle.dvd_capture.specs.Listed.{IsBrokenAt, IsUnbroken}
-use Rattle.dvd_capture.specs.TwoPass.{answers_of}
-use Rattle.dvd_capture.specs.Within.{IsWithin}
+use Rattle.coding.specs.TwoPass.{answers_of}
+use Rattle.coding.specs.Within.{IsWithin}
 use Rattle.dvd_capture.specs.declared.form.Form.{Form}
 use Rattle.dvd_capture.specs.declared.form.Form.TheVariants.{Plain, Listed}
 use Rattle.dvd_control.specs.Format.{Fields}
@@ -31,8 +31,8 @@ use Rattle.dvd_loop.specs.declared.ends.Turn.{Turn}
 use Rattle.dvd_loop.specs.declared.ends.Turn.TheVariants.{Good, Last}
 use Rattle.dvd_merge.specs.Agreeing.{IsOf}
 use Rattle.dvd_merge.specs.Join.{unseen}
-use Rattle.dvd_read.specs.Causes.{two_pass_cause}
-use Rattle.dvd_read.specs.declared.cause.Cause.{Cause}
+use Rattle.dvd_decoding.specs.Causes.{two_pass_cause}
+use Rattle.dvd_decoding.specs.declared.cause.Cause.{Cause}
 use Rattle.dvd_top.specs.Bound.{HasGoodRows, KeepsBound, KeepsGoodFrames, Rescues}
 use Rattle.dvd_top.specs.Captured.{HasBlocks, block_bytes, block_start, broken_at, captured_part, from_block}
 use Rattle.dvd_top.specs.CdBound.{KeepsSectors}

@@ -1,7 +1,7 @@
 -- Division of polynomials over two bits: how many bits a sum has, two sums as one, and the steps of a division in two parts.
 use Rattle.std.proofs.Common.{◌≡◌, ℕ, zero, suc, ◌+◌, ◌≤◌, List, [], ◌∷◌, length, cond, eqb, refl, sym, ◌∙◌, ap, ap₂, zero-add, arith}
 use Rattle.std.specs.Int.Bits.{xor_assoc}
-use Rattle.gf_field.specs.BitDivision.{plus_front, remainder_by}
+use Rattle.coding.specs.BitDivision.{plus_front, remainder_by}
 
 -- what is added to the front of a list leaves its length
 pub length-plus_front : (xs ys : List ℕ) → length (plus_front xs ys) ≡ length xs

@@ -6,7 +6,7 @@ use Rattle.std.proofs.Math.Nat.{pow-suc}
 use Rattle.std.proofs.lemmas.Bool.{cases_lt}
 use Rattle.std.proofs.lemmas.Nat.{xor_comm, xor_lt, xor_mod, xor_shr, xor_block}
 use Rattle.std.proofs.lemmas.Nat.Bits.{bit_at-lt, bit_at_cat_low}
-use Rattle.gf_field.specs.Field.{alpha, plus, shift, shifted, partial_product, product, power}
+use Rattle.coding.specs.Field.{alpha, plus, shift, shifted, partial_product, product, power}
 use Rattle.gf_field.specs.Laws.{HasInverse, IsPowerOfAlpha}
 use Rattle.gf_field.proofs.Tables.{shift-parts, shift-byte, product-alpha, product-by_one, product-bits, inverse, inverse_by, inverse_from, product-inverse, shifted-one-255, shifted-one-below, logarithm, shifted-logarithm, shifted-after_shift}
 

@@ -1,6 +1,6 @@
 -- Powers and logarithms as the program's tables have them, and sums of exponents of alpha.
 use Rattle.std.proofs.Common.{◌≡◌, ◌≢◌, ℕ, zero, suc, ◌+◌, ◌-◌, ◌<◌, get_or, refl, sym, ap, ◌∙◌, arith}
-use Rattle.gf_field.specs.Field.{alpha, product, power}
+use Rattle.coding.specs.Field.{alpha, product, power}
 use Rattle.gf_field.specs.declared.powers.TheConstants.{POWERS, LOGARITHMS}
 use Rattle.gf_field.proofs.Tables.{POWERS-shifted, LOGARITHMS-shifted}
 use Rattle.gf_field.proofs.FieldLaws.{product-zero, zero-product, product-one, power-byte, power-add, power-alpha-shifted, power-alpha-255, power-alpha-mod}

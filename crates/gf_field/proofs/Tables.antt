@@ -3,7 +3,7 @@ use Rattle.std.proofs.Common.{◌≡◌, ◌≢◌, ℕ, zero, suc, ◌*◌, ◌
 use Rattle.std.specs.Prelude.{nat_lt}
 use Rattle.std.specs.Bool.{Decides}
 use Rattle.std.proofs.lemmas.Bool.Decides.{Decides-eqb, Decides-not, Decides-and, Decides-ltb, Decides-below_and}
-use Rattle.gf_field.specs.Field.{alpha, plus, shift, shifted, partial_product, product}
+use Rattle.coding.specs.Field.{alpha, plus, shift, shifted, partial_product, product}
 use Rattle.gf_field.specs.declared.powers.TheConstants.{POWERS, LOGARITHMS}
 
 -- a test holds of each number below n

@@ -1,6 +1,6 @@
 -- What the laws of the field say of one byte.
 use Rattle.std.specs.Prelude.{◌≡◌, ℕ, ◌<◌}
-use Rattle.gf_field.specs.Field.{alpha, product, power}
+use Rattle.coding.specs.Field.{alpha, product, power}
 
 -- some byte times this one is 1
 abbrev pub HasInverse : ℕ → Type 0

@@ -1,6 +1,2 @@
 -- What the contracts speak of: the field of 256 elements, its words and their codes, and division of lists of bits.
-pub mod BitDivision
-pub mod Examples
-pub mod Field
 pub mod Laws
-pub mod Words

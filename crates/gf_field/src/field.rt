@@ -1,6 +1,6 @@
 //! Sums of elements, and products, quotients, inverses and powers by logarithms: to multiply is to add exponents of alpha.
 ghost use Rattle.std.specs.Prelude.{◌≡◌, ◌≢◌, ◌<◌};
-ghost use Rattle.gf_field.specs.Field.{alpha, plus, product, power};
+ghost use Rattle.coding.specs.Field.{alpha, plus, product, power};
 
 use crate::powers::{LOGARITHMS, POWERS};
 

@@ -3,7 +3,7 @@
 #![tactic(auto, using(crate::proofs::FieldLaws::laws))]
 
 ghost use Rattle.std.specs.Prelude.{◌≡◌, ◌≢◌, ◌⊎◌, ℕ, ◌+◌, ◌<◌};
-ghost use Rattle.gf_field.specs.Field.{alpha, plus, product, power};
+ghost use Rattle.coding.specs.Field.{alpha, plus, product, power};
 ghost use Rattle.gf_field.specs.Laws.{HasInverse, IsPowerOfAlpha};
 
 /// The sum of two bytes is a byte.

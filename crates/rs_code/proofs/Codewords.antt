@@ -3,12 +3,12 @@ use Rattle.std.proofs.Common.{◌≡◌, ℕ, suc, ◌+◌, ◌-◌, ◌<◌, �
 use Rattle.std.proofs.lemmas.List.{take_at}
 use Rattle.std.proofs.lemmas.List.Elements.{All-append}
 use Rattle.std.proofs.lemmas.Bool.Decides.{nat_tests}
-use Rattle.gf_field.specs.Field.{alpha, plus, product, power}
-use Rattle.gf_field.specs.Words.{IsByte, IsCodeword, IsEncoded, value}
+use Rattle.coding.specs.Field.{alpha, plus, product, power}
+use Rattle.coding.specs.Words.{IsByte, IsCodeword, IsEncoded, value}
 use Rattle.gf_field.proofs.FieldLaws.{plus-zero_same}
 use Rattle.rs_code.specs.Polynomials.{HasRoots}
 use Rattle.rs_code.specs.Inner.Polynomials.{sum_of, IsRemainder}
-use Rattle.rs_code.specs.Distance.{weight, distance}
+use Rattle.coding.specs.Distance.{weight, distance}
 use Rattle.rs_code.proofs.Remainders.{remainder_of, IsRemainder-start}
 use Rattle.rs_code.proofs.Generator.{generator_of, length-generator_of, HasRoots-generator_of}
 use Rattle.rs_code.proofs.Distance.{IsCodeword-light, IsCodeword-close}

@@ -3,11 +3,11 @@ use Rattle.std.proofs.Common.{◌≡◌, ℕ, ◌+◌, ◌≤◌, List, [], ◌�
 use Rattle.std.proofs.lemmas.Bool.{cases_eq}
 use Rattle.std.proofs.lemmas.List.Elements.{All-head, All-tail, All-cons, All-nil}
 use Rattle.std.proofs.lemmas.Bool.Decides.{nat_tests}
-use Rattle.gf_field.specs.Field.{alpha, plus, power}
-use Rattle.gf_field.specs.Words.{IsByte, IsCodeword}
+use Rattle.coding.specs.Field.{alpha, plus, power}
+use Rattle.coding.specs.Words.{IsByte, IsCodeword}
 use Rattle.gf_field.proofs.FieldLaws.{plus-byte, plus-zero, plus-self, plus-zero_same}
 use Rattle.rs_code.specs.Inner.Polynomials.{sum_of}
-use Rattle.rs_code.specs.Distance.{weight, distance}
+use Rattle.coding.specs.Distance.{weight, distance}
 use Rattle.rs_code.proofs.Values.{value-sum_of, length-sum_of}
 use Rattle.rs_code.specs.Inner.PowerSums.{points_of}
 use Rattle.rs_code.proofs.PowerSums.{length-points_of, All-points_of, AreDistinct-points_of, value-power_sum, none_hidden}

@@ -4,8 +4,8 @@ use Rattle.std.specs.List.{refill}
 use Rattle.std.proofs.lemmas.List.{take_at}
 use Rattle.std.proofs.lemmas.Bool.{cases_eq}
 use Rattle.std.proofs.lemmas.Grind.{same_number_lists}
-use Rattle.gf_field.specs.Field.{alpha, plus, product, power}
-use Rattle.gf_field.specs.Words.{value}
+use Rattle.coding.specs.Field.{alpha, plus, product, power}
+use Rattle.coding.specs.Words.{value}
 use Rattle.gf_field.proofs.FieldLaws.{plus-self, product-zero, zero-product, one-product, power-suc, power-byte}
 use Rattle.rs_code.specs.Polynomials.{HasRoots}
 use Rattle.rs_code.specs.Inner.Polynomials.{sum_of, scaled, times_root}

@@ -5,7 +5,7 @@ use Rattle.std.specs.List.{list_all, range_with_len}
 use Rattle.std.proofs.lemmas.Bool.{and_parts, ltb-true}
 use Rattle.std.proofs.lemmas.List.{get_or-map}
 use Rattle.std.proofs.lemmas.List.FromFn.{get_or-map-range_with_len}
-use Rattle.gf_field.specs.Field.{product, partial_product, shifted, shift, power}
+use Rattle.coding.specs.Field.{product, partial_product, shifted, shift, power}
 use Rattle.rs_code.specs.Inner.Polynomials.{sum_of, scaled, times_root}
 use Rattle.rs_code.specs.Inner.Registers.{register_bytes, HasMultiples, AreLater, AreTables, after_byte}
 use Rattle.rs_code.specs.declared.tables.TheConstants.{PI_TABLES, PO_TABLES}

@@ -4,10 +4,10 @@
 use Rattle.std.proofs.Common.{◌≡◌, ◌≢◌, ℕ, zero, suc, ◌<◌, ◌≤◌, List, [], ◌∷◌, length, All, replicate, refl, sym, ap, ◌∙◌, arith, inl, inr}
 use Rattle.std.proofs.lemmas.List.Elements.{All-head, All-tail, All-cons, All-nil}
 use Rattle.std.proofs.lemmas.Bool.Decides.{nat_tests}
-use Rattle.gf_field.specs.Field.{alpha, plus, product, power}
-use Rattle.gf_field.specs.Words.{IsByte, value}
+use Rattle.coding.specs.Field.{alpha, plus, product, power}
+use Rattle.coding.specs.Words.{IsByte, value}
 use Rattle.gf_field.proofs.FieldLaws.{plus-byte, plus-zero, zero-plus, plus-zero_same, product-byte, product-one, product-zero, zero-product, product-zero_factor, power-zero, power-suc, power-byte, power-alpha-differ, power-swap}
-use Rattle.rs_code.specs.Distance.{weight}
+use Rattle.coding.specs.Distance.{weight}
 use Rattle.rs_code.specs.Inner.PowerSums.{power_sum, shifted_by, points_of, AreDistinct}
 use Rattle.rs_code.proofs.Ring.{ring}
 use Rattle.rs_code.proofs.Values.{value-nil, value-cons}

@@ -5,7 +5,7 @@ use Rattle.std.specs.Int.{byte_at, to_be_bytes, w128}
 use Rattle.std.proofs.Math.Nat.{div-div-eq-div-mul, pow-succ'}
 use Rattle.std.proofs.lemmas.Nat.{xor_shr, xor_mod, xor_lt, xor_block, shr_below, mod-pow-add}
 use Rattle.std.proofs.lemmas.List.{append_cancel_left, take_at, length-replicate, replicate_more, replicate-append-replicate}
-use Rattle.gf_field.specs.Field.{plus}
+use Rattle.coding.specs.Field.{plus}
 use Rattle.gf_field.proofs.FieldLaws.{plus-byte, plus-product, plus-pairs, plus-zero, plus-self}
 use Rattle.rs_code.specs.Inner.Polynomials.{sum_of, scaled, IsRemainder}
 use Rattle.rs_code.specs.Inner.Registers.{register_bytes, Holds, HasMultiples, after_byte}

@@ -3,8 +3,8 @@ use Rattle.std.proofs.Common.{◌≡◌, ℕ, ◌+◌, ◌<◌, List, [], ◌∷
 use Rattle.std.proofs.lemmas.List.{append-nil, take_more, length-replicate}
 use Rattle.std.proofs.lemmas.Grind.{same_number_lists}
 use Rattle.std.proofs.lemmas.List.Elements.{All-head, All-tail, All-replicate, All-append, All-cons, All-nil}
-use Rattle.gf_field.specs.Field.{plus, product, power}
-use Rattle.gf_field.specs.Words.{IsByte, value}
+use Rattle.coding.specs.Field.{plus, product, power}
+use Rattle.coding.specs.Words.{IsByte, value}
 use Rattle.gf_field.proofs.FieldLaws.{plus-zero_same, product-byte, zero-product, power-suc}
 use Rattle.rs_code.specs.Inner.Polynomials.{sum_of, scaled, IsRemainder}
 use Rattle.rs_code.proofs.Ring.{ring}

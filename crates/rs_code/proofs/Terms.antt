@@ -1,8 +1,8 @@
 -- The value of a polynomial at a power of alpha, term by term from the lowest power on, by logarithms.
 use Rattle.std.proofs.Common.{◌≡◌, ℕ, suc, ◌+◌, ◌-◌, ◌<◌, List, length, drop, get_or, sym, ap, ◌∙◌, add-one, drop-cons}
 use Rattle.std.proofs.lemmas.List.{length-drop}
-use Rattle.gf_field.specs.Field.{alpha, plus, product, power}
-use Rattle.gf_field.specs.Words.{value}
+use Rattle.coding.specs.Field.{alpha, plus, product, power}
+use Rattle.coding.specs.Words.{value}
 use Rattle.gf_field.proofs.FieldLaws.{plus-comm, power-add, power-suc, zero-plus, zero-product}
 use Rattle.rs_code.proofs.Values.{value-cons}
 

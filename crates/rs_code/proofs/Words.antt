@@ -6,8 +6,8 @@ use Rattle.std.specs.Simd.{first_chunks}
 use Rattle.std.proofs.lemmas.Nat.{xor_lt}
 use Rattle.std.proofs.lemmas.List.{drop-drop, take-append-drop, append-nil}
 use Rattle.std.proofs.lemmas.List.Elements.{All-head, All-tail}
-use Rattle.gf_field.specs.Field.{plus}
-use Rattle.gf_field.specs.Words.{IsByte}
+use Rattle.coding.specs.Field.{plus}
+use Rattle.coding.specs.Words.{IsByte}
 use Rattle.gf_field.proofs.FieldLaws.{plus-byte, plus-assoc}
 use Rattle.rs_code.specs.Inner.Polynomials.{IsRemainder}
 use Rattle.rs_code.specs.Inner.Registers.{register_bytes, HasMultiples, AreTables, after_byte, after_bytes}

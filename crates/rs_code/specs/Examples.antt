@@ -1,8 +1,8 @@
 -- Worked values from outside the program, computed from the definitions.
 use Rattle.std.specs.Prelude.{◌≡◌, [], ◌∷◌, refl}
-use Rattle.gf_field.specs.Field.{shift, shifted, partial_product, product, power}
-use Rattle.gf_field.specs.Words.{value}
-use Rattle.rs_code.specs.Distance.{weight, distance}
+use Rattle.coding.specs.Field.{shift, shifted, partial_product, product, power}
+use Rattle.coding.specs.Words.{value}
+use Rattle.coding.specs.Distance.{weight, distance}
 use Rattle.rs_code.specs.Inner.Polynomials.{sum_of, scaled, times_root}
 use Rattle.rs_code.specs.Inner.PowerSums.{power_sum, points_of}
 use Rattle.rs_code.specs.Syndromes.{syndromes_of}

@@ -1,7 +1,7 @@
 -- The laws of the codes for words of at most 255 bytes.
 use Rattle.std.specs.Prelude.{◌≡◌, ℕ, ◌-◌, ◌<◌, ◌≤◌, List, length, All, replicate}
-use Rattle.gf_field.specs.Words.{IsByte, IsCodeword, IsEncoded}
-use Rattle.rs_code.specs.Distance.{weight, distance}
+use Rattle.coding.specs.Words.{IsByte, IsCodeword, IsEncoded}
+use Rattle.coding.specs.Distance.{weight, distance}
 
 -- a codeword with at most r bytes that aren't 0 is zero
 abbrev pub LightCodewordIsZero : Type 0

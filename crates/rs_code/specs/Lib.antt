@@ -1,5 +1,4 @@
 -- What the contracts speak of: Reed-Solomon codes, their generators, syndromes and distances.
-pub mod Distance
 pub mod Examples
 pub mod Inner
 pub mod Laws

@@ -1,8 +1,8 @@
 -- Words over the field as polynomials: where they vanish.
 -- A word's first byte is the coefficient of the highest power, as in ECMA-267, clause 18.
 use Rattle.std.specs.Prelude.{◌≡◌, ℕ, ◌<◌, List, ◌∷◌}
-use Rattle.gf_field.specs.Field.{alpha, power}
-use Rattle.gf_field.specs.Words.{value}
+use Rattle.coding.specs.Field.{alpha, power}
+use Rattle.coding.specs.Words.{value}
 
 -- a polynomial with the leading coefficient 1, which isn't written, has the roots alpha^0 to alpha^(r-1)
 abbrev pub HasRoots : ℕ → List ℕ → Type 0

@@ -1,8 +1,8 @@
 //! Codes of constant length.
 ghost use Rattle.std.specs.Prelude.{◌≡◌, ◌↔◌, ℕ, ◌+◌, ◌-◌, ◌++◌, ◌<◌, ◌≤◌, take, length, All, IsTrue};
 ghost use Rattle.arrayvec.specs.ArrayVec.{array_vec_len};
-ghost use Rattle.gf_field.specs.Field.{alpha, power};
-ghost use Rattle.gf_field.specs.Words.{IsByte, IsCodeword, IsEncoded, value};
+ghost use Rattle.coding.specs.Field.{alpha, power};
+ghost use Rattle.coding.specs.Words.{IsByte, IsCodeword, IsEncoded, value};
 ghost use Rattle.rs_code.specs.Polynomials.{HasRoots};
 ghost use Rattle.rs_code.specs.Syndromes.{syndromes_of};
 

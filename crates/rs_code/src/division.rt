@@ -2,7 +2,7 @@
 //! A polynomial with the leading coefficient 1 is kept without it.
 ghost use Rattle.std.specs.Prelude.{◌≡◌, ℕ, ◌-◌, ◌<◌, ◌≤◌, List, [], ◌∷◌, ◌++◌, length, All};
 ghost use Rattle.arrayvec.specs.ArrayVec.{array_vec_len};
-ghost use Rattle.gf_field.specs.Words.{IsByte};
+ghost use Rattle.coding.specs.Words.{IsByte};
 ghost use Rattle.rs_code.specs.Polynomials.{HasRoots};
 ghost use Rattle.rs_code.specs.Inner.Polynomials.{sum_of, times_root, IsRemainder};
 

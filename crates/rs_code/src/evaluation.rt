@@ -1,7 +1,7 @@
 //! The values of a word at points.
 ghost use Rattle.std.specs.Prelude.{◌≡◌, ◌↔◌, ◌<◌, ◌≤◌, length, replicate, IsTrue};
-ghost use Rattle.gf_field.specs.Field.{alpha, power};
-ghost use Rattle.gf_field.specs.Words.{value};
+ghost use Rattle.coding.specs.Field.{alpha, power};
+ghost use Rattle.coding.specs.Words.{value};
 ghost use Rattle.rs_code.specs.Syndromes.{syndromes_of};
 
 use arrayvec::ArrayVec;

@@ -3,7 +3,7 @@
 //! four look-ups at once.
 ghost use Rattle.std.specs.Prelude.{◌≡◌, ℕ, ◌<◌, ◌≤◌, List, [], ◌∷◌, ◌++◌, length, slice_index_or, take, All};
 ghost use Rattle.std.specs.List.{concat};
-ghost use Rattle.gf_field.specs.Words.{IsByte};
+ghost use Rattle.coding.specs.Words.{IsByte};
 ghost use Rattle.rs_code.specs.Inner.Polynomials.{IsRemainder};
 ghost use Rattle.rs_code.specs.Inner.Registers.{AreTables, after_bytes, register_bytes};
 

@@ -1,6 +1,6 @@
 -- Connections of registers, as sums: what two registers that generate a list have to do with each other.
 use Rattle.std.proofs.Common.{◌≡◌, ℕ, ◌+◌, ◌-◌, ◌<◌, ◌≤◌, List, length, get_or, refl, sym, ap, ◌∙◌, arith}
-use Rattle.gf_field.specs.Field.{plus, product}
+use Rattle.coding.specs.Field.{plus, product}
 use Rattle.gf_field.proofs.FieldLaws.{one-product, product-assoc, product-byte, product-comm, product-zero, zero-product, plus-product}
 use Rattle.rs_code.specs.Inner.Polynomials.{sum_of, scaled}
 use Rattle.rs_code.proofs.Values.{get_or-sum_of, get_or-scaled}

@@ -4,9 +4,9 @@ use Rattle.std.proofs.lemmas.List.{drop_all, drop_more}
 use Rattle.std.proofs.lemmas.Bool.{cases_eq}
 use mir.Val.{bool_byte}
 use Rattle.std.proofs.lemmas.Bool.Decides.{nat_tests}
-use Rattle.gf_field.specs.Words.{IsCodeword, IsNear}
+use Rattle.coding.specs.Words.{IsCodeword, IsNear}
 use Rattle.rs_decode.specs.Errors.{error_count}
-use Rattle.rs_decode.specs.Filling.{marked}
+use Rattle.coding.specs.Filling.{marked}
 use Rattle.rs_decode.proofs.ErrorsFound.{cost-parts}
 
 -- one place's share

@@ -5,10 +5,10 @@ use Rattle.std.proofs.lemmas.List.{get_or-replicate}
 use Rattle.std.proofs.lemmas.Bool.{false≢true}
 use Rattle.std.proofs.lemmas.Bool.Decides.{nat_tests}
 use Rattle.std.proofs.lemmas.List.Elements.{All-get_or}
-use Rattle.gf_field.specs.Field.{alpha, plus, product, power}
-use Rattle.gf_field.specs.Words.{IsByte, IsCodeword, IsNear, cost, value}
+use Rattle.coding.specs.Field.{alpha, plus, product, power}
+use Rattle.coding.specs.Words.{IsByte, IsCodeword, IsNear, cost, value}
 use Rattle.gf_field.proofs.FieldLaws.{plus-zero, plus-self, plus-zero_same, product-byte, product-zero, zero-product, product-zero_factor}
-use Rattle.rs_code.specs.Distance.{weight}
+use Rattle.coding.specs.Distance.{weight}
 use Rattle.rs_code.specs.Inner.Polynomials.{sum_of}
 use Rattle.rs_code.specs.Syndromes.{syndromes_of}
 use Rattle.rs_code.proofs.Distance.{All-sum_of}
@@ -17,7 +17,7 @@ use Rattle.rs_code.proofs.Values.{value-byte, value-sum_of, length-sum_of, get_o
 use Rattle.rs_code.specs.Inner.PowerSums.{points_of, power_sum}
 use Rattle.rs_code.proofs.PowerSums.{AreDistinct-points_of, All-points_of, length-points_of, value-power_sum, none_hidden}
 use Rattle.rs_decode.specs.Errors.{error_count}
-use Rattle.rs_decode.specs.Filling.{IsFilling, marked}
+use Rattle.coding.specs.Filling.{IsFilling, marked}
 use Rattle.rs_decode.specs.Inner.Locator.{with_zeros, at_points, distances}
 use Rattle.rs_decode.specs.Register.{Generates, IsLeast}
 use Rattle.rs_decode.specs.Inner.Sums.{AreSums}

@@ -4,8 +4,8 @@ use Rattle.std.proofs.lemmas.List.{length-drop, get_or-drop, take_more}
 use Rattle.std.proofs.lemmas.List.Elements.{All-from_get_or, All-get_or}
 use Rattle.std.proofs.lemmas.Simd.{Each1-get_or}
 use lib.Lanes.{Each1}
-use Rattle.gf_field.specs.Field.{plus, product, power}
-use Rattle.gf_field.specs.Words.{IsByte, value}
+use Rattle.coding.specs.Field.{plus, product, power}
+use Rattle.coding.specs.Words.{IsByte, value}
 use Rattle.gf_field.proofs.FieldLaws.{one-product, plus-byte, plus-self, plus-zero, plus-zero_same, power-zero, product-assoc, product-byte, product-cancel, product-comm, product-one, product-zero, product-zero_factor, zero-plus, zero-product}
 use Rattle.rs_code.proofs.Ring.{ring}
 use Rattle.rs_code.proofs.Values.{value-more, value-nil}

@@ -1,7 +1,7 @@
 -- Words that were filled at their marked places.
 use Rattle.std.proofs.Common.{◌≡◌, ◌≢◌, ℕ, zero, suc, ◌<◌, ◌≤◌, Bool, true, false, List, [], ◌∷◌, length, get_or, All, refl, sym, ap, subst, ◌∙◌, arith}
-use Rattle.gf_field.specs.Field.{alpha, plus, product, power}
-use Rattle.gf_field.specs.Words.{IsByte, IsCodeword, value}
+use Rattle.coding.specs.Field.{alpha, plus, product, power}
+use Rattle.coding.specs.Words.{IsByte, IsCodeword, value}
 use Rattle.gf_field.proofs.FieldLaws.{plus-again, plus-assoc, plus-pairs, plus-zero, plus-zero_same, plus-product, power-swap}
 use Rattle.rs_code.specs.Syndromes.{syndromes_of}
 use Rattle.rs_code.specs.Inner.Polynomials.{sum_of}
@@ -10,7 +10,7 @@ use Rattle.rs_code.specs.Inner.PowerSums.{power_sum, points_of, AreDistinct}
 use Rattle.rs_code.proofs.PowerSums.{length-points_of, AreDistinct-points_of}
 use Rattle.rs_code.proofs.Syndromes.{get_or-syndromes_of, length-syndromes_of}
 use Rattle.rs_code.proofs.Values.{length-sum_of, value-cons}
-use Rattle.rs_decode.specs.Filling.{IsFilling, HasNoFilling, AgreeUnmarked, marked}
+use Rattle.coding.specs.Filling.{IsFilling, HasNoFilling, AgreeUnmarked, marked}
 use Rattle.rs_decode.specs.Inner.Places.{picked, patched}
 use Rattle.rs_decode.specs.Inner.Sums.{AreOnly, AreSums}
 use Rattle.rs_decode.proofs.Marks.{All-picked, length-picked}

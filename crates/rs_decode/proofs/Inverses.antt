@@ -5,13 +5,13 @@ use Rattle.std.proofs.lemmas.Bool.Decides.{nat_tests}
 use Rattle.std.proofs.lemmas.List.{get_or-drop, get_or_past, length-drop, take_all, take_more}
 use Rattle.std.proofs.lemmas.Grind.{same_number_lists}
 use Rattle.std.proofs.lemmas.List.Elements.{All-get_or}
-use Rattle.gf_field.specs.Field.{plus, product, power}
-use Rattle.gf_field.specs.Words.{IsByte, value}
+use Rattle.coding.specs.Field.{plus, product, power}
+use Rattle.coding.specs.Words.{IsByte, value}
 use Rattle.gf_field.proofs.FieldLaws.{plus-comm, plus-zero, power-zero, product-assoc, product-byte, product-comm, product-one, product-zero, zero-product}
 use Rattle.rs_code.proofs.Ring.{ring}
 use Rattle.rs_code.proofs.Values.{value-byte, value-cons, value-nil}
 use Rattle.rs_code.specs.Inner.PowerSums.{power_sum}
-use Rattle.rs_lanes.specs.Rows.{place}
+use Rattle.coding.specs.Rows.{place}
 use Rattle.rs_lanes.specs.Inner.Lanes.{HoldsLanes}
 use Rattle.rs_decode.specs.Register.{total}
 use Rattle.rs_decode.specs.Inner.Inverse.{IsInverse, IsPolynomial, row_at}

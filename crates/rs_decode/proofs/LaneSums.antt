@@ -2,8 +2,8 @@
 use Rattle.std.proofs.Common.{◌≡◌, ◌↔◌, ℕ, suc, ◌-◌, ◌*◌, ◌<◌, ◌≤◌, List, length, drop, drop-cons, take, get_or, get_or-take, length-take-le, All, refl, sym, ap, ◌∙◌, arith}
 use Rattle.std.proofs.lemmas.Grind.{same_number_lists}
 use Rattle.std.proofs.lemmas.List.{drop_all}
-use Rattle.gf_field.specs.Field.{alpha, plus, product, power}
-use Rattle.gf_field.specs.Words.{IsByte, IsCodeword, value}
+use Rattle.coding.specs.Field.{alpha, plus, product, power}
+use Rattle.coding.specs.Words.{IsByte, IsCodeword, value}
 use Rattle.gf_field.proofs.FieldLaws.{plus-comm, plus-self, plus-zero_same, power-mul, power-swap, product-comm}
 use Rattle.rs_code.specs.Inner.PowerSums.{power_sum}
 use Rattle.rs_code.specs.Syndromes.{syndromes_of}

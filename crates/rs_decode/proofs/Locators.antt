@@ -2,10 +2,10 @@
 -- that generates them is no longer than there are bytes.
 use Rattle.std.proofs.Common.{◌≡◌, ◌≢◌, ℕ, zero, suc, ◌+◌, ◌-◌, ◌<◌, ◌≤◌, List, [], ◌∷◌, ◌++◌, length, get_or, All, refl, sym, ap, ◌∙◌, arith}
 use Rattle.std.proofs.lemmas.List.Elements.{All-append, All-cons, All-nil}
-use Rattle.gf_field.specs.Field.{plus, product}
-use Rattle.gf_field.specs.Words.{IsByte, value}
+use Rattle.coding.specs.Field.{plus, product}
+use Rattle.coding.specs.Words.{IsByte, value}
 use Rattle.gf_field.proofs.FieldLaws.{plus-self, plus-zero, power-zero, product-one, product-zero, zero-product}
-use Rattle.rs_code.specs.Distance.{weight}
+use Rattle.coding.specs.Distance.{weight}
 use Rattle.rs_code.specs.Inner.Polynomials.{scaled, times_root}
 use Rattle.rs_code.specs.Inner.PowerSums.{power_sum}
 use Rattle.rs_code.proofs.Distance.{All-sum_of}

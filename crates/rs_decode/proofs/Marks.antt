@@ -6,12 +6,12 @@ use Rattle.std.proofs.lemmas.List.Elements.{All-head, All-tail, All-cons, All-ni
 use Rattle.std.proofs.lemmas.Grind.{get_or-set_at}
 use Rattle.std.proofs.Math.Seq.{take-suc}
 use mir.Val.{bool_byte}
-use Rattle.gf_field.specs.Field.{alpha, plus, power}
-use Rattle.gf_field.specs.Words.{IsByte}
+use Rattle.coding.specs.Field.{alpha, plus, power}
+use Rattle.coding.specs.Words.{IsByte}
 use Rattle.gf_field.proofs.FieldLaws.{alpha-nonzero, plus-assoc, plus-byte, plus-self, plus-zero, power-alpha-differ, power-nonzero}
 use Rattle.rs_code.specs.Inner.PowerSums.{points_of}
 use Rattle.rs_code.proofs.PowerSums.{length-points_of}
-use Rattle.rs_decode.specs.Filling.{marked}
+use Rattle.coding.specs.Filling.{marked}
 use Rattle.rs_decode.specs.Inner.Places.{ArePlaces, picked, patched, place_of_mark}
 
 -- ---- the numbers at marked places

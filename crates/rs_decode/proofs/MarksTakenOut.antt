@@ -5,10 +5,10 @@ use Rattle.std.proofs.lemmas.Bool.{cases_eq, false≢true}
 use Rattle.std.proofs.lemmas.Bool.Decides.{nat_tests}
 use Rattle.std.proofs.lemmas.List.{take_more}
 use Rattle.std.proofs.lemmas.List.Elements.{All-head, All-tail, All-cons, All-nil, All-get_or}
-use Rattle.gf_field.specs.Field.{plus, product, power}
-use Rattle.gf_field.specs.Words.{IsByte}
+use Rattle.coding.specs.Field.{plus, product, power}
+use Rattle.coding.specs.Words.{IsByte}
 use Rattle.gf_field.proofs.FieldLaws.{plus-byte, one-product, plus-self, plus-zero_same, power-byte, product-assoc, product-byte, product-comm, product-zero, zero-product, product-zero_factor}
-use Rattle.rs_code.specs.Distance.{weight}
+use Rattle.coding.specs.Distance.{weight}
 use Rattle.rs_code.specs.Inner.PowerSums.{AreDistinct, shifted_by, power_sum}
 use Rattle.rs_code.proofs.PowerSums.{power_sum-shifted_by}
 use Rattle.rs_decode.specs.Errors.{error_count}

@@ -6,11 +6,11 @@ use Rattle.std.proofs.lemmas.Bool.{and_from, and_parts, eqb-true, eq-eqb, ltb-tr
 use Rattle.std.proofs.lemmas.List.Elements.{All-tail}
 use Rattle.std.proofs.lemmas.List.FromFn.{length-range_with_len, get_or-range_with_len}
 use Rattle.std.proofs.lemmas.List.Sums.{AllPass-from_list_all, list_all-from_AllPass}
-use Rattle.gf_field.specs.Field.{alpha, power}
-use Rattle.gf_field.specs.Words.{IsByte, IsCodeword, IsNear, value, cost}
+use Rattle.coding.specs.Field.{alpha, power}
+use Rattle.coding.specs.Words.{IsByte, IsCodeword, IsNear, value, cost}
 use Rattle.rs_decode.specs.Errors.{HasNoneNear}
-use Rattle.rs_decode.specs.Filling.{AgreeUnmarked}
-use Rattle.rs_decode.specs.Nearest.{all_words, is_near, near_of, vanishes_at_all}
+use Rattle.coding.specs.Filling.{AgreeUnmarked}
+use Rattle.coding.specs.Nearest.{all_words, is_near, near_of, vanishes_at_all}
 use Rattle.rs_decode.proofs.OneNear.{cost-alike, near_once}
 
 -- x is an element of a list

@@ -1,10 +1,10 @@
 -- What is near a received word, and what fills its marked places: one codeword at most.
 use Rattle.std.proofs.Common.{◌≡◌, ℕ, suc, ◌+◌, ◌*◌, ◌≤◌, List, [], ◌∷◌, Bool, true, false, ◌==◌, length, if◌then◌else◌, refl, sym, ap, ◌∙◌, arith}
 use Rattle.std.proofs.lemmas.Bool.Decides.{nat_tests}
-use Rattle.gf_field.specs.Words.{cost}
-use Rattle.rs_code.specs.Distance.{distance}
+use Rattle.coding.specs.Words.{cost}
+use Rattle.coding.specs.Distance.{distance}
 use Rattle.rs_code.proofs.Distance.{IsCodeword-close}
-use Rattle.rs_decode.specs.Filling.{AgreeUnmarked, marked}
+use Rattle.coding.specs.Filling.{AgreeUnmarked, marked}
 use Rattle.rs_decode.specs.Laws.{NearCodewordIsOnlyOne, FillingIsOnlyOne, FillingIsNear}
 
 -- at a marked place two words cost one each, whether or not they differ there

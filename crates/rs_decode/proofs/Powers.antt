@@ -1,8 +1,8 @@
 -- The values of a polynomial at the powers of alpha, term by term, and those of a term, sixteen by sixteen.
 use Rattle.std.proofs.Common.{◌≡◌, ℕ, ◌+◌, ◌-◌, ◌*◌, ◌<◌, List, ◌∷◌, length, drop, get_or, sym, ap, ◌∙◌, arith}
 use Rattle.std.proofs.lemmas.List.{drop_more, length-drop}
-use Rattle.gf_field.specs.Field.{alpha, plus, product, power}
-use Rattle.gf_field.specs.Words.{value}
+use Rattle.coding.specs.Field.{alpha, plus, product, power}
+use Rattle.coding.specs.Words.{value}
 use Rattle.gf_field.proofs.FieldLaws.{plus-comm, power-add, power-mul, product-assoc}
 use Rattle.rs_code.proofs.Values.{value-cons}
 

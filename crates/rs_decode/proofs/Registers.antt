@@ -4,8 +4,8 @@ use Rattle.std.specs.Prelude.{All, slice_index}
 use Rattle.std.proofs.lemmas.Bool.{cases_lt}
 use Rattle.std.proofs.lemmas.List.{length-replicate, get_or_past}
 use Rattle.std.proofs.lemmas.List.Elements.{All-cons, All-replicate, All-take}
-use Rattle.gf_field.specs.Field.{plus, product}
-use Rattle.gf_field.specs.Words.{IsByte}
+use Rattle.coding.specs.Field.{plus, product}
+use Rattle.coding.specs.Words.{IsByte}
 use Rattle.gf_field.proofs.FieldLaws.{plus-self, plus-zero, product-comm, product-one, product-zero}
 use Rattle.rs_code.specs.Inner.Polynomials.{sum_of, scaled}
 use Rattle.rs_code.proofs.Distance.{All-sum_of}

@@ -1,6 +1,6 @@
 -- Sums of a function's first values: functions that agree, zeros left out, sums and multiples, and sums of sums.
 use Rattle.std.proofs.Common.{◌≡◌, ℕ, zero, suc, ◌+◌, ◌<◌, ◌≤◌, refl, sym, ap, ◌∙◌, arith, add-one}
-use Rattle.gf_field.specs.Field.{plus, product}
+use Rattle.coding.specs.Field.{plus, product}
 use Rattle.gf_field.proofs.FieldLaws.{plus-assoc, plus-byte, plus-pairs, plus-zero, zero-plus, product-plus, product-zero}
 use Rattle.rs_decode.specs.Register.{total}
 

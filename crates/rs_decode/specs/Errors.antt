@@ -1,6 +1,6 @@
 -- What a decoder counts, and when it refuses.
 use Rattle.std.specs.Prelude.{ℕ, ◌+◌, Bool, List, ◌∷◌, ◌==◌, if◌then◌else◌}
-use Rattle.gf_field.specs.Words.{IsNear}
+use Rattle.coding.specs.Words.{IsNear}
 
 -- the number of unmarked places where a word and its codeword differ
 unfoldable pub error_count : List ℕ → List ℕ → List Bool → ℕ

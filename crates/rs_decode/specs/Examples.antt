@@ -1,9 +1,9 @@
 -- Worked values from outside the program, computed from the definitions.
 use Rattle.std.specs.Prelude.{◌≡◌, true, false, [], ◌∷◌, refl}
-use Rattle.gf_field.specs.Field.{shift, shifted, partial_product, power, product}
-use Rattle.gf_field.specs.Words.{value}
+use Rattle.coding.specs.Field.{shift, shifted, partial_product, power, product}
+use Rattle.coding.specs.Words.{value}
 use Rattle.rs_decode.specs.Errors.{error_count}
-use Rattle.rs_decode.specs.Filling.{marked}
+use Rattle.coding.specs.Filling.{marked}
 use Rattle.rs_decode.specs.Inner.Locator.{with_zeros}
 use Rattle.rs_decode.specs.Register.{total, connection}
 

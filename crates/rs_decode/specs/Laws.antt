@@ -1,8 +1,8 @@
 -- The laws of decoding, for words of at most 255 bytes, and of registers.
 use Rattle.std.specs.Prelude.{◌≡◌, ℕ, ◌*◌, ◌≤◌, List, Bool, length, Some, ◌↔◌}
-use Rattle.gf_field.specs.Words.{IsNear}
-use Rattle.rs_decode.specs.Nearest.{near_of}
-use Rattle.rs_decode.specs.Filling.{IsFilling}
+use Rattle.coding.specs.Words.{IsNear}
+use Rattle.coding.specs.Nearest.{near_of}
+use Rattle.coding.specs.Filling.{IsFilling}
 use Rattle.rs_decode.specs.Register.{Generates, IsLeast}
 
 -- at most one codeword is near

@@ -1,8 +1,6 @@
 -- What the contracts speak of: words with errors and marked places, the codewords near them, and registers that generate lists.
 pub mod Errors
 pub mod Examples
-pub mod Filling
 pub mod Inner
 pub mod Laws
-pub mod Nearest
 pub mod Register

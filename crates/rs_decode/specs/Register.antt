@@ -1,7 +1,7 @@
 -- Linear feedback registers (ours): the rules by which each number of a list is a sum of multiples of the numbers before it.
 use Rattle.std.specs.Prelude.{◌≡◌, ℕ, zero, suc, ◌+◌, ◌-◌, ◌<◌, ◌≤◌, List, length, All, slice_index}
-use Rattle.gf_field.specs.Field.{plus, product}
-use Rattle.gf_field.specs.Words.{IsByte}
+use Rattle.coding.specs.Field.{plus, product}
+use Rattle.coding.specs.Words.{IsByte}
 
 -- the sum of the first values of a function, from its value at 0 on
 unfoldable pub total : ℕ → (ℕ → ℕ) → ℕ

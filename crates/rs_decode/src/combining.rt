@@ -1,6 +1,6 @@
 //! Vectors and lists: vectors added to bytes, lists in the first lanes of vectors, and lanes moved up.
 ghost use Rattle.std.specs.Prelude.{◌≡◌, ℕ, ◌+◌, ◌<◌, ◌≤◌, length, slice_index, take, ◌∷◌};
-ghost use Rattle.gf_field.specs.Field.{plus};
+ghost use Rattle.coding.specs.Field.{plus};
 ghost use Rattle.rs_lanes.specs.Inner.Lanes.{HasLanes};
 
 use std::simd::prelude::*;

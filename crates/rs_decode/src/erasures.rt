@@ -1,10 +1,10 @@
 //! Erasures: bytes that are known to be lost, at marked places.
 ghost use Rattle.std.specs.Prelude.{◌≡◌, ◌≢◌, ◌↔◌, ℕ, ◌<◌, length, slice_index, All, IsTrue, IfOk, OnErr};
-ghost use Rattle.gf_field.specs.Field.{alpha, plus, power};
-ghost use Rattle.gf_field.specs.Words.{IsByte, IsCodeword, value};
+ghost use Rattle.coding.specs.Field.{alpha, plus, power};
+ghost use Rattle.coding.specs.Words.{IsByte, IsCodeword, value};
 ghost use Rattle.rs_code.specs.Inner.PowerSums.{power_sum};
 ghost use Rattle.rs_code.specs.Syndromes.{syndromes_of};
-ghost use Rattle.rs_decode.specs.Filling.{IsFilling, HasNoFilling, marked};
+ghost use Rattle.coding.specs.Filling.{IsFilling, HasNoFilling, marked};
 
 use crate::places::{Erasures, patch};
 use crate::syndromes::{front, power_sums, syndromes};

@@ -1,9 +1,9 @@
 //! Errors and erasures: the codeword that is near a word with marks.
 ghost use Rattle.std.specs.Prelude.{◌≡◌, ℕ, ◌≤◌, List, All, IfOk, OnErr};
-ghost use Rattle.gf_field.specs.Words.{IsByte, IsCodeword, IsNear};
+ghost use Rattle.coding.specs.Words.{IsByte, IsCodeword, IsNear};
 ghost use Rattle.rs_code.specs.Syndromes.{syndromes_of};
 ghost use Rattle.rs_decode.specs.Errors.{HasNoneNear, error_count};
-ghost use Rattle.rs_decode.specs.Filling.{marked};
+ghost use Rattle.coding.specs.Filling.{marked};
 
 use crate::erasures::{NoCodeword, fill_from};
 use crate::locating::{count_errors, mark_zeros, sums_without, tell_bytes};

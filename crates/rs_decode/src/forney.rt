@@ -5,8 +5,8 @@
 //! system of equations is solved. The formula finds the only bytes that can have the sums. Whether they have them all, and a
 //! word with them is a codeword, is tested where they are used: no proof rests on their being right for any other word.
 ghost use Rattle.std.specs.Prelude.{◌≡◌, ◌≢◌, ℕ, ◌+◌, ◌*◌, ◌<◌, ◌≤◌, List, length, take, drop, All, slice_index};
-ghost use Rattle.gf_field.specs.Field.{alpha, plus, product, power};
-ghost use Rattle.gf_field.specs.Words.{value};
+ghost use Rattle.coding.specs.Field.{alpha, plus, product, power};
+ghost use Rattle.coding.specs.Words.{value};
 ghost use Rattle.rs_code.specs.Inner.PowerSums.{AreDistinct, power_sum};
 ghost use Rattle.rs_lanes.specs.Inner.Lanes.{HasLanes};
 ghost use Rattle.rs_decode.specs.Inner.Locator.{at_points, distances, slope};

@@ -1,10 +1,10 @@
 //! The inverse of the powers of points: what Forney's formula gives for the points alone. Many words whose marked places are
 //! the same are filled by it, each by sums of multiples of its columns.
 ghost use Rattle.std.specs.Prelude.{◌≡◌, ◌≢◌, ℕ, ◌+◌, ◌<◌, ◌≤◌, length, take, slice_index, ◌==◌, if◌then◌else◌};
-ghost use Rattle.gf_field.specs.Field.{product};
-ghost use Rattle.gf_field.specs.Words.{value};
+ghost use Rattle.coding.specs.Field.{product};
+ghost use Rattle.coding.specs.Words.{value};
 ghost use Rattle.rs_code.specs.Inner.PowerSums.{AreDistinct};
-ghost use Rattle.rs_lanes.specs.Rows.{place};
+ghost use Rattle.coding.specs.Rows.{place};
 ghost use Rattle.rs_decode.specs.Inner.Inverse.{IsInverse, IsPolynomial, row_at};
 ghost use Rattle.rs_decode.specs.Inner.Locator.{distances};
 ghost use Rattle.rs_decode.specs.Register.{total};

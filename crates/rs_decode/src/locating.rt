@@ -1,8 +1,8 @@
 //! The places where errors may be: those whose points are zeros of a locator.
 ghost use Rattle.std.specs.Prelude.{◌≡◌, ℕ, ◌+◌, ◌<◌, ◌≤◌, List, Bool, length, All, slice_index};
 ghost use Rattle.arrayvec.specs.ArrayVec.{array_vec_len};
-ghost use Rattle.gf_field.specs.Field.{plus, product};
-ghost use Rattle.gf_field.specs.Words.{IsByte, value};
+ghost use Rattle.coding.specs.Field.{plus, product};
+ghost use Rattle.coding.specs.Words.{IsByte, value};
 ghost use Rattle.rs_code.specs.Inner.PowerSums.{points_of};
 ghost use Rattle.rs_decode.specs.Errors.{error_count};
 ghost use Rattle.rs_decode.specs.Inner.Locator.{at_points, distances, with_zeros};

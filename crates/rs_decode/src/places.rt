@@ -1,9 +1,9 @@
 //! The marked places of a word.
 ghost use Rattle.std.specs.Prelude.{◌≡◌, ◌↔◌, List, Bool, false, ◌-◌, ◌<◌, ◌≤◌, length, replicate, All, IsTrue, IfSome, MatchOption};
 ghost use Rattle.std.specs.Option.{ForSome};
-ghost use Rattle.gf_field.specs.Field.{alpha, power};
-ghost use Rattle.gf_field.specs.Words.{IsByte};
-ghost use Rattle.rs_decode.specs.Filling.{marked};
+ghost use Rattle.coding.specs.Field.{alpha, power};
+ghost use Rattle.coding.specs.Words.{IsByte};
+ghost use Rattle.coding.specs.Filling.{marked};
 ghost use Rattle.rs_decode.specs.Inner.Places.{ArePlaces, picked, patched};
 ghost use Rattle.rs_code.specs.Inner.PowerSums.{AreDistinct, points_of};
 ghost use Rattle.rs_decode.specs.Inner.Sums.{AreOnly};

@@ -3,7 +3,7 @@
 //! it. A register's taps stand in one vector, and its connections from the place at hand on in another: what mends its taps
 //! mends its connections too, so that nothing is summed up at any place. No step takes memory.
 ghost use Rattle.std.specs.Prelude.{◌≡◌, ℕ, ◌+◌, ◌<◌, ◌≤◌, ◌∷◌, length, take, slice_index};
-ghost use Rattle.gf_field.specs.Field.{plus, product};
+ghost use Rattle.coding.specs.Field.{plus, product};
 ghost use Rattle.rs_lanes.specs.Inner.Lanes.{HasLanes};
 ghost use Rattle.rs_decode.specs.Register.{Generates, IsLeast};
 

@@ -1,6 +1,6 @@
 //! Power sums of bytes at points: the k-th is the sum of each byte times its point to the power k.
 ghost use Rattle.std.specs.Prelude.{◌≡◌, ℕ, ◌+◌, ◌-◌, ◌<◌, ◌≤◌, List, length, take, slice_index};
-ghost use Rattle.gf_field.specs.Field.{plus, product};
+ghost use Rattle.coding.specs.Field.{plus, product};
 ghost use Rattle.rs_decode.specs.Inner.Locator.{at_points, distances};
 ghost use Rattle.rs_decode.specs.Inner.Sums.{AreSums};
 

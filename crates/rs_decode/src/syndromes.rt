@@ -1,8 +1,8 @@
 //! The syndromes of a word, and power sums of bytes at points: sixteen at once, a lane for each, where the code has no more
 //! parity bytes.
 ghost use Rattle.std.specs.Prelude.{◌≡◌, ◌≢◌, ◌↔◌, ℕ, ◌<◌, ◌≤◌, take, length, slice_index, All, IsTrue};
-ghost use Rattle.gf_field.specs.Field.{alpha, power};
-ghost use Rattle.gf_field.specs.Words.{value};
+ghost use Rattle.coding.specs.Field.{alpha, power};
+ghost use Rattle.coding.specs.Words.{value};
 ghost use Rattle.rs_code.specs.Inner.PowerSums.{power_sum};
 ghost use Rattle.rs_code.specs.Syndromes.{syndromes_of};
 ghost use Rattle.rs_lanes.specs.Inner.Lanes.{HoldsLanes};

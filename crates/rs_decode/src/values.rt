@@ -2,8 +2,8 @@
 //! A term's values at sixteen powers, each times one power of alpha, are its values at the next sixteen. Formulas for low
 //! degrees would need a table and a proof for each degree, and this search for all others.
 ghost use Rattle.std.specs.Prelude.{◌≡◌, ℕ, ◌*◌, ◌<◌, ◌≤◌, length, slice_index};
-ghost use Rattle.gf_field.specs.Field.{alpha, plus, product, power};
-ghost use Rattle.gf_field.specs.Words.{value};
+ghost use Rattle.coding.specs.Field.{alpha, plus, product, power};
+ghost use Rattle.coding.specs.Words.{value};
 
 use crate::combining::add_lanes;
 use gf_field::alpha_pow;

@@ -5,7 +5,7 @@ use Rattle.std.proofs.Math.ListN.{get_or-map}
 use Rattle.std.proofs.lemmas.List.{length-map}
 use Rattle.std.proofs.lemmas.Bool.{cases_lt}
 use Rattle.std.proofs.lemmas.Grind.{same_number_lists}
-use Rattle.rs_lanes.specs.Rows.{place, column}
+use Rattle.coding.specs.Rows.{place, column}
 
 -- a column has as many bytes as there are rows
 pub length-column : (rows : List (List ℕ)) (j : ℕ) → length (column rows j) ≡ length rows

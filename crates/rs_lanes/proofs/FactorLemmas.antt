@@ -2,13 +2,13 @@
 use Rattle.std.proofs.Common.{◌≡◌, ℕ, ◌*◌, ◌%◌, ◌<◌, List, [], ◌∷◌, get_or, map, refl, sym, ap, subst, ◌∙◌, arith}
 use Rattle.std.specs.List.{range_with_len}
 use Rattle.std.proofs.lemmas.List.FromFn.{get_or-map-range_with_len}
-use Rattle.gf_field.specs.Field.{alpha, shift, shifted, partial_product, product, power}
+use Rattle.coding.specs.Field.{alpha, shift, shifted, partial_product, product, power}
 use Rattle.gf_field.specs.declared.powers.TheConstants.{POWERS as powers_of_alpha}
 use Rattle.gf_field.proofs.FieldLaws.{power-byte, power-alpha-mod}
 use Rattle.gf_field.proofs.Logarithms.{POWERS_at}
 use Rattle.rs_lanes.specs.declared.factors.TheConstants.{POWERS, PRODUCTS}
 use Rattle.rs_lanes.specs.Inner.Tables.{IsTable}
-use Rattle.rs_lanes.specs.Rows.{place}
+use Rattle.coding.specs.Rows.{place}
 
 -- the products of a factor with the low nibbles, and with the high ones
 unfoldable table_of : ℕ → List (List ℕ)

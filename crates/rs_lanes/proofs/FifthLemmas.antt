@@ -3,8 +3,8 @@
 -- first, folded-five, folded-exponent. The exponents below 15: all_exponents.
 use Rattle.std.proofs.Common.{◌≡◌, ℕ, zero, suc, ◌+◌, ◌*◌, ◌/◌, ◌%◌, ◌<◌, List, [], ◌∷◌, length, get_or, refl, sym, ap, subst, ◌∙◌, inl, inr, arith}
 use Rattle.std.proofs.lemmas.Bool.{cases_eq}
-use Rattle.gf_field.specs.Field.{alpha, plus, shift, shifted, product, power}
-use Rattle.gf_field.specs.Words.{value}
+use Rattle.coding.specs.Field.{alpha, plus, shift, shifted, product, power}
+use Rattle.coding.specs.Words.{value}
 use Rattle.gf_field.proofs.FieldLaws.{product-plus, product-one, product-assoc, product-power, plus-zero, power-zero, power-suc, power-one, power-byte, power-add, power-mul, power-alpha-mod, power-alpha-shifted}
 use Rattle.rs_code.proofs.Ring.{ring}
 use Rattle.rs_code.proofs.Values.{value-nil, value-cons}

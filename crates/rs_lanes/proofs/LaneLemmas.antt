@@ -7,7 +7,7 @@ use Rattle.std.specs.Int.Bits.{or_zero_r}
 use Rattle.std.specs.Simd.Lanes.{Each1, zip2}
 use Rattle.std.proofs.lemmas.Nat.{and_mask, le_or_l, le_or_r}
 use Rattle.std.proofs.lemmas.Simd.{length-zip2, get_or-zip2, get_or-replicate, length-replicate, length-swz_l, get_or-swz_l_below, swz_l, SwzOk, SwzOk-from_below, Each1-from_get_or, Each1-get_or}
-use Rattle.rs_lanes.specs.Rows.{line}
+use Rattle.coding.specs.Rows.{line}
 use Rattle.rs_lanes.specs.Inner.Lanes.{HoldsLanes, HasLanes}
 
 -- an operator on two vectors works lane by lane

@@ -2,10 +2,10 @@
 use Rattle.std.proofs.Common.{◌≡◌, ℕ, ◌<◌, List, [], length, get_or, map, refl, sym, ap, ◌∙◌, arith, ◌==◌, if◌then◌else◌}
 use Rattle.std.specs.List.{range_with_len}
 use Rattle.std.proofs.lemmas.List.FromFn.{get_or-map-range_with_len}
-use Rattle.gf_field.specs.Field.{alpha, shift, shifted, partial_product, product, power}
-use Rattle.gf_field.specs.Words.{value}
+use Rattle.coding.specs.Field.{alpha, shift, shifted, partial_product, product, power}
+use Rattle.coding.specs.Words.{value}
 use Rattle.rs_lanes.specs.declared.matrices.TheConstants.{PI_MATRIX, PO_MATRIX}
-use Rattle.rs_lanes.specs.Rows.{place, column}
+use Rattle.coding.specs.Rows.{place, column}
 use Rattle.rs_lanes.specs.Inner.Parity.{IsBasis}
 
 -- a function's values for the first r columns and the first r powers of alpha, a list for each column

@@ -2,9 +2,9 @@
 use Rattle.std.proofs.Common.{◌≡◌, ℕ, ◌+◌, ◌*◌, ◌/◌, ◌%◌, ◌^◌, ◌<◌, List, sym, ◌∙◌, arith}
 use Rattle.std.specs.Int.Bits.{xor_zero_r, xor_zero_l}
 use Rattle.std.proofs.lemmas.Nat.{xor_block}
-use Rattle.gf_field.specs.Field.{plus, product}
+use Rattle.coding.specs.Field.{plus, product}
 use Rattle.gf_field.proofs.FieldLaws.{plus-product}
-use Rattle.rs_lanes.specs.Rows.{place}
+use Rattle.coding.specs.Rows.{place}
 use Rattle.rs_lanes.specs.Inner.Tables.{IsTable}
 
 -- the low nibble and the high one in its place

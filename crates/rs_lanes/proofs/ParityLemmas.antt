@@ -8,13 +8,13 @@ use Rattle.std.proofs.lemmas.Grind.{same_number_lists}
 use Rattle.std.proofs.lemmas.List.Elements.{All-get_or, All-from_get_or, All-append}
 use Rattle.std.proofs.lemmas.List.{append-nil, get_or_append_left, get_or-append_right, get_or_past}
 use Rattle.std.proofs.lemmas.Simd.{length-replicate, get_or-replicate}
-use Rattle.gf_field.specs.Field.{alpha, plus, product, power}
-use Rattle.gf_field.specs.Words.{IsByte, IsEncoded, value}
+use Rattle.coding.specs.Field.{alpha, plus, product, power}
+use Rattle.coding.specs.Words.{IsByte, IsEncoded, value}
 use Rattle.gf_field.proofs.FieldLaws.{plus-byte, plus-zero, zero-plus, plus-self, product-byte, product-zero, product-one}
 use Rattle.rs_code.specs.Inner.Polynomials.{sum_of, scaled}
 use Rattle.rs_code.proofs.Codewords.{IsEncoded-from_codeword}
 use Rattle.rs_code.proofs.Values.{value-append, value-sum_of, value-scaled, value-zeros, length-sum_of, get_or-sum_of, length-scaled, get_or-scaled}
-use Rattle.rs_lanes.specs.Rows.{line, place, column}
+use Rattle.coding.specs.Rows.{line, place, column}
 use Rattle.rs_lanes.specs.Inner.Parity.{filled, IsBasis}
 use Rattle.rs_lanes.specs.Inner.Thirds.{behind_zeros}
 use Rattle.rs_lanes.proofs.ColumnLemmas.{length-column, get_or-column, same_columns}

@@ -1,7 +1,7 @@
 -- Rows that stand in something else: row_taken, the bytes of one of them.
 use Rattle.std.proofs.Common.{◌≡◌, ℕ, ◌<◌, List, [], length, get_or, map, sym, ap, ◌∙◌}
 use Rattle.std.proofs.lemmas.List.{get_or-map}
-use Rattle.rs_lanes.specs.Rows.{line}
+use Rattle.coding.specs.Rows.{line}
 
 -- the bytes of the i-th of them are row i
 pub row_taken : {A : Type 0} (word : A → List ℕ) (rows : List A) (i : ℕ) (item : A) (bytes : List ℕ)

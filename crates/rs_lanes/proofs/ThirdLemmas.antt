@@ -9,13 +9,13 @@ use Rattle.std.proofs.lemmas.Grind.{get_or-set_at, same_number_lists}
 use Rattle.std.proofs.lemmas.List.Elements.{All-from_get_or}
 use Rattle.std.proofs.lemmas.List.{length-map, get_or_append_left, get_or-append_right}
 use Rattle.std.proofs.lemmas.Simd.{length-chunk, length-replicate, get_or-replicate}
-use Rattle.gf_field.specs.Field.{alpha, plus, shift, shifted, partial_product, product, power}
-use Rattle.gf_field.specs.Words.{IsByte, value}
+use Rattle.coding.specs.Field.{alpha, plus, shift, shifted, partial_product, product, power}
+use Rattle.coding.specs.Words.{IsByte, value}
 use Rattle.gf_field.proofs.FieldLaws.{plus-byte, plus-product, product-plus, product-comm, product-assoc, one-product, power-zero, power-mul, power-alpha-mod, power-alpha-shifted, zero-product, zero-plus}
 use Rattle.rs_code.specs.Inner.Polynomials.{scaled}
 use Rattle.rs_code.proofs.Ring.{ring}
 use Rattle.rs_code.proofs.Values.{value-append, value-sum_of, value-scaled, value-zeros, length-sum_of, get_or-sum_of, length-scaled, get_or-scaled, value-more}
-use Rattle.rs_lanes.specs.Rows.{line, place}
+use Rattle.coding.specs.Rows.{line, place}
 use Rattle.rs_lanes.specs.Inner.Lanes.{HasLanes}
 use Rattle.rs_lanes.specs.Inner.Thirds.{behind_zeros, folded, third_byte, third, IsThird}
 

@@ -7,7 +7,7 @@ use Rattle.std.specs.List.{range_with_len}
 use Rattle.std.proofs.lemmas.Grind.{get_or-set_at}
 use Rattle.std.proofs.lemmas.List.FromFn.{get_or-map-range_with_len}
 use Rattle.std.proofs.lemmas.List.{get_or_append_left, get_or-append-add}
-use Rattle.rs_lanes.specs.Rows.{line, place}
+use Rattle.coding.specs.Rows.{line, place}
 
 -- lanes of two vectors in turns, lane n from lane f n
 abbrev in_turns : (ℕ → ℕ) → List ℕ → List ℕ → List ℕ

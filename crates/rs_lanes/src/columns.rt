@@ -1,8 +1,8 @@
 //! The columns of an ECC block, 32 at once.
 ghost use Rattle.std.specs.Prelude.{◌≡◌, ℕ, ◌+◌, ◌<◌, ◌≤◌, List, ◌++◌, length, map, slice_index, EachIndex, All};
-ghost use Rattle.gf_field.specs.Field.{alpha, power};
-ghost use Rattle.gf_field.specs.Words.{IsByte, IsEncoded, value};
-ghost use Rattle.rs_lanes.specs.Rows.{line, place, column};
+ghost use Rattle.coding.specs.Field.{alpha, power};
+ghost use Rattle.coding.specs.Words.{IsByte, IsEncoded, value};
+ghost use Rattle.coding.specs.Rows.{line, place, column};
 ghost use Rattle.rs_lanes.specs.Inner.Lanes.{HasLanes};
 ghost use Rattle.rs_lanes.specs.Inner.Parity.{filled};
 ghost use Rattle.rs_lanes.specs.Inner.Thirds.{behind_zeros, third, IsThird};

@@ -1,9 +1,9 @@
 //! The five pieces of a third, added up for its five exponents k at once: the 17th powers of alpha^k are one of them times the
 //! fifth roots of one, so the sums are values of words of five bytes at these roots.
 ghost use Rattle.std.specs.Prelude.{ℕ, ◌*◌, ◌<◌, [], ◌∷◌, slice_index};
-ghost use Rattle.gf_field.specs.Field.{alpha, plus, product, power};
-ghost use Rattle.gf_field.specs.Words.{value};
-ghost use Rattle.rs_lanes.specs.Rows.{line};
+ghost use Rattle.coding.specs.Field.{alpha, plus, product, power};
+ghost use Rattle.coding.specs.Words.{value};
+ghost use Rattle.coding.specs.Rows.{line};
 ghost use Rattle.rs_lanes.specs.Inner.Lanes.{HasLanes};
 ghost use Rattle.rs_lanes.specs.Inner.Thirds.{exponent_at, folded, third};
 

@@ -1,7 +1,7 @@
 //! Vectors of 32 bytes, lane by lane.
 ghost use Rattle.std.specs.Prelude.{◌≡◌, ◌↔◌, ℕ, ◌+◌, ◌*◌, ◌/◌, ◌%◌, ◌<◌, ◌≤◌, length, slice_index};
-ghost use Rattle.gf_field.specs.Field.{plus, product};
-ghost use Rattle.rs_lanes.specs.Rows.{place};
+ghost use Rattle.coding.specs.Field.{plus, product};
+ghost use Rattle.coding.specs.Rows.{place};
 ghost use Rattle.rs_lanes.specs.Inner.Lanes.{HasLanes};
 ghost use Rattle.rs_lanes.specs.Inner.Tables.{IsTable};
 

@@ -2,9 +2,9 @@
 //! The parity is the word that has the same values as its message, with zeros in place of the parity: both together are
 //! then zero at each root.
 ghost use Rattle.std.specs.Prelude.{◌≡◌, ℕ, ◌<◌, length, slice_index, EachIndex, All};
-ghost use Rattle.gf_field.specs.Field.{alpha, plus, product, power};
-ghost use Rattle.gf_field.specs.Words.{IsByte, value};
-ghost use Rattle.rs_lanes.specs.Rows.{line, place, column};
+ghost use Rattle.coding.specs.Field.{alpha, plus, product, power};
+ghost use Rattle.coding.specs.Words.{IsByte, value};
+ghost use Rattle.coding.specs.Rows.{line, place, column};
 ghost use Rattle.rs_lanes.specs.Inner.Lanes.{HasLanes};
 ghost use Rattle.rs_lanes.specs.Inner.Parity.{IsBasis};
 

@@ -1,6 +1,6 @@
 //! Vectors of sixteen bytes, each lane of them at a point of its own.
 ghost use Rattle.std.specs.Prelude.{◌≡◌, ℕ, ◌*◌, ◌/◌, ◌%◌, ◌<◌, length, slice_index};
-ghost use Rattle.gf_field.specs.Field.{alpha, product, power};
+ghost use Rattle.coding.specs.Field.{alpha, product, power};
 ghost use Rattle.rs_lanes.specs.Inner.Lanes.{HoldsLanes};
 
 use crate::factors::{POWERS, PRODUCTS};

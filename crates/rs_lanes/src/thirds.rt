@@ -3,9 +3,9 @@
 //! pieces are added up to one first, which is a third here. A third serves five exponents below 15, and its own five pieces are
 //! added up for all of them at once (`fifths`). So what is left for each exponent is Horner's rule on 17 bytes.
 ghost use Rattle.std.specs.Prelude.{◌≡◌, ◌≢◌, ◌↔◌, ℕ, ◌%◌, ◌<◌, ◌≤◌, length, slice_index};
-ghost use Rattle.gf_field.specs.Field.{alpha, plus, product, power};
-ghost use Rattle.gf_field.specs.Words.{value};
-ghost use Rattle.rs_lanes.specs.Rows.{line, place};
+ghost use Rattle.coding.specs.Field.{alpha, plus, product, power};
+ghost use Rattle.coding.specs.Words.{value};
+ghost use Rattle.coding.specs.Rows.{line, place};
 ghost use Rattle.rs_lanes.specs.Inner.Lanes.{HasLanes};
 ghost use Rattle.rs_lanes.specs.Inner.Thirds.{exponent_at, third, third_byte};
 

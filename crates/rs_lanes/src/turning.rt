@@ -1,6 +1,6 @@
 //! 32 rows as vectors by places: vector `k` has place `k` of each row.
 ghost use Rattle.std.specs.Prelude.{◌≡◌, ℕ, ◌+◌, ◌*◌, ◌/◌, ◌%◌, ◌<◌, ◌≤◌, length, map, slice_index, EachIndex};
-ghost use Rattle.rs_lanes.specs.Rows.{line, place};
+ghost use Rattle.coding.specs.Rows.{line, place};
 ghost use Rattle.rs_lanes.specs.Inner.Turning.{IsRiffled, IsTurned};
 
 use crate::row::Row;

@@ -1,7 +1,7 @@
 -- Ours: which rows of a block stand in their places while its recorded rows are put one after the other.
 use Rattle.std.specs.Prelude.{◌≡◌, ℕ, ◌<◌, Bool, List, take}
-use Rattle.dvd_block.specs.Product.{line}
-use Rattle.dvd_block.specs.Recording.{record_at}
+use Rattle.coding.specs.Product.{line}
+use Rattle.coding.specs.Recording.{record_at}
 use Rattle.dvd_capture.specs.Answers.{marks_line}
 use Rattle.dvd_capture.specs.Captured.{marks_in, record_of}
 use Rattle.dvd_capture.specs.declared.form.Form.{Form}

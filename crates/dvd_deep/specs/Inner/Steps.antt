@@ -1,6 +1,6 @@
 -- Ours: what the functions of one row and one column change.
 use Rattle.std.specs.Prelude.{◌≡◌, ◌≢◌, ℕ, ◌<◌, Bool, false, List, length, slice_index}
-use Rattle.dvd_block.specs.Product.{line, place}
+use Rattle.coding.specs.Product.{line, place}
 use Rattle.dvd_deep.specs.Rounds.{mark_in}
 
 -- each row has 182 bytes

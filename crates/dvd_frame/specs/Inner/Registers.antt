@@ -1,8 +1,8 @@
 -- What the registers of the code hold, of which the standard's definitions don't speak.
 use Rattle.std.specs.Prelude.{ℕ, ◌+◌, ◌*◌, List, ◌++◌, length, map, replicate}
 use Rattle.std.specs.List.{range_with_len}
-use Rattle.gf_field.specs.BitDivision.{plus_front}
-use Rattle.dvd_frame.specs.Bits.{bits, bits_of, number_of}
+use Rattle.coding.specs.BitDivision.{plus_front}
+use Rattle.coding.specs.Bits.{bits, bits_of, number_of}
 use Rattle.dvd_frame.specs.Edc.{remainder}
 use Rattle.dvd_frame.specs.Scrambling.{scrambling_byte}
 

@@ -2,11 +2,11 @@
 use Rattle.std.specs.Prelude.{◌≡◌, ◌<◌, ◌≤◌, ◌+◌, ◌-◌, ℕ, Bool, true, false, is_none, length, List, map}
 use Rattle.dvd_capture.specs.declared.parts.AnswerRow.{AnswerRow}
 use Rattle.dvd_capture.specs.declared.parts.ColumnAnswer.{ColumnAnswer}
-use Rattle.dvd_capture.specs.TwoPass.{from_columns}
-use Rattle.dvd_block.specs.Product.{line}
-use Rattle.rs_decode.specs.Nearest.{vanishes_at_all}
-use Rattle.dvd_read.specs.Causes.{two_pass_cause}
-use Rattle.dvd_read.specs.Found.{block_found}
+use Rattle.coding.specs.TwoPass.{from_columns}
+use Rattle.coding.specs.Product.{line}
+use Rattle.coding.specs.Nearest.{vanishes_at_all}
+use Rattle.dvd_decoding.specs.Causes.{two_pass_cause}
+use Rattle.coding.specs.Found.{block_found}
 use Rattle.dvd_read.specs.Parts.{answer_word}
 
 -- the words of columns

@@ -1,7 +1,7 @@
 -- Ours: rows that are answered by codewords, and columns that are copied of these answers. Where no row failed, the second
 -- pass finds nothing to correct in such columns, and the rows need no test.
 use Rattle.std.specs.Prelude.{◌≡◌, ℕ, ◌+◌, ◌<◌, List, [], length, slice_index, slice_index_or, Some}
-use Rattle.gf_field.specs.Words.{IsCodeword}
+use Rattle.coding.specs.Words.{IsCodeword}
 use Rattle.dvd_capture.specs.declared.parts.AnswerRow.{AnswerRow}
 use Rattle.dvd_capture.specs.declared.parts.ColumnAnswer.{ColumnAnswer}
 use Rattle.dvd_read.specs.Parts.{answer_word, bytes_of}

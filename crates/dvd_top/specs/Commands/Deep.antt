@@ -3,7 +3,7 @@
 use Rattle.std.specs.Prelude.{◌≡◌, ◌⊎◌, ℕ, Bool, None, Some, List, [], ◌∷◌, ◌++◌, codes, length, take}
 use Rattle.std.specs.List.{flat_map}
 use Rattle.std.specs.declared.option.Option.{Option}
-use Rattle.dvd_capture.specs.TwoPass.{answers_of}
+use Rattle.coding.specs.TwoPass.{answers_of}
 use Rattle.dvd_capture.specs.declared.form.Form.{Form}
 use Rattle.dvd_deep.specs.Reading.{IsDeep, deep_cause}
 use Rattle.dvd_layout.specs.Place.{image_sectors}
@@ -16,8 +16,8 @@ use Rattle.dvd_loop.specs.Machine.{Step, Units}
 use Rattle.dvd_loop.specs.Machine.Step.{Write, Tell}
 use Rattle.dvd_loop.specs.declared.ends.Turn.{Turn}
 use Rattle.dvd_loop.specs.declared.ends.Turn.TheVariants.{Good}
-use Rattle.dvd_read.specs.Causes.{two_pass_cause}
-use Rattle.dvd_read.specs.declared.cause.Cause.{Cause}
+use Rattle.dvd_decoding.specs.Causes.{two_pass_cause}
+use Rattle.dvd_decoding.specs.declared.cause.Cause.{Cause}
 use Rattle.dvd_report.specs.Lines.{round_line}
 use Rattle.dvd_top.specs.Captured.{IfImage, IsDoneByEntry, captured_units}
 use Rattle.dvd_top.specs.Commands.Recover.{IsRefused}

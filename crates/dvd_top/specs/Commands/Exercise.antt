@@ -2,9 +2,9 @@
 -- tests the program itself, and reads nothing: ours, since ECMA-267 has none.
 use Rattle.std.specs.Prelude.{◌≡◌, ℕ, zero, suc, ◌+◌, ◌*◌, ◌%◌, ◌^◌, ◌<◌, Bool, false, List, [], ◌∷◌, ◌++◌, codes, decimal, length, map, replicate, take, drop, None, slice_index_or}
 use Rattle.std.specs.List.{range_with_len, sum_by}
-use Rattle.rs_decode.specs.Filling.{marked}
-use Rattle.dvd_block.specs.Product.{IsBlockOf}
-use Rattle.dvd_capture.specs.TwoPass.{answers_of, failed_of}
+use Rattle.coding.specs.Filling.{marked}
+use Rattle.coding.specs.Product.{IsBlockOf}
+use Rattle.coding.specs.TwoPass.{answers_of, failed_of}
 use Rattle.dvd_capture.specs.Works.{marks_of_work, rows_of, sectors_of, stage_of}
 use Rattle.dvd_capture.specs.declared.stage.Stage.TheVariants.{Fixed}
 use Rattle.dvd_capture.specs.declared.work.Work.{Work}
@@ -19,7 +19,7 @@ use Rattle.dvd_loop.specs.Machine.{Step, Units, sized}
 use Rattle.dvd_loop.specs.Machine.Step.{Write}
 use Rattle.dvd_loop.specs.declared.ends.Behind.TheVariants.{Done}
 use Rattle.dvd_loop.specs.declared.ends.Turn.TheVariants.{Good}
-use Rattle.dvd_read.specs.Found.{block_differences}
+use Rattle.coding.specs.Found.{block_differences}
 use Rattle.dvd_top.specs.Meaning.{Meaning}
 
 -- sector f of the sixteen in these bytes

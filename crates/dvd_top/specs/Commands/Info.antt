@@ -1,6 +1,6 @@
 -- The command `info`: the physical format that the lead-in of a disk tells (ECMA-267, control data).
 use Rattle.std.specs.Prelude.{◌≡◌, ◌⊎◌, ℕ, ◌+◌, Bool, Some, None, List, [], ◌∷◌, ◌++◌, codes, decimal, if◌then◌else◌}
-use Rattle.dvd_block.specs.Product.{line}
+use Rattle.coding.specs.Product.{line}
 use Rattle.dvd_capture.specs.declared.form.Form.{Form}
 use Rattle.dvd_control.specs.Format.{Fields, control_fault, fields_in}
 use Rattle.dvd_control.specs.declared.format.ControlFault.{ControlFault}
@@ -14,8 +14,8 @@ use Rattle.dvd_loop.specs.Machine.Step.{Write}
 use Rattle.dvd_loop.specs.declared.ends.Behind.TheVariants.{NoControl}
 use Rattle.dvd_loop.specs.declared.ends.Turn.{Turn}
 use Rattle.dvd_loop.specs.declared.ends.Turn.TheVariants.{Good, Last}
-use Rattle.dvd_read.specs.Reading.{IsReadAs, block_cause}
-use Rattle.dvd_read.specs.declared.cause.Cause.{Cause}
+use Rattle.dvd_decoding.specs.Reading.{IsReadAs, block_cause}
+use Rattle.dvd_decoding.specs.declared.cause.Cause.{Cause}
 use Rattle.dvd_report.specs.Lines.{hexadecimal}
 use Rattle.dvd_top.specs.Captured.{IsDoneByEntry, IsPassedOver, captured_units}
 use Rattle.dvd_top.specs.Meaning.{Meaning}

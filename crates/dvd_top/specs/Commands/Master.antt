@@ -5,8 +5,8 @@ use Rattle.dvd_frame.specs.Id.{id_word}
 use Rattle.dvd_frame.specs.Frame.{data_frame}
 use Rattle.dvd_frame.specs.declared.id.Area.{Area}
 use Rattle.dvd_frame.specs.declared.id.Area.TheVariants.{DataZone, LeadIn, LeadOut, Middle}
-use Rattle.dvd_block.specs.Product.{IsBlockOf}
-use Rattle.dvd_block.specs.Recording.{recording}
+use Rattle.coding.specs.Product.{IsBlockOf}
+use Rattle.coding.specs.Recording.{recording}
 use Rattle.dvd_layout.specs.Lengths.{has_two_layers}
 use Rattle.dvd_layout.specs.Place.{image_sectors, rule_for}
 use Rattle.dvd_layout.specs.Plan.{plan_of}

@@ -13,9 +13,9 @@ use Rattle.dvd_loop.specs.Machine.{Step, Units}
 use Rattle.dvd_loop.specs.Machine.Step.{Write, Tell}
 use Rattle.dvd_loop.specs.declared.ends.Turn.{Turn}
 use Rattle.dvd_loop.specs.declared.ends.Turn.TheVariants.{Good, Bad}
-use Rattle.dvd_read.specs.Reading.{IsReadAs, block_cause}
-use Rattle.dvd_read.specs.Salvage.{block_out, saved_in}
-use Rattle.dvd_read.specs.declared.cause.Cause.{Cause}
+use Rattle.dvd_decoding.specs.Reading.{IsReadAs, block_cause}
+use Rattle.dvd_decoding.specs.Salvage.{block_out, saved_in}
+use Rattle.dvd_decoding.specs.declared.cause.Cause.{Cause}
 use Rattle.dvd_report.specs.Lines.{damage_line}
 use Rattle.dvd_top.specs.Captured.{IfImage, IsDoneByEntry, captured_units}
 use Rattle.dvd_top.specs.Meaning.{Meaning}

@@ -11,8 +11,8 @@ use Rattle.dvd_loop.specs.Machine.Step.{Write}
 use Rattle.dvd_loop.specs.declared.ends.Behind.TheVariants.{Asks}
 use Rattle.dvd_loop.specs.declared.ends.Turn.{Turn}
 use Rattle.dvd_loop.specs.declared.ends.Turn.TheVariants.{Good, Bad}
-use Rattle.dvd_read.specs.Reading.{block_cause}
-use Rattle.dvd_read.specs.declared.cause.Cause.{Cause}
+use Rattle.dvd_decoding.specs.Reading.{block_cause}
+use Rattle.dvd_decoding.specs.declared.cause.Cause.{Cause}
 use Rattle.dvd_report.specs.Survey.{survey_line, surveyed, totals_line}
 use Rattle.dvd_report.specs.declared.counts.Surveyed.{Surveyed}
 use Rattle.dvd_top.specs.Captured.{captured_part}

@@ -2,14 +2,14 @@
 use Rattle.std.specs.Prelude.{◌≡◌, ◌≤◌, ℕ, ◌+◌, ◌*◌, ◌^◌, Bool, List, length}
 use Rattle.std.specs.List.{list_all, range_with_len}
 use Rattle.std.specs.Str.{bytes_eq}
-use Rattle.rs_decode.specs.Filling.{marked}
-use Rattle.dvd_block.specs.Product.{line}
-use Rattle.dvd_capture.specs.TwoPass.{answers_of, failed_of}
+use Rattle.coding.specs.Filling.{marked}
+use Rattle.coding.specs.Product.{line}
+use Rattle.coding.specs.TwoPass.{answers_of, failed_of}
 use Rattle.dvd_capture.specs.declared.work.Work.{Work}
 use Rattle.dvd_layout.specs.declared.layout.Layout.{Layout}
 use Rattle.dvd_layout.specs.declared.layout.Shape.TheVariants.{Single}
-use Rattle.dvd_read.specs.Found.{block_differences}
-use Rattle.dvd_read.specs.Reading.{block_in}
+use Rattle.coding.specs.Found.{block_differences}
+use Rattle.dvd_decoding.specs.Reading.{block_in}
 use Rattle.dvd_top.specs.Commands.Exercise.{AreTrials, IsLeft, Trial, drawn_sector, failed_in, fixed_in, state_at}
 use Rattle.dvd_top.specs.declared.commands.exercise.Counts.{Counts}
 

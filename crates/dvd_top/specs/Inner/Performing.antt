@@ -3,7 +3,7 @@
 use Rattle.std.specs.Prelude.{◌≡◌, ◌⊎◌, ◌<◌, ℕ, ◌+◌, ◌*◌, Bool, true, is_some, List, [], ◌∷◌, ◌++◌, length, take, Option, Result, Ok, Err, None, Some}
 use Rattle.std.specs.List.{flat_map}
 use Rattle.std.specs.Io.KnownBytes.{Consumes, IsAtEnd}
-use Rattle.dvd_block.specs.Product.{line}
+use Rattle.coding.specs.Product.{line}
 use Rattle.dvd_capture.specs.Captured.{block_size}
 use Rattle.dvd_capture.specs.declared.form.Form.{Form}
 use Rattle.dvd_control.specs.Format.{Fields, control_fault, fields_in}
@@ -19,16 +19,16 @@ use Rattle.dvd_loop.specs.declared.ends.LoopEnd.{LoopEnd}
 use Rattle.dvd_loop.specs.declared.ends.LoopEnd.TheVariants.{ReadFault, Short}
 use Rattle.dvd_merge.specs.Join.{Table, joined}
 use Rattle.dvd_ports.specs.Seen.{Seen}
-use Rattle.dvd_read.specs.Reading.{IsReadAs, block_cause}
+use Rattle.dvd_decoding.specs.Reading.{IsReadAs, block_cause}
 use Rattle.dvd_report.specs.Survey.{survey_line, surveyed}
 use Rattle.dvd_report.specs.declared.counts.Surveyed.{Surveyed}
 use Rattle.dvd_top.specs.Commands.Merge.{tables_in}
-use Rattle.dvd_capture.specs.TwoPass.{answers_of}
+use Rattle.coding.specs.TwoPass.{answers_of}
 use Rattle.dvd_deep.specs.Reading.{IsDeep}
 use Rattle.dvd_layout.specs.Place.{image_sectors}
-use Rattle.dvd_read.specs.Causes.{two_pass_cause}
-use Rattle.dvd_read.specs.Salvage.{block_out, saved_in}
-use Rattle.dvd_read.specs.declared.cause.Cause.{Cause}
+use Rattle.dvd_decoding.specs.Causes.{two_pass_cause}
+use Rattle.dvd_decoding.specs.Salvage.{block_out, saved_in}
+use Rattle.dvd_decoding.specs.declared.cause.Cause.{Cause}
 use Rattle.dvd_report.specs.Lines.{damage_line}
 use Rattle.dvd_top.specs.Commands.Survey.{turn_by}
 use Rattle.dvd_top.specs.Captured.{captured_part}

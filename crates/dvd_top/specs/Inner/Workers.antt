@@ -4,7 +4,7 @@ use Rattle.std.specs.Prelude.{Result}
 use denote.Ref.{Bor, MutBor}
 use denote.Param.Members.{Shared}
 use Rattle.dvd_block.specs.Buffers.{block_rows}
-use Rattle.dvd_block.specs.Product.{IsParityAdded}
+use Rattle.coding.specs.Product.{IsParityAdded}
 use Rattle.dvd_block.specs.declared.block.Block.{Block}
 use Rattle.dvd_capture.specs.Rule.{HasBlock}
 use Rattle.dvd_capture.specs.Works.{stage_of}
@@ -12,8 +12,8 @@ use Rattle.dvd_capture.specs.declared.work.Work.{Work}
 use Rattle.dvd_layout.specs.Place.{HasNumbers}
 use Rattle.dvd_layout.specs.declared.entry.BlockPlan.{BlockPlan}
 use Rattle.dvd_read.specs.Calls.{IsBlockRead}
-use Rattle.dvd_read.specs.declared.cause.Cause.{Cause}
-use Rattle.dvd_read.specs.declared.cause.Fixed.{Fixed}
+use Rattle.dvd_decoding.specs.declared.cause.Cause.{Cause}
+use Rattle.dvd_read.specs.declared.fixed.Fixed.{Fixed}
 
 -- each call of f reads a captured block
 pub record IsReader {F : Type 0} (g : Shared F (MutBor Work × (Bor BlockPlan × Unit {0})) (Result Fixed Cause × (MutBor Work × Unit {0}))) (f : F) : Type 0 where

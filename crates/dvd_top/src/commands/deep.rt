@@ -14,7 +14,7 @@ ghost use Rattle.dvd_loop.specs.Machine.{IsOutcome};
 ghost use Rattle.dvd_loop.specs.Streams.{streams, HasEnded};
 ghost use Rattle.dvd_loop.specs.Turns.{AreDone};
 ghost use Rattle.dvd_loop.specs.declared.ends.Turn.TheVariants.{Good};
-ghost use Rattle.dvd_read.specs.Reading.{block_cause};
+ghost use Rattle.dvd_decoding.specs.Reading.{block_cause};
 ghost use Rattle.dvd_report.specs.Lines.{round_line};
 ghost use Rattle.dvd_top.specs.Captured.{IsCaptureEnd};
 ghost use Rattle.dvd_top.specs.Commands.Deep.{IsReadDeep, deep_units};

@@ -3,7 +3,7 @@ ghost use Rattle.std.specs.Thread.{IsSync};
 ghost use Rattle.std.specs.Prelude.{◌≡◌, ◌-◌, ◌*◌, ◌<◌, ◌≤◌, ℕ, List, length, take, drop, replicate, IfErr, IsErr, OnOk, refl};
 ghost use Rattle.std.specs.Io.KnownBytes.{Consumes};
 ghost use Rattle.dvd_block.specs.Buffers.{block_rows, piece_bytes};
-ghost use Rattle.dvd_block.specs.Product.{IsBlockOf, IsParityAdded};
+ghost use Rattle.coding.specs.Product.{IsBlockOf, IsParityAdded};
 ghost use Rattle.dvd_layout.specs.Place.{HasNumbers};
 ghost use Rattle.dvd_layout.specs.Plan.{IsEntry, plan_of};
 ghost use Rattle.dvd_layout.specs.declared.layout.Layout.{Layout as DiskLayout};

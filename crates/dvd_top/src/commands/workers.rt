@@ -2,7 +2,7 @@
 //! A turn is a method of a trait. What it sent to a thread would rest on what its caller can't promise, that the runtime
 //! and the gate may be shared. The function that makes the loop knows this, so it makes the closure.
 ghost use Rattle.dvd_block.specs.Buffers.{block_rows};
-ghost use Rattle.dvd_block.specs.Product.{IsParityAdded};
+ghost use Rattle.coding.specs.Product.{IsParityAdded};
 ghost use Rattle.dvd_capture.specs.Rule.{HasBlock};
 ghost use Rattle.dvd_capture.specs.Works.{stage_of};
 ghost use Rattle.dvd_layout.specs.Place.{HasNumbers};

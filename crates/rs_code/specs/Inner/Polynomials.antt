@@ -1,8 +1,8 @@
 -- Ours: sums and multiples of words over the field, and what a remainder is. A word's first byte is the coefficient of the
 -- highest power, as in ECMA-267, clause 18.
 use Rattle.std.specs.Prelude.{◌≡◌, ℕ, List, [], ◌∷◌, ◌++◌, length, map, All}
-use Rattle.gf_field.specs.Field.{plus, product}
-use Rattle.gf_field.specs.Words.{IsByte, value}
+use Rattle.coding.specs.Field.{plus, product}
+use Rattle.coding.specs.Words.{IsByte, value}
 
 -- the sum of two words, byte by byte; where one is longer its rest is left out
 unfoldable pub sum_of : List ℕ → List ℕ → List ℕ

@@ -1,7 +1,7 @@
 -- Bytes at points, and the sums of each byte times a power of its point. A word's value at alpha^k is such a sum,
 -- where the point of a byte is the power of alpha by the number of bytes after it.
 use Rattle.std.specs.Prelude.{◌≢◌, ℕ, zero, suc, List, [], ◌∷◌, All}
-use Rattle.gf_field.specs.Field.{alpha, plus, product, power}
+use Rattle.coding.specs.Field.{alpha, plus, product, power}
 
 -- the sum of each byte times its point to the power k
 unfoldable pub power_sum : List ℕ → List ℕ → ℕ → ℕ

@@ -1,7 +1,7 @@
 -- A register of at most sixteen bytes in a number of 128 bits: they are its upper bytes, and zeros follow them.
 use Rattle.std.specs.Prelude.{◌≡◌, ℕ, ◌-◌, ◌*◌, ◌/◌, ◌%◌, ◌^◌, ◌<◌, List, [], ◌∷◌, ◌++◌, length, replicate, get_or}
 use Rattle.std.specs.Int.{bytes_high_first}
-use Rattle.gf_field.specs.Field.{plus}
+use Rattle.coding.specs.Field.{plus}
 use Rattle.rs_code.specs.Inner.Polynomials.{scaled}
 
 -- the lowest k bytes of a number, the highest of them first

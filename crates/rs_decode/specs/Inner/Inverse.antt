@@ -1,8 +1,8 @@
 -- The inverse of the powers of points, and polynomials in lanes that it is made of.
 use Rattle.std.specs.Prelude.{◌≡◌, ℕ, ◌<◌, ◌≤◌, List, length, slice_index, take, ◌==◌, if◌then◌else◌}
-use Rattle.gf_field.specs.Field.{product, power}
-use Rattle.gf_field.specs.Words.{value}
-use Rattle.rs_lanes.specs.Rows.{place}
+use Rattle.coding.specs.Field.{product, power}
+use Rattle.coding.specs.Words.{value}
+use Rattle.coding.specs.Rows.{place}
 use Rattle.rs_decode.specs.Register.{total}
 
 -- the sum of row i's first bytes, each times a power of x, from the power 0 on

@@ -1,8 +1,8 @@
 -- The locator: a polynomial that vanishes at the points of the errors, the highest power first. Its coefficients are the taps
 -- of a register that generates the power sums.
 use Rattle.std.specs.Prelude.{ℕ, Bool, ◌||◌, ◌==◌, List, [], ◌∷◌}
-use Rattle.gf_field.specs.Field.{plus, product}
-use Rattle.gf_field.specs.Words.{value}
+use Rattle.coding.specs.Field.{plus, product}
+use Rattle.coding.specs.Words.{value}
 
 -- each byte times the function's value at its point
 unfoldable pub at_points : (ℕ → ℕ) → List ℕ → List ℕ → List ℕ

@@ -1,6 +1,6 @@
 -- The bytes of a word at its marked places.
 use Rattle.std.specs.Prelude.{◌≡◌, ℕ, zero, suc, ◌<◌, Bool, true, false, List, [], ◌∷◌, slice_index}
-use Rattle.gf_field.specs.Field.{plus}
+use Rattle.coding.specs.Field.{plus}
 
 -- the numbers at the marked places, in order
 unfoldable pub picked : List Bool → List ℕ → List ℕ

@@ -1,6 +1,6 @@
 -- Bytes at points and their power sums.
 use Rattle.std.specs.Prelude.{◌≡◌, ℕ, ◌<◌, List, length, slice_index, All}
-use Rattle.gf_field.specs.Words.{IsByte}
+use Rattle.coding.specs.Words.{IsByte}
 use Rattle.rs_code.specs.Inner.PowerSums.{power_sum}
 
 -- the first power sums of the bytes at the points are these

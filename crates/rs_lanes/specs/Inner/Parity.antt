@@ -1,8 +1,8 @@
 -- Ours: parity by the values that it has at the first powers of alpha.
 use Rattle.std.specs.Prelude.{◌≡◌, ℕ, ◌-◌, ◌<◌, List, ◌++◌, length, replicate, ◌==◌, if◌then◌else◌}
-use Rattle.gf_field.specs.Field.{alpha, power}
-use Rattle.gf_field.specs.Words.{value}
-use Rattle.rs_lanes.specs.Rows.{column}
+use Rattle.coding.specs.Field.{alpha, power}
+use Rattle.coding.specs.Words.{value}
+use Rattle.coding.specs.Rows.{column}
 
 -- a word with zeros put behind it, up to this length
 unfoldable pub filled : ℕ → List ℕ → List ℕ

@@ -1,7 +1,7 @@
 -- Ours: the products of a factor with each low and each high nibble, of which the product with a byte is the sum.
 use Rattle.std.specs.Prelude.{◌≡◌, ℕ, ◌*◌, ◌<◌, List}
-use Rattle.gf_field.specs.Field.{product}
-use Rattle.rs_lanes.specs.Rows.{place}
+use Rattle.coding.specs.Field.{product}
+use Rattle.coding.specs.Rows.{place}
 
 -- the products with the low nibbles, and those with the high ones
 pub record IsTable (factor : ℕ) (table : List (List ℕ)) : Type 0 where

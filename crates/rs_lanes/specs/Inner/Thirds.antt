@@ -1,10 +1,10 @@
 -- Ours: the values of a word by its thirds. A word of at most 255 bytes is, zeros put in front, three pieces of 85 bytes. Since
 -- alpha^255 is 1, the power of alpha^k by 85 goes by k mod 3 alone: so for each of these three the pieces can be added up to one.
 use Rattle.std.specs.Prelude.{◌≡◌, ℕ, zero, suc, ◌+◌, ◌*◌, ◌%◌, List, ◌++◌, map, length, take, drop, replicate}
-use Rattle.gf_field.specs.Field.{alpha, plus, product, power}
-use Rattle.gf_field.specs.Words.{value}
+use Rattle.coding.specs.Field.{alpha, plus, product, power}
+use Rattle.coding.specs.Words.{value}
 use Rattle.rs_code.specs.Inner.Polynomials.{sum_of, scaled}
-use Rattle.rs_lanes.specs.Rows.{place}
+use Rattle.coding.specs.Rows.{place}
 
 -- a word with this many zeros put in front
 unfoldable pub behind_zeros : ℕ → List ℕ → List ℕ

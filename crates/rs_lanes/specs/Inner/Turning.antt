@@ -1,6 +1,6 @@
 -- Ours: how rows become vectors by places, in four equal steps.
 use Rattle.std.specs.Prelude.{◌≡◌, ℕ, ◌+◌, ◌*◌, ◌/◌, ◌%◌, ◌<◌, List}
-use Rattle.rs_lanes.specs.Rows.{place}
+use Rattle.coding.specs.Rows.{place}
 
 -- the sixteen vectors after one step: those of the upper and of the lower half take turns, lane by lane, in each half of a vector
 pub record IsRiffled (before after : List (List ℕ)) : Type 0 where

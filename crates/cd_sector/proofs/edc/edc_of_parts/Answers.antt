@@ -2,7 +2,7 @@
 use Rattle.std.proofs.Common.{List, ℕ, ◌++◌, ap, ◌∙◌, All, arith}
 use Rattle.std.specs.Int.{to_le_bytes, w32}
 use Rattle.std.proofs.lemmas.List.Elements.{All-append, All-from_get_or}
-use Rattle.gf_field.specs.Words.{IsByte}
+use Rattle.coding.specs.Words.{IsByte}
 use Rattle.cd_sector.specs.Inner.Register.{after_reading}
 use Rattle.cd_sector.proofs.Division.{edc_read, after_reading-append}
 use Rattle.cd_sector.proofs.edc.edc_of_parts.Goals as goal

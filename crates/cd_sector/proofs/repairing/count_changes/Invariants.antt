@@ -1,6 +1,6 @@
 -- What each turn of the loop in `count_changes` keeps.
 use Rattle.std.proofs.Common.{◌≡◌, ◌+◌, ◌≤◌, drop}
-use Rattle.rs_code.specs.Distance.{distance}
+use Rattle.coding.specs.Distance.{distance}
 use Rattle.cd_sector.proofs.repairing.count_changes.Given as goal
 
 abbrev pub invariant-loop-at : goal.invariant-loop-at

@@ -1,7 +1,7 @@
 -- The proof of `home_of` in src/home.rt.
 use Rattle.std.proofs.Common.{rules, ◌≡◌, ◌∙◌, ℕ, Option, ap, sym}
 use Rattle.std.specs.Option.{option_and_then, option_map}
-use Rattle.dvd_block.specs.Product.{line}
+use Rattle.coding.specs.Product.{line}
 use Rattle.dvd_capture.specs.Answers.{marks_line}
 use Rattle.dvd_assemble.specs.Home.{block_and_frame, home, home_in, id_word_in}
 use Rattle.dvd_assemble.specs.Works.{frame_marks, frame_rows}

@@ -1,7 +1,7 @@
 -- The proof of `id_in` in src/home.rt.
 use Rattle.std.proofs.Common.{rules, ◌≡◌, ◌∙◌, ℕ, Some, None, sym, ap, arith, if◌then◌else◌, Bool}
 use Rattle.std.specs.Option.{option_and_then}
-use Rattle.rs_decode.specs.Nearest.{near_of}
+use Rattle.coding.specs.Nearest.{near_of}
 use Rattle.rs_decode.proofs.NearSearch.{near_of-some, none-near_of}
 use Rattle.dvd_frame.specs.Frame.{found_word}
 use Rattle.dvd_assemble.specs.Home.{checked_word, id_word_in}

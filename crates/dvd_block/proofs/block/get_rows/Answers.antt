@@ -1,7 +1,7 @@
 -- The proof of `get_rows` in src/block.rt.
 use Rattle.std.proofs.Common.{◌≡◌, ℕ, ◌+◌, ◌-◌, ◌*◌, List, length, get_or, take, ap, ◌∙◌, arith}
 use Rattle.std.proofs.lemmas.List.{get_or-take, length-take-le}
-use Rattle.dvd_block.specs.Product.{line}
+use Rattle.coding.specs.Product.{line}
 use Rattle.dvd_block.proofs.RowParts.{length-part_written, got_more}
 use Rattle.dvd_block.proofs.block.get_rows.Goals as goal
 

@@ -1,6 +1,6 @@
 -- What each turn of the loop in `get_rows` keeps.
 use Rattle.std.proofs.Common.{◌≡◌, ℕ, ◌+◌, ◌*◌, ◌<◌, length, get_or}
-use Rattle.dvd_block.specs.Product.{place}
+use Rattle.coding.specs.Product.{place}
 use Rattle.dvd_block.proofs.block.get_rows.Given as goal
 
 abbrev pub invariant-loop-q : goal.invariant-loop-q

@@ -1,6 +1,6 @@
 -- What each turn of the loop in `put_rows` keeps.
 use Rattle.std.proofs.Common.{◌≡◌, ℕ, ◌*◌, ◌<◌, ◌≤◌, ◌++◌, take, drop}
-use Rattle.dvd_block.specs.Product.{line}
+use Rattle.coding.specs.Product.{line}
 use Rattle.dvd_block.proofs.block.put_rows.Given as goal
 
 abbrev pub invariant-loop-q : goal.invariant-loop-q

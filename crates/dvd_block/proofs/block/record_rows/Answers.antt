@@ -1,10 +1,11 @@
 -- The proof of `record_rows` in src/block.rt.
 use Rattle.std.proofs.Common.{◌≡◌, ℕ, ◌+◌, ◌-◌, ◌*◌, List, ◌++◌, length, sym, ◌∙◌, ap, arith}
+use Rattle.std.proofs.lemmas.List.{take_all}
 use Rattle.std.proofs.lemmas.Slice.{take-put_mid}
-use Rattle.dvd_block.specs.Product.{line}
-use Rattle.dvd_block.specs.Recording.{row_at, recorded}
+use Rattle.coding.specs.Product.{line}
+use Rattle.coding.specs.Recording.{row_at}
 use Rattle.dvd_block.proofs.RowParts.{length-part_written}
-use Rattle.dvd_block.proofs.Recorded.{recorded-none, recorded-more}
+use Rattle.dvd_block.proofs.Recorded.{recorded, recorded-more, recorded-none, recording-is}
 use Rattle.dvd_block.proofs.block.record_rows.Goals as goal
 
 pub loop-m-init : goal.loop-m-init
@@ -28,3 +29,10 @@ loop-m-preserved c =
           ∙ ap (λ (l : List ℕ). recorded 0 m rows ++ l) (part_is ∙ ap (λ (k : ℕ). line rows (row_at k)) (sym from))
           ∙ sym (recorded-more 0 m rows);
     }
+
+pub returns : goal.returns
+returns c =
+    let rows : List (List ℕ) = c.args.rows.now in
+    let all : c.loop-m.m ≡ 208 = omega (arith, c.loop-m.auto.m-end, c.loop-m-test.false) in
+    sym (take_all (182 * c.loop-m.m) c.loop-m.bytes (omega (arith, c.loop-m.invariant.size, all)))
+    ∙ c.loop-m.invariant.front ∙ ap (λ m. recorded 0 m rows) all ∙ sym (recording-is rows)

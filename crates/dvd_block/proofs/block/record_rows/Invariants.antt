@@ -1,7 +1,7 @@
 -- What each turn of the loop in `record_rows` keeps.
 use Rattle.std.proofs.Common.{◌≡◌, ◌*◌, length, take}
-use Rattle.dvd_block.specs.Recording.{recorded}
 use Rattle.dvd_block.proofs.block.record_rows.Given as goal
+use Rattle.dvd_block.proofs.Recorded.{recorded}
 
 abbrev pub invariant-loop-m : goal.invariant-loop-m
 invariant-loop-m l = record {

@@ -1,8 +1,8 @@
 -- The proof of `columns_are_codewords` in src/parity.rt.
 use Rattle.std.proofs.Common.{◌≡◌, ℕ, List, sym, ◌∙◌, subst, arith, below_more}
 use Rattle.std.proofs.lemmas.Bool.{false≢true}
-use Rattle.gf_field.specs.Words.{IsCodeword}
-use Rattle.dvd_block.specs.Product.{column}
+use Rattle.coding.specs.Words.{IsCodeword}
+use Rattle.coding.specs.Product.{column}
 use Rattle.dvd_block.proofs.Columns.{whole_column}
 use Rattle.dvd_block.proofs.parity.columns_are_codewords.Goals as goal
 

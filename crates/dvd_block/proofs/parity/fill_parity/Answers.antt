@@ -1,8 +1,8 @@
 -- The proof of `fill_parity` in src/parity.rt.
 use Rattle.std.proofs.Common.{◌≡◌, ℕ, ◌<◌, List, [], ◌++◌, take, sym, ap, ◌∙◌, subst, arith}
 use Rattle.std.proofs.lemmas.List.{get_or_append_left}
-use Rattle.gf_field.specs.Words.{IsEncoded}
-use Rattle.dvd_block.specs.Product.{line}
+use Rattle.coding.specs.Words.{IsEncoded}
+use Rattle.coding.specs.Product.{line}
 use Rattle.dvd_block.proofs.Filling.{IsFilled, filled_below, cells_of, parity_added}
 use Rattle.dvd_block.proofs.parity.fill_parity.Goals as goal
 

@@ -1,6 +1,6 @@
 -- What each turn of the loop in `place_cells` keeps.
 use Rattle.std.proofs.Common.{◌≡◌, ℕ, ◌<◌, length}
-use Rattle.dvd_block.specs.Product.{line, place}
+use Rattle.coding.specs.Product.{line, place}
 use Rattle.dvd_block.proofs.parity.place_cells.Given as goal
 
 abbrev pub invariant-loop-t : goal.invariant-loop-t

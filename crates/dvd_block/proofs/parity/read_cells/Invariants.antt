@@ -1,6 +1,6 @@
 -- What each turn of the loop in `read_cells` keeps.
 use Rattle.std.proofs.Common.{◌≡◌, ℕ, ◌<◌, length, get_or}
-use Rattle.dvd_block.specs.Product.{place}
+use Rattle.coding.specs.Product.{place}
 use Rattle.dvd_block.proofs.parity.read_cells.Given as goal
 
 abbrev pub invariant-loop-j : goal.invariant-loop-j

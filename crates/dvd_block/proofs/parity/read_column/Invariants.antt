@@ -1,6 +1,6 @@
 -- What each turn of the loop in `read_column` keeps.
 use Rattle.std.proofs.Common.{◌≡◌, ℕ, ◌<◌, get_or}
-use Rattle.dvd_block.specs.Product.{place}
+use Rattle.coding.specs.Product.{place}
 use Rattle.dvd_block.proofs.parity.read_column.Given as goal
 
 abbrev pub invariant-loop-i : goal.invariant-loop-i

@@ -1,7 +1,7 @@
 -- What each turn of the loop in `rows_are_codewords` keeps.
 use Rattle.std.proofs.Common.{ℕ, ◌<◌}
-use Rattle.gf_field.specs.Words.{IsCodeword}
-use Rattle.dvd_block.specs.Product.{line}
+use Rattle.coding.specs.Words.{IsCodeword}
+use Rattle.coding.specs.Product.{line}
 use Rattle.dvd_block.proofs.parity.rows_are_codewords.Given as goal
 
 abbrev pub invariant-loop-row : goal.invariant-loop-row

@@ -1,8 +1,8 @@
 -- The proof of `set_inner_parity` in src/parity.rt.
 use Rattle.std.proofs.Common.{ℕ, ◌+◌, ◌*◌, List, take, subst, sym, ◌∙◌, arith}
-use Rattle.gf_field.specs.Words.{IsEncoded}
+use Rattle.coding.specs.Words.{IsEncoded}
 use Rattle.rs_lanes.proofs.ColumnLemmas.{group_more}
-use Rattle.dvd_block.specs.Product.{line}
+use Rattle.coding.specs.Product.{line}
 use Rattle.dvd_block.proofs.parity.set_inner_parity.Goals as goal
 
 pub loop-group-preserved : goal.loop-group-preserved

@@ -1,7 +1,7 @@
 -- What each turn of the loop in `set_inner_parity` keeps.
 use Rattle.std.proofs.Common.{◌≡◌, ℕ, ◌*◌, ◌<◌, ◌≤◌, length, take}
-use Rattle.gf_field.specs.Words.{IsEncoded}
-use Rattle.dvd_block.specs.Product.{line}
+use Rattle.coding.specs.Words.{IsEncoded}
+use Rattle.coding.specs.Product.{line}
 use Rattle.dvd_block.proofs.parity.set_inner_parity.Given as goal
 
 -- the rows of the groups that are done have their parity, and all others are as they were

@@ -1,7 +1,7 @@
 -- The proof of `see_rows` in src/listed.rt.
 use Rattle.std.proofs.Common.{rules, ◌≡◌, ◌∙◌, ◌⊎◌, ◌<◌, ◌≤◌, suc, nat_le, true, false, inl, inr, ℕ, List, length, sym, ap, arith}
 use Rattle.std.proofs.lemmas.Bool.Decides.{leb_tells}
-use Rattle.dvd_block.specs.Product.{line}
+use Rattle.coding.specs.Product.{line}
 use Rattle.dvd_capture.specs.Parts.{received_rows}
 use Rattle.dvd_capture.proofs.listed.see_rows.Goals as goal
 

@@ -1,6 +1,6 @@
 -- What each turn of the loop in `see_rows` keeps.
 use Rattle.std.proofs.Common.{◌≡◌, ◌<◌, ℕ, length}
-use Rattle.dvd_block.specs.Product.{line}
+use Rattle.coding.specs.Product.{line}
 use Rattle.dvd_capture.specs.Parts.{received_rows}
 use Rattle.dvd_capture.proofs.listed.see_rows.Given as goal
 

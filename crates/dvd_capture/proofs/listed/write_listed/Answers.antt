@@ -3,7 +3,7 @@ use Rattle.std.proofs.Common.{Result, Ok, Err, subst}
 use Rattle.std.specs.Result.{OnErr, OnOk}
 use Rattle.std.specs.Io.KnownBytes.{Appends}
 use Rattle.dvd_ports.specs.Whole.{AppendsPrefix}
-use Rattle.dvd_block.specs.Recording.{recording}
+use Rattle.coding.specs.Recording.{recording}
 use Rattle.dvd_block.proofs.Recorded.{on_err}
 use Rattle.dvd_capture.specs.Works.{marks_of_work, rows_of}
 use Rattle.dvd_capture.proofs.ListedWritten.{recording_size, rows-begun, runs-begun, unit-written}

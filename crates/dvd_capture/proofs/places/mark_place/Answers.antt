@@ -1,6 +1,6 @@
 -- The proof of `mark_place` in src/places.rt.
 use Rattle.std.proofs.Common.{◌∙◌, ◌/◌, ◌%◌, true, set, ap, List, Bool, arith}
-use Rattle.dvd_block.specs.Recording.{row_at}
+use Rattle.coding.specs.Recording.{row_at}
 use Rattle.dvd_capture.specs.Answers.{marks_line}
 use Rattle.dvd_capture.specs.Listed.{mark_of}
 use Rattle.dvd_capture.specs.Parts.{marks_rows}

@@ -1,7 +1,7 @@
 -- The proof of `answer_column` in src/rounds.rt.
 use Rattle.std.proofs.Common.{◌≡◌, ◌∙◌, ℕ, List, false, length, is_some, sym, ap}
 use Rattle.std.specs.Option.{option_or}
-use Rattle.rs_decode.specs.Nearest.{near_of}
+use Rattle.coding.specs.Nearest.{near_of}
 use Rattle.dvd_deep.specs.Inner.Buffers.{buffered_state, marks_of_rows}
 use Rattle.dvd_deep.specs.Rounds.{column_marks, column_near}
 use Rattle.dvd_deep.proofs.ColumnStep.{unanswered-put}

@@ -1,7 +1,7 @@
 -- The proof of `answer_row` in src/rounds.rt.
 use Rattle.std.proofs.Common.{◌≡◌, ◌∙◌, ℕ, ◌<◌, List, [], length, map, set, ap, arith}
 use Rattle.std.proofs.lemmas.List.{get_or-set_same, map-set}
-use Rattle.dvd_block.specs.Product.{line}
+use Rattle.coding.specs.Product.{line}
 use Rattle.dvd_capture.specs.Parts.{marks_of_row}
 use Rattle.dvd_deep.proofs.rounds.answer_row.Goals as goal
 

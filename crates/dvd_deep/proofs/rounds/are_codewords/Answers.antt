@@ -2,7 +2,7 @@
 use Rattle.std.proofs.Common.{◌≡◌, ℕ, List, [], true, length, sym, subst, arith}
 use Rattle.std.proofs.lemmas.List.Sums.{list_all-from_AllPass}
 use Rattle.std.proofs.lemmas.List.{get_or_default}
-use Rattle.rs_decode.specs.Nearest.{vanishes_at_all}
+use Rattle.coding.specs.Nearest.{vanishes_at_all}
 use Rattle.dvd_deep.proofs.rounds.are_codewords.Goals as goal
 
 pub returns : goal.returns

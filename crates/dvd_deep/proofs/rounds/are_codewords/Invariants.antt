@@ -1,7 +1,7 @@
 -- What each turn of the loop in `are_codewords` keeps.
 use Rattle.std.proofs.Common.{◌≡◌, ℕ, ◌<◌, true}
-use Rattle.rs_decode.specs.Nearest.{vanishes_at_all}
-use Rattle.dvd_block.specs.Product.{line}
+use Rattle.coding.specs.Nearest.{vanishes_at_all}
+use Rattle.coding.specs.Product.{line}
 use Rattle.dvd_deep.proofs.rounds.are_codewords.Given as goal
 
 abbrev pub invariant-loop-i : goal.invariant-loop-i

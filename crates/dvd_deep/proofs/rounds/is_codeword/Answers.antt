@@ -1,6 +1,6 @@
 -- The proof of `is_codeword` in src/rounds.rt.
 use Rattle.std.proofs.lemmas.List.Elements.{All-from_get_or}
-use Rattle.gf_field.specs.Words.{IsByte}
+use Rattle.coding.specs.Words.{IsByte}
 use Rattle.dvd_read.proofs.ColumnAnswers.{codeword_tested}
 use Rattle.dvd_deep.proofs.rounds.is_codeword.Goals as goal
 

@@ -1,7 +1,7 @@
 -- The proof of `play_round` in src/rounds.rt.
 use Rattle.std.proofs.Common.{◌∙◌, ◌&&◌, sym, ap}
 use Rattle.std.specs.List.{list_all}
-use Rattle.rs_decode.specs.Nearest.{vanishes_at_all}
+use Rattle.coding.specs.Nearest.{vanishes_at_all}
 use Rattle.dvd_deep.specs.Inner.Buffers.{buffered_state}
 use Rattle.dvd_deep.specs.Rounds.{State, round}
 use Rattle.dvd_deep.proofs.Searches.{answered-as, finishes-by, round-left}

@@ -1,7 +1,7 @@
 -- The proof of `read_column` in src/rounds.rt.
 use Rattle.std.proofs.Common.{◌≡◌, ◌∙◌, ◌<◌, ℕ, List, length, sym, arith}
 use Rattle.std.proofs.lemmas.Grind.{same_number_lists}
-use Rattle.dvd_block.specs.Product.{column}
+use Rattle.coding.specs.Product.{column}
 use Rattle.dvd_block.proofs.Columns.{get_or-column, length-column}
 use Rattle.dvd_deep.proofs.rounds.read_column.Goals as goal
 

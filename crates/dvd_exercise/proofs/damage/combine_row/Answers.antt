@@ -1,6 +1,6 @@
 -- The proof of `combine_row` in src/damage.rt.
 use Rattle.std.proofs.Common.{◌≡◌, ◌∙◌, ℕ, ◌/◌, ◌^◌, ◌<◌, slice_index, bit_xor, refl, sym, ap, arith}
-use Rattle.dvd_block.specs.Product.{line, place}
+use Rattle.coding.specs.Product.{line, place}
 use Rattle.dvd_capture.specs.Works.{rows_of}
 use Rattle.dvd_capture.proofs.WorkParts.{rows-height}
 use Rattle.dvd_exercise.specs.Damage.{combined}

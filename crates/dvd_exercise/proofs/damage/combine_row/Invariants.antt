@@ -1,6 +1,6 @@
 -- What each turn of the loop in `combine_row` keeps.
 use Rattle.std.proofs.Common.{◌≡◌, ◌<◌, length, bit_xor}
-use Rattle.dvd_block.specs.Product.{line, place}
+use Rattle.coding.specs.Product.{line, place}
 use Rattle.dvd_capture.specs.Works.{marks_of_work, rows_of}
 use Rattle.dvd_exercise.specs.Generator.{drawn_byte, state_after, state_of}
 use Rattle.dvd_exercise.specs.Inner.Kept.{KeepsRest}

@@ -1,6 +1,6 @@
 -- The proof of `combine_rows` in src/damage.rt.
 use Rattle.std.proofs.Common.{◌≡◌, ◌∙◌, ℕ, ◌+◌, ◌*◌, [], refl, sym, ap, arith}
-use Rattle.dvd_block.specs.Product.{line}
+use Rattle.coding.specs.Product.{line}
 use Rattle.dvd_capture.specs.Works.{rows_of}
 use Rattle.dvd_capture.proofs.WorkParts.{rows-height}
 use Rattle.dvd_exercise.specs.Damage.{combined, damaged_row}

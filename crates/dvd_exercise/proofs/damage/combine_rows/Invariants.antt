@@ -1,6 +1,6 @@
 -- What each turn of the loop in `combine_rows` keeps.
 use Rattle.std.proofs.Common.{◌≡◌, ◌*◌, []}
-use Rattle.dvd_block.specs.Product.{line}
+use Rattle.coding.specs.Product.{line}
 use Rattle.dvd_capture.specs.Works.{marks_of_work, rows_of}
 use Rattle.dvd_exercise.specs.Damage.{IsChanged, combined, damaged_row}
 use Rattle.dvd_exercise.specs.Generator.{state_after, state_of}

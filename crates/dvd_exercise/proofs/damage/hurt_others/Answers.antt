@@ -1,6 +1,6 @@
 -- The proof of `hurt_others` in src/damage.rt.
 use Rattle.std.proofs.Common.{◌≡◌, ◌∙◌, ℕ, ◌+◌, true, false, refl, sym, ap, subst}
-use Rattle.dvd_block.specs.Product.{line}
+use Rattle.coding.specs.Product.{line}
 use Rattle.dvd_capture.specs.Works.{marks_of_work, rows_of}
 use Rattle.dvd_exercise.specs.Damage.{HasErrors, drawn_errors, is_hit}
 use Rattle.dvd_exercise.specs.Generator.{state_after, state_of}

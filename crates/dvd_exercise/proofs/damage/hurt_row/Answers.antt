@@ -1,6 +1,6 @@
 -- The proof of `hurt_row` in src/damage.rt.
 use Rattle.std.proofs.Common.{◌≡◌, ◌∙◌, ℕ, ◌+◌, ◌*◌, ◌/◌, ◌%◌, ◌^◌, ◌<◌, List, set, bit_or, bit_xor, refl, ap, subst, arith, add_assoc}
-use Rattle.dvd_block.specs.Product.{line, place}
+use Rattle.coding.specs.Product.{line, place}
 use Rattle.dvd_capture.specs.Works.{rows_of}
 use Rattle.dvd_capture.proofs.WorkParts.{rows-height}
 use Rattle.dvd_exercise.specs.Damage.{IsChanged, error_byte, drawn_errors, error_place}

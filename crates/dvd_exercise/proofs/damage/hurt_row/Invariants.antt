@@ -1,6 +1,6 @@
 -- What each turn of the loop in `hurt_row` keeps.
 use Rattle.std.proofs.Common.{◌≡◌, ◌+◌, bit_xor}
-use Rattle.dvd_block.specs.Product.{place}
+use Rattle.coding.specs.Product.{place}
 use Rattle.dvd_capture.specs.Works.{marks_of_work, rows_of}
 use Rattle.dvd_exercise.specs.Damage.{error_byte, error_place}
 use Rattle.dvd_exercise.specs.Generator.{state_after, state_of}

@@ -1,6 +1,6 @@
 -- What each turn of the loop in `lose_row` keeps.
 use Rattle.std.proofs.Common.{◌≡◌, ◌<◌, true, false, length}
-use Rattle.dvd_block.specs.Product.{line}
+use Rattle.coding.specs.Product.{line}
 use Rattle.dvd_capture.specs.Works.{marks_of_work, rows_of}
 use Rattle.dvd_exercise.specs.Inner.Kept.{KeepsRest}
 use Rattle.dvd_exercise.proofs.Changed.{IsLineChanged}

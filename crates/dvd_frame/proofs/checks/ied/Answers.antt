@@ -1,6 +1,6 @@
 -- The proof of `ied` in src/checks.rt.
 use Rattle.std.proofs.Common.{◌≡◌, ℕ, List, [], ◌∷◌, get_or, take, ◌∙◌, ap, subst, arith}
-use Rattle.gf_field.specs.Words.{IsCodeword}
+use Rattle.coding.specs.Words.{IsCodeword}
 use Rattle.dvd_frame.specs.Id.{word_bytes}
 use Rattle.dvd_frame.proofs.IdChecks.{ied_found, last_two}
 use Rattle.dvd_frame.proofs.checks.ied.Goals as goal

@@ -1,7 +1,7 @@
 -- The proof of `with_word` in src/checks.rt.
 use Rattle.std.proofs.Common.{List, ℕ, ◌++◌, ap, ◌∙◌, arith}
 use Rattle.std.specs.Prelude.{replicate}
-use Rattle.dvd_frame.specs.Bits.{bits_of}
+use Rattle.coding.specs.Bits.{bits_of}
 use Rattle.dvd_frame.specs.Edc.{remainder}
 use Rattle.dvd_frame.proofs.WordDivision.{word_met, word_read}
 use Rattle.dvd_frame.proofs.checks.with_word.Goals as goal

@@ -1,7 +1,7 @@
 -- The proof of `fold` in src/folds.rt.
 use Rattle.std.proofs.Common.{◌≡◌, ℕ, ◌+◌, ◌*◌, List, ◌++◌, drop, sym, ap, ◌∙◌, arith}
 use Rattle.std.specs.Prelude.{replicate}
-use Rattle.gf_field.specs.BitDivision.{plus_front}
+use Rattle.coding.specs.BitDivision.{plus_front}
 use Rattle.dvd_frame.specs.Inner.Registers.{divided_from}
 use Rattle.dvd_frame.proofs.ChunkFolds.{plus_front-replicate, drop-plus_front}
 use Rattle.dvd_frame.proofs.folds.fold.Goals as goal

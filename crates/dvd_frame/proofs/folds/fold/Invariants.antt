@@ -1,6 +1,6 @@
 -- What each turn of the loop in `fold` keeps.
 use Rattle.std.proofs.Common.{◌≡◌, ℕ, ◌+◌, ◌*◌, ◌^◌, drop}
-use Rattle.gf_field.specs.BitDivision.{plus_front}
+use Rattle.coding.specs.BitDivision.{plus_front}
 use Rattle.dvd_frame.specs.Inner.Registers.{divided_from}
 use Rattle.dvd_frame.proofs.folds.fold.Given as goal
 

@@ -1,7 +1,7 @@
 -- The proof of `has_right_ied` in src/reading.rt.
 use Rattle.std.proofs.Common.{◌∙◌, sym, ap, subst, All, arith}
 use Rattle.std.proofs.lemmas.List.Elements.{All-from_get_or, All-take}
-use Rattle.gf_field.specs.Words.{IsByte}
+use Rattle.coding.specs.Words.{IsByte}
 use Rattle.dvd_frame.specs.Id.{has_check}
 use Rattle.dvd_frame.proofs.IdChecks.{checked}
 use Rattle.dvd_frame.proofs.reading.has_right_ied.Goals as goal

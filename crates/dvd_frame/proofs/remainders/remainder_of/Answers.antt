@@ -1,8 +1,8 @@
 -- The proof of `remainder_of` in src/remainders.rt.
 use Rattle.std.proofs.Common.{refl, map}
 use Rattle.std.specs.List.{range_with_len}
-use Rattle.gf_field.specs.BitDivision.{plus_front, remainder_by}
-use Rattle.dvd_frame.specs.Bits.{bits}
+use Rattle.coding.specs.BitDivision.{plus_front, remainder_by}
+use Rattle.coding.specs.Bits.{bits}
 use Rattle.dvd_frame.specs.Inner.Registers.{byte_remainder}
 use Rattle.std.proofs.lemmas.Slice.Eq.{bytes_eq-Decides}
 use Rattle.dvd_frame.proofs.remainders.remainder_of.Goals as goal

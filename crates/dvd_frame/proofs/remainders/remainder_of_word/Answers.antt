@@ -2,8 +2,8 @@
 use Rattle.std.proofs.Common.{refl, map, arith}
 use Rattle.std.specs.List.{range_with_len}
 use Rattle.std.proofs.lemmas.Slice.Eq.{bytes_eq-Decides}
-use Rattle.gf_field.specs.BitDivision.{plus_front, remainder_by}
-use Rattle.dvd_frame.specs.Bits.{bits}
+use Rattle.coding.specs.BitDivision.{plus_front, remainder_by}
+use Rattle.coding.specs.Bits.{bits}
 use Rattle.dvd_frame.specs.Inner.Registers.{byte_remainder}
 use Rattle.dvd_frame.proofs.WordDivision.{word_remainder}
 use Rattle.dvd_frame.proofs.remainders.remainder_of_word.Goals as goal

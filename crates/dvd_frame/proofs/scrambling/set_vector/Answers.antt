@@ -3,7 +3,7 @@ use Rattle.std.proofs.Common.{◌≡◌, ℕ, ◌+◌, ◌-◌, List, length, ta
 use Rattle.std.specs.Prelude.{bit_xor}
 use Rattle.std.specs.Simd.Lanes.{zip2}
 use Rattle.std.proofs.lemmas.Simd.{length-chunk, take_more_put_chunk}
-use Rattle.gf_field.specs.BitDivision.{plus_front}
+use Rattle.coding.specs.BitDivision.{plus_front}
 use Rattle.dvd_frame.specs.Inner.Registers.{keys_from}
 use Rattle.dvd_frame.proofs.ChunkFolds.{plus_front-zip2}
 use Rattle.dvd_frame.proofs.KeyWords.{length-keys, keys_written, vector_follows}

@@ -1,10 +1,11 @@
 -- The proof of `fill_text` in src/record.rt.
 use Rattle.std.proofs.Common.{◌≡◌, ℕ, ◌+◌, ◌-◌, ◌*◌, List, ◌++◌, length, map, sym, ◌∙◌, ap, arith}
+use Rattle.std.proofs.lemmas.List.{take_all}
 use Rattle.std.proofs.lemmas.Slice.{take-put_mid}
-use Rattle.dvd_block.specs.Product.{line}
-use Rattle.dvd_block.specs.Recording.{row_at}
+use Rattle.coding.specs.Product.{line}
+use Rattle.coding.specs.Recording.{row_at}
 use Rattle.dvd_block.proofs.RowParts.{length-part_written}
-use Rattle.dvd_block.proofs.Recorded.{recorded-none}
+use Rattle.dvd_block.proofs.Recorded.{recorded, recorded-none, recording-is}
 use Rattle.dvd_merge.specs.MarkedText.{marked_row}
 use Rattle.dvd_merge.proofs.Texts.{record_is, record_more}
 use Rattle.dvd_merge.proofs.record.fill_text.Goals as goal
@@ -29,3 +30,10 @@ loop-m-preserved c =
           ∙ ap (λ (l : List ℕ). l ++ part) c.loop-m.invariant.front
           ∙ record_more rows m part is;
     }
+
+pub returns : goal.returns
+returns c =
+    let rows : List (List ℕ) = map marked_row c.args.table.now in
+    let all : c.loop-m.m ≡ 208 = omega (arith, c.loop-m.auto.m-end, c.loop-m-test.false) in
+    sym (take_all (205 * c.loop-m.m) c.loop-m.text (omega (arith, c.loop-m.invariant.size, all)))
+    ∙ c.loop-m.invariant.front ∙ ap (λ m. recorded 0 m rows) all ∙ sym (recording-is rows)

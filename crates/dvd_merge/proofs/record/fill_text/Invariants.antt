@@ -1,8 +1,8 @@
 -- What each turn of the loop in `fill_text` keeps.
 use Rattle.std.proofs.Common.{◌≡◌, ◌*◌, length, map, take}
-use Rattle.dvd_block.specs.Recording.{recorded}
 use Rattle.dvd_merge.specs.MarkedText.{marked_row}
 use Rattle.dvd_merge.proofs.record.fill_text.Given as goal
+use Rattle.dvd_block.proofs.Recorded.{recorded}
 
 abbrev pub invariant-loop-m : goal.invariant-loop-m
 invariant-loop-m l = record {

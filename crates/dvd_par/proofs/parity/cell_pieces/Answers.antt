@@ -1,8 +1,8 @@
 -- The proof of `cell_pieces` in src/parity.rt.
 use Rattle.std.proofs.Common.{◌+◌, ◌<◌, ◌++◌, ℕ, List, [], length, take, subst, arith}
-use Rattle.gf_field.specs.Words.{IsCodeword}
+use Rattle.coding.specs.Words.{IsCodeword}
 use Rattle.dvd_block.specs.Buffers.{lines_rows}
-use Rattle.dvd_block.specs.Product.{column, line}
+use Rattle.coding.specs.Product.{column, line}
 use Rattle.dvd_par.proofs.parity.cell_pieces.Goals as goal
 
 pub returns : goal.returns

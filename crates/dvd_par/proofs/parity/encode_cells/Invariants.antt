@@ -1,8 +1,8 @@
 -- What each turn of the loop in `encode_cells` keeps.
 use Rattle.std.proofs.Common.{ℕ, ◌+◌, ◌<◌, ◌++◌, take}
-use Rattle.gf_field.specs.Words.{IsCodeword}
+use Rattle.coding.specs.Words.{IsCodeword}
 use Rattle.dvd_block.specs.Buffers.{lines_rows}
-use Rattle.dvd_block.specs.Product.{line, column}
+use Rattle.coding.specs.Product.{line, column}
 use Rattle.dvd_par.proofs.parity.encode_cells.Given as goal
 
 abbrev pub invariant-loop-k : goal.invariant-loop-k

@@ -1,7 +1,7 @@
 -- What each turn of the loop in `encode_rows` keeps.
 use Rattle.std.proofs.Common.{◌≡◌, ℕ, ◌<◌, ◌≤◌, take}
-use Rattle.gf_field.specs.Words.{IsEncoded}
-use Rattle.dvd_block.specs.Product.{line}
+use Rattle.coding.specs.Words.{IsEncoded}
+use Rattle.coding.specs.Product.{line}
 use Rattle.dvd_par.proofs.parity.encode_rows.Given as goal
 
 abbrev pub invariant-loop-row : goal.invariant-loop-row

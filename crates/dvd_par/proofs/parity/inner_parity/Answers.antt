@@ -1,9 +1,9 @@
 -- The proof of `inner_parity` in src/parity.rt.
 use Rattle.std.proofs.Common.{◌≡◌, ℕ, List, [], ◌++◌, length, take, sym, ◌∙◌, ap, subst, arith}
 use Rattle.std.proofs.lemmas.List.{get_or_append_left, length-append}
-use Rattle.gf_field.specs.Words.{IsEncoded}
+use Rattle.coding.specs.Words.{IsEncoded}
 use Rattle.dvd_block.specs.Buffers.{lines_rows}
-use Rattle.dvd_block.specs.Product.{line}
+use Rattle.coding.specs.Product.{line}
 use Rattle.dvd_block.proofs.RowParts.{lent_whole}
 use Rattle.dvd_par.proofs.parity.inner_parity.Goals as goal
 

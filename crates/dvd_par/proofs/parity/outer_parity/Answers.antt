@@ -1,8 +1,8 @@
 -- The proof of `outer_parity` in src/parity.rt.
 use Rattle.std.proofs.Common.{◌≡◌, ℕ, List, ◌++◌, length, take, drop, sym, ◌∙◌, subst, arith}
-use Rattle.gf_field.specs.Words.{IsCodeword}
+use Rattle.coding.specs.Words.{IsCodeword}
 use Rattle.dvd_block.specs.Buffers.{lines_rows}
-use Rattle.dvd_block.specs.Product.{line, column}
+use Rattle.coding.specs.Product.{line, column}
 use Rattle.dvd_block.proofs.RowParts.{lent_whole}
 use Rattle.dvd_par.proofs.parity.outer_parity.Goals as goal
 

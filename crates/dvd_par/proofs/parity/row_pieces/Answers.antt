@@ -1,7 +1,7 @@
 -- The proof of `row_pieces` in src/parity.rt.
 use Rattle.std.proofs.Common.{◌<◌, ℕ, List, [], length, take, subst, arith}
-use Rattle.gf_field.specs.Words.{IsEncoded}
-use Rattle.dvd_block.specs.Product.{line}
+use Rattle.coding.specs.Words.{IsEncoded}
+use Rattle.coding.specs.Product.{line}
 use Rattle.dvd_par.proofs.parity.row_pieces.Goals as goal
 
 pub returns : goal.returns

@@ -1,6 +1,6 @@
 -- The proof of `column_pieces` in src/passes.rt.
 use Rattle.std.proofs.Common.{◌≡◌, ◌+◌, ◌<◌, length, map, get_or, subst, ap, sym, ◌∙◌, arith}
-use Rattle.dvd_capture.specs.TwoPass.{column_answer}
+use Rattle.coding.specs.TwoPass.{column_answer}
 use Rattle.dvd_read.specs.Parts.{answer_word, column_word}
 use Rattle.dvd_par.proofs.passes.column_pieces.Goals as goal
 

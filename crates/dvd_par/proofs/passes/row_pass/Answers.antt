@@ -1,6 +1,6 @@
 -- The proof of `row_pass` in src/passes.rt.
 use Rattle.std.proofs.Common.{◌+◌, ◌<◌, ℕ, length, get_or, subst, arith}
-use Rattle.dvd_block.specs.Product.{line}
+use Rattle.coding.specs.Product.{line}
 use Rattle.dvd_capture.specs.Answers.{IsAnswer, marks_line}
 use Rattle.dvd_capture.specs.Parts.{marks_rows, received_rows}
 use Rattle.dvd_par.proofs.passes.row_pass.Goals as goal

@@ -1,7 +1,7 @@
 -- The proof of `answer_columns` in src/columns.rt.
 use Rattle.std.proofs.Common.{◌∙◌, ◌+◌, ◌<◌, Bool, List, sym, subst, arith, map, get_or}
-use Rattle.rs_decode.specs.Filling.{marked}
-use Rattle.dvd_capture.specs.TwoPass.{failed_of}
+use Rattle.coding.specs.Filling.{marked}
+use Rattle.coding.specs.TwoPass.{failed_of}
 use Rattle.dvd_read.specs.Parts.{answer_word}
 use Rattle.dvd_read.proofs.MarkedColumns.{many-unanswered, unanswered_word}
 use Rattle.dvd_read.proofs.columns.answer_columns.Goals as goal

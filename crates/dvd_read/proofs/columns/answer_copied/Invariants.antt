@@ -1,8 +1,8 @@
 -- What each turn of the loop in `answer_copied` keeps.
 use Rattle.std.proofs.Common.{◌≡◌, ℕ, ◌+◌, ◌*◌, ◌<◌, ◌≤◌, true, length, map, get_or}
-use Rattle.rs_decode.specs.Filling.{marked}
-use Rattle.dvd_block.specs.Product.{column}
-use Rattle.dvd_capture.specs.TwoPass.{column_answer}
+use Rattle.coding.specs.Filling.{marked}
+use Rattle.coding.specs.Product.{column}
+use Rattle.coding.specs.TwoPass.{column_answer}
 use Rattle.dvd_capture.specs.declared.parts.ColumnAnswer.{ColumnAnswer}
 use Rattle.dvd_read.specs.Parts.{answer_word, bytes_of, column_word}
 use Rattle.dvd_read.proofs.columns.answer_copied.Given as goal

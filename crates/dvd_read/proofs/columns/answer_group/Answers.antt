@@ -1,10 +1,10 @@
 -- The proof of `answer_group` in src/columns.rt.
 use Rattle.std.proofs.Common.{◌≡◌, ◌∙◌, ◌+◌, ◌-◌, ◌<◌, ℕ, List, All, sym, subst, arith, get_or, ap}
 use Rattle.std.proofs.lemmas.Grind.{get_or_default_zero}
-use Rattle.gf_field.specs.Field.{alpha, power}
-use Rattle.gf_field.specs.Words.{IsByte, IsCodeword, value}
-use Rattle.rs_decode.specs.Nearest.{near_of}
-use Rattle.dvd_block.specs.Product.{column}
+use Rattle.coding.specs.Field.{alpha, power}
+use Rattle.coding.specs.Words.{IsByte, IsCodeword, value}
+use Rattle.coding.specs.Nearest.{near_of}
+use Rattle.coding.specs.Product.{column}
 use Rattle.dvd_capture.specs.declared.parts.ColumnAnswer.{ColumnAnswer}
 use Rattle.dvd_read.specs.Parts.{bytes_of}
 use Rattle.dvd_read.proofs.ColumnAnswers.{blank_column}

@@ -1,6 +1,6 @@
 -- What each turn of the loop in `copy_columns` keeps.
 use Rattle.std.proofs.Common.{◌≡◌, ℕ, ◌+◌, ◌*◌, ◌<◌, length, get_or}
-use Rattle.dvd_block.specs.Product.{column}
+use Rattle.coding.specs.Product.{column}
 use Rattle.dvd_capture.specs.declared.parts.ColumnAnswer.{ColumnAnswer}
 use Rattle.dvd_read.specs.Parts.{bytes_of}
 use Rattle.dvd_read.proofs.columns.copy_columns.Given as goal

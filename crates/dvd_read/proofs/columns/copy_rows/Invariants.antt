@@ -1,6 +1,6 @@
 -- What each turn of the loop in `copy_rows` keeps.
 use Rattle.std.proofs.Common.{◌≡◌, ℕ, ◌+◌, ◌-◌, ◌<◌, ◌≤◌, length, get_or}
-use Rattle.dvd_block.specs.Product.{place}
+use Rattle.coding.specs.Product.{place}
 use Rattle.dvd_capture.specs.declared.parts.ColumnAnswer.{ColumnAnswer}
 use Rattle.dvd_read.proofs.columns.copy_rows.Given as goal
 

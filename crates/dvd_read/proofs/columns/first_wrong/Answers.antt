@@ -1,8 +1,8 @@
 -- The proof of `first_wrong` in src/columns.rt.
 use Rattle.std.proofs.Common.{◌≡◌, ◌-◌, true, sym, arith}
-use Rattle.rs_decode.specs.Nearest.{vanishes_at_all}
-use Rattle.dvd_block.specs.Product.{line}
-use Rattle.dvd_capture.specs.TwoPass.{from_columns}
+use Rattle.coding.specs.Nearest.{vanishes_at_all}
+use Rattle.coding.specs.Product.{line}
+use Rattle.coding.specs.TwoPass.{from_columns}
 use Rattle.dvd_capture.proofs.Columns.{length-from_columns}
 use Rattle.dvd_read.specs.Inner.Found.{words_of_columns}
 use Rattle.dvd_read.proofs.ColumnAnswers.{rows_more, wrong_first, wrong_none}

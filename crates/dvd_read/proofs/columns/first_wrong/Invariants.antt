@@ -1,8 +1,8 @@
 -- What each turn of the loop in `first_wrong` keeps.
 use Rattle.std.proofs.Common.{◌≡◌, ℕ, ◌*◌, ◌<◌, true}
-use Rattle.rs_decode.specs.Nearest.{vanishes_at_all}
-use Rattle.dvd_block.specs.Product.{line}
-use Rattle.dvd_capture.specs.TwoPass.{from_columns}
+use Rattle.coding.specs.Nearest.{vanishes_at_all}
+use Rattle.coding.specs.Product.{line}
+use Rattle.coding.specs.TwoPass.{from_columns}
 use Rattle.dvd_read.specs.Inner.Found.{words_of_columns}
 use Rattle.dvd_read.proofs.columns.first_wrong.Given as goal
 

@@ -1,7 +1,7 @@
 -- The proof of `turned_rows` in src/columns.rt.
 use Rattle.std.proofs.Common.{◌+◌, ◌∙◌, arith}
 use Rattle.rs_lanes.proofs.ColumnLemmas.{get_or-column, length-column}
-use Rattle.dvd_block.specs.Product.{column}
+use Rattle.coding.specs.Product.{column}
 use Rattle.dvd_read.proofs.ColumnAnswers.{row_read}
 use Rattle.dvd_read.proofs.columns.turned_rows.Goals as goal
 

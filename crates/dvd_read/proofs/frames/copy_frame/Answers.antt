@@ -1,6 +1,6 @@
 -- The proof of `copy_frame` in src/frames.rt.
 use Rattle.std.proofs.Common.{◌≡◌, ◌∙◌, ◌*◌, ℕ, take, refl, sym, ap, arith}
-use Rattle.dvd_capture.specs.TwoPass.{from_columns}
+use Rattle.coding.specs.TwoPass.{from_columns}
 use Rattle.dvd_read.specs.Inner.Found.{words_of_columns}
 use Rattle.dvd_read.proofs.FrameFaults.{fronts, fronts-all, fronts-next}
 use Rattle.dvd_read.proofs.frames.copy_frame.Goals as goal

@@ -1,6 +1,6 @@
 -- What each turn of the loop in `copy_frame` keeps.
 use Rattle.std.proofs.Common.{◌≡◌, ◌*◌, length, take}
-use Rattle.dvd_capture.specs.TwoPass.{from_columns}
+use Rattle.coding.specs.TwoPass.{from_columns}
 use Rattle.dvd_read.specs.Inner.Found.{words_of_columns}
 use Rattle.dvd_read.proofs.FrameFaults.{fronts}
 use Rattle.dvd_read.proofs.frames.copy_frame.Given as goal

@@ -1,6 +1,6 @@
 -- The proof of `copy_received` in src/frames.rt.
 use Rattle.std.proofs.Common.{◌≡◌, ◌∙◌, ◌+◌, ◌*◌, ℕ, List, take, refl, sym, ap, arith}
-use Rattle.dvd_block.specs.Product.{line}
+use Rattle.coding.specs.Product.{line}
 use Rattle.dvd_read.proofs.FrameFaults.{fronts, fronts-all, fronts-next, width-next}
 use Rattle.dvd_read.proofs.frames.copy_received.Goals as goal
 

@@ -1,13 +1,13 @@
 -- The proof of `get_frame` in src/frames.rt.
 use Rattle.std.proofs.Common.{◌≡◌, ◌∙◌, ◌+◌, ◌*◌, List, ℕ, slice_index, length, sym, ap, arith}
 use Rattle.std.proofs.lemmas.List.{length-map}
-use Rattle.dvd_block.specs.Product.{line}
+use Rattle.coding.specs.Product.{line}
 use Rattle.dvd_capture.specs.Parts.{received_rows}
-use Rattle.dvd_capture.specs.TwoPass.{from_columns}
+use Rattle.coding.specs.TwoPass.{from_columns}
 use Rattle.dvd_capture.specs.declared.parts.ColumnAnswer.{ColumnAnswer}
 use Rattle.dvd_capture.proofs.Columns.{from_columns-line, length-from_columns}
 use Rattle.dvd_capture.proofs.WorkParts.{rows-height}
-use Rattle.dvd_read.specs.Frames.{frame_of}
+use Rattle.dvd_decoding.specs.Frames.{frame_of}
 use Rattle.dvd_read.specs.Inner.Found.{words_of_columns}
 use Rattle.dvd_read.proofs.Differences.{rows-same}
 use Rattle.dvd_read.proofs.FrameFaults.{frames-same}

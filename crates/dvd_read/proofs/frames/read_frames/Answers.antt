@@ -1,7 +1,7 @@
 -- The proof of `read_frames` in src/frames.rt.
 use Rattle.std.proofs.Common.{◌≡◌, ◌∙◌, length, Some, None, sym, ap, arith}
 use Rattle.dvd_capture.specs.Parts.{sector_bytes}
-use Rattle.dvd_capture.specs.TwoPass.{from_columns}
+use Rattle.coding.specs.TwoPass.{from_columns}
 use Rattle.dvd_frame.specs.Frame.{main_in}
 use Rattle.dvd_read.specs.Inner.Found.{words_of_columns}
 use Rattle.dvd_read.proofs.FrameFaults.{cause_as, fault-here, fault-next, fault-none, mains-all, mains-next}

@@ -1,6 +1,6 @@
 -- What each turn of the loop in `read_frames` keeps.
 use Rattle.dvd_capture.specs.Parts.{sector_bytes}
-use Rattle.dvd_capture.specs.TwoPass.{from_columns}
+use Rattle.coding.specs.TwoPass.{from_columns}
 use Rattle.dvd_read.specs.Inner.Found.{words_of_columns}
 use Rattle.dvd_read.proofs.FrameFaults.{AreMainsBefore, NoFaultBefore}
 use Rattle.dvd_read.proofs.frames.read_frames.Given as goal

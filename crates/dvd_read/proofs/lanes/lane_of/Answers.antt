@@ -2,7 +2,7 @@
 use Rattle.std.proofs.Common.{◌≡◌, ◌∙◌, length, take, ap, arith}
 use Rattle.std.proofs.Math.Seq.{take-length}
 use Rattle.rs_lanes.proofs.ColumnLemmas.{length-column}
-use Rattle.dvd_block.specs.Product.{column}
+use Rattle.coding.specs.Product.{column}
 use Rattle.dvd_read.proofs.LaneValues.{lane-syndromes}
 use Rattle.dvd_read.proofs.lanes.lane_of.Goals as goal
 

@@ -1,6 +1,6 @@
 -- What each turn of the loop in `lane_of` keeps.
 use Rattle.std.proofs.Common.{◌≡◌, take}
-use Rattle.dvd_block.specs.Product.{column}
+use Rattle.coding.specs.Product.{column}
 use Rattle.dvd_read.proofs.lanes.lane_of.Given as goal
 
 -- the lanes of the vectors before

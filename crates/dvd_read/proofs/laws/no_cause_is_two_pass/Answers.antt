@@ -1,5 +1,5 @@
 -- The proof of the law `no_cause_is_two_pass` in src/laws.rt.
-use Rattle.dvd_capture.specs.TwoPass.{answers_of}
+use Rattle.coding.specs.TwoPass.{answers_of}
 use Rattle.dvd_capture.proofs.Columns.{length-answers_of}
 use Rattle.dvd_read.proofs.Outcomes.{no_cause-agrees}
 use Rattle.dvd_read.proofs.laws.no_cause_is_two_pass.Goals as goal

@@ -1,5 +1,5 @@
 -- The proof of the law `two_pass_is_found` in src/laws.rt.
-use Rattle.dvd_capture.specs.TwoPass.{answers_of}
+use Rattle.coding.specs.TwoPass.{answers_of}
 use Rattle.dvd_capture.proofs.Columns.{length-answers_of}
 use Rattle.dvd_read.proofs.Outcomes.{agrees-no_cause, found-agrees}
 use Rattle.dvd_read.proofs.laws.two_pass_is_found.Goals as goal

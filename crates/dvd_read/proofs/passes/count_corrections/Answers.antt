@@ -2,7 +2,7 @@
 use Rattle.std.proofs.Common.{◌≡◌, ◌∙◌, ℕ, List, ap, length, take, sym, arith}
 use Rattle.std.proofs.lemmas.List.{take_all}
 use Rattle.dvd_capture.specs.Works.{answers_of_work, rows_of}
-use Rattle.dvd_read.specs.Found.{block_differences}
+use Rattle.coding.specs.Found.{block_differences}
 use Rattle.dvd_read.specs.Parts.{bytes_of}
 use Rattle.dvd_read.proofs.Differences.{block_differences-none, block_differences-next}
 use Rattle.dvd_read.proofs.Standing.{length-bytes_of, row-counted}

@@ -1,7 +1,7 @@
 -- What each turn of the loop in `count_corrections` keeps.
 use Rattle.std.proofs.Common.{◌≡◌, ◌≤◌, ◌*◌, take}
 use Rattle.dvd_capture.specs.Works.{answers_of_work, rows_of}
-use Rattle.dvd_read.specs.Found.{block_differences}
+use Rattle.coding.specs.Found.{block_differences}
 use Rattle.dvd_read.specs.Parts.{bytes_of}
 use Rattle.dvd_read.proofs.passes.count_corrections.Given as goal
 

@@ -1,11 +1,11 @@
 -- The proof of `count_differences` in src/passes.rt.
 use Rattle.std.proofs.Common.{◌≡◌, ◌∙◌, ap, length, take, sym, arith}
 use Rattle.std.proofs.lemmas.List.{take_all}
-use Rattle.rs_code.specs.Distance.{distance}
+use Rattle.coding.specs.Distance.{distance}
 use Rattle.dvd_capture.specs.Parts.{received_rows}
-use Rattle.dvd_capture.specs.TwoPass.{from_columns}
+use Rattle.coding.specs.TwoPass.{from_columns}
 use Rattle.dvd_capture.proofs.Columns.{length-from_columns}
-use Rattle.dvd_read.specs.Found.{block_differences}
+use Rattle.coding.specs.Found.{block_differences}
 use Rattle.dvd_read.specs.Inner.Found.{words_of_columns}
 use Rattle.dvd_read.proofs.Differences.{block_differences-none, block_differences-next}
 use Rattle.dvd_read.proofs.passes.count_differences.Goals as goal

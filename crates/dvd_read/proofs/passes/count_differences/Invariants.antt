@@ -1,8 +1,8 @@
 -- What each turn of the loop in `count_differences` keeps.
 use Rattle.std.proofs.Common.{◌≡◌, ◌≤◌, ◌*◌, take}
 use Rattle.dvd_capture.specs.Parts.{received_rows}
-use Rattle.dvd_capture.specs.TwoPass.{from_columns}
-use Rattle.dvd_read.specs.Found.{block_differences}
+use Rattle.coding.specs.TwoPass.{from_columns}
+use Rattle.coding.specs.Found.{block_differences}
 use Rattle.dvd_read.specs.Inner.Found.{words_of_columns}
 use Rattle.dvd_read.proofs.passes.count_differences.Given as goal
 

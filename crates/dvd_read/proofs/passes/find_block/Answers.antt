@@ -2,15 +2,15 @@
 use Rattle.std.proofs.Common.{◌≡◌, ℕ, List, length, map, None, Some, subst, arith}
 use Rattle.std.specs.Prelude.{IfErr, IfOk, OnErr, OnOk, Result, Ok, Err}
 use Rattle.std.specs.declared.option.Option.{Option}
-use Rattle.rs_decode.specs.Filling.{marked}
+use Rattle.coding.specs.Filling.{marked}
 use Rattle.dvd_capture.specs.Rule.{HasNoTwoPass}
-use Rattle.dvd_capture.specs.TwoPass.{AgreesWith, answers_of, failed_of}
+use Rattle.coding.specs.TwoPass.{AgreesWith, answers_of, failed_of}
 use Rattle.dvd_capture.specs.Works.{answers_of_work, block_of, marks_of_work, rows_of}
 use Rattle.dvd_capture.specs.declared.work.Work.{Work}
-use Rattle.dvd_read.specs.Causes.{two_pass_cause}
-use Rattle.dvd_read.specs.Found.{block_found}
+use Rattle.dvd_decoding.specs.Causes.{two_pass_cause}
+use Rattle.coding.specs.Found.{block_found}
 use Rattle.dvd_read.specs.Parts.{AreAnswersFrom, answer_word}
-use Rattle.dvd_read.specs.declared.cause.Cause.{Cause}
+use Rattle.dvd_decoding.specs.declared.cause.Cause.{Cause}
 use Rattle.dvd_read.proofs.Codewords.{answers-codewords}
 use Rattle.dvd_read.proofs.Outcomes.{cause-none_agrees}
 use Rattle.dvd_read.proofs.RowAnswers.{answers-whole, block_answers, length-block_answers}

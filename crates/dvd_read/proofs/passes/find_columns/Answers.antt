@@ -2,14 +2,14 @@
 use Rattle.std.proofs.Common.{◌≡◌, ◌≤◌, ◌∙◌, ℕ, Bool, List, length, not, position, None, map, sym, ap, subst, arith}
 use Rattle.std.specs.Prelude.{IsTrue}
 use Rattle.std.proofs.lemmas.List.{length-map}
-use Rattle.rs_decode.specs.Filling.{marked}
-use Rattle.rs_decode.specs.Nearest.{vanishes_at_all}
-use Rattle.dvd_capture.specs.TwoPass.{AgreesWith, failed_of, from_columns}
+use Rattle.coding.specs.Filling.{marked}
+use Rattle.coding.specs.Nearest.{vanishes_at_all}
+use Rattle.coding.specs.TwoPass.{AgreesWith, failed_of, from_columns}
 use Rattle.dvd_capture.proofs.Columns.{length-from_columns}
 use Rattle.dvd_capture.specs.declared.parts.AnswerRow.{AnswerRow}
 use Rattle.dvd_capture.specs.declared.parts.ColumnAnswer.{ColumnAnswer}
-use Rattle.dvd_read.specs.Causes.{two_pass_cause}
-use Rattle.dvd_read.specs.Found.{block_found}
+use Rattle.dvd_decoding.specs.Causes.{two_pass_cause}
+use Rattle.coding.specs.Found.{block_found}
 use Rattle.dvd_read.specs.Inner.Found.{words_of_columns}
 use Rattle.dvd_read.specs.Inner.Standing.{AreCodewords}
 use Rattle.dvd_read.specs.Parts.{AreOwnFrom, answer_word, bytes_of}

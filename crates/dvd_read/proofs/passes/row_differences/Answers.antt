@@ -1,6 +1,6 @@
 -- The proof of `row_differences` in src/passes.rt.
 use Rattle.std.proofs.Common.{◌≡◌, ◌+◌, ◌≤◌, ℕ, get_or, take, subst, sym, arith}
-use Rattle.rs_code.specs.Distance.{distance}
+use Rattle.coding.specs.Distance.{distance}
 use Rattle.dvd_read.proofs.Differences.{distance-none, distance-next, distance-few}
 use Rattle.dvd_read.proofs.passes.row_differences.Goals as goal
 

@@ -1,6 +1,6 @@
 -- What each turn of the loop in `row_differences` keeps.
 use Rattle.std.proofs.Common.{◌≡◌, ◌≤◌, take}
-use Rattle.rs_code.specs.Distance.{distance}
+use Rattle.coding.specs.Distance.{distance}
 use Rattle.dvd_read.proofs.passes.row_differences.Given as goal
 
 abbrev pub invariant-loop-j : goal.invariant-loop-j

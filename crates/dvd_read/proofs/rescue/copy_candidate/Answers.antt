@@ -1,7 +1,7 @@
 -- The proof of `copy_candidate` in src/rescue.rt.
 use Rattle.std.proofs.Common.{◌∙◌, map, sym, ap, is_some}
 use Rattle.std.proofs.lemmas.Bool.{not-true}
-use Rattle.dvd_capture.specs.TwoPass.{from_columns}
+use Rattle.coding.specs.TwoPass.{from_columns}
 use Rattle.dvd_read.specs.Parts.{answer_word}
 use Rattle.dvd_read.specs.Inner.Found.{words_of_columns}
 use Rattle.dvd_read.proofs.SavedFrames.{candidate-answered, candidate-found, candidate-has}

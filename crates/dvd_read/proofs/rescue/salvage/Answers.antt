@@ -1,17 +1,17 @@
 -- The proof of `salvage` in src/rescue.rt.
 use Rattle.std.proofs.Common.{◌≡◌, ◌∙◌, List, length, map, sym, ap, arith, is_none}
-use Rattle.dvd_capture.specs.TwoPass.{answers_of, from_columns}
+use Rattle.coding.specs.TwoPass.{answers_of, from_columns}
 use Rattle.dvd_capture.specs.Works.{answers_of_work, block_of, marks_of_work, rows_of, stage_of}
 use Rattle.dvd_capture.specs.Rule.{HasAnswers}
 use Rattle.dvd_capture.specs.declared.parts.AnswerRow.{AnswerRow}
 use Rattle.dvd_capture.specs.declared.parts.ColumnAnswer.{ColumnAnswer}
 use Rattle.dvd_capture.specs.declared.work.Work.{Work}
 use Rattle.dvd_capture.proofs.WorkParts.{marks-height, rows-height}
-use Rattle.dvd_read.specs.Causes.{two_pass_cause}
-use Rattle.dvd_read.specs.Found.{block_found}
+use Rattle.dvd_decoding.specs.Causes.{two_pass_cause}
+use Rattle.coding.specs.Found.{block_found}
 use Rattle.dvd_read.specs.Parts.{answer_word}
 use Rattle.dvd_read.specs.Inner.Found.{words_of_columns}
-use Rattle.dvd_read.specs.Salvage.{block_out, frames_saved, saved_in, sectors_saved}
+use Rattle.dvd_decoding.specs.Salvage.{block_out, frames_saved, saved_in, sectors_saved}
 use Rattle.dvd_read.proofs.RowAnswers.{block_answers}
 use Rattle.dvd_read.proofs.SavedLaws.{fixed-found, fixed-told}
 use Rattle.dvd_read.proofs.rescue.salvage.Goals as goal

@@ -1,6 +1,6 @@
 -- The proof of `answer_codeword` in src/rows.rt.
 use Rattle.std.proofs.lemmas.List.Elements.{All-from_get_or}
-use Rattle.gf_field.specs.Words.{IsByte}
+use Rattle.coding.specs.Words.{IsByte}
 use Rattle.dvd_read.proofs.Standing.{own-row}
 use Rattle.dvd_read.proofs.rows.answer_codeword.Goals as goal
 

@@ -1,9 +1,9 @@
 -- The proof of `answer_group` in src/rows.rt.
 use Rattle.std.proofs.Common.{◌≡◌, ◌∙◌, ◌+◌, ◌-◌, ◌<◌, List, ℕ, get_or, sym, ap, arith}
 use Rattle.std.proofs.lemmas.List.{get_or_read_under}
-use Rattle.gf_field.specs.Field.{alpha, power}
-use Rattle.gf_field.specs.Words.{value}
-use Rattle.dvd_block.specs.Product.{line}
+use Rattle.coding.specs.Field.{alpha, power}
+use Rattle.coding.specs.Words.{value}
+use Rattle.coding.specs.Product.{line}
 use Rattle.dvd_capture.specs.Parts.{received_rows}
 use Rattle.dvd_read.proofs.rows.answer_group.Goals as goal
 

@@ -1,9 +1,9 @@
 -- The proof of `answer_unmarked` in src/rows.rt.
 use Rattle.std.proofs.Common.{◌≡◌, Bool, false, List, replicate, subst, arith}
 use Rattle.std.proofs.lemmas.List.{length-replicate}
-use Rattle.gf_field.specs.Words.{IsNear}
+use Rattle.coding.specs.Words.{IsNear}
 use Rattle.rs_decode.specs.Errors.{HasNoneNear, error_count}
-use Rattle.rs_decode.specs.Filling.{marked}
+use Rattle.coding.specs.Filling.{marked}
 use Rattle.rs_decode.proofs.NearSearch.{near_of-some, none-near_of}
 use Rattle.dvd_read.proofs.rows.answer_unmarked.Goals as goal
 

@@ -1,6 +1,6 @@
 -- The proof of `count_failed` in src/rows.rt.
 use Rattle.std.proofs.Common.{◌≡◌, ◌+◌, ◌≤◌, ℕ, subst, sym, arith, take}
-use Rattle.rs_decode.specs.Filling.{marked}
+use Rattle.coding.specs.Filling.{marked}
 use Rattle.rs_decode.proofs.Marks.{marked-none}
 use Rattle.dvd_read.proofs.RowAnswers.{flag-counted, flag-few}
 use Rattle.dvd_read.proofs.rows.count_failed.Goals as goal

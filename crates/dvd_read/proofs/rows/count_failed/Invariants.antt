@@ -1,6 +1,6 @@
 -- What each turn of the loop in `count_failed` keeps.
 use Rattle.std.proofs.Common.{◌≡◌, ◌≤◌, take}
-use Rattle.rs_decode.specs.Filling.{marked}
+use Rattle.coding.specs.Filling.{marked}
 use Rattle.dvd_read.proofs.rows.count_failed.Given as goal
 
 abbrev pub invariant-loop-flag : goal.invariant-loop-flag

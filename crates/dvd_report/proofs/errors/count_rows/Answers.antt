@@ -3,13 +3,13 @@ use Rattle.std.proofs.Common.{rules, ◌≡◌, ◌∙◌, ◌+◌, Bool, false,
 use mir.Val.{bool_byte}
 use Rattle.std.proofs.lemmas.List.{length-map}
 use Rattle.std.specs.declared.option.Option.{Option}
-use Rattle.gf_field.specs.Words.{IsByte}
-use Rattle.rs_decode.specs.Filling.{marked}
+use Rattle.coding.specs.Words.{IsByte}
+use Rattle.coding.specs.Filling.{marked}
 use Rattle.rs_decode.specs.declared.errors.Fix.{Fix}
-use Rattle.dvd_block.specs.Product.{line}
+use Rattle.coding.specs.Product.{line}
 use Rattle.dvd_capture.specs.Answers.{marks_line}
 use Rattle.dvd_capture.specs.Rule.{HasAnswers, HasBlock}
-use Rattle.dvd_capture.specs.TwoPass.{answers_of, failed_of}
+use Rattle.coding.specs.TwoPass.{answers_of, failed_of}
 use Rattle.dvd_capture.specs.Works.{marks_of_work, rows_of, stage_of}
 use Rattle.dvd_capture.specs.declared.stage.Stage.{Stage}
 use Rattle.dvd_capture.specs.declared.stage.Stage.TheVariants.{Empty, Fetched, Refused, Fixed}

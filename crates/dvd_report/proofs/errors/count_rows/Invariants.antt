@@ -1,10 +1,10 @@
 -- What each turn of the loop in `count_rows` keeps.
 use Rattle.std.proofs.Common.{◌≡◌, ◌≤◌, count_by, take}
 use Rattle.std.specs.List.{range_with_len}
-use Rattle.rs_decode.specs.Filling.{marked}
-use Rattle.dvd_block.specs.Product.{line}
+use Rattle.coding.specs.Filling.{marked}
+use Rattle.coding.specs.Product.{line}
 use Rattle.dvd_capture.specs.Answers.{marks_line}
-use Rattle.dvd_capture.specs.TwoPass.{answers_of, failed_of}
+use Rattle.coding.specs.TwoPass.{answers_of, failed_of}
 use Rattle.dvd_capture.specs.Works.{marks_of_work, rows_of}
 use Rattle.dvd_report.specs.Survey.{has_pi_error}
 use Rattle.dvd_report.proofs.errors.count_rows.Given as goal

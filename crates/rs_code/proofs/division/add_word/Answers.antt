@@ -2,7 +2,7 @@
 use Rattle.std.proofs.Common.{◌≡◌, length, sym, ◌∙◌, arith}
 use Rattle.std.proofs.lemmas.Grind.{same_number_lists}
 use Rattle.std.proofs.lemmas.List.Elements.{All-from_get_or}
-use Rattle.gf_field.specs.Words.{IsByte}
+use Rattle.coding.specs.Words.{IsByte}
 use Rattle.rs_code.specs.Inner.Polynomials.{sum_of}
 use Rattle.rs_code.proofs.Values.{length-sum_of, get_or-sum_of}
 use Rattle.rs_code.proofs.division.add_word.Goals as goal

@@ -1,6 +1,6 @@
 -- What each turn of the loop in `add_word` keeps.
 use Rattle.std.proofs.Common.{◌≡◌, ℕ, ◌<◌, ◌≤◌, length, get_or}
-use Rattle.gf_field.specs.Field.{plus}
+use Rattle.coding.specs.Field.{plus}
 use Rattle.rs_code.proofs.division.add_word.Given as goal
 
 -- below i the sum, from i on what was there

@@ -1,7 +1,7 @@
 -- The proof of `divide` in src/division.rt.
 use Rattle.std.proofs.Common.{refl, arith}
 use Rattle.std.proofs.lemmas.List.Elements.{All-from_get_or}
-use Rattle.gf_field.specs.Words.{IsByte}
+use Rattle.coding.specs.Words.{IsByte}
 use Rattle.rs_code.proofs.Remainders.{IsRemainder-start, IsRemainder-more}
 use Rattle.rs_code.proofs.division.divide.Goals as goal
 

@@ -3,7 +3,7 @@ use Rattle.std.proofs.Common.{◌≡◌, length, sym, ◌∙◌, ap, arith, rule
 use Rattle.rs_code.proofs.Generator.{HasRoots-start, HasRoots-more, refill-same}
 use Rattle.rs_code.proofs.Values.{power-more}
 use Rattle.rs_code.specs.Inner.Polynomials.{times_root}
-use Rattle.gf_field.specs.Field.{alpha}
+use Rattle.coding.specs.Field.{alpha}
 use Rattle.gf_field.proofs.FieldLaws.{power-zero}
 use Rattle.rs_code.proofs.division.generator.Goals as goal
 

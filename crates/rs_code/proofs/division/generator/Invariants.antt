@@ -1,7 +1,7 @@
 -- What each turn of the loop in `generator` keeps.
 use Rattle.std.proofs.Common.{◌≡◌}
 use Rattle.arrayvec.specs.ArrayVec.{array_vec_len}
-use Rattle.gf_field.specs.Field.{alpha, power}
+use Rattle.coding.specs.Field.{alpha, power}
 use Rattle.rs_code.specs.Polynomials.{HasRoots}
 use Rattle.rs_code.proofs.division.generator.Given as goal
 

@@ -1,6 +1,6 @@
 -- What each turn of the loop in `multiply_by_root` keeps.
 use Rattle.std.proofs.Common.{◌≡◌, ℕ, ◌<◌, ◌≤◌, ◌∷◌, get_or}
-use Rattle.gf_field.specs.Field.{plus, product}
+use Rattle.coding.specs.Field.{plus, product}
 use Rattle.rs_code.proofs.division.multiply_by_root.Given as goal
 
 -- below the index each coefficient has the root times the one before it added; from there on nothing changed

@@ -1,6 +1,6 @@
 -- What each turn of the loop in `read_byte` keeps.
 use Rattle.std.proofs.Common.{◌≡◌, ℕ, ◌+◌, ◌<◌, ◌≤◌, get_or}
-use Rattle.gf_field.specs.Field.{plus, product}
+use Rattle.coding.specs.Field.{plus, product}
 use Rattle.rs_code.proofs.division.read_byte.Given as goal
 
 -- below i each byte is the next one and the factor's share of the generator; from i on nothing changed

@@ -1,8 +1,8 @@
 -- The proof of `value_at` in src/evaluation.rt.
 use Rattle.std.proofs.Common.{◌≡◌, ◌<◌, ◌+◌, ◌-◌, ◌∙◌, suc, length, drop, sym, ap, arith}
 use Rattle.std.proofs.lemmas.List.{drop_all}
-use Rattle.gf_field.specs.Field.{alpha, plus, power}
-use Rattle.gf_field.specs.Words.{value}
+use Rattle.coding.specs.Field.{alpha, plus, power}
+use Rattle.coding.specs.Words.{value}
 use Rattle.gf_field.proofs.FieldLaws.{power-zero}
 use Rattle.rs_code.proofs.Values.{value-nil}
 use Rattle.rs_code.proofs.Terms.{value-next, value-same, shift-next}

@@ -1,7 +1,7 @@
 -- What each turn of the loop in `value_at` keeps.
 use Rattle.std.proofs.Common.{◌≡◌, ◌-◌, ◌*◌, ◌≤◌, length, drop}
-use Rattle.gf_field.specs.Field.{alpha, power}
-use Rattle.gf_field.specs.Words.{value}
+use Rattle.coding.specs.Field.{alpha, power}
+use Rattle.coding.specs.Words.{value}
 use Rattle.rs_code.proofs.evaluation.value_at.Given as goal
 
 -- the value of the terms from k on, and the multiple of the exponent that the next one has

@@ -1,7 +1,7 @@
 -- The proof of `divide` in src/register.rt.
 use Rattle.std.proofs.Common.{[], ◌++◌, length, arith}
 use Rattle.std.proofs.lemmas.List.Elements.{All-from_get_or}
-use Rattle.gf_field.specs.Words.{IsByte}
+use Rattle.coding.specs.Words.{IsByte}
 use Rattle.rs_code.proofs.Words.{written_remainder}
 use Rattle.rs_code.proofs.register.divide.Goals as goal
 

@@ -2,7 +2,7 @@
 use Rattle.std.proofs.Common.{◌≡◌, ◌+◌, ◌≤◌, ℕ, List, length, get_or, take, drop, ap, ◌∙◌, arith}
 use Rattle.std.specs.Simd.Lanes.{zip2}
 use Rattle.std.proofs.lemmas.Simd.{length-chunk, get_or-chunk, get_or-put_chunk_below, get_or-put_chunk_at, get_or-put_chunk_above}
-use Rattle.gf_field.specs.Field.{plus}
+use Rattle.coding.specs.Field.{plus}
 use Rattle.rs_lanes.specs.Inner.Lanes.{HoldsLanes}
 use Rattle.rs_lanes.proofs.LaneLemmas.{HoldsLanes-zip2}
 use Rattle.rs_decode.proofs.combining.add_lanes.Goals as goal

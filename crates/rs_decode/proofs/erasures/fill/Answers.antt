@@ -1,6 +1,6 @@
 -- The proof of `fill` in src/erasures.rt.
 use Rattle.std.proofs.Common.{◌≡◌, subst, ap, ◌∙◌, rules}
-use Rattle.rs_decode.specs.Filling.{IsFilling, marked}
+use Rattle.coding.specs.Filling.{IsFilling, marked}
 use Rattle.rs_decode.proofs.Fillings.{points-few}
 use Rattle.rs_decode.proofs.erasures.fill.Goals as goal
 

@@ -2,11 +2,11 @@
 -- that agrees at the unmarked places is the filled word.
 use Rattle.std.proofs.Common.{◌≡◌, ◌≢◌, ◌≤◌, length, All, rules, arith, ap, sym, subst, ◌∙◌}
 use Rattle.std.proofs.lemmas.List.Elements.{All-from_get_or}
-use Rattle.gf_field.specs.Words.{IsByte, IsCodeword}
+use Rattle.coding.specs.Words.{IsByte, IsCodeword}
 use Rattle.rs_code.proofs.Syndromes.{length-syndromes_of}
 use Rattle.rs_decode.specs.Inner.Places.{patched}
 use Rattle.rs_decode.specs.Inner.Sums.{AreOnly}
-use Rattle.rs_decode.specs.Filling.{AgreeUnmarked, marked}
+use Rattle.coding.specs.Filling.{AgreeUnmarked, marked}
 use Rattle.rs_decode.proofs.Fillings.{points-few, value-filled, AgreeUnmarked-patched, no_filling}
 use Rattle.rs_decode.proofs.Marks.{patched-twice, point-nonzero}
 use Rattle.rs_decode.proofs.erasures.fill_from.Goals as goal

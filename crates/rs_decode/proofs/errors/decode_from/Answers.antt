@@ -1,7 +1,7 @@
 -- The proof of `decode_from` in src/errors.rt.
 use Rattle.std.proofs.Common.{◌≡◌, ◌≤◌, rules, sym, ap, ◌∙◌, arith}
 use Rattle.rs_decode.specs.Errors.{error_count}
-use Rattle.rs_decode.specs.Filling.{marked}
+use Rattle.coding.specs.Filling.{marked}
 use Rattle.rs_decode.proofs.Counting.{counts-from_near, IsNear-from_counts, error_count-self}
 use Rattle.rs_decode.proofs.Fillings.{points-few}
 use Rattle.rs_decode.proofs.LaneSums.{IsCodeword-from_zeros}

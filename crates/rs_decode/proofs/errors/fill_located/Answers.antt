@@ -1,10 +1,10 @@
 -- The proof of `fill_located` in src/errors.rt.
 use Rattle.std.proofs.Common.{◌≡◌, ℕ, Bool, List, length, subst, ap, ◌∙◌, arith}
 use Rattle.std.proofs.lemmas.Result.{IfOk-weaker, on_err_weaker}
-use Rattle.gf_field.specs.Words.{IsNear}
+use Rattle.coding.specs.Words.{IsNear}
 use Rattle.rs_code.specs.Inner.PowerSums.{points_of}
 use Rattle.rs_code.proofs.Syndromes.{length-syndromes_of}
-use Rattle.rs_decode.specs.Filling.{IsFilling}
+use Rattle.coding.specs.Filling.{IsFilling}
 use Rattle.rs_decode.specs.Inner.Locator.{with_zeros}
 use Rattle.rs_decode.specs.Register.{Generates, IsLeast}
 use Rattle.rs_decode.proofs.Fillings.{points-few}

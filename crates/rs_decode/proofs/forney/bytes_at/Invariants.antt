@@ -1,6 +1,6 @@
 -- What each turn of the loop in `bytes_at` keeps.
 use Rattle.std.proofs.Common.{◌≡◌, List, ℕ, ◌<◌, length, get_or, All}
-use Rattle.gf_field.specs.Words.{IsByte}
+use Rattle.coding.specs.Words.{IsByte}
 use Rattle.rs_decode.specs.Inner.Sums.{AreSums}
 use Rattle.rs_decode.proofs.forney.bytes_at.Given as goal
 

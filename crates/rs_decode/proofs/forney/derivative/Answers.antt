@@ -1,7 +1,7 @@
 -- The proof of `derivative` in src/forney.rt.
 use Rattle.std.proofs.Common.{◌≡◌, ◌≢◌, ◌+◌, ◌-◌, List, ℕ, All, length, take, drop, get_or, add-one, ap, sym, subst, ◌∙◌, arith}
 use Rattle.std.proofs.lemmas.List.{length-drop, take_all}
-use Rattle.gf_field.specs.Field.{alpha, product, power}
+use Rattle.coding.specs.Field.{alpha, product, power}
 use Rattle.gf_field.proofs.FieldLaws.{alpha-nonzero, power-add, power-nonzero}
 use Rattle.rs_decode.specs.Inner.Locator.{distances}
 use Rattle.rs_decode.proofs.Evaluator.{apart-after, apart-before, slope-at}

@@ -1,7 +1,7 @@
 -- The proof of `distance_exponent` in src/forney.rt.
 use Rattle.std.proofs.Common.{◌<◌, ◌+◌, length, take, get_or, ap, sym, ◌∙◌, arith}
 use Rattle.std.proofs.lemmas.List.{take_all, take_more}
-use Rattle.gf_field.specs.Field.{alpha, product, power}
+use Rattle.coding.specs.Field.{alpha, product, power}
 use Rattle.gf_field.proofs.FieldLaws.{power-add, power-zero}
 use Rattle.rs_decode.specs.Inner.Locator.{distances}
 use Rattle.rs_decode.proofs.MarksTakenOut.{distances-push}

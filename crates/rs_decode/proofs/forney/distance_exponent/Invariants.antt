@@ -1,6 +1,6 @@
 -- What each turn of the loop in `distance_exponent` keeps.
 use Rattle.std.proofs.Common.{◌≡◌, ◌*◌, ◌≤◌, take}
-use Rattle.gf_field.specs.Field.{alpha, power}
+use Rattle.coding.specs.Field.{alpha, power}
 use Rattle.rs_decode.specs.Inner.Locator.{distances}
 use Rattle.rs_decode.proofs.forney.distance_exponent.Given as goal
 

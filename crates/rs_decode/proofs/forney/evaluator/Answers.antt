@@ -1,7 +1,7 @@
 -- The proof of `evaluator` in src/forney.rt.
 use Rattle.std.proofs.Common.{◌≡◌, length, take, ap, sym, ◌∙◌, arith}
 use Rattle.std.proofs.lemmas.List.{take_all}
-use Rattle.gf_field.specs.Words.{value}
+use Rattle.coding.specs.Words.{value}
 use Rattle.rs_code.specs.Inner.PowerSums.{power_sum}
 use Rattle.rs_decode.specs.Inner.Locator.{at_points, slope}
 use Rattle.rs_decode.proofs.Evaluator.{IsEvaluated-start, IsEvaluated-next, lanes-bytes}

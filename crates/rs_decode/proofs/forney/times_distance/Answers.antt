@@ -1,6 +1,6 @@
 -- The proof of `times_distance` in src/forney.rt.
 use Rattle.std.proofs.Common.{◌≡◌, ◌+◌, ◌∷◌, get_or, add-one, ap, ◌∙◌, arith}
-use Rattle.gf_field.specs.Field.{plus, product}
+use Rattle.coding.specs.Field.{plus, product}
 use Rattle.gf_field.proofs.FieldLaws.{plus-zero, product-comm, zero-product}
 use Rattle.rs_decode.proofs.forney.times_distance.Goals as goal
 

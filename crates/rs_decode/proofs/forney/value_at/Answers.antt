@@ -1,6 +1,6 @@
 -- The proof of `value_at` in src/forney.rt.
 use Rattle.std.proofs.Common.{◌<◌, length, get_or, sym, ap, ◌∙◌, arith}
-use Rattle.gf_field.specs.Field.{plus, product}
+use Rattle.coding.specs.Field.{plus, product}
 use Rattle.rs_code.proofs.Values.{value-more, value-nil}
 use Rattle.rs_decode.proofs.forney.value_at.Goals as goal
 

@@ -1,6 +1,6 @@
 -- What each turn of the loop in `value_at` keeps.
 use Rattle.std.proofs.Common.{◌≡◌, take}
-use Rattle.gf_field.specs.Words.{value}
+use Rattle.coding.specs.Words.{value}
 use Rattle.rs_decode.proofs.forney.value_at.Given as goal
 
 -- the value of the coefficients so far

@@ -1,8 +1,8 @@
 -- The proof of `basis` in src/inverse.rt.
 use Rattle.std.proofs.Common.{◌≡◌, ◌+◌, ◌-◌, length, length-take-le, take, drop, get_or, add-one, ap, sym, ◌∙◌, arith}
 use Rattle.std.proofs.lemmas.List.{length-drop, take_all}
-use Rattle.gf_field.specs.Field.{product}
-use Rattle.gf_field.specs.Words.{value}
+use Rattle.coding.specs.Field.{product}
+use Rattle.coding.specs.Words.{value}
 use Rattle.rs_decode.specs.Inner.Locator.{distances}
 use Rattle.rs_decode.proofs.Inverses.{IsPolynomial-leading, basis-value}
 use Rattle.rs_decode.proofs.inverse.basis.Goals as goal

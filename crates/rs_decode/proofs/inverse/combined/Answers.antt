@@ -1,8 +1,8 @@
 -- The proof of `combined` in src/inverse.rt.
 use Rattle.std.proofs.Common.{get_or, refl, sym, ◌∙◌}
 use Rattle.std.proofs.lemmas.Simd.{get_or-replicate}
-use Rattle.gf_field.specs.Field.{plus, product}
-use Rattle.rs_lanes.specs.Rows.{place}
+use Rattle.coding.specs.Field.{plus, product}
+use Rattle.coding.specs.Rows.{place}
 use Rattle.rs_lanes.proofs.LaneLemmas.{HoldsLanes-zip2}
 use Rattle.rs_decode.proofs.Totals.{total-more, total-none}
 use Rattle.rs_decode.proofs.inverse.combined.Goals as goal

@@ -1,7 +1,7 @@
 -- What each turn of the loop in `combined` keeps.
 use Rattle.std.proofs.Common.{get_or}
-use Rattle.gf_field.specs.Field.{product}
-use Rattle.rs_lanes.specs.Rows.{place}
+use Rattle.coding.specs.Field.{product}
+use Rattle.coding.specs.Rows.{place}
 use Rattle.rs_lanes.specs.Inner.Lanes.{HoldsLanes}
 use Rattle.rs_decode.specs.Register.{total}
 use Rattle.rs_decode.proofs.inverse.combined.Given as goal

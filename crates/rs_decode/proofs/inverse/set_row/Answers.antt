@@ -1,7 +1,7 @@
 -- The proof of `set_row` in src/inverse.rt.
 use Rattle.std.proofs.Common.{◌≡◌, ◌≢◌, ◌<◌, ◌-◌, length, length-set, get_or, get_or-set_other, get_or-set_same, set, below_more, subst, sym, ◌∙◌, arith, inl, inr}
 use Rattle.std.proofs.lemmas.Bool.{cases_eq}
-use Rattle.rs_lanes.specs.Rows.{place}
+use Rattle.coding.specs.Rows.{place}
 use Rattle.rs_decode.proofs.Inverses.{row_at-polynomial}
 use Rattle.rs_decode.proofs.inverse.set_row.Goals as goal
 

@@ -1,6 +1,6 @@
 -- What each turn of the loop in `set_row` keeps.
 use Rattle.std.proofs.Common.{◌≡◌, ◌≢◌, ℕ, ◌-◌, ◌<◌, length, get_or}
-use Rattle.rs_lanes.specs.Rows.{place}
+use Rattle.coding.specs.Rows.{place}
 use Rattle.rs_decode.proofs.inverse.set_row.Given as goal
 
 -- the row so far has the coefficients from the power 0 on, and no other row changed

@@ -1,6 +1,6 @@
 -- What each turn of the loop in `times_distances` keeps.
 use Rattle.std.proofs.Common.{◌≡◌, ℕ, ◌+◌, ◌≤◌, length, take}
-use Rattle.gf_field.specs.Field.{product}
+use Rattle.coding.specs.Field.{product}
 use Rattle.rs_decode.specs.Inner.Inverse.{IsPolynomial}
 use Rattle.rs_decode.specs.Inner.Locator.{distances}
 use Rattle.rs_decode.proofs.inverse.times_distances.Given as goal

@@ -1,7 +1,7 @@
 -- What each turn of the loop in `mark_zeros` keeps.
 use Rattle.std.proofs.Common.{◌≡◌, ℕ, ◌-◌, ◌<◌, ◌≤◌, false, ◌||◌, ◌==◌, length, get_or}
-use Rattle.gf_field.specs.Field.{alpha, power}
-use Rattle.gf_field.specs.Words.{value}
+use Rattle.coding.specs.Field.{alpha, power}
+use Rattle.coding.specs.Words.{value}
 use Rattle.rs_decode.proofs.locating.mark_zeros.Given as goal
 
 -- before the place the zeros are marked; from there on nothing changed

@@ -1,6 +1,6 @@
 -- What each turn of the loop in `take_out_point` keeps.
 use Rattle.std.proofs.Common.{◌≡◌, ℕ, ◌+◌, ◌<◌, ◌≤◌, get_or}
-use Rattle.gf_field.specs.Field.{plus, product}
+use Rattle.coding.specs.Field.{plus, product}
 use Rattle.rs_decode.proofs.locating.take_out_point.Given as goal
 
 -- one place before k and lower the new sums stand; from there on nothing changed

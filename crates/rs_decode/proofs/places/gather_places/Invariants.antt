@@ -1,6 +1,6 @@
 -- What each turn of the loop in `gather_places` keeps.
 use Rattle.std.proofs.Common.{◌≡◌, ◌≤◌, length, take}
-use Rattle.rs_decode.specs.Filling.{marked}
+use Rattle.coding.specs.Filling.{marked}
 use Rattle.rs_decode.specs.Inner.Places.{ArePlaces}
 use Rattle.rs_decode.proofs.places.gather_places.Given as goal
 

@@ -1,7 +1,7 @@
 -- The proof of `marked_points` in src/places.rt.
 use Rattle.std.proofs.Common.{◌≡◌, ◌<◌, ◌+◌, ◌-◌, ◌++◌, ◌∷◌, [], length, take, arith, ap, sym, ◌∙◌}
 use Rattle.std.proofs.lemmas.List.{get_or-take, length-take, take_all}
-use Rattle.gf_field.specs.Field.{alpha, power}
+use Rattle.coding.specs.Field.{alpha, power}
 use Rattle.rs_code.specs.Inner.PowerSums.{points_of}
 use Rattle.rs_code.proofs.PowerSums.{length-points_of}
 use Rattle.rs_decode.specs.Inner.Places.{picked}

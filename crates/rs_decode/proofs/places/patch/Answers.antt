@@ -2,8 +2,8 @@
 use Rattle.std.proofs.Common.{◌≡◌, ◌-◌, ◌<◌, length, length-set, get_or, set, arith, ap, sym, subst, refl, All, ◌∙◌}
 use Rattle.std.proofs.lemmas.List.{take_all}
 use Rattle.std.proofs.lemmas.List.Elements.{All-from_get_or}
-use Rattle.gf_field.specs.Field.{plus}
-use Rattle.gf_field.specs.Words.{IsByte}
+use Rattle.coding.specs.Field.{plus}
+use Rattle.coding.specs.Words.{IsByte}
 use Rattle.rs_decode.specs.Inner.Places.{patched}
 use Rattle.rs_decode.proofs.Marks.{byte-added, patched-next, patched-none, point-nonzero, point-within}
 use Rattle.rs_decode.proofs.places.patch.Goals as goal

@@ -1,6 +1,6 @@
 -- What each turn of the loop in `patch` keeps.
 use Rattle.std.proofs.Common.{◌≡◌, All, Bool, List, length, take}
-use Rattle.gf_field.specs.Words.{IsByte}
+use Rattle.coding.specs.Words.{IsByte}
 use Rattle.rs_code.specs.Inner.PowerSums.{points_of}
 use Rattle.rs_decode.specs.Inner.Places.{picked, patched}
 use Rattle.rs_decode.proofs.places.patch.Given as goal

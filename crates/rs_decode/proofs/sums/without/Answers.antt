@@ -4,7 +4,7 @@ use Rattle.std.specs.List.{range_with_len}
 use Rattle.std.specs.Simd.Lanes.{chunk, pick_l}
 use Rattle.std.proofs.lemmas.List.{get_or_append_left}
 use Rattle.std.proofs.lemmas.Simd.{get_or-chunk, pick_l-range_with_len}
-use Rattle.gf_field.specs.Field.{plus}
+use Rattle.coding.specs.Field.{plus}
 use Rattle.gf_field.proofs.FieldLaws.{product-comm}
 use Rattle.rs_lanes.proofs.LaneLemmas.{HoldsLanes-zip2}
 use Rattle.rs_decode.proofs.sums.without.Goals as goal

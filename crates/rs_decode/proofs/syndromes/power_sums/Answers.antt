@@ -1,7 +1,7 @@
 -- The proof of `power_sums` in src/syndromes.rt.
 use Rattle.std.proofs.Common.{◌≡◌, ◌-◌, ◌∙◌, suc, drop, get_or, refl, sym, ap, arith}
 use Rattle.std.proofs.lemmas.Simd.{get_or-replicate}
-use Rattle.gf_field.specs.Field.{plus, product}
+use Rattle.coding.specs.Field.{plus, product}
 use Rattle.rs_code.specs.Inner.PowerSums.{power_sum}
 use Rattle.rs_lanes.proofs.LaneLemmas.{HoldsLanes-zip2}
 use Rattle.rs_decode.proofs.LaneSums.{power_sum-end, power_sum-lane}

@@ -1,7 +1,7 @@
 -- What each turn of the loop in `values` keeps.
 use Rattle.std.proofs.Common.{drop}
-use Rattle.gf_field.specs.Field.{alpha, power}
-use Rattle.gf_field.specs.Words.{value}
+use Rattle.coding.specs.Field.{alpha, power}
+use Rattle.coding.specs.Words.{value}
 use Rattle.rs_lanes.specs.Inner.Lanes.{HoldsLanes}
 use Rattle.rs_decode.proofs.syndromes.values.Given as goal
 

@@ -1,7 +1,7 @@
 -- The proof of `add_term` in src/values.rt.
 use Rattle.std.proofs.Common.{◌≡◌, ◌+◌, ◌-◌, ◌*◌, get_or, ap, subst, ◌∙◌, inl, inr, refl, arith}
 use Rattle.std.proofs.lemmas.Bool.{cases_lt}
-use Rattle.gf_field.specs.Field.{alpha, plus, product, power}
+use Rattle.coding.specs.Field.{alpha, plus, product, power}
 use Rattle.gf_field.proofs.FieldLaws.{product-comm}
 use Rattle.rs_decode.proofs.Powers.{term-next_group}
 use Rattle.rs_decode.proofs.values.add_term.Goals as goal

@@ -1,6 +1,6 @@
 -- What each turn of the loop in `add_term` keeps.
 use Rattle.std.proofs.Common.{◌≡◌, ℕ, ◌+◌, ◌*◌, ◌<◌, ◌≤◌, length, get_or}
-use Rattle.gf_field.specs.Field.{alpha, plus, product, power}
+use Rattle.coding.specs.Field.{alpha, plus, product, power}
 use Rattle.rs_decode.proofs.values.add_term.Given as goal
 
 -- the groups before this one have the term's values, those of this one stand in the lanes, and from there on nothing changed

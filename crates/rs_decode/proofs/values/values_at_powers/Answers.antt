@@ -2,8 +2,8 @@
 use Rattle.std.proofs.Common.{◌-◌, ◌*◌, length, get_or, refl, sym, ap, ◌∙◌, arith}
 use Rattle.std.proofs.lemmas.Simd.{get_or-replicate}
 use Rattle.std.proofs.Math.ListN.{drop_of_length-le}
-use Rattle.gf_field.specs.Field.{alpha, plus, product, power}
-use Rattle.gf_field.specs.Words.{value}
+use Rattle.coding.specs.Field.{alpha, plus, product, power}
+use Rattle.coding.specs.Words.{value}
 use Rattle.rs_code.proofs.Values.{value-nil}
 use Rattle.rs_decode.proofs.Powers.{value-next_term}
 use Rattle.rs_decode.proofs.values.values_at_powers.Goals as goal

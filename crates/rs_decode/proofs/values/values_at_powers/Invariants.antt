@@ -1,7 +1,7 @@
 -- What each turn of the loop in `values_at_powers` keeps.
 use Rattle.std.proofs.Common.{◌≡◌, ℕ, ◌-◌, ◌<◌, length, drop, get_or}
-use Rattle.gf_field.specs.Field.{alpha, power}
-use Rattle.gf_field.specs.Words.{value}
+use Rattle.coding.specs.Field.{alpha, power}
+use Rattle.coding.specs.Words.{value}
 use Rattle.rs_decode.proofs.values.values_at_powers.Given as goal
 
 -- the values of the terms below the exponent

@@ -1,9 +1,9 @@
 -- The proof of `column_values` in src/columns.rt.
 use Rattle.std.proofs.Common.{◌≡◌, ◌%◌, ◌+◌, length, map, refl, ap, ◌∙◌, arith}
 use Rattle.std.proofs.lemmas.List.{length-map}
-use Rattle.gf_field.specs.Field.{alpha, power}
-use Rattle.gf_field.specs.Words.{value}
-use Rattle.rs_lanes.specs.Rows.{column}
+use Rattle.coding.specs.Field.{alpha, power}
+use Rattle.coding.specs.Words.{value}
+use Rattle.coding.specs.Rows.{column}
 use Rattle.rs_lanes.proofs.ColumnLemmas.{length-column}
 use Rattle.rs_lanes.proofs.ParityLemmas.{filled-whole}
 use Rattle.rs_lanes.proofs.columns.column_values.Goals as goal

@@ -1,7 +1,7 @@
 -- The proof of `outer_parity` in src/columns.rt.
 use Rattle.std.proofs.Common.{◌*◌, ◌++◌, arith}
-use Rattle.gf_field.specs.Words.{IsEncoded}
-use Rattle.rs_lanes.specs.Rows.{column}
+use Rattle.coding.specs.Words.{IsEncoded}
+use Rattle.coding.specs.Rows.{column}
 use Rattle.rs_lanes.proofs.ColumnLemmas.{group_more}
 use Rattle.rs_lanes.proofs.ParityLemmas.{encoded_kept}
 use Rattle.rs_lanes.proofs.columns.outer_parity.Goals as goal

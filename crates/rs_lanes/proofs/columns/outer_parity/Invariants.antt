@@ -1,7 +1,7 @@
 -- What each turn of the loop in `outer_parity` keeps.
 use Rattle.std.proofs.Common.{◌≡◌, ℕ, ◌*◌, ◌<◌, ◌++◌, length}
-use Rattle.gf_field.specs.Words.{IsEncoded}
-use Rattle.rs_lanes.specs.Rows.{column}
+use Rattle.coding.specs.Words.{IsEncoded}
+use Rattle.coding.specs.Rows.{column}
 use Rattle.rs_lanes.proofs.columns.outer_parity.Given as goal
 
 -- the columns of the groups that are done have their parity

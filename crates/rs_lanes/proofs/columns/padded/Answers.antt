@@ -1,6 +1,6 @@
 -- The proof of `padded` in src/columns.rt.
 use Rattle.std.proofs.Common.{◌+◌, ◌-◌, get_or, map, ap, sym, ◌∙◌, arith}
-use Rattle.rs_lanes.specs.Rows.{column}
+use Rattle.coding.specs.Rows.{column}
 use Rattle.rs_lanes.specs.Inner.Parity.{filled}
 use Rattle.rs_lanes.proofs.ColumnLemmas.{get_or-column}
 use Rattle.rs_lanes.proofs.ParityLemmas.{get_or-filled_back}

@@ -1,7 +1,7 @@
 -- The proof of `put_thirds` in src/columns.rt.
 use Rattle.std.proofs.Common.{◌≡◌, ℕ, ◌+◌, ◌≤◌, List, length, map, subst, arith}
 use Rattle.std.proofs.lemmas.List.{length-map}
-use Rattle.rs_lanes.specs.Rows.{column}
+use Rattle.coding.specs.Rows.{column}
 use Rattle.rs_lanes.specs.Inner.Parity.{filled}
 use Rattle.rs_lanes.proofs.ColumnLemmas.{length-column}
 use Rattle.rs_lanes.proofs.ParityLemmas.{length-filled, filled-bytes}

@@ -1,6 +1,6 @@
 -- What each turn of the loop in `put_vectors` keeps.
 use Rattle.std.proofs.Common.{◌≡◌, ℕ, ◌+◌, ◌<◌, ◌≤◌, length}
-use Rattle.rs_lanes.specs.Rows.{line, place}
+use Rattle.coding.specs.Rows.{line, place}
 use Rattle.rs_lanes.proofs.columns.put_vectors.Given as goal
 
 -- the rows above k are set at the 32 places, and no other place is changed

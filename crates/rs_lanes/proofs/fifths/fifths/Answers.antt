@@ -1,9 +1,9 @@
 -- The proof of `fifths` in src/fifths.rt.
 use Rattle.std.proofs.Common.{ℕ, ◌*◌, ◌<◌, [], ◌∷◌, get_or, arith}
-use Rattle.gf_field.specs.Field.{alpha, power}
-use Rattle.gf_field.specs.Words.{value}
+use Rattle.coding.specs.Field.{alpha, power}
+use Rattle.coding.specs.Words.{value}
 use Rattle.rs_lanes.specs.Inner.Lanes.{HasLanes}
-use Rattle.rs_lanes.specs.Rows.{line}
+use Rattle.coding.specs.Rows.{line}
 use Rattle.rs_lanes.proofs.FactorLemmas.{PRODUCTS-tables}
 use Rattle.rs_lanes.proofs.FifthLemmas.{FifthSums, fifth_sums, each_of_five}
 use Rattle.rs_lanes.proofs.LaneLemmas.{byte_lane}

@@ -1,8 +1,8 @@
 -- The proof of `folded_places` in src/fifths.rt.
 use Rattle.std.proofs.Common.{◌≡◌, ℕ, ◌+◌, ◌*◌, [], length, get_or, sym, subst, ◌<◌, ◌∙◌, ap, arith}
 use Rattle.std.proofs.lemmas.List.{length-map}
-use Rattle.gf_field.specs.Field.{alpha, product, power}
-use Rattle.rs_lanes.specs.Rows.{place}
+use Rattle.coding.specs.Field.{alpha, product, power}
+use Rattle.coding.specs.Rows.{place}
 use Rattle.rs_lanes.specs.Inner.Thirds.{third}
 use Rattle.rs_lanes.proofs.ThirdLemmas.{get_or-third}
 use Rattle.rs_lanes.proofs.FifthLemmas.{folded-exponent}

@@ -1,6 +1,6 @@
 -- The proof of `turned` in src/fifths.rt.
 use Rattle.std.proofs.Common.{◌≡◌, ◌*◌, ◌%◌, get_or, sym, ap, subst, ◌∙◌, arith}
-use Rattle.gf_field.specs.Field.{alpha, product, power}
+use Rattle.coding.specs.Field.{alpha, product, power}
 use Rattle.gf_field.proofs.FieldLaws.{power-zero, product-one}
 use Rattle.rs_lanes.specs.Inner.Lanes.{HasLanes}
 use Rattle.rs_lanes.proofs.FactorLemmas.{POWERS-tables}

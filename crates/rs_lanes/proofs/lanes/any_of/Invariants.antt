@@ -1,6 +1,6 @@
 -- What each turn of the loop in `any_of` keeps.
 use Rattle.std.proofs.Common.{◌≡◌, ◌↔◌, ℕ, ◌<◌, length, get_or}
-use Rattle.rs_lanes.specs.Rows.{place}
+use Rattle.coding.specs.Rows.{place}
 use Rattle.rs_lanes.proofs.lanes.any_of.Given as goal
 
 -- a lane is zero where those of the vectors so far are

@@ -1,5 +1,5 @@
 -- The proof of `mixed` in src/lanes.rt.
-use Rattle.gf_field.specs.Field.{plus}
+use Rattle.coding.specs.Field.{plus}
 use Rattle.rs_lanes.proofs.LaneLemmas.{HoldsLanes-zip2}
 use Rattle.rs_lanes.proofs.lanes.mixed.Goals as goal
 

@@ -1,6 +1,6 @@
 -- The proof of `with_multiple` in src/lanes.rt.
 use Rattle.std.proofs.Common.{get_or, ap, ◌∙◌}
-use Rattle.gf_field.specs.Field.{plus}
+use Rattle.coding.specs.Field.{plus}
 use Rattle.rs_lanes.proofs.lanes.with_multiple.Goals as goal
 
 pub returns-clause-size : goal.returns-clause-size

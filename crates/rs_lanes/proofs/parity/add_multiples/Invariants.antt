@@ -1,7 +1,7 @@
 -- What each turn of the loop in `add_multiples` keeps.
 use Rattle.std.proofs.Common.{◌≡◌, ℕ, ◌<◌, ◌≤◌, length, get_or}
-use Rattle.gf_field.specs.Field.{plus, product}
-use Rattle.rs_lanes.specs.Rows.{line, place}
+use Rattle.coding.specs.Field.{plus, product}
+use Rattle.coding.specs.Rows.{line, place}
 use Rattle.rs_lanes.specs.Inner.Lanes.{HasLanes}
 use Rattle.rs_lanes.proofs.parity.add_multiples.Given as goal
 

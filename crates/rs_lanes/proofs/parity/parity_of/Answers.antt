@@ -1,8 +1,8 @@
 -- The proof of `parity_of` in src/parity.rt.
 use Rattle.std.proofs.Common.{◌≡◌, ℕ, sym, ap, ◌∙◌, arith}
 use Rattle.std.proofs.lemmas.Simd.{length-replicate}
-use Rattle.gf_field.specs.Field.{plus, product}
-use Rattle.rs_lanes.specs.Rows.{line, place}
+use Rattle.coding.specs.Field.{plus, product}
+use Rattle.coding.specs.Rows.{line, place}
 use Rattle.rs_lanes.proofs.LaneLemmas.{HasLanes-zeros}
 use Rattle.rs_lanes.proofs.ParityLemmas.{combined, combined-zero, combined_more, combined_bytes, combined_values}
 use Rattle.rs_lanes.proofs.parity.parity_of.Goals as goal

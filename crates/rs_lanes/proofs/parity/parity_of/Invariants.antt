@@ -1,6 +1,6 @@
 -- What each turn of the loop in `parity_of` keeps.
 use Rattle.std.proofs.Common.{◌≡◌, ℕ, ◌<◌, length}
-use Rattle.rs_lanes.specs.Rows.{line, place}
+use Rattle.coding.specs.Rows.{line, place}
 use Rattle.rs_lanes.specs.Inner.Lanes.{HasLanes}
 use Rattle.rs_lanes.proofs.ParityLemmas.{combined}
 use Rattle.rs_lanes.proofs.parity.parity_of.Given as goal

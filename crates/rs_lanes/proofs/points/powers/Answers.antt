@@ -1,7 +1,7 @@
 -- The proof of `powers` in src/points.rt.
 use Rattle.std.proofs.Common.{◌∙◌, get_or, ap, zero-add}
 use Rattle.std.proofs.lemmas.Simd.{get_or-chunk}
-use Rattle.rs_lanes.specs.Rows.{line}
+use Rattle.coding.specs.Rows.{line}
 use Rattle.rs_lanes.specs.declared.factors.TheConstants.{POWERS}
 use Rattle.rs_lanes.proofs.FactorLemmas.{POWERS-power}
 use Rattle.rs_lanes.proofs.points.powers.Goals as goal

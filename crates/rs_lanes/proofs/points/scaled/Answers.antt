@@ -1,6 +1,6 @@
 -- The proof of `scaled` in src/points.rt.
 use Rattle.std.proofs.Common.{get_or, ◌∙◌, arith}
-use Rattle.gf_field.specs.Field.{plus}
+use Rattle.coding.specs.Field.{plus}
 use Rattle.rs_lanes.proofs.FactorLemmas.{PRODUCTS-tables}
 use Rattle.rs_lanes.proofs.LaneLemmas.{HoldsLanes-zip2, byte_lane}
 use Rattle.rs_lanes.proofs.Nibbles.{product-nibbles}

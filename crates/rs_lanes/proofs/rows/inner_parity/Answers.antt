@@ -1,10 +1,10 @@
 -- The proof of `inner_parity` in src/rows.rt.
 use Rattle.std.proofs.Common.{◌≡◌, ℕ, ◌%◌, ◌+◌, ◌<◌, All, length, take, refl, sym, ap, subst, ◌∙◌, arith, length-take-le}
 use Rattle.std.proofs.lemmas.List.{map-id}
-use Rattle.gf_field.specs.Field.{alpha, power}
-use Rattle.gf_field.specs.Words.{IsByte, IsEncoded, value}
+use Rattle.coding.specs.Field.{alpha, power}
+use Rattle.coding.specs.Words.{IsByte, IsEncoded, value}
 use Rattle.rs_code.proofs.Values.{value-byte}
-use Rattle.rs_lanes.specs.Rows.{line, place, column}
+use Rattle.coding.specs.Rows.{line, place, column}
 use Rattle.rs_lanes.specs.Inner.Parity.{filled}
 use Rattle.rs_lanes.specs.Inner.Thirds.{third}
 use Rattle.rs_lanes.proofs.ColumnLemmas.{length-column, turned_row}

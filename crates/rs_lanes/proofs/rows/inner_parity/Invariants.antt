@@ -1,6 +1,6 @@
 -- What each turn of the loop in `inner_parity` keeps.
 use Rattle.std.proofs.Common.{◌≡◌, ℕ, ◌+◌, ◌<◌, ◌≤◌, ◌++◌, length, take}
-use Rattle.rs_lanes.specs.Rows.{line, column}
+use Rattle.coding.specs.Rows.{line, column}
 use Rattle.rs_lanes.proofs.rows.inner_parity.Given as goal
 
 -- n rows have their parity, and all others are as they were

@@ -2,7 +2,7 @@
 use Rattle.std.proofs.Common.{get_or, take, ap, sym, ◌∙◌, arith, get_or-take, length-take-le}
 use Rattle.std.proofs.lemmas.List.{get_or_past}
 use Rattle.std.proofs.lemmas.Simd.{get_or-replicate}
-use Rattle.rs_lanes.specs.Rows.{column}
+use Rattle.coding.specs.Rows.{column}
 use Rattle.rs_lanes.proofs.ColumnLemmas.{length-column, get_or-column}
 use Rattle.rs_lanes.proofs.rows.lanes_or_zeros.Goals as goal
 use Rattle.rs_lanes.proofs.rows.lanes_or_zeros.Goals.{then-at-count, else-at-count}

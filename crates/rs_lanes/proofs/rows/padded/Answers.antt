@@ -1,6 +1,6 @@
 -- The proof of `padded` in src/rows.rt.
 use Rattle.std.proofs.Common.{get_or, take, ap, sym, ◌∙◌, arith}
-use Rattle.rs_lanes.specs.Rows.{column}
+use Rattle.coding.specs.Rows.{column}
 use Rattle.rs_lanes.specs.Inner.Parity.{filled}
 use Rattle.rs_lanes.proofs.ParityLemmas.{get_or-filled_back}
 use Rattle.rs_lanes.proofs.ThirdLemmas.{zeros_in_front}

@@ -3,7 +3,7 @@ use Rattle.std.proofs.Common.{◌≡◌, ◌+◌, ◌-◌, ◌++◌, length, get
 use Rattle.std.proofs.lemmas.Bool.{cases_lt}
 use Rattle.std.proofs.lemmas.Grind.{same_number_lists}
 use Rattle.std.proofs.lemmas.List.{get_or_append_left, get_or-append_right}
-use Rattle.rs_lanes.specs.Rows.{column}
+use Rattle.coding.specs.Rows.{column}
 use Rattle.rs_lanes.proofs.ColumnLemmas.{length-column, get_or-column}
 use Rattle.rs_lanes.proofs.rows.put_end.Goals as goal
 

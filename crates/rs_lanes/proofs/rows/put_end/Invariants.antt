@@ -1,6 +1,6 @@
 -- What each turn of the loop in `put_end` keeps.
 use Rattle.std.proofs.Common.{◌≡◌, ℕ, ◌+◌, ◌<◌, length, get_or}
-use Rattle.rs_lanes.specs.Rows.{place}
+use Rattle.coding.specs.Rows.{place}
 use Rattle.rs_lanes.proofs.rows.put_end.Given as goal
 
 -- the first 172 bytes are as they were, and k bytes behind them are set

@@ -1,6 +1,6 @@
 -- The proof of `put_thirds` in src/rows.rt.
 use Rattle.std.proofs.Common.{◌≡◌, ℕ, ◌+◌, ◌≤◌, List, length, take, subst, arith, length-take-le}
-use Rattle.rs_lanes.specs.Rows.{column}
+use Rattle.coding.specs.Rows.{column}
 use Rattle.rs_lanes.specs.Inner.Parity.{filled}
 use Rattle.rs_lanes.proofs.ColumnLemmas.{length-column}
 use Rattle.rs_lanes.proofs.ParityLemmas.{length-filled, filled-bytes}

@@ -1,6 +1,6 @@
 -- What each turn of the loop in `put_thirds` keeps.
 use Rattle.std.proofs.Common.{take}
-use Rattle.rs_lanes.specs.Rows.{column}
+use Rattle.coding.specs.Rows.{column}
 use Rattle.rs_lanes.specs.Inner.Parity.{filled}
 use Rattle.rs_lanes.proofs.ThirdLemmas.{HasThirds}
 use Rattle.rs_lanes.proofs.rows.put_thirds.Given as goal

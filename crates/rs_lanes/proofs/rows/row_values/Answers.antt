@@ -1,9 +1,9 @@
 -- The proof of `row_values` in src/rows.rt.
 use Rattle.std.proofs.Common.{◌≡◌, ℕ, ◌+◌, ◌<◌, List, length, map, All, ap, subst, ◌∙◌, arith}
 use Rattle.std.proofs.lemmas.List.{map-id}
-use Rattle.gf_field.specs.Field.{alpha, power}
-use Rattle.gf_field.specs.Words.{IsByte, value}
-use Rattle.rs_lanes.specs.Rows.{line, place, column}
+use Rattle.coding.specs.Field.{alpha, power}
+use Rattle.coding.specs.Words.{IsByte, value}
+use Rattle.coding.specs.Rows.{line, place, column}
 use Rattle.rs_lanes.proofs.ColumnLemmas.{turned_row}
 use Rattle.rs_lanes.proofs.rows.row_values.Goals as goal
 

@@ -1,9 +1,9 @@
 -- The proof of `turned_values` in src/rows.rt.
 use Rattle.std.proofs.Common.{◌≡◌, ℕ, ◌%◌, List, length, take, All, refl, sym, ap, subst, ◌∙◌, arith}
 use Rattle.std.proofs.Math.Seq.{take-length}
-use Rattle.gf_field.specs.Field.{alpha, power}
-use Rattle.gf_field.specs.Words.{IsByte, value}
-use Rattle.rs_lanes.specs.Rows.{column}
+use Rattle.coding.specs.Field.{alpha, power}
+use Rattle.coding.specs.Words.{IsByte, value}
+use Rattle.coding.specs.Rows.{column}
 use Rattle.rs_lanes.specs.Inner.Parity.{filled}
 use Rattle.rs_lanes.proofs.ColumnLemmas.{length-column}
 use Rattle.rs_lanes.proofs.ParityLemmas.{filled-whole}

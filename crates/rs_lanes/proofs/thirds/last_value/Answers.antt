@@ -2,9 +2,9 @@
 use Rattle.std.proofs.Common.{refl, sym, ap, ◌∙◌, get_or, arith}
 use Rattle.std.proofs.lemmas.List.{length-map}
 use Rattle.std.proofs.lemmas.Simd.{get_or-replicate}
-use Rattle.gf_field.specs.Field.{alpha, power}
+use Rattle.coding.specs.Field.{alpha, power}
 use Rattle.rs_code.proofs.Values.{value-nil}
-use Rattle.rs_lanes.specs.Rows.{place}
+use Rattle.coding.specs.Rows.{place}
 use Rattle.rs_lanes.specs.Inner.Thirds.{folded, third}
 use Rattle.rs_lanes.proofs.FifthLemmas.{power-last}
 use Rattle.rs_lanes.proofs.ThirdLemmas.{value-fives, value-fives_more}

@@ -1,7 +1,7 @@
 -- What each turn of the loop in `last_value` keeps.
 use Rattle.std.proofs.Common.{take}
-use Rattle.gf_field.specs.Field.{alpha, power}
-use Rattle.gf_field.specs.Words.{value}
+use Rattle.coding.specs.Field.{alpha, power}
+use Rattle.coding.specs.Words.{value}
 use Rattle.rs_lanes.specs.Inner.Lanes.{HasLanes}
 use Rattle.rs_lanes.specs.Inner.Thirds.{folded, third}
 use Rattle.rs_lanes.proofs.thirds.last_value.Given as goal

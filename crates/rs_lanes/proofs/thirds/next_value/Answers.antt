@@ -1,6 +1,6 @@
 -- The proof of `next_value` in src/thirds.rt.
 use Rattle.std.proofs.Common.{◌≡◌, ◌*◌, get_or, sym, ap, subst, ◌∙◌, arith}
-use Rattle.gf_field.specs.Field.{alpha, plus, product, power}
+use Rattle.coding.specs.Field.{alpha, plus, product, power}
 use Rattle.gf_field.proofs.FieldLaws.{product-comm}
 use Rattle.rs_lanes.specs.Inner.Lanes.{HasLanes}
 use Rattle.rs_lanes.proofs.FactorLemmas.{POWERS-tables}

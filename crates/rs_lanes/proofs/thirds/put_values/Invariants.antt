@@ -1,6 +1,6 @@
 -- What each turn of the loop in `put_values` keeps.
 use Rattle.std.proofs.Common.{◌≡◌, ◌≢◌, ℕ, ◌%◌, ◌<◌, length}
-use Rattle.rs_lanes.specs.Rows.{line}
+use Rattle.coding.specs.Rows.{line}
 use Rattle.rs_lanes.specs.Inner.Thirds.{exponent_at}
 use Rattle.rs_lanes.proofs.thirds.put_values.Given as goal
 

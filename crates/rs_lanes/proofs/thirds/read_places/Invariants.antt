@@ -1,7 +1,7 @@
 -- What each turn of the loop in `read_places` keeps.
 use Rattle.std.proofs.Common.{◌≡◌, ℕ, ◌<◌, ◌≤◌, length}
-use Rattle.gf_field.specs.Field.{alpha, plus, product, power}
-use Rattle.rs_lanes.specs.Rows.{line, place}
+use Rattle.coding.specs.Field.{alpha, plus, product, power}
+use Rattle.coding.specs.Rows.{line, place}
 use Rattle.rs_lanes.specs.Inner.Lanes.{HasLanes}
 use Rattle.rs_lanes.specs.Inner.Thirds.{exponent_at}
 use Rattle.rs_lanes.proofs.thirds.read_places.Given as goal

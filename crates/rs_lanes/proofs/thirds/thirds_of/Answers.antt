@@ -1,6 +1,6 @@
 -- The proof of `thirds_of` in src/thirds.rt.
 use Rattle.std.proofs.Common.{ℕ, ◌<◌, [], ◌∷◌, get_or, arith}
-use Rattle.rs_lanes.specs.Rows.{line}
+use Rattle.coding.specs.Rows.{line}
 use Rattle.rs_lanes.specs.Inner.Lanes.{HasLanes}
 use Rattle.rs_lanes.specs.Inner.Thirds.{third_byte}
 use Rattle.rs_lanes.proofs.FactorLemmas.{PRODUCTS-tables}

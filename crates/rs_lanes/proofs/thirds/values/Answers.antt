@@ -1,9 +1,9 @@
 -- The proof of `values` in src/thirds.rt.
 use Rattle.std.proofs.Common.{sym, ◌∙◌, arith}
 use Rattle.std.proofs.lemmas.List.{length-map}
-use Rattle.gf_field.specs.Field.{alpha, power}
+use Rattle.coding.specs.Field.{alpha, power}
 use Rattle.rs_code.proofs.Values.{value-nil}
-use Rattle.rs_lanes.specs.Rows.{place}
+use Rattle.coding.specs.Rows.{place}
 use Rattle.rs_lanes.specs.Inner.Thirds.{exponent_at, third}
 use Rattle.rs_lanes.proofs.LaneLemmas.{HasLanes-zeros}
 use Rattle.rs_lanes.proofs.ThirdLemmas.{value-fives, value-fives_more}

@@ -1,8 +1,8 @@
 -- What each turn of the loop in `values` keeps.
 use Rattle.std.proofs.Common.{ℕ, ◌<◌, take}
-use Rattle.gf_field.specs.Field.{alpha, power}
-use Rattle.gf_field.specs.Words.{value}
-use Rattle.rs_lanes.specs.Rows.{line}
+use Rattle.coding.specs.Field.{alpha, power}
+use Rattle.coding.specs.Words.{value}
+use Rattle.coding.specs.Rows.{line}
 use Rattle.rs_lanes.specs.Inner.Lanes.{HasLanes}
 use Rattle.rs_lanes.specs.Inner.Thirds.{exponent_at, folded, third}
 use Rattle.rs_lanes.proofs.thirds.values.Given as goal

@@ -1,9 +1,9 @@
 -- The proof of `values_of` in src/thirds.rt.
 use Rattle.std.proofs.Common.{◌≡◌, ℕ, ◌%◌, List, sym, subst, ◌∙◌, inl, inr, arith}
 use Rattle.std.proofs.lemmas.Bool.{cases_eq}
-use Rattle.gf_field.specs.Field.{alpha, power}
-use Rattle.gf_field.specs.Words.{value}
-use Rattle.rs_lanes.specs.Rows.{line}
+use Rattle.coding.specs.Field.{alpha, power}
+use Rattle.coding.specs.Words.{value}
+use Rattle.coding.specs.Rows.{line}
 use Rattle.rs_lanes.specs.Inner.Lanes.{HasLanes}
 use Rattle.rs_lanes.specs.Inner.Thirds.{exponent_at, third}
 use Rattle.rs_lanes.proofs.FifthLemmas.{all_exponents}

@@ -1,6 +1,6 @@
 -- What each turn of the loop in `put_tile` keeps.
 use Rattle.std.proofs.Common.{◌≡◌, ℕ, ◌+◌, ◌<◌, ◌≤◌, length}
-use Rattle.rs_lanes.specs.Rows.{line}
+use Rattle.coding.specs.Rows.{line}
 use Rattle.rs_lanes.proofs.turning.put_tile.Given as goal
 
 -- k vectors are set, and all others are as they were

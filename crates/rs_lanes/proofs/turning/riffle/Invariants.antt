@@ -1,6 +1,6 @@
 -- What each turn of the loop in `riffle` keeps.
 use Rattle.std.proofs.Common.{◌≡◌, ℕ, ◌+◌, ◌*◌, ◌/◌, ◌%◌, ◌<◌, length}
-use Rattle.rs_lanes.specs.Rows.{line, place}
+use Rattle.coding.specs.Rows.{line, place}
 use Rattle.rs_lanes.proofs.turning.riffle.Given as goal
 
 -- the first k pairs are set

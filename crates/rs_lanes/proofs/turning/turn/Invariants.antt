@@ -1,6 +1,6 @@
 -- What each turn of the loop in `turn` keeps.
 use Rattle.std.proofs.Common.{◌≡◌, ℕ, ◌+◌, ◌*◌, ◌<◌, length, map}
-use Rattle.rs_lanes.specs.Rows.{line, place}
+use Rattle.coding.specs.Rows.{line, place}
 use Rattle.rs_lanes.proofs.turning.turn.Given as goal
 
 -- the vectors of the tiles that are done are set

@@ -1,6 +1,6 @@
 -- The proof of `Block::add_parity` in src/block.rt.
 use Rattle.std.proofs.Common.{◌≡◌, ℕ, List, ◌++◌, length, take, drop, sym, ◌∙◌, subst}
-use Rattle.dvd_block.specs.Product.{IsParityAdded}
+use Rattle.coding.specs.Product.{IsParityAdded}
 use Rattle.dvd_block.proofs.RowParts.{lent_whole}
 use Rattle.dvd_block.proofs.block.Block.add_parity.Goals as goal
 

@@ -1,6 +1,6 @@
 -- The proof of `Block::get_frame` in src/block.rt.
 use Rattle.std.proofs.Common.{ℕ, ◌+◌, ◌-◌, ◌*◌, List, ap, sym, ◌∙◌, arith}
-use Rattle.dvd_block.specs.Product.{place, HoldsFrame}
+use Rattle.coding.specs.Product.{place, HoldsFrame}
 use Rattle.dvd_block.proofs.RowParts.{lent_row}
 use Rattle.dvd_block.proofs.block.Block.get_frame.Goals as goal
 

@@ -1,6 +1,6 @@
 -- The proof of `Block::place_parity` in src/block.rt.
 use Rattle.std.proofs.Common.{◌≡◌, ℕ, ◌-◌, List, length, get_or, take, ap, sym, ◌∙◌, arith}
-use Rattle.dvd_block.specs.Product.{place}
+use Rattle.coding.specs.Product.{place}
 use Rattle.dvd_block.proofs.RowParts.{back_written, back_front}
 use Rattle.dvd_block.proofs.block.Block.place_parity.Goals as goal
 

@@ -1,6 +1,6 @@
 -- The proof of `Work::block_byte` in src/work.rt.
 use Rattle.std.proofs.Common.{◌∙◌, ℕ, List, ap}
-use Rattle.dvd_block.specs.Product.{place}
+use Rattle.coding.specs.Product.{place}
 use Rattle.dvd_capture.proofs.Columns.{two_pass_once}
 use Rattle.dvd_capture.proofs.WorkParts.{block-place, marks-height, rows-height}
 use Rattle.dvd_capture.proofs.work.Work.block_byte.Goals as goal

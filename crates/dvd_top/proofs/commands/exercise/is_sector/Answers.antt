@@ -1,7 +1,7 @@
 -- The proof of `is_sector` in src/commands/exercise.rt.
 use Rattle.std.proofs.Common.{◌≡◌, ◌∙◌, ◌+◌, ◌-◌, ◌*◌, ap, arith, drop, take}
 use Rattle.std.specs.Str.{bytes_eq}
-use Rattle.dvd_block.specs.Product.{line}
+use Rattle.coding.specs.Product.{line}
 use Rattle.dvd_capture.specs.Works.{sectors_of}
 use Rattle.dvd_top.proofs.commands.exercise.is_sector.Goals as goal
 

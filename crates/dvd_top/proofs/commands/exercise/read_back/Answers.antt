@@ -1,8 +1,8 @@
 -- The proof of `read_back` in src/commands/exercise.rt.
 use Rattle.std.proofs.Common.{◌≡◌, ◌∙◌, ◌+◌, true, None, Some, IfErr, sym, ap, subst}
 use Rattle.dvd_capture.specs.Works.{marks_of_work, rows_of}
-use Rattle.dvd_read.specs.Found.{block_differences}
-use Rattle.dvd_read.specs.Reading.{block_cause}
+use Rattle.coding.specs.Found.{block_differences}
+use Rattle.dvd_decoding.specs.Reading.{block_cause}
 use Rattle.dvd_top.specs.Inner.Exercising.{are_sectors}
 use Rattle.dvd_top.proofs.ExerciseTrials.{same_sectors}
 use Rattle.dvd_top.proofs.commands.exercise.read_back.Goals as goal

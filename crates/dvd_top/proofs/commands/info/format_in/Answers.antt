@@ -2,7 +2,7 @@
 use Rattle.std.proofs.Common.{◌≡◌, ◌∙◌, inr, Some, refl, ap, sym}
 use Rattle.dvd_capture.specs.Works.{marks_of_work, rows_of, sectors_of}
 use Rattle.dvd_control.specs.Format.{control_fault}
-use Rattle.dvd_read.specs.Reading.{IsReadAs}
+use Rattle.dvd_decoding.specs.Reading.{IsReadAs}
 use Rattle.dvd_top.proofs.InfoBlocks.{not_ok, on_ok}
 use Rattle.dvd_top.proofs.commands.info.format_in.Goals as goal
 

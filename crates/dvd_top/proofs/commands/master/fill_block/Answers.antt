@@ -1,7 +1,7 @@
 -- The proof of `fill_block` in src/commands/master.rt.
 use Rattle.std.proofs.Common.{subst, arith, below_more}
 use Rattle.dvd_block.specs.Buffers.{block_rows}
-use Rattle.dvd_block.specs.Product.{HoldsFrame}
+use Rattle.coding.specs.Product.{HoldsFrame}
 use Rattle.dvd_top.specs.Commands.Master.{frame_for}
 use Rattle.dvd_top.proofs.BlockFrames.{holds_other, holds_kept, block_of}
 use Rattle.dvd_top.proofs.commands.master.fill_block.Goals as goal

@@ -1,7 +1,7 @@
 -- What each turn of the loop in `fill_block` keeps.
 use Rattle.std.proofs.Common.{ℕ, ◌<◌}
 use Rattle.dvd_block.specs.Buffers.{block_rows}
-use Rattle.dvd_block.specs.Product.{HoldsFrame}
+use Rattle.coding.specs.Product.{HoldsFrame}
 use Rattle.dvd_top.specs.Commands.Master.{frame_for}
 use Rattle.dvd_top.proofs.commands.master.fill_block.Given as goal
 

@@ -2,7 +2,7 @@
 use Rattle.std.proofs.Common.{◌≡◌, ◌∙◌, ◌-◌, List, [], ◌∷◌, ◌++◌, length, length-append, refl, ap, arith}
 use Rattle.dvd_capture.specs.Works.{marks_of_work, rows_of}
 use Rattle.dvd_loop.proofs.TurnLemmas.{err_is, write_begun, write_done}
-use Rattle.dvd_read.specs.Reading.{block_cause}
+use Rattle.dvd_decoding.specs.Reading.{block_cause}
 use Rattle.dvd_report.specs.Survey.{surveyed}
 use Rattle.dvd_report.specs.declared.counts.Surveyed.{Surveyed}
 use Rattle.dvd_top.specs.Commands.Survey.{turn_by}

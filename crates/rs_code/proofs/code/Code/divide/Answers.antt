@@ -1,7 +1,7 @@
 -- The proof of `Code::divide` in src/code.rt.
 use Rattle.std.proofs.Common.{◌≡◌, length, ◌∙◌, sym, arith}
 use Rattle.std.proofs.lemmas.List.Elements.{All-from_get_or}
-use Rattle.gf_field.specs.Words.{IsByte}
+use Rattle.coding.specs.Words.{IsByte}
 use Rattle.rs_code.proofs.Codewords.{IsCodeword-by_tables}
 use Rattle.rs_code.proofs.Generator.{generator_of, length-generator_of}
 use Rattle.rs_code.proofs.Multiples.{PI-tables, PO-tables}

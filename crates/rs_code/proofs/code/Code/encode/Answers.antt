@@ -1,6 +1,6 @@
 -- The proof of `Code::encode` in src/code.rt.
 use Rattle.std.proofs.Common.{◌++◌, subst, arith}
-use Rattle.gf_field.specs.Words.{IsEncoded}
+use Rattle.coding.specs.Words.{IsEncoded}
 use Rattle.rs_code.proofs.Codewords.{IsEncoded-from_codeword}
 use Rattle.rs_code.proofs.code.Code.encode.Goals as goal
 

@@ -1,8 +1,8 @@
 -- The proof of `Code::remainder` in src/code.rt.
 use Rattle.std.proofs.Common.{◌≡◌, length, All, sym, ◌∙◌, subst, ap, arith}
 use Rattle.std.proofs.lemmas.List.Elements.{All-append}
-use Rattle.gf_field.specs.Field.{alpha, power}
-use Rattle.gf_field.specs.Words.{IsByte, value}
+use Rattle.coding.specs.Field.{alpha, power}
+use Rattle.coding.specs.Words.{IsByte, value}
 use Rattle.rs_code.proofs.Codewords.{value-remainder}
 use Rattle.rs_code.proofs.Distance.{All-sum_of}
 use Rattle.rs_code.proofs.code.Code.remainder.Goals as goal

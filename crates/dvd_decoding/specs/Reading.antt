@@ -2,12 +2,12 @@
 use Rattle.std.specs.Prelude.{◌≡◌, ℕ, Bool, List, replicate, is_none, None, if◌then◌else◌}
 use Rattle.std.specs.Option.{option_or}
 use Rattle.std.specs.declared.option.Option.{Option}
-use Rattle.dvd_capture.specs.TwoPass.{IsTwoPass, answers_of}
+use Rattle.coding.specs.TwoPass.{IsTwoPass, answers_of}
 use Rattle.dvd_layout.specs.declared.entry.BlockPlan.{BlockPlan}
-use Rattle.dvd_read.specs.declared.cause.Cause.{Cause}
-use Rattle.dvd_read.specs.Causes.{two_pass_cause}
-use Rattle.dvd_read.specs.Found.{block_found}
-use Rattle.dvd_read.specs.Frames.{frames_cause, main_data}
+use Rattle.dvd_decoding.specs.declared.cause.Cause.{Cause}
+use Rattle.dvd_decoding.specs.Causes.{two_pass_cause}
+use Rattle.coding.specs.Found.{block_found}
+use Rattle.dvd_decoding.specs.Frames.{frames_cause, main_data}
 
 -- the block that two passes find in these rows and marks
 abbrev pub block_in : List (List ℕ) → List (List Bool) → List (List ℕ)

@@ -1,7 +1,7 @@
 -- ECC blocks (ECMA-267, 18): 208 rows of 182 bytes, a product code. A block is the list of its rows.
 use Rattle.std.specs.Prelude.{◌≡◌, ℕ, ◌+◌, ◌*◌, ◌<◌, List, length, All, slice_index}
-use Rattle.gf_field.specs.Words.{IsCodeword}
-pub use Rattle.rs_lanes.specs.Rows.{line, place, column}
+use Rattle.coding.specs.Words.{IsCodeword}
+pub use Rattle.coding.specs.Rows.{line, place, column}
 
 -- Each row is a codeword with ten bytes of inner parity (PI), and each column one with sixteen of outer parity (PO),
 -- the columns of PI bytes and the rows of PO bytes too. The code sets one after the other.

@@ -1,6 +1,6 @@
 -- Words whose bytes at marked places are lost: erasures of the codes of ECMA-267, clauses 16.2 and 18.
 use Rattle.std.specs.Prelude.{◌≡◌, ℕ, ◌+◌, ◌<◌, ◌≤◌, Bool, false, List, [], ◌∷◌, if◌then◌else◌, length, slice_index, slice_index_or}
-use Rattle.gf_field.specs.Words.{IsCodeword}
+use Rattle.coding.specs.Words.{IsCodeword}
 
 -- how many places are marked
 unfoldable pub marked : List Bool → ℕ

@@ -3,9 +3,9 @@
 use Rattle.std.specs.Prelude.{ℕ, ◌<◌, ◌≤◌, Bool, List, [], ◌∷◌, map, slice_index, Some, None, is_none}
 use Rattle.std.specs.List.{range_with_len}
 use Rattle.std.specs.declared.option.Option.{Option}
-use Rattle.gf_field.specs.Words.{cost}
-use Rattle.rs_decode.specs.Nearest.{near_of}
-use Rattle.dvd_block.specs.Product.{IsProduct, column}
+use Rattle.coding.specs.Words.{cost}
+use Rattle.coding.specs.Nearest.{near_of}
+use Rattle.coding.specs.Product.{IsProduct, column}
 
 -- what the first pass answers to each row: the codeword near it, or none
 unfoldable pub answers_of : List (List ℕ) → List (List Bool) → List (Option (List ℕ))

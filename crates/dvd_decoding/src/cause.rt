@@ -1,17 +1,6 @@
-//! Why a block is refused, and what was fixed of one that isn't.
+//! Why a block is refused.
 
 use thiserror::Error;
-
-/// What two passes fixed: the places, marked or not, where the block differs from what was received, and the rows that
-/// failed in the first pass.
-/// A marked place whose byte happens to be right isn't counted, as it needed no correction.
-#[derive(Clone, Copy, Debug, PartialEq, Eq)]
-pub struct Fixed {
-    /// How many places differ, at most 37,856.
-    pub bytes: u32,
-    /// How many rows failed, at most 16 where a block was found.
-    pub failed_rows: u16,
-}
 
 /// The first rule that a block breaks.
 #[derive(Clone, Copy, Debug, PartialEq, Eq, Error)]

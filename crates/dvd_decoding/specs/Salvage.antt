@@ -4,13 +4,13 @@ use Rattle.std.specs.Prelude.{ℕ, ◌*◌, Bool, List, [], count_by, drop, map,
 use Rattle.std.specs.List.{list_any, range_with_len}
 use Rattle.std.specs.Option.{option_and_then}
 use Rattle.std.specs.declared.option.Option.{Option}
-use Rattle.dvd_capture.specs.TwoPass.{answers_of}
+use Rattle.coding.specs.TwoPass.{answers_of}
 use Rattle.dvd_frame.specs.Frame.{frame_cause, main_in}
 use Rattle.dvd_layout.specs.Place.{rule_for}
 use Rattle.dvd_layout.specs.declared.entry.BlockPlan.{BlockPlan}
-use Rattle.dvd_read.specs.Causes.{two_pass_cause}
-use Rattle.dvd_read.specs.Found.{block_found}
-use Rattle.dvd_read.specs.Frames.{frame_of, wanted_word}
+use Rattle.dvd_decoding.specs.Causes.{two_pass_cause}
+use Rattle.coding.specs.Found.{block_found}
+use Rattle.dvd_decoding.specs.Frames.{frame_of, wanted_word}
 
 -- the rows' answers as a block; a failed row has no bytes
 abbrev pub answered_block : List (Option (List ℕ)) → List (List ℕ)

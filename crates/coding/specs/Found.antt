@@ -2,8 +2,8 @@
 use Rattle.std.specs.Prelude.{ℕ, ◌+◌, List, [], ◌∷◌, map, unwrap_or}
 use Rattle.std.specs.List.{range_with_len}
 use Rattle.std.specs.declared.option.Option.{Option}
-use Rattle.rs_code.specs.Distance.{distance}
-use Rattle.dvd_capture.specs.TwoPass.{column_answer, from_columns}
+use Rattle.coding.specs.Distance.{distance}
+use Rattle.coding.specs.TwoPass.{column_answer, from_columns}
 
 -- what the second pass answers to the columns
 unfoldable pub columns_of : List (Option (List ℕ)) → List (Option (List ℕ))

@@ -4,8 +4,8 @@
 use Rattle.std.specs.Prelude.{ℕ, zero, suc, Bool, ◌&&◌, ◌==◌, nat_lt, nat_le, List, [], ◌∷◌, length, map, find}
 use Rattle.std.specs.List.{flat_map, range_with_len, list_all}
 use Rattle.std.specs.declared.option.Option.{Option}
-use Rattle.gf_field.specs.Field.{alpha, power}
-use Rattle.gf_field.specs.Words.{value, cost}
+use Rattle.coding.specs.Field.{alpha, power}
+use Rattle.coding.specs.Words.{value, cost}
 
 -- every word of n bytes
 unfoldable pub all_words : ℕ → List (List ℕ)

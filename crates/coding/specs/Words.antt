@@ -1,7 +1,7 @@
 -- Words over the field and their codes (ECMA-267, clauses 16.2 and 18).
 -- A word of n bytes is a polynomial whose first byte is the coefficient of x^(n-1).
 use Rattle.std.specs.Prelude.{◌≡◌, ℕ, ◌+◌, ◌-◌, ◌<◌, ◌≤◌, Bool, List, [], ◌∷◌, length, take, All, ◌==◌, if◌then◌else◌}
-use Rattle.gf_field.specs.Field.{alpha, plus, product, power}
+use Rattle.coding.specs.Field.{alpha, plus, product, power}
 
 -- a byte is a number below 256
 abbrev pub IsByte : ℕ → Type 0

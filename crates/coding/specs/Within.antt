@@ -1,8 +1,8 @@
 -- How much damage two-pass decoding bears: against the block that was recorded, twice the bad rows plus the lost rows
 -- must be at most 16.
 use Rattle.std.specs.Prelude.{ℕ, ◌+◌, ◌≤◌, Bool, List, [], ◌∷◌, nat_lt, nat_le, if◌then◌else◌}
-use Rattle.gf_field.specs.Words.{cost}
-use Rattle.rs_decode.specs.Filling.{marked}
+use Rattle.coding.specs.Words.{cost}
+use Rattle.coding.specs.Filling.{marked}
 
 -- A row weighs nothing where it is good, its cost being at most 10; one where it is lost, more than 10 of its places
 -- being marked; and two where it is bad.

@@ -7,11 +7,11 @@ use Rattle.dvd_frame.specs.Id.{id_word}
 use Rattle.dvd_frame.specs.Frame.{frame_cause, main_in}
 use Rattle.dvd_frame.specs.declared.reading.FrameCause.{FrameCause}
 use Rattle.dvd_frame.specs.declared.reading.FrameCause.TheVariants as frames
-use Rattle.dvd_block.specs.Product.{line}
+use Rattle.coding.specs.Product.{line}
 use Rattle.dvd_layout.specs.declared.entry.BlockPlan.{BlockPlan}
 use Rattle.dvd_layout.specs.Place.{rule_for}
-use Rattle.dvd_read.specs.declared.cause.Cause.{Cause}
-use Rattle.dvd_read.specs.declared.cause.Cause.TheVariants.{Ied, Address, Edc}
+use Rattle.dvd_decoding.specs.declared.cause.Cause.{Cause}
+use Rattle.dvd_decoding.specs.declared.cause.Cause.TheVariants.{Ied, Address, Edc}
 
 -- frame f: places 0 to 171 of twelve rows, one after the other
 unfoldable pub frame_of : List (List ℕ) → ℕ → List ℕ
