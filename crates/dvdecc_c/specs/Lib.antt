@@ -1,0 +1,4 @@
+-- What the contracts speak of: the statuses, and what the calls leave in the buffers, as functions of the definitions.
+pub mod Frames
+pub mod Sectors
+pub mod Words

@@ -1,0 +1,77 @@
+//! Scrambling (ECMA-267, 17) and data frames (16).
+ghost use Rattle.std.specs.Prelude.{◌≡◌};
+ghost use Rattle.dvdecc_c.specs.Frames.{rule_numbered, rule_status, with_scrambling, with_frame, reading_status, with_main, with_found};
+
+use crate::status;
+use dvd_frame::{FrameCause, Id, Rule};
+
+/// Combines Main Data with the scrambling bytes of an ID word. Twice is once undone.
+#[unsafe(no_mangle)]
+pub extern "C" fn dvdecc_scramble(id: u32, rule: u32, main: &mut [u8; 2048]) -> u32
+    ensures status { result ≡ rule_status (rule_numbered rule) }
+    ensures main { main.new ≡ with_scrambling (rule_numbered rule) id main.old }
+{
+    let Some(which) = numbered(rule) else {
+        return status::BAD_RULE;
+    };
+    dvd_frame::scramble(which, Id::from_word(id), main);
+    status::OK
+}
+
+/// Writes the data frame of an ID word, six bytes CPR_MAI and Main Data, which are scrambled in it.
+#[unsafe(no_mangle)]
+pub extern "C" fn dvdecc_make_frame(
+    id: u32,
+    cpr: &[u8; 6],
+    rule: u32,
+    main: &[u8; 2048],
+    frame: &mut [u8; 2064],
+) -> u32
+    ensures status { result ≡ rule_status (rule_numbered rule) }
+    ensures frame { frame.new ≡ with_frame (rule_numbered rule) id cpr.now main.now frame.old }
+{
+    let Some(which) = numbered(rule) else {
+        return status::BAD_RULE;
+    };
+    dvd_frame::make_frame(Id::from_word(id), cpr, which, main, frame);
+    status::OK
+}
+
+/// Checks a data frame, and writes its Main Data unscrambled. Where it names another place, `found` is the ID word that it has.
+#[unsafe(no_mangle)]
+pub extern "C" fn dvdecc_read_frame(
+    frame: &[u8; 2064],
+    id: u32,
+    rule: u32,
+    main: &mut [u8; 2048],
+    found: &mut u32,
+) -> u32
+    ensures status { result ≡ reading_status (rule_numbered rule) frame.now id }
+    ensures main { main.new ≡ with_main (rule_numbered rule) frame.now id main.old }
+    ensures found { found.new ≡ with_found (rule_numbered rule) frame.now id found.old }
+{
+    let Some(which) = numbered(rule) else {
+        return status::BAD_RULE;
+    };
+    match dvd_frame::read_frame(frame, Id::from_word(id), which, main) {
+        Ok(()) => status::OK,
+        Err(FrameCause::Ied) => status::IED,
+        Err(FrameCause::Address { found: word }) => {
+            *found = word;
+            status::ID
+        }
+        Err(FrameCause::Edc) => status::EDC,
+    }
+}
+
+// The rule of a number.
+fn numbered(rule: u32) -> Option<Rule>
+    ensures { result ≡ rule_numbered rule }
+{
+    match rule {
+        0 => Some(Rule::Whole),
+        1 => Some(Rule::Off),
+        2 => Some(Rule::First160),
+        _ => None,
+    }
+}

@@ -1,0 +1,118 @@
+//! Rows and columns of a block (ECMA-267, 18): their parity, whether they are codewords, and their decoding.
+ghost use Rattle.std.specs.Prelude.{◌≡◌, ◌<◌, ◌≤◌, ◌↔◌, IsTrue, take, unwrap_or};
+ghost use Rattle.gf_field.specs.Words.{IsCodeword, IsEncoded};
+ghost use Rattle.rs_decode.specs.Nearest.{near_of};
+ghost use Rattle.dvdecc_c.specs.Words.{lost_marks, word_status, with_correction};
+
+use crate::status;
+use rs_code::{Code, Pi, Po};
+use rs_decode::decode;
+
+/// What the decoding of a word corrected.
+#[repr(C)]
+#[derive(Clone, Copy, Debug, PartialEq, Eq)]
+pub struct Correction {
+    /// How many places that weren't lost changed.
+    pub errors: u32,
+    /// How many places were lost.
+    pub erasures: u32,
+}
+
+/// Sets the last 10 bytes of a row so that it is a codeword.
+#[unsafe(no_mangle)]
+pub extern "C" fn dvdecc_row_parity(row: &mut [u8; 182])
+    ensures { IsEncoded 182 10 (take 172 row.old) row.new }
+{
+    Pi::new().encode(row);
+}
+
+/// Whether a row is a codeword.
+#[unsafe(no_mangle)]
+pub extern "C" fn dvdecc_row_is_codeword(row: &[u8; 182]) -> bool
+    ensures { IsTrue result ↔ IsCodeword 182 10 row.now }
+{
+    Pi::new().is_codeword(row)
+}
+
+/// Sets a row to the codeword near it.
+#[unsafe(no_mangle)]
+pub extern "C" fn dvdecc_row_decode(
+    row: &mut [u8; 182],
+    lost: &[u8; 182],
+    correction: &mut Correction,
+) -> u32
+    ensures status { result ≡ word_status (near_of 182 10 row.old (lost_marks lost.now)) }
+    ensures word { row.new ≡ unwrap_or (near_of 182 10 row.old (lost_marks lost.now)) row.old }
+    ensures correction { correction.new
+        ≡ with_correction (near_of 182 10 row.old (lost_marks lost.now)) row.old (lost_marks lost.now) correction.old }
+{
+    decode_word::<182, 10>(row, lost, correction)
+}
+
+/// Sets the last 16 bytes of a column so that it is a codeword.
+#[unsafe(no_mangle)]
+pub extern "C" fn dvdecc_column_parity(column: &mut [u8; 208])
+    ensures { IsEncoded 208 16 (take 192 column.old) column.new }
+{
+    Po::new().encode(column);
+}
+
+/// Whether a column is a codeword.
+#[unsafe(no_mangle)]
+pub extern "C" fn dvdecc_column_is_codeword(column: &[u8; 208]) -> bool
+    ensures { IsTrue result ↔ IsCodeword 208 16 column.now }
+{
+    Po::new().is_codeword(column)
+}
+
+/// Sets a column to the codeword near it.
+#[unsafe(no_mangle)]
+pub extern "C" fn dvdecc_column_decode(
+    column: &mut [u8; 208],
+    lost: &[u8; 208],
+    correction: &mut Correction,
+) -> u32
+    ensures status { result ≡ word_status (near_of 208 16 column.old (lost_marks lost.now)) }
+    ensures word { column.new ≡ unwrap_or (near_of 208 16 column.old (lost_marks lost.now)) column.old }
+    ensures correction { correction.new
+        ≡ with_correction (near_of 208 16 column.old (lost_marks lost.now)) column.old (lost_marks lost.now) correction.old }
+{
+    decode_word::<208, 16>(column, lost, correction)
+}
+
+// Sets a word to the codeword near it.
+fn decode_word<const N: usize, const R: usize>(
+    word: &mut [u8; N],
+    lost: &[u8; N],
+    correction: &mut Correction,
+) -> u32
+    requires some_parity { 1 ≤ R }
+    requires some_message { R < N }
+    requires short { N ≤ 255 }
+    requires few { R ≤ 32 }
+    ensures status { result ≡ word_status (near_of N R word.old (lost_marks lost.now)) }
+    ensures word { word.new ≡ unwrap_or (near_of N R word.old (lost_marks lost.now)) word.old }
+    ensures correction { correction.new
+        ≡ with_correction (near_of N R word.old (lost_marks lost.now)) word.old (lost_marks lost.now) correction.old }
+{
+    let marks = marks_of(lost);
+    match decode(&Code::<N, R>::new(), word, &marks) {
+        Ok(fix) => {
+            correction.errors = u32::from(fix.errors);
+            correction.erasures = u32::from(fix.erased);
+            status::OK
+        }
+        Err(_) => status::UNCORRECTABLE,
+    }
+}
+
+// The marks of a word. C writes bytes, since one that is neither 0 nor 1 isn't a `bool`.
+fn marks_of<const N: usize>(lost: &[u8; N]) -> [bool; N]
+    ensures { result ≡ lost_marks lost.now }
+{
+    let mut marks = [false; N];
+    for (k, mark) in marks.iter_mut().enumerate() {
+        *mark = lost[k] != 0;
+    }
+    marks
+}
