@@ -1,1 +1,2 @@
 -- Why the contracts hold.
+pub mod WholeCapture

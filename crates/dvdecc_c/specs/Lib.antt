@@ -1,4 +1,5 @@
 -- What the contracts speak of: the statuses, and what the calls leave in the buffers, as functions of the definitions.
+pub mod Blocks
 pub mod Frames
 pub mod Sectors
 pub mod Words

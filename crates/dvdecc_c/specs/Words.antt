@@ -3,7 +3,7 @@ use Rattle.std.specs.Prelude.{ℕ, Bool, List, map, not, ◌==◌}
 use Rattle.std.specs.declared.option.Option.{Option}
 use Rattle.std.specs.declared.option.Option.TheVariants.{Some, None}
 use Rattle.rs_decode.specs.Errors.{error_count}
-use Rattle.rs_decode.specs.Filling.{marked}
+use Rattle.coding.specs.Filling.{marked}
 use Rattle.dvdecc_c.specs.declared.words.Correction.{Correction}
 use Rattle.dvdecc_c.specs.declared.status.TheConstants.{OK, UNCORRECTABLE}
 

@@ -4,11 +4,11 @@
 //! A status is a function of the definitions, and after another status than 0 each buffer of the caller is as it was.
 #![tactic(auto)]
 
+mod blocks; // whole blocks: their parity, and two passes over a captured one
 mod checks; // the codes that detect errors
 mod frames; // scrambling and data frames
 mod sectors; // CD-ROM sectors
 mod status; // what the calls answer
 mod words; // rows and columns of a block
-
 #[cfg(test)]
 mod tests;

@@ -1,9 +1,8 @@
 //! CD-ROM sectors of Mode 1 (ECMA-130, 14).
-ghost use Rattle.std.specs.Prelude.{◌≡◌, ◌<◌, ◌≤◌, ◌≢◌};
-ghost use Rattle.rs_code.specs.Distance.{distance};
+ghost use Rattle.std.specs.Prelude.{◌≡◌, ◌<◌, ◌≤◌, ◌≢◌, drop};
+ghost use Rattle.coding.specs.Distance.{distance};
 ghost use Rattle.cd_sector.specs.Repair.{repaired};
 ghost use Rattle.cd_sector.specs.Sector.{IsSector};
-ghost use Rattle.std.specs.Prelude.{drop};
 ghost use Rattle.dvdecc_c.specs.Sectors.{IsAnswered, address_status, answered, with_number};
 
 use crate::status;

@@ -1,7 +1,7 @@
 //! Rows and columns of a block (ECMA-267, 18): their parity, whether they are codewords, and their decoding.
 ghost use Rattle.std.specs.Prelude.{◌≡◌, ◌<◌, ◌≤◌, ◌↔◌, IsTrue, take, unwrap_or};
-ghost use Rattle.gf_field.specs.Words.{IsCodeword, IsEncoded};
-ghost use Rattle.rs_decode.specs.Nearest.{near_of};
+ghost use Rattle.coding.specs.Words.{IsCodeword, IsEncoded};
+ghost use Rattle.coding.specs.Nearest.{near_of};
 ghost use Rattle.dvdecc_c.specs.Words.{lost_marks, word_status, with_correction};
 
 use crate::status;
@@ -111,8 +111,8 @@ fn marks_of<const N: usize>(lost: &[u8; N]) -> [bool; N]
     ensures { result ≡ lost_marks lost.now }
 {
     let mut marks = [false; N];
-    for (k, mark) in marks.iter_mut().enumerate() {
-        *mark = lost[k] != 0;
+    for k in 0..N {
+        marks[k] = lost[k] != 0;
     }
     marks
 }

@@ -1,0 +1,146 @@
+//! Whole blocks (ECMA-267, 18): their parity, and two passes over a captured one.
+ghost use Rattle.std.specs.Prelude.{◌≡◌, ◌≢◌, ℕ, ◌<◌, length, take};
+ghost use Rattle.coding.specs.Product.{IsParityAdded, line};
+ghost use Rattle.coding.specs.TwoPass.{answers_of};
+ghost use Rattle.coding.specs.Words.{IsEncoded};
+ghost use Rattle.dvd_capture.specs.Captured.{captured_marks, captured_rows};
+ghost use Rattle.dvd_capture.specs.Works.{block_of, marks_of_work, rows_of, stage_of};
+ghost use Rattle.dvd_capture.specs.declared.form.Form.TheVariants.{Marked};
+ghost use Rattle.dvd_capture.specs.declared.stage.Stage.TheVariants.{Fetched, Fixed};
+ghost use Rattle.dvd_decoding.specs.Causes.{two_pass_cause};
+ghost use Rattle.dvdecc_c.specs.Blocks.{block_status, captured_answers, cause_number, cause_status, with_block, with_report};
+
+use crate::status;
+use dvd_capture::{Form, Work, fetch};
+use dvd_decoding::Cause;
+use dvd_ports::SliceSource;
+use dvd_read::two_pass;
+use rs_lanes::{inner_parity, outer_parity};
+use std::alloc::Global;
+
+/// What two passes over a captured block came to.
+#[repr(C)]
+#[derive(Clone, Copy, Debug, PartialEq, Eq)]
+pub struct Report {
+    /// In how many places the block differs from what was received, or 0 where none was found.
+    pub corrected: u32,
+    /// How many rows failed in the first pass, or 0 where no block was found.
+    pub failed_rows: u32,
+    /// Where no block was found: the number of failed rows, or the number of the column or of the row.
+    pub number: u32,
+}
+
+/// Sets the parity of a block: the last ten bytes of each row and the last sixteen rows.
+#[unsafe(no_mangle)]
+pub extern "C" fn dvdecc_block_parity(rows: &mut [[u8; 182]; 208])
+    ensures { IsParityAdded rows.old rows.new }
+{
+    let (upper, lower) = rows.split_at_mut(192);
+    set_inner_parity(upper);
+    outer_parity(upper, lower);
+}
+
+/// Decodes a captured block by two passes, and writes its rows in the order of the block.
+#[unsafe(no_mangle)]
+pub extern "C" fn dvdecc_two_pass(
+    alloc: Global,
+    capture: &[u8; 42640],
+    rows: &mut [[u8; 182]; 208],
+    report: &mut Report,
+) -> u32
+    ensures status { result ≢ 2 → result ≡ block_status (two_pass_cause (captured_answers capture.now)) }
+    ensures rows { result ≢ 2 → rows.new ≡ with_block (captured_answers capture.now) rows.old }
+    ensures report { result ≢ 2 → report.new ≡ with_report (captured_rows Marked capture.now) (captured_answers capture.now) }
+    ensures same_rows { result ≡ 2 → rows.new ≡ rows.old }
+    ensures same_report { result ≡ 2 → report.new ≡ report.old }
+{
+    let Ok(mut work) = Work::new(alloc) else {
+        return status::NO_MEMORY;
+    };
+    receive(capture, &mut work);
+    decode_received(&mut work, rows, report)
+}
+
+// Receives a captured block.
+fn receive(capture: &[u8; 42640], work: &mut Work)
+    ensures stage { stage_of work.new ≡ Fetched }
+    ensures rows { rows_of work.new ≡ captured_rows Marked capture.now }
+    ensures marks { marks_of_work work.new ≡ captured_marks Marked capture.now }
+{
+    // A list of so many bytes gives a whole block.
+    let _answer = fetch(&mut SliceSource::new(capture), Form::Marked, work);
+}
+
+// Decodes a block that was received.
+fn decode_received(work: &mut Work, rows: &mut [[u8; 182]; 208], report: &mut Report) -> u32
+    requires { stage_of work.old ≡ Fetched }
+    ensures status { result ≡ block_status (two_pass_cause (answers_of (rows_of work.old) (marks_of_work work.old))) }
+    ensures rows { rows.new ≡ with_block (answers_of (rows_of work.old) (marks_of_work work.old)) rows.old }
+    ensures report { report.new ≡ with_report (rows_of work.old) (answers_of (rows_of work.old) (marks_of_work work.old)) }
+{
+    match two_pass(work) {
+        Ok(fixed) => {
+            put_block(work, rows);
+            *report = Report {
+                corrected: fixed.bytes,
+                failed_rows: u32::from(fixed.failed_rows),
+                number: 0,
+            };
+            status::OK
+        }
+        Err(cause) => told(cause, report),
+    }
+}
+
+// The status of a cause, and its number.
+fn told(cause: Cause, report: &mut Report) -> u32
+    ensures status { result ≡ cause_status cause }
+    ensures report { report.new ≡ record { corrected = 0; failed_rows = 0; number = cause_number cause } }
+{
+    let (status, number) = match cause {
+        Cause::Rows { failed } => (status::ROWS, u32::from(failed)),
+        Cause::Column { j } => (status::COLUMN, u32::from(j)),
+        Cause::Row { i } => (status::ROW, u32::from(i)),
+        Cause::Ied { f } => (status::IED, u32::from(f)),
+        Cause::Address { f, found: _ } => (status::ID, u32::from(f)),
+        Cause::Edc { f } => (status::EDC, u32::from(f)),
+    };
+    *report = Report {
+        corrected: 0,
+        failed_rows: 0,
+        number,
+    };
+    status
+}
+
+// Writes the rows of the block that two passes found.
+fn put_block(work: &Work, rows: &mut [[u8; 182]; 208])
+    requires { stage_of work.now ≡ Fixed }
+    ensures { rows.new ≡ block_of work.now }
+{
+    for i in 0..208usize {
+        put_row(work, i, &mut rows[i]);
+    }
+}
+
+// Writes one of them.
+fn put_row(work: &Work, i: usize, row: &mut [u8; 182])
+    requires stage { stage_of work.now ≡ Fixed }
+    requires row { i < 208 }
+    ensures { row.new ≡ line (block_of work.now) i }
+{
+    for j in 0..182usize {
+        row[j] = work.block_byte(i, j);
+    }
+}
+
+// Sets the inner parity of 192 rows, of 32 at once.
+fn set_inner_parity(rows: &mut [[u8; 182]])
+    requires { length rows.old ≡ 192 }
+    ensures size { length rows.new ≡ 192 }
+    ensures encoded { (i : ℕ) → i < 192 → IsEncoded 182 10 (take 172 (line rows.old i)) (line rows.new i) }
+{
+    for group in 0..6 {
+        inner_parity(rows, 32 * group);
+    }
+}
