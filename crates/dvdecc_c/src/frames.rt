@@ -7,14 +7,14 @@ use dvd_frame::{FrameCause, Id, Rule};
 
 /// Combines Main Data with the scrambling bytes of an ID word. Twice is once undone.
 #[unsafe(no_mangle)]
-pub extern "C" fn dvdecc_scramble(id: u32, rule: u32, main: &mut [u8; 2048]) -> u32
+pub extern "C" fn dvdecc_scramble(id: u32, rule: u32, main_data: &mut [u8; 2048]) -> u32
     ensures status { result ≡ rule_status (rule_numbered rule) }
-    ensures main { main.new ≡ with_scrambling (rule_numbered rule) id main.old }
+    ensures main_data { main_data.new ≡ with_scrambling (rule_numbered rule) id main_data.old }
 {
     let Some(which) = numbered(rule) else {
         return status::BAD_RULE;
     };
-    dvd_frame::scramble(which, Id::from_word(id), main);
+    dvd_frame::scramble(which, Id::from_word(id), main_data);
     status::OK
 }
 
@@ -24,16 +24,16 @@ pub extern "C" fn dvdecc_make_frame(
     id: u32,
     cpr: &[u8; 6],
     rule: u32,
-    main: &[u8; 2048],
+    main_data: &[u8; 2048],
     frame: &mut [u8; 2064],
 ) -> u32
     ensures status { result ≡ rule_status (rule_numbered rule) }
-    ensures frame { frame.new ≡ with_frame (rule_numbered rule) id cpr.now main.now frame.old }
+    ensures frame { frame.new ≡ with_frame (rule_numbered rule) id cpr.now main_data.now frame.old }
 {
     let Some(which) = numbered(rule) else {
         return status::BAD_RULE;
     };
-    dvd_frame::make_frame(Id::from_word(id), cpr, which, main, frame);
+    dvd_frame::make_frame(Id::from_word(id), cpr, which, main_data, frame);
     status::OK
 }
 
@@ -43,17 +43,17 @@ pub extern "C" fn dvdecc_read_frame(
     frame: &[u8; 2064],
     id: u32,
     rule: u32,
-    main: &mut [u8; 2048],
+    main_data: &mut [u8; 2048],
     found: &mut u32,
 ) -> u32
     ensures status { result ≡ reading_status (rule_numbered rule) frame.now id }
-    ensures main { main.new ≡ with_main (rule_numbered rule) frame.now id main.old }
+    ensures main_data { main_data.new ≡ with_main (rule_numbered rule) frame.now id main_data.old }
     ensures found { found.new ≡ with_found (rule_numbered rule) frame.now id found.old }
 {
     let Some(which) = numbered(rule) else {
         return status::BAD_RULE;
     };
-    match dvd_frame::read_frame(frame, Id::from_word(id), which, main) {
+    match dvd_frame::read_frame(frame, Id::from_word(id), which, main_data) {
         Ok(()) => status::OK,
         Err(FrameCause::Ied) => status::IED,
         Err(FrameCause::Address { found: word }) => {

@@ -1,0 +1,76 @@
+//! Many rows by one call, for callers to whom a call costs more than a row.
+ghost use Rattle.std.specs.Prelude.{◌≡◌, ◌≢◌, ℕ, ◌<◌, length, slice_index_or, take};
+ghost use Rattle.coding.specs.Product.{line};
+ghost use Rattle.coding.specs.Words.{IsEncoded};
+ghost use Rattle.dvdecc_c.specs.Lists.{answer_to, lengths_status, row_decoded};
+ghost use Rattle.dvdecc_c.specs.declared.lists.Answer.{Answer};
+
+use crate::status;
+use crate::words::{Correction, dvdecc_row_decode, dvdecc_row_parity};
+
+/// What the decoding of one of many words came to.
+#[repr(C)]
+#[derive(Clone, Copy, Debug, PartialEq, Eq)]
+pub struct Answer {
+    /// The status of the call for one word.
+    pub status: u32,
+    /// What was corrected, or zeros where no codeword is near.
+    pub correction: Correction,
+}
+
+/// Sets the last 10 bytes of each row so that it is a codeword.
+#[unsafe(no_mangle)]
+pub extern "C" fn dvdecc_rows_parity(rows: &mut [[u8; 182]])
+    ensures { (i : ℕ) → i < length rows.old → IsEncoded 182 10 (take 172 (line rows.old i)) (line rows.new i) }
+{
+    for i in 0..rows.len() {
+        dvdecc_row_parity(&mut rows[i]);
+    }
+}
+
+/// Sets each row to the codeword near it, if there is one, and answers for each.
+#[unsafe(no_mangle)]
+pub extern "C" fn dvdecc_rows_decode(
+    rows: &mut [[u8; 182]],
+    lost: &[[u8; 182]],
+    answers: &mut [Answer],
+) -> u32
+    ensures status { result ≡ lengths_status (length rows.old) (length lost.now) (length answers.old) }
+    ensures rows { result ≡ 0 → (i : ℕ) → i < length rows.old → line rows.new i ≡ row_decoded (line rows.old i) (line lost.now i) }
+    ensures answers { result ≡ 0 → (i : ℕ) (other : Answer) → i < length rows.old
+        → slice_index_or answers.new i other ≡ answer_to (line rows.old i) (line lost.now i) }
+    ensures same_rows { result ≢ 0 → rows.new ≡ rows.old }
+    ensures same_answers { result ≢ 0 → answers.new ≡ answers.old }
+{
+    if lost.len() != rows.len() || answers.len() != rows.len() {
+        return status::BAD_LENGTH;
+    }
+    decode_each(rows, lost, answers);
+    status::OK
+}
+
+// Decodes each of as many rows.
+fn decode_each(rows: &mut [[u8; 182]], lost: &[[u8; 182]], answers: &mut [Answer])
+    requires lost { length lost.now ≡ length rows.old }
+    requires answers { length answers.old ≡ length rows.old }
+    ensures rows { (i : ℕ) → i < length rows.old → line rows.new i ≡ row_decoded (line rows.old i) (line lost.now i) }
+    ensures answers { (i : ℕ) (other : Answer) → i < length rows.old
+        → slice_index_or answers.new i other ≡ answer_to (line rows.old i) (line lost.now i) }
+{
+    for i in 0..rows.len() {
+        answers[i] = decode_one(&mut rows[i], &lost[i]);
+    }
+}
+
+// Decodes one row.
+fn decode_one(row: &mut [u8; 182], lost: &[u8; 182]) -> Answer
+    ensures row { row.new ≡ row_decoded row.old lost.now }
+    ensures answer { result ≡ answer_to row.old lost.now }
+{
+    let mut correction = Correction {
+        errors: 0,
+        erasures: 0,
+    };
+    let status = dvdecc_row_decode(row, lost, &mut correction);
+    Answer { status, correction }
+}

@@ -1,0 +1,178 @@
+/* dvdecc.h: the codes, frames and blocks of DVDs (ECMA-267) and the sectors of CD-ROMs (ECMA-130), proved.
+ *
+ * The functions of this header are written in Rattle, and a proof says for all bytes that each does what is promised
+ * here. What is proved, and what isn't, is in docs/LIBRARY.md. No proof covers the caller. The promises hold where:
+ *
+ *   - each pointer leads to as many bytes as its declaration says, and isn't NULL, also where a length is 0;
+ *   - no two buffers of a call overlap where the call writes one of them;
+ *   - no byte of a buffer changes during the call, other than by the call;
+ *   - there are 64 KB of stack left, and malloc and free are those of one allocator;
+ *   - the call doesn't come from a signal handler, nor from a forked child of a process with threads.
+ *
+ * Nothing else is asked of a caller: a number that is out of range has a status. There is nothing to set up, and no
+ * state is kept between calls, so several threads may call at the same time, each with buffers of its own.
+ *
+ * A call with a status does all that it promises, and answers DVDECC_OK, or it leaves each of the caller's buffers as
+ * it was. Only the numbers that say why are written then, where the call says so.
+ *
+ * A row of a block is 182 bytes, of which the last 10 are its inner parity. A column is 208 bytes, of which the last 16
+ * are its outer parity. Both are codewords of Reed-Solomon codes over the field of 256 elements with x^8 + x^4 + x^3 +
+ * x^2 + 1: the first byte is the coefficient of the highest power, and the roots are alpha^0, alpha^1 and so on. With r
+ * parity bytes a word is near a codeword that differs from it in e places, s other places being lost, where 2e + s is at
+ * most r. At most one codeword is near.
+ */
+#ifndef DVDECC_H
+#define DVDECC_H
+
+#include <stdbool.h>
+#include <stddef.h>
+#include <stdint.h>
+
+#ifdef __cplusplus
+extern "C" {
+#endif
+
+/* What a call answers. No number is ever given another meaning. */
+enum dvdecc_status {
+    DVDECC_OK = 0,
+    DVDECC_UNCORRECTABLE = 1, /* no codeword is near the word */
+    DVDECC_NO_MEMORY = 2,     /* malloc gave none, at any time; all buffers are as they were */
+    DVDECC_BAD_RULE = 3,      /* no scrambling rule has this number */
+    DVDECC_BAD_ADDRESS = 4,   /* the address of a CD-ROM sector is 450,000 or more */
+    DVDECC_BAD_LENGTH = 5,    /* the lengths of the lists differ */
+    DVDECC_ROWS = 6,          /* more than 16 rows of a block have no codeword near */
+    DVDECC_COLUMN = 7,        /* a column of the rows' answers has no codeword near */
+    DVDECC_ROW = 8,           /* a row of the columns' answers is no codeword */
+    DVDECC_IED = 9,           /* a data frame has a wrong IED */
+    DVDECC_ID = 10,           /* a data frame names another place */
+    DVDECC_EDC = 11,          /* a data frame has a wrong EDC */
+    DVDECC_CD_PARITY = 12,    /* a P word or a Q word of a CD-ROM sector is no codeword */
+    DVDECC_CD_MODE = 13,      /* a CD-ROM sector has another mode than 1 */
+    DVDECC_CD_ADDRESS = 14,   /* a CD-ROM sector has another address */
+    DVDECC_CD_EDC = 15        /* a CD-ROM sector has a wrong EDC */
+};
+
+/* Which Main Data bytes of a data frame are scrambled. */
+enum dvdecc_rule {
+    DVDECC_WHOLE = 0,    /* all 2,048, as in the Data Zone */
+    DVDECC_OFF = 1,      /* none */
+    DVDECC_FIRST_160 = 2 /* the first 160, as in the first frame of a block of the Reference Code Zone */
+};
+
+/* What the decoding of a word corrected. */
+struct dvdecc_correction {
+    uint32_t errors;   /* places that weren't lost and changed */
+    uint32_t erasures; /* places that were lost */
+};
+
+/* What the decoding of one of many words came to. */
+struct dvdecc_answer {
+    uint32_t status;                     /* that of the call for one word */
+    struct dvdecc_correction correction; /* zeros where no codeword is near */
+};
+
+/* What two passes over a captured block came to. */
+struct dvdecc_report {
+    uint32_t corrected;   /* places where the block differs from what was received; 0 where none was found */
+    uint32_t failed_rows; /* rows with no codeword near, at most 16; 0 where no block was found */
+    uint32_t number;      /* after a cause: the number of failed rows, the column or the row; else 0 */
+};
+
+/* ---- the codes that detect errors ---- */
+
+/* Writes the EDC of a list of bytes, the four last bytes of a data frame: that of its first 2,060 bytes before
+ * scrambling. It is the remainder of the bits times x^32 by x^32 + x^31 + x^4 + 1, the most significant byte first. */
+void dvdecc_edc(const uint8_t *bytes, size_t bytes_count, uint8_t edc[4]);
+
+/* Writes the IED of an ID word: the two bytes with which its four are a codeword of 6 bytes with 2 parity bytes. */
+void dvdecc_ied(uint32_t id, uint8_t ied[2]);
+
+/* Writes the EDC of a list of bytes for a CD-ROM sector: that of its first 2,064 bytes. It is the remainder by
+ * (x^16 + x^15 + x^2 + 1) (x^16 + x^2 + x + 1), the least significant bit and byte first. */
+void dvdecc_cd_edc(const uint8_t *bytes, size_t bytes_count, uint8_t edc[4]);
+
+/* ---- rows and columns ---- */
+
+/* Sets the last 10 bytes so that the row is a codeword. The first 172 stay. */
+void dvdecc_row_parity(uint8_t row[182]);
+
+/* Whether the row is a codeword. */
+bool dvdecc_row_is_codeword(const uint8_t row[182]);
+
+/* Sets the row to the codeword near it. A byte is lost where the byte of `lost` at its place isn't 0, and then its value
+ * doesn't count. DVDECC_UNCORRECTABLE comes exactly where no codeword is near; then all is as it was. */
+uint32_t dvdecc_row_decode(uint8_t row[182], const uint8_t lost[182], struct dvdecc_correction *correction);
+
+/* Sets the last 16 bytes so that the column is a codeword. The first 192 stay. */
+void dvdecc_column_parity(uint8_t column[208]);
+
+/* Whether the column is a codeword. */
+bool dvdecc_column_is_codeword(const uint8_t column[208]);
+
+/* Sets the column to the codeword near it, as dvdecc_row_decode does a row. */
+uint32_t dvdecc_column_decode(uint8_t column[208], const uint8_t lost[208], struct dvdecc_correction *correction);
+
+/* Does what dvdecc_row_parity does to each of so many rows, one after the other in memory. */
+void dvdecc_rows_parity(uint8_t (*rows)[182], size_t rows_count);
+
+/* Does what dvdecc_row_decode does to each of so many rows, and answers for each. DVDECC_OK says only that this was done.
+ * DVDECC_BAD_LENGTH: the three counts aren't one. */
+uint32_t dvdecc_rows_decode(uint8_t (*rows)[182], size_t rows_count, const uint8_t (*lost)[182], size_t lost_count,
+                            struct dvdecc_answer *answers, size_t answers_count);
+
+/* ---- blocks ---- */
+
+/* Sets the parity of a block: the last 10 bytes of each row, and rows 192 to 207. The first 172 bytes of rows 0 to 191
+ * stay: row 12 f + q has the bytes from 172 q on of data frame f. It takes no memory. */
+void dvdecc_block_parity(uint8_t rows[208][182]);
+
+/* Decodes a captured block by two passes: rows first, then columns with the failed rows as erasures, then the test that
+ * each row is a codeword.
+ *
+ * The capture has the rows in the order of RECORDING: after each twelve rows of data one of outer parity, which is row
+ * 192 + f after frame f. Each recorded row has its 182 bytes and then 23 bytes of marks: the mark of place j is bit
+ * 7 - j % 8 of byte j / 8, and a place whose mark is 1 is lost. The rows that are written are in the order of the BLOCK.
+ *
+ * After DVDECC_OK the rows are the one block that two passes determine, and the report has `corrected` and
+ * `failed_rows`. After DVDECC_ROWS, DVDECC_COLUMN or DVDECC_ROW two passes determine none, and the report has `number`;
+ * the rows are as they were. The call takes 150 KB of memory and gives it back. */
+uint32_t dvdecc_two_pass(const uint8_t capture[42640], uint8_t rows[208][182], struct dvdecc_report *report);
+
+/* ---- data frames ---- */
+
+/* Combines Main Data with the scrambling bytes that the ID word selects, as far as the rule says. Done twice, it is
+ * undone. DVDECC_BAD_RULE: the rule is none of dvdecc_rule. */
+uint32_t dvdecc_scramble(uint32_t id, uint32_t rule, uint8_t main_data[2048]);
+
+/* Writes the data frame of an ID word: ID, IED, six bytes CPR_MAI, Main Data scrambled by the rule, EDC.
+ * DVDECC_BAD_RULE: the rule is none of dvdecc_rule. */
+uint32_t dvdecc_make_frame(uint32_t id, const uint8_t cpr[6], uint32_t rule, const uint8_t main_data[2048],
+                           uint8_t frame[2064]);
+
+/* Checks a data frame, and writes its Main Data unscrambled. The first that it lacks is answered: DVDECC_IED, DVDECC_ID
+ * (its area, its layer or its sector number is another than that of `id`; `found` is then its ID word) or DVDECC_EDC.
+ * DVDECC_BAD_RULE: the rule is none of dvdecc_rule. */
+uint32_t dvdecc_read_frame(const uint8_t frame[2064], uint32_t id, uint32_t rule, uint8_t main_data[2048], uint32_t *found);
+
+/* ---- CD-ROM sectors of Mode 1 ---- */
+
+/* Writes the sector of an address: sync, header, mode, user data, EDC, eight zeros, P and Q parity. An address counts
+ * frames of which a second has 75. DVDECC_BAD_ADDRESS: it is 450,000 or more. */
+uint32_t dvdecc_cd_make(uint32_t address, const uint8_t user[2048], uint8_t sector[2352]);
+
+/* Tests a sector that was read; its first 12 bytes aren't looked at. The first that it lacks is answered:
+ * DVDECC_CD_PARITY (`number` is the first word that is no codeword: P words are 0 to 85, Q words 86 to 137),
+ * DVDECC_CD_MODE (the mode), DVDECC_CD_ADDRESS (minute, second and frame as they were read, the minute highest) or
+ * DVDECC_CD_EDC. DVDECC_BAD_ADDRESS: the address is 450,000 or more. */
+uint32_t dvdecc_cd_check(const uint8_t sector[2352], uint32_t address, uint32_t *number);
+
+/* Repairs a sector that was read: each P word becomes the codeword near it, then each Q word, in which bytes of P words
+ * without one are lost; the sync is set. Where dvdecc_cd_check has nothing against it then, `number` is how many bytes
+ * after the sync changed. Else the answer is that of dvdecc_cd_check for it, and the sector is as it was. */
+uint32_t dvdecc_cd_repair(uint8_t sector[2352], uint32_t address, uint32_t *number);
+
+#ifdef __cplusplus
+}
+#endif
+
+#endif
