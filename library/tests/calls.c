@@ -1,0 +1,204 @@
+/* Each call once with bytes that other means give (vectors.h), with damage at its bound and one beyond, and with numbers
+ * out of range. Prints what differs, and 'N passed, M failed'. */
+#include <dvdecc.h>
+#include <stdio.h>
+#include <string.h>
+
+#include "vectors.h"
+
+static int passed, failed;
+
+static void holds(bool is, const char *what) {
+    if (is) {
+        passed++;
+    } else {
+        failed++;
+        printf("FAILED: %s\n", what);
+    }
+}
+
+static void count(uint8_t *bytes, size_t size, unsigned step, unsigned start) {
+    for (size_t k = 0; k < size; k++) {
+        bytes[k] = (uint8_t)(step * k + start + k / 256);
+    }
+}
+
+/* FNV-1a, as vectors.py has it. */
+static uint64_t digest(const uint8_t *bytes, size_t size) {
+    uint64_t number = 0xCBF29CE484222325u;
+    for (size_t k = 0; k < size; k++) {
+        number = (number ^ bytes[k]) * 0x100000001B3u;
+    }
+    return number;
+}
+
+static void checks(void) {
+    uint8_t bytes[2064], edc[4], ied[2];
+    count(bytes, sizeof bytes, 3, 8);
+    dvdecc_edc(bytes, 2060, edc);
+    holds(memcmp(edc, edc_of_counted, 4) == 0, "the EDC of 2,060 bytes");
+    dvdecc_cd_edc(bytes, 2064, edc);
+    holds(memcmp(edc, cd_edc_of_counted, 4) == 0, "the CD-ROM EDC of 2,064 bytes");
+    dvdecc_edc(bytes, 0, edc);
+    holds(memcmp(edc, "\0\0\0\0", 4) == 0, "the EDC of no byte");
+    dvdecc_ied(0x030010, ied);
+    holds(memcmp(ied, ied_of_030010, 2) == 0, "the IED of 00030010");
+}
+
+static void rows(void) {
+    uint8_t row[182], right[182], damaged[182], lost[182] = {0};
+    struct dvdecc_correction fix = {77, 78};
+    count(row, sizeof row, 5, 3);
+    dvdecc_row_parity(row);
+    holds(memcmp(row + 172, row_parity, 10) == 0, "the parity of a row");
+    holds(dvdecc_row_is_codeword(row), "a row with its parity is a codeword");
+    memcpy(right, row, sizeof row);
+    for (unsigned k = 0; k < 4; k++) {
+        row[7 * k] ^= (uint8_t)(k + 1);
+    }
+    row[180] ^= 1, lost[180] = 200, lost[181] = 1; /* one lost byte is right by chance */
+    holds(!dvdecc_row_is_codeword(row), "a damaged row is none");
+    memcpy(damaged, row, sizeof row);
+    holds(dvdecc_row_decode(row, lost, &fix) == DVDECC_OK, "four errors and two lost bytes");
+    holds(memcmp(row, right, sizeof row) == 0 && fix.errors == 4 && fix.erasures == 2, "the row is as it was");
+    memcpy(row, damaged, sizeof row);
+    lost[100] = 1;
+    fix.errors = 77, fix.erasures = 78;
+    holds(dvdecc_row_decode(row, lost, &fix) == DVDECC_UNCORRECTABLE, "one lost byte more");
+    holds(memcmp(row, damaged, sizeof row) == 0 && fix.errors == 77 && fix.erasures == 78, "a refusal changes nothing");
+}
+
+static void columns(void) {
+    uint8_t column[208], right[208], lost[208] = {0};
+    struct dvdecc_correction fix;
+    count(column, sizeof column, 9, 1);
+    dvdecc_column_parity(column);
+    holds(memcmp(column + 192, column_parity, 16) == 0, "the parity of a column");
+    holds(dvdecc_column_is_codeword(column), "a column with its parity is a codeword");
+    memcpy(right, column, sizeof column);
+    for (unsigned k = 0; k < 8; k++) {
+        column[25 * k] ^= 0xFF;
+    }
+    holds(dvdecc_column_decode(column, lost, &fix) == DVDECC_OK && fix.errors == 8, "eight errors in a column");
+    holds(memcmp(column, right, sizeof column) == 0, "the column is as it was");
+    for (unsigned k = 0; k < 17; k++) {
+        lost[k] = 1;
+    }
+    holds(dvdecc_column_decode(column, lost, &fix) == DVDECC_UNCORRECTABLE, "17 lost bytes in a column");
+}
+
+static void lists(void) {
+    uint8_t many[5][182], right[5][182], lost[5][182] = {{0}};
+    /* (before C23 an array of arrays isn't taken as one of const arrays) */
+    const uint8_t(*marks)[182] = (const uint8_t(*)[182])lost;
+    struct dvdecc_answer answers[6];
+    for (unsigned i = 0; i < 5; i++) {
+        count(many[i], 182, 3, i);
+    }
+    dvdecc_rows_parity(many, 5);
+    memcpy(right, many, sizeof many);
+    many[1][5] ^= 9, many[3][0] = 7, lost[3][0] = 1;
+    memset(many[4], 0x5A, 90);
+    holds(dvdecc_rows_decode(many, 5, marks, 4, answers, 5) == DVDECC_BAD_LENGTH, "fewer marks than rows");
+    holds(dvdecc_rows_decode(many, 5, marks, 5, answers, 6) == DVDECC_BAD_LENGTH, "more answers than rows");
+    holds(many[1][5] == (right[1][5] ^ 9), "a refused list is as it was");
+    holds(dvdecc_rows_decode(many, 5, marks, 5, answers, 5) == DVDECC_OK, "five rows");
+    holds(memcmp(many, right, 4 * 182) == 0, "four rows are as they were");
+    holds(answers[1].correction.errors == 1 && answers[3].correction.erasures == 1, "what was corrected in each");
+    holds(answers[0].status == DVDECC_OK && answers[4].status == DVDECC_UNCORRECTABLE, "the status of each");
+}
+
+static uint8_t capture[42640], block[208][182], found[208][182];
+
+/* The capture of a block with no marks: after each twelve rows a row of outer parity. */
+static void record(void) {
+    memset(capture, 0, sizeof capture);
+    for (unsigned m = 0; m < 208; m++) {
+        unsigned i = (m + 1) % 13 == 0 ? 191 + (m + 1) / 13 : m - m / 13;
+        memcpy(capture + 205 * m, block[i], 182);
+    }
+}
+
+static void blocks(void) {
+    struct dvdecc_report report = {1, 2, 3};
+    for (unsigned i = 0; i < 208; i++) {
+        count(block[i], 182, 7, 11 * i);
+    }
+    dvdecc_block_parity(block);
+    holds(digest(block[0], sizeof block) == block_digest, "the parity of a block");
+    record();
+    for (unsigned m = 0; m < 16; m++) {
+        memset(capture + 205 * 13 * m, 0xA5, 182);
+        memset(capture + 205 * 13 * m + 182, 0xFF, 23);
+    }
+    for (unsigned m = 5; m < 208; m += 13) {
+        capture[205 * m + m % 182] ^= 0x10;
+    }
+    holds(dvdecc_two_pass(capture, found, &report) == DVDECC_OK, "sixteen lost rows and sixteen errors");
+    holds(memcmp(found, block, sizeof block) == 0, "the block is as it was");
+    holds(report.failed_rows == 16 && report.corrected > 2000 && report.number == 0, "what was corrected in a block");
+    memset(capture + 205 + 182, 0xFF, 23);
+    memset(found, 1, sizeof found);
+    holds(dvdecc_two_pass(capture, found, &report) == DVDECC_ROWS, "one lost row more");
+    holds(report.number == 17 && report.corrected == 0 && found[207][181] == 1, "a refused block is as it was");
+    record();
+    capture[0] ^= 1, capture[205 * 12 + 181] ^= 1;
+    holds(dvdecc_two_pass(capture, found, &report) == DVDECC_OK && report.corrected == 2, "two errors");
+}
+
+static void frames(void) {
+    static uint8_t main_data[2048], frame[2064], read[2048];
+    const uint8_t cpr[6] = {1, 2, 3, 4, 5, 6};
+    uint32_t other = 99;
+    count(main_data, sizeof main_data, 13, 6);
+    holds(dvdecc_make_frame(0x030010, cpr, DVDECC_WHOLE, main_data, frame) == DVDECC_OK, "a frame is made");
+    holds(digest(frame, sizeof frame) == frame_digest, "the frame of 030010");
+    holds(dvdecc_read_frame(frame, 0x030010, DVDECC_WHOLE, read, &other) == DVDECC_OK, "the frame is read");
+    holds(memcmp(read, main_data, sizeof read) == 0 && other == 99, "its Main Data");
+    holds(dvdecc_read_frame(frame, 0x030011, DVDECC_WHOLE, read, &other) == DVDECC_ID && other == 0x030010, "another place");
+    frame[2063] ^= 1;
+    holds(dvdecc_read_frame(frame, 0x030010, DVDECC_WHOLE, read, &other) == DVDECC_EDC, "a wrong EDC");
+    frame[4] ^= 1;
+    holds(dvdecc_read_frame(frame, 0x030010, DVDECC_WHOLE, read, &other) == DVDECC_IED, "a wrong IED");
+    holds(dvdecc_read_frame(frame, 0x030010, 3, read, &other) == DVDECC_BAD_RULE, "rule 3");
+    holds(dvdecc_make_frame(0x030010, cpr, 4000000000u, main_data, frame) == DVDECC_BAD_RULE, "rule 4000000000");
+    memcpy(read, main_data, sizeof read);
+    holds(dvdecc_scramble(0x030010, DVDECC_FIRST_160, read) == DVDECC_OK, "160 bytes scrambled");
+    holds(memcmp(read, frame + 12, 160) == 0 && memcmp(read + 160, main_data + 160, 1888) == 0, "they are those of the frame");
+    holds(dvdecc_scramble(0x030010, DVDECC_OFF, read) == DVDECC_OK, "none scrambled");
+    holds(dvdecc_scramble(0x030010, 3, read) == DVDECC_BAD_RULE, "scrambled by rule 3");
+}
+
+static void sectors(void) {
+    static uint8_t user[2048], sector[2352], right[2352];
+    uint32_t number = 99;
+    count(user, sizeof user, 7, 0);
+    holds(dvdecc_cd_make(123456, user, sector) == DVDECC_OK, "a CD-ROM sector is made");
+    holds(digest(sector, sizeof sector) == cd_digest, "the sector of 123,456");
+    holds(dvdecc_cd_check(sector, 123456, &number) == DVDECC_OK && number == 99, "it is right");
+    holds(dvdecc_cd_check(sector, 123457, &number) == DVDECC_CD_ADDRESS && number == 0x272606, "another address");
+    memcpy(right, sector, sizeof sector);
+    sector[0] = 9, sector[50] ^= 1;
+    holds(dvdecc_cd_check(sector, 123456, &number) == DVDECC_CD_PARITY && number == 38, "a wrong byte");
+    holds(dvdecc_cd_repair(sector, 123456, &number) == DVDECC_OK && number == 1, "it is repaired");
+    holds(memcmp(sector, right, sizeof sector) == 0, "to what it was");
+    memset(sector + 100, 0, 900);
+    memcpy(right, sector, sizeof sector);
+    holds(dvdecc_cd_repair(sector, 123456, &number) == DVDECC_CD_PARITY, "too much damage");
+    holds(memcmp(sector, right, sizeof sector) == 0, "is left as it was");
+    holds(dvdecc_cd_make(450000, user, sector) == DVDECC_BAD_ADDRESS, "address 450,000 made");
+    holds(dvdecc_cd_check(sector, 450000, &number) == DVDECC_BAD_ADDRESS, "address 450,000 tested");
+    holds(dvdecc_cd_repair(sector, 4000000000u, &number) == DVDECC_BAD_ADDRESS, "address 4,000,000,000 repaired");
+}
+
+int main(void) {
+    checks();
+    rows();
+    columns();
+    lists();
+    blocks();
+    frames();
+    sectors();
+    printf("%d passed, %d failed\n", passed, failed);
+    return failed != 0;
+}
