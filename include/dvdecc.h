@@ -39,7 +39,7 @@ enum dvdecc_status {
     DVDECC_NO_MEMORY = 2,     /* malloc gave none, at any time; all buffers are as they were */
     DVDECC_BAD_RULE = 3,      /* no scrambling rule has this number */
     DVDECC_BAD_ADDRESS = 4,   /* the address of a CD-ROM sector is 450,000 or more */
-    DVDECC_BAD_LENGTH = 5,    /* the lengths of the lists differ */
+    DVDECC_BAD_LENGTH = 5,    /* the lengths of the lists don't fit */
     DVDECC_ROWS = 6,          /* more than 16 rows of a block have no codeword near */
     DVDECC_COLUMN = 7,        /* a column of the rows' answers has no codeword near */
     DVDECC_ROW = 8,           /* a row of the columns' answers is no codeword */
@@ -119,6 +119,17 @@ void dvdecc_rows_parity(uint8_t (*rows)[182], size_t rows_count);
  * DVDECC_BAD_LENGTH: the three counts aren't one. */
 uint32_t dvdecc_rows_decode(uint8_t (*rows)[182], size_t rows_count, const uint8_t (*lost)[182], size_t lost_count,
                             struct dvdecc_answer *answers, size_t answers_count);
+
+/* ---- words of any length up to 255, with 1 to 32 parity bytes, over the same field and from alpha^0 on ---- */
+
+/* Sets the last `parity` bytes so that the word is a codeword. DVDECC_BAD_LENGTH: `parity` isn't 1 to 32, or the word
+ * hasn't more bytes than that, or has more than 255. */
+uint32_t dvdecc_rs_parity(uint8_t *word, size_t word_count, uint32_t parity);
+
+/* Sets a word with `parity` parity bytes to the codeword near it, as dvdecc_row_decode does a row. DVDECC_BAD_LENGTH: as
+ * for dvdecc_rs_parity, or `lost` hasn't as many bytes as the word. */
+uint32_t dvdecc_rs_decode(uint8_t *word, size_t word_count, const uint8_t *lost, size_t lost_count, uint32_t parity,
+                          struct dvdecc_correction *correction);
 
 /* ---- blocks ---- */
 

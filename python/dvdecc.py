@@ -103,6 +103,8 @@ _column_is_codeword = _call("dvdecc_column_is_codeword", ctypes.c_bool, _P)
 _column_decode = _call("dvdecc_column_decode", _U, _P, _P, _P)
 _rows_parity = _call("dvdecc_rows_parity", None, _P, _N)
 _rows_decode = _call("dvdecc_rows_decode", _U, _P, _N, _P, _N, _P, _N)
+_rs_parity = _call("dvdecc_rs_parity", _U, _P, _N, _U)
+_rs_decode = _call("dvdecc_rs_decode", _U, _P, _N, _P, _N, _U, _P)
 _block_parity = _call("dvdecc_block_parity", None, _P)
 _two_pass = _call("dvdecc_two_pass", _U, _P, _P, _P)
 _scramble = _call("dvdecc_scramble", _U, _U, _U, _P)
@@ -223,6 +225,22 @@ def rows_decode(rows: bytes, lost: Optional[bytes] = None) -> tuple[bytes, list[
     _accept(_rows_decode(out, count, marks, count, answers, count))
     fixes = [(it.correction.errors, it.correction.erasures) if it.status == Status.OK else None for it in answers[:count]]
     return bytes(out)[: len(data)], fixes
+
+
+def rs_parity(word: bytes, parity: int) -> bytes:
+    """A word of at most 255 bytes with its last 1 to 32 set so that it is a codeword."""
+    data = bytes(word)
+    out = _buffer(data, len(data), "")
+    _accept(_rs_parity(out, len(data), _number(parity)))
+    return bytes(out)
+
+
+def rs_decode(word: bytes, parity: int, lost: Sequence[int] = ()) -> Decoded:
+    """The codeword near a word of at most 255 bytes of which the bytes at some places are lost."""
+    data = bytes(word)
+    out, fix = _buffer(data, len(data), ""), _Correction()
+    _accept(_rs_decode(out, len(data), _marks(lost, len(data)), len(data), _number(parity), ctypes.byref(fix)))
+    return Decoded(bytes(out), fix.errors, fix.erasures)
 
 
 def block_parity(rows: bytes) -> bytes:

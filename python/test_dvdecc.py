@@ -56,6 +56,20 @@ class Calls(unittest.TestCase):
         self.assertEqual(dvdecc.rows_decode(b""), (b"", []))
         self.assertRaises(ValueError, dvdecc.rows_decode, bytes(183))
 
+    def test_any_length(self):
+        for size, r in ((2, 1), (6, 2), (204, 16), (32, 4), (255, 32), (255, 1), (40, 31)):
+            message = vectors.counted(size - r, 5, 3)
+            sent = dvdecc.rs_parity(bytes(message) + bytes(r), r)
+            self.assertEqual(list(sent), message + vectors.parity(message, r))
+            damaged = bytearray(sent)
+            for k in range(r // 2):
+                damaged[size - 1 - k] ^= 0x11
+            lost = [0] * (r % 2)
+            self.assertEqual(dvdecc.rs_decode(damaged, r, lost), (sent, r // 2, r % 2))
+        self.refused(Status.BAD_LENGTH, dvdecc.rs_parity, bytes(32), 32)
+        self.refused(Status.BAD_LENGTH, dvdecc.rs_parity, bytes(256), 2)
+        self.refused(Status.BAD_LENGTH, dvdecc.rs_decode, bytes(10), 0)
+
     def test_blocks(self):
         block = vectors.block()
         rows = dvdecc.block_parity(b"".join(bytes(row) for row in block))

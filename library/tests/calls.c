@@ -108,6 +108,52 @@ static void lists(void) {
     holds(answers[0].status == DVDECC_OK && answers[4].status == DVDECC_UNCORRECTABLE, "the status of each");
 }
 
+/* For each number of parity bytes words of several lengths: as many errors as it bears, a lost byte where one more is
+ * borne, and one more error. With 10 and 16 of them the row and the column are the same words. */
+static void any_lengths(void) {
+    int right = 1, refused = 1, same = 1;
+    for (uint32_t r = 1; r <= 32; r++) {
+        for (size_t n = r + 1; n <= 255; n += n < 40 ? 1 : 43) {
+            uint8_t word[255], sent[255], lost[255] = {0};
+            struct dvdecc_correction fix = {77, 78};
+            count(word, n, 5, 3 + r);
+            right &= dvdecc_rs_parity(word, n, r) == DVDECC_OK;
+            memcpy(sent, word, n);
+            for (size_t k = 0; k < r / 2; k++) {
+                word[n - 1 - 2 * k % n] ^= (uint8_t)(k + 1);
+            }
+            lost[n - 2] = r % 2;
+            right &= dvdecc_rs_decode(word, n, lost, n, r, &fix) == DVDECC_OK && memcmp(word, sent, n) == 0;
+            right &= fix.errors == r / 2 && fix.erasures == r % 2;
+            memset(lost, 1, n);
+            word[0] ^= 1;
+            refused &= dvdecc_rs_decode(word, n, lost, n, r, &fix) == DVDECC_UNCORRECTABLE && word[0] == (sent[0] ^ 1);
+            refused &= dvdecc_rs_decode(word, n, lost, n - 1, r, &fix) == DVDECC_BAD_LENGTH && fix.errors == r / 2;
+        }
+    }
+    holds(right, "words of all numbers of parity bytes are decoded");
+    holds(refused, "words with all bytes lost are refused");
+    for (unsigned turn = 0; turn < 2000; turn++) {
+        uint8_t row[182], word[182], lost[182] = {0};
+        struct dvdecc_correction fix = {0, 0}, other = {0, 0};
+        count(row, 182, turn, 1);
+        dvdecc_row_parity(row);
+        for (unsigned k = 0; k < turn % 8; k++) {
+            row[(turn * 31 + k * 37) % 182] ^= (uint8_t)(turn + k + 1);
+            lost[(turn + k * 11) % 182] = (uint8_t)(turn % 3);
+        }
+        memcpy(word, row, 182);
+        same &= dvdecc_row_decode(row, lost, &fix) == dvdecc_rs_decode(word, 182, lost, 182, 10, &other);
+        same &= memcmp(row, word, 182) == 0 && fix.errors == other.errors && fix.erasures == other.erasures;
+    }
+    holds(same, "a row is decoded as a word of 182 bytes");
+    uint8_t word[256] = {0};
+    holds(dvdecc_rs_parity(word, 10, 0) == DVDECC_BAD_LENGTH, "no parity byte");
+    holds(dvdecc_rs_parity(word, 100, 33) == DVDECC_BAD_LENGTH, "33 parity bytes");
+    holds(dvdecc_rs_parity(word, 5, 5) == DVDECC_BAD_LENGTH, "parity alone");
+    holds(dvdecc_rs_parity(word, 256, 5) == DVDECC_BAD_LENGTH, "256 bytes");
+}
+
 static uint8_t capture[42640], block[208][182], found[208][182];
 
 /* The capture of a block with no marks: after each twelve rows a row of outer parity. */
@@ -196,6 +242,7 @@ int main(void) {
     rows();
     columns();
     lists();
+    any_lengths();
     blocks();
     frames();
     sectors();

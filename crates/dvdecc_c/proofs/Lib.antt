@@ -1,2 +1,3 @@
 -- Why the contracts hold.
+pub mod BehindZeros
 pub mod WholeCapture

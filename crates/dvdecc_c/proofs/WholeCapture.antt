@@ -1,14 +1,12 @@
 -- A source over as many bytes as a block has in the marked form gives a whole block, and it is the block of these bytes.
-use Rattle.std.proofs.Common.{◌≡◌, ℕ, ◌<◌, Bool, false, List, [], ◌++◌, length, refl, sym, subst, ◌∙◌, ap, arith}
+use Rattle.std.proofs.Common.{◌≡◌, ℕ, ◌<◌, Bool, false, List, [], ◌++◌, length, refl, sym, ◌∙◌, ap, arith}
 use Rattle.std.proofs.lemmas.List.{append-nil, length-append, nil_from_length}
-use Rattle.std.proofs.lemmas.Grind.{common_steps}
 use Rattle.dvd_ports.specs.Memory.{SliceState, slice_seen}
 use Rattle.dvd_capture.specs.Captured.{Captures, EndsAfter, captured_marks, captured_rows}
 use Rattle.dvd_capture.specs.Fetching.{Fetches}
 use Rattle.dvd_capture.specs.declared.capture.FetchAnswer.{FetchAnswer}
 use Rattle.dvd_capture.specs.declared.capture.FetchAnswer.TheVariants.{Full, End, Short, ReadFault, BadMarks}
-use Rattle.dvd_capture.specs.declared.form.Form.{Form}
-use Rattle.dvd_capture.specs.declared.form.Form.TheVariants.{Plain, Marked, Listed}
+use Rattle.dvd_capture.specs.declared.form.Form.TheVariants.{Marked, Listed}
 
 -- the source before its first read
 abbrev pub source_of : List ℕ → SliceState

@@ -7,6 +7,7 @@
 mod blocks; // whole blocks: their parity, and two passes over a captured one
 mod checks; // the codes that detect errors
 mod frames; // scrambling and data frames
+mod general; // words of any length
 mod lists; // many rows by one call
 mod sectors; // CD-ROM sectors
 mod status; // what the calls answer

@@ -2,6 +2,8 @@
 use crate::blocks::{Report, dvdecc_block_parity, dvdecc_two_pass};
 use crate::checks::{dvdecc_cd_edc, dvdecc_edc, dvdecc_ied};
 use crate::frames::{dvdecc_make_frame, dvdecc_read_frame, dvdecc_scramble};
+use crate::general::{dvdecc_rs_decode, dvdecc_rs_parity};
+use crate::lists::{Answer, dvdecc_rows_decode, dvdecc_rows_parity};
 use crate::sectors::{dvdecc_cd_check, dvdecc_cd_make, dvdecc_cd_repair};
 use crate::status;
 use crate::words::{
@@ -45,6 +47,55 @@ fn a_row_is_decoded_to_what_it_was(rt: HostRuntime) {
             errors: 2,
             erasures: 1
         }
+    );
+}
+
+// The row above as a word of any length: two errors and a lost byte, and lengths that no code has.
+#[test]
+fn a_word_is_decoded_to_what_it_was(rt: HostRuntime) {
+    let mut word = [0x5A; 40];
+    assert_eq!(rt; dvdecc_rs_parity(&mut word, 5), status::OK);
+    let right = word;
+    let mut lost = [0; 40];
+    word[0] ^= 1;
+    word[39] ^= 0xFF;
+    lost[20] = 1;
+    let mut fix = NONE;
+    assert_eq!(rt; dvdecc_rs_decode(&mut word, &lost, 5, &mut fix), status::OK);
+    assert!(rt; word == right);
+    assert!(rt;
+        fix == Correction {
+            errors: 2,
+            erasures: 1
+        }
+    );
+    assert_eq!(rt; dvdecc_rs_parity(&mut word, 40), status::BAD_LENGTH);
+    assert_eq!(rt;
+        dvdecc_rs_decode(&mut word, &lost[1..], 5, &mut fix),
+        status::BAD_LENGTH
+    );
+}
+
+#[test]
+fn two_rows_are_decoded_by_one_call(rt: HostRuntime) {
+    let mut rows = [[3; 182]; 2];
+    dvdecc_rows_parity(&mut rows);
+    let right = rows;
+    rows[0][7] = 4;
+    rows[1][8] = 5;
+    let mut answers = [Answer {
+        status: 9,
+        correction: NONE,
+    }; 2];
+    assert_eq!(rt;
+        dvdecc_rows_decode(&mut rows, &[[0; 182]; 2], &mut answers),
+        status::OK
+    );
+    assert!(rt; rows == right);
+    assert!(rt; answers[1].status == status::OK && answers[1].correction.errors == 1);
+    assert_eq!(rt;
+        dvdecc_rows_decode(&mut rows, &[[0; 182]; 1], &mut answers),
+        status::BAD_LENGTH
     );
 }
 

@@ -81,7 +81,7 @@ pub extern "C" fn dvdecc_column_decode(
 }
 
 // Sets a word to the codeword near it.
-fn decode_word<const N: usize, const R: usize>(
+pub(crate) fn decode_word<const N: usize, const R: usize>(
     word: &mut [u8; N],
     lost: &[u8; N],
     correction: &mut Correction,

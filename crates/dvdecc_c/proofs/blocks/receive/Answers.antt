@@ -1,6 +1,5 @@
 -- The proof of `receive` in src/blocks.rt.
-use Rattle.std.proofs.Common.{◌≡◌, subst, ap}
-use Rattle.dvd_capture.specs.Captured.{Captures}
+use Rattle.std.proofs.Common.{◌≡◌, subst}
 use Rattle.dvd_capture.specs.Fetching.{Fetches}
 use Rattle.dvd_capture.specs.Works.{marks_of_work, rows_of}
 use Rattle.dvd_capture.specs.declared.capture.FetchAnswer.TheVariants.{Full}

@@ -1,0 +1,169 @@
+//! Words of any length up to 255 with 1 to 32 parity bytes. Such a word is the end of one of 255 bytes that begins with zeros,
+//! and whose first bytes have to stay zeros.
+ghost use Rattle.std.specs.Prelude.{◌≡◌, ◌≢◌, ◌↔◌, ◌+◌, ◌-◌, ◌<◌, ◌≤◌, ◌++◌, IsTrue, length, replicate, take, unwrap_or};
+ghost use Rattle.coding.specs.Nearest.{near_of};
+ghost use Rattle.coding.specs.Words.{IsEncoded};
+ghost use Rattle.dvdecc_c.specs.General.{code_status, decoding_status};
+ghost use Rattle.dvdecc_c.specs.Words.{lost_marks, with_correction, word_status};
+
+use crate::status;
+use crate::words::{Correction, decode_word};
+use rs_code::Code;
+
+// Calls a function that has the number of parity bytes as a parameter of its type, for the number that is at hand.
+macro_rules! by_parity {
+    ($parity:ident, $call:ident, $given:tt: $($most:literal)*; $last:literal) => {{
+        $(if $parity <= $most {
+            return $call::<$most> $given;
+        })*
+        $call::<$last> $given
+    }};
+}
+
+/// Sets the last bytes of a word, as many as `parity`, so that it is a codeword.
+#[unsafe(no_mangle)]
+pub extern "C" fn dvdecc_rs_parity(word: &mut [u8], parity: u32) -> u32
+    ensures status { result ≡ code_status (length word.old) parity }
+    ensures word { result ≡ 0 → IsEncoded (length word.old) parity (take (length word.old - parity) word.old) word.new }
+    ensures same { result ≢ 0 → word.new ≡ word.old }
+{
+    if !is_code(word.len(), parity) {
+        return status::BAD_LENGTH;
+    }
+    encode_any(word, parity);
+    status::OK
+}
+
+/// Sets a word with as many parity bytes to the codeword near it.
+#[unsafe(no_mangle)]
+pub extern "C" fn dvdecc_rs_decode(
+    word: &mut [u8],
+    lost: &[u8],
+    parity: u32,
+    correction: &mut Correction,
+) -> u32
+    ensures status { result ≡ decoding_status parity word.old lost.now }
+    ensures word { result ≢ 5 → word.new ≡ unwrap_or (near_of (length word.old) parity word.old (lost_marks lost.now)) word.old }
+    ensures correction { result ≢ 5 → correction.new
+        ≡ with_correction (near_of (length word.old) parity word.old (lost_marks lost.now)) word.old (lost_marks lost.now) correction.old }
+    ensures same_word { result ≡ 5 → word.new ≡ word.old }
+    ensures same_correction { result ≡ 5 → correction.new ≡ correction.old }
+{
+    if !is_code(word.len(), parity) || lost.len() != word.len() {
+        return status::BAD_LENGTH;
+    }
+    decode_any(word, lost, parity, correction)
+}
+
+// Whether there is a code of words of so many bytes with so many parity bytes.
+fn is_code(size: usize, parity: u32) -> bool
+    ensures { IsTrue result ↔ (1 ≤ parity) × (parity ≤ 32) × (parity < size) × (size ≤ 255) }
+{
+    parity >= 1 && parity <= 32 && (parity as usize) < size && size <= 255
+}
+
+// Sets the parity of a word of a code.
+fn encode_any(word: &mut [u8], parity: u32)
+    requires some { 1 ≤ parity }
+    requires few { parity ≤ 32 }
+    requires message { parity < length word.old }
+    requires short { length word.old ≤ 255 }
+    ensures { IsEncoded (length word.old) parity (take (length word.old - parity) word.old) word.new }
+{
+    by_parity!(parity, encode_behind_zeros, (word, parity):
+        1 2 3 4 5 6 7 8 9 10 11 12 13 14 15 16 17 18 19 20 21 22 23 24 25 26 27 28 29 30 31; 32)
+}
+
+// Decodes a word of a code.
+fn decode_any(word: &mut [u8], lost: &[u8], parity: u32, correction: &mut Correction) -> u32
+    requires some { 1 ≤ parity }
+    requires few { parity ≤ 32 }
+    requires message { parity < length word.old }
+    requires short { length word.old ≤ 255 }
+    requires lost { length lost.now ≡ length word.old }
+    ensures status { result ≡ word_status (near_of (length word.old) parity word.old (lost_marks lost.now)) }
+    ensures word { word.new ≡ unwrap_or (near_of (length word.old) parity word.old (lost_marks lost.now)) word.old }
+    ensures correction { correction.new
+        ≡ with_correction (near_of (length word.old) parity word.old (lost_marks lost.now)) word.old (lost_marks lost.now) correction.old }
+{
+    by_parity!(parity, decode_behind_zeros, (word, lost, parity, correction):
+        1 2 3 4 5 6 7 8 9 10 11 12 13 14 15 16 17 18 19 20 21 22 23 24 25 26 27 28 29 30 31; 32)
+}
+
+// Sets the parity of a word, as the end of one of 255 bytes.
+fn encode_behind_zeros<const R: usize>(word: &mut [u8], parity: u32)
+    requires parity { parity ≡ R }
+    requires some { 1 ≤ R }
+    requires few { R ≤ 32 }
+    requires message { R < length word.old }
+    requires short { length word.old ≤ 255 }
+    ensures { IsEncoded (length word.old) parity (take (length word.old - parity) word.old) word.new }
+{
+    let front = 255 - word.len();
+    let mut whole = behind_zeros(word);
+    Code::<255, R>::new().encode(&mut whole);
+    word.copy_from_slice(&whole[front..]);
+}
+
+// Decodes a word, as the end of one of 255 bytes. A codeword near that one is near the word only where it begins with zeros.
+fn decode_behind_zeros<const R: usize>(
+    word: &mut [u8],
+    lost: &[u8],
+    parity: u32,
+    correction: &mut Correction,
+) -> u32
+    requires parity { parity ≡ R }
+    requires some { 1 ≤ R }
+    requires few { R ≤ 32 }
+    requires message { R < length word.old }
+    requires short { length word.old ≤ 255 }
+    requires lost { length lost.now ≡ length word.old }
+    ensures status { result ≡ word_status (near_of (length word.old) parity word.old (lost_marks lost.now)) }
+    ensures word { word.new ≡ unwrap_or (near_of (length word.old) parity word.old (lost_marks lost.now)) word.old }
+    ensures correction { correction.new
+        ≡ with_correction (near_of (length word.old) parity word.old (lost_marks lost.now)) word.old (lost_marks lost.now) correction.old }
+{
+    let front = 255 - word.len();
+    let mut whole = behind_zeros(word);
+    let mut fix = *correction;
+    let status = decode_word::<255, R>(&mut whole, &behind_zeros(lost), &mut fix);
+    if status != status::OK {
+        return status::UNCORRECTABLE;
+    }
+    if !are_zeros(&whole[..front]) {
+        return status::UNCORRECTABLE;
+    }
+    word.copy_from_slice(&whole[front..]);
+    *correction = fix;
+    status::OK
+}
+
+// A word with zeros before it, 255 bytes in all.
+fn behind_zeros(word: &[u8]) -> [u8; 255]
+    requires { length word.now ≤ 255 }
+    ensures { result ≡ replicate (255 - length word.now) 0 ++ word.now }
+{
+    let mut whole = [0; 255];
+    put(&mut whole, 255 - word.len(), word);
+    whole
+}
+
+// Writes a part after what comes before it.
+fn put(out: &mut [u8], at: usize, part: &[u8])
+    requires { at + length part.now ≤ length out.old }
+    ensures { take (at + length part.now) out.new ≡ take at out.old ++ part.now }
+{
+    out[at..at + part.len()].copy_from_slice(part);
+}
+
+// Whether all bytes are zeros.
+fn are_zeros(bytes: &[u8]) -> bool
+    ensures { IsTrue result ↔ (bytes.now ≡ replicate (length bytes.now) 0) }
+{
+    for byte in bytes {
+        if *byte != 0 {
+            return false;
+        }
+    }
+    true
+}
