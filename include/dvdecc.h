@@ -17,9 +17,9 @@
  *
  * A row of a block is 182 bytes, of which the last 10 are its inner parity. A column is 208 bytes, of which the last 16
  * are its outer parity. Both are codewords of Reed-Solomon codes over the field of 256 elements with x^8 + x^4 + x^3 +
- * x^2 + 1: the first byte is the coefficient of the highest power, and the roots are alpha^0, alpha^1 and so on. With r
- * parity bytes a word is near a codeword that differs from it in e places, s other places being lost, where 2e + s is at
- * most r. At most one codeword is near.
+ * x^2 + 1: the first byte is the coefficient of the highest power, and the roots are alpha^0, alpha^1 and so on. A codeword
+ * is near a word that has s lost places and differs from it in e others where 2e + s is at most the number of parity
+ * bytes. At most one codeword is near.
  */
 #ifndef DVDECC_H
 #define DVDECC_H

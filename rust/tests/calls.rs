@@ -1,0 +1,86 @@
+//! Each call once, with damage that it bears, with more, and with arguments out of range.
+use dvdecc_sys::*;
+
+fn counted<const N: usize>(step: usize) -> [u8; N] {
+    std::array::from_fn(|k| (step * k + k / 256) as u8)
+}
+
+#[test]
+fn checks() {
+    assert_eq!(edc(&[2]), [0x80, 0, 0, 0x33]);
+    assert_eq!(cd_edc(&[0x80]), [1, 0x80, 1, 0xD8]);
+    assert_eq!(edc(&[]), [0; 4]);
+    assert_eq!(ied(0x30010), [0x21, 0x32]);
+}
+
+#[test]
+fn words() {
+    let (mut row, mut column, mut lost) = (counted::<182>(3), counted::<208>(5), [0; 208]);
+    row_parity(&mut row);
+    column_parity(&mut column);
+    assert!(row_is_codeword(&row) && column_is_codeword(&column));
+    let (sent, whole) = (row, column);
+    row[0] ^= 1;
+    lost[207] = 1;
+    column[207] = 0;
+    assert_eq!(row_decode(&mut row, &[0; 182]), Ok(Correction { errors: 1, erasures: 0 }));
+    assert_eq!(column_decode(&mut column, &lost), Ok(Correction { errors: 0, erasures: 1 }));
+    assert!(row == sent && column == whole);
+    assert_eq!(row_decode(&mut row, &[1; 182]), Err(Refusal { status: 1, number: 0 }));
+    assert_eq!(row, sent);
+
+    let mut word = counted::<50>(7);
+    rs_parity(&mut word, 8).unwrap();
+    let sent = word;
+    word[49] ^= 4;
+    assert_eq!(rs_decode(&mut word, &[0; 50], 8), Ok(Correction { errors: 1, erasures: 0 }));
+    assert_eq!(word, sent);
+    assert_eq!(rs_decode(&mut word, &[0; 49], 8).unwrap_err().status, 5);
+    assert_eq!(rs_parity(&mut word, 33).unwrap_err().status, 5);
+}
+
+#[test]
+fn many_rows() {
+    let (mut rows, mut answers) = ([counted::<182>(3); 3], [Answer::default(); 3]);
+    rows_parity(&mut rows);
+    let sent = rows;
+    rows[2][9] ^= 1;
+    rows_decode(&mut rows, &[[0; 182]; 3], &mut answers).unwrap();
+    assert_eq!(rows, sent);
+    assert_eq!(answers[2].correction.errors, 1);
+    assert_eq!(rows_decode(&mut rows, &[[0; 182]; 2], &mut answers).unwrap_err().status, 5);
+}
+
+#[test]
+fn blocks() {
+    let (mut rows, mut found, mut capture) = ([counted::<182>(3); 208], [[0; 182]; 208], [0; 42640]);
+    block_parity(&mut rows);
+    for m in 0..208 {
+        let i = if (m + 1) % 13 == 0 { 191 + (m + 1) / 13 } else { m - m / 13 };
+        capture[205 * m..205 * m + 182].copy_from_slice(&rows[i]);
+    }
+    capture[7] ^= 1;
+    assert_eq!(two_pass(&capture, &mut found).unwrap().corrected, 1);
+    assert_eq!(found, rows);
+    for m in 0..17 {
+        capture[205 * m + 182..205 * m + 205].fill(0xFF);
+    }
+    assert_eq!(two_pass(&capture, &mut found), Err(Refusal { status: 6, number: 17 }));
+}
+
+#[test]
+fn frames_and_sectors() {
+    let (mut frame, mut main_data, mut sector) = ([0; 2064], counted::<2048>(13), [0; 2352]);
+    make_frame(0x30010, &[0; 6], Rule::Whole, &main_data, &mut frame).unwrap();
+    scramble(0x30010, Rule::Whole, &mut main_data).unwrap();
+    assert_eq!(main_data, frame[12..2060]);
+    read_frame(&frame, 0x30010, Rule::Whole, &mut main_data).unwrap();
+    assert_eq!(main_data, counted::<2048>(13));
+    assert_eq!(read_frame(&frame, 0, Rule::Whole, &mut main_data), Err(Refusal { status: 10, number: 0x30010 }));
+    cd_make(150, &main_data, &mut sector).unwrap();
+    cd_check(&sector, 150).unwrap();
+    sector[99] ^= 1;
+    assert_eq!(cd_check(&sector, 150).unwrap_err().status, 12);
+    assert_eq!(cd_repair(&mut sector, 150), Ok(1));
+    assert_eq!(cd_make(450_000, &main_data, &mut sector).unwrap_err().status, 4);
+}
