@@ -1,0 +1,4 @@
+-- What the contracts speak of: marks of the bytes that aren't rescued.
+pub mod Frames
+pub mod Marks
+pub mod Walk
