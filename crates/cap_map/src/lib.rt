@@ -15,3 +15,6 @@ mod span; // bytes of a capture that have one status
 pub use fault::{Cause, MapFault};
 pub use map::read_map;
 pub use span::Span;
+
+#[cfg(test)]
+mod tests;

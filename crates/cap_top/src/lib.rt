@@ -10,3 +10,6 @@ mod status; // how a run ends
 pub use opening::Refusal;
 pub use run::{mark, refuse_words};
 pub use status::Status;
+
+#[cfg(test)]
+mod tests;
