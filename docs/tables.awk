@@ -1,4 +1,4 @@
-# Writes from docs/commands.txt, the first file, what docs/tables asks for by `as`: the tables of a page of Markdown or
+# Writes from the table of a program, the first file, what docs/tables asks for by `as`: the tables of a page of Markdown or
 # of the manual page, which is the second file, between their markers; the page of help; the completions; or the facts.
 
 function fail(why) { print "docs/tables: " why | "cat >&2"; status = 1; exit 1 }
@@ -13,6 +13,7 @@ FNR == NR && /^[a-z]/ {
     entry[++entries] = kind SUBSEP name
     whole[kind, name] = rest
     at_entry[kind, name] = facts + 1
+    if (kind == "program") self = name
     if (kind == "command") commands[++command_count] = name
     if (kind == "option") options[++option_count] = name
     if (kind == "status") statuses[++status_count] = name
@@ -145,7 +146,7 @@ function about(option, command,    need, out) {
 # The synopsis of a command: what it needs, and what it may have in brackets.
 function synopsis(command,    n, i, out, text) {
     n = take_options(command)
-    out = "dvdecc " command
+    out = self " " command
     for (i = 1; i <= n; i++) {
         text = taken[i] " " placeholder(taken[i])
         out = out " " (needed[taken[i]] == 1 ? text : needed[taken[i]] == 2 ? "{" text " | " unless "}" : "[" text "]")
@@ -178,11 +179,13 @@ function unbroken(text,    n, i, out) {
     return out
 }
 
+# (none where each unit has one name)
 function units(    i, unit, of, list, out, n, k) {
     for (i = 1; i <= command_count; i++) {
         unit = fact("command", commands[i], "unit")
         if (unit != "block") of[unit] = of[unit] (of[unit] == "" ? "" : ", ") "`" commands[i] "`"
     }
+    if (of["sector"] == "") return ""
     return "UNIT is `sector` for " of["sector"] "; `frame` for " of["frame"] "; and else `block`."
 }
 function listed(only,    n, i, out) {
@@ -194,15 +197,15 @@ function listed(only,    n, i, out) {
 # ---- the page of help
 
 function help(    i, j, k, n, number) {
-    print whole["program", "dvdecc"]
+    print whole["program", self]
     print ""
-    print "usage: dvdecc COMMAND [OPTION VALUE].. < input > output 2> report"
+    print "usage: " self " COMMAND [OPTION VALUE].. < input > output 2> report"
     print ""
-    print wrapped("", fact("program", "dvdecc", "says"), 0)
+    print wrapped("", fact("program", self, "says"), 0)
     print ""
     for (i = 1; i <= command_count; i++) print wrapped("  " commands[i], fact("command", commands[i], "does"), 13)
     print ""
-    for (i = 1; i <= word_count; i++) print wrapped("dvdecc " words_of[i], fact("word", words_of[i], "says"), 25)
+    for (i = 1; i <= word_count; i++) print wrapped(self " " words_of[i], fact("word", words_of[i], "says"), 25)
     print ""
     for (i = 1; i <= note_count; i++) print wrapped("", fact("note", notes[i], "says"), 0)
     print ""
@@ -216,7 +219,7 @@ function help(    i, j, k, n, number) {
         print ""
         print wrapped(commands[i] " -", fact("command", commands[i], "does"), length(commands[i]) + 3)
         print ""
-        print wrapped("  dvdecc", unbroken(substr(synopsis(commands[i]), 8) " " fact("command", commands[i], "streams")), 9)
+        print wrapped("  " self, unbroken(substr(synopsis(commands[i]), length(self) + 2) " " fact("command", commands[i], "streams")), 9)
         print ""
         n = take_options(commands[i])
         for (j = 1; j <= n; j++) print wrapped("  " taken[j] " " placeholder(taken[j]), about(taken[j], commands[i]), 17)
@@ -259,8 +262,7 @@ function manual_table(name,    i, k, number) {
             for (k = 0; (k = next_fact(k, "status", number, "line")); )
                 print "| " number " | " (fact_text[k] == "" ? "none to rely on" : "`" fact_text[k] "`") " | " fact_text[k + 1] (fact_only[k] == "" ? "" : " (" listed(fact_only[k]) ")") " |"
         }
-        print ""
-        print units()
+        if (units() != "") print "\n" units()
     } else if (name == "settings") {
         print "| RULE | Meaning |"
         print "|---|---|"
@@ -300,16 +302,16 @@ function manpage_table(name,    i, j, k, n, text, number) {
     if (name == "synopsis") {
         for (i = 1; i <= command_count; i++) {
             n = take_options(commands[i])
-            print ".B dvdecc " commands[i]
+            print ".B " self " " commands[i]
             for (j = 1; j <= n; j++) {
                 text = "\\fB" roff(taken[j]) "\\fR \\fI" placeholder(taken[j]) "\\fR"
                 print needed[taken[j]] == 1 ? text : needed[taken[j]] == 2 ? "{" text " | \\fB" roff(unless) "\\fR}" : "[" text "]"
             }
             if (i < command_count) print ".br"
         }
-        for (i = 1; i <= word_count; i++) print ".br\n.B dvdecc\n" roff("`" words_of[i] "`")
+        for (i = 1; i <= word_count; i++) print ".br\n.B " self "\n" roff("`" words_of[i] "`")
     } else if (name == "words") {
-        for (i = 1; i <= word_count; i++) print ".TP\n.B dvdecc " roff(words_of[i]) "\n" roff(fact("word", words_of[i], "says"))
+        for (i = 1; i <= word_count; i++) print ".TP\n.B " self " " roff(words_of[i]) "\n" roff(fact("word", words_of[i], "says"))
     } else if (name == "commands") {
         for (i = 1; i <= command_count; i++) print ".TP\n.B " commands[i] "\n" roff(fact("command", commands[i], "does"))
     } else if (name == "notes") {
@@ -337,7 +339,7 @@ function manpage_table(name,    i, j, k, n, text, number) {
                 print roff(text)
             }
         }
-        print ".PP\n" roff(units())
+        if (units() != "") print ".PP\n" roff(units())
     } else if (name == "settings") {
         for (i = 1; i <= setting_count; i++) print ".TP\n.B " roff(settings[i]) "\n" roff(fact("setting", settings[i], "says"))
     } else return 0
@@ -347,8 +349,8 @@ function manpage_table(name,    i, j, k, n, text, number) {
 # ---- completions of bash
 
 function completions(    i, j, n, list, values) {
-    print "# Completions of dvdecc for bash, written by docs/tables. Sourced by bash_completion, or by hand."
-    print "_dvdecc() {"
+    print "# Completions of " self " for bash, written by docs/tables. Sourced by bash_completion, or by hand."
+    print "_" self "() {"
     print "    local before=${COMP_WORDS[COMP_CWORD - 1]} command=${COMP_WORDS[1]} at=1 words="
     print "    [ \"$command\" != --progress ] || at=2 command=${COMP_WORDS[2]-}"
     print "    if [ \"$COMP_CWORD\" = \"$at\" ]; then"
@@ -382,7 +384,7 @@ function completions(    i, j, n, list, values) {
     print "    fi"
     print "    mapfile -t COMPREPLY < <(compgen -W \"$words\" -- \"${COMP_WORDS[COMP_CWORD]}\")"
     print "}"
-    print "complete -o bashdefault -o default -F _dvdecc dvdecc"
+    print "complete -o bashdefault -o default -F _" self " " self
 }
 
 # ---- the facts, as lines of fields between tabs, for checks/documents

@@ -1,0 +1,91 @@
+//! What a map says, as far as it was read.
+ghost use Rattle.std.specs.Prelude.{◌≡◌, ◌++◌, [], ◌∷◌, Ok, OnOk, IfOk, IfErr};
+ghost use Rattle.cap_map.specs.Inner.{IsStopOf, read_of};
+ghost use Rattle.cap_map.specs.Lines.{fields_of};
+ghost use Rattle.cap_map.specs.Map.{before_first, end_after, line_read, with_block};
+
+use crate::fault::Cause;
+use crate::fields::fields_of;
+use crate::line::{Block, block_of, is_among, is_state};
+use crate::span::Span;
+
+/// Why a line isn't read.
+#[derive(Clone, Copy, Debug, PartialEq, Eq)]
+pub enum Stop {
+    /// It breaks a rule.
+    Rule(Cause),
+    /// There is no memory for its span.
+    NoMemory,
+}
+
+/// Whether the state has come, and the spans of the blocks that came.
+#[derive(Drop)]
+pub struct Draft {
+    pub opened: bool,
+    pub spans: Vec<Span>,
+}
+
+impl Draft {
+    /// Reads one more line of a map in which these statuses are trusted.
+    pub fn take(&mut self, line: &[u8], good: &[u8]) -> Result<(), Stop>
+        ensures read { OnOk result (line_read good.now (read_of self.old) (fields_of line.now) ≡ Ok (read_of self.new)) }
+        ensures rule { IfErr result (IsStopOf (line_read good.now (read_of self.old) (fields_of line.now))) }
+    {
+        let fields = fields_of(line);
+        if fields.first.is_empty() {
+            return Ok(());
+        }
+        if self.opened {
+            return match block_of(&fields) {
+                Ok(block) => self.add(&block, good),
+                Err(cause) => Err(Stop::Rule(cause)),
+            };
+        }
+        if !is_state(&fields) {
+            return Err(Stop::Rule(Cause::State));
+        }
+        self.opened = true;
+        Ok(())
+    }
+
+    // Adds the span of a block, and before the first block one of which the map says nothing.
+    fn add(&mut self, block: &Block, good: &[u8]) -> Result<(), Stop>
+        ensures read { OnOk result (with_block good.now self.old.spans.items block.now ≡ Ok self.new.spans.items) }
+        ensures same { OnOk result (self.new.opened ≡ self.old.opened) }
+        ensures rule { IfErr result (IsStopOf (with_block good.now self.old.spans.items block.now)) }
+    {
+        let end = self.end_after(block.position);
+        if block.position < end {
+            return Err(Stop::Rule(Cause::Overlap));
+        }
+        if end < block.position {
+            return Err(Stop::Rule(Cause::Gap));
+        }
+        if self.spans.is_empty() && block.position > 0 {
+            self.push(block.position, false)?;
+        }
+        self.push(block.end, is_among(good, block.status))
+    }
+
+    // Adds a span.
+    fn push(&mut self, end: u64, rescued: bool) -> Result<(), Stop>
+        ensures read { OnOk result (self.new.spans.items ≡ self.old.spans.items ++ record { end = end; rescued = rescued } ∷ []) }
+        ensures same { OnOk result (self.new.opened ≡ self.old.opened) }
+        ensures memory { IfErr result (λ stop. stop ≡ Stop.NoMemory) }
+    {
+        match self.spans.push(Span { end, rescued }) {
+            Ok(()) => Ok(()),
+            Err(_) => Err(Stop::NoMemory),
+        }
+    }
+
+    // The end of the last span, or this where there is none.
+    fn end_after(&self, position: u64) -> u64
+        ensures { result ≡ end_after position self.now.spans.items }
+    {
+        match self.spans.last() {
+            Some(span) => span.end,
+            None => position,
+        }
+    }
+}

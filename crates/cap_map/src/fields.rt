@@ -1,0 +1,102 @@
+//! Lines, and the fields of a line between blanks.
+ghost use Rattle.std.specs.Prelude.{◌≡◌, ◌≤◌, ◌==◌, ◌+◌, not, length};
+ghost use Rattle.cap_map.specs.Fields.{after_field, blanks_of, field_length, first_field, is_blank, line_length, run_of, without_comment};
+ghost use Rattle.cap_map.specs.Inner.{bytes_of};
+ghost use Rattle.cap_map.specs.Lines.{fields_of};
+
+/// The first four fields of a line. Those that it doesn't have are empty.
+#[derive(Clone, Copy, Drop)]
+pub struct FieldsOf<'a> {
+    pub first: &'a [u8],
+    pub second: &'a [u8],
+    pub third: &'a [u8],
+    pub fourth: &'a [u8],
+}
+
+/// The fields of a line, without its comment.
+pub fn fields_of<'a>(line: &'a [u8]) -> FieldsOf<'a>
+    ensures { bytes_of result ≡ fields_of line.now }
+{
+    let (first, rest) = next_field(&line[..comment_start(line)]);
+    let (second, rest) = next_field(rest);
+    let (third, rest) = next_field(rest);
+    let (fourth, _) = next_field(rest);
+    FieldsOf {
+        first,
+        second,
+        third,
+        fourth,
+    }
+}
+
+// The first field of a text, and what comes after it.
+fn next_field<'a>(text: &'a [u8]) -> (&'a [u8], &'a [u8])
+    ensures field { result.0.now ≡ first_field text.now }
+    ensures rest { result.1.now ≡ after_field text.now }
+{
+    let text = &text[count_blanks(text)..];
+    text.split_at(count_others(text))
+}
+
+fn count_blanks(text: &[u8]) -> usize
+    ensures count { result ≡ blanks_of text.now }
+    ensures bound { result ≤ length text.now }
+{
+    let mut count = 0;
+    for byte in text {
+        if !is_blank(*byte) {
+            return count;
+        }
+        count += 1;
+    }
+    count
+}
+
+fn count_others(text: &[u8]) -> usize
+    ensures count { result ≡ field_length text.now }
+    ensures bound { result ≤ length text.now }
+{
+    let mut count = 0;
+    for byte in text {
+        if is_blank(*byte) {
+            return count;
+        }
+        count += 1;
+    }
+    count
+}
+
+fn comment_start(line: &[u8]) -> usize
+    ensures count { result ≡ run_of (λ c. not (c == 35)) line.now }
+    ensures bound { result ≤ length line.now }
+{
+    bytes_before(line, b'#')
+}
+
+/// How many bytes there are before the first line feed.
+pub fn line_length(text: &[u8]) -> usize
+    ensures count { result ≡ line_length text.now }
+    ensures bound { result ≤ length text.now }
+{
+    bytes_before(text, b'\n')
+}
+
+fn bytes_before(text: &[u8], end: u8) -> usize
+    ensures count { result ≡ run_of (λ c. not (c == end)) text.now }
+    ensures bound { result ≤ length text.now }
+{
+    let mut count = 0;
+    for byte in text {
+        if *byte == end {
+            return count;
+        }
+        count += 1;
+    }
+    count
+}
+
+fn is_blank(byte: u8) -> bool
+    ensures { result ≡ is_blank byte }
+{
+    byte == b' ' || byte == b'\t' || byte == b'\r'
+}

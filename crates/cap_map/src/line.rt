@@ -1,0 +1,82 @@
+//! What one line of a map says.
+ghost use Rattle.std.specs.Prelude.{◌≡◌, ◌<◌, ◌^◌, IfOk};
+ghost use Rattle.cap_map.specs.Inner.{bytes_of};
+ghost use Rattle.cap_map.specs.Lines.{block_of, is_among, is_number, is_one_of, is_state, sized_block};
+
+use crate::fault::Cause;
+use crate::fields::FieldsOf;
+use crate::number::number_of;
+
+/// A block of a map: the bytes from a position to an end, and their status.
+#[derive(Clone, Copy, Debug, PartialEq, Eq, Drop)]
+pub struct Block {
+    pub position: u64,
+    pub end: u64,
+    pub status: u8,
+}
+
+/// Whether these are the fields of the state.
+pub fn is_state(fields: &FieldsOf<'_>) -> bool
+    ensures { result ≡ is_state (bytes_of fields.now) }
+{
+    let has_pass = fields.third.is_empty() || is_number(fields.third);
+    is_number(fields.first)
+        && is_one_of(b"?*/-FG+", fields.second)
+        && has_pass
+        && fields.fourth.is_empty()
+}
+
+fn is_number(field: &[u8]) -> bool
+    ensures { result ≡ is_number field.now }
+{
+    number_of(field).is_some()
+}
+
+/// The block that these fields say, or the first rule that they break.
+pub fn block_of(fields: &FieldsOf<'_>) -> Result<Block, Cause>
+    ensures { result ≡ block_of (bytes_of fields.now) }
+{
+    if fields.third.is_empty() || !fields.fourth.is_empty() {
+        return Err(Cause::Fields);
+    }
+    let (Some(position), Some(size)) = (number_of(fields.first), number_of(fields.second)) else {
+        return Err(Cause::Number);
+    };
+    if !is_one_of(b"?*/-+", fields.third) {
+        return Err(Cause::Status);
+    }
+    sized_block(position, size, fields.third[0])
+}
+
+fn sized_block(position: u64, size: u64, status: u8) -> Result<Block, Cause>
+    requires position { position < 2 ^ 63 }
+    requires size { size < 2 ^ 63 }
+    ensures { result ≡ sized_block position size status }
+{
+    if size == 0 {
+        return Err(Cause::Empty);
+    }
+    let end = position + size;
+    if end >= 1 << 63 {
+        return Err(Cause::TooLong);
+    }
+    Ok(Block {
+        position,
+        end,
+        status,
+    })
+}
+
+// Whether a field is one of these bytes.
+fn is_one_of(bytes: &[u8], field: &[u8]) -> bool
+    ensures { result ≡ is_one_of bytes.now field.now }
+{
+    field.len() == 1 && is_among(bytes, field[0])
+}
+
+/// Whether a byte is among these.
+pub fn is_among(bytes: &[u8], byte: u8) -> bool
+    ensures { result ≡ is_among bytes.now byte }
+{
+    bytes.iter().any(|other| *other == byte)
+}

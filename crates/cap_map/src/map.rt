@@ -1,0 +1,51 @@
+//! A whole map.
+ghost use Rattle.std.specs.Prelude.{◌≡◌, ◌+◌, drop, Ok, IfErr, IfOk};
+ghost use Rattle.cap_map.specs.Map.{IsFaultOf, map_of};
+
+use crate::draft::{Draft, Stop};
+use crate::fault::{Cause, MapFault};
+use crate::fields::line_length;
+use crate::span::Span;
+use std::alloc::Global;
+
+/// The spans of a map in which these statuses are trusted, or the first line that breaks a rule. It takes memory for the
+/// spans, two numbers for each block, and `NoMemory` comes only where there is none.
+pub fn read_map(alloc: Global, text: &[u8], good: &[u8]) -> Result<Vec<Span>, MapFault>
+    ensures read { IfOk result (λ spans. map_of good.now text.now ≡ Ok spans.items) }
+    ensures rule { IfErr result (IsFaultOf (map_of good.now text.now)) }
+{
+    let mut draft = Draft {
+        opened: false,
+        spans: Vec::new(alloc),
+    };
+    let mut rest = text;
+    let mut line = 1;
+    while !rest.is_empty() {
+        let end = line_length(rest);
+        match draft.take(&rest[..end], good) {
+            Ok(()) => {}
+            Err(Stop::NoMemory) => return Err(MapFault::NoMemory),
+            Err(Stop::Rule(cause)) => return Err(MapFault::Rule { line, cause }),
+        }
+        rest = after_line(rest, end);
+        line += 1;
+    }
+    if !draft.opened {
+        return Err(MapFault::Rule {
+            line,
+            cause: Cause::State,
+        });
+    }
+    Ok(draft.spans)
+}
+
+// What comes after a line of that length and its line feed.
+fn after_line<'a>(text: &'a [u8], end: usize) -> &'a [u8]
+    ensures { result.now ≡ drop (end + 1) text.now }
+{
+    if end < text.len() {
+        &text[end + 1..]
+    } else {
+        &[]
+    }
+}

@@ -1,0 +1,51 @@
+//! Numbers of a map: hexadecimal after 0x, octal after 0, else decimal.
+ghost use Rattle.std.specs.Prelude.{◌≡◌, ◌<◌, ◌≤◌, ◌^◌, IfSome};
+ghost use Rattle.cap_map.specs.Numbers.{digits_in, is_hexadecimal, number_of, with_digit};
+
+/// The number that a text is. There is none from 2^63 on: that is the greatest length of a file, and one more.
+pub fn number_of(text: &[u8]) -> Option<u64>
+    ensures value { result ≡ number_of text.now }
+    ensures below { IfSome result (λ n. n < 2 ^ 63) }
+{
+    if is_hexadecimal(text) {
+        return digits_in(&text[2..], 16);
+    }
+    let radix = if text.first() == Some(&b'0') { 8 } else { 10 };
+    digits_in(text, radix)
+}
+
+fn is_hexadecimal(text: &[u8]) -> bool
+    ensures { result ≡ is_hexadecimal text.now }
+{
+    text.len() > 1 && text[0] == b'0' && (text[1] == b'x' || text[1] == b'X')
+}
+
+fn digits_in(text: &[u8], radix: u32) -> Option<u64>
+    requires least { 2 ≤ radix }
+    requires most { radix ≤ 16 }
+    ensures value { result ≡ digits_in radix text.now }
+    ensures below { IfSome result (λ n. n < 2 ^ 63) }
+{
+    if text.is_empty() {
+        return None;
+    }
+    let mut value = 0;
+    for byte in text {
+        value = with_digit(value, *byte, radix)?;
+    }
+    Some(value)
+}
+
+// A number with one digit more at its end.
+fn with_digit(value: u64, byte: u8, radix: u32) -> Option<u64>
+    requires least { 2 ≤ radix }
+    requires most { radix ≤ 16 }
+    ensures value { result ≡ with_digit radix value byte }
+    ensures below { IfSome result (λ n. n < 2 ^ 63) }
+{
+    let digit = char::from(byte).to_digit(radix)?;
+    let number = value
+        .checked_mul(u64::from(radix))?
+        .checked_add(u64::from(digit))?;
+    if number < 1 << 63 { Some(number) } else { None }
+}

@@ -1,0 +1,10 @@
+//! What a map says of the bytes of a capture.
+
+/// Bytes from the end of the span before it, or from the first byte of the capture, to this end.
+#[derive(Clone, Copy, Debug, PartialEq, Eq, Drop)]
+pub struct Span {
+    /// The first byte that is after the span.
+    pub end: u64,
+    /// Whether the bytes of the span were read.
+    pub rescued: bool,
+}

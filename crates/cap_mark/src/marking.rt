@@ -1,0 +1,100 @@
+//! The loop over the recording frames of a capture.
+ghost use Rattle.std.specs.Prelude.{◌≡◌, ◌<◌, ◌^◌, ◌-◌, ℕ, List, refl};
+ghost use Rattle.cap_map.specs.declared.span.Span.{Span as MapSpan};
+ghost use Rattle.cap_mark.specs.Frames.{IsMarked, mark_units};
+ghost use Rattle.cap_mark.specs.Walk.{AgreeFrom};
+ghost use Rattle.dvd_loop.specs.Laws.{IsPlainEnd};
+ghost use Rattle.dvd_loop.specs.Machine.{IsOutcome};
+ghost use Rattle.dvd_loop.specs.Streams.{streams, HasEnded};
+ghost use Rattle.dvd_loop.specs.Turns.{AreDone};
+ghost use Rattle.dvd_ports.specs.Seen.{Seen};
+
+use crate::marks::put_rows;
+use crate::walk::spans_from;
+use arrayvec::ArrayVec;
+use cap_map::Span;
+use dvd_loop::{LoneTurns, LoopEnd, Turn, follow_lone, read_unit};
+use dvd_ports::{NullSink, Sink, Source, write_whole};
+
+/// The spans of a map, and those of them that don't end before a place or at it: where the loop is in the map.
+#[derive(Drop)]
+struct Marking<'a> {
+    spans: &'a [Span],
+    left: &'a [Span],
+    place: u64,
+}
+
+impl<'a> Marking<'a> {
+    // Spans that serve from this byte on: those where the loop is, which it never leaves but for a later byte.
+    fn passed(&self, start: u64) -> &'a [Span]
+        requires { AgreeFrom self.now.place self.now.left.now self.now.spans.now }
+        ensures { AgreeFrom start result.now self.now.spans.now }
+    {
+        if self.place <= start {
+            self.left
+        } else {
+            self.spans
+        }
+    }
+}
+
+impl<'a> LoneTurns for Marking<'a> {
+    ghost Key = { List MapSpan };
+
+    ghost key = { λ m. m.spans.now };
+
+    ghost units = { mark_units };
+
+    ghost ready = { λ m. AgreeFrom m.place m.left.now m.spans.now };
+
+    ghost alone = { λ _. record { opens = refl; closes = λ _. refl; behind = refl } };
+
+    fn count(&self) -> u32 {
+        u32::MAX
+    }
+
+    fn turn<S: Source, K: Sink, E: Sink>(
+        &mut self,
+        k: u32,
+        src: &mut S,
+        out: &mut K,
+        _report: &mut E,
+    ) -> Result<Turn, LoopEnd> {
+        let mut frame = [0; 2366];
+        read_unit(src, k, &mut frame)?;
+        let start = 2366 * u64::from(k);
+        self.left = spans_from(self.passed(start), start);
+        self.place = start;
+        write_frame(self.left, k, &frame, out)
+    }
+}
+
+/// Writes the recording frames of a capture with the marks of their rows, one after the other.
+pub fn mark_loop<S: Source, K: Sink>(spans: &[Span], src: &mut S, out: &mut K) -> LoopEnd
+    ensures follows { (report : Seen) → HasEnded (IsOutcome (mark_units spans.now))
+        (streams (S.seen src.old) (K.seen out.old) report) (streams (S.seen src.new) (K.seen out.new) report) result }
+    ensures ends { IsPlainEnd (2 ^ 32 - 1) result }
+{
+    let marking = Marking {
+        spans,
+        left: spans,
+        place: 0,
+    };
+    follow_lone(marking, src, out, &mut NullSink::new())
+}
+
+// Writes frame `k` with the marks of its rows.
+fn write_frame<K: Sink>(
+    spans: &[Span],
+    k: u32,
+    frame: &[u8; 2366],
+    out: &mut K,
+) -> Result<Turn, LoopEnd>
+    ensures { (source report : Seen) → AreDone (IsMarked spans.now k frame.now)
+        (streams source (K.seen out.old) report) (streams source (K.seen out.new) report) result }
+{
+    let mut marked = ArrayVec::new();
+    put_rows(spans, 2366 * u64::from(k), frame, &mut marked);
+    write_whole(out, marked.as_slice())?;
+    Ok(Turn::Good)
+}

@@ -1,0 +1,98 @@
+//! The mark bits of a row, and the rows of a recording frame.
+ghost use Rattle.std.specs.Prelude.{◌≡◌, ◌<◌, ◌≤◌, ◌+◌, ◌*◌, ◌^◌, ◌++◌, ◌&&◌, [], ◌∷◌, nat_lt, not, length};
+ghost use Rattle.arrayvec.specs.ArrayVec.{array_vec_len};
+ghost use Rattle.cap_mark.specs.Frames.{marked_rows};
+ghost use Rattle.cap_mark.specs.Marks.{bit_of, bits_of, is_marked, mark_bytes, marks_of_row};
+
+use crate::walk::{is_rescued, spans_from, whole_row};
+use arrayvec::ArrayVec;
+use cap_map::Span;
+
+/// A recording frame with its marks: thirteen rows of 205 bytes.
+pub type MarkedFrame = ArrayVec<u8, 2665>;
+
+/// The mark bytes of a row of which no byte is rescued. The last two bits are spare.
+static LOST: [u8; 23] = [
+    255, 255, 255, 255, 255, 255, 255, 255, 255, 255, 255, 255, 255, 255, 255, 255, 255, 255, 255,
+    255, 255, 255, 252,
+];
+
+/// Puts the thirteen rows of a frame, the first byte of which has this number, each with its marks.
+pub fn put_rows(spans: &[Span], start: u64, frame: &[u8; 2366], out: &mut MarkedFrame)
+    requires empty { out.old.items ≡ [] }
+    requires start { start < 2 ^ 63 }
+    ensures { out.new.items ≡ marked_rows spans.now start frame.now 13 }
+{
+    let mut left = spans;
+    for n in 0..13 {
+        let first = start + 182 * n as u64;
+        left = spans_from(left, first);
+        put(out, &frame[182 * n..182 * n + 182]);
+        put_marks(left, first, out);
+    }
+}
+
+// Puts bytes at the end.
+fn put(out: &mut MarkedFrame, bytes: &[u8])
+    requires { array_vec_len out.old + length bytes.now ≤ 2665 }
+    ensures items { out.new.items ≡ out.old.items ++ bytes.now }
+    ensures len { array_vec_len out.new ≡ array_vec_len out.old + length bytes.now }
+{
+    let _ = out.try_extend_from_slice(bytes);
+}
+
+// Puts the mark bytes of a row, at once where its bytes are all rescued or all lost.
+fn put_marks(spans: &[Span], start: u64, out: &mut MarkedFrame)
+    requires room { array_vec_len out.old + 23 ≤ 2665 }
+    requires start { start + 182 < 2 ^ 64 }
+    ensures items { out.new.items ≡ out.old.items ++ marks_of_row spans.now start }
+    ensures len { array_vec_len out.new ≡ array_vec_len out.old + 23 }
+{
+    match whole_row(spans, start) {
+        Some(true) => put(out, &[0; 23]),
+        Some(false) => put(out, &LOST),
+        None => put_mixed(spans, start, out),
+    }
+}
+
+// Puts the mark bytes of a row one by one.
+fn put_mixed(spans: &[Span], start: u64, out: &mut MarkedFrame)
+    requires room { array_vec_len out.old + 23 ≤ 2665 }
+    requires start { start + 182 < 2 ^ 64 }
+    ensures items { out.new.items ≡ out.old.items ++ mark_bytes (is_marked spans.now start) 23 }
+    ensures len { array_vec_len out.new ≡ array_vec_len out.old + 23 }
+{
+    let mut left = spans;
+    for n in 0..23 {
+        left = spans_from(left, start + 8 * n);
+        out.push(mark_byte(left, start, 8 * n));
+    }
+}
+
+// Eight marks from a place of a row on, as bits.
+fn mark_byte(spans: &[Span], start: u64, place: u64) -> u8
+    requires place { place ≤ 176 }
+    requires start { start + 182 < 2 ^ 64 }
+    ensures { result ≡ bits_of (is_marked spans.now start) place 8 }
+{
+    let mut byte = 0;
+    for k in 0..8 {
+        byte = with_mark(byte, is_marked(spans, start, place + k));
+    }
+    byte as u8
+}
+
+fn with_mark(byte: u16, mark: bool) -> u16
+    requires { byte < 2 ^ 15 }
+    ensures { result ≡ 2 * byte + bit_of mark }
+{
+    2 * byte + u16::from(mark)
+}
+
+// Whether a place of a row is marked. A row has no place from 182 on, so that the spare bits are 0.
+fn is_marked(spans: &[Span], start: u64, place: u64) -> bool
+    requires { start + 182 < 2 ^ 64 }
+    ensures { result ≡ is_marked spans.now start place }
+{
+    place < 182 && !is_rescued(spans, start + place)
+}

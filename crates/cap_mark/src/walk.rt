@@ -1,0 +1,41 @@
+//! The spans of a map from a place on, so that no span is passed twice.
+ghost use Rattle.std.specs.Prelude.{◌≡◌, ◌<◌, ◌≤◌, ◌+◌, ◌^◌, ℕ, IfSome};
+ghost use Rattle.cap_map.specs.Spans.{is_rescued};
+ghost use Rattle.cap_mark.specs.Walk.{AgreeFrom};
+
+use cap_map::Span;
+
+/// The spans but for those that end before a place or at it.
+pub fn spans_from<'a>(spans: &'a [Span], place: u64) -> &'a [Span]
+    ensures { AgreeFrom place result.now spans.now }
+{
+    let mut left = spans;
+    while !left.is_empty() && left[0].end <= place {
+        left = &left[1..];
+    }
+    left
+}
+
+/// What a map says of all bytes of a row, if it says one thing of them.
+pub fn whole_row(spans: &[Span], start: u64) -> Option<bool>
+    requires { start + 182 < 2 ^ 64 }
+    ensures { IfSome result (λ rescued. (j : ℕ) → j < 182 → is_rescued spans.now (start + j) ≡ rescued) }
+{
+    match spans.first() {
+        None => Some(false),
+        Some(span) if start + 182 <= span.end => Some(span.rescued),
+        Some(_) => None,
+    }
+}
+
+/// Whether a byte is rescued.
+pub fn is_rescued(spans: &[Span], byte: u64) -> bool
+    ensures { result ≡ is_rescued spans.now byte }
+{
+    for span in spans {
+        if byte < span.end {
+            return span.rescued;
+        }
+    }
+    false
+}

@@ -1,0 +1,69 @@
+//! The lines of the report, one of which closes each run.
+ghost use Rattle.std.specs.Prelude.{◌≡◌, ◌≤◌, length};
+ghost use Rattle.cap_top.specs.Lines.{cause_text, closing_line, refusal_line};
+
+use crate::line::Line;
+use crate::opening::Refusal;
+use cap_map::Cause;
+use dvd_loop::LoopEnd;
+
+/// The line that closes the report of a run. A capture has as many recording frames as it has, so that the end within a
+/// frame none of which came is that of a whole capture. No run ends otherwise than so.
+pub fn close_line(end: LoopEnd) -> Line
+    ensures { result ≡ closing_line end }
+{
+    let mut line = Line::new();
+    match end {
+        LoopEnd::Done | LoopEnd::Short { bytes: 0, .. } => line.put(b"done\n"),
+        LoopEnd::ReadFault => line.put(b"read fault\n"),
+        LoopEnd::WriteFault => line.put(b"write fault\n"),
+        LoopEnd::Short { unit, bytes } => {
+            line.put(b"short: frame ");
+            line.put_number(u64::from(unit));
+            line.put(b", ");
+            line.put_number(u64::from(bytes));
+            line.put(b" bytes\n");
+        }
+        LoopEnd::Long => line.put(b"long\n"),
+        _ => {}
+    }
+    line
+}
+
+/// The line of a run that doesn't begin.
+pub fn refused_line(refusal: Refusal) -> Line
+    ensures { result ≡ refusal_line refusal }
+{
+    let mut line = Line::new();
+    match refusal {
+        Refusal::NoMemory => line.put(b"no memory\n"),
+        Refusal::ReadFault => line.put(b"map: read fault\n"),
+        Refusal::Rule {
+            line: number,
+            cause,
+        } => {
+            line.put(b"map: line ");
+            line.put_number(number);
+            line.put(b": ");
+            line.put(text_of(cause));
+            line.put(b"\n");
+        }
+    }
+    line
+}
+
+fn text_of(cause: Cause) -> &'static [u8]
+    ensures text { result.now ≡ cause_text cause }
+    ensures short { length result.now ≤ 8 }
+{
+    match cause {
+        Cause::State => b"no state",
+        Cause::Fields => b"fields",
+        Cause::Number => b"number",
+        Cause::Status => b"status",
+        Cause::Empty => b"empty",
+        Cause::TooLong => b"too long",
+        Cause::Gap => b"gap",
+        Cause::Overlap => b"overlap",
+    }
+}

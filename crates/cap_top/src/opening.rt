@@ -1,0 +1,51 @@
+//! The map of a run, which is read whole before the capture is touched.
+ghost use Rattle.std.specs.Prelude.{◌≡◌, IfOk, IfErr};
+ghost use Rattle.cap_top.specs.Opening.{IsRefused, IsTextFault, Opens, TextIs};
+
+use cap_map::{Cause, MapFault, Span, read_map};
+use dvd_ports::{Failed, Source};
+use std::alloc::Global;
+
+/// Why a run doesn't begin.
+#[derive(Clone, Copy, Debug, PartialEq, Eq)]
+pub enum Refusal {
+    /// There is no memory for the text of the map or for its spans.
+    NoMemory,
+    /// The file of the map couldn't be opened, or a read of it failed.
+    ReadFault,
+    /// This line of the map is the first that breaks a rule.
+    Rule { line: u64, cause: Cause },
+}
+
+/// Reads a map in which these statuses are trusted, to its end.
+pub fn open_map<M: Source>(alloc: Global, good: &[u8], map: &mut M) -> Result<Vec<Span>, Refusal>
+    ensures opened { IfOk result (λ spans. Opens good.now (M.seen map.old) (M.seen map.new) spans.items) }
+    ensures refused { IfErr result (IsRefused good.now (M.seen map.old) (M.seen map.new)) }
+{
+    let text = read_text(alloc, map)?;
+    match read_map(alloc, &text, good) {
+        Ok(spans) => Ok(spans),
+        Err(MapFault::NoMemory) => Err(Refusal::NoMemory),
+        Err(MapFault::Rule { line, cause }) => Err(Refusal::Rule { line, cause }),
+    }
+}
+
+// All bytes of a source.
+fn read_text<M: Source>(alloc: Global, map: &mut M) -> Result<Vec<u8>, Refusal>
+    ensures read { IfOk result (λ text. TextIs (M.seen map.old) (M.seen map.new) text.items) }
+    ensures refused { IfErr result (IsTextFault (M.seen map.old) (M.seen map.new)) }
+{
+    let mut text = Vec::new(alloc);
+    let mut piece = [0; 4096];
+    loop {
+        match map.read(&mut piece) {
+            Ok(0) => return Ok(text),
+            Ok(count) => {
+                if text.extend_from_slice(&piece[..count]).is_err() {
+                    return Err(Refusal::NoMemory);
+                }
+            }
+            Err(Failed) => return Err(Refusal::ReadFault),
+        }
+    }
+}

@@ -1,0 +1,174 @@
+//! Runs over memory: what is written and said, and how a fault of each stream ends.
+use crate::{Status, mark};
+use cap_words::Settings;
+use dvd_ports::{MemSink, MemSource, SliceSource, Source};
+use std::alloc::Global;
+use std::test::Fail;
+
+static MAP: &[u8] = b"0 +\n0 183 +\n183 1 -\n184 2182 +\n2366 182 /\n2548 0x1000 +\n";
+
+// Two recording frames of sevens with their marks: place 1 of row 1 is marked, and the first row of the second frame whole.
+fn wanted(alloc: Global) -> Result<Vec<u8>, Fail> {
+    let mut bytes = Vec::new(alloc);
+    for row in 0..26 {
+        bytes.extend_from_slice(&[7; 182])?;
+        match row {
+            1 => bytes.push(0x40)?,
+            13 => bytes.push(0xFF)?,
+            _ => bytes.push(0)?,
+        }
+        bytes.extend_from_slice(if row == 13 { &[0xFF; 21] } else { &[0; 21] })?;
+        bytes.push(if row == 13 { 0xFC } else { 0 })?;
+    }
+    Ok(bytes)
+}
+
+// A run over a capture of so many sevens, of which each read gives at most a hundred, and a write to so much room.
+struct Case {
+    capture: usize,
+    broken_read: u64,
+    room: usize,
+    report_room: usize,
+    status: Status,
+    written: usize,
+    line: &'static [u8],
+}
+
+static CASES: [Case; 7] = [
+    Case {
+        capture: 4732,
+        broken_read: 999,
+        room: 9999,
+        report_room: 99,
+        status: Status::Done,
+        written: 5330,
+        line: b"done\n",
+    },
+    Case {
+        capture: 0,
+        broken_read: 999,
+        room: 9999,
+        report_room: 99,
+        status: Status::Done,
+        written: 0,
+        line: b"done\n",
+    },
+    Case {
+        capture: 2367,
+        broken_read: 999,
+        room: 9999,
+        report_room: 99,
+        status: Status::Short,
+        written: 2665,
+        line: b"short: frame 1, 1 bytes\n",
+    },
+    Case {
+        capture: 2365,
+        broken_read: 999,
+        room: 9999,
+        report_room: 99,
+        status: Status::Short,
+        written: 0,
+        line: b"short: frame 0, 2365 bytes\n",
+    },
+    Case {
+        capture: 4732,
+        broken_read: 30,
+        room: 9999,
+        report_room: 99,
+        status: Status::ReadFault,
+        written: 2665,
+        line: b"read fault\n",
+    },
+    Case {
+        capture: 4732,
+        broken_read: 999,
+        room: 3000,
+        report_room: 99,
+        status: Status::WriteFault,
+        written: 3000,
+        line: b"write fault\n",
+    },
+    Case {
+        capture: 4732,
+        broken_read: 999,
+        room: 9999,
+        report_room: 2,
+        status: Status::ReportFault,
+        written: 5330,
+        line: b"do",
+    },
+];
+
+fn runs(alloc: Global, case: &Case) -> Result<(), Fail> {
+    let capture = vec![in alloc; 7u8; case.capture]?;
+    let mut src = MemSource::new(capture, 100, vec![in alloc; case.broken_read; 1]?);
+    let mut out = MemSink::new(alloc, case.room, 77, Vec::new(alloc))?;
+    let mut report = MemSink::new(alloc, case.report_room, 1, Vec::new(alloc))?;
+    let settings = Settings { map: "", good: "+" };
+    let status = mark(
+        alloc,
+        &settings,
+        &mut SliceSource::new(MAP),
+        &mut src,
+        &mut out,
+        &mut report,
+    );
+    let wanted = wanted(alloc)?;
+    if status != case.status
+        || report.held() != case.line
+        || wanted.get(..case.written) != Some(out.held())
+    {
+        Err(case.line.len())?;
+    }
+    Ok(())
+}
+
+#[test]
+fn frames_are_marked_and_faults_are_named(rt: HostRuntime) -> Result<(), Fail> {
+    for case in &CASES {
+        runs(rt.alloc(), case)?;
+    }
+    Ok(())
+}
+
+// A run whose map gives no spans: nothing is read of the capture, and nothing written.
+fn is_refused<M: Source>(
+    alloc: Global,
+    map: &mut M,
+    status: Status,
+    line: &[u8],
+) -> Result<(), Fail> {
+    let mut src = MemSource::new(vec![in alloc; 7u8; 2366]?, 100, Vec::new(alloc));
+    let mut out = MemSink::new(alloc, 9999, 77, Vec::new(alloc))?;
+    let mut report = MemSink::new(alloc, 99, 1, Vec::new(alloc))?;
+    let settings = Settings { map: "", good: "+" };
+    let ended = mark(alloc, &settings, map, &mut src, &mut out, &mut report);
+    if ended != status
+        || report.held() != line
+        || !out.held().is_empty()
+        || src.read(&mut [0; 100]) != Ok(100)
+    {
+        Err(line.len())?;
+    }
+    Ok(())
+}
+
+#[test]
+fn maps_that_give_no_spans(rt: HostRuntime) -> Result<(), Fail> {
+    let alloc = rt.alloc();
+    is_refused(
+        alloc,
+        &mut SliceSource::new(b"0 +\n0 1 +\n2 1 +\n"),
+        Status::BadMap,
+        b"map: line 3: gap\n",
+    )?;
+    is_refused(
+        alloc,
+        &mut SliceSource::new(b""),
+        Status::BadMap,
+        b"map: line 1: no state\n",
+    )?;
+    let mut broken = MemSource::new(MAP.to_vec(alloc)?, 10, vec![in alloc; 2; 1]?);
+    is_refused(alloc, &mut broken, Status::ReadFault, b"map: read fault\n")
+}

@@ -1,0 +1,3 @@
+-- What the contracts speak of: the words of a command line, and the settings that they ask for.
+pub mod Apps
+pub mod Reading

@@ -1,0 +1,25 @@
+//! Why words give no settings.
+ghost use Rattle.std.specs.Prelude.{◌≡◌};
+ghost use Rattle.cap_words.specs.declared.fault.WordsFault.TheVariants.{NoMemory};
+
+use std::alloc::AllocError;
+use thiserror::Error;
+
+/// The words ask for nothing, or they can't be read now.
+#[derive(Clone, Copy, Debug, PartialEq, Eq, Error)]
+pub enum WordsFault {
+    /// They have the form of no command.
+    #[error("the words are no command of the program")]
+    Usage,
+    /// There was none to read them with.
+    #[error("there is no memory to read the words with")]
+    NoMemory,
+}
+
+impl From<AllocError> for WordsFault {
+    ghost from_gives = { λ _ fault. fault ≡ NoMemory };
+
+    fn from(_error: AllocError) -> WordsFault {
+        WordsFault::NoMemory
+    }
+}

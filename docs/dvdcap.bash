@@ -1,0 +1,19 @@
+# Completions of dvdcap for bash, written by docs/tables. Sourced by bash_completion, or by hand.
+_dvdcap() {
+    local before=${COMP_WORDS[COMP_CWORD - 1]} command=${COMP_WORDS[1]} at=1 words=
+    [ "$command" != --progress ] || at=2 command=${COMP_WORDS[2]-}
+    if [ "$COMP_CWORD" = "$at" ]; then
+        words='mark help'
+        [ "$at" = 2 ] || words+=' --version --progress'
+    else
+        case $command,$before in
+            help,*) words='mark' ;;
+            *,--*)
+                # (a value of one's own, and after it the next option)
+                ;;
+            mark,*) words='--map --good' ;;
+        esac
+    fi
+    mapfile -t COMPREPLY < <(compgen -W "$words" -- "${COMP_WORDS[COMP_CWORD]}")
+}
+complete -o bashdefault -o default -F _dvdcap dvdcap
