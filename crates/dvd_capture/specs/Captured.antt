@@ -42,17 +42,17 @@ BreaksNoRule Listed bytes = IsUnbroken bytes
 abbrev pub record_of : Form → List ℕ → ℕ → List ℕ
 record_of form bytes m = take (record_size form) (drop (record_size form * m) bytes)
 
--- the marks in a recorded row; in the listed form they stand behind the rows
+-- the marks of recorded row m
+abbrev pub record_marks : Form → List ℕ → ℕ → List Bool
+record_marks Plain bytes m = replicate 182 false
+record_marks Marked bytes m = marks_of (drop 182 (record_of Marked bytes m))
+record_marks Listed bytes m = listed_row bytes m
+
+-- the marks in a recorded row by itself; in the listed form they come after the rows
 abbrev pub marks_in : Form → List ℕ → List Bool
 marks_in Plain record_bytes = replicate 182 false
 marks_in Marked record_bytes = marks_of (drop 182 record_bytes)
 marks_in Listed record_bytes = replicate 182 false
-
--- the marks of recorded row m
-abbrev pub record_marks : Form → List ℕ → ℕ → List Bool
-record_marks Plain bytes m = marks_in Plain (record_of Plain bytes m)
-record_marks Marked bytes m = marks_in Marked (record_of Marked bytes m)
-record_marks Listed bytes m = listed_row bytes m
 
 -- the rows of a block in the order of the block; row i stands at recorded row `record_at i`
 unfoldable pub captured_rows : Form → List ℕ → List (List ℕ)

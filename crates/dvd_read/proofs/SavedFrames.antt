@@ -20,7 +20,8 @@ use Rattle.dvd_decoding.specs.Causes.{two_pass_cause}
 use Rattle.coding.specs.Found.{block_found}
 use Rattle.dvd_read.specs.Parts.{answer_by, answer_word}
 use Rattle.dvd_decoding.specs.Frames.{frame_of, wanted_word}
-use Rattle.dvd_decoding.specs.Salvage.{answered_block, candidate, lacks_row, main_if_right, rescued, sectors_saved}
+use Rattle.dvd_decoding.specs.Salvage.{candidate, rescued}
+use Rattle.dvd_read.specs.Inner.Saved.{answered_block, lacks_row, main_if_right, sectors_saved}
 use Rattle.dvd_read.proofs.FrameFaults.{cause_as}
 use Rattle.dvd_read.proofs.RowAnswers.{as_number, flag-by, flag_small}
 

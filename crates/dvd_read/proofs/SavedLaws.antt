@@ -27,7 +27,8 @@ use Rattle.coding.specs.Found.{block_found}
 use Rattle.dvd_decoding.specs.Frames.{cause_in, fault_at, frame_of, frames_cause, main_data, wanted_word}
 use Rattle.dvd_decoding.specs.Made.{IsMadeOf, IsReceived}
 use Rattle.dvd_decoding.specs.Reading.{block_cause, block_in}
-use Rattle.dvd_decoding.specs.Salvage.{answered_block, block_out, candidate, lacks_row, main_if_right, rescued, saved_in, sectors_saved}
+use Rattle.dvd_decoding.specs.Salvage.{block_out, candidate, rescued, saved_in}
+use Rattle.dvd_read.specs.Inner.Saved.{answered_block, lacks_row, main_if_right, sectors_saved}
 use Rattle.dvd_read.proofs.BlockRead.{both_of_none}
 use Rattle.dvd_read.proofs.Codewords.{near_of-codeword}
 use Rattle.dvd_read.proofs.FrameFaults.{frames-same, fronts, fronts-more, mains-all}

@@ -7,7 +7,8 @@ ghost use Rattle.dvd_layout.specs.Place.{HasNumbers};
 ghost use Rattle.dvd_read.specs.Parts.{answer_word};
 ghost use Rattle.dvd_read.specs.Inner.Found.{HoldAnswers};
 ghost use Rattle.dvd_decoding.specs.Frames.{frame_of};
-ghost use Rattle.dvd_decoding.specs.Salvage.{answered_block, block_out, candidate, frames_saved, lacks_row, rescued, saved_in, sectors_saved};
+ghost use Rattle.dvd_decoding.specs.Salvage.{block_out, candidate, rescued, saved_in};
+ghost use Rattle.dvd_read.specs.Inner.Saved.{answered_block, frames_saved, lacks_row, sectors_saved};
 
 use crate::frames::{copy_frame, put_front};
 use dvd_capture::parts::{AnswerRow, ColumnAnswer, Sectors};

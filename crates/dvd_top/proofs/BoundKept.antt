@@ -13,34 +13,32 @@ use Rattle.dvd_layout.specs.declared.entry.Content.TheVariants.{Zero, Reference,
 use Rattle.dvd_layout.specs.declared.layout.Layout.{Layout}
 use Rattle.dvd_layout.specs.declared.layout.Zones.{Zones}
 use Rattle.dvd_layout.proofs.InOrder.{plan_of-in_order}
-use Rattle.dvd_loop.specs.Laws.{IsFaultless, IsFrontOf, first}
-use Rattle.dvd_loop.specs.Machine.{Closes, Does, IsClosed, IsOutcome, Outcome, Step, ended}
-use Rattle.dvd_loop.specs.Machine.Step.{Tell, Write}
+use Rattle.dvd_loop.specs.Laws.{AreTotal, IsFaultless, IsFrontOf, first}
+use Rattle.dvd_loop.specs.Machine.{IsOutcome, Outcome, Step}
+use Rattle.dvd_loop.specs.Machine.Step.{Write}
 use Rattle.dvd_loop.specs.Turns.{written}
-use Rattle.dvd_loop.specs.declared.ends.LoopEnd.{LoopEnd}
-use Rattle.dvd_loop.specs.declared.ends.LoopEnd.TheVariants.{Done, ReportFault}
+use Rattle.dvd_loop.specs.declared.ends.LoopEnd.TheVariants.{Done}
 use Rattle.dvd_loop.specs.declared.ends.Turn.{Turn}
 use Rattle.dvd_loop.specs.declared.ends.Turn.TheVariants.{Good}
 use Rattle.dvd_loop.proofs.Apart.{takes_unit}
-use Rattle.dvd_loop.proofs.Faultless.{all_done}
-use Rattle.dvd_top.specs.Bound.{IsBorneBlock, IsRescued, KeepsBound, Rescues, image_part}
+use Rattle.dvd_top.specs.Bound.{GivesBack, IsBorneBlock, IsRescued, KeepsBound, Rescues}
 use Rattle.dvd_top.specs.Captured.{HasBlocks, block_bytes, from_block}
-use Rattle.dvd_top.specs.Commands.{meaning}
+use Rattle.dvd_top.specs.Commands.{GoesOver, meaning}
 use Rattle.dvd_top.specs.Commands.Deep.{IsDeepened}
-use Rattle.dvd_top.specs.Commands.Master.{bytes_of_block, image_bytes}
+use Rattle.dvd_top.specs.Commands.Master.{bytes_of_block, image_bytes, image_part}
 use Rattle.dvd_top.specs.Commands.Recover.{IsRecovered}
-use Rattle.dvd_top.specs.Headline.{GoesOver, IsLoop}
 use Rattle.dvd_top.specs.Laws.{BoundIsKept, LoopsKeepTheBound}
-use Rattle.dvd_top.specs.Lines.{closing_line}
 use Rattle.dvd_words.specs.Settings.{IsLayoutOf}
 use Rattle.dvd_words.specs.declared.settings.Command.{Command}
 use Rattle.dvd_words.specs.declared.settings.Command.TheVariants.{Frames, Master, Recover, Info, Survey, Exercise, CdMake, CdRead, Merge, Deep, Assemble, Convert}
 use Rattle.dvd_words.specs.declared.settings.Settings.{Settings}
 use Rattle.dvd_top.proofs.CapturedBlocks.{begin_blocks, block-whole, blocks_break, blocks_stay}
-use Rattle.dvd_top.proofs.OpenedRuns.{behind_header}
+use Rattle.dvd_top.proofs.OpenedRuns.{after_header}
 use Rattle.dvd_top.proofs.PlanBytes.{start-blocks}
 use Rattle.dvd_top.proofs.RecoveredWidths.{IsWide, block_units, deepened-wide, length-first, never_last, recovered-wide}
+use Rattle.dvd_top.proofs.AnyEnd.{at_any_end, part-begun}
 use Rattle.dvd_top.proofs.BorneBlocks.{RepairsBy, repaired, repaired_deep}
+use Rattle.dvd_top.proofs.SomethingDone.{deep_total, recover_total}
 
 -- the image has the bytes that stand in a block
 pub length-part : (layout : Layout) (content : Content) (image : List ℕ) → length image ≡ 2048 * total_sectors layout
@@ -124,77 +122,60 @@ module _ (layout : Layout) (zones : Zones) (form : Form) (May : ℕ → List ℕ
         part_there (2048 * image_from entry.content) (image_bytes layout entry) t.before (image_part layout entry image) a.out t.size
         (length-part layout entry.content image m.image_size) (subst (λ s. IsFrontOf (t.before ++ written s) a.out) back.0 t.out)
 
--- a closing line that was told writes nothing, and ends as its loop
-told_line : (line : List ℕ) (end : LoopEnd) (a : Outcome) → Does (Tell line ∷ []) (λ after. after ≡ ended end) a → IsFaultless a.end
-    → (a.out ≡ []) × (a.end ≡ end)
-told_line line end a does none =
-    let done = all_done (Tell line ∷ []) (λ after. after ≡ ended end) a does none in (
-      ap (λ (o : Outcome). o.out) done.is ∙ ap (λ (o : Outcome). o.out) done.holds,
-      ap (λ (o : Outcome). o.end) done.is ∙ ap (λ (o : Outcome). o.end) done.holds,
-    )
-
--- what closes a run that no fault ended writes nothing, and ends as its loop
-closed : (closing : LoopEnd → List ℕ) (end : LoopEnd) (a : Outcome) → Closes closing end a → IsFaultless a.end → (a.out ≡ []) × (a.end ≡ end)
-closed closing ReportFault a is none = absurd (subst (λ (o : Outcome). IsFaultless o.end) is none)
-closed closing end a does none = told_line (closing end) end a does none
-
--- a run that no fault ended wrote what its loop wrote, which no fault ended
-pub closed_loop : (command : Command) (May : Outcome → Type 0) (within : LoopEnd) (outcome : Outcome)
-    (c : IsClosed (closing_line command) May within outcome) → IsFaultless outcome.end
-    → (outcome.out ≡ c.loop.out) × IsFaultless c.loop.end
-closed_loop command May within outcome c none =
-    let line = closed (closing_line command) within c.line c.closes (subst (λ (o : Outcome). IsFaultless o.end) c.all none) in (
-      ap (λ (o : Outcome). o.out) c.all ∙ ap (λ l. c.loop.out ++ l) line.0 ∙ append-nil c.loop.out,
-      subst IsFaultless (ap (λ (o : Outcome). o.end) c.all ∙ line.1 ∙ sym c.ends) none,
-    )
-
--- the bound is kept by units that write, of a block that is borne, its image sectors alone
-units_keep : (settings : Settings) (command : Command) (bytes : List ℕ) (outcome loop : Outcome) (layout : Layout) → IsLayoutOf settings layout
+-- The bound is kept by units that write, of a block that is borne, its image sectors alone.
+units_keep : (settings : Settings) (command : Command) (layout : Layout) → IsLayoutOf settings layout
     → ((k : ℕ) (own : List ℕ) (steps : List Step) (turn : Turn) → IsRescued command layout settings.zones settings.form k own steps turn → IsWide (bytes_of_block layout settings.zones k) steps turn)
-    → ((cpr image : List ℕ) (k : ℕ) (entry : BlockPlan) → IsBorneBlock layout settings.zones settings.form bytes cpr image k entry
+    → AreTotal (block_units layout settings.zones settings.form (IsRescued command layout settings.zones settings.form))
+    → ((bytes cpr image : List ℕ) (k : ℕ) (entry : BlockPlan) → IsBorneBlock layout settings.zones settings.form bytes cpr image k entry
     → (steps : List Step) (turn : Turn) → IsRescued command layout settings.zones settings.form k (block_bytes settings.form bytes k) steps turn
     → (steps ≡ Write (image_part layout entry image) ∷ []) × (turn ≡ Good))
     → settings.command ≡ command
-    → IsOutcome (block_units layout settings.zones settings.form (IsRescued command layout settings.zones settings.form)) bytes loop → IsFaultless loop.end
-    → outcome.out ≡ loop.out
-    → KeepsBound settings bytes outcome
-units_keep settings command bytes outcome loop layout is_layout wide alone is runs none out = record {
-  layout = layout;
-  is_layout = is_layout;
-  at_place = λ cpr image k entry b.
-      ap (λ l. take (image_bytes layout entry) (drop (2048 * image_from entry.content) l)) out
-      ∙ at_place layout settings.zones settings.form (IsRescued command layout settings.zones settings.form) wide cpr image bytes k entry b (alone cpr image k entry b) loop runs none;
-  alone = λ cpr image k entry b steps turn does.
-      alone cpr image k entry b steps turn (subst (λ word. IsRescued word layout settings.zones settings.form k (block_bytes settings.form bytes k) steps turn) is does);
-}
+    → (bytes : List ℕ) (loop : Outcome)
+    → IsOutcome (block_units layout settings.zones settings.form (IsRescued command layout settings.zones settings.form)) bytes loop
+    → KeepsBound settings bytes loop
+units_keep settings command layout is_layout wide total alone is bytes loop runs =
+    let May = IsRescued command layout settings.zones settings.form in
+    let any = at_any_end (GivesBack layout settings) (block_units layout settings.zones settings.form May) total
+    (λ own a goes none cpr image k entry b. at_place layout settings.zones settings.form May wide cpr image own k entry b (alone own cpr image k entry b) a goes none)
+    bytes loop runs in
+    record {
+      layout = layout;
+      is_layout = is_layout;
+      at_place = any.at_place;
+      received = any.received;
+      begun = λ cpr image k entry b.
+          part-begun any (image_bytes layout entry) (2048 * image_from entry.content) (image_part layout entry image) (any.gives cpr image k entry b);
+      alone = λ cpr image k entry b steps turn does.
+          alone bytes cpr image k entry b steps turn (subst (λ word. IsRescued word layout settings.zones settings.form k (block_bytes settings.form bytes k) steps turn) is does);
+    }
 
 -- so each command that rescues keeps the bound
-kept_by : (settings : Settings) (command : Command) (bytes : List ℕ) (outcome loop : Outcome) → Rescues command → settings.command ≡ command
-    → (meaning command).OfUnits settings (λ units. IsOutcome units bytes loop) → IsFaultless loop.end → outcome.out ≡ loop.out
-    → KeepsBound settings bytes outcome
-kept_by settings Recover bytes outcome loop rescues is (layout, is_layout, runs) none out =
-    units_keep settings Recover bytes outcome loop layout is_layout (recovered-wide layout settings.zones settings.form) (alone IsRecovered repaired layout settings.zones settings.form bytes) is runs none out
-kept_by settings Deep bytes outcome loop rescues is (layout, is_layout, runs) none out =
-    units_keep settings Deep bytes outcome loop layout is_layout (deepened-wide layout settings.zones settings.form) (alone IsDeepened repaired_deep layout settings.zones settings.form bytes) is runs none out
-kept_by settings Frames bytes outcome loop rescues is holds none out = absurd rescues
-kept_by settings Master bytes outcome loop rescues is holds none out = absurd rescues
-kept_by settings Info bytes outcome loop rescues is holds none out = absurd rescues
-kept_by settings Survey bytes outcome loop rescues is holds none out = absurd rescues
-kept_by settings Exercise bytes outcome loop rescues is holds none out = absurd rescues
-kept_by settings CdMake bytes outcome loop rescues is holds none out = absurd rescues
-kept_by settings CdRead bytes outcome loop rescues is holds none out = absurd rescues
-kept_by settings Merge bytes outcome loop rescues is holds none out = absurd rescues
-kept_by settings Assemble bytes outcome loop rescues is holds none out = absurd rescues
-kept_by settings Convert bytes outcome loop rescues is holds none out = absurd rescues
+kept_by : (settings : Settings) (command : Command) (bytes : List ℕ) (loop : Outcome) → Rescues command → settings.command ≡ command
+    → (meaning command).OfUnits settings (λ units. IsOutcome units bytes loop)
+    → KeepsBound settings bytes loop
+kept_by settings Recover bytes loop rescues is (layout, is_layout, runs) =
+    units_keep settings Recover layout is_layout (recovered-wide layout settings.zones settings.form) (recover_total layout settings.zones settings.form)
+    (alone IsRecovered repaired layout settings.zones settings.form) is bytes loop runs
+kept_by settings Deep bytes loop rescues is (layout, is_layout, runs) =
+    units_keep settings Deep layout is_layout (deepened-wide layout settings.zones settings.form) (deep_total layout settings.zones settings.form)
+    (alone IsDeepened repaired_deep layout settings.zones settings.form) is bytes loop runs
+kept_by settings Frames bytes loop rescues is holds = absurd rescues
+kept_by settings Master bytes loop rescues is holds = absurd rescues
+kept_by settings Info bytes loop rescues is holds = absurd rescues
+kept_by settings Survey bytes loop rescues is holds = absurd rescues
+kept_by settings Exercise bytes loop rescues is holds = absurd rescues
+kept_by settings CdMake bytes loop rescues is holds = absurd rescues
+kept_by settings CdRead bytes loop rescues is holds = absurd rescues
+kept_by settings Merge bytes loop rescues is holds = absurd rescues
+kept_by settings Assemble bytes loop rescues is holds = absurd rescues
+kept_by settings Convert bytes loop rescues is holds = absurd rescues
 
--- the law: a loop that no fault ended gives back the image sectors of each block that is borne
+-- the law: a loop over the blocks gives back the image sectors of each block that is borne
 pub loops_keep : LoopsKeepTheBound
-loops_keep settings bytes loop rescues goes none = kept_by settings settings.command bytes loop loop rescues refl goes none refl
+loops_keep settings bytes loop rescues goes = kept_by settings settings.command bytes loop rescues refl goes
 
--- the law: a run that no fault ended gives back the image sectors of each block that is borne
+-- the law: and so does one over a capture with a header
 pub kept : BoundIsKept
-kept settings within bytes outcome is run none =
-    let (out, loop_none) = closed_loop settings.command (IsLoop settings bytes) within outcome run none in
-    behind_header GoesOver (λ stated left. KeepsBound stated left outcome) run.loop loop_none settings.form settings bytes
-    (λ stated left after same loops faultless so.
-    kept_by stated stated.command left outcome after (subst Rescues (sym same) is) refl loops faultless (out ∙ sym so)) run.runs
+kept settings bytes loop is runs =
+    after_header GoesOver KeepsBound loop settings.form settings bytes
+    (λ stated left after same loops. loops_keep stated left after (subst Rescues (sym same) is) loops) runs

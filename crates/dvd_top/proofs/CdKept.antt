@@ -11,7 +11,7 @@ use Rattle.cd_sector.proofs.Faultless.{faultless, made_whole}
 use Rattle.cd_sector.proofs.GivenBack.{given_back}
 use Rattle.cd_sector.proofs.OneSector.{no_cause}
 use Rattle.cd_sector.proofs.Passes.{length-with_p_words, length-with_q_words}
-use Rattle.dvd_loop.specs.Laws.{IsFaultless, IsFrontOf, first}
+use Rattle.dvd_loop.specs.Laws.{AreTotal, IsFaultless, IsFrontOf, first}
 use Rattle.dvd_loop.specs.Machine.{IsOutcome, IsUnit, Outcome, Step}
 use Rattle.dvd_loop.specs.Machine.Step.{Write}
 use Rattle.dvd_loop.specs.Turns.{written}
@@ -19,15 +19,15 @@ use Rattle.dvd_loop.specs.declared.ends.LoopEnd.TheVariants.{Done}
 use Rattle.dvd_loop.specs.declared.ends.Turn.{Turn}
 use Rattle.dvd_loop.specs.declared.ends.Turn.TheVariants.{Bad, Good, Last}
 use Rattle.dvd_loop.proofs.Apart.{takes_sized}
-use Rattle.dvd_loop.proofs.Sizes.{sized_whole}
-use Rattle.dvd_top.specs.CdBound.{IsBorneSector, KeepsSectors, cd_sector_bytes}
+use Rattle.dvd_loop.proofs.Sizes.{begins_somehow, sized_whole}
+use Rattle.dvd_top.specs.CdBound.{GivesUserData, IsBorneSector, cd_sector_bytes}
 use Rattle.dvd_top.specs.Commands.{meaning}
 use Rattle.dvd_top.specs.Commands.CdRead.{IsSectorRead, cdread_units, user_data}
 use Rattle.dvd_top.specs.Laws.{BorneSectorsAreKept}
-use Rattle.dvd_top.specs.Headline.{GoesOver, IsLoop}
 use Rattle.dvd_words.specs.declared.settings.Settings.{Settings}
-use Rattle.dvd_top.proofs.BoundKept.{closed_loop, part_there}
-use Rattle.dvd_top.proofs.OpenedRuns.{behind_header}
+use Rattle.dvd_top.proofs.BoundKept.{part_there}
+use Rattle.dvd_top.proofs.CdSectors.{read_some}
+use Rattle.dvd_top.proofs.AnyEnd.{at_any_end, part-begun}
 use Rattle.dvd_top.proofs.Pieces.{start-same}
 use Rattle.dvd_top.proofs.Written.{length-written}
 
@@ -134,14 +134,23 @@ at_place settings bytes a runs none user k b =
     part_there (2048 * k) 2048 t.alone.out user a.out (length-first settings.address settings.sectors k bytes t.alone t.runs t.ends)
     b.user_size (subst (λ s. IsFrontOf (t.alone.out ++ written s) a.out) back.0 t.out)
 
--- the law: a run that no fault ended gives back the user data of each sector that is borne
+-- whatever bytes there are, something is done for each sector
+cdread_total : (address sectors : ℕ) → AreTotal (cdread_units address sectors)
+cdread_total address sectors = record {
+  begins = begins_somehow (cdread_units address sectors) (λ k. 2352) (λ k l. refl);
+  does = λ before own lt whole. read_some (address + length before) (length before) own;
+  closes = λ before all. ([], refl);
+}
+
+-- the law: a loop of `cdread` gives back the user data of each sector that is borne
 pub kept_sectors : BorneSectorsAreKept
-kept_sectors settings within bytes outcome is run none =
-    let (out, loop_none) = closed_loop settings.command (IsLoop settings bytes) within outcome run none in
-    behind_header GoesOver (λ stated left. KeepsSectors stated left outcome) run.loop loop_none settings.form settings bytes
-    (λ stated left after same loops faultless so. record {
-      at_place = λ user k b.
-          ap (λ l. take 2048 (drop (2048 * k) l)) (out ∙ sym so)
-          ∙ at_place stated left after (subst (λ command. (meaning command).OfUnits stated (λ units. IsOutcome units left after)) (same ∙ is) loops) faultless user k b;
-      alone = alone stated left;
-    }) run.runs
+kept_sectors settings bytes loop is goes =
+    let units = cdread_units settings.address settings.sectors in
+    let runs : IsOutcome units bytes loop = subst (λ command. (meaning command).OfUnits settings (λ u. IsOutcome u bytes loop)) is goes in
+    let any = at_any_end (GivesUserData settings) units (cdread_total settings.address settings.sectors) (λ own a loops none. at_place settings own a loops none) bytes loop runs in
+    record {
+      at_place = any.at_place;
+      received = any.received;
+      begun = λ user k b. part-begun any 2048 (2048 * k) user (any.gives user k b);
+      alone = alone settings bytes;
+    }

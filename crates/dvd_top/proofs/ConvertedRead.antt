@@ -22,10 +22,9 @@ use Rattle.dvd_loop.proofs.Fronts.{same_front, same_left as left_same}
 use Rattle.dvd_loop.proofs.Reached.{goes_on}
 use Rattle.dvd_loop.proofs.Sizes.{TakesOne, goes_one}
 use Rattle.dvd_loop.proofs.StepLemmas.{does_all, onto, taken_then}
-use Rattle.dvd_top.specs.Commands.{meaning}
+use Rattle.dvd_top.specs.Commands.{GoesOver, meaning}
 use Rattle.dvd_top.specs.Commands.Convert.{convert_units}
 use Rattle.dvd_top.specs.Commands.Recover.{IsDone, IsRecovered, recover_units}
-use Rattle.dvd_top.specs.Headline.{GoesOver}
 use Rattle.dvd_top.specs.Laws.{ConvertedIsRead}
 use Rattle.dvd_top.specs.Opening.{IsHeaderOf, IsOpened, Opens}
 use Rattle.dvd_top.proofs.CapturedTurns.{captured_whole}

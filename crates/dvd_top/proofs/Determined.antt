@@ -36,7 +36,7 @@ use Rattle.dvd_decoding.specs.Reading.{block_cause}
 use Rattle.dvd_decoding.specs.Salvage.{block_out, saved_in}
 use Rattle.dvd_report.specs.Lines.{damage_line}
 use Rattle.dvd_report.specs.Survey.{survey_line}
-use Rattle.dvd_top.specs.Commands.{meaning}
+use Rattle.dvd_top.specs.Commands.{GoesOver, meaning}
 use Rattle.dvd_top.specs.Commands.CdMake.{cdmake_units}
 use Rattle.dvd_top.specs.Commands.CdRead.{cdread_units}
 use Rattle.dvd_top.specs.Commands.Exercise.{exercise_units}
@@ -55,7 +55,6 @@ use Rattle.dvd_top.specs.Commands.Convert.{convert_units}
 use Rattle.dvd_top.specs.Commands.Survey.{IsSurveyed, found_in, survey_units, turn_by}
 use Rattle.dvd_top.specs.Inner.Performing.{sectors_out}
 use Rattle.dvd_top.specs.Captured.{IfImage, IsDoneByEntry, IsPassedOver, captured_part}
-use Rattle.dvd_top.specs.Headline.{GoesOver}
 use Rattle.dvd_top.specs.Laws.{WhatIsDoneIsDetermined}
 use Rattle.dvd_words.specs.Settings.{IsLayoutOf}
 use Rattle.dvd_words.specs.declared.settings.Command.{Command}

@@ -13,21 +13,22 @@ use Rattle.dvd_layout.specs.declared.layout.Zones.{Zones}
 use Rattle.dvd_loop.specs.Laws.{IsFaultless}
 use Rattle.dvd_loop.specs.Machine.{IsOutcome, Outcome}
 use Rattle.dvd_loop.specs.Turns.{written}
-use Rattle.dvd_top.specs.Bound.{HasGoodRows, IsBeyond, KeepsGoodFrames, image_part}
+use Rattle.dvd_top.specs.Bound.{GivesGoodSectors, HasGoodRows, IsBeyond, KeepsGoodFrames, sector_part}
 use Rattle.dvd_top.specs.Captured.{block_bytes}
-use Rattle.dvd_top.specs.Commands.{meaning}
-use Rattle.dvd_top.specs.Commands.Master.{image_bytes}
+use Rattle.dvd_top.specs.Commands.{GoesOver, meaning}
+use Rattle.dvd_top.specs.Commands.Master.{image_bytes, image_part}
 use Rattle.dvd_top.specs.Commands.Recover.{IsRecovered, recover_units}
-use Rattle.dvd_top.specs.Headline.{GoesOver, IsLoop}
 use Rattle.dvd_top.specs.Laws.{GoodFramesAreKept}
 use Rattle.dvd_words.specs.Settings.{IsLayoutOf}
 use Rattle.dvd_words.specs.declared.settings.Settings.{Settings}
+use Rattle.dvd_top.proofs.AnyEnd.{at_any_end, part-begun}
 use Rattle.dvd_top.proofs.MasterBlocks.{size_is}
-use Rattle.dvd_top.proofs.BoundKept.{closed_loop, has_turn, length-part}
+use Rattle.dvd_top.proofs.BoundKept.{has_turn, length-part}
 use Rattle.dvd_top.proofs.CapturedBlocks.{block-whole}
-use Rattle.dvd_top.proofs.OpenedRuns.{behind_header}
+use Rattle.dvd_top.proofs.OpenedRuns.{after_header}
 use Rattle.dvd_top.proofs.RecoveredWidths.{recovered-wide}
 use Rattle.dvd_top.proofs.Rescues.{given_good}
+use Rattle.dvd_top.proofs.SomethingDone.{recover_total}
 
 -- a part of the front of a list
 part-front : (xs : List ℕ) (m a n : ℕ) → a + n ≤ length (take m xs) → take n (drop a (take m xs)) ≡ take n (drop a xs)
@@ -65,22 +66,25 @@ at_place layout zones form bytes a runs none cpr image k f entry b below good =
     ∙ ap (λ n. take 2048 (drop n image)) (sym at)
 
 -- so the units of `recover` keep the good frames
-units_keep : (settings : Settings) (bytes : List ℕ) (outcome loop : Outcome) (layout : Layout) → IsLayoutOf settings layout
-    → IsOutcome (recover_units layout settings.zones settings.form) bytes loop → IsFaultless loop.end → outcome.out ≡ loop.out
-    → KeepsGoodFrames settings bytes outcome
-units_keep settings bytes outcome loop layout is_layout runs none out = record {
-  layout = layout;
-  is_layout = is_layout;
-  at_place = λ cpr image k f entry b below good.
-      ap (λ l. take 2048 (drop (2048 * (image_from entry.content + f)) l)) out
-      ∙ at_place layout settings.zones settings.form bytes loop runs none cpr image k f entry b below good;
-}
+units_keep : (settings : Settings) (layout : Layout) → IsLayoutOf settings layout → (bytes : List ℕ) (loop : Outcome)
+    → IsOutcome (recover_units layout settings.zones settings.form) bytes loop → KeepsGoodFrames settings bytes loop
+units_keep settings layout is_layout bytes loop runs =
+    let any = at_any_end (GivesGoodSectors layout settings) (recover_units layout settings.zones settings.form) (recover_total layout settings.zones settings.form)
+    (λ own a goes none cpr image k f entry g. at_place layout settings.zones settings.form own a goes none cpr image k f entry g.beyond g.is_image g.good)
+    bytes loop runs in
+    record {
+      layout = layout;
+      is_layout = is_layout;
+      at_place = any.at_place;
+      received = any.received;
+      begun = λ cpr image k f entry g.
+          part-begun any 2048 (2048 * (image_from entry.content + f)) (sector_part entry f image) (any.gives cpr image k f entry g);
+    }
 
--- the law: a run of recovery that no fault ended gives the good frames of each refused block
+-- the law: a loop of `recover` gives the good frames of each refused block
 pub kept_good : GoodFramesAreKept
-kept_good settings within bytes outcome is run none =
-    let (out, loop_none) = closed_loop settings.command (IsLoop settings bytes) within outcome run none in
-    behind_header GoesOver (λ stated left. KeepsGoodFrames stated left outcome) run.loop loop_none settings.form settings bytes
-    (λ stated left after same loops faultless so.
-    let (layout, is_layout, runs) = subst (λ command. (meaning command).OfUnits stated (λ units. IsOutcome units left after)) (same ∙ is) loops in
-    units_keep stated left outcome after layout is_layout runs faultless (out ∙ sym so)) run.runs
+kept_good settings bytes outcome is runs =
+    after_header GoesOver KeepsGoodFrames outcome settings.form settings bytes
+    (λ stated left after same loops.
+    let (layout, is_layout, goes) = subst (λ command. (meaning command).OfUnits stated (λ units. IsOutcome units left after)) (same ∙ is) loops in
+    units_keep stated layout is_layout left after goes) runs

@@ -11,8 +11,8 @@ use Rattle.dvd_loop.specs.declared.ends.LoopEnd.{LoopEnd}
 use Rattle.dvd_loop.proofs.StreamLemmas.{causes_first, comes_after, ended_as, told_before}
 use Rattle.dvd_ports.specs.Seen.{Seen}
 use Rattle.dvd_ports.proofs.KnownLemmas.{Appends-none}
-use Rattle.dvd_top.specs.Commands.{meaning}
-use Rattle.dvd_top.specs.Headline.{GoesOver, IsLoop, breaks_in}
+use Rattle.dvd_top.specs.Commands.{GoesOver, breaks_in, meaning}
+use Rattle.dvd_top.specs.Headline.{IsLoop}
 use Rattle.dvd_top.specs.Inner.Opened.{EndsInHeader, HasBegun, HasOpened, NoLoop}
 use Rattle.dvd_top.specs.Inner.Performing.{HasGoneOver, HasLooped}
 use Rattle.dvd_top.specs.Opening.{ComesBehind, IsOpened, Opens}

@@ -1,4 +1,5 @@
 -- Why the contracts hold: lemmas on the commands, the streams that they are handed, and what a run does.
+pub mod AnyEnd
 pub mod AssembleFrames
 pub mod BlockFrames
 pub mod BorneBlocks
@@ -31,7 +32,6 @@ pub mod InfoBlocks
 pub mod InfoFound
 pub mod Layouts
 pub mod MasterBlocks
-pub mod MasteredRuns
 pub mod MasteredStream
 pub mod MergeCaptures
 pub mod OneHeader
@@ -41,7 +41,9 @@ pub mod Pieces
 pub mod PlanBytes
 pub mod PlanEntries
 pub mod PlanLengths
+pub mod PromisesKept
 pub mod RecoverBlocks
+pub mod RecoveredCapture
 pub mod RecoveredWidths
 pub mod Rescues
 pub mod RunEnds

@@ -1,7 +1,8 @@
 -- From a mastered stream recovery gives the image back, block by block.
-use Rattle.std.proofs.Common.{◌≡◌, ◌∙◌, ◌⊎◌, inl, inr, ℕ, suc, ◌+◌, ◌-◌, ◌*◌, ◌<◌, ◌≤◌, Bool, List, [], ◌∷◌, length, take, drop, slice_get, All, Some, refl, ap, sym, subst, append-nil, arith}
+use Rattle.std.proofs.Common.{◌≡◌, ◌∙◌, ◌⊎◌, inl, inr, ℕ, ◌*◌, ◌<◌, Bool, List, [], ◌∷◌, length, take, drop, slice_get, All, Option, Some, refl, ap, sym, subst, append-nil, arith}
 use Rattle.std.specs.List.{flat_map, range_with_len}
-use Rattle.std.proofs.lemmas.List.{length-drop, length-take-le, nil_from_length, take_all}
+use Rattle.std.proofs.lemmas.List.{nil_from_length, take_all}
+use Rattle.std.proofs.lemmas.Option.{slice_get_within}
 use Rattle.coding.specs.Product.{IsBlockOf, IsProduct}
 use Rattle.coding.specs.Recording.{recording}
 use Rattle.dvd_capture.specs.Captured.{captured_marks, captured_rows}
@@ -9,7 +10,7 @@ use Rattle.coding.specs.Within.{IsWithin}
 use Rattle.dvd_capture.specs.declared.form.Form.TheVariants.{Plain}
 use Rattle.dvd_capture.proofs.RecordedRows.{length-recording, recording_captured}
 use Rattle.dvd_capture.proofs.Undamaged.{undamaged_within}
-use Rattle.dvd_layout.specs.Content.{IsImage}
+use Rattle.dvd_layout.specs.Content.{IsImage, image_from}
 use Rattle.dvd_layout.specs.Place.{image_sectors, total_sectors}
 use Rattle.dvd_layout.specs.Plan.{plan_of}
 use Rattle.dvd_layout.specs.declared.entry.BlockPlan.{BlockPlan}
@@ -17,6 +18,7 @@ use Rattle.dvd_layout.specs.declared.entry.Content.{Content}
 use Rattle.dvd_layout.specs.declared.entry.Content.TheVariants.{Zero, Reference, Control, Image}
 use Rattle.dvd_layout.specs.declared.layout.Layout.{Layout}
 use Rattle.dvd_layout.specs.declared.layout.Zones.{Zones}
+use Rattle.dvd_layout.proofs.InOrder.{plan_of-in_order}
 use Rattle.dvd_loop.specs.Laws.{IsFaultless}
 use Rattle.dvd_loop.specs.Machine.{IsOutcome, Outcome, Step}
 use Rattle.dvd_loop.specs.Turns.{told, written}
@@ -25,15 +27,18 @@ use Rattle.dvd_loop.specs.declared.ends.LoopEnd.TheVariants.{Done}
 use Rattle.dvd_loop.specs.declared.ends.Turn.{Turn}
 use Rattle.dvd_loop.specs.declared.ends.Turn.TheVariants.{Good}
 use Rattle.dvd_loop.proofs.Sizes.{sized_whole}
-use Rattle.dvd_loop.proofs.Over.{AreGood, InPieces, over, over_is, start, start-le, start-suc}
-use Rattle.dvd_top.specs.Commands.Master.{IsMastered, bytes_of_block, filled_block, frames_of, image_bytes, master_units}
+use Rattle.dvd_loop.proofs.Over.{AreGood, InPieces, over, over_is, same_pieces, start}
+use Rattle.dvd_top.specs.Commands.Master.{IsMastered, bytes_of_block, filled_block, frames_of, image_bytes, image_part, master_units}
 use Rattle.dvd_top.specs.Commands.Recover.{IsDone, IsRecovered, recover_units}
 use Rattle.dvd_top.specs.Captured.{IsPassedOver}
-use Rattle.dvd_top.specs.Laws.{MasteredStreamIsRecovered}
+use Rattle.dvd_top.specs.Laws.{ImageIsMastered, MasteredStreamIsRecovered}
+use Rattle.dvd_top.specs.Promises.{IsStreamOf}
 use Rattle.dvd_top.proofs.MasterBlocks.{size_is}
 use Rattle.dvd_top.proofs.OnlyThese.{only_these, runs_only}
-use Rattle.dvd_top.proofs.Pieces.{length-pieces, piece-at, pieces-front}
-use Rattle.dvd_top.proofs.PlanBytes.{start-all}
+use Rattle.dvd_top.proofs.BoundKept.{length-part}
+use Rattle.dvd_top.proofs.Pieces.{length-pieces, piece-at, pieces-front, start-same}
+use Rattle.dvd_top.proofs.PlanBytes.{start-all, start-blocks}
+use Rattle.dvd_top.proofs.SomethingDone.{some_entry}
 use Rattle.dvd_top.proofs.EntryBlocks.{done_at}
 use Rattle.dvd_top.proofs.BorneBlocks.{repaired}
 
@@ -101,21 +106,24 @@ record IsRecorded (layout : Layout) (zones : Zones) (cpr : List ℕ) (k : ℕ) (
   is_block : IsBlockOf (frames_of layout entry cpr (filled_block own)) block
   writes : out ≡ recording block
 
--- what mastering does for a block records it
+-- what mastering does for a block records it, and tells nothing
 recorded : (layout : Layout) (zones : Zones) (cpr : List ℕ) (k : ℕ) (own : List ℕ) (steps : List Step) (turn : Turn)
     → IsMastered layout zones cpr k own steps turn
-    → IsRecorded layout zones cpr k own (written steps)
-recorded layout zones cpr k own steps turn m = record {
-  entry = m.entry;
-  stands = m.stands;
-  block = m.block;
-  is_block = m.is_block;
-  writes = ap written m.writes ∙ append-nil (recording m.block);
-}
+    → IsRecorded layout zones cpr k own (written steps) × (told steps ≡ [])
+recorded layout zones cpr k own steps turn m = (
+  record {
+    entry = m.entry;
+    stands = m.stands;
+    block = m.block;
+    is_block = m.is_block;
+    writes = ap written m.writes ∙ append-nil (recording m.block);
+  },
+  ap told m.writes,
+)
 
 -- the units of mastering are good ones: each takes its image bytes and records its block
 masters_good : (layout : Layout) (zones : Zones) (cpr : List ℕ)
-    → AreGood (master_units layout zones cpr) (bytes_of_block layout zones) (λ k own out lines. IsRecorded layout zones cpr k own out)
+    → AreGood (master_units layout zones cpr) (bytes_of_block layout zones) (λ k own out lines. IsRecorded layout zones cpr k own out × (lines ≡ []))
 masters_good layout zones cpr = record {
   begins = λ k bytes. refl;
   opens = refl;
@@ -130,7 +138,7 @@ none_told [] = refl
 none_told (k ∷ ks) = none_told ks
 
 -- an outcome by its parts
-outcome_is : (a : Outcome) (taken out lines : List ℕ) (end : LoopEnd) → a.taken ≡ taken → a.out ≡ out → a.lines ≡ lines → a.end ≡ end
+pub outcome_is : (a : Outcome) (taken out lines : List ℕ) (end : LoopEnd) → a.taken ≡ taken → a.out ≡ out → a.lines ≡ lines → a.end ≡ end
     → a ≡ record { taken = taken; out = out; lines = lines; end = end }
 outcome_is a taken out lines end taken_is out_is lines_are end_is =
     ap (λ l. record a { taken = l }) taken_is
@@ -138,7 +146,11 @@ outcome_is a taken out lines end taken_is out_is lines_are end_is =
     ∙ ap (λ l. record a { taken = taken; out = out; lines = l }) lines_are
     ∙ ap (λ e. record { taken = taken; out = out; lines = lines; end = e }) end_is
 
-module _ (layout : Layout) (zones : Zones) (cpr image : List ℕ) (cpr_size : length cpr ≡ 6) (image_size : length image ≡ 2048 * total_sectors layout) where
+-- a place of a plan has one entry
+one_entry : (entry : Option BlockPlan) (a b : BlockPlan) → entry ≡ Some a → entry ≡ Some b → a ≡ b
+one_entry entry a b p q = cc
+
+module _ (layout : Layout) (zones : Zones) (cpr image : List ℕ) (image_size : length image ≡ 2048 * total_sectors layout) where
   -- how many blocks the plan has
   abbrev count : ℕ
   count = length (plan_of layout zones)
@@ -155,42 +167,80 @@ module _ (layout : Layout) (zones : Zones) (cpr image : List ℕ) (cpr_size : le
   image_all : length image ≡ start size count
   image_all = image_size ∙ sym (start-all layout zones)
 
-  -- the part of block k is as long as its image sectors
-  length-part : (k : ℕ) (entry : BlockPlan) → k < count → slice_get (plan_of layout zones) k ≡ Some entry → length (part k) ≡ image_bytes layout entry
-  length-part k entry lt stands =
-      let last : suc k + (count - suc k) ≡ count = omega arith in
-      let inside : start size (suc k) ≤ start size count = subst (λ m. start size (suc k) ≤ start size m) last (start-le size (suc k) (count - suc k)) in
-      length-take-le (size k) (drop (start size k) image) (omega (arith, inside, start-suc size k, image_all, length-drop (start size k) image)) ∙ size_is layout zones k entry stands
+  -- a block without image sectors takes none
+  none_there : (k : ℕ) (entry : BlockPlan) → size k ≡ image_bytes layout entry → image_bytes layout entry ≡ 0 → part k ≡ image_part layout entry image
+  none_there k entry is none =
+      ap (λ n. take n (drop (start size k) image)) (is ∙ none) ∙ ap (λ n. take n (drop (2048 * image_from entry.content) image)) (sym none)
 
-  module _ (mastered : Outcome) (pieces : InPieces size (λ k own out lines. IsRecorded layout zones cpr k own out) 0 count image image mastered) where
+  -- block k takes the bytes of the image that are in it
+  part_of : (content : Content) (k : ℕ) (entry : BlockPlan) → slice_get (plan_of layout zones) k ≡ Some entry → entry.content ≡ content
+      → part k ≡ image_part layout entry image
+  part_of (Image sector) k entry stands is =
+      let within = slice_get_within (plan_of layout zones) k entry stands in
+      let at : start size k ≡ 2048 * image_from entry.content =
+      start-blocks layout zones k (omega (arith, within)) ∙ ap (λ n. 2048 * n) (plan_of-in_order layout zones k entry stands (subst IsImage (sym is) tt)) in
+      ap (λ n. take n (drop (start size k) image)) (size_is layout zones k entry stands) ∙ ap (λ n. take (image_bytes layout entry) (drop n image)) at
+  part_of Zero k entry stands is = none_there k entry (size_is layout zones k entry stands) (ap (λ c. 2048 * image_sectors layout c) is)
+  part_of Reference k entry stands is = none_there k entry (size_is layout zones k entry stands) (ap (λ c. 2048 * image_sectors layout c) is)
+  part_of Control k entry stands is = none_there k entry (size_is layout zones k entry stands) (ap (λ c. 2048 * image_sectors layout c) is)
+
+  -- MASTERED.
+  module _ (mastered : Outcome) (pieces : InPieces size (λ k own out lines. IsRecorded layout zones cpr k own out × (lines ≡ [])) 0 count image image mastered) where
     -- what was written for block k is the recording of its part
     recorded-at : (k : ℕ) → k < count → IsRecorded layout zones cpr k (part k) (pieces.outs k)
-    recorded-at k lt = pieces.each k (omega arith) (omega arith)
+    recorded-at k lt = (pieces.each k (omega arith) (omega arith)).0
 
     -- each block that was mastered is 37,856 bytes of the stream
     out_size : (k : ℕ) → k < count → length (pieces.outs k) ≡ 37_856
     out_size k lt = let r = recorded-at k lt in ap length r.writes ∙ recording-size r.block r.is_block.product
 
-    -- so the stream has so many for each block
-    stream-size : length mastered.out ≡ start (λ k. 37_856) count
-    stream-size = ap length pieces.out_is ∙ length-pieces pieces.outs (λ k. 37_856) count out_size
-
-    -- block k of the stream is what was recorded there
-    captured : (k : ℕ) (own : List ℕ) (lt : k < count) → own ≡ take 37_856 (drop (start (λ k. 37_856) k) mastered.out)
-        → own ≡ recording (recorded-at k lt).block
-    captured k own lt is =
-        is ∙ ap (λ l. take 37_856 (drop (start (λ k. 37_856) k) l)) pieces.out_is ∙ piece-at pieces.outs (λ k. 37_856) count k out_size lt ∙ (recorded-at k lt).writes
-
-    -- what is recovered of such a block is the part of the image that it was mastered from
-    back-at : (k : ℕ) (own : List ℕ) (steps : List Step) (turn : Turn) → k < count → own ≡ take 37_856 (drop (start (λ k. 37_856) k) mastered.out)
-        → IsRecovered layout zones Plain k own steps turn → IsBack (part k) steps turn
-    back-at k own steps turn lt is does =
+    -- block k of the stream is the recording of its frames
+    recorded-block : (k : ℕ) (entry : BlockPlan) → slice_get (plan_of layout zones) k ≡ Some entry
+        → (block : List (List ℕ)) × IsBlockOf (frames_of layout entry cpr (filled_block (image_part layout entry image))) block
+        × (take 37_856 (drop (37_856 * k) mastered.out) ≡ recording block)
+    recorded-block k entry stands =
+        let lt = slice_get_within (plan_of layout zones) k entry stands in
         let r = recorded-at k lt in
-        block_back layout zones cpr k r.entry (part k) r.block steps turn r.stands cpr_size (length-part k r.entry lt r.stands) r.is_block
-        (subst (λ l. IsRecovered layout zones Plain k l steps turn) (captured k own lt is) does)
+        let same : r.entry ≡ entry = one_entry _ _ _ r.stands stands in (
+          r.block,
+          subst (λ l. IsBlockOf (frames_of layout entry cpr (filled_block l)) r.block) (part_of entry.content k entry stands refl)
+              (subst (λ e. IsBlockOf (frames_of layout e cpr (filled_block (part k))) r.block) same r.is_block),
+          ap (λ n. take 37_856 (drop n mastered.out)) (sym (start-same 37_856 k))
+              ∙ ap (λ l. take 37_856 (drop (start (λ j. 37_856) k) l)) pieces.out_is ∙ piece-at pieces.outs (λ j. 37_856) count k out_size lt ∙ r.writes,
+        )
+
+    -- so what was written is the stream of the image
+    is-stream : IsStreamOf layout zones cpr image mastered.out
+    is-stream = record {
+      size = ap length pieces.out_is ∙ length-pieces pieces.outs (λ j. 37_856) count out_size ∙ start-same 37_856 count;
+      each = recorded-block;
+    }
+
+    -- and nothing was told
+    silent-all : mastered.lines ≡ []
+    silent-all =
+        pieces.lines_are ∙ same_pieces pieces.lines (λ (k : ℕ). let none : List ℕ = [] in none) 0 count (λ k le lt. (pieces.each k le lt).1)
+        ∙ none_told (range_with_len 0 count)
+
+  -- RECOVERED.
+  module _ (cpr_size : length cpr ≡ 6) (stream : List ℕ) (is : IsStreamOf layout zones cpr image stream) where
+    -- the stream has so many bytes for each block
+    stream-size : length stream ≡ start (λ k. 37_856) count
+    stream-size = is.size ∙ sym (start-same 37_856 count)
+
+    -- what is recovered of block k of it is the part of the image that it was mastered from
+    back-at : (k : ℕ) (own : List ℕ) (steps : List Step) (turn : Turn) → k < count → own ≡ take 37_856 (drop (start (λ j. 37_856) k) stream)
+        → IsRecovered layout zones Plain k own steps turn → IsBack (part k) steps turn
+    back-at k own steps turn lt own_is does =
+        let (entry, stands) = some_entry (plan_of layout zones) k lt in
+        let (block, is_block, recorded) = is.each k entry stands in
+        let captured : own ≡ recording block = own_is ∙ ap (λ n. take 37_856 (drop n stream)) (start-same 37_856 k) ∙ recorded in
+        subst (λ l. IsBack l steps turn) (sym (part_of entry.content k entry stands refl))
+        (block_back layout zones cpr k entry (image_part layout entry image) block steps turn stands cpr_size (length-part layout entry.content image image_size) is_block
+        (subst (λ l. IsRecovered layout zones Plain k l steps turn) captured does))
 
     -- the units of recovery over the stream are good ones, and give the parts of the image back
-    recovers_good : AreGood (only_these (recover_units layout zones Plain) (λ k. 37_856) (λ k bytes. refl) mastered.out) (λ k. 37_856) (λ k own out lines. (out ≡ part k) × (lines ≡ []))
+    recovers_good : AreGood (only_these (recover_units layout zones Plain) (λ k. 37_856) (λ k bytes. refl) stream) (λ k. 37_856) (λ k own out lines. (out ≡ part k) × (lines ≡ []))
     recovers_good = record {
       begins = λ k bytes. refl;
       opens = refl;
@@ -201,19 +251,27 @@ module _ (layout : Layout) (zones : Zones) (cpr image : List ℕ) (cpr_size : le
     }
 
     -- so a recovery of the whole stream gives the image back, and ends as Done
-    stream_back : (recovered : Outcome) → IsOutcome (recover_units layout zones Plain) mastered.out recovered → IsFaultless recovered.end
-        → recovered ≡ record { taken = mastered.out; out = image; lines = []; end = Done }
+    stream_back : (recovered : Outcome) → IsOutcome (recover_units layout zones Plain) stream recovered → IsFaultless recovered.end
+        → recovered ≡ record { taken = stream; out = image; lines = []; end = Done }
     stream_back recovered runs none =
         let units = recover_units layout zones Plain in
-        let all = over_is (only_these units (λ k. 37_856) (λ k bytes. refl) mastered.out) (λ k. 37_856) (λ k own. part k) (λ k own. []) recovers_good mastered.out recovered
-        (runs_only units (λ k. 37_856) (λ k bytes. refl) mastered.out recovered runs) none stream-size in
+        let all = over_is (only_these units (λ k. 37_856) (λ k bytes. refl) stream) (λ k. 37_856) (λ k own. part k) (λ k own. []) recovers_good stream recovered
+        (runs_only units (λ k. 37_856) (λ k bytes. refl) stream recovered runs) none stream-size in
         let out : recovered.out ≡ image = all.0 ∙ pieces-front size image count ∙ take_all (start size count) image (omega (arith, image_all)) in
         let lines : recovered.lines ≡ [] = all.1 ∙ none_told (range_with_len 0 count) in
-        outcome_is recovered mastered.out image [] Done all.3 out lines all.2
+        outcome_is recovered stream image [] Done all.3 out lines all.2
 
--- the law: from a mastered stream recovery gives the image back
+-- the law: mastering a whole image writes its stream
+pub image_mastered : ImageIsMastered
+image_mastered layout zones cpr image a size runs none =
+    let pieces = over (master_units layout zones cpr) (bytes_of_block layout zones) (λ k own out lines. IsRecorded layout zones cpr k own out × (lines ≡ []))
+    (masters_good layout zones cpr) image a runs none (image_all layout zones cpr image size) in (
+      a.out,
+      is-stream layout zones cpr image size a pieces,
+      outcome_is a image a.out [] Done pieces.taken refl (silent-all layout zones cpr image size a pieces) pieces.end,
+    )
+
+-- the law: from the stream of an image recovery gives the image back
 pub stream_recovered : MasteredStreamIsRecovered
-stream_recovered layout zones cpr image mastered recovered cpr_size image_size masters none recovers no_fault =
-    let pieces = over (master_units layout zones cpr) (bytes_of_block layout zones) (λ k own out lines. IsRecorded layout zones cpr k own out) (masters_good layout zones cpr)
-    image mastered masters none (image_all layout zones cpr image cpr_size image_size) in
-    (pieces.end, stream_back layout zones cpr image cpr_size image_size mastered pieces recovered recovers no_fault)
+stream_recovered layout zones cpr image stream recovered cpr_size size is runs none =
+    stream_back layout zones cpr image size cpr_size stream is recovered runs none

@@ -20,7 +20,7 @@ use Rattle.dvd_loop.proofs.Fronts.{same_front, same_left}
 use Rattle.dvd_loop.proofs.Totality.{Exists}
 use Rattle.dvd_words.specs.Settings.{broken_rule}
 use Rattle.dvd_words.specs.declared.settings.Settings.{Settings}
-use Rattle.dvd_top.specs.Opening.{Behind, BreaksHeader, IsHeaderOf, IsOpened, Opens, fault_byte, shape_number}
+use Rattle.dvd_top.specs.Opening.{AfterHeader, BreaksHeader, IsHeaderOf, IsOpened, Opens, fault_byte, shape_number}
 use Rattle.dvd_top.proofs.FrameBytes.{IsByte}
 use Rattle.dvd_top.proofs.Headers.{zones_for}
 use Rattle.dvd_top.proofs.OneHeader.{breaks_once, breaks_or_states, header-size, stated_once}
@@ -161,28 +161,43 @@ module _ (Loops : Runs)
 pub stated-command : (settings stated : Settings) (own : List ℕ) → IsHeaderOf settings stated own → stated.command ≡ settings.command
 stated-command settings stated own is = ap (λ (s : Settings). s.command) is.states.all
 
--- What a run that no fault ended promises of its output is promised behind the header.
-pub behind_header : (Loops : Runs) (Keeps : Settings → List ℕ → Type 0) (loop : Outcome) → IsFaultless loop.end
-    → (form : Form) (settings : Settings) (bytes : List ℕ)
-    → ((stated : Settings) (left : List ℕ) (after : Outcome) → stated.command ≡ settings.command → Loops stated left after → IsFaultless after.end
-    → after.out ≡ loop.out
-    → Keeps stated left)
-    → Opens form Loops settings bytes loop → Behind form Keeps settings bytes
-behind_header Loops Keeps loop none Plain settings bytes law opens = law settings bytes loop refl opens none refl
-behind_header Loops Keeps loop none Marked settings bytes law opens = law settings bytes loop refl opens none refl
-behind_header Loops Keeps loop none Listed settings bytes law opens = λ own left stated front header lawful.
+-- one outcome alone comes after the same bytes
+taking_once : (own : List ℕ) (a b : Outcome) → taking own a ≡ taking own b → a ≡ b
+taking_once own a b is =
+    ap (λ l. record a { taken = l }) (same_left own own a.taken b.taken (ap (λ (o : Outcome). o.taken) is) refl)
+    ∙ ap (λ l. record a { taken = b.taken; out = l }) (ap (λ (o : Outcome). o.out) is)
+    ∙ ap (λ l. record a { taken = b.taken; out = b.out; lines = l }) (ap (λ (o : Outcome). o.lines) is)
+    ∙ ap (λ e. record b { end = e }) (ap (λ (o : Outcome). o.end) is)
+
+-- fewer bytes than a header has aren't one with what comes after it
+too_few_taken : (own other more rest taken : List ℕ) → length own < 32 → length other ≡ 32 → rest ≡ [] → taken ≡ own ++ rest → taken ≡ other ++ more → ⊥
+too_few_taken own other more rest taken fewer full none had is =
+    omega (arith, fewer, full, ap length none, ap length had, ap length is, length-append own rest, length-append other more)
+
+-- What is promised of every loop over the blocks is promised after the header of a listed capture.
+pub after_header : (Loops : Runs) (Keeps : Settings → List ℕ → Outcome → Type 0) (loop : Outcome) (form : Form) (settings : Settings) (bytes : List ℕ)
+    → ((stated : Settings) (left : List ℕ) (after : Outcome) → stated.command ≡ settings.command → Loops stated left after → Keeps stated left after)
+    → Opens form Loops settings bytes loop → AfterHeader form Keeps settings bytes loop
+after_header Loops Keeps loop Plain settings bytes law opens = law settings bytes loop refl opens
+after_header Loops Keeps loop Marked settings bytes law opens = law settings bytes loop refl opens
+after_header Loops Keeps loop Listed settings bytes law o = λ own left stated after front header lawful is.
     let full = header-size settings stated own header in
-    elim (opened_as Loops settings bytes loop opens none) [
-      | inl short ↦ absurd (too_few bytes own left short.fewer front full)
-      | inr (inl bad) ↦
-          let same = same_front bad.own own bad.left left (sym bad.front ∙ front) (bad.full ∙ sym full) in
-          absurd (breaks_or_states settings stated own bad.at (subst (λ l. BreaksHeader settings l bad.at) same bad.breaks) header lawful)
-      | inr (inr onto) ↦
-          let same = same_front onto.own own onto.left left (sym onto.front ∙ front) (onto.full ∙ sym full) in
-          let rest = same_left onto.own own onto.left left (sym onto.front ∙ front) same in
-          let one = stated_once settings onto.stated stated own (subst (IsHeaderOf settings onto.stated) same onto.header) header in
-          let loops : Loops stated left onto.after = subst (λ s. Loops s left onto.after) one (subst (λ l. Loops onto.stated l onto.after) rest onto.loops) in
-          law stated left onto.after (stated-command settings stated own header) loops (subst (λ (o : Outcome). IsFaultless o.end) onto.is none) (sym (ap (λ (o : Outcome). o.out) onto.is))
+    let had : loop.taken ≡ o.own ++ o.after.taken = ap (λ (x : Outcome). x.taken) o.takes in
+    let has : loop.taken ≡ own ++ after.taken = ap (λ (x : Outcome). x.taken) is in
+    let few : length o.own < 32 → o.after.taken ≡ [] → ⊥ = λ fewer none. too_few_taken o.own own after.taken o.after.taken loop.taken fewer full none had has in
+    elim o.comes [
+      | inl (fewer, inl (nothing, ends)) ↦ absurd (few fewer (ap (λ (x : Outcome). x.taken) ends))
+      | inl (fewer, inr ends) ↦ absurd (few fewer (ap (λ (x : Outcome). x.taken) ends))
+      | inr (size, inl (at, breaks, ends)) ↦
+          let same = same_front o.own own o.left left (sym o.front ∙ front) (size ∙ sym full) in
+          absurd (breaks_or_states settings stated own at (subst (λ l. BreaksHeader settings l at) same breaks) header lawful)
+      | inr (size, inr (other, opened, none, loops)) ↦
+          let same = same_front o.own own o.left left (sym o.front ∙ front) (size ∙ sym full) in
+          let rest = same_left o.own own o.left left (sym o.front ∙ front) same in
+          let one = stated_once settings other stated own (subst (IsHeaderOf settings other) same opened) header in
+          let whole : o.after ≡ after = taking_once own o.after after (ap (λ l. taking l o.after) (sym same) ∙ sym o.takes ∙ is) in
+          let goes : Loops stated left o.after = subst (λ s. Loops s left o.after) one (subst (λ l. Loops other l o.after) rest loops) in
+          law stated left after (stated-command settings stated own header) (subst (Loops stated left) whole goes)
     ]
 
 -- AFTER A FAILED READ all is as if the input had ended there, where it is so behind the header.

@@ -1,10 +1,11 @@
 -- Pieces of known sizes that stand one after the other.
-use Rattle.std.proofs.Common.{◌≡◌, ◌∙◌, inl, inr, ℕ, zero, suc, ◌+◌, ◌-◌, ◌*◌, ◌<◌, ◌≤◌, List, ◌++◌, length, length-append, take, drop, ap, sym, subst, append_assoc, append-nil, arith}
+use Rattle.std.proofs.Common.{◌≡◌, ◌∙◌, inl, inr, ℕ, zero, suc, ◌+◌, ◌-◌, ◌*◌, ◌<◌, ◌≤◌, List, [], ◌∷◌, ◌++◌, length, length-append, take, drop, refl, ap, sym, subst, append_assoc, append-nil, arith}
 use Rattle.std.specs.List.{flat_map, range_with_len}
 use Rattle.std.proofs.Math.Nat.{mul-suc, mul-zero}
 use Rattle.std.proofs.Math.Seq.{take-add}
 use Rattle.std.proofs.lemmas.Bool.{cases_lt}
 use Rattle.dvd_capture.proofs.Fetching.{part-append, part-behind}
+use Rattle.dvd_loop.specs.Laws.{IsFrontOf}
 use Rattle.dvd_loop.proofs.Over.{start, start-le, start-suc, start-zero}
 
 -- one piece more
@@ -53,3 +54,19 @@ pieces-front size all (suc n) =
     ∙ ap (λ l. l ++ take (size n) (drop (start size n) all)) (pieces-front size all n)
     ∙ sym (take-add (start size n) (size n) all)
     ∙ ap (λ m. take m all) (sym (start-suc size n))
+
+-- the first elements of a list are the front of those of a longer one
+take-front : (n : ℕ) (xs ys : List ℕ) → IsFrontOf (take n xs) (take n (xs ++ ys))
+take-front zero xs ys = ([], refl)
+take-front (suc n) [] ys = (take (suc n) ys, refl)
+take-front (suc n) (x ∷ xs) ys = let (left, is) = take-front n xs ys in (left, ap (λ l. x ∷ l) is)
+
+-- and so is a part further on
+part-longer : (n p : ℕ) (xs ys : List ℕ) → IsFrontOf (take n (drop p xs)) (take n (drop p (xs ++ ys)))
+part-longer n zero xs ys = take-front n xs ys
+part-longer n (suc p) [] ys = take-front n [] (drop (suc p) ys)
+part-longer n (suc p) (x ∷ xs) ys = part-longer n p xs ys
+
+-- a part of the front of a list is the front of the part
+pub front-part : (n p : ℕ) (xs all : List ℕ) → IsFrontOf xs all → IsFrontOf (take n (drop p xs)) (take n (drop p all))
+front-part n p xs all (left, is) = subst (λ l. IsFrontOf (take n (drop p xs)) (take n (drop p l))) (sym is) (part-longer n p xs left)

@@ -1,19 +1,27 @@
 -- A run by its loop and its closing line.
-use Rattle.std.proofs.Common.{◌≡◌, ◌≢◌, ◌⊎◌, inl, inr, Option, Some, refl, ap, sym, subst, ◌∙◌}
+use Rattle.std.proofs.Common.{◌≡◌, ◌≢◌, ◌⊎◌, inl, inr, ◌++◌, Option, Some, refl, ap, sym, subst, ◌∙◌}
+use Rattle.dvd_capture.specs.declared.form.Form.TheVariants.{Listed}
 use Rattle.dvd_ports.specs.Causes.{HasGoneOn}
 use Rattle.dvd_ports.specs.Seen.{Seen}
+use Rattle.dvd_ports.proofs.KnownLemmas.{Appends-then}
+use Rattle.dvd_loop.specs.Laws.{IsFaultless}
 use Rattle.dvd_loop.specs.Machine.{Closes, Outcome}
-use Rattle.dvd_loop.specs.Streams.{Comes, Counts, Streams, is_report_fault, streams}
+use Rattle.dvd_loop.specs.Streams.{Comes, Counts, HaveCauses, HaveMoved, Streams, is_report_fault, streams}
 use Rattle.dvd_loop.specs.declared.ends.LoopEnd.{LoopEnd}
 use Rattle.dvd_loop.specs.declared.ends.LoopEnd.TheVariants.{ReportFault}
-use Rattle.dvd_loop.proofs.ClosedLemmas.{causes_closed, closed, closes_takes}
-use Rattle.dvd_loop.proofs.StreamLemmas.{comes_then, counts_after}
-use Rattle.dvd_top.specs.Headline.{HasRun, IsLoop, IsRun}
+use Rattle.dvd_loop.proofs.ClosedLemmas.{causes_closed}
+use Rattle.dvd_loop.proofs.StreamLemmas.{counts_after}
+use Rattle.dvd_top.specs.Headline.{HaveFailed, IsRun}
 use Rattle.dvd_top.specs.Statuses.{status_of}
 use Rattle.dvd_top.specs.Lines.{closing_line}
 use Rattle.dvd_top.specs.Inner.Performing.{HasLooped}
+use Rattle.dvd_words.specs.declared.settings.Command.TheVariants.{CdRead}
 use Rattle.dvd_words.specs.declared.settings.Settings.{Settings}
 use Rattle.dvd_top.specs.declared.status.Status.{Status}
+use Rattle.dvd_top.proofs.BoundKept.{kept}
+use Rattle.dvd_top.proofs.CdKept.{kept_sectors}
+use Rattle.dvd_top.proofs.GoodFrames.{kept_good}
+use Rattle.dvd_top.proofs.RunEnds.{ended_there, in_words, remembered, risen, sound_end}
 
 -- there is one reading of words at most
 pub same_settings : (read : Option Settings) (a b : Settings) → read ≡ Some a → read ≡ Some b → a ≡ b
@@ -43,16 +51,47 @@ module _ (settings : Settings) (old : Streams) (source output mid_report new_rep
     | inr (not, on) ↦ counts_after (is_report_fault end) old.report mid_report new_report (on old.report mid_report looped.loop.causes.report) (cause not)
   ]
 
-  -- so the loop and its closing line are a run, with the status of its end
-  pub has_run : (end ≢ ReportFault → end ≡ within) → (result : Status) → result ≡ status_of end
-      → HasRun settings old (streams source output new_report) result
-  has_run same result is_status = record {
-    within = within;
-    end = end;
-    comes = comes_then (IsLoop settings) (Closes (closing_line settings.command) within) (IsRun settings within) old (streams source output mid_report) (streams source output new_report) within end
-        (λ bytes loop line loops ends closes none. closed (closing_line settings.command) (IsLoop settings bytes) within loop line loops ends closes)
-        (closes_takes (closing_line settings.command) within) looped.loop.comes line;
-    same_end = same;
-    causes = causes_closed within end old (streams source output mid_report) (streams source output new_report) looped.loop.causes refl refl report_counts;
-    is_status = is_status;
+  -- the loop and its closing line have moved the streams
+  moved : HaveMoved old (streams source output new_report) looped.loop.comes.outcome.taken looped.loop.comes.outcome.out (looped.loop.comes.outcome.lines ++ line.outcome.lines)
+  moved = record {
+    reads = looped.loop.comes.moved.reads;
+    writes = looped.loop.comes.moved.writes;
+    tells = Appends-then _ _ _ looped.loop.comes.outcome.lines line.outcome.lines looped.loop.comes.moved.tells line.moved.tells;
   }
+
+  -- each fault among them is one failed call
+  causes : HaveCauses within end old (streams source output new_report)
+  causes = causes_closed within end old (streams source output mid_report) (streams source output new_report) looped.loop.causes refl refl report_counts
+
+  -- so these calls have failed
+  pub has_failed : (end ≢ ReportFault → end ≡ within) → HaveFailed (status_of end) old (streams source output new_report)
+  has_failed same = risen within end old (streams source output new_report) same causes
+
+  -- they are a run, with the status of its end
+  pub has_run : (settings.command ≡ CdRead → settings.form ≢ Listed) → (end ≢ ReportFault → end ≡ within) → (result : Status) → result ≡ status_of end
+      → IsRun settings old (streams source output new_report) result
+  has_run plain same result is_status =
+      let new = streams source output new_report in
+      let comes = looped.loop.comes in
+      let ends : end ≢ ReportFault → line.outcome.end ≡ comes.outcome.end = λ not. line.ends ∙ same not ∙ sym comes.ends in
+      record {
+        bytes = comes.bytes;
+        told = comes.told;
+        loop = comes.outcome;
+        is_loop = comes.holds;
+        line = line.outcome;
+        closes = subst (λ w. Closes (closing_line settings.command) w line.outcome) (sym comes.ends) line.holds;
+        moved = moved;
+        is_status = is_status ∙ ap status_of (sym line.ends);
+        memory = λ none. remembered end (sym is_status ∙ none);
+        causes = subst (λ w. HaveCauses w line.outcome.end old new) (sym comes.ends) (subst (λ e. HaveCauses within e old new) (sym line.ends) causes);
+        complete = λ none.
+            let sound = sound_end end old new (has_failed same) none in (
+              subst IsFaultless (sym line.ends) sound,
+              ends (λ is. subst IsFaultless is sound),
+            );
+        read_fault = ended_there settings comes.bytes comes.outcome comes.holds;
+        bound = λ rescues. kept settings comes.bytes comes.outcome rescues comes.holds;
+        good_frames = λ is. kept_good settings comes.bytes comes.outcome is comes.holds;
+        sectors = λ is. kept_sectors settings comes.bytes comes.outcome is (in_words settings.form settings comes.bytes comes.outcome (plain is) comes.holds);
+      }

@@ -23,6 +23,7 @@ use Rattle.dvd_layout.specs.declared.entry.Content.TheVariants.{Control, Image}
 use Rattle.dvd_layout.specs.declared.fault.LayoutFault.TheVariants.{InitialTooLong}
 use Rattle.dvd_layout.specs.declared.layout.Layout.{Layout}
 use Rattle.dvd_layout.specs.declared.layout.Zones.{Zones}
+use Rattle.dvd_loop.specs.Laws.{AreTotal}
 use Rattle.dvd_loop.specs.Machine.Part.{Whole}
 use Rattle.dvd_loop.specs.Machine.{Goes, IsOutcome, Step, Units, bad_of, sized}
 use Rattle.dvd_loop.specs.Machine.Step.{Write, Tell}
@@ -35,7 +36,7 @@ use Rattle.dvd_decoding.specs.Salvage.{block_out, saved_in}
 use Rattle.dvd_decoding.specs.declared.cause.Cause.{Cause}
 use Rattle.dvd_read.proofs.BlockRead.{no_cause-read}
 use Rattle.dvd_report.specs.Lines.{damage_line}
-use Rattle.dvd_top.specs.Commands.{meaning}
+use Rattle.dvd_top.specs.Commands.{GoesOver, breaks_in, meaning}
 use Rattle.dvd_top.specs.Commands.CdMake.{HasAddresses, cdmake_units}
 use Rattle.dvd_top.specs.Commands.CdRead.{cdread_units}
 use Rattle.dvd_merge.specs.Join.{joined}
@@ -58,7 +59,6 @@ use Rattle.dvd_top.specs.Commands.Recover.{IsDone, IsImageDone, IsRecovered, IsR
 use Rattle.dvd_top.specs.Commands.Survey.{IsSurveyed, survey_units}
 use Rattle.dvd_top.specs.Inner.Performing.{sectors_out}
 use Rattle.dvd_top.specs.Captured.{IfImage, IsDoneByEntry, IsPassedOver, captured_part}
-use Rattle.dvd_top.specs.Headline.{GoesOver, breaks_in}
 use Rattle.dvd_top.specs.Laws.{SomethingIsDone}
 use Rattle.dvd_top.specs.Opening.{IsHeaderOf, Opens}
 use Rattle.dvd_words.specs.Settings.{IsLayoutOf, broken_rule}
@@ -122,7 +122,7 @@ no_closing : (steps : List Step) × (steps ≡ [])
 no_closing = ([], refl)
 
 -- a place of a plan has an entry
-some_entry : (entries : List BlockPlan) (k : ℕ) → k < length entries → (entry : BlockPlan) × (slice_get entries k ≡ Some entry)
+pub some_entry : (entries : List BlockPlan) (k : ℕ) → k < length entries → (entry : BlockPlan) × (slice_get entries k ≡ Some entry)
 some_entry entries k within = elim (slice_get_cases entries k).1 [
   | inl (entry, below, stands, read) ↦ (entry, stands)
   | inr (past, none) ↦ absurd (omega arith)
@@ -213,6 +213,15 @@ deepened_some : (layout : Layout) (zones : Zones) (form : Form) (k : ℕ) (own :
 deepened_some layout zones form k =
     entry_some (plan_of layout zones) (λ e. IsReadDeep e.content layout k e)
     (λ e rows marks size marks_size. if_image_some (IsImageRead layout k e rows marks) (image_read_some layout k e rows marks size marks_size (deep_cause rows marks e) refl) e.content) form k
+
+-- so the units of both are total
+pub recover_total : (layout : Layout) (zones : Zones) (form : Form) → AreTotal (recover_units layout zones form)
+recover_total layout zones form =
+    blocks_total (recover_units layout zones form) form (λ k own. refl) (λ before own lt whole. recovered_some layout zones form (length before) own lt) (λ before all. no_closing)
+
+pub deep_total : (layout : Layout) (zones : Zones) (form : Form) → AreTotal (deep_units layout zones form)
+deep_total layout zones form =
+    blocks_total (deep_units layout zones form) form (λ k own. refl) (λ before own lt whole. deepened_some layout zones form (length before) own lt) (λ before all. no_closing)
 
 -- INFO. A block of control data answers or it doesn't.
 module _ (entry : BlockPlan) (rows : List (List ℕ)) (marks : List (List Bool)) (size : length rows ≡ 208) (marks_size : length marks ≡ 208) where

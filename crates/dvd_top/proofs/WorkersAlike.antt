@@ -4,15 +4,19 @@ use Rattle.dvd_capture.specs.declared.form.Form.{Form}
 use Rattle.dvd_capture.specs.declared.form.Form.TheVariants.{Plain, Marked, Listed}
 use Rattle.dvd_layout.specs.declared.layout.Layout.{Layout}
 use Rattle.dvd_loop.specs.Machine.{Outcome, Units}
-use Rattle.dvd_loop.specs.declared.ends.LoopEnd.{LoopEnd}
-use Rattle.dvd_top.specs.Commands.{meaning}
-use Rattle.dvd_top.specs.Headline.{GoesOver, IsLoop, IsRun}
+use Rattle.dvd_loop.specs.Streams.{Streams}
+use Rattle.dvd_top.specs.CdBound.{IsBorneSector, KeepsSectors}
+use Rattle.dvd_top.specs.Commands.{GoesOver, meaning}
+use Rattle.dvd_top.specs.Headline.{IsLoop, IsRun}
 use Rattle.dvd_top.specs.Laws.{WorkersChangeNothing}
 use Rattle.dvd_top.specs.Opening.{BreaksHeader, ComesBehind, IsHeaderOf, Opens}
 use Rattle.dvd_words.specs.Settings.{IsLayoutOf}
 use Rattle.dvd_words.specs.declared.settings.Command.{Command}
 use Rattle.dvd_words.specs.declared.settings.Command.TheVariants.{Frames, Master, Recover, Info, Survey, Exercise, CdMake, CdRead, Merge, Deep, Assemble, Convert}
 use Rattle.dvd_words.specs.declared.settings.Settings.{Settings}
+use Rattle.dvd_top.specs.declared.status.Status.{Status}
+use Rattle.dvd_top.proofs.BoundKept.{kept}
+use Rattle.dvd_top.proofs.GoodFrames.{kept_good}
 
 -- the same settings with so many workers
 abbrev set_workers : ℕ → Settings → Settings
@@ -84,15 +88,50 @@ module _ (workers : ℕ) where
   loop_with : (settings : Settings) (bytes : List ℕ) (outcome : Outcome) → IsLoop settings bytes outcome → IsLoop (set_workers workers settings) bytes outcome
   loop_with settings = opens_with settings.form settings
 
+  -- a CD-ROM sector whose damage is borne is one of theirs
+  sector_back : {settings : Settings} {bytes user : List ℕ} {k : ℕ} → IsBorneSector (set_workers workers settings) bytes user k → IsBorneSector settings bytes user k
+  sector_back b = record {
+    asked = b.asked;
+    whole = b.whole;
+    user_size = b.user_size;
+    sector = b.sector;
+    is_sector = b.is_sector;
+    low = b.low;
+    high = b.high;
+  }
+
+  -- what is kept of CD-ROM sectors
+  sectors_with : {settings : Settings} {bytes : List ℕ} {loop : Outcome} → KeepsSectors settings bytes loop → KeepsSectors (set_workers workers settings) bytes loop
+  sectors_with keeps = record {
+    at_place = λ none user k b. keeps.at_place none user k (sector_back b);
+    received = λ failed user k b. keeps.received failed user k (sector_back b);
+    begun = λ user k b. keeps.begun user k (sector_back b);
+    alone = λ user k b. keeps.alone user k (sector_back b);
+  }
+
   -- and each run
-  run_with : (settings : Settings) (within : LoopEnd) (bytes : List ℕ) (outcome : Outcome) → IsRun settings within bytes outcome
-      → IsRun (set_workers workers settings) within bytes outcome
-  run_with settings within bytes outcome c =
-      record { loop = c.loop; runs = loop_with settings bytes c.loop c.runs; ends = c.ends; line = c.line; closes = c.closes; all = c.all }
+  run_with : (settings : Settings) (old new : Streams) (result : Status) → IsRun settings old new result → IsRun (set_workers workers settings) old new result
+  run_with settings old new result run = record {
+    bytes = run.bytes;
+    told = run.told;
+    loop = run.loop;
+    is_loop = loop_with settings run.bytes run.loop run.is_loop;
+    line = run.line;
+    closes = run.closes;
+    moved = run.moved;
+    is_status = run.is_status;
+    memory = run.memory;
+    causes = run.causes;
+    complete = run.complete;
+    read_fault = λ failed. let (end, none, loop) = run.read_fault failed in (end, none, loop_with settings run.loop.taken (record run.loop { end = end }) loop);
+    bound = λ rescues. kept (set_workers workers settings) run.bytes run.loop rescues (loop_with settings run.bytes run.loop run.is_loop);
+    good_frames = λ is. kept_good (set_workers workers settings) run.bytes run.loop is (loop_with settings run.bytes run.loop run.is_loop);
+    sectors = λ is. sectors_with (run.sectors is);
+  }
 
 -- the law: what goes for one number of workers goes for the other, and back
 pub workers_alike : WorkersChangeNothing
 workers_alike settings workers bytes outcome = (
   (loop_with workers settings bytes outcome, loop_with settings.workers (set_workers workers settings) bytes outcome),
-  λ within. (run_with workers settings within bytes outcome, run_with settings.workers (set_workers workers settings) within bytes outcome),
+  λ old new result. (run_with workers settings old new result, run_with settings.workers (set_workers workers settings) old new result),
 )

@@ -1,9 +1,9 @@
 -- How much a run writes whose units write so much each.
 use Rattle.std.proofs.Common.{◌≡◌, ◌≢◌, ◌∙◌, inl, inr, ℕ, zero, suc, ◌+◌, List, [], ◌∷◌, ◌++◌, length, length-append, ap, sym, subst, add-one, arith}
-use Rattle.dvd_loop.specs.Laws.{IsFaultless}
+use Rattle.dvd_loop.specs.Laws.{IsFaultless, IsOver}
 use Rattle.dvd_loop.specs.Machine.{Does, EndsBehind, Goes, GoesOn, IsOutcome, IsUnit, IsEndedWithin, Outcome, Step, Units, bad_of, taking}
 use Rattle.dvd_loop.specs.Turns.{told, written}
-use Rattle.dvd_loop.specs.declared.ends.LoopEnd.TheVariants.{BadMarks, Done, Short}
+use Rattle.dvd_loop.specs.declared.ends.LoopEnd.TheVariants.{Done}
 use Rattle.dvd_loop.specs.declared.ends.Turn.{Turn}
 use Rattle.dvd_loop.specs.declared.ends.Turn.TheVariants.{Last}
 use Rattle.dvd_loop.proofs.Faultless.{all_done, faultless_behind, short_or_broken}
@@ -12,11 +12,11 @@ use Rattle.dvd_loop.proofs.Over.{start, start-suc, start-zero}
 use Rattle.dvd_loop.proofs.Reached.{goes_further}
 use Rattle.dvd_loop.proofs.StepLemmas.{onto}
 
--- a run that is done doesn't end within a unit
-not_within : (units : Units) (k : ℕ) (bytes : List ℕ) (a : Outcome) → IsEndedWithin units k bytes a → a.end ≡ Done → ⊥
-not_within units k bytes a w done = elim (short_or_broken units k bytes a w (subst IsFaultless (sym done) tt)) [
-  | inl (cut, is) ↦ (let no : Done ≡ Short k (length bytes) = sym done ∙ ap (λ (o : Outcome). o.end) is in cc)
-  | inr (at, own, left, front, broken, is) ↦ (let no : Done ≡ BadMarks k at = sym done ∙ ap (λ (o : Outcome). o.end) is in cc)
+-- a run that ended after its last unit doesn't end within one
+not_within : (units : Units) (k : ℕ) (bytes : List ℕ) (a : Outcome) → IsEndedWithin units k bytes a → IsFaultless a.end → IsOver a.end → ⊥
+not_within units k bytes a w none over = elim (short_or_broken units k bytes a w none) [
+  | inl (cut, is) ↦ subst IsOver (ap (λ (o : Outcome). o.end) is) over
+  | inr (at, own, left, front, broken, is) ↦ subst IsOver (ap (λ (o : Outcome). o.end) is) over
 ]
 
 -- Units none of which is the last, each of which writes so many bytes; nothing opens or closes them.
@@ -29,15 +29,15 @@ pub record AreWide (units : Units) (wide : ℕ → ℕ) : Type 0 where
 module _ (units : Units) (wide : ℕ → ℕ) (are : AreWide units wide) where
   -- what the units to come write
   goes_wide : (n : ℕ) (before : List (List ℕ)) (bad : ℕ) (bytes : List ℕ) (a : Outcome) → length before + n ≡ units.count
-      → Goes units n before bad bytes a → IsFaultless a.end → a.end ≡ Done
+      → Goes units n before bad bytes a → IsFaultless a.end → IsOver a.end
       → start wide (length before) + length a.out ≡ start wide units.count
   unfolding Goes
-  goes_wide zero before bad bytes a all (steps, closes, does) none done =
+  goes_wide zero before bad bytes a all (steps, closes, does) none over =
       let here : length before ≡ units.count = omega arith in
       let nothing = (nothing_behind units.behind bad bytes a (subst (λ l. Does l (EndsBehind units.behind bad bytes) a) (are.closes before steps closes) does)).0 in
       omega (arith, ap length nothing, ap (start wide) here)
-  goes_wide (suc n) before bad bytes a all goes none done = elim goes [
-    | inl w ↦ absurd (not_within units (length before) bytes a w done)
+  goes_wide (suc n) before bad bytes a all goes none over = elim goes [
+    | inl w ↦ absurd (not_within units (length before) bytes a w none over)
     | inr t ↦
         let Next : Outcome → Type 0 = Goes units n (before ++ t.own ∷ []) (bad + bad_of t.turn) t.left in
         let unit = are.does before t.own t.steps t.turn t.unit in
@@ -48,7 +48,7 @@ module _ (units : Units) (wide : ℕ → ℕ) (are : AreWide units wide) where
         let one : length (before ++ t.own ∷ []) ≡ length before + 1 = length-append before (t.own ∷ []) in
         let further = ap (start wide) (one ∙ add-one (length before)) ∙ start-suc wide (length before) in
         let rest = goes_wide n (before ++ t.own ∷ []) (bad + bad_of t.turn) t.left all_taken.after (omega arith) goes_next
-        (faultless_behind t.steps (GoesOn t.turn Next) t.after all_taken faultless) (sym (ap (λ (o : Outcome). o.end) is) ∙ done) in
+        (faultless_behind t.steps (GoesOn t.turn Next) t.after all_taken faultless) (subst IsOver (ap (λ (o : Outcome). o.end) is) over) in
         omega (
           arith,
           ap (λ (o : Outcome). length o.out) is,
@@ -59,8 +59,12 @@ module _ (units : Units) (wide : ℕ → ℕ) (are : AreWide units wide) where
         )
   ]
 
-  -- A run that ends as done has written what all units write.
-  pub length-written : (bytes : List ℕ) (a : Outcome) → IsOutcome units bytes a → a.end ≡ Done → length a.out ≡ start wide units.count
-  length-written bytes a runs done =
+  -- A run that ended after its last unit has written what all units write.
+  pub length-over : (bytes : List ℕ) (a : Outcome) → IsOutcome units bytes a → IsFaultless a.end → IsOver a.end → length a.out ≡ start wide units.count
+  length-over bytes a runs none over =
       let goes = subst (λ l. Does l (Goes units units.count [] 0 bytes) a) are.opens runs in
-      omega (arith, goes_wide units.count [] 0 bytes a (omega arith) goes (subst IsFaultless (sym done) tt) done, start-zero wide)
+      omega (arith, goes_wide units.count [] 0 bytes a (omega arith) goes none over, start-zero wide)
+
+  -- so has one that is done
+  pub length-written : (bytes : List ℕ) (a : Outcome) → IsOutcome units bytes a → a.end ≡ Done → length a.out ≡ start wide units.count
+  length-written bytes a runs done = length-over bytes a runs (subst IsFaultless (sym done) tt) (subst IsOver (sym done) tt)

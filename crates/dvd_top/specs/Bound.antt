@@ -12,15 +12,16 @@ use Rattle.dvd_layout.specs.Plan.{plan_of}
 use Rattle.dvd_layout.specs.declared.entry.BlockPlan.{BlockPlan}
 use Rattle.dvd_layout.specs.declared.layout.Layout.{Layout}
 use Rattle.dvd_layout.specs.declared.layout.Zones.{Zones}
-use Rattle.dvd_loop.specs.Laws.{IsFaultless}
-use Rattle.dvd_loop.specs.Machine.{IsOutcome, Outcome, Step}
+use Rattle.dvd_loop.specs.Laws.{IsFaultless, IsFrontOf}
+use Rattle.dvd_loop.specs.Machine.{Outcome, Step}
 use Rattle.dvd_loop.specs.Machine.Step.{Write}
+use Rattle.dvd_loop.specs.declared.ends.LoopEnd.TheVariants.{ReadFault}
 use Rattle.dvd_loop.specs.declared.ends.Turn.{Turn}
 use Rattle.dvd_loop.specs.declared.ends.Turn.TheVariants.{Good}
 use Rattle.dvd_decoding.specs.Causes.{two_pass_cause}
 use Rattle.dvd_decoding.specs.declared.cause.Cause.{Cause}
 use Rattle.dvd_top.specs.Captured.{HasBlocks, block_bytes}
-use Rattle.dvd_top.specs.Commands.Master.{filled_block, frames_of, image_bytes, master_units}
+use Rattle.dvd_top.specs.Commands.Master.{filled_block, frames_of, image_part}
 use Rattle.dvd_top.specs.Commands.Deep.{IsDeepened}
 use Rattle.dvd_top.specs.Commands.Recover.{IsRecovered}
 use Rattle.dvd_words.specs.Settings.{IsLayoutOf}
@@ -44,10 +45,6 @@ abbrev pub HasGoodRows : List (List ℕ) → List (List ℕ) → List (List Bool
 HasGoodRows block received marks f =
     (q : ℕ) → q < 12 → row_weight (line block (12 * f + q)) (line received (12 * f + q)) (marks_line marks (12 * f + q)) ≡ 0
 
--- the bytes of the image that stand in a block
-abbrev pub image_part : Layout → BlockPlan → List ℕ → List ℕ
-image_part layout entry image = take (image_bytes layout entry) (drop (2048 * image_from entry.content) image)
-
 -- Captured block k is whole in the stream, and it was mastered for its place of this image and this CPR_MAI.
 pub record WasMastered (layout : Layout) (zones : Zones) (form : Form) (bytes cpr image : List ℕ) (k : ℕ) (entry : BlockPlan) : Type 0 where
   pub whole : HasBlocks form bytes (k + 1)
@@ -69,35 +66,48 @@ pub record IsBeyond (layout : Layout) (zones : Zones) (form : Form) (bytes cpr i
   pub cause : Cause
   pub refused : two_pass_cause (answers_of (captured_rows form (block_bytes form bytes k)) (captured_marks form (block_bytes form bytes k))) ≡ Some cause
 
--- Of every image and every CPR_MAI: of a block that two passes refuse each image sector whose twelve rows are good stands at its
--- place in the output, as it stands in the image.
-pub record KeepsGoodFrames (settings : Settings) (bytes : List ℕ) (outcome : Outcome) : Type 0 where
-  pub layout : Layout
-  pub is_layout : IsLayoutOf settings layout
-  pub at_place : (cpr image : List ℕ) (k f : ℕ) (entry : BlockPlan) (b : IsBeyond layout settings.zones settings.form bytes cpr image k entry)
-      → f < image_sectors layout entry.content
-      → HasGoodRows b.mastered.block (captured_rows settings.form (block_bytes settings.form bytes k)) (captured_marks settings.form (block_bytes settings.form bytes k)) f
-      → take 2048 (drop (2048 * (image_from entry.content + f)) outcome.out) ≡ take 2048 (drop (2048 * (image_from entry.content + f)) image)
+-- Of every image and every CPR_MAI: each of these blocks that is within the bound has given exactly its image sectors, at
+-- their place in the output.
+abbrev pub GivesBack : Layout → Settings → List ℕ → List ℕ → Type 0
+GivesBack layout settings bytes out =
+    (cpr image : List ℕ) (k : ℕ) (entry : BlockPlan) → IsBorneBlock layout settings.zones settings.form bytes cpr image k entry
+    → image_part layout entry out ≡ image_part layout entry image
 
--- Of every image and every CPR_MAI: a block that is borne gives back exactly the image sectors there, at their place in the
--- output; and nothing else may be done for it, so that no line names it.
+-- The bound, whatever ended the run. Of the blocks of the input where no fault ended it, and of those that came before a read
+-- failed: each that is within the bound is given back. After any other fault what was written of it is as it was mastered.
+-- And nothing else may be done for it, so that no line names it.
 pub record KeepsBound (settings : Settings) (bytes : List ℕ) (outcome : Outcome) : Type 0 where
   pub layout : Layout
   pub is_layout : IsLayoutOf settings layout
-  pub at_place : (cpr image : List ℕ) (k : ℕ) (entry : BlockPlan) → IsBorneBlock layout settings.zones settings.form bytes cpr image k entry
-      → take (image_bytes layout entry) (drop (2048 * image_from entry.content) outcome.out) ≡ image_part layout entry image
+  pub at_place : IsFaultless outcome.end → GivesBack layout settings bytes outcome.out
+  pub received : outcome.end ≡ ReadFault → GivesBack layout settings outcome.taken outcome.out
+  pub begun : (cpr image : List ℕ) (k : ℕ) (entry : BlockPlan) → IsBorneBlock layout settings.zones settings.form bytes cpr image k entry
+      → IsFrontOf (image_part layout entry outcome.out) (image_part layout entry image)
   pub alone : (cpr image : List ℕ) (k : ℕ) (entry : BlockPlan) → IsBorneBlock layout settings.zones settings.form bytes cpr image k entry
       → (steps : List Step) (turn : Turn) → IsRescued settings.command layout settings.zones settings.form k (block_bytes settings.form bytes k) steps turn
       → (steps ≡ Write (image_part layout entry image) ∷ []) × (turn ≡ Good)
 
--- `master` writes this stream of the whole image, by the layout and the zones of the settings and some CPR_MAI.
-pub record IsMasteredStream (settings : Settings) (image stream : List ℕ) : Type 0 where
+-- sector f of a block's image sectors
+abbrev pub sector_part : BlockPlan → ℕ → List ℕ → List ℕ
+sector_part entry f image = take 2048 (drop (2048 * (image_from entry.content + f)) image)
+
+-- image sector f of block k, which two passes refuse, has twelve good rows
+pub record IsGoodSector (layout : Layout) (settings : Settings) (bytes cpr image : List ℕ) (k f : ℕ) (entry : BlockPlan) : Type 0 where
+  pub beyond : IsBeyond layout settings.zones settings.form bytes cpr image k entry
+  pub is_image : f < image_sectors layout entry.content
+  pub good : HasGoodRows beyond.mastered.block (captured_rows settings.form (block_bytes settings.form bytes k)) (captured_marks settings.form (block_bytes settings.form bytes k)) f
+
+-- Of every image and every CPR_MAI: each such sector of these blocks is in the output as it is in the image.
+abbrev pub GivesGoodSectors : Layout → Settings → List ℕ → List ℕ → Type 0
+GivesGoodSectors layout settings bytes out =
+    (cpr image : List ℕ) (k f : ℕ) (entry : BlockPlan) → IsGoodSector layout settings bytes cpr image k f entry
+    → sector_part entry f out ≡ sector_part entry f image
+
+-- The same of the good sectors of blocks that two passes refuse, whatever ended the run.
+pub record KeepsGoodFrames (settings : Settings) (bytes : List ℕ) (outcome : Outcome) : Type 0 where
   pub layout : Layout
   pub is_layout : IsLayoutOf settings layout
-  pub cpr : List ℕ
-  pub cpr_size : length cpr ≡ 6
-  pub image_size : length image ≡ 2048 * total_sectors layout
-  pub mastered : Outcome
-  pub masters : IsOutcome (master_units layout settings.zones cpr) image mastered
-  pub faultless : IsFaultless mastered.end
-  pub writes : stream ≡ mastered.out
+  pub at_place : IsFaultless outcome.end → GivesGoodSectors layout settings bytes outcome.out
+  pub received : outcome.end ≡ ReadFault → GivesGoodSectors layout settings outcome.taken outcome.out
+  pub begun : (cpr image : List ℕ) (k f : ℕ) (entry : BlockPlan) → IsGoodSector layout settings bytes cpr image k f entry
+      → IsFrontOf (sector_part entry f outcome.out) (sector_part entry f image)

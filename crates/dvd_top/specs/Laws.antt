@@ -5,7 +5,7 @@ use Rattle.dvd_assemble.specs.Frames.{Frame}
 use Rattle.dvd_assemble.specs.Home.{home}
 use Rattle.dvd_assemble.specs.Mastered.{IsCaptureOf, IsCaptured}
 use Rattle.coding.specs.Product.{IsBlockOf}
-use Rattle.dvd_capture.specs.Captured.{HasSize, captured_rows, captured_marks}
+use Rattle.dvd_capture.specs.Captured.{HasSize, captured_rows, captured_marks, record_size}
 use Rattle.dvd_capture.specs.Listed.{IsBrokenAt, IsUnbroken}
 use Rattle.coding.specs.TwoPass.{answers_of}
 use Rattle.coding.specs.Within.{IsWithin}
@@ -20,12 +20,12 @@ use Rattle.dvd_layout.specs.declared.layout.Layout.{Layout}
 use Rattle.dvd_layout.specs.declared.layout.Shape.TheVariants.{Single}
 use Rattle.dvd_layout.specs.declared.layout.Zones.{Zones}
 use Rattle.dvd_layout.specs.declared.layout.Zones.TheVariants.{DataOnly}
-use Rattle.dvd_loop.specs.Laws.{IsFaultless, IsFrontOf, IsNotBadMarks, first}
+use Rattle.dvd_loop.specs.Laws.{IsFaultless, IsFrontOf, IsNotBadMarks, IsOver, first}
 use Rattle.dvd_loop.specs.Machine.{IsOutcome, Outcome, Step}
 use Rattle.dvd_loop.specs.Machine.Part.{Whole, Cut, Broken}
 use Rattle.dvd_loop.specs.Machine.Step.{Write}
+use Rattle.dvd_loop.specs.Streams.{Streams}
 use Rattle.dvd_loop.specs.Turns.{written}
-use Rattle.dvd_loop.specs.declared.ends.LoopEnd.{LoopEnd}
 use Rattle.dvd_loop.specs.declared.ends.LoopEnd.TheVariants.{BadMarks, Done, NoControl, Short}
 use Rattle.dvd_loop.specs.declared.ends.Turn.{Turn}
 use Rattle.dvd_loop.specs.declared.ends.Turn.TheVariants.{Good, Last}
@@ -41,8 +41,11 @@ use Rattle.dvd_top.specs.Commands.Exercise.{drawn_frames}
 use Rattle.dvd_top.specs.Commands.Info.{IsSought, format_lines, info_units}
 use Rattle.dvd_top.specs.Commands.Master.{filled_block, frames_of, image_bytes, master_units}
 use Rattle.dvd_top.specs.Commands.Recover.{IsRecovered, recover_units}
-use Rattle.dvd_top.specs.Headline.{GoesOver, IsLoop, IsRun, breaks}
-use Rattle.dvd_top.specs.Opening.{Behind}
+use Rattle.dvd_top.specs.Commands.{GoesOver, breaks}
+use Rattle.dvd_top.specs.Headline.{IsLoop, IsRun}
+use Rattle.dvd_top.specs.Opening.{AfterHeader}
+use Rattle.dvd_top.specs.Promises.{IsImageOf, IsStreamOf}
+use Rattle.dvd_top.specs.declared.status.Status.{Status}
 use Rattle.dvd_words.specs.declared.settings.Command.TheVariants.{CdMake, CdRead, Convert, Recover}
 use Rattle.dvd_words.specs.declared.settings.Settings.{Settings}
 
@@ -59,7 +62,7 @@ abbrev pub WorkersChangeNothing : Type 0
 WorkersChangeNothing =
     (settings : Settings) (workers : ℕ) (bytes : List ℕ) (outcome : Outcome)
     → (IsLoop settings bytes outcome ↔ IsLoop (record settings { workers = workers }) bytes outcome)
-    × ((within : LoopEnd) → IsRun settings within bytes outcome ↔ IsRun (record settings { workers = workers }) within bytes outcome)
+    × ((old new : Streams) (result : Status) → IsRun settings old new result ↔ IsRun (record settings { workers = workers }) old new result)
 
 -- numbers that are bytes
 abbrev pub AreBytes : List ℕ → Type 0
@@ -112,33 +115,43 @@ DrawnFramesAreMastered =
     (layout : Layout) (k : ℕ) (entry : BlockPlan) (image : List ℕ) → layout.shape ≡ Single → slice_get (plan_of layout DataOnly) k ≡ Some entry
     → frames_of layout entry (replicate 6 0) image ≡ drawn_frames k image
 
--- Of a run of recovery, by two passes or by rounds, that no fault ended: the bound is kept.
+-- A loop of recovery, by two passes or by rounds, keeps the bound, whatever ended it.
 abbrev pub BoundIsKept : Type 0
 BoundIsKept =
-    (settings : Settings) (within : LoopEnd) (bytes : List ℕ) (outcome : Outcome) → Rescues settings.command → IsRun settings within bytes outcome → IsFaultless outcome.end
-    → Behind settings.form (λ stated left. KeepsBound stated left outcome) settings bytes
+    (settings : Settings) (bytes : List ℕ) (outcome : Outcome) → Rescues settings.command → IsLoop settings bytes outcome
+    → AfterHeader settings.form KeepsBound settings bytes outcome
 
--- Of a loop of recovery, by two passes or by rounds, that no fault ended, before its closing line: the bound is kept. The bytes are
--- those of the blocks, after the header of a listed capture.
+-- The same over the blocks alone, after the header of a listed capture.
 abbrev pub LoopsKeepTheBound : Type 0
 LoopsKeepTheBound =
-    (settings : Settings) (bytes : List ℕ) (outcome : Outcome) → Rescues settings.command → GoesOver settings bytes outcome → IsFaultless outcome.end
-    → KeepsBound settings bytes outcome
+    (settings : Settings) (bytes : List ℕ) (outcome : Outcome) → Rescues settings.command → GoesOver settings bytes outcome → KeepsBound settings bytes outcome
 
--- Of a run of `recover` that no fault ended: the good frames of the blocks that two passes refuse are kept.
+-- A loop of `recover` keeps the good frames of the blocks that two passes refuse, whatever ended it.
 abbrev pub GoodFramesAreKept : Type 0
 GoodFramesAreKept =
-    (settings : Settings) (within : LoopEnd) (bytes : List ℕ) (outcome : Outcome) → settings.command ≡ Recover → IsRun settings within bytes outcome → IsFaultless outcome.end
-    → Behind settings.form (λ stated left. KeepsGoodFrames stated left outcome) settings bytes
+    (settings : Settings) (bytes : List ℕ) (outcome : Outcome) → settings.command ≡ Recover → IsLoop settings bytes outcome
+    → AfterHeader settings.form KeepsGoodFrames settings bytes outcome
 
--- What recovery does for the stream that mastering wrote of a whole image: the image is written, no line names a block, and
--- the end is Done.
+-- A loop of `master` over the whole image that no fault ended writes the stream of the image, and is done.
+abbrev pub ImageIsMastered : Type 0
+ImageIsMastered =
+    (layout : Layout) (zones : Zones) (cpr image : List ℕ) (a : Outcome) → length image ≡ 2048 * total_sectors layout
+    → IsOutcome (master_units layout zones cpr) image a → IsFaultless a.end
+    → (stream : List ℕ) × IsStreamOf layout zones cpr image stream × (a ≡ record { taken = image; out = stream; lines = []; end = Done })
+
+-- What recovery does for the stream of a whole image: the image is written, no line names a block, and the end is Done.
 abbrev pub MasteredStreamIsRecovered : Type 0
 MasteredStreamIsRecovered =
-    (layout : Layout) (zones : Zones) (cpr image : List ℕ) (mastered recovered : Outcome) → length cpr ≡ 6 → length image ≡ 2048 * total_sectors layout
-    → IsOutcome (master_units layout zones cpr) image mastered → IsFaultless mastered.end
-    → IsOutcome (recover_units layout zones Plain) mastered.out recovered → IsFaultless recovered.end
-    → (mastered.end ≡ Done) × (recovered ≡ record { taken = mastered.out; out = image; lines = []; end = Done })
+    (layout : Layout) (zones : Zones) (cpr image stream : List ℕ) (recovered : Outcome) → length cpr ≡ 6 → length image ≡ 2048 * total_sectors layout
+    → IsStreamOf layout zones cpr image stream → IsOutcome (recover_units layout zones Plain) stream recovered → IsFaultless recovered.end
+    → recovered ≡ record { taken = stream; out = image; lines = []; end = Done }
+
+-- A loop of `recover` over a capture of the right length that no fault ended writes its image sectors, and is done, or damaged.
+abbrev pub CaptureIsRecovered : Type 0
+CaptureIsRecovered =
+    (layout : Layout) (zones : Zones) (form : Form) (capture : List ℕ) (a : Outcome) → HasSize form → length capture ≡ length (plan_of layout zones) * (208 * record_size form)
+    → IsOutcome (recover_units layout zones form) capture a → IsFaultless a.end
+    → IsImageOf layout zones form capture a.out × (a.taken ≡ capture) × IsOver a.end
 
 -- Block k of the lead-in is the first that answers: the lines of its format are written, and nothing behind it is taken.
 pub record FindsTheFirst (initial : ℕ) (form : Form) (bytes : List ℕ) (a : Outcome) : Type 0 where
@@ -188,11 +201,10 @@ InfoFindsTheFirstAnswer =
     (initial : ℕ) (form : Form) (bytes : List ℕ) (a : Outcome) → IsOutcome (info_units initial form) bytes a → IsFaultless a.end
     → FindsTheFirst initial form bytes a ⊎ FindsNone initial form bytes a
 
--- Of a run of `cdread` that no fault ended: every sector whose damage is borne has given exactly its user data.
+-- A loop of `cdread` gives the user data of every sector whose damage is borne, whatever ended it.
 abbrev pub BorneSectorsAreKept : Type 0
 BorneSectorsAreKept =
-    (settings : Settings) (within : LoopEnd) (bytes : List ℕ) (outcome : Outcome) → settings.command ≡ CdRead → IsRun settings within bytes outcome → IsFaultless outcome.end
-    → Behind settings.form (λ stated left. KeepsSectors stated left outcome) settings bytes
+    (settings : Settings) (bytes : List ℕ) (outcome : Outcome) → settings.command ≡ CdRead → GoesOver settings bytes outcome → KeepsSectors settings bytes outcome
 
 -- The blocks of the Data Zones as they were mastered, each of its part of an image.
 abbrev pub AreMastered : Layout → List ℕ → (ℕ → List ℕ) → (ℕ → List (List ℕ)) → Type 0

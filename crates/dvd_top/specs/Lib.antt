@@ -9,6 +9,7 @@ pub mod Laws
 pub mod Lines
 pub mod Meaning
 pub mod Opening
+pub mod Promises
 pub mod Statuses
 pub mod CdLines
 pub mod CdBound

@@ -91,10 +91,11 @@ Opens Listed Loops = IsOpened Loops
 Opens Plain Loops = Loops
 Opens Marked Loops = Loops
 
--- What is promised of settings and bytes is promised of those that the header states, where it breaks no rule, and of the bytes
--- behind it.
-abbrev pub Behind : Form → (Settings → List ℕ → Type 0) → Settings → List ℕ → Type 0
-Behind Plain Keeps settings bytes = Keeps settings bytes
-Behind Marked Keeps settings bytes = Keeps settings bytes
-Behind Listed Keeps settings bytes =
-    (own left : List ℕ) (stated : Settings) → bytes ≡ own ++ left → IsHeaderOf settings stated own → broken_rule stated ≡ None → Keeps stated left
+-- What is promised of a loop over bytes is promised, of a listed capture, by the settings that its header states and of what comes
+-- after the header: of the bytes there, and of what was done over them.
+abbrev pub AfterHeader : Form → (Settings → List ℕ → Outcome → Type 0) → Settings → List ℕ → Outcome → Type 0
+AfterHeader Plain Keeps settings bytes outcome = Keeps settings bytes outcome
+AfterHeader Marked Keeps settings bytes outcome = Keeps settings bytes outcome
+AfterHeader Listed Keeps settings bytes outcome =
+    (own left : List ℕ) (stated : Settings) (after : Outcome) → bytes ≡ own ++ left → IsHeaderOf settings stated own → broken_rule stated ≡ None
+    → outcome ≡ taking own after → Keeps stated left after

@@ -1,5 +1,5 @@
 //! What holds of every run of a command: each function's contract is one law, and its body is empty.
-ghost use Rattle.dvd_top.specs.Laws.{WhatIsDoneIsDetermined, WorkersChangeNothing, SomethingIsDone, ImageIsTakenInOrder, ImageIsTakenWhole, DamageWithinTheBoundIsRepaired, GoodFramesOfARefusedBlockAreGiven, BoundIsKept, LoopsKeepTheBound, GoodFramesAreKept, DrawnFramesAreMastered, MasteredStreamIsRecovered, InfoFindsTheFirstAnswer, BorneSectorsAreKept, CapturedFramesAreAssembled, BrokenFieldIsFound, ConvertedIsRead};
+ghost use Rattle.dvd_top.specs.Laws.{WhatIsDoneIsDetermined, WorkersChangeNothing, SomethingIsDone, ImageIsTakenInOrder, ImageIsTakenWhole, DamageWithinTheBoundIsRepaired, GoodFramesOfARefusedBlockAreGiven, BoundIsKept, LoopsKeepTheBound, GoodFramesAreKept, DrawnFramesAreMastered, ImageIsMastered, MasteredStreamIsRecovered, CaptureIsRecovered, InfoFindsTheFirstAnswer, BorneSectorsAreKept, CapturedFramesAreAssembled, BrokenFieldIsFound, ConvertedIsRead};
 
 /// What is done for an input, where no fault ends it, is determined, but for how much is taken of a block that breaks a rule.
 pub fn what_is_done_is_determined()
@@ -36,17 +36,17 @@ pub fn good_frames_of_a_refused_block_are_given()
     ensures { GoodFramesOfARefusedBlockAreGiven }
 {}
 
-/// A run of recovery, by two passes or by rounds, keeps the bound for each of its blocks.
+/// A loop of recovery, by two passes or by rounds, keeps the bound for each of its blocks, whatever ended it.
 pub fn bound_is_kept()
     ensures { BoundIsKept }
 {}
 
-/// A loop of recovery, by two passes or by rounds, keeps the bound before its closing line.
+/// So does one over the blocks alone, after the header of a listed capture.
 pub fn loops_keep_the_bound()
     ensures { LoopsKeepTheBound }
 {}
 
-/// A run of `recover` keeps the good frames of each of its blocks that two passes refuse.
+/// A loop of `recover` keeps the good frames of each of its blocks that two passes refuse, whatever ended it.
 pub fn good_frames_are_kept()
     ensures { GoodFramesAreKept }
 {}
@@ -56,9 +56,19 @@ pub fn drawn_frames_are_mastered()
     ensures { DrawnFramesAreMastered }
 {}
 
-/// From a mastered stream recovery gives the image back, no line names a block, and the end is Done.
+/// Mastering a whole image writes the stream of that image, reports no line of its own, and is done.
+pub fn image_is_mastered()
+    ensures { ImageIsMastered }
+{}
+
+/// From the stream of an image recovery gives the image back, no line names a block, and the end is Done.
 pub fn mastered_stream_is_recovered()
     ensures { MasteredStreamIsRecovered }
+{}
+
+/// Recovery of a capture of the right length writes its image sectors, block by block.
+pub fn capture_is_recovered()
+    ensures { CaptureIsRecovered }
 {}
 
 /// What `info` writes and takes of an input is told by the first control block that answers.
@@ -66,7 +76,7 @@ pub fn info_finds_the_first_answer()
     ensures { InfoFindsTheFirstAnswer }
 {}
 
-/// A run of `cdread` gives back the user data of each CD-ROM sector whose damage is borne.
+/// A loop of `cdread` gives back the user data of each CD-ROM sector whose damage is borne, whatever ended it.
 pub fn borne_sectors_are_kept()
     ensures { BorneSectorsAreKept }
 {}

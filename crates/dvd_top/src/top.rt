@@ -1,7 +1,7 @@
 //! The top call, which does all that the program does.
 ghost use Rattle.std.specs.Prelude.{◌≡◌, map, string_bytes, IsErr};
 ghost use Rattle.dvd_loop.specs.Streams.{streams};
-ghost use Rattle.dvd_top.specs.Headline.{Headline, HasNotBegun};
+ghost use Rattle.dvd_top.specs.Headline.{Headline, Reports};
 ghost use Rattle.dvd_top.specs.Inner.Performing.{IsPerformed};
 ghost use Rattle.dvd_words.specs.Reading.{IsLawful};
 
@@ -30,8 +30,8 @@ pub fn run<R: Threads + Sync, S: Source, K: Sink, E: Sink, G: Gate>(
     out: &mut K,
     report: &mut E,
 ) -> Status
-    // The page that says all of it: words, layout, units, outcome, faults, and the bound of recovery.
-    ensures { Headline ((src.new ≡ src.old) × (out.new ≡ out.old)) (map string_bytes words.now)
+    // The page that says all of it: arguments, layout, one run, faults, the bound, and the promise in plain words.
+    ensures { Headline src.old src.new out.old out.new (map string_bytes words.now)
         (streams (S.seen src.old) (K.seen out.old) (E.seen report.old))
         (streams (S.seen src.new) (K.seen out.new) (E.seen report.new)) result }
 {
@@ -84,7 +84,7 @@ fn perform<R: Threads + Sync, S: Source, K: Sink, E: Sink, G: Gate>(
 
 // The line of a run that doesn't begin, and its status, which is ReportFault where the line can't be told.
 fn refuse<E: Sink>(status: Status, line: &[u8], report: &mut E) -> Status
-    ensures { HasNotBegun status line.now (E.seen report.old) (E.seen report.new) result }
+    ensures { Reports status line.now (E.seen report.old) (E.seen report.new) result }
 {
     match write_whole(report, line) {
         Ok(()) => status,

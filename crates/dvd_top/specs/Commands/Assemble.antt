@@ -1,5 +1,6 @@
--- The command `assemble`: scattered recording frames (ECMA-267, 19), in any order, with repeats and gaps, put where their own
--- first rows say that they stand. Ours: a stream of the data zone in the marked form, and a line of how many found their place.
+-- The command `assemble` (ours): unit k is a recording frame (ECMA-267, 19). Frames come in any order, with repeats and gaps.
+-- Nothing is written before all have come. Then each data block is written in the marked form, as the join of all frames
+-- whose first rows name it. A line is reported with how many frames have a place and how many have none.
 use Rattle.std.specs.Prelude.{◌≡◌, ℕ, ◌-◌, List, [], ◌∷◌, ◌++◌, codes, decimal, length, map}
 use Rattle.std.specs.List.{flat_map, sum_by}
 use Rattle.std.specs.Option.{option_map_or}

@@ -1,4 +1,4 @@
--- The command `cdmake`: a CD-ROM sector of Mode 1 (ECMA-130, 14) for each 2,048 bytes of user data.
+-- The command `cdmake`: sector k is 2,048 bytes of user data. Its CD-ROM sector of Mode 1 (ECMA-130, 14) is written.
 use Rattle.std.specs.Prelude.{◌≤◌, ℕ, ◌+◌, codes, None}
 use Rattle.cd_sector.specs.Sector.{IsSector}
 use Rattle.dvd_loop.specs.Machine.{Units}

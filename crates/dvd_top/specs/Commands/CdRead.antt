@@ -1,4 +1,5 @@
--- The command `cdread`: the user data of CD-ROM sectors of Mode 1 (ECMA-130, 14) that were read, each repaired if it can be.
+-- The command `cdread`: sector k is a CD-ROM sector of Mode 1 (ECMA-130, 14). If it has nothing wrong after its repair, its
+-- user data are written. Otherwise a line is reported with the sector and the first cause, and then 2,048 zeros are written.
 use Rattle.std.specs.Prelude.{◌≡◌, ◌⊎◌, ℕ, ◌+◌, List, [], ◌∷◌, codes, take, drop, replicate, None}
 use Rattle.cd_sector.specs.Causes.{IsCause, IsRightSector}
 use Rattle.cd_sector.specs.Repair.{repaired}

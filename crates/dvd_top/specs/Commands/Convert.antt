@@ -1,4 +1,5 @@
--- The command `convert`: captured blocks in the listed form. Ours: such a capture states the layout of its disk.
+-- The command `convert` (ours): block k is a captured block in the plain or the marked form. A header with the layout is
+-- written before the first, and then the listed unit of each.
 use Rattle.std.specs.Prelude.{◌≡◌, ℕ, List, [], ◌∷◌, codes, length}
 use Rattle.dvd_capture.specs.Captured.{IsUnitOf, captured_rows, captured_marks}
 use Rattle.dvd_capture.specs.declared.form.Form.{Form}

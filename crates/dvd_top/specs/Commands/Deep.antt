@@ -1,5 +1,6 @@
 -- The command `deep` (ours): as `recover`, but a block that two passes refuse is read by up to four rounds. Where a round
--- gives it back and its frames are right, its image sectors are written, and a line tells the round.
+-- gives it back and its frames are right, a line is reported with the block and the round. After it its image sectors are
+-- written.
 use Rattle.std.specs.Prelude.{◌≡◌, ◌⊎◌, ℕ, Bool, None, Some, List, [], ◌∷◌, ◌++◌, codes, length, take}
 use Rattle.std.specs.List.{flat_map}
 use Rattle.std.specs.declared.option.Option.{Option}

@@ -1,5 +1,6 @@
--- The command `exercise`: blocks that are drawn from a number, damaged within the bound of two-pass decoding, and read back. It
--- tests the program itself, and reads nothing: ours, since ECMA-267 has none.
+-- The command `exercise` (ours): nothing is read. Blocks are drawn from a number, damaged within the bound and read back,
+-- and one line is written to the output: how many there were, how many came back whole, how many of their bytes were
+-- corrected, and how many of their rows failed. By this definition all come back whole.
 use Rattle.std.specs.Prelude.{◌≡◌, ℕ, zero, suc, ◌+◌, ◌*◌, ◌%◌, ◌^◌, ◌<◌, Bool, false, List, [], ◌∷◌, ◌++◌, codes, decimal, length, map, replicate, take, drop, None, slice_index_or}
 use Rattle.std.specs.List.{range_with_len, sum_by}
 use Rattle.coding.specs.Filling.{marked}

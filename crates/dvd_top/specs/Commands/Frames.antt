@@ -1,4 +1,4 @@
--- The command `frames`: a scrambled data frame for each sector.
+-- The command `frames`: sector k is 2,048 bytes of the input. Its scrambled data frame, 2,064 bytes, is written.
 use Rattle.std.specs.Prelude.{◌≡◌, ◌≤◌, ℕ, ◌+◌, ◌^◌, false, List, codes, replicate, None}
 use Rattle.dvd_frame.specs.Id.{id_word}
 use Rattle.dvd_frame.specs.Frame.{data_frame}

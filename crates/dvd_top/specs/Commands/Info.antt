@@ -1,4 +1,6 @@
--- The command `info`: the physical format that the lead-in of a disk tells (ECMA-267, control data).
+-- The command `info`: block k is a captured block of the lead-in (ECMA-267, control data). The first control block that is
+-- right, and whose first sector is a physical format, is the last that is read: eleven lines of that format are written to
+-- the output. If none of the 192 control blocks is one, the end is NoControl.
 use Rattle.std.specs.Prelude.{◌≡◌, ◌⊎◌, ℕ, ◌+◌, Bool, Some, None, List, [], ◌∷◌, ◌++◌, codes, decimal, if◌then◌else◌}
 use Rattle.coding.specs.Product.{line}
 use Rattle.dvd_capture.specs.declared.form.Form.{Form}

@@ -1,4 +1,5 @@
--- The command `master`: the recording frames of each ECC block of a disk.
+-- The command `master`: block k of the plan reads the image sectors that are in it, filled with zeros to sixteen. The
+-- recording of the one ECC block of its sixteen data frames is written, 37,856 bytes.
 use Rattle.std.specs.Prelude.{◌≡◌, ℕ, ◌+◌, ◌-◌, ◌*◌, Option, Some, None, List, [], ◌∷◌, ◌++◌, codes, map, length, take, drop, replicate, slice_get}
 use Rattle.std.specs.List.{range_with_len}
 use Rattle.dvd_frame.specs.Id.{id_word}
@@ -7,6 +8,7 @@ use Rattle.dvd_frame.specs.declared.id.Area.{Area}
 use Rattle.dvd_frame.specs.declared.id.Area.TheVariants.{DataZone, LeadIn, LeadOut, Middle}
 use Rattle.coding.specs.Product.{IsBlockOf}
 use Rattle.coding.specs.Recording.{recording}
+use Rattle.dvd_layout.specs.Content.{image_from}
 use Rattle.dvd_layout.specs.Lengths.{has_two_layers}
 use Rattle.dvd_layout.specs.Place.{image_sectors, rule_for}
 use Rattle.dvd_layout.specs.Plan.{plan_of}
@@ -26,6 +28,10 @@ use Rattle.dvd_words.specs.Settings.{IsLayoutOf, broken_rule}
 -- how many bytes of the image a block takes
 abbrev pub image_bytes : Layout → BlockPlan → ℕ
 image_bytes layout entry = 2048 * image_sectors layout entry.content
+
+-- the bytes of the image that are in a block
+abbrev pub image_part : Layout → BlockPlan → List ℕ → List ℕ
+image_part layout entry image = take (image_bytes layout entry) (drop (2048 * image_from entry.content) image)
 
 -- its image bytes, filled with zeros to sixteen sectors
 abbrev pub filled_block : List ℕ → List ℕ

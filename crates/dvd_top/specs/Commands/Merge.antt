@@ -1,5 +1,5 @@
--- The command `merge`: one stream of captured blocks, joined of several captures of one disk. Ours, since ECMA-267 has none: what
--- one capture of a disk has lost another may have received.
+-- The command `merge` (ours): unit k is captured block k of each capture, one after the other. Their join is written in the
+-- marked form. A byte of it is that of the captures that have one there, if these have the same; else it is marked.
 use Rattle.std.specs.Prelude.{◌≡◌, ℕ, ◌*◌, List, [], ◌∷◌, codes, length, map, take, drop}
 use Rattle.std.specs.List.{range_with_len}
 use Rattle.dvd_capture.specs.Captured.{block_size, captured_rows, captured_marks}

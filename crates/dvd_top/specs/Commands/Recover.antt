@@ -1,5 +1,7 @@
--- The command `recover`: the image sectors that are read from a stream of captured blocks. Where a block is refused a line names
--- it, and the frames of it that are right by themselves are saved.
+-- The command `recover`: block k is a captured block. One without image sectors is passed over. If two passes determine a
+-- block and its frames are right, its image sectors are written. Otherwise a line is reported with the block, its first
+-- cause and how many frames are salvaged. After it the image sectors are written: those of the frames that are right by
+-- themselves, and zeros for the others.
 use Rattle.std.specs.Prelude.{◌≡◌, ◌⊎◌, ℕ, Bool, Option, Some, List, [], ◌∷◌, codes, length, take}
 use Rattle.std.specs.List.{flat_map}
 use Rattle.dvd_capture.specs.declared.form.Form.{Form}

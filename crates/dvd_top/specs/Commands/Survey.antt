@@ -1,4 +1,5 @@
--- The command `survey`: a line for each captured block, which tells how many of its rows have PI errors, and a line of totals.
+-- The command `survey`: block k is a captured block, whatever the disk has there. A line is written to the output with its
+-- PI error rows, its failed rows and its cause, and after the last block a line of totals.
 use Rattle.std.specs.Prelude.{◌≡◌, ℕ, Some, None, Option, List, [], ◌∷◌, ◌++◌, codes, length, map, zip, slice_get}
 use Rattle.dvd_capture.specs.Captured.{captured_rows, captured_marks}
 use Rattle.dvd_capture.specs.declared.form.Form.{Form}

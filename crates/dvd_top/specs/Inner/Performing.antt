@@ -32,8 +32,8 @@ use Rattle.dvd_decoding.specs.declared.cause.Cause.{Cause}
 use Rattle.dvd_report.specs.Lines.{damage_line}
 use Rattle.dvd_top.specs.Commands.Survey.{turn_by}
 use Rattle.dvd_top.specs.Captured.{captured_part}
-use Rattle.dvd_top.specs.Commands.{meaning}
-use Rattle.dvd_top.specs.Headline.{GoesOver, IsLoop, breaks}
+use Rattle.dvd_top.specs.Commands.{GoesOver, breaks, meaning}
+use Rattle.dvd_top.specs.Headline.{IsLoop}
 use Rattle.dvd_words.specs.declared.settings.Settings.{Settings}
 use Rattle.dvd_top.specs.declared.status.Refusal.{Refusal}
 use Rattle.dvd_top.specs.declared.status.Refusal.TheVariants.{Setting, NoMemory}

@@ -11,7 +11,7 @@ ghost use Rattle.dvd_loop.specs.Streams.{streams, HasEnded};
 ghost use Rattle.dvd_loop.specs.Turns.{AreDone};
 ghost use Rattle.dvd_ports.specs.Seen.{Seen};
 ghost use Rattle.dvd_top.specs.Captured.{IsSoughtEnd};
-ghost use Rattle.dvd_top.specs.Headline.{GoesOver};
+ghost use Rattle.dvd_top.specs.Commands.{GoesOver};
 ghost use Rattle.dvd_top.specs.Opening.{IsOpened};
 ghost use Rattle.dvd_top.specs.Commands.Info.{IsAsked, IsControlDone, info_units};
 ghost use Rattle.dvd_top.specs.Inner.Performing.{AnswersNothing, Tells, IsPerformed};

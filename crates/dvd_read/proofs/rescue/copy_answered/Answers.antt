@@ -2,7 +2,7 @@
 use Rattle.std.proofs.Common.{◌≡◌, ◌∙◌, ◌+◌, ◌*◌, ℕ, length, map, not, take, refl, sym, ap, arith}
 use Rattle.std.proofs.lemmas.List.{length-map}
 use Rattle.dvd_read.specs.Parts.{answer_word}
-use Rattle.dvd_decoding.specs.Salvage.{answered_block}
+use Rattle.dvd_read.specs.Inner.Saved.{answered_block}
 use Rattle.dvd_read.proofs.FrameFaults.{fronts, fronts-all, fronts-next}
 use Rattle.dvd_read.proofs.SavedFrames.{answered-line, failed-flag, lacks-at, none-more}
 use Rattle.dvd_read.proofs.rescue.copy_answered.Goals as goal

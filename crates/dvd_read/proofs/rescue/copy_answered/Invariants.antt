@@ -1,7 +1,7 @@
 -- What each turn of the loop in `copy_answered` keeps.
 use Rattle.std.proofs.Common.{◌≡◌, ◌*◌, false, length, map, take}
 use Rattle.dvd_read.specs.Parts.{answer_word}
-use Rattle.dvd_decoding.specs.Salvage.{answered_block}
+use Rattle.dvd_read.specs.Inner.Saved.{answered_block}
 use Rattle.dvd_read.proofs.FrameFaults.{fronts}
 use Rattle.dvd_read.proofs.SavedFrames.{lacks_before}
 use Rattle.dvd_read.proofs.rescue.copy_answered.Given as goal

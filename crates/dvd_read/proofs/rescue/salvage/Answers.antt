@@ -11,7 +11,8 @@ use Rattle.dvd_decoding.specs.Causes.{two_pass_cause}
 use Rattle.coding.specs.Found.{block_found}
 use Rattle.dvd_read.specs.Parts.{answer_word}
 use Rattle.dvd_read.specs.Inner.Found.{words_of_columns}
-use Rattle.dvd_decoding.specs.Salvage.{block_out, frames_saved, saved_in, sectors_saved}
+use Rattle.dvd_decoding.specs.Salvage.{block_out, saved_in}
+use Rattle.dvd_read.specs.Inner.Saved.{frames_saved, sectors_saved}
 use Rattle.dvd_read.proofs.RowAnswers.{block_answers}
 use Rattle.dvd_read.proofs.SavedLaws.{fixed-found, fixed-told}
 use Rattle.dvd_read.proofs.rescue.salvage.Goals as goal

@@ -2,9 +2,8 @@
 use Rattle.std.proofs.Common.{◌≡◌, None, refl, sym, subst}
 use Rattle.dvd_loop.specs.Machine.{IsOutcome}
 use Rattle.dvd_loop.proofs.StreamLemmas.{ended_as}
-use Rattle.dvd_top.specs.Commands.{meaning}
+use Rattle.dvd_top.specs.Commands.{GoesOver, meaning}
 use Rattle.dvd_top.specs.Commands.Convert.{OfConverted}
-use Rattle.dvd_top.specs.Headline.{GoesOver}
 use Rattle.dvd_top.proofs.commands.convert.run_convert.Goals as goal
 
 pub returns-clause-performed : goal.returns-clause-performed

@@ -1,6 +1,6 @@
 -- The proof of `info_listed` in src/commands/info.rt.
 use Rattle.dvd_top.specs.Commands.Info.{info_units}
-use Rattle.dvd_top.specs.Headline.{GoesOver}
+use Rattle.dvd_top.specs.Commands.{GoesOver}
 use Rattle.dvd_words.specs.declared.settings.Command.TheVariants.{Info}
 use Rattle.dvd_top.proofs.HeaderTaken.{opened_ended, opened_over}
 use Rattle.dvd_top.proofs.commands.info.info_listed.Goals as goal

@@ -1,0 +1,78 @@
+-- The promise in plain words, for who reads one page: what `master` and `recover` give over streams whose bytes are
+-- known and of which no call failed. In each there may be no memory instead, before the first byte.
+use Rattle.std.specs.Prelude.{◌≡◌, ◌⊎◌, ℕ, ◌*◌, List, length, take, drop, codes, Some, slice_get}
+use Rattle.std.specs.Io.KnownBytes.{Appends, Consumes}
+use Rattle.std.specs.List.{flat_map}
+use Rattle.coding.specs.Product.{IsBlockOf}
+use Rattle.coding.specs.Recording.{recording}
+use Rattle.dvd_capture.specs.Captured.{captured_marks, captured_rows, record_size}
+use Rattle.dvd_capture.specs.declared.form.Form.{Form}
+use Rattle.dvd_capture.specs.declared.form.Form.TheVariants.{Listed, Plain}
+use Rattle.dvd_decoding.specs.Salvage.{block_out}
+use Rattle.dvd_layout.specs.Place.{image_sectors, total_sectors}
+use Rattle.dvd_layout.specs.Plan.{plan_of}
+use Rattle.dvd_layout.specs.declared.entry.BlockPlan.{BlockPlan}
+use Rattle.dvd_layout.specs.declared.layout.Layout.{Layout}
+use Rattle.dvd_layout.specs.declared.layout.Zones.{Zones}
+use Rattle.dvd_ports.specs.Causes.{Rose}
+use Rattle.dvd_loop.specs.Streams.{HaveMoved, Streams}
+use Rattle.dvd_top.specs.Commands.Master.{filled_block, frames_of, image_part}
+use Rattle.dvd_top.specs.declared.status.Status.{Status}
+use Rattle.dvd_top.specs.declared.status.Status.TheVariants as status
+use Rattle.dvd_words.specs.Settings.{IsLayoutOf}
+use Rattle.dvd_words.specs.declared.settings.Command.TheVariants.{Master, Recover}
+use Rattle.dvd_words.specs.declared.settings.Settings.{Settings}
+
+-- no call of a stream failed: no count of failed calls rose
+pub record NoneFailed (old new : Streams) : Type 0 where
+  pub source : Rose old.source.faults new.source.faults → ⊥
+  pub output : Rose old.output.faults new.output.faults → ⊥
+  pub report : Rose old.report.faults new.report.faults → ⊥
+
+-- The stream of an image: for each block of the plan, in order, the recording of the one ECC block of its frames.
+pub record IsStreamOf (layout : Layout) (zones : Zones) (cpr image stream : List ℕ) : Type 0 where
+  pub size : length stream ≡ 37_856 * length (plan_of layout zones)
+  pub each : (k : ℕ) (entry : BlockPlan) → slice_get (plan_of layout zones) k ≡ Some entry
+      → (block : List (List ℕ))
+      × IsBlockOf (frames_of layout entry cpr (filled_block (image_part layout entry image))) block
+      × (take 37_856 (drop (37_856 * k) stream) ≡ recording block)
+
+-- `master` of exactly the bytes of an image reads them, writes their stream, reports `done` alone, and ends as Done.
+abbrev pub Masters : Settings → Streams → Streams → Status → Type 0
+Masters settings old new result =
+    (layout : Layout) (image : List ℕ) → settings.command ≡ Master → IsLayoutOf settings layout
+    → old.source.bytes ≡ Some image → length image ≡ 2048 * total_sectors layout → NoneFailed old new
+    → (result ≡ status.NoMemory)
+    ⊎ ((result ≡ status.Done) × ((stream : List ℕ) × IsStreamOf layout settings.zones settings.cpr image stream
+    × HaveMoved old new image stream (codes "done\n")))
+
+-- The image sectors that are recovered from a plain or a marked capture. Of block k, whose bytes are its own, they are
+-- those of the block that two passes determine, where its frames are right. Else they are those of each frame that is
+-- right by itself, and zeros for the others.
+pub record IsImageOf (layout : Layout) (zones : Zones) (form : Form) (capture image : List ℕ) : Type 0 where
+  pub size : length image ≡ 2048 * total_sectors layout
+  pub each : (k : ℕ) (entry : BlockPlan) (own : List ℕ) → slice_get (plan_of layout zones) k ≡ Some entry
+      → own ≡ take (208 * record_size form) (drop (208 * record_size form * k) capture)
+      → image_part layout entry image
+      ≡ flat_map (λ sector. sector)
+      (take (image_sectors layout entry.content) (block_out (captured_rows form own) (captured_marks form own) entry))
+
+-- `recover` of any bytes of the right length reads them, writes the image sectors of this capture, and ends as Done or
+-- Damaged.
+abbrev pub Recovers : Settings → Streams → Streams → Status → Type 0
+Recovers settings old new result =
+    (layout : Layout) (capture : List ℕ) → settings.command ≡ Recover → (settings.form ≡ Listed → ⊥)
+    → IsLayoutOf settings layout → old.source.bytes ≡ Some capture
+    → length capture ≡ length (plan_of layout settings.zones) * (208 * record_size settings.form)
+    → NoneFailed old new → (result ≡ status.NoMemory)
+    ⊎ (((result ≡ status.Done) ⊎ (result ≡ status.Damaged))
+    × ((image : List ℕ) × IsImageOf layout settings.zones settings.form capture image
+    × Consumes old.source.bytes new.source.bytes capture × Appends old.output.bytes new.output.bytes image))
+
+-- `recover` of the stream of an image gives the image back, reports `done` alone, and ends as Done.
+abbrev pub GivesImage : Settings → Streams → Streams → Status → Type 0
+GivesImage settings old new result =
+    (layout : Layout) (cpr image stream : List ℕ) → settings.command ≡ Recover → settings.form ≡ Plain
+    → IsLayoutOf settings layout → length cpr ≡ 6 → length image ≡ 2048 * total_sectors layout
+    → IsStreamOf layout settings.zones cpr image stream → old.source.bytes ≡ Some stream → NoneFailed old new
+    → (result ≡ status.NoMemory) ⊎ ((result ≡ status.Done) × HaveMoved old new stream image (codes "done\n"))
