@@ -28,21 +28,23 @@ use Rattle.dvd_top.specs.declared.status.Status.TheVariants as status
 -- `breaks` gives the first rule of layouts that these break. A listed capture states its layout in a header, which is
 -- read later.
 
--- LOOP. A command cuts its input into units and says what is done for each, on its page Commands/NAME. A unit is acted
--- on only when all its bytes have come. Its steps are done in order: each writes to the output or reports a line.
--- After the last unit one more byte is read, but by `info` and `exercise`: the end is Long (status 6) if it comes,
--- with all written; else Done (0), or Damaged (7) where a unit was refused. Short (5): the input ended before. Where a
--- read fails (3) nothing is done of its unit; where a write (4) or a line (9) fails, a first part of it was done, and
--- nothing after it.
+-- LOOP. A command cuts its input into units, as `recover` and `master` into blocks, and says on its page Commands/NAME
+-- what is done for each. A unit is acted on only when all its bytes have come. Its steps are done in order: each writes
+-- to the output or reports a line. `recover` reports the damage line of a refused block, and then writes its sectors;
+-- an accepted block has no line, and beyond the bound it may be a wrong one. After the last unit every command but
+-- `info` and `exercise` reads one more byte. If it comes the end is Long (status 6), with all written; else Done (0),
+-- or Damaged (7) where a unit was refused. Short (5): the input ended before. Where a read fails (3) nothing is done of
+-- its unit. Where a write (4) or a line (9) fails, all before it was done, perhaps a first part of it, and nothing
+-- after it.
 abbrev pub IsLoop : Settings → List ℕ → Outcome → Type 0
 IsLoop settings bytes outcome = Opens settings.form GoesOver settings bytes outcome
 
 -- RUN. One run of a command with these settings, and what follows of this very run, whatever ended it.
 pub record IsRun (settings : Settings) (old new : Streams) (result : Status) : Type 0 where
-  -- the bytes of the input: those of the source, where they are known; of a pipe, some that fit what its reads returned
+  -- the bytes of the input, if the source's are known; else, as of a pipe, some that begin with what its reads returned
   pub bytes : List ℕ
   pub told : IsTold old.source.bytes bytes
-  -- what the loop did, and after it the closing line: none after a failed report
+  -- what the loop did, and then the closing line of its end, as `read fault`: none after a failed report
   pub loop : Outcome
   pub is_loop : IsLoop settings bytes loop
   pub line : Outcome
@@ -51,18 +53,18 @@ pub record IsRun (settings : Settings) (old new : Streams) (result : Status) : T
   pub moved : HaveMoved old new loop.taken loop.out (loop.lines ++ line.lines)
   pub is_status : result ≡ status_of line.end
   pub memory : result ≢ status.NoMemory
-  -- a fault is one failed call, the last of its stream: nothing is tried again, and no other call failed
+  -- each fault is one failed call, the last of its stream; only the closing line may fail after another fault
   pub causes : HaveCauses loop.end line.end old new
   pub complete : NoneFailed old new → IsFaultless line.end × (line.end ≡ loop.end)
-  -- a failed read: output and report are as if the input had ended there
+  -- a failed read: the output, and the report up to the closing line, are those of an input that ends there
   pub read_fault : loop.end ≡ ends.ReadFault
       → (end : LoopEnd) × IsFaultless end × IsLoop settings loop.taken (record loop { end = end })
   -- `recover` and `deep`: each block within the bound (2 · bad rows + lost rows ≤ 16) that came gives its mastered
-  -- sectors, whatever became of the others; after a failed write or line, a first part of them
+  -- sectors, whatever became of the others; a failed write or line cuts the output where it failed
   pub bound : Rescues settings.command → AfterHeader settings.form KeepsBound settings bytes loop
-  -- `recover`: so does each sector whose twelve rows are good, in a block that two passes refuse
+  -- `recover`: likewise each sector whose twelve rows are good, in a block that two passes refuse
   pub good_frames : settings.command ≡ Recover → AfterHeader settings.form KeepsGoodFrames settings bytes loop
-  -- `cdread`: each sector with the damage of `IsBorne` gives its user data
+  -- `cdread`: likewise each CD-ROM sector whose damage its words can correct (`IsBorne`) gives its user data
   pub sectors : settings.command ≡ CdRead → KeepsSectors settings bytes loop
 
 -- NO RUN. The report gets one line, and the status is this one; or the report failed within the line.
@@ -71,12 +73,12 @@ Reports wanted line old new result =
     ((result ≡ wanted) × Appends old.bytes new.bytes line × HasGoneOn old new)
     ⊎ ((result ≡ status.ReportFault) × AppendsPrefix old.bytes new.bytes line × HasFailed old new)
 
--- source and output are the very objects that they were
+-- source and output, which `old` and `new` show, are the very objects that they were
 abbrev pub Untouched : {S K : Type 0} → S → S → K → K → Type 0
 Untouched src src_now out out_now = (src_now ≡ src) × (out_now ≡ out)
 
--- CALL. It is one of four things. `no memory` may come in place of each other one, and before the first byte alone: a
--- run never ends so, and where no thread can be had the work is done without. That memory was short is not said.
+-- CALL. It is one of four things. IsNoMemory (8) may come in place of each other one, but only before a byte is read or
+-- written: a run never ends so, and without threads the work is done by one. That memory was short is not claimed.
 pub data Call (untouched : Type 0) (words : List (List ℕ)) (old new : Streams) (result : Status) : Type 0 where
   IsUsageError : reading words ≡ None → untouched → Reports status.Usage (codes "usage\n") old.report new.report result
       → Call untouched words old new result
@@ -99,8 +101,9 @@ HaveFailed other old new =
     (HasMetEnd old.source new.source ⊎ HasGoneOn old.source new.source)
     × HasGoneOn old.output new.output × HasGoneOn old.report new.report
 
--- THE HEADLINE. The last three are the promise in plain words, on the page Promises. It rests on the definitions of the
--- standard alone: `plan_of`, `data_frame`, `IsBlockOf`, `recording`, and on what two passes and salvage give.
+-- THE HEADLINE. The last three say the promise again with no loop or unit, on the page Promises, of streams whose bytes
+-- are known. `master` rests on `reading`, and on `plan_of`, `data_frame`, `IsBlockOf` and `recording`, to which
+-- docs/DEFINITIONS leads from the standard; the others also on what two passes and salvage give.
 pub record Headline {S K : Type 0} (src src_now : S) (out out_now : K)
     (words : List (List ℕ)) (old new : Streams) (result : Status) : Type 0 where
   pub call : Call (Untouched src src_now out out_now) words old new result
