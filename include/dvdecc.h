@@ -37,7 +37,7 @@ enum dvdecc_status {
     DVDECC_OK = 0,
     DVDECC_UNCORRECTABLE = 1, /* no codeword is near the word */
     DVDECC_NO_MEMORY = 2,     /* malloc gave none, at any time; all buffers are as they were */
-    DVDECC_BAD_RULE = 3,      /* no scrambling rule has this number */
+    DVDECC_BAD_RULE = 3,      /* the call has no scrambling rule of this number */
     DVDECC_BAD_ADDRESS = 4,   /* the address of a CD-ROM sector is 450,000 or more */
     DVDECC_BAD_LENGTH = 5,    /* the lengths of the lists don't fit */
     DVDECC_ROWS = 6,          /* more than 16 rows of a block have no codeword near */
@@ -49,7 +49,8 @@ enum dvdecc_status {
     DVDECC_CD_PARITY = 12,    /* a P word or a Q word of a CD-ROM sector is no codeword */
     DVDECC_CD_MODE = 13,      /* a CD-ROM sector has another mode than 1 */
     DVDECC_CD_ADDRESS = 14,   /* a CD-ROM sector has another address */
-    DVDECC_CD_EDC = 15        /* a CD-ROM sector has a wrong EDC */
+    DVDECC_CD_EDC = 15,       /* a CD-ROM sector has a wrong EDC */
+    DVDECC_BAD_ID = 16        /* no block of a disk begins with this ID word */
 };
 
 /* Which Main Data bytes of a data frame are scrambled. */
@@ -75,7 +76,7 @@ struct dvdecc_answer {
 struct dvdecc_report {
     uint32_t corrected;   /* places where the block differs from what was received; 0 where none was found */
     uint32_t failed_rows; /* rows with no codeword near, at most 16; 0 where no block was found */
-    uint32_t number;      /* after a cause: the number of failed rows, the column or the row; else 0 */
+    uint32_t number;      /* after a cause: the number of failed rows, the column, the row or the frame; else 0 */
 };
 
 /* ---- the codes that detect errors ---- */
@@ -148,6 +149,31 @@ void dvdecc_block_parity(uint8_t rows[208][182]);
  * `failed_rows`. After DVDECC_ROWS, DVDECC_COLUMN or DVDECC_ROW two passes determine none, and the report has `number`;
  * the rows are as they were. The call takes 150 KB of memory and gives it back. */
 uint32_t dvdecc_two_pass(const uint8_t capture[42640], uint8_t rows[208][182], struct dvdecc_report *report);
+
+/* Decodes a captured block as dvdecc_two_pass does, and checks its sixteen data frames. Frame f has to have the sector
+ * number of `id` plus f, and the area and the layer of `id`; the other bits of `id` don't count. `rule` is that of the
+ * first frame. With DVDECC_WHOLE it is that of all sixteen; with DVDECC_FIRST_160 the other fifteen have DVDECC_OFF, as
+ * in the blocks of the Reference Code Zone.
+ *
+ * After DVDECC_OK the sectors are the Main Data of the frames, unscrambled, and the report has `corrected` and
+ * `failed_rows`. After a cause the sectors are as they were, and the report has `number`. DVDECC_ROWS, DVDECC_COLUMN
+ * and DVDECC_ROW are as for dvdecc_two_pass. DVDECC_IED, DVDECC_ID or DVDECC_EDC is what the first wrong frame lacks
+ * first; `number` is then that frame, 0 to 15.
+ *
+ * DVDECC_BAD_RULE: the rule is neither of the two. Else DVDECC_BAD_ID: the sector number of the last frame would have
+ * more than 24 bits. The report is then as it was. The call takes 150 KB of memory and gives it back. */
+uint32_t dvdecc_read_block(const uint8_t capture[42640], uint32_t id, uint32_t rule, uint8_t sectors[16][2048],
+                           struct dvdecc_report *report);
+
+/* Writes what is known to be right of a captured block, also of one that dvdecc_read_block refuses. A frame is salvaged
+ * where its IED, its place and its EDC are right in its twelve rows. These are those of the block that two passes
+ * determine. Where they determine none, they are the codewords near the twelve rows, and each row has to have one.
+ *
+ * The sector of a salvaged frame is its Main Data, unscrambled, and that of any other is 2,048 zeros. `saved` is how
+ * many of the sixteen are salvaged; after DVDECC_OK it may be 0. `id`, `rule`, DVDECC_BAD_RULE, DVDECC_BAD_ID and the
+ * memory are as for dvdecc_read_block. */
+uint32_t dvdecc_salvage_block(const uint8_t capture[42640], uint32_t id, uint32_t rule, uint8_t sectors[16][2048],
+                              uint32_t *saved);
 
 /* ---- data frames ---- */
 

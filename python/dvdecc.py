@@ -36,6 +36,7 @@ class Status(enum.IntEnum):
     CD_MODE = 13
     CD_ADDRESS = 14
     CD_EDC = 15
+    BAD_ID = 16
 
 
 class Rule(enum.IntEnum):
@@ -68,6 +69,21 @@ class Block(NamedTuple):
     rows: bytes
     corrected: int
     failed_rows: int
+
+
+class Sectors(NamedTuple):
+    """A block that was read: its sixteen sectors, the places that were corrected, the rows that failed."""
+
+    sectors: list[bytes]
+    corrected: int
+    failed_rows: int
+
+
+class Salvaged(NamedTuple):
+    """What was salvaged of a block: its sixteen sectors, zeros where one wasn't, and how many were."""
+
+    sectors: list[bytes]
+    saved: int
 
 
 class _Correction(ctypes.Structure):
@@ -107,6 +123,8 @@ _rs_parity = _call("dvdecc_rs_parity", _U, _P, _N, _U)
 _rs_decode = _call("dvdecc_rs_decode", _U, _P, _N, _P, _N, _U, _P)
 _block_parity = _call("dvdecc_block_parity", None, _P)
 _two_pass = _call("dvdecc_two_pass", _U, _P, _P, _P)
+_read_block = _call("dvdecc_read_block", _U, _P, _U, _U, _P, _P)
+_salvage_block = _call("dvdecc_salvage_block", _U, _P, _U, _U, _P, _P)
 _scramble = _call("dvdecc_scramble", _U, _U, _U, _P)
 _make_frame = _call("dvdecc_make_frame", _U, _U, _P, _U, _P, _P)
 _read_frame = _call("dvdecc_read_frame", _U, _P, _U, _U, _P, _P)
@@ -256,6 +274,34 @@ def two_pass(capture: bytes) -> Block:
     status = _two_pass(_buffer(capture, 42640, "a captured block"), out, ctypes.byref(report))
     _accept(status, None if status == Status.NO_MEMORY else report.number)
     return Block(bytes(out), report.corrected, report.failed_rows)
+
+
+def _in_sectors(data) -> list[bytes]:
+    return [bytes(data[k : k + 2048]) for k in range(0, len(data), 2048)]
+
+
+_UNNUMBERED = (Status.NO_MEMORY, Status.BAD_RULE, Status.BAD_ID)
+
+
+def read_block(capture: bytes, identification: int, rule: int = Rule.WHOLE) -> Sectors:
+    """The sixteen sectors of a captured block that begins with this ID word, each frame of it right.
+
+    The rule is that of the first frame: WHOLE for all sixteen, or FIRST_160, and then OFF for the others. An error IED,
+    ID or EDC has the number of the frame; others have that of `two_pass`.
+    """
+    out, report = _buffer(bytes(16 * 2048), 16 * 2048, ""), _Report()
+    given = _buffer(capture, 42640, "a captured block"), _number(identification), _number(rule)
+    status = _read_block(*given, out, ctypes.byref(report))
+    _accept(status, None if status in _UNNUMBERED else report.number)
+    return Sectors(_in_sectors(out), report.corrected, report.failed_rows)
+
+
+def salvage_block(capture: bytes, identification: int, rule: int = Rule.WHOLE) -> Salvaged:
+    """The sectors of a captured block that are known to be right, also of one that `read_block` refuses."""
+    out, saved = _buffer(bytes(16 * 2048), 16 * 2048, ""), _U()
+    given = _buffer(capture, 42640, "a captured block"), _number(identification), _number(rule)
+    _accept(_salvage_block(*given, out, ctypes.byref(saved)))
+    return Salvaged(_in_sectors(out), saved.value)
 
 
 def scramble(identification: int, main_data: bytes, rule: int = Rule.WHOLE) -> bytes:

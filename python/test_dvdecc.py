@@ -11,6 +11,18 @@ import vectors
 from dvdecc import DvdeccError, Rule, Status
 
 
+def recorded(rows):
+    """The capture of a block with no marks."""
+    order = [191 + (m + 1) // 13 if (m + 1) % 13 == 0 else m - m // 13 for m in range(208)]
+    return bytearray(b"".join(rows[182 * i : 182 * i + 182] + bytes(23) for i in order))
+
+
+def framed(frames):
+    """The capture of a block of sixteen frames."""
+    rows = b"".join(frame[172 * q : 172 * q + 172] + bytes(10) for frame in frames for q in range(12))
+    return recorded(dvdecc.block_parity(rows + bytes(16 * 182)))
+
+
 class Calls(unittest.TestCase):
     def refused(self, status, call, *arguments):
         with self.assertRaises(DvdeccError) as raised:
@@ -74,13 +86,35 @@ class Calls(unittest.TestCase):
         block = vectors.block()
         rows = dvdecc.block_parity(b"".join(bytes(row) for row in block))
         self.assertEqual(list(rows), sum(block, []))
-        order = [191 + (m + 1) // 13 if (m + 1) % 13 == 0 else m - m // 13 for m in range(208)]
-        capture = bytearray(b"".join(rows[182 * i : 182 * i + 182] + bytes(23) for i in order))
+        capture = recorded(rows)
         for m in range(16):
             capture[205 * m + 182 : 205 * m + 205] = bytes([255] * 23)
         self.assertEqual(dvdecc.two_pass(capture), (rows, 0, 16))
         capture[205 * 16 + 182 : 205 * 17] = bytes([255] * 23)
         self.assertEqual(self.refused(Status.ROWS, dvdecc.two_pass, capture), 17)
+
+    def test_sectors_of_a_block(self):
+        sent = [bytes(vectors.counted(2048, 13, f)) for f in range(16)]
+        frames = [bytes(vectors.frame(0x30000 + f, [0] * 6, list(sent[f]))) for f in range(16)]
+        capture = framed(frames)
+        self.assertEqual(dvdecc.read_block(capture, 0x30000), (sent, 0, 0))
+        self.assertEqual(dvdecc.salvage_block(capture, 0x30000), (sent, 16))
+        self.assertEqual(self.refused(Status.ID, dvdecc.read_block, capture, 0x30010), 0)
+        self.assertEqual(dvdecc.salvage_block(capture, 0x30010), ([bytes(2048)] * 16, 0))
+        for m in [*range(12), *range(13, 18)]:
+            capture[205 * m + 182 : 205 * m + 205] = bytes([255] * 23)
+        self.assertEqual(self.refused(Status.ROWS, dvdecc.read_block, capture, 0x30000), 17)
+        self.assertEqual(dvdecc.salvage_block(capture, 0x30000), ([bytes(2048)] * 2 + sent[2:], 14))
+        frames[5] = frames[5][:2063] + bytes([frames[5][2063] ^ 1])
+        self.assertEqual(self.refused(Status.EDC, dvdecc.read_block, framed(frames), 0x30000), 5)
+        rules = [Rule.FIRST_160] + [Rule.OFF] * 15
+        capture = framed([dvdecc.make_frame(0x2F000 + f, sent[f], rule=rules[f]) for f in range(16)])
+        capture[100] ^= 1
+        self.assertEqual(dvdecc.read_block(capture, 0x2F000, Rule.FIRST_160), (sent, 1, 0))
+        for call in dvdecc.read_block, dvdecc.salvage_block:
+            self.assertIsNone(self.refused(Status.BAD_RULE, call, capture, 0x2F000, Rule.OFF))
+            self.assertIsNone(self.refused(Status.BAD_ID, call, capture, 0xFFFFF1))
+            self.assertRaises(ValueError, call, bytes(42639), 0x2F000)
 
     def test_frames(self):
         main_data = bytes(vectors.counted(2048, 13, 6))

@@ -192,6 +192,172 @@ static void blocks(void) {
     holds(dvdecc_two_pass(capture, found, &report) == DVDECC_OK && report.corrected == 2, "two errors");
 }
 
+static uint8_t sent[16][2048], got[16][2048];
+static struct dvdecc_report fixed;
+
+/* Makes data frame f of the block: row 12 f + q has its bytes from 172 q on. `spoilt` is a place that is made wrong. */
+static void lay(unsigned f, uint32_t id, uint32_t rule, unsigned spoilt) {
+    uint8_t frame[2065];
+    const uint8_t cpr[6] = {1, 2, 3, 4, 5, 6};
+    dvdecc_make_frame(id, cpr, rule, sent[f], frame);
+    frame[spoilt] ^= 1;
+    for (unsigned q = 0; q < 12; q++) {
+        memcpy(block[12 * f + q], frame + 172 * q, 172);
+    }
+}
+
+enum { NONE = 2064 }; /* no place of a frame */
+
+/* Makes the sixteen frames from an ID word on, and records their block. */
+static void record_frames(uint32_t id, uint32_t rule) {
+    for (unsigned f = 0; f < 16; f++) {
+        count(sent[f], 2048, 13, 7 * f + 1);
+        lay(f, id + f, f == 0 || rule != DVDECC_FIRST_160 ? rule : (uint32_t)DVDECC_OFF, NONE);
+    }
+    dvdecc_block_parity(block);
+    record();
+}
+
+/* Makes one frame of the recorded block anew. */
+static void replace(unsigned f, uint32_t id, unsigned spoilt) {
+    lay(f, id, DVDECC_WHOLE, spoilt);
+    dvdecc_block_parity(block);
+    record();
+}
+
+/* Loses the recorded rows from one on. */
+static void lose(unsigned first, unsigned end) {
+    for (unsigned m = first; m < end; m++) {
+        memset(capture + 205 * m, 0xA5, 182);
+        memset(capture + 205 * m + 182, 0xFF, 23);
+    }
+}
+
+static bool is_filled(const uint8_t *bytes, size_t size, uint8_t byte) {
+    size_t k = 0;
+    while (k < size && bytes[k] == byte) {
+        k++;
+    }
+    return k == size;
+}
+
+/* Whether the block is read: all sectors are those that were sent. */
+static bool reads(uint32_t id, uint32_t rule) {
+    memset(got, 0x77, sizeof got);
+    uint32_t status = dvdecc_read_block(capture, id, rule, got, &fixed);
+    return status == DVDECC_OK && memcmp(got, sent, sizeof got) == 0 && fixed.number == 0;
+}
+
+/* Whether the block is refused with a status and a number, and the sectors are as they were. */
+static bool refuses(uint32_t id, uint32_t rule, uint32_t status, uint32_t number) {
+    memset(got, 0x77, sizeof got);
+    fixed.corrected = 77, fixed.failed_rows = 78, fixed.number = 79;
+    bool is_refused = dvdecc_read_block(capture, id, rule, got, &fixed) == status && fixed.number == number;
+    return is_refused && is_filled(got[0], sizeof got, 0x77);
+}
+
+/* Whether all frames are salvaged but those of a set, of which the sectors are zeros. */
+static bool salvages_but(uint32_t without, uint32_t id, uint32_t rule) {
+    uint32_t saved = 99, right = 0;
+    memset(got, 0x77, sizeof got);
+    bool is = dvdecc_salvage_block(capture, id, rule, got, &saved) == DVDECC_OK;
+    for (unsigned f = 0; f < 16; f++) {
+        bool is_zeros = (without >> f & 1) != 0;
+        is = is && (is_zeros ? is_filled(got[f], 2048, 0) : memcmp(got[f], sent[f], 2048) == 0);
+        right += !is_zeros;
+    }
+    return is && saved == right;
+}
+
+static void right_frames(void) {
+    record_frames(0x030000, DVDECC_WHOLE);
+    holds(reads(0x030000, DVDECC_WHOLE) && fixed.corrected == 0 && fixed.failed_rows == 0, "sixteen frames");
+    holds(salvages_but(0, 0x030000, DVDECC_WHOLE), "sixteen frames salvaged");
+    holds(reads(0xF2030000u, DVDECC_WHOLE), "the bits of an ID word that don't count");
+    holds(salvages_but(0, 0xF2030000u, DVDECC_WHOLE), "they don't count where frames are salvaged");
+    for (unsigned m = 0; m < 16; m++) {
+        lose(13 * m, 13 * m + 1);
+        capture[205 * (13 * m + 5) + m] ^= 0x10;
+    }
+    holds(reads(0x030000, DVDECC_WHOLE) && fixed.failed_rows == 16, "sixteen lost rows, one of each frame");
+    holds(fixed.corrected > 2000, "what was corrected in a block of frames");
+    holds(salvages_but(0, 0x030000, DVDECC_WHOLE), "frames of a block that two passes find");
+    record_frames(0xF2030000u, DVDECC_WHOLE);
+    holds(reads(0x030000, DVDECC_WHOLE), "the bits of a frame that don't count");
+    record_frames(0x0D030010, DVDECC_WHOLE);
+    holds(reads(0x0D030010, DVDECC_WHOLE), "frames of another area and layer");
+    record_frames(0x02F000, DVDECC_FIRST_160);
+    holds(reads(0x02F000, DVDECC_FIRST_160), "frames by the rule of the Reference Code Zone");
+    holds(salvages_but(0, 0x02F000, DVDECC_FIRST_160), "they are salvaged");
+    holds(refuses(0x02F000, DVDECC_WHOLE, DVDECC_EDC, 0), "they aren't those of the Data Zone");
+    holds(salvages_but(0xFFFF, 0x02F000, DVDECC_WHOLE), "and none is salvaged as such");
+    record_frames(0xFFFFF0, DVDECC_WHOLE);
+    holds(reads(0xFFFFF0, DVDECC_WHOLE) && salvages_but(0, 0xFFFFF0, DVDECC_WHOLE), "the last block of 24 bits");
+}
+
+static void wrong_frames(void) {
+    record_frames(0x030000, DVDECC_WHOLE);
+    holds(refuses(0x030010, DVDECC_WHOLE, DVDECC_ID, 0), "another block");
+    holds(salvages_but(0xFFFF, 0x030010, DVDECC_WHOLE), "nothing of another block is salvaged");
+    holds(refuses(0x01030000, DVDECC_WHOLE, DVDECC_ID, 0), "another layer");
+    holds(refuses(0x04030000, DVDECC_WHOLE, DVDECC_ID, 0), "another area");
+    holds(refuses(0x08030000, DVDECC_WHOLE, DVDECC_ID, 0), "one more area");
+    replace(5, 0x030005, 2063);
+    holds(refuses(0x030000, DVDECC_WHOLE, DVDECC_EDC, 5), "a wrong EDC in frame 5");
+    holds(salvages_but(1 << 5, 0x030000, DVDECC_WHOLE), "fifteen frames are salvaged");
+    replace(9, 0x030008, NONE);
+    holds(refuses(0x030000, DVDECC_WHOLE, DVDECC_EDC, 5), "a later frame of another place");
+    holds(salvages_but(1 << 5 | 1 << 9, 0x030000, DVDECC_WHOLE), "fourteen frames are salvaged");
+    replace(5, 0x030005, NONE);
+    holds(refuses(0x030000, DVDECC_WHOLE, DVDECC_ID, 9), "frame 9 of another place");
+    replace(7, 0x030006, 4);
+    holds(refuses(0x030000, DVDECC_WHOLE, DVDECC_IED, 7), "a wrong IED in a frame of another place");
+    lose(0, 12);
+    holds(refuses(0x030000, DVDECC_WHOLE, DVDECC_IED, 7), "twelve lost rows and a wrong IED");
+    holds(salvages_but(1 << 7 | 1 << 9, 0x030000, DVDECC_WHOLE), "the frame of the twelve lost rows is salvaged");
+}
+
+static void lost_frames(void) {
+    record_frames(0x030000, DVDECC_WHOLE);
+    lose(0, 12);
+    lose(13, 18);
+    holds(refuses(0x030000, DVDECC_WHOLE, DVDECC_ROWS, 17), "17 lost rows of two frames");
+    holds(salvages_but(3, 0x030000, DVDECC_WHOLE), "the other fourteen are salvaged");
+    lose(12, 13);
+    holds(salvages_but(3, 0x030000, DVDECC_WHOLE), "a lost row of outer parity is none of a frame");
+    capture[205 * 30] ^= 1;
+    memset(capture + 205 * 31, 0xA5, 10);
+    memcpy(capture + 205 * 31 + 182, "\xFF\xC0", 2);
+    holds(salvages_but(3, 0x030000, DVDECC_WHOLE), "an error in a row, and ten lost bytes in another");
+    memcpy(capture + 205 * 40 + 182, "\xFF\xE0", 2);
+    holds(salvages_but(3 | 1 << 3, 0x030000, DVDECC_WHOLE), "eleven lost bytes that are right by chance");
+    replace(2, 0x030002, 2000);
+    lose(195, 208);
+    lose(182, 187);
+    holds(refuses(0x030000, DVDECC_WHOLE, DVDECC_ROWS, 18), "18 lost rows and a wrong EDC");
+    holds(salvages_but(1 << 2 | 1 << 14 | 1 << 15, 0x030000, DVDECC_WHOLE), "thirteen frames are salvaged");
+    lose(0, 208);
+    holds(refuses(0x030000, DVDECC_WHOLE, DVDECC_ROWS, 208), "all rows are lost");
+    holds(salvages_but(0xFFFF, 0x030000, DVDECC_WHOLE), "nothing is salvaged");
+}
+
+/* Whether both calls refuse numbers, and all is as it was. */
+static bool both_refuse(uint32_t id, uint32_t rule, uint32_t status) {
+    uint32_t saved = 99;
+    bool is_refused = refuses(id, rule, status, 79) && fixed.corrected == 77 && fixed.failed_rows == 78;
+    is_refused = is_refused && dvdecc_salvage_block(capture, id, rule, got, &saved) == status;
+    return is_refused && saved == 99 && is_filled(got[0], sizeof got, 0x77);
+}
+
+static void block_numbers(void) {
+    record_frames(0xFFFFF0, DVDECC_WHOLE);
+    holds(both_refuse(0xFFFFF0, DVDECC_OFF, DVDECC_BAD_RULE), "a block by the rule of none");
+    holds(both_refuse(0xFFFFF0, 3, DVDECC_BAD_RULE), "a block by rule 3");
+    holds(both_refuse(0xFFFFF1, 4000000000u, DVDECC_BAD_RULE), "rule 4000000000, and a block beyond 24 bits");
+    holds(both_refuse(0xFFFFF1, DVDECC_WHOLE, DVDECC_BAD_ID), "a block beyond 24 bits");
+    holds(both_refuse(0xFFFFFFFFu, DVDECC_FIRST_160, DVDECC_BAD_ID), "the greatest ID word");
+}
+
 static void frames(void) {
     static uint8_t main_data[2048], frame[2064], read[2048];
     const uint8_t cpr[6] = {1, 2, 3, 4, 5, 6};
@@ -244,6 +410,10 @@ int main(void) {
     lists();
     any_lengths();
     blocks();
+    right_frames();
+    wrong_frames();
+    lost_frames();
+    block_numbers();
     frames();
     sectors();
     printf("%d passed, %d failed\n", passed, failed);

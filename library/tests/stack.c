@@ -7,21 +7,33 @@
 
 enum { SIZE = 1 << 18, PROMISED = 1 << 16, PATTERN = 0xA5 };
 static uint8_t stack[SIZE] __attribute__((aligned(4096)));
-static uint8_t capture[42640], block[208][182], frame[2064], main_data[2048], sector[2352], word[255], lost[255];
+static uint8_t capture[42640], block[208][182], sectors[16][2048];
+static uint8_t frame[2064], main_data[2048], sector[2352], word[255], lost[255];
 
 static void *calls(void *argument) {
     struct dvdecc_report report;
     struct dvdecc_correction correction;
     uint32_t number;
     const uint8_t cpr[6] = {0};
+    for (unsigned i = 0; i < 192; i++) {
+        dvdecc_make_frame(0x30000 + i / 12, cpr, DVDECC_WHOLE, main_data, frame);
+        memcpy(block[i], frame + 172 * (i % 12), 172);
+    }
     dvdecc_block_parity(block);
     for (unsigned m = 0; m < 208; m++) {
+        memcpy(capture + 205 * m, block[(m + 1) % 13 == 0 ? 191 + (m + 1) / 13 : m - m / 13], 182);
         for (unsigned e = 0; e < m % 6; e++) {
             capture[205 * m + (31 * e + m) % 182] ^= 1;
         }
     }
     memset(capture + 205 * 40 + 182, 0xFF, 23);
     dvdecc_two_pass(capture, block, &report);
+    dvdecc_read_block(capture, 0x30000, DVDECC_WHOLE, sectors, &report);
+    dvdecc_salvage_block(capture, 0x30000, DVDECC_WHOLE, sectors, &number);
+    for (unsigned m = 0; m < 17; m++) {
+        memset(capture + 205 * m + 182, 0xFF, 23);
+    }
+    dvdecc_salvage_block(capture, 0x30000, DVDECC_WHOLE, sectors, &number);
     dvdecc_make_frame(0x30000, cpr, DVDECC_WHOLE, main_data, frame);
     dvdecc_read_frame(frame, 0x30000, DVDECC_WHOLE, main_data, &number);
     dvdecc_cd_make(1, main_data, sector);

@@ -38,6 +38,20 @@ pub mod ffi {
         ) -> u32;
         pub fn dvdecc_block_parity(rows: *mut [[u8; 182]; 208]);
         pub fn dvdecc_two_pass(capture: *const [u8; 42640], rows: *mut [[u8; 182]; 208], report: *mut Report) -> u32;
+        pub fn dvdecc_read_block(
+            capture: *const [u8; 42640],
+            id: u32,
+            rule: u32,
+            sectors: *mut [[u8; 2048]; 16],
+            report: *mut Report,
+        ) -> u32;
+        pub fn dvdecc_salvage_block(
+            capture: *const [u8; 42640],
+            id: u32,
+            rule: u32,
+            sectors: *mut [[u8; 2048]; 16],
+            saved: *mut u32,
+        ) -> u32;
         pub fn dvdecc_scramble(id: u32, rule: u32, main_data: *mut [u8; 2048]) -> u32;
         pub fn dvdecc_make_frame(
             id: u32,
@@ -209,6 +223,32 @@ pub fn two_pass(capture: &[u8; 42640], rows: &mut [[u8; 182]; 208]) -> Result<Re
     let mut report = Report::default();
     let status = unsafe { ffi::dvdecc_two_pass(capture, rows, &mut report) };
     accept(status, report.number, report)
+}
+
+/// Writes the sixteen sectors of a captured block that begins with an ID word. Where a frame is wrong, the number is
+/// that frame. The rule is that of the first: `Whole` for all sixteen, or `First160`, and then `Off` for the others.
+pub fn read_block(
+    capture: &[u8; 42640],
+    id: u32,
+    rule: Rule,
+    sectors: &mut [[u8; 2048]; 16],
+) -> Result<Report, Refusal> {
+    let mut report = Report::default();
+    let status = unsafe { ffi::dvdecc_read_block(capture, id, rule as u32, sectors, &mut report) };
+    accept(status, report.number, report)
+}
+
+/// Writes the sectors of a captured block that are known to be right, also of one that `read_block` refuses, and zeros
+/// for the others. Answers how many are right.
+pub fn salvage_block(
+    capture: &[u8; 42640],
+    id: u32,
+    rule: Rule,
+    sectors: &mut [[u8; 2048]; 16],
+) -> Result<u32, Refusal> {
+    let mut saved = 0;
+    let status = unsafe { ffi::dvdecc_salvage_block(capture, id, rule as u32, sectors, &mut saved) };
+    accept(status, 0, saved)
 }
 
 /// Combines Main Data with the scrambling bytes of an ID word.

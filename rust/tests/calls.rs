@@ -51,14 +51,21 @@ fn many_rows() {
     assert_eq!(rows_decode(&mut rows, &[[0; 182]; 2], &mut answers).unwrap_err().status, 5);
 }
 
-#[test]
-fn blocks() {
-    let (mut rows, mut found, mut capture) = ([counted::<182>(3); 208], [[0; 182]; 208], [0; 42640]);
-    block_parity(&mut rows);
+// The capture of a block with no marks.
+fn recorded(rows: &[[u8; 182]; 208]) -> [u8; 42640] {
+    let mut capture = [0; 42640];
     for m in 0..208 {
         let i = if (m + 1) % 13 == 0 { 191 + (m + 1) / 13 } else { m - m / 13 };
         capture[205 * m..205 * m + 182].copy_from_slice(&rows[i]);
     }
+    capture
+}
+
+#[test]
+fn blocks() {
+    let (mut rows, mut found) = ([counted::<182>(3); 208], [[0; 182]; 208]);
+    block_parity(&mut rows);
+    let mut capture = recorded(&rows);
     capture[7] ^= 1;
     assert_eq!(two_pass(&capture, &mut found).unwrap().corrected, 1);
     assert_eq!(found, rows);
@@ -66,6 +73,35 @@ fn blocks() {
         capture[205 * m + 182..205 * m + 205].fill(0xFF);
     }
     assert_eq!(two_pass(&capture, &mut found), Err(Refusal { status: 6, number: 17 }));
+}
+
+#[test]
+fn sectors_of_a_block() {
+    let sent: [[u8; 2048]; 16] = std::array::from_fn(|f| counted(2 * f + 1));
+    let (mut rows, mut frame, mut sectors) = ([[0; 182]; 208], [0; 2064], [[7; 2048]; 16]);
+    for f in 0..16 {
+        make_frame(0x30000 + f as u32, &[0; 6], Rule::Whole, &sent[f], &mut frame).unwrap();
+        for q in 0..12 {
+            rows[12 * f + q][..172].copy_from_slice(&frame[172 * q..172 * q + 172]);
+        }
+    }
+    block_parity(&mut rows);
+    let mut capture = recorded(&rows);
+    let other = read_block(&capture, 0x30010, Rule::Whole, &mut sectors);
+    assert_eq!(other, Err(Refusal { status: 10, number: 0 }));
+    assert_eq!(sectors, [[7; 2048]; 16]);
+    capture[7] ^= 1;
+    assert_eq!(read_block(&capture, 0x30000, Rule::Whole, &mut sectors).unwrap().corrected, 1);
+    assert_eq!(sectors, sent);
+    for m in (0..12).chain(13..18) {
+        capture[205 * m + 182..205 * m + 205].fill(0xFF);
+    }
+    let lost = read_block(&capture, 0x30000, Rule::Whole, &mut sectors);
+    assert_eq!(lost, Err(Refusal { status: 6, number: 17 }));
+    assert_eq!(salvage_block(&capture, 0x30000, Rule::Whole, &mut sectors), Ok(14));
+    assert!(sectors[..2] == [[0; 2048]; 2] && sectors[2..] == sent[2..]);
+    assert_eq!(read_block(&capture, 0x30000, Rule::Off, &mut sectors).unwrap_err().status, 3);
+    assert_eq!(salvage_block(&capture, 0xFFFFF1, Rule::Whole, &mut sectors).unwrap_err().status, 16);
 }
 
 #[test]

@@ -1,3 +1,4 @@
 -- Why the contracts hold.
 pub mod BehindZeros
+pub mod SectorsRead
 pub mod WholeCapture

@@ -3,5 +3,6 @@ pub mod Blocks
 pub mod Frames
 pub mod General
 pub mod Lists
+pub mod Reading
 pub mod Sectors
 pub mod Words

@@ -6,7 +6,7 @@ ghost use Rattle.coding.specs.Words.{IsEncoded};
 ghost use Rattle.dvd_capture.specs.Captured.{captured_marks, captured_rows};
 ghost use Rattle.dvd_capture.specs.Works.{block_of, marks_of_work, rows_of, stage_of};
 ghost use Rattle.dvd_capture.specs.declared.form.Form.TheVariants.{Marked};
-ghost use Rattle.dvd_capture.specs.declared.stage.Stage.TheVariants.{Fetched, Fixed};
+ghost use Rattle.dvd_capture.specs.declared.stage.Stage.TheVariants.{Fetched, Fixed as StageFixed};
 ghost use Rattle.dvd_decoding.specs.Causes.{two_pass_cause};
 ghost use Rattle.dvdecc_c.specs.Blocks.{block_status, captured_answers, cause_number, cause_status, with_block, with_report};
 
@@ -14,7 +14,7 @@ use crate::status;
 use dvd_capture::{Form, Work, fetch};
 use dvd_decoding::Cause;
 use dvd_ports::SliceSource;
-use dvd_read::two_pass;
+use dvd_read::{Fixed, two_pass};
 use rs_lanes::{inner_parity, outer_parity};
 use std::alloc::Global;
 
@@ -22,11 +22,11 @@ use std::alloc::Global;
 #[repr(C)]
 #[derive(Clone, Copy, Debug, PartialEq, Eq)]
 pub struct Report {
-    /// In how many places the block differs from what was received, or 0 where none was found.
+    /// In how many places the block differs from what was received, or 0 where there is a cause.
     pub corrected: u32,
-    /// How many rows failed in the first pass, or 0 where no block was found.
+    /// How many rows failed in the first pass, or 0 where there is a cause.
     pub failed_rows: u32,
-    /// Where no block was found: the number of failed rows, or the number of the column or of the row.
+    /// Where there is a cause: the number of failed rows, or the number of the column, of the row or of the frame.
     pub number: u32,
 }
 
@@ -62,7 +62,7 @@ pub extern "C" fn dvdecc_two_pass(
 }
 
 // Receives a captured block.
-fn receive(capture: &[u8; 42640], work: &mut Work)
+pub(crate) fn receive(capture: &[u8; 42640], work: &mut Work)
     ensures stage { stage_of work.new ≡ Fetched }
     ensures rows { rows_of work.new ≡ captured_rows Marked capture.now }
     ensures marks { marks_of_work work.new ≡ captured_marks Marked capture.now }
@@ -81,19 +81,26 @@ fn decode_received(work: &mut Work, rows: &mut [[u8; 182]; 208], report: &mut Re
     match two_pass(work) {
         Ok(fixed) => {
             put_block(work, rows);
-            *report = Report {
-                corrected: fixed.bytes,
-                failed_rows: u32::from(fixed.failed_rows),
-                number: 0,
-            };
+            *report = report_found(fixed);
             status::OK
         }
-        Err(cause) => told(cause, report),
+        Err(cause) => report_cause(cause, report),
     }
 }
 
-// The status of a cause, and its number.
-fn told(cause: Cause, report: &mut Report) -> u32
+// The report of a block that was found.
+pub(crate) fn report_found(fixed: Fixed) -> Report
+    ensures { result ≡ record { corrected = fixed.bytes; failed_rows = fixed.failed_rows; number = 0 } }
+{
+    Report {
+        corrected: fixed.bytes,
+        failed_rows: u32::from(fixed.failed_rows),
+        number: 0,
+    }
+}
+
+// Reports the number of a cause. Answers its status.
+pub(crate) fn report_cause(cause: Cause, report: &mut Report) -> u32
     ensures status { result ≡ cause_status cause }
     ensures report { report.new ≡ record { corrected = 0; failed_rows = 0; number = cause_number cause } }
 {
@@ -115,7 +122,7 @@ fn told(cause: Cause, report: &mut Report) -> u32
 
 // Writes the rows of the block that two passes found.
 fn put_block(work: &Work, rows: &mut [[u8; 182]; 208])
-    requires { stage_of work.now ≡ Fixed }
+    requires { stage_of work.now ≡ StageFixed }
     ensures { rows.new ≡ block_of work.now }
 {
     for i in 0..208usize {
@@ -125,7 +132,7 @@ fn put_block(work: &Work, rows: &mut [[u8; 182]; 208])
 
 // Writes one of them.
 fn put_row(work: &Work, i: usize, row: &mut [u8; 182])
-    requires stage { stage_of work.now ≡ Fixed }
+    requires stage { stage_of work.now ≡ StageFixed }
     requires row { i < 208 }
     ensures { row.new ≡ line (block_of work.now) i }
 {

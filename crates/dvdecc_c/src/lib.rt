@@ -9,6 +9,7 @@ mod checks; // the codes that detect errors
 mod frames; // scrambling and data frames
 mod general; // words of any length
 mod lists; // many rows by one call
+mod reading; // captured blocks: their sectors, and what is salvaged
 mod sectors; // CD-ROM sectors
 mod status; // what the calls answer
 mod words; // rows and columns of a block

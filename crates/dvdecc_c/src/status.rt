@@ -6,7 +6,7 @@ pub const OK: u32 = 0;
 pub const UNCORRECTABLE: u32 = 1;
 /// There is no memory for the call.
 pub const NO_MEMORY: u32 = 2;
-/// No scrambling rule has this number.
+/// The call has no scrambling rule of this number.
 pub const BAD_RULE: u32 = 3;
 /// No CD-ROM sector has this address: it is 450,000 or more.
 pub const BAD_ADDRESS: u32 = 4;
@@ -32,3 +32,5 @@ pub const CD_MODE: u32 = 13;
 pub const CD_ADDRESS: u32 = 14;
 /// A CD-ROM sector has a wrong EDC.
 pub const CD_EDC: u32 = 15;
+/// No block of a disk begins with this ID word: the sector number of its last frame would have more than 24 bits.
+pub const BAD_ID: u32 = 16;

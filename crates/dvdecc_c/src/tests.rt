@@ -4,6 +4,7 @@ use crate::checks::{dvdecc_cd_edc, dvdecc_edc, dvdecc_ied};
 use crate::frames::{dvdecc_make_frame, dvdecc_read_frame, dvdecc_scramble};
 use crate::general::{dvdecc_rs_decode, dvdecc_rs_parity};
 use crate::lists::{Answer, dvdecc_rows_decode, dvdecc_rows_parity};
+use crate::reading::{dvdecc_read_block, dvdecc_salvage_block};
 use crate::sectors::{dvdecc_cd_check, dvdecc_cd_make, dvdecc_cd_repair};
 use crate::status;
 use crate::words::{
@@ -187,4 +188,28 @@ fn a_captured_block_is_decoded(rt: HostRuntime) {
     assert!(rt; rows == right);
     assert_eq!(rt; report.corrected, 10);
     assert_eq!(rt; report.failed_rows, 9);
+}
+
+#[test]
+fn a_block_of_zeros_has_wrong_edcs(rt: HostRuntime) {
+    let capture = [0; 42640];
+    let mut sectors = [[1; 2048]; 16];
+    let mut report = Report {
+        corrected: 9,
+        failed_rows: 9,
+        number: 9,
+    };
+    assert_eq!(rt;
+        dvdecc_read_block(rt.alloc(), &capture, 0, 0, &mut sectors, &mut report),
+        status::EDC
+    );
+    assert!(rt; sectors == [[1; 2048]; 16]);
+    assert_eq!(rt; report.number, 0);
+    let mut saved = 9;
+    assert_eq!(rt;
+        dvdecc_salvage_block(rt.alloc(), &capture, 0, 0, &mut sectors, &mut saved),
+        status::OK
+    );
+    assert!(rt; sectors == [[0; 2048]; 16]);
+    assert_eq!(rt; saved, 0);
 }

@@ -1,0 +1,149 @@
+//! Captured blocks (ECMA-267, 16 to 18): their sixteen sectors, and what is salvaged of them.
+ghost use Rattle.std.specs.Prelude.{◌≡◌, ◌≢◌, Ok, Err};
+ghost use Rattle.coding.specs.TwoPass.{answers_of};
+ghost use Rattle.dvd_capture.specs.Captured.{captured_marks, captured_rows};
+ghost use Rattle.dvd_capture.specs.Rule.{HasAnswers};
+ghost use Rattle.dvd_capture.specs.Works.{marks_of_work, rows_of, sectors_of, stage_of};
+ghost use Rattle.dvd_capture.specs.declared.form.Form.TheVariants.{Marked};
+ghost use Rattle.dvd_capture.specs.declared.stage.Stage.TheVariants.{Fetched};
+ghost use Rattle.dvd_decoding.specs.Reading.{block_cause, block_in};
+ghost use Rattle.dvd_decoding.specs.Frames.{main_data};
+ghost use Rattle.dvd_decoding.specs.Salvage.{block_out, saved_in};
+ghost use Rattle.dvd_layout.specs.Place.{HasNumbers};
+ghost use Rattle.dvdecc_c.specs.Blocks.{block_or, block_status, report_of};
+ghost use Rattle.dvdecc_c.specs.Reading.{asked_block, asked_status, HasAsked, read_report, read_sectors, read_status, salvaged_count, salvaged_sectors};
+
+use crate::blocks::{Report, receive, report_cause, report_found};
+use crate::status;
+use dvd_capture::Work;
+use dvd_frame::Id;
+use dvd_layout::{BlockPlan, Content};
+use dvd_read::{read_block, salvage, two_pass};
+use std::alloc::Global;
+
+/// The most that the first sector number of a block may be: its sixteen have 24 bits.
+const LAST_FIRST: u32 = (1 << 24) - 16;
+
+/// Decodes a captured block, checks its sixteen data frames, and writes its sectors. `id` names the first frame.
+#[unsafe(no_mangle)]
+pub extern "C" fn dvdecc_read_block(
+    alloc: Global,
+    capture: &[u8; 42640],
+    id: u32,
+    rule: u32,
+    sectors: &mut [[u8; 2048]; 16],
+    report: &mut Report,
+) -> u32
+    ensures status { result ≢ 2 → result ≡ read_status (asked_block id rule) (captured_rows Marked capture.now) (captured_marks Marked capture.now) }
+    ensures sectors { result ≢ 2 → sectors.new ≡ read_sectors (asked_block id rule) (captured_rows Marked capture.now) (captured_marks Marked capture.now) sectors.old }
+    ensures report { result ≢ 2 → report.new ≡ read_report (asked_block id rule) (captured_rows Marked capture.now) (captured_marks Marked capture.now) report.old }
+    ensures same_sectors { result ≡ 2 → sectors.new ≡ sectors.old }
+    ensures same_report { result ≡ 2 → report.new ≡ report.old }
+{
+    let plan = match plan_of(id, rule) {
+        Ok(plan) => plan,
+        Err(status) => return status,
+    };
+    let Ok(mut work) = Work::new(alloc) else {
+        return status::NO_MEMORY;
+    };
+    receive(capture, &mut work);
+    read_received(&mut work, &plan, sectors, report)
+}
+
+/// Writes the sectors of a captured block whose data frames can be known to be right, and zeros for the others. `id` names
+/// the first frame.
+#[unsafe(no_mangle)]
+pub extern "C" fn dvdecc_salvage_block(
+    alloc: Global,
+    capture: &[u8; 42640],
+    id: u32,
+    rule: u32,
+    sectors: &mut [[u8; 2048]; 16],
+    saved: &mut u32,
+) -> u32
+    ensures status { result ≢ 2 → result ≡ asked_status (asked_block id rule) }
+    ensures sectors { result ≢ 2 → sectors.new ≡ salvaged_sectors (asked_block id rule) (captured_rows Marked capture.now) (captured_marks Marked capture.now) sectors.old }
+    ensures saved { result ≢ 2 → saved.new ≡ salvaged_count (asked_block id rule) (captured_rows Marked capture.now) (captured_marks Marked capture.now) saved.old }
+    ensures same_sectors { result ≡ 2 → sectors.new ≡ sectors.old }
+    ensures same_saved { result ≡ 2 → saved.new ≡ saved.old }
+{
+    let plan = match plan_of(id, rule) {
+        Ok(plan) => plan,
+        Err(status) => return status,
+    };
+    let Ok(mut work) = Work::new(alloc) else {
+        return status::NO_MEMORY;
+    };
+    receive(capture, &mut work);
+    *saved = salvage_received(&mut work, &plan, sectors);
+    status::OK
+}
+
+// The entry of a plan whose frames these are, or the status of what is wrong. Of its content only the rule counts.
+fn plan_of(id: u32, rule: u32) -> Result<BlockPlan, u32>
+    ensures asked { result ≡ asked_block id rule }
+    ensures numbers { HasAsked result }
+{
+    let content = match rule {
+        0 => Content::Zero,
+        2 => Content::Reference,
+        _ => return Err(status::BAD_RULE),
+    };
+    let id = Id::from_word(id);
+    if id.number() > LAST_FIRST {
+        return Err(status::BAD_ID);
+    }
+    Ok(BlockPlan {
+        first: id.number(),
+        area: id.area(),
+        layer: id.layer(),
+        content,
+    })
+}
+
+// Reads a block that was received.
+fn read_received(
+    work: &mut Work,
+    plan: &BlockPlan,
+    sectors: &mut [[u8; 2048]; 16],
+    report: &mut Report,
+) -> u32
+    requires stage { stage_of work.old ≡ Fetched }
+    requires numbers { HasNumbers plan.now }
+    ensures status { result ≡ block_status (block_cause (rows_of work.old) (marks_of_work work.old) plan.now) }
+    ensures sectors { sectors.new ≡ block_or (block_cause (rows_of work.old) (marks_of_work work.old) plan.now) (main_data (block_in (rows_of work.old) (marks_of_work work.old)) plan.now) sectors.old }
+    ensures report { report.new ≡ report_of (block_cause (rows_of work.old) (marks_of_work work.old) plan.now) (rows_of work.old) (answers_of (rows_of work.old) (marks_of_work work.old)) }
+{
+    match read_block(work, plan) {
+        Ok(fixed) => {
+            put_sectors(work, sectors);
+            *report = report_found(fixed);
+            status::OK
+        }
+        Err(cause) => report_cause(cause, report),
+    }
+}
+
+// Salvages a block that was received.
+fn salvage_received(work: &mut Work, plan: &BlockPlan, sectors: &mut [[u8; 2048]; 16]) -> u32
+    requires stage { stage_of work.old ≡ Fetched }
+    requires numbers { HasNumbers plan.now }
+    ensures sectors { sectors.new ≡ block_out (rows_of work.old) (marks_of_work work.old) plan.now }
+    ensures saved { result ≡ saved_in (rows_of work.old) (marks_of_work work.old) plan.now }
+{
+    // Where two passes refuse the block, the rows' answers are there all the same.
+    let _found = two_pass(work);
+    let saved = salvage(work, plan);
+    put_sectors(work, sectors);
+    u32::from(saved)
+}
+
+// Writes the sixteen sectors.
+fn put_sectors(work: &Work, sectors: &mut [[u8; 2048]; 16])
+    ensures { sectors.new ≡ sectors_of work.now }
+{
+    for f in 0..16usize {
+        sectors[f].copy_from_slice(work.sector(f));
+    }
+}
