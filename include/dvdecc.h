@@ -6,7 +6,7 @@
  *   - each pointer leads to as many bytes as its declaration says, and isn't NULL, also where a length is 0;
  *   - no two buffers of a call overlap where the call writes one of them;
  *   - no byte of a buffer changes during the call, other than by the call;
- *   - there are 64 KB of stack left, and malloc and free are those of one allocator;
+ *   - there are 96 KB of stack left, and malloc and free are those of one allocator;
  *   - the call doesn't come from a signal handler, nor from a forked child of a process with threads.
  *
  * Nothing else is asked of a caller: a number that is out of range has a status. There is nothing to set up, and no

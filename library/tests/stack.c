@@ -1,11 +1,11 @@
 /* Measures the stack that the calls take: a thread runs them on memory of a known pattern, and what is left of the pattern
- * shows how far they came. The header promises that 64 KB are enough. Prints 'N passed, M failed'. */
+ * shows how far they came. The header promises that 96 KB are enough. Prints 'N passed, M failed'. */
 #include <dvdecc.h>
 #include <pthread.h>
 #include <stdio.h>
 #include <string.h>
 
-enum { SIZE = 1 << 18, PROMISED = 1 << 16, PATTERN = 0xA5 };
+enum { SIZE = 1 << 18, PROMISED = 96 << 10, PATTERN = 0xA5 };
 static uint8_t stack[SIZE] __attribute__((aligned(4096)));
 static uint8_t capture[42640], block[208][182], sectors[16][2048];
 static uint8_t frame[2064], main_data[2048], sector[2352], word[255], lost[255];
