@@ -6,7 +6,7 @@ ghost use Rattle.coding.specs.Recording.{recording};
 
 use crate::buffers::{Cells, Lines};
 use crate::order::row_of_record;
-use crate::parity::{columns_are_codewords, fill_parity, place_cells, rows_are_codewords};
+use crate::parity::{fill_parity, is_product, place_cells};
 use dvd_ports::{NoMemory, Sink, WriteFault, write_whole};
 use std::alloc::Global;
 
@@ -77,7 +77,7 @@ impl Block {
     pub fn is_product(&self) -> bool
         ensures { IsTrue result ↔ IsProduct (block_rows self.now) }
     {
-        rows_are_codewords(self.lines.rows()) && columns_are_codewords(self.lines.rows())
+        is_product(self.lines.rows())
     }
 
     /// Writes the sixteen recording frames in order, 37,856 bytes. After a fault a prefix of them was taken.

@@ -3,7 +3,7 @@
 ghost use Rattle.std.specs.Prelude.{◌≡◌, ℕ, ◌<◌, ◌≤◌, ◌++◌, length, take, slice_index, EachIndex, All, ◌↔◌, IsTrue};
 ghost use Rattle.coding.specs.Words.{IsCodeword, IsEncoded};
 ghost use Rattle.dvd_block.specs.Buffers.{lines_rows};
-ghost use Rattle.coding.specs.Product.{line, place, column, IsParityAdded};
+ghost use Rattle.coding.specs.Product.{line, place, column, IsParityAdded, IsProduct};
 
 use crate::buffers::Lines;
 use rs_code::{Pi, Po};
@@ -28,9 +28,11 @@ pub fn column_parity(code: &Po, lines: &Lines, j: usize, cell: &mut [u8; 16])
     cell.copy_from_slice(&word[192..]);
 }
 
-// Sets the inner parity of the upper 192 of 208 rows, and then the outer parity of all their columns, those of inner parity
-// too. The rows of outer parity are then codewords, since the code is linear.
-pub(crate) fn fill_parity(rows: &mut [[u8; 182]])
+/// Sets the parity of the 208 rows of a block: the last ten bytes of each, and the last sixteen rows. The first 172 bytes of
+/// the others stay.
+// The inner parity of the upper 192 rows comes first, and then the outer parity of all columns, those of inner parity too.
+// The rows of outer parity are then codewords, since the code is linear.
+pub fn fill_parity(rows: &mut [[u8; 182]])
     requires { length rows.old ≡ 208 }
     ensures size { length rows.new ≡ 208 }
     ensures added { IsParityAdded rows.old rows.new }
@@ -51,8 +53,16 @@ fn set_inner_parity(rows: &mut [[u8; 182]])
     }
 }
 
+/// Whether each of the 208 rows of a block and each of its columns is a codeword.
+pub fn is_product(rows: &[[u8; 182]]) -> bool
+    requires { length rows.now ≡ 208 }
+    ensures { IsTrue result ↔ IsProduct rows.now }
+{
+    rows_are_codewords(rows) && columns_are_codewords(rows)
+}
+
 // Whether each row is a codeword.
-pub(crate) fn rows_are_codewords(rows: &[[u8; 182]]) -> bool
+fn rows_are_codewords(rows: &[[u8; 182]]) -> bool
     ensures { IsTrue result ↔ All (IsCodeword 182 10) rows.now }
 {
     let code = Pi::new();
@@ -65,7 +75,7 @@ pub(crate) fn rows_are_codewords(rows: &[[u8; 182]]) -> bool
 }
 
 // Whether each column is a codeword.
-pub(crate) fn columns_are_codewords(rows: &[[u8; 182]]) -> bool
+fn columns_are_codewords(rows: &[[u8; 182]]) -> bool
     requires { length rows.now ≡ 208 }
     ensures { IsTrue result ↔ ((j : ℕ) → j < 182 → IsCodeword 208 16 (column rows.now j)) }
 {

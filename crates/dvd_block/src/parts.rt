@@ -1,4 +1,5 @@
 //! The buffers of a block, and the parity of one row and of one column, for whoever works on several rows or columns
-//! of a block at once: the buffers are lent one by one.
+//! of a block at once: the buffers are lent one by one. The parity and the test of a whole block are for rows that lie in
+//! other buffers.
 pub use crate::buffers::{Cells, Lines};
-pub use crate::parity::{column_parity, row_parity};
+pub use crate::parity::{column_parity, fill_parity, is_product, row_parity};
