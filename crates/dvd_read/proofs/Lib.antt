@@ -14,3 +14,4 @@ pub mod BlockRead
 pub mod Mastered
 pub mod SavedFrames
 pub mod SavedLaws
+pub mod HeldAnswers

@@ -1,5 +1,6 @@
 //! What is saved of a block whose rows are answered: each data frame that can be known to be right.
 ghost use Rattle.std.specs.Prelude.{◌≡◌, ◌<◌, ◌↔◌, IsTrue, true, length, map, not, replicate, Some, is_some, unwrap_or};
+ghost use Rattle.coding.specs.TwoPass.{answers_of};
 ghost use Rattle.dvd_capture.specs.Rule.{HasAnswers};
 ghost use Rattle.dvd_capture.specs.Parts.{sector_bytes};
 ghost use Rattle.dvd_capture.specs.Works.{marks_of_work, rows_of, sectors_of, stage_of};
@@ -39,6 +40,20 @@ pub fn salvage(work: &mut Work, plan: &BlockPlan) -> u8
         plan,
         &mut work.sectors,
     )
+}
+
+/// Writes the unscrambled Main Data of one data frame if it can be known to be right, as `salvage` does for all sixteen, or
+/// else zeros. Answers whether the frame is saved.
+pub fn salvage_frame(work: &Work, plan: &BlockPlan, f: usize, main: &mut [u8; 2048]) -> bool
+    requires stage { HasAnswers (stage_of work.now) }
+    requires numbers { HasNumbers plan.now }
+    requires frame { f < 16 }
+    ensures main { main.new ≡ unwrap_or (rescued (answers_of (rows_of work.now) (marks_of_work work.now)) plan.now f) (replicate 2048 0) }
+    ensures saved { result ≡ is_some (rescued (answers_of (rows_of work.now) (marks_of_work work.now)) plan.now f) }
+{
+    let columns = work.columns.all();
+    let answers = work.answers.rows();
+    save_frame(is_fixed(work), columns, answers, plan, f, main)
 }
 
 // Whether the columns hold the block that two passes fixed.
