@@ -36,7 +36,7 @@ extern "C" {
 enum dvdecc_status {
     DVDECC_OK = 0,
     DVDECC_UNCORRECTABLE = 1, /* no codeword is near the word */
-    DVDECC_NO_MEMORY = 2,     /* malloc gave none, at any time; all buffers are as they were */
+    DVDECC_NO_MEMORY = 2,     /* malloc gave none, at any time but where a number is out of range; all is as it was */
     DVDECC_BAD_RULE = 3,      /* the call has no scrambling rule of this number */
     DVDECC_BAD_ADDRESS = 4,   /* the address of a CD-ROM sector is 450,000 or more */
     DVDECC_BAD_LENGTH = 5,    /* the lengths of the lists don't fit */
@@ -138,6 +138,9 @@ uint32_t dvdecc_rs_decode(uint8_t *word, size_t word_count, const uint8_t *lost,
  * stay: row 12 f + q has the bytes from 172 q on of data frame f. It takes no memory. */
 void dvdecc_block_parity(uint8_t rows[208][182]);
 
+/* Whether the block is a codeword of the product code: each of its rows and each of its columns is a codeword. */
+bool dvdecc_block_is_codeword(const uint8_t rows[208][182]);
+
 /* Decodes a captured block by two passes: rows first, then columns with the failed rows as erasures, then the test that
  * each row is a codeword.
  *
@@ -169,11 +172,11 @@ uint32_t dvdecc_read_block(const uint8_t capture[42640], uint32_t id, uint32_t r
  * where its IED, its place and its EDC are right in its twelve rows. These are those of the block that two passes
  * determine. Where they determine none, they are the codewords near the twelve rows, and each row has to have one.
  *
- * The sector of a salvaged frame is its Main Data, unscrambled, and that of any other is 2,048 zeros. `saved` is how
- * many of the sixteen are salvaged; after DVDECC_OK it may be 0. `id`, `rule`, DVDECC_BAD_RULE, DVDECC_BAD_ID and the
- * memory are as for dvdecc_read_block. */
+ * The sector of a salvaged frame is its Main Data, unscrambled, and that of any other is 2,048 zeros. saved[f] is 1 where
+ * frame f is salvaged, and 0 where it isn't. DVDECC_OK comes also where none is. `id`, `rule`, DVDECC_BAD_RULE,
+ * DVDECC_BAD_ID and the memory are as for dvdecc_read_block. */
 uint32_t dvdecc_salvage_block(const uint8_t capture[42640], uint32_t id, uint32_t rule, uint8_t sectors[16][2048],
-                              uint32_t *saved);
+                              uint8_t saved[16]);
 
 /* ---- data frames ---- */
 

@@ -80,10 +80,10 @@ class Sectors(NamedTuple):
 
 
 class Salvaged(NamedTuple):
-    """What was salvaged of a block: its sixteen sectors, zeros where one wasn't, and how many were."""
+    """What was salvaged of a block: its sixteen sectors, zeros where one wasn't, and whether each of them was."""
 
     sectors: list[bytes]
-    saved: int
+    saved: list[bool]
 
 
 class _Correction(ctypes.Structure):
@@ -122,6 +122,7 @@ _rows_decode = _call("dvdecc_rows_decode", _U, _P, _N, _P, _N, _P, _N)
 _rs_parity = _call("dvdecc_rs_parity", _U, _P, _N, _U)
 _rs_decode = _call("dvdecc_rs_decode", _U, _P, _N, _P, _N, _U, _P)
 _block_parity = _call("dvdecc_block_parity", None, _P)
+_block_is_codeword = _call("dvdecc_block_is_codeword", ctypes.c_bool, _P)
 _two_pass = _call("dvdecc_two_pass", _U, _P, _P, _P)
 _read_block = _call("dvdecc_read_block", _U, _P, _U, _U, _P, _P)
 _salvage_block = _call("dvdecc_salvage_block", _U, _P, _U, _U, _P, _P)
@@ -268,6 +269,11 @@ def block_parity(rows: bytes) -> bytes:
     return bytes(out)
 
 
+def block_is_codeword(rows: bytes) -> bool:
+    """Whether each of the 208 rows of a block, one after the other, and each of its columns is a codeword."""
+    return _block_is_codeword(_buffer(rows, ROWS * ROW, "a block"))
+
+
 def two_pass(capture: bytes) -> Block:
     """The block that two passes find in a captured block of the marked form, 42,640 bytes in the order of recording."""
     out, report = _buffer(bytes(ROWS * ROW), ROWS * ROW, ""), _Report()
@@ -298,10 +304,10 @@ def read_block(capture: bytes, identification: int, rule: int = Rule.WHOLE) -> S
 
 def salvage_block(capture: bytes, identification: int, rule: int = Rule.WHOLE) -> Salvaged:
     """The sectors of a captured block that are known to be right, also of one that `read_block` refuses."""
-    out, saved = _buffer(bytes(16 * 2048), 16 * 2048, ""), _U()
+    out, saved = _buffer(bytes(16 * 2048), 16 * 2048, ""), _buffer(bytes(16), 16, "")
     given = _buffer(capture, 42640, "a captured block"), _number(identification), _number(rule)
-    _accept(_salvage_block(*given, out, ctypes.byref(saved)))
-    return Salvaged(_in_sectors(out), saved.value)
+    _accept(_salvage_block(*given, out, saved))
+    return Salvaged(_in_sectors(out), [byte == 1 for byte in saved])
 
 
 def scramble(identification: int, main_data: bytes, rule: int = Rule.WHOLE) -> bytes:

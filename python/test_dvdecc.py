@@ -86,6 +86,8 @@ class Calls(unittest.TestCase):
         block = vectors.block()
         rows = dvdecc.block_parity(b"".join(bytes(row) for row in block))
         self.assertEqual(list(rows), sum(block, []))
+        self.assertTrue(dvdecc.block_is_codeword(rows))
+        self.assertFalse(dvdecc.block_is_codeword(rows[:-1] + bytes([rows[-1] ^ 1])))
         capture = recorded(rows)
         for m in range(16):
             capture[205 * m + 182 : 205 * m + 205] = bytes([255] * 23)
@@ -98,13 +100,13 @@ class Calls(unittest.TestCase):
         frames = [bytes(vectors.frame(0x30000 + f, [0] * 6, list(sent[f]))) for f in range(16)]
         capture = framed(frames)
         self.assertEqual(dvdecc.read_block(capture, 0x30000), (sent, 0, 0))
-        self.assertEqual(dvdecc.salvage_block(capture, 0x30000), (sent, 16))
+        self.assertEqual(dvdecc.salvage_block(capture, 0x30000), (sent, [True] * 16))
         self.assertEqual(self.refused(Status.ID, dvdecc.read_block, capture, 0x30010), 0)
-        self.assertEqual(dvdecc.salvage_block(capture, 0x30010), ([bytes(2048)] * 16, 0))
+        self.assertEqual(dvdecc.salvage_block(capture, 0x30010), ([bytes(2048)] * 16, [False] * 16))
         for m in [*range(12), *range(13, 18)]:
             capture[205 * m + 182 : 205 * m + 205] = bytes([255] * 23)
         self.assertEqual(self.refused(Status.ROWS, dvdecc.read_block, capture, 0x30000), 17)
-        self.assertEqual(dvdecc.salvage_block(capture, 0x30000), ([bytes(2048)] * 2 + sent[2:], 14))
+        self.assertEqual(dvdecc.salvage_block(capture, 0x30000), ([bytes(2048)] * 2 + sent[2:], [False] * 2 + [True] * 14))
         frames[5] = frames[5][:2063] + bytes([frames[5][2063] ^ 1])
         self.assertEqual(self.refused(Status.EDC, dvdecc.read_block, framed(frames), 0x30000), 5)
         rules = [Rule.FIRST_160] + [Rule.OFF] * 15

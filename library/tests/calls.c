@@ -165,6 +165,36 @@ static void record(void) {
     }
 }
 
+/* The block is a codeword, and isn't where rows alone or columns alone are. */
+static void whole_blocks(void) {
+    const uint8_t(*rows)[182] = (const uint8_t(*)[182])block;
+    uint8_t column[208], kept[182], last = block[207][181];
+    holds(dvdecc_block_is_codeword(rows), "a block with its parity is a codeword");
+    block[207][181] ^= 1;
+    holds(!dvdecc_block_is_codeword(rows), "one with a wrong last byte is none");
+    block[207][181] = last;
+    memcpy(kept, block[40], 182);
+    block[40][9] ^= 1;
+    dvdecc_row_parity(block[40]);
+    holds(!dvdecc_block_is_codeword(rows), "nor is one of which only the rows are codewords");
+    memcpy(block[40], kept, 182);
+    for (unsigned i = 0; i < 208; i++) {
+        column[i] = block[i][9];
+    }
+    column[40] ^= 1;
+    dvdecc_column_parity(column);
+    for (unsigned i = 0; i < 208; i++) {
+        uint8_t byte = block[i][9];
+        block[i][9] = column[i];
+        column[i] = byte;
+    }
+    holds(!dvdecc_block_is_codeword(rows), "nor is one of which only the columns are");
+    for (unsigned i = 0; i < 208; i++) {
+        block[i][9] = column[i];
+    }
+    holds(dvdecc_block_is_codeword(rows), "and the block as it was is one");
+}
+
 static void blocks(void) {
     struct dvdecc_report report = {1, 2, 3};
     for (unsigned i = 0; i < 208; i++) {
@@ -172,6 +202,7 @@ static void blocks(void) {
     }
     dvdecc_block_parity(block);
     holds(digest(block[0], sizeof block) == block_digest, "the parity of a block");
+    whole_blocks();
     record();
     for (unsigned m = 0; m < 16; m++) {
         memset(capture + 205 * 13 * m, 0xA5, 182);
@@ -258,15 +289,16 @@ static bool refuses(uint32_t id, uint32_t rule, uint32_t status, uint32_t number
 
 /* Whether all frames are salvaged but those of a set, of which the sectors are zeros. */
 static bool salvages_but(uint32_t without, uint32_t id, uint32_t rule) {
-    uint32_t saved = 99, right = 0;
+    uint8_t saved[16];
     memset(got, 0x77, sizeof got);
-    bool is = dvdecc_salvage_block(capture, id, rule, got, &saved) == DVDECC_OK;
+    memset(saved, 0x77, sizeof saved);
+    bool is = dvdecc_salvage_block(capture, id, rule, got, saved) == DVDECC_OK;
     for (unsigned f = 0; f < 16; f++) {
-        bool is_zeros = (without >> f & 1) != 0;
-        is = is && (is_zeros ? is_filled(got[f], 2048, 0) : memcmp(got[f], sent[f], 2048) == 0);
-        right += !is_zeros;
+        bool is_lost = (without >> f & 1) != 0;
+        is = is && saved[f] == !is_lost;
+        is = is && (is_lost ? is_filled(got[f], 2048, 0) : memcmp(got[f], sent[f], 2048) == 0);
     }
-    return is && saved == right;
+    return is;
 }
 
 static void right_frames(void) {
@@ -293,6 +325,19 @@ static void right_frames(void) {
     holds(salvages_but(0xFFFF, 0x02F000, DVDECC_WHOLE), "and none is salvaged as such");
     record_frames(0xFFFFF0, DVDECC_WHOLE);
     holds(reads(0xFFFFF0, DVDECC_WHOLE) && salvages_but(0, 0xFFFFF0, DVDECC_WHOLE), "the last block of 24 bits");
+}
+
+/* A sector of zeros is told from one that is lost. */
+static void frames_of_zeros(void) {
+    record_frames(0x030000, DVDECC_WHOLE);
+    memset(sent[3], 0, 2048);
+    memset(sent[4], 0, 2048);
+    replace(3, 0x030003, NONE);
+    replace(4, 0x030004, 2063);
+    holds(salvages_but(1 << 4, 0x030000, DVDECC_WHOLE), "a frame of zeros is salvaged, and another is lost");
+    lose(0, 12);
+    lose(13, 18);
+    holds(salvages_but(3 | 1 << 4, 0x030000, DVDECC_WHOLE), "also where two passes refuse the block");
 }
 
 static void wrong_frames(void) {
@@ -343,10 +388,11 @@ static void lost_frames(void) {
 
 /* Whether both calls refuse numbers, and all is as it was. */
 static bool both_refuse(uint32_t id, uint32_t rule, uint32_t status) {
-    uint32_t saved = 99;
+    uint8_t saved[16];
+    memset(saved, 99, sizeof saved);
     bool is_refused = refuses(id, rule, status, 79) && fixed.corrected == 77 && fixed.failed_rows == 78;
-    is_refused = is_refused && dvdecc_salvage_block(capture, id, rule, got, &saved) == status;
-    return is_refused && saved == 99 && is_filled(got[0], sizeof got, 0x77);
+    is_refused = is_refused && dvdecc_salvage_block(capture, id, rule, got, saved) == status;
+    return is_refused && is_filled(saved, sizeof saved, 99) && is_filled(got[0], sizeof got, 0x77);
 }
 
 static void block_numbers(void) {
@@ -411,6 +457,7 @@ int main(void) {
     any_lengths();
     blocks();
     right_frames();
+    frames_of_zeros();
     wrong_frames();
     lost_frames();
     block_numbers();

@@ -26,7 +26,7 @@ static uint8_t capture[42640], block[208][182];
 static struct {
     uint8_t rows[208][182], sectors[16][2048];
     struct dvdecc_report report;
-    uint32_t saved;
+    uint8_t saved[16];
 } out, before;
 
 /* The capture of a block of sixteen frames whose Main Data are zeros. */
@@ -52,7 +52,7 @@ static uint32_t read_block(void) {
 }
 
 static uint32_t salvage_block(void) {
-    return dvdecc_salvage_block(capture, 0x30000, DVDECC_WHOLE, out.sectors, &out.saved);
+    return dvdecc_salvage_block(capture, 0x30000, DVDECC_WHOLE, out.sectors, out.saved);
 }
 
 static bool has_rows(void) {
@@ -64,7 +64,7 @@ static bool has_sectors(void) {
 }
 
 static bool has_saved(void) {
-    return out.sectors[0][0] == 0 && out.sectors[15][2047] == 0 && out.saved == 16;
+    return out.sectors[0][0] == 0 && out.sectors[15][2047] == 0 && out.saved[0] == 1 && out.saved[15] == 1;
 }
 
 static int passed, failed;

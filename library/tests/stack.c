@@ -14,12 +14,14 @@ static void *calls(void *argument) {
     struct dvdecc_report report;
     struct dvdecc_correction correction;
     uint32_t number;
+    uint8_t saved[16];
     const uint8_t cpr[6] = {0};
     for (unsigned i = 0; i < 192; i++) {
         dvdecc_make_frame(0x30000 + i / 12, cpr, DVDECC_WHOLE, main_data, frame);
         memcpy(block[i], frame + 172 * (i % 12), 172);
     }
     dvdecc_block_parity(block);
+    dvdecc_block_is_codeword((const uint8_t(*)[182])block);
     for (unsigned m = 0; m < 208; m++) {
         memcpy(capture + 205 * m, block[(m + 1) % 13 == 0 ? 191 + (m + 1) / 13 : m - m / 13], 182);
         for (unsigned e = 0; e < m % 6; e++) {
@@ -29,11 +31,11 @@ static void *calls(void *argument) {
     memset(capture + 205 * 40 + 182, 0xFF, 23);
     dvdecc_two_pass(capture, block, &report);
     dvdecc_read_block(capture, 0x30000, DVDECC_WHOLE, sectors, &report);
-    dvdecc_salvage_block(capture, 0x30000, DVDECC_WHOLE, sectors, &number);
+    dvdecc_salvage_block(capture, 0x30000, DVDECC_WHOLE, sectors, saved);
     for (unsigned m = 0; m < 17; m++) {
         memset(capture + 205 * m + 182, 0xFF, 23);
     }
-    dvdecc_salvage_block(capture, 0x30000, DVDECC_WHOLE, sectors, &number);
+    dvdecc_salvage_block(capture, 0x30000, DVDECC_WHOLE, sectors, saved);
     dvdecc_make_frame(0x30000, cpr, DVDECC_WHOLE, main_data, frame);
     dvdecc_read_frame(frame, 0x30000, DVDECC_WHOLE, main_data, &number);
     dvdecc_cd_make(1, main_data, sector);

@@ -27,14 +27,14 @@ static void record(struct own *own, unsigned place) {
 
 static int is_right(struct own *own) {
     struct dvdecc_report report, other;
-    uint32_t saved;
+    uint8_t saved[16];
     int is = dvdecc_two_pass(own->capture, own->found, &report) == DVDECC_OK && report.corrected == 208;
     is = is && memcmp(own->found, own->block, sizeof own->block) == 0;
     is = is && dvdecc_read_block(own->capture, 0x30000, DVDECC_WHOLE, own->read, &other) == DVDECC_OK;
     is = is && other.corrected == 208 && memcmp(own->read, own->sectors, sizeof own->sectors) == 0;
     memset(own->read, 0, sizeof own->read);
-    is = is && dvdecc_salvage_block(own->capture, 0x30000, DVDECC_WHOLE, own->read, &saved) == DVDECC_OK;
-    return is && saved == 16 && memcmp(own->read, own->sectors, sizeof own->sectors) == 0;
+    is = is && dvdecc_salvage_block(own->capture, 0x30000, DVDECC_WHOLE, own->read, saved) == DVDECC_OK;
+    return is && memchr(saved, 0, sizeof saved) == NULL && memcmp(own->read, own->sectors, sizeof own->sectors) == 0;
 }
 
 static void *work(void *argument) {

@@ -37,6 +37,7 @@ pub mod ffi {
             correction: *mut Correction,
         ) -> u32;
         pub fn dvdecc_block_parity(rows: *mut [[u8; 182]; 208]);
+        pub fn dvdecc_block_is_codeword(rows: *const [[u8; 182]; 208]) -> bool;
         pub fn dvdecc_two_pass(capture: *const [u8; 42640], rows: *mut [[u8; 182]; 208], report: *mut Report) -> u32;
         pub fn dvdecc_read_block(
             capture: *const [u8; 42640],
@@ -50,7 +51,7 @@ pub mod ffi {
             id: u32,
             rule: u32,
             sectors: *mut [[u8; 2048]; 16],
-            saved: *mut u32,
+            saved: *mut [u8; 16],
         ) -> u32;
         pub fn dvdecc_scramble(id: u32, rule: u32, main_data: *mut [u8; 2048]) -> u32;
         pub fn dvdecc_make_frame(
@@ -218,6 +219,11 @@ pub fn block_parity(rows: &mut [[u8; 182]; 208]) {
     unsafe { ffi::dvdecc_block_parity(rows) }
 }
 
+/// Whether each row and each column of a block is a codeword.
+pub fn block_is_codeword(rows: &[[u8; 182]; 208]) -> bool {
+    unsafe { ffi::dvdecc_block_is_codeword(rows) }
+}
+
 /// Decodes a captured block of the marked form, and writes its rows in the order of the block.
 pub fn two_pass(capture: &[u8; 42640], rows: &mut [[u8; 182]; 208]) -> Result<Report, Refusal> {
     let mut report = Report::default();
@@ -239,16 +245,16 @@ pub fn read_block(
 }
 
 /// Writes the sectors of a captured block that are known to be right, also of one that `read_block` refuses, and zeros
-/// for the others. Answers how many are right.
+/// for the others. Answers which are right.
 pub fn salvage_block(
     capture: &[u8; 42640],
     id: u32,
     rule: Rule,
     sectors: &mut [[u8; 2048]; 16],
-) -> Result<u32, Refusal> {
-    let mut saved = 0;
+) -> Result<[bool; 16], Refusal> {
+    let mut saved = [0; 16];
     let status = unsafe { ffi::dvdecc_salvage_block(capture, id, rule as u32, sectors, &mut saved) };
-    accept(status, 0, saved)
+    accept(status, 0, saved.map(|byte| byte == 1))
 }
 
 /// Combines Main Data with the scrambling bytes of an ID word.

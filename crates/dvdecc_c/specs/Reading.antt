@@ -1,11 +1,12 @@
 -- What is answered to a captured block that is read as a block of a disk, and what is salvaged of it.
-use Rattle.std.specs.Prelude.{⊤, ℕ, ◌+◌, ◌/◌, ◌%◌, ◌^◌, nat_lt, ◌==◌, Bool, List, Result, Ok, Err, if◌then◌else◌}
+use Rattle.std.specs.Prelude.{⊤, ℕ, ◌+◌, ◌/◌, ◌%◌, ◌^◌, nat_lt, ◌==◌, Bool, List, Result, Ok, Err, if◌then◌else◌, is_some, map}
+use Rattle.std.specs.List.{range_with_len}
 use Rattle.std.specs.declared.option.Option.{Option}
 use Rattle.std.specs.declared.option.Option.TheVariants.{Some, None}
 use Rattle.coding.specs.TwoPass.{answers_of}
 use Rattle.dvd_decoding.specs.Frames.{main_data}
 use Rattle.dvd_decoding.specs.Reading.{block_cause, block_in}
-use Rattle.dvd_decoding.specs.Salvage.{block_out, saved_in}
+use Rattle.dvd_decoding.specs.Salvage.{block_out, rescued}
 use Rattle.dvd_frame.specs.declared.id.Area.{Area}
 use Rattle.dvd_frame.specs.declared.id.Area.TheVariants.{DataZone, LeadIn, LeadOut, Middle}
 use Rattle.dvd_layout.specs.Place.{HasNumbers}
@@ -72,7 +73,11 @@ abbrev pub salvaged_sectors : Result BlockPlan ℕ → List (List ℕ) → List 
 salvaged_sectors (Err status) rows marks before = before
 salvaged_sectors (Ok entry) rows marks before = block_out rows marks entry
 
--- how many they are
-abbrev pub salvaged_count : Result BlockPlan ℕ → List (List ℕ) → List (List Bool) → ℕ → ℕ
-salvaged_count (Err status) rows marks before = before
-salvaged_count (Ok entry) rows marks before = saved_in rows marks entry
+-- which of the sixteen frames are salvaged: 1 for each that is, 0 for any other
+unfoldable pub saved_frames : List (List ℕ) → List (List Bool) → BlockPlan → List ℕ
+saved_frames rows marks entry = map (λ f. if is_some (rescued (answers_of rows marks) entry f) then 1 else 0) (range_with_len 0 16)
+
+-- the same of the block that a caller asks for
+abbrev pub salvaged_frames : Result BlockPlan ℕ → List (List ℕ) → List (List Bool) → List ℕ → List ℕ
+salvaged_frames (Err status) rows marks before = before
+salvaged_frames (Ok entry) rows marks before = saved_frames rows marks entry

@@ -1,8 +1,7 @@
 //! Whole blocks (ECMA-267, 18): their parity, and two passes over a captured one.
-ghost use Rattle.std.specs.Prelude.{◌≡◌, ◌≢◌, ℕ, ◌<◌, length, take};
-ghost use Rattle.coding.specs.Product.{IsParityAdded, line};
+ghost use Rattle.std.specs.Prelude.{◌≡◌, ◌≢◌, ◌↔◌, ◌<◌, IsTrue};
+ghost use Rattle.coding.specs.Product.{IsParityAdded, IsProduct, line};
 ghost use Rattle.coding.specs.TwoPass.{answers_of};
-ghost use Rattle.coding.specs.Words.{IsEncoded};
 ghost use Rattle.dvd_capture.specs.Captured.{captured_marks, captured_rows};
 ghost use Rattle.dvd_capture.specs.Works.{block_of, marks_of_work, rows_of, stage_of};
 ghost use Rattle.dvd_capture.specs.declared.form.Form.TheVariants.{Marked};
@@ -11,11 +10,11 @@ ghost use Rattle.dvd_decoding.specs.Causes.{two_pass_cause};
 ghost use Rattle.dvdecc_c.specs.Blocks.{block_status, captured_answers, cause_number, cause_status, with_block, with_report};
 
 use crate::status;
+use dvd_block::parts::{fill_parity, is_product};
 use dvd_capture::{Form, Work, fetch};
 use dvd_decoding::Cause;
 use dvd_ports::SliceSource;
 use dvd_read::{Fixed, two_pass};
-use rs_lanes::{inner_parity, outer_parity};
 use std::alloc::Global;
 
 /// What two passes over a captured block came to.
@@ -35,9 +34,15 @@ pub struct Report {
 pub extern "C" fn dvdecc_block_parity(rows: &mut [[u8; 182]; 208])
     ensures { IsParityAdded rows.old rows.new }
 {
-    let (upper, lower) = rows.split_at_mut(192);
-    set_inner_parity(upper);
-    outer_parity(upper, lower);
+    fill_parity(rows);
+}
+
+/// Whether each row and each column of a block is a codeword.
+#[unsafe(no_mangle)]
+pub extern "C" fn dvdecc_block_is_codeword(rows: &[[u8; 182]; 208]) -> bool
+    ensures { IsTrue result ↔ IsProduct rows.now }
+{
+    is_product(rows)
 }
 
 /// Decodes a captured block by two passes, and writes its rows in the order of the block.
@@ -138,16 +143,5 @@ fn put_row(work: &Work, i: usize, row: &mut [u8; 182])
 {
     for j in 0..182usize {
         row[j] = work.block_byte(i, j);
-    }
-}
-
-// Sets the inner parity of 192 rows, of 32 at once.
-fn set_inner_parity(rows: &mut [[u8; 182]])
-    requires { length rows.old ≡ 192 }
-    ensures size { length rows.new ≡ 192 }
-    ensures encoded { (i : ℕ) → i < 192 → IsEncoded 182 10 (take 172 (line rows.old i)) (line rows.new i) }
-{
-    for group in 0..6 {
-        inner_parity(rows, 32 * group);
     }
 }

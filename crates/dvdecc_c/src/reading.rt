@@ -8,17 +8,18 @@ ghost use Rattle.dvd_capture.specs.declared.form.Form.TheVariants.{Marked};
 ghost use Rattle.dvd_capture.specs.declared.stage.Stage.TheVariants.{Fetched};
 ghost use Rattle.dvd_decoding.specs.Reading.{block_cause, block_in};
 ghost use Rattle.dvd_decoding.specs.Frames.{main_data};
-ghost use Rattle.dvd_decoding.specs.Salvage.{block_out, saved_in};
+ghost use Rattle.dvd_decoding.specs.Salvage.{block_out};
 ghost use Rattle.dvd_layout.specs.Place.{HasNumbers};
 ghost use Rattle.dvdecc_c.specs.Blocks.{block_or, block_status, report_of};
-ghost use Rattle.dvdecc_c.specs.Reading.{asked_block, asked_status, HasAsked, read_report, read_sectors, read_status, salvaged_count, salvaged_sectors};
+ghost use Rattle.dvdecc_c.specs.Reading.{asked_block, asked_status, HasAsked, read_report, read_sectors, read_status, salvaged_frames, salvaged_sectors, saved_frames};
 
 use crate::blocks::{Report, receive, report_cause, report_found};
 use crate::status;
 use dvd_capture::Work;
 use dvd_frame::Id;
 use dvd_layout::{BlockPlan, Content};
-use dvd_read::{read_block, salvage, two_pass};
+use dvd_read::parts::salvage_frame;
+use dvd_read::{read_block, two_pass};
 use std::alloc::Global;
 
 /// The most that the first sector number of a block may be: its sixteen have 24 bits.
@@ -39,6 +40,7 @@ pub extern "C" fn dvdecc_read_block(
     ensures report { result ≢ 2 → report.new ≡ read_report (asked_block id rule) (captured_rows Marked capture.now) (captured_marks Marked capture.now) report.old }
     ensures same_sectors { result ≡ 2 → sectors.new ≡ sectors.old }
     ensures same_report { result ≡ 2 → report.new ≡ report.old }
+    ensures asked { result ≡ 2 → asked_status (asked_block id rule) ≡ 0 }
 {
     let plan = match plan_of(id, rule) {
         Ok(plan) => plan,
@@ -52,7 +54,7 @@ pub extern "C" fn dvdecc_read_block(
 }
 
 /// Writes the sectors of a captured block whose data frames can be known to be right, and zeros for the others. `id` names
-/// the first frame.
+/// the first frame. A byte of `saved` is 1 where the frame is salvaged, else 0.
 #[unsafe(no_mangle)]
 pub extern "C" fn dvdecc_salvage_block(
     alloc: Global,
@@ -60,23 +62,24 @@ pub extern "C" fn dvdecc_salvage_block(
     id: u32,
     rule: u32,
     sectors: &mut [[u8; 2048]; 16],
-    saved: &mut u32,
+    saved: &mut [u8; 16],
 ) -> u32
     ensures status { result ≢ 2 → result ≡ asked_status (asked_block id rule) }
     ensures sectors { result ≢ 2 → sectors.new ≡ salvaged_sectors (asked_block id rule) (captured_rows Marked capture.now) (captured_marks Marked capture.now) sectors.old }
-    ensures saved { result ≢ 2 → saved.new ≡ salvaged_count (asked_block id rule) (captured_rows Marked capture.now) (captured_marks Marked capture.now) saved.old }
+    ensures saved { result ≢ 2 → saved.new ≡ salvaged_frames (asked_block id rule) (captured_rows Marked capture.now) (captured_marks Marked capture.now) saved.old }
     ensures same_sectors { result ≡ 2 → sectors.new ≡ sectors.old }
     ensures same_saved { result ≡ 2 → saved.new ≡ saved.old }
+    ensures asked { result ≡ 2 → asked_status (asked_block id rule) ≡ 0 }
 {
     let plan = match plan_of(id, rule) {
         Ok(plan) => plan,
-        Err(status) => return status,
+        Err(refused) => return refused,
     };
     let Ok(mut work) = Work::new(alloc) else {
         return status::NO_MEMORY;
     };
     receive(capture, &mut work);
-    *saved = salvage_received(&mut work, &plan, sectors);
+    salvage_received(&mut work, &plan, sectors, saved);
     status::OK
 }
 
@@ -126,17 +129,32 @@ fn read_received(
 }
 
 // Salvages a block that was received.
-fn salvage_received(work: &mut Work, plan: &BlockPlan, sectors: &mut [[u8; 2048]; 16]) -> u32
+fn salvage_received(
+    work: &mut Work,
+    plan: &BlockPlan,
+    sectors: &mut [[u8; 2048]; 16],
+    saved: &mut [u8; 16],
+)
     requires stage { stage_of work.old ≡ Fetched }
     requires numbers { HasNumbers plan.now }
     ensures sectors { sectors.new ≡ block_out (rows_of work.old) (marks_of_work work.old) plan.now }
-    ensures saved { result ≡ saved_in (rows_of work.old) (marks_of_work work.old) plan.now }
+    ensures saved { saved.new ≡ saved_frames (rows_of work.old) (marks_of_work work.old) plan.now }
 {
     // Where two passes refuse the block, the rows' answers are there all the same.
     let _found = two_pass(work);
-    let saved = salvage(work, plan);
-    put_sectors(work, sectors);
-    u32::from(saved)
+    salvage_each(work, plan, sectors, saved);
+}
+
+// Salvages each frame of a block whose rows are answered.
+fn salvage_each(work: &Work, plan: &BlockPlan, sectors: &mut [[u8; 2048]; 16], saved: &mut [u8; 16])
+    requires stage { HasAnswers (stage_of work.now) }
+    requires numbers { HasNumbers plan.now }
+    ensures sectors { sectors.new ≡ block_out (rows_of work.now) (marks_of_work work.now) plan.now }
+    ensures saved { saved.new ≡ saved_frames (rows_of work.now) (marks_of_work work.now) plan.now }
+{
+    for f in 0..16usize {
+        saved[f] = u8::from(salvage_frame(work, plan, f, &mut sectors[f]));
+    }
 }
 
 // Writes the sixteen sectors.

@@ -1,5 +1,5 @@
 //! Each call once. What is expected comes from outside the program, or is what was damaged before.
-use crate::blocks::{Report, dvdecc_block_parity, dvdecc_two_pass};
+use crate::blocks::{Report, dvdecc_block_is_codeword, dvdecc_block_parity, dvdecc_two_pass};
 use crate::checks::{dvdecc_cd_edc, dvdecc_edc, dvdecc_ied};
 use crate::frames::{dvdecc_make_frame, dvdecc_read_frame, dvdecc_scramble};
 use crate::general::{dvdecc_rs_decode, dvdecc_rs_parity};
@@ -161,6 +161,20 @@ fn a_cd_sector_is_repaired(rt: HostRuntime) {
     );
 }
 
+// A place of a block changed: its row is no codeword, nor is its column. A row of codewords of its own is in no column.
+#[test]
+fn a_block_is_a_codeword_with_its_parity(rt: HostRuntime) {
+    let mut rows = [[0x21; 182]; 208];
+    dvdecc_block_parity(&mut rows);
+    assert!(rt; dvdecc_block_is_codeword(&rows));
+    rows[207][181] ^= 1;
+    assert!(rt; !dvdecc_block_is_codeword(&rows));
+    rows[207][181] ^= 1;
+    rows[100][5] ^= 1;
+    dvdecc_row_parity(&mut rows[100]);
+    assert!(rt; !dvdecc_block_is_codeword(&rows));
+}
+
 // A block of zeros is a codeword, and each of its rows is one. Nine rows are lost and eight more bytes are wrong.
 #[test]
 fn a_captured_block_is_decoded(rt: HostRuntime) {
@@ -205,11 +219,11 @@ fn a_block_of_zeros_has_wrong_edcs(rt: HostRuntime) {
     );
     assert!(rt; sectors == [[1; 2048]; 16]);
     assert_eq!(rt; report.number, 0);
-    let mut saved = 9;
+    let mut saved = [9; 16];
     assert_eq!(rt;
         dvdecc_salvage_block(rt.alloc(), &capture, 0, 0, &mut sectors, &mut saved),
         status::OK
     );
     assert!(rt; sectors == [[0; 2048]; 16]);
-    assert_eq!(rt; saved, 0);
+    assert!(rt; saved == [0; 16]);
 }
