@@ -10,6 +10,7 @@ pub mod Fetching
 pub mod RecordedRows
 pub mod Headers
 pub mod ListedFields
+pub mod ListedPieces
 pub mod ListedTaken
 pub mod ListedUnit
 pub mod ListedWritten

@@ -22,6 +22,68 @@ field_at-behind a b offset k size =
     let second : get_or (a ++ b) (offset + 1) 0 ≡ get_or b (k + 1) 0 = ap (λ n. get_or (a ++ b) n 0) next ∙ get_or-append-add a b (k + 1) 0 in
     omega (arith, first, second)
 
+-- MORE BYTES behind bytes in which a field breaks a rule.
+module _ (a b : List ℕ) where
+  -- the rules of a field that stands wholly in the first bytes speak of these alone
+  count-kept : 37_858 ≤ length a → run_count (a ++ b) ≡ run_count a
+  count-kept within = field_at-append a b 37_856 within
+
+  start-kept : (i : ℕ) → 37_860 + 4 * i ≤ length a → start_of (a ++ b) i ≡ start_of a i
+  start-kept i within = field_at-append a b (37_858 + 4 * i) (omega arith)
+
+  end-kept : (i : ℕ) → 37_862 + 4 * i ≤ length a → end_of (a ++ b) i ≡ end_of a i
+  end-kept i within =
+      let start = start-kept i (omega arith) in
+      let long : length_of (a ++ b) i ≡ length_of a i = field_at-append a b (37_860 + 4 * i) (omega arith) in
+      omega (arith, start, long)
+
+  length-kept : (i : ℕ) → 37_862 + 4 * i ≤ length a → length_of (a ++ b) i ≡ length_of a i
+  length-kept i within = field_at-append a b (37_860 + 4 * i) (omega arith)
+
+  bad-more : (offset : ℕ) → HasBadField a offset → HasBadField (a ++ b) offset
+  bad-more offset (stands, inl (is, number)) =
+      let same = count-kept (omega (arith, stands, is)) in (omega (arith, stands, length-append a b), inl (is, omega (arith, number, same)))
+  bad-more offset (stands, inr (i, below, inl (is, inl high))) =
+      let count = count-kept (omega (arith, stands, is)) in let same = start-kept i (omega (arith, stands, is)) in
+      (omega (arith, stands, length-append a b), inr (i, omega (arith, below, count), inl (is, inl (omega (arith, high, same)))))
+  bad-more offset (stands, inr (i, below, inl (is, inr (some, touching)))) =
+      let count = count-kept (omega (arith, stands, is)) in let same = start-kept i (omega (arith, stands, is)) in
+      let before = end-kept (i - 1) (omega (arith, stands, is, some)) in
+      (omega (arith, stands, length-append a b), inr (i, omega (arith, below, count), inl (is, inr (some, omega (arith, touching, same, before)))))
+  bad-more offset (stands, inr (i, below, inr (is, inl none))) =
+      let count = count-kept (omega (arith, stands, is)) in let same = length-kept i (omega (arith, stands, is)) in
+      (omega (arith, stands, length-append a b), inr (i, omega (arith, below, count), inr (is, inl (omega (arith, none, same)))))
+  bad-more offset (stands, inr (i, below, inr (is, inr past))) =
+      let count = count-kept (omega (arith, stands, is)) in let same = end-kept i (omega (arith, stands, is)) in
+      (omega (arith, stands, length-append a b), inr (i, omega (arith, below, count), inr (is, inr (omega (arith, past, same)))))
+
+  bad-before : (offset : ℕ) → offset + 2 ≤ length a → HasBadField (a ++ b) offset → HasBadField a offset
+  bad-before offset stands (whole, inl (is, number)) =
+      let same = count-kept (omega (arith, stands, is)) in (stands, inl (is, omega (arith, number, same)))
+  bad-before offset stands (whole, inr (i, below, inl (is, inl high))) =
+      let count = count-kept (omega (arith, stands, is)) in let same = start-kept i (omega (arith, stands, is)) in
+      (stands, inr (i, omega (arith, below, count), inl (is, inl (omega (arith, high, same)))))
+  bad-before offset stands (whole, inr (i, below, inl (is, inr (some, touching)))) =
+      let count = count-kept (omega (arith, stands, is)) in let same = start-kept i (omega (arith, stands, is)) in
+      let before = end-kept (i - 1) (omega (arith, stands, is, some)) in
+      (stands, inr (i, omega (arith, below, count), inl (is, inr (some, omega (arith, touching, same, before)))))
+  bad-before offset stands (whole, inr (i, below, inr (is, inl none))) =
+      let count = count-kept (omega (arith, stands, is)) in let same = length-kept i (omega (arith, stands, is)) in
+      (stands, inr (i, omega (arith, below, count), inr (is, inl (omega (arith, none, same)))))
+  bad-before offset stands (whole, inr (i, below, inr (is, inr past))) =
+      let count = count-kept (omega (arith, stands, is)) in let same = end-kept i (omega (arith, stands, is)) in
+      (stands, inr (i, omega (arith, below, count), inr (is, inr (omega (arith, past, same)))))
+
+  -- so the first of them stays the first
+  pub broken-more : (at : ℕ) → IsBrokenAt a at → IsBrokenAt (a ++ b) at
+  broken-more at broken = record {
+    bad = bad-more at broken.bad;
+    first = λ offset bad. elim (leb_tells at offset) [
+      | inl later ↦ later.1
+      | inr earlier ↦ let e = earlier.1 in let stands = broken.bad.0 in broken.first offset (bad-before offset (omega (arith, e, stands)) bad)
+    ];
+  }
+
 -- before a unit's first field is whole nothing is broken
 pub early-unbroken : (bytes : List ℕ) → length bytes < 37_858 → IsUnbroken bytes
 early-unbroken bytes few offset (stands, inl (is, number)) = omega arith

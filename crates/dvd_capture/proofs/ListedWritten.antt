@@ -1,6 +1,7 @@
 -- The runs of marked places as they are written.
-use Rattle.std.proofs.Common.{◌≡◌, ◌≢◌, ◌⊎◌, ◌∙◌, ℕ, zero, suc, ◌+◌, ◌-◌, ◌*◌, ◌<◌, ◌≤◌, ◌==◌, ◌&&◌, ◌||◌, not, nat_le, nat_lt, Bool, true, false, List, [], ◌∷◌, ◌++◌, length, get_or, slice_index, All, Option, inl, inr, refl, sym, ap, subst, arith, length-append, append_assoc, append-nil}
+use Rattle.std.proofs.Common.{◌≡◌, ◌≢◌, ◌⊎◌, ◌∙◌, ℕ, zero, suc, ◌+◌, ◌-◌, ◌*◌, ◌<◌, ◌≤◌, ◌==◌, ◌&&◌, ◌||◌, not, nat_le, nat_lt, Bool, true, false, List, [], ◌∷◌, ◌++◌, length, get_or, slice_index, All, Option, inl, inr, refl, sym, ap, subst, arith, length-append, append_assoc, append-nil, Result, Ok, Err}
 use Rattle.std.specs.Int.{to_be_bytes, w16}
+use Rattle.std.specs.Result.{OnErr, OnOk}
 use Rattle.std.specs.Io.KnownBytes.{Appends}
 use Rattle.std.proofs.lemmas.Bool.Decides.{eqb_tells, leb_tells, nat_tests}
 use Rattle.std.proofs.lemmas.Bool.{cases_lt}
@@ -16,12 +17,12 @@ use Rattle.dvd_capture.specs.Captured.{IsUnitOf}
 use Rattle.dvd_capture.specs.Laws.{MarksHaveASpelling}
 use Rattle.dvd_capture.specs.Listed.{field_at, mark_of, marked_by, run_count}
 use Rattle.dvd_capture.specs.Listing.{AppendsPart, AppendsUnit}
-use Rattle.dvd_capture.specs.Inner.Listing.{AppendsAll, AppendsSome, AreMarked, HasRuns, IsFound, starts_below}
+use Rattle.dvd_capture.specs.Inner.Listing.{AppendsAll, AppendsSome, AreFields, AreMarked, HasRuns, IsFound, starts_below}
 use Rattle.dvd_capture.proofs.ListedUnit.{marks-listed, rows-listed}
 use Rattle.dvd_capture.proofs.RecordedRows.{length-recording, recording_captured}
 use Rattle.dvd_capture.proofs.ListedFields.{field_at-behind, number-unbroken, one-run-more}
 use Rattle.dvd_capture.proofs.ListedTaken.{field-read, first-field, second-field}
-use Rattle.dvd_capture.proofs.RunStarts.{none_left, start-first, start_at, starts-few, starts-marked, starts-next, starts-none, starts-unmarked}
+use Rattle.dvd_capture.proofs.RunStarts.{IsNextRun, counted-next, none_left, run-apart, same_starts-before, some-length, starts-few, starts-none}
 
 -- a written field holds its value
 pub field-written : (value : ℕ) → value < 65_536 → field_at (to_be_bytes w16 value) 0 ≡ value
@@ -58,16 +59,6 @@ pub record IsBegun (bytes : List ℕ) (mark : ℕ → Bool) (n end : ℕ) : Type
   pub clear : 0 < end → end < 37_856 → mark end ≡ false
   pub counted : starts_below mark end ≡ n
 
--- the next run starts at the first marked place from the last end on, and ends at the first unmarked one behind it
-pub record IsNextRun (mark : ℕ → Bool) (end start next : ℕ) : Type 0 where
-  pub starts : IsFound mark true end 37_856 start
-  pub ends : IsFound mark false start 37_856 next
-
--- no test is both true and false
-true_not_false : {A : Type 0} (b : Bool) → b ≡ true → b ≡ false → A
-true_not_false true is not_is = absurd (cc)
-true_not_false false is not_is = absurd (cc)
-
 -- no mark stands between the runs
 between : (mark : ℕ → Bool) (place end start next : ℕ) → end ≤ start → start ≤ next → (end ≤ place → place < start → mark place ≡ false)
     → (start ≤ place → place < next → mark place ≡ true)
@@ -92,28 +83,17 @@ between mark place end start next behind order unmarked marked = by_end (leb_tel
 module _ (bytes : List ℕ) (mark : ℕ → Bool) (n end start next : ℕ) (begun : IsBegun bytes mark n end) (run : IsNextRun mark end start next)
     (more : n < starts_below mark 37_856) where
   -- below the start of the next run, n runs start
-  same_starts : starts_below mark start ≡ n
-  same_starts =
-      let k : end + (start - end) ≡ start = let b = run.starts.least in omega arith in
-      ap (starts_below mark) (sym k) ∙ starts-unmarked mark end (start - end) (subst (AreMarked mark false end) (sym k) run.starts.passed) ∙ begun.counted
+  same : starts_below mark start ≡ n
+  same = same_starts-before mark n end start begun.counted run.starts
 
   -- the next run starts at a place of the block, as more than n runs start in it
   pub start-inside : start < 37_856
   start-inside = by_start (leb_tells 37_856 start) where
     by_start : (((nat_le 37_856 start ≡ true) × (37_856 ≤ start)) ⊎ ((nat_le 37_856 start ≡ false) × (start < 37_856))) → start < 37_856
     by_start (inl is) =
-        let same = same_starts in let o = run.ends.least in let w = run.ends.within in let all : start ≡ 37_856 = omega (arith, is.1, o, w) in
+        let o = run.ends.least in let w = run.ends.within in let all : start ≡ 37_856 = omega (arith, is.1, o, w) in
         let last = ap (starts_below mark) all in absurd (omega (arith, same, last, more))
     by_start (inr is) = is.1
-
-  -- a place is marked where the next run starts and unmarked where the last one ends, so they differ
-  begun_apart : (((end == start) ≡ true) × (end ≡ start)) ⊎ (((end == start) ≡ false) × (end ≢ start)) → 0 < end → end < start
-  begun_apart (inl is) some = true_not_false (mark end) (ap mark is.1 ∙ run.starts.found start-inside) (begun.clear some (let s = start-inside in omega (arith, is.1, s)))
-  begun_apart (inr is) some = let b = run.starts.least in let apart = is.1 in omega arith
-
-  -- the next run starts above the end of the last one
-  pub run-apart : 0 < end → end < start
-  run-apart some = begun_apart (eqb_tells end start) some
 
   -- the last of the runs written, if there is any, ends above place 0
   some_end : 0 < n → 0 < end
@@ -123,33 +103,6 @@ module _ (bytes : List ℕ) (mark : ℕ → Bool) (n end start next : ℕ) (begu
     by_end (inr is) =
         let none : end ≡ 0 = omega (arith, is.1) in
         let counted = begun.counted in let first = ap (starts_below mark) none in let zero_starts = starts-none mark in absurd (omega (arith, counted, first, zero_starts, some))
-
-  -- the next run has a place
-  pub some-length : start < next
-  some-length = by_next (leb_tells (suc start) next) where
-    by_next : (((nat_le (suc start) next ≡ true) × (suc start ≤ next)) ⊎ ((nat_le (suc start) next ≡ false) × (next < suc start))) → start < next
-    by_next (inl is) = omega (arith, is.1)
-    by_next (inr is) =
-        let o = run.ends.least in let same : next ≡ start = omega (arith, is.1, o) in
-        true_not_false (mark start) (run.starts.found start-inside) (ap mark (sym same) ∙ run.ends.found (let s = start-inside in omega (arith, same, s)))
-
-  -- a run starts at its first place
-  starts_here : start_at mark start ≡ 1
-  starts_here = start-first mark start (run.starts.found start-inside) (by_start (leb_tells (suc end) start)) where
-    by_start : (((nat_le (suc end) start ≡ true) × (suc end ≤ start)) ⊎ ((nat_le (suc end) start ≡ false) × (start < suc end))) → (start ≡ 0) ⊎ (mark (start - 1) ≡ false)
-    by_start (inl is) = inr (run.starts.passed (start - 1) (omega (arith, is.1)) (omega (arith, is.1)))
-    by_start (inr is) = inl (at_end (leb_tells 1 end)) where
-      at_end : (((nat_le 1 end ≡ true) × (1 ≤ end)) ⊎ ((nat_le 1 end ≡ false) × (end < 1))) → start ≡ 0
-      at_end (inl some) = let apart = run-apart (omega (arith, some.1)) in absurd (omega (arith, is.1, apart))
-      at_end (inr none) = omega (arith, is.1, none.1)
-
-  -- below its end, n + 1 runs start
-  pub counted-next : starts_below mark next ≡ n + 1
-  counted-next =
-      let s = some-length in
-      let k : start + suc (next - start - 1) ≡ next = omega (arith, s) in
-      let first = starts-next mark start in let one = starts_here in let same = same_starts in
-      ap (starts_below mark) (sym k) ∙ starts-marked mark start (next - start - 1) (subst (AreMarked mark true start) (sym k) run.ends.passed) ∙ omega (arith, first, one, same)
 
   -- the four bytes of the next run: its start, and its length
   abbrev pub run_bytes : List ℕ
@@ -166,18 +119,18 @@ module _ (bytes : List ℕ) (mark : ℕ → Bool) (n end start next : ℕ) (begu
   -- with these behind the others, the first n + 1 runs are written
   pub run-written : IsBegun (bytes ++ run_bytes) mark (n + 1) next
   run-written =
-      let sf = start_field in let lf = length_field in let inside = start-inside in let some = some-length in let w = run.ends.within in
+      let sf = start_field in let lf = length_field in let inside = start-inside in let some = some-length mark n end start next begun.clear begun.counted run start-inside in let w = run.ends.within in
       let ends : field_at run_bytes 0 + field_at run_bytes 2 ≡ next = omega (arith, sf, lf, some) in record {
         runs = subst (λ e. HasRuns (bytes ++ run_bytes) (starts_below mark 37_856) (n + 1) e (below mark next)) ends
             (one-run-more bytes run_bytes (starts_below mark 37_856) n end (below mark end) begun.runs more (below mark next) refl
-            (omega (arith, sf, inside), λ behind. let apart = run-apart (some_end behind) in omega (arith, sf, apart))
+            (omega (arith, sf, inside), λ behind. let apart = run-apart mark n end start next begun.clear begun.counted run start-inside (some_end behind) in omega (arith, sf, apart))
             (omega (arith, lf, some)) (omega (arith, ends, w))
             (λ place place_below. between mark place end start next run.starts.least run.ends.least (run.starts.passed place) (run.ends.passed place)
             ∙ ap (λ s. below mark end place || (nat_le s place && nat_lt place next)) (sym sf)
             ∙ ap (λ e. below mark end place || (nat_le (field_at run_bytes 0) place && nat_lt place e)) (sym ends)));
         within = w;
         clear = λ some_next inside_next. run.ends.found inside_next;
-        counted = counted-next;
+        counted = counted-next mark n end start next begun.clear begun.counted run start-inside;
       }
 
 -- ALL RUNS are written.
@@ -317,12 +270,31 @@ rest-exists (suc d) bytes mark n end begun all =
       runs = subst (λ l. HasRuns l after.count after.count after.end mark) (append_assoc bytes own after.rest) after.runs;
     }
 
--- WRITING, run by run.
-pub record AreWritten (rows : List ℕ) (mark : ℕ → Bool) (n end : ℕ) (old now : Option (List ℕ)) : Type 0 where
-  pub own : List ℕ
+-- PUTTING fields, run by run: these bytes, behind those of the rows, are the number and the first n runs.
+pub record ArePut (rows : List ℕ) (mark : ℕ → Bool) (n end : ℕ) (own : List ℕ) : Type 0 where
   pub bytes : (k : ℕ) → slice_index own k < 256
-  pub grows : Appends old now own
   pub begun : IsBegun (rows ++ own) mark n end
+
+module _ (rows : List ℕ) (mark : ℕ → Bool) (size : length rows ≡ 37_856) where
+  -- the number alone
+  pub number-put : (number : ℕ) → number ≡ starts_below mark 37_856 → ArePut rows mark 0 0 (to_be_bytes w16 number)
+  number-put number is = record {
+    bytes = small-field number;
+    begun = subst (λ n. IsBegun (rows ++ to_be_bytes w16 n) mark 0 0) (sym is) (none-written rows mark size);
+  }
+
+  -- one run more
+  pub one-more-put : (n end start next : ℕ) (own : List ℕ) → ArePut rows mark n end own → IsNextRun mark end start next → n < starts_below mark 37_856
+      → ArePut rows mark (n + 1) next (own ++ (to_be_bytes w16 start ++ to_be_bytes w16 (next - start)))
+  one-more-put n end start next own put run more =
+      let piece : List ℕ = to_be_bytes w16 start ++ to_be_bytes w16 (next - start) in record {
+        bytes = small-append own piece put.bytes (small-run start (next - start));
+        begun = subst (λ l. IsBegun l mark (n + 1) next) (append_assoc rows own piece) (run-written (rows ++ own) mark n end start next put.begun run more);
+      }
+
+  -- all runs
+  pub all-put : (n end : ℕ) (own : List ℕ) → n ≡ starts_below mark 37_856 → ArePut rows mark n end own → AreFields rows mark own
+  all-put n end own all put = record { bytes = put.bytes; count = n; end = end; runs = all-written (rows ++ own) mark n end put.begun all }
 
 -- a piece of which a front was written, and what is written before and behind it
 pub prefix-behind : (old mid new : Option (List ℕ)) (own piece rest : List ℕ) → Appends old mid own → AppendsPrefix mid new piece → AppendsPrefix old new (own ++ (piece ++ rest))
@@ -337,60 +309,14 @@ prefix-behind old mid new own piece rest before part = record {
   front_empty [] b none = refl
   front_empty (x ∷ a) b none = absurd (let size = ap length none in omega (arith, size))
 
-module _ (rows : List ℕ) (mark : ℕ → Bool) (size : length rows ≡ 37_856) (old new : Option (List ℕ)) where
-  -- the number
-  pub number-written : (number : ℕ) → number ≡ starts_below mark 37_856 → Appends old new (to_be_bytes w16 number) → AreWritten rows mark 0 0 old new
-  number-written number is grows = record {
-    own = to_be_bytes w16 number;
-    bytes = small-field number;
-    grows = grows;
-    begun = subst (λ n. IsBegun (rows ++ to_be_bytes w16 n) mark 0 0) (sym is) (none-written rows mark size);
-  }
+-- what holds of an answer in each case
+pub on_ok-map : {T E : Type 0} (r : Result T E) (P Q : Type 0) → (P → Q) → OnOk r P → OnOk r Q
+on_ok-map (Ok v) P Q f p = f p
+on_ok-map (Err e) P Q f p = p
 
-  -- or a front of the number, so that some of the unit was written
-  pub number-begun : (number : ℕ) → number ≡ starts_below mark 37_856 → AppendsPrefix old new (to_be_bytes w16 number) → AppendsSome rows mark old new
-  number-begun number is part =
-      let after = rest-exists (starts_below mark 37_856) (rows ++ to_be_bytes w16 (starts_below mark 37_856)) mark 0 0 (none-written rows mark size) (omega arith) in record {
-        own = to_be_bytes w16 (starts_below mark 37_856) ++ after.rest;
-        bytes = small-append (to_be_bytes w16 (starts_below mark 37_856)) after.rest (small-field (starts_below mark 37_856)) after.small;
-        part = prefix-behind old old new [] (to_be_bytes w16 (starts_below mark 37_856)) after.rest (Appends-none old) (subst (λ n. AppendsPrefix old new (to_be_bytes w16 n)) is part);
-        count = after.count;
-        end = after.end;
-        runs = subst (λ l. HasRuns l after.count after.count after.end mark) (append_assoc rows (to_be_bytes w16 (starts_below mark 37_856)) after.rest) after.runs;
-      }
-
-  -- all runs
-  pub runs-written : (n end : ℕ) → n ≡ starts_below mark 37_856 → AreWritten rows mark n end old new → AppendsAll rows mark old new
-  runs-written n end all w = record { own = w.own; bytes = w.bytes; grows = w.grows; count = n; end = end; runs = all-written (rows ++ w.own) mark n end w.begun all }
-
-  module _ (mid : Option (List ℕ)) (n end start next : ℕ) (w : AreWritten rows mark n end old mid) (run : IsNextRun mark end start next) (more : n < starts_below mark 37_856) where
-    -- the four bytes that are written for the next run
-    run_own : List ℕ
-    run_own = to_be_bytes w16 start ++ to_be_bytes w16 (next - start)
-
-    -- with these behind those written before, the first n + 1 runs are written
-    begun_next : IsBegun (rows ++ (w.own ++ run_own)) mark (n + 1) next
-    unfolding run_own
-    begun_next = subst (λ l. IsBegun l mark (n + 1) next) (append_assoc rows w.own run_own) (run-written (rows ++ w.own) mark n end start next w.begun run more)
-
-    -- one run more
-    pub one-more-written : Appends mid new (to_be_bytes w16 start ++ to_be_bytes w16 (next - start)) → AreWritten rows mark (n + 1) next old new
-    unfolding run_own
-    one-more-written grows = record { own = w.own ++ run_own; bytes = small-append w.own run_own w.bytes (small-run start (next - start)); grows = Appends-then old mid new w.own run_own w.grows grows; begun = begun_next }
-
-    -- or a front of it
-    pub one-more-begun : AppendsPrefix mid new (to_be_bytes w16 start ++ to_be_bytes w16 (next - start)) → AppendsSome rows mark old new
-    unfolding run_own
-    one-more-begun part =
-        let after = rest-exists (starts_below mark 37_856 - (n + 1)) (rows ++ (w.own ++ run_own)) mark (n + 1) next begun_next (omega (arith, more)) in record {
-          own = w.own ++ (run_own ++ after.rest);
-          bytes = small-append w.own (run_own ++ after.rest) w.bytes (small-append run_own after.rest (small-run start (next - start)) after.small);
-          part = prefix-behind old mid new w.own run_own after.rest w.grows part;
-          count = after.count;
-          end = after.end;
-          runs = subst (λ l. HasRuns l after.count after.count after.end mark)
-              (append_assoc rows (w.own ++ run_own) after.rest ∙ ap (λ l. rows ++ l) (append_assoc w.own run_own after.rest)) after.runs;
-        }
+pub on_err-map : {T E : Type 0} (r : Result T E) (P Q : Type 0) → (P → Q) → OnErr r P → OnErr r Q
+on_err-map (Ok v) P Q f p = p
+on_err-map (Err e) P Q f p = f p
 
 -- THE BYTES OF THE ROWS, and the whole unit.
 module _ (rows : List (List ℕ)) (height : length rows ≡ 208) (widths : (i : ℕ) → i < 208 → length (line rows i) ≡ 182) where
@@ -422,7 +348,7 @@ module _ (rows : List (List ℕ)) (height : length rows ≡ 208) (widths : (i : 
     pub unit-written : (old mid new : Option (List ℕ)) → Appends old mid (recording rows) → AppendsAll (recording rows) (mark_of marks) mid new → AppendsUnit old new rows marks
     unit-written old mid new before all = record {
       unit = recording rows ++ all.own;
-      is_unit = unit-of all.own all.bytes all.count all.end all.runs;
+      is_unit = unit-of all.own all.are.bytes all.are.count all.are.end all.are.runs;
       grows = Appends-then old mid new (recording rows) all.own before all.grows;
     }
 
@@ -430,7 +356,7 @@ module _ (rows : List (List ℕ)) (height : length rows ≡ 208) (widths : (i : 
     pub runs-begun : (old mid new : Option (List ℕ)) → Appends old mid (recording rows) → AppendsSome (recording rows) (mark_of marks) mid new → AppendsPart old new rows marks
     runs-begun old mid new before some = record {
       unit = recording rows ++ some.own;
-      is_unit = unit-of some.own some.bytes some.count some.end some.runs;
+      is_unit = unit-of some.own some.are.bytes some.are.count some.are.end some.are.runs;
       part = subst (λ l. AppendsPrefix old new (recording rows ++ l)) (append-nil some.own) (prefix-behind old mid new (recording rows) some.own [] before some.part);
     }
 

@@ -1,9 +1,10 @@
 -- The marks of a block by its places in the order of recording.
-use Rattle.std.proofs.Common.{◌≡◌, ◌≢◌, ◌⊎◌, ◌∙◌, ℕ, ◌+◌, ◌/◌, ◌%◌, ◌<◌, ◌≤◌, ◌==◌, ◌&&◌, ◌||◌, nat_le, nat_lt, Bool, true, false, List, [], length, set, get_or, inl, inr, sym, ap, subst, arith}
-use Rattle.std.proofs.lemmas.Bool.Decides.{eqb_tells, nat_tests}
+use Rattle.std.proofs.Common.{◌≡◌, ◌≢◌, ◌⊎◌, ◌∙◌, ℕ, suc, ◌+◌, ◌-◌, ◌*◌, ◌/◌, ◌%◌, ◌<◌, ◌≤◌, ◌==◌, ◌&&◌, ◌||◌, nat_le, nat_lt, not, Bool, true, false, List, [], length, set, get_or, inl, inr, sym, ap, subst, arith}
+use Rattle.std.proofs.lemmas.Bool.Decides.{eqb_tells, leb_tells, nat_tests}
 use Rattle.std.proofs.lemmas.List.{get_or-set_same, get_or-set_other}
 use Rattle.coding.specs.Recording.{record_at, row_at}
 use Rattle.dvd_capture.specs.Answers.{marks_line}
+use Rattle.dvd_capture.specs.Inner.Listing.{AreMarked, IsFound}
 use Rattle.dvd_capture.specs.Listed.{mark_of}
 use Rattle.dvd_capture.proofs.Fetching.{record_at-row_at, row_at-lt}
 
@@ -58,3 +59,33 @@ mark-more old mid new start at place order before others same = by_place (eqb_te
   by_place : ((((place == at) ≡ true) × (place ≡ at)) ⊎ (((place == at) ≡ false) × (place ≢ at))) → new place ≡ (old place || (nat_le start place && nat_lt place (at + 1)))
   by_place (inl is) = let now = same is.1 in grind (arith, nat_tests)
   by_place (inr is) = let now = others is.1 ∙ before in grind (arith, nat_tests)
+
+-- SEARCHING row by row, from place `start` of recorded row m on.
+module _ (marks : List (List Bool)) (mark : Bool) (from m start at : ℕ) (row_below : m < 208) (least : from ≤ 182 * m + start)
+    (passed : AreMarked (mark_of marks) (not mark) from (182 * m + start))
+    (row : IsFound (λ j. get_or (marks_line marks (row_at m)) j false) mark start 182 at) where
+  -- the places of the row are those of the block from 182 m on
+  in-row : (j : ℕ) → j < 182 → mark_of marks (182 * m + j) ≡ get_or (marks_line marks (row_at m)) j false
+  in-row j below =
+      let quotient : (182 * m + j) / 182 ≡ m = omega (arith, below) in
+      let rest : (182 * m + j) % 182 ≡ j = omega (arith, below) in
+      ap (λ q. get_or (marks_line marks (row_at q)) ((182 * m + j) % 182) false) quotient ∙ ap (λ r. get_or (marks_line marks (row_at m)) r false) rest
+
+  -- so those before the place that was found are passed as well
+  pub passed-row : AreMarked (mark_of marks) (not mark) from (182 * m + at)
+  passed-row place low high = elim (leb_tells (suc place) (182 * m + start)) [
+    | inl earlier ↦ passed place low (let e = earlier.1 in omega arith)
+    | inr later ↦
+        let l = later.1 in let w = row.within in
+        let same : 182 * m + (place - 182 * m) ≡ place = omega (arith, l) in
+        ap (mark_of marks) (sym same) ∙ in-row (place - 182 * m) (omega (arith, l, w, high)) ∙ row.passed (place - 182 * m) (omega (arith, l)) (omega (arith, l, high))
+  ]
+
+  -- and a place of the row that has the mark is the first
+  pub found-in-row : at < 182 → IsFound (mark_of marks) mark from 37_856 (182 * m + at)
+  found-in-row inside = record {
+    least = let l = row.least in omega (arith, l, least);
+    within = omega (arith, inside, row_below);
+    passed = passed-row;
+    found = λ below. in-row at inside ∙ row.found inside;
+  }

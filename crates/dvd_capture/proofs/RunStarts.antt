@@ -1,7 +1,7 @@
 -- The starts of runs among the marks of places.
-use Rattle.std.proofs.Common.{◌≡◌, ◌⊎◌, ◌∙◌, ℕ, zero, suc, ◌+◌, ◌-◌, ◌*◌, ◌<◌, ◌≤◌, ◌==◌, ◌&&◌, ◌||◌, not, nat_le, if◌then◌else◌, Bool, true, false, inl, inr, refl, sym, ap, arith}
-use Rattle.std.proofs.lemmas.Bool.Decides.{leb_tells, nat_tests}
-use Rattle.dvd_capture.specs.Inner.Listing.{AreMarked, starts_below}
+use Rattle.std.proofs.Common.{◌≡◌, ◌⊎◌, ◌∙◌, ◌≢◌, ℕ, zero, suc, ◌+◌, ◌-◌, ◌*◌, ◌<◌, ◌≤◌, ◌==◌, ◌&&◌, ◌||◌, not, nat_le, if◌then◌else◌, Bool, true, false, inl, inr, refl, sym, ap, subst, arith}
+use Rattle.std.proofs.lemmas.Bool.Decides.{eqb_tells, leb_tells, nat_tests}
+use Rattle.dvd_capture.specs.Inner.Listing.{AreMarked, IsFound, starts_below}
 
 -- one more where a run starts at place n
 abbrev pub start_at : (ℕ → Bool) → ℕ → ℕ
@@ -150,3 +150,58 @@ none_left mark from (suc k) begin same place least below =
     let before = none_left mark from k begin (omega (arith, next, same, order)) in
     let no_start : start_at mark (from + k) ≡ 0 = omega (arith, next, same, order) in
     unmarked-further mark from k begin before no_start place least (omega arith)
+
+-- the next run starts at the first marked place from an end on, and ends at the first unmarked one behind it
+pub record IsNextRun (mark : ℕ → Bool) (end start next : ℕ) : Type 0 where
+  pub starts : IsFound mark true end 37_856 start
+  pub ends : IsFound mark false start 37_856 next
+
+-- no test is both true and false
+true_not_false : {A : Type 0} (b : Bool) → b ≡ true → b ≡ false → A
+true_not_false true is not_is = absurd (cc)
+true_not_false false is not_is = absurd (cc)
+
+-- from the end of n runs to the next marked place no run starts
+pub same_starts-before : (mark : ℕ → Bool) (n end start : ℕ) → starts_below mark end ≡ n → IsFound mark true end 37_856 start → starts_below mark start ≡ n
+same_starts-before mark n end start counted starts =
+    let k : end + (start - end) ≡ start = let b = starts.least in omega arith in
+    ap (starts_below mark) (sym k) ∙ starts-unmarked mark end (start - end) (subst (AreMarked mark false end) (sym k) starts.passed) ∙ counted
+
+-- THE NEXT RUN, behind n runs the last of which ends there.
+module _ (mark : ℕ → Bool) (n end start next : ℕ) (clear : 0 < end → end < 37_856 → mark end ≡ false) (counted : starts_below mark end ≡ n) (run : IsNextRun mark end start next) where
+  module _ (inside : start < 37_856) where
+    -- a place is marked where it starts and unmarked where the last one ends, so they differ
+    begun_apart : (((end == start) ≡ true) × (end ≡ start)) ⊎ (((end == start) ≡ false) × (end ≢ start)) → 0 < end → end < start
+    begun_apart (inl is) some = true_not_false (mark end) (ap mark is.1 ∙ run.starts.found inside) (clear some (omega (arith, is.1, inside)))
+    begun_apart (inr is) some = let b = run.starts.least in let apart = is.1 in omega arith
+
+    -- it starts above the end of the last one
+    pub run-apart : 0 < end → end < start
+    run-apart some = begun_apart (eqb_tells end start) some
+
+    -- it has a place
+    pub some-length : start < next
+    some-length = by_next (leb_tells (suc start) next) where
+      by_next : (((nat_le (suc start) next ≡ true) × (suc start ≤ next)) ⊎ ((nat_le (suc start) next ≡ false) × (next < suc start))) → start < next
+      by_next (inl is) = omega (arith, is.1)
+      by_next (inr is) =
+          let o = run.ends.least in let same : next ≡ start = omega (arith, is.1, o) in
+          true_not_false (mark start) (run.starts.found inside) (ap mark (sym same) ∙ run.ends.found (omega (arith, same, inside)))
+
+    -- a run starts at its first place
+    starts_here : start_at mark start ≡ 1
+    starts_here = start-first mark start (run.starts.found inside) (by_start (leb_tells (suc end) start)) where
+      by_start : (((nat_le (suc end) start ≡ true) × (suc end ≤ start)) ⊎ ((nat_le (suc end) start ≡ false) × (start < suc end))) → (start ≡ 0) ⊎ (mark (start - 1) ≡ false)
+      by_start (inl is) = inr (run.starts.passed (start - 1) (omega (arith, is.1)) (omega (arith, is.1)))
+      by_start (inr is) = inl (at_end (leb_tells 1 end)) where
+        at_end : (((nat_le 1 end ≡ true) × (1 ≤ end)) ⊎ ((nat_le 1 end ≡ false) × (end < 1))) → start ≡ 0
+        at_end (inl some) = let apart = run-apart (omega (arith, some.1)) in absurd (omega (arith, is.1, apart))
+        at_end (inr none) = omega (arith, is.1, none.1)
+
+    -- below its end, n + 1 runs start
+    pub counted-next : starts_below mark next ≡ n + 1
+    counted-next =
+        let s = some-length in
+        let k : start + suc (next - start - 1) ≡ next = omega (arith, s) in
+        let first = starts-next mark start in let one = starts_here in let same = same_starts-before mark n end start counted run.starts in
+        ap (starts_below mark) (sym k) ∙ starts-marked mark start (next - start - 1) (subst (AreMarked mark true start) (sym k) run.ends.passed) ∙ omega (arith, first, one, same)

@@ -6,10 +6,11 @@ mod capture; // blocks from a source
 mod form; // the forms in which a captured block is stored
 mod header; // the header of a listed capture
 pub mod laws; // what holds of every captured block, as contracts alone
-mod listed; // blocks in the listed form, written and read
+mod listed; // blocks in the listed form, to a sink and from a source
 pub mod parts; // the buffers of a captured block, lent one by one
 mod places; // the marks of a block in the order of recording
 mod row_marks; // the marks of one row
+mod runs; // the runs of marked places as fields
 mod stage; // how far a captured block is
 mod work; // a captured block with all that is found of it
 

@@ -3,6 +3,7 @@ ghost use Rattle.std.specs.Prelude.{◌≡◌, ◌↔◌, ◌<◌, ◌≤◌, fa
 ghost use Rattle.std.specs.List.{flat_map};
 ghost use Rattle.std.specs.declared.option.Option.TheVariants.{None};
 ghost use Rattle.coding.specs.Product.{line};
+ghost use Rattle.dvd_capture.specs.Inner.Listing.{IsFound};
 ghost use Rattle.dvd_capture.specs.MarkBits.{marks_of};
 
 use crate::row_marks::RowMarks;
@@ -150,6 +151,15 @@ impl Marks {
         ensures { IsTrue result ↔ (marks_line (marks_rows self.now) i ≡ replicate 182 false) }
     {
         self.rows[i].is_clear()
+    }
+
+    /// The first place of row `i` from `from` on whose mark is this, or 182.
+    pub(crate) fn next(&self, i: usize, from: usize, mark: bool) -> usize
+        requires row { i < 208 }
+        requires from { from ≤ 182 }
+        ensures { IsFound (λ j. slice_index_or (marks_line (marks_rows self.now) i) j false) mark from 182 result }
+    {
+        self.rows[i].next(from, mark)
     }
 
     /// The mark in row `i` at place `j`.

@@ -1,5 +1,5 @@
 //! The marks of a block by its places in the order of recording: place 182 m + j is place j of recorded row m.
-ghost use Rattle.std.specs.Prelude.{◌≡◌, ◌≢◌, ℕ, ◌-◌, ◌<◌, ◌≤◌, ◌==◌, ◌&&◌, ◌||◌, true, not, nat_le, nat_lt};
+ghost use Rattle.std.specs.Prelude.{◌≡◌, ◌≢◌, ℕ, ◌<◌, ◌≤◌, ◌&&◌, ◌||◌, true, nat_le, nat_lt};
 ghost use Rattle.dvd_capture.specs.Listed.{mark_of};
 ghost use Rattle.dvd_capture.specs.Inner.Listing.{IsFound, starts_below};
 ghost use Rattle.dvd_capture.specs.Parts.{marks_rows};
@@ -9,14 +9,6 @@ use dvd_block::row_of_record;
 
 /// The places of a block.
 pub(crate) const PLACES: usize = 37_856;
-
-// Whether a place is marked.
-fn is_marked(marks: &Marks, place: usize) -> bool
-    requires { place < 37_856 }
-    ensures { result ≡ mark_of (marks_rows marks.now) place }
-{
-    marks.get(row_of_record(place / 182), place % 182)
-}
 
 // Marks a place, and no other.
 fn mark_place(marks: &mut Marks, place: usize)
@@ -44,10 +36,13 @@ pub(crate) fn next_place(marks: &Marks, from: usize, marked: bool) -> usize
     requires { from ≤ 37_856 }
     ensures { IsFound (mark_of (marks_rows marks.now)) marked from 37_856 result }
 {
-    for place in from..PLACES {
-        if is_marked(marks, place) == marked {
-            return place;
+    let mut start = from % 182;
+    for m in from / 182..208 {
+        let place = marks.next(row_of_record(m), start, marked);
+        if place < 182 {
+            return 182 * m + place;
         }
+        start = 0;
     }
     PLACES
 }
@@ -57,18 +52,14 @@ pub(crate) fn count_runs(marks: &Marks) -> usize
     ensures { result ≡ starts_below (mark_of (marks_rows marks.now)) 37_856 }
 {
     let mut count = 0;
-    for place in 0..PLACES {
-        if starts_run(marks, place) {
-            count += 1;
+    let mut end = 0;
+    while end < PLACES {
+        let start = next_place(marks, end, true);
+        if start == PLACES {
+            return count;
         }
+        end = next_place(marks, start, false);
+        count += 1;
     }
     count
-}
-
-// Whether a run starts at a place.
-fn starts_run(marks: &Marks, place: usize) -> bool
-    requires { place < 37_856 }
-    ensures { result ≡ (mark_of (marks_rows marks.now) place && ((place == 0) || not (mark_of (marks_rows marks.now) (place - 1)))) }
-{
-    is_marked(marks, place) && (place == 0 || !is_marked(marks, place - 1))
 }

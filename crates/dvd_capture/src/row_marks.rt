@@ -1,6 +1,7 @@
 //! The marks of one row.
-ghost use Rattle.std.specs.Prelude.{◌≡◌, ◌↔◌, ℕ, ◌<◌, ◌≢◌, ◌==◌, false, length, IsTrue, replicate, slice_index_or, slice_set};
+ghost use Rattle.std.specs.Prelude.{◌≡◌, ◌↔◌, ℕ, ◌<◌, ◌≤◌, ◌≢◌, ◌==◌, false, length, IsTrue, replicate, slice_index_or, slice_set};
 ghost use Rattle.std.specs.Int.{bit_at};
+ghost use Rattle.dvd_capture.specs.Inner.Listing.{IsFound};
 ghost use Rattle.dvd_capture.specs.MarkBits.{mark_at, marks_of};
 
 /// A mark for each of the 182 places of a row, a bit each: 23 bytes, of which the last two bits are spare. Two are equal
@@ -33,6 +34,14 @@ impl RowMarks {
         ensures { result ≡ slice_index_or (marks_of_row self.now) j false }
     {
         is_marked(&self.bits, j)
+    }
+
+    /// The first place from `from` on whose mark is this, or 182.
+    pub(crate) fn next(&self, from: usize, mark: bool) -> usize
+        requires { from ≤ 182 }
+        ensures { IsFound (mark_at self.now.bits) mark from 182 result }
+    {
+        next_mark(&self.bits, from, mark)
     }
 
     /// Sets the mark of place `j`, and no other.
@@ -74,6 +83,25 @@ fn is_marked(bits: &[u8; 23], j: usize) -> bool
     ensures { result ≡ mark_at bits.now j }
 {
     bits[j / 8] >> (7 - j % 8) & 1 == 1
+}
+
+// The first place from `from` on whose mark is this, or 182. Most bytes have eight marks alike, and are passed as one.
+fn next_mark(bits: &[u8; 23], from: usize, mark: bool) -> usize
+    requires { from ≤ 182 }
+    ensures { IsFound (mark_at bits.now) mark from 182 result }
+{
+    let passed = if mark { 0 } else { 255 };
+    let mut j = from;
+    while j < 182 {
+        if bits[j / 8] == passed {
+            j = 8 * (j / 8) + 8;
+        } else if is_marked(bits, j) == mark {
+            return j;
+        } else {
+            j += 1;
+        }
+    }
+    182
 }
 
 // Sets it.

@@ -1,5 +1,5 @@
 -- Ours: what is known while the fields of a listed unit come or are written one after the other.
-use Rattle.std.specs.Prelude.{◌≡◌, ℕ, ◌+◌, ◌-◌, ◌*◌, ◌<◌, ◌≤◌, ◌==◌, not, Bool, false, ◌&&◌, ◌||◌, if◌then◌else◌, zero, suc, List, ◌++◌, length, slice_index, Result, Ok, Err}
+use Rattle.std.specs.Prelude.{◌≡◌, ℕ, ◌+◌, ◌-◌, ◌*◌, ◌<◌, ◌≤◌, ◌==◌, not, Bool, false, ◌&&◌, ◌||◌, if◌then◌else◌, zero, suc, List, [], ◌++◌, length, take, slice_index, Result, Ok, Err}
 use Rattle.std.specs.Io.KnownBytes.{Appends, Consumes, IsAtEnd}
 use Rattle.std.specs.declared.option.Option.{Option}
 use Rattle.dvd_ports.specs.Causes.{HasGoneOn}
@@ -8,6 +8,7 @@ use Rattle.dvd_capture.specs.Fetching.{FetchCounts}
 use Rattle.dvd_ports.specs.Whole.{AppendsPrefix, ConsumesFewer}
 use Rattle.dvd_capture.specs.Listed.{IsBrokenAt, IsUnbroken, end_of, field_at, listed_size, marked_by, run_count}
 use Rattle.dvd_capture.specs.declared.capture.FetchAnswer.{FetchAnswer}
+use Rattle.dvd_capture.specs.declared.runs.Taken.{Taken}
 use Rattle.dvd_capture.specs.declared.capture.FetchAnswer.TheVariants.{Full, End, Short, ReadFault, BadMarks}
 
 -- These bytes are those of a unit up to its first n runs, and break no rule. The last of these runs ends there, and these marks
@@ -19,6 +20,23 @@ pub record HasRuns (bytes : List ℕ) (count n end : ℕ) (mark : ℕ → Bool) 
   pub none : n ≡ 0 → end ≡ 0
   pub last : 0 < n → end ≡ end_of bytes (n - 1)
   pub marks : (place : ℕ) → place < 37_856 → mark place ≡ marked_by bytes n place
+
+-- These bytes and fields are those of a unit up to its first runs, and break no rule; these marks are those of its whole runs.
+pub record HasFields (head : List ℕ) (count : ℕ) (fields : List ℕ) (mark : ℕ → Bool) (taken : Taken) : Type 0 where
+  pub runs : HasRuns (head ++ take (4 * taken.runs) fields) count taken.runs taken.end mark
+  pub whole : 4 * taken.runs ≤ length fields
+  pub few : length fields < 4 * taken.runs + 4
+  pub start : 4 * taken.runs + 2 ≤ length fields → (field_at fields (4 * taken.runs) < 37_856) × (0 < taken.runs → taken.end < field_at fields (4 * taken.runs))
+
+-- a broken rule is answered
+abbrev pub IsBadMarks : FetchAnswer → Type 0
+IsBadMarks (BadMarks at) = Unit {0}
+IsBadMarks other = ⊥
+
+-- one of these bytes' fields breaks a rule, the first at the place that the answer tells
+abbrev pub BreaksIn : List ℕ → FetchAnswer → Type 0
+BreaksIn bytes (BadMarks at) = IsBrokenAt bytes at
+BreaksIn bytes other = ⊥
 
 -- no rule is broken in these bytes, and their unit has more
 pub record IsCut (bytes : List ℕ) : Type 0 where
@@ -59,23 +77,38 @@ IsFetched before mark old new (Short count) = IsStopped before old new (Short co
 IsFetched before mark old new ReadFault = IsStopped before old new ReadFault
 IsFetched before mark old new (BadMarks at) = IsStopped before old new (BadMarks at)
 
--- behind those bytes of rows more were written, to the last run of their unit
-pub record AppendsAll (before : List ℕ) (mark : ℕ → Bool) (old new : Option (List ℕ)) : Type 0 where
-  pub own : List ℕ
+-- these bytes, behind those of the rows, are the fields of a unit to its last run
+pub record AreFields (before : List ℕ) (mark : ℕ → Bool) (own : List ℕ) : Type 0 where
   pub bytes : (k : ℕ) → slice_index own k < 256
-  pub grows : Appends old new own
   pub count : ℕ
   pub end : ℕ
   pub runs : HasRuns (before ++ own) count count end mark
 
+-- behind those bytes of rows more were written, to the last run of their unit
+pub record AppendsAll (before : List ℕ) (mark : ℕ → Bool) (old new : Option (List ℕ)) : Type 0 where
+  pub own : List ℕ
+  pub are : AreFields before mark own
+  pub grows : Appends old new own
+
 -- behind those bytes of rows a front was written of bytes that go to the last run of their unit
 pub record AppendsSome (before : List ℕ) (mark : ℕ → Bool) (old new : Option (List ℕ)) : Type 0 where
   pub own : List ℕ
-  pub bytes : (k : ℕ) → slice_index own k < 256
+  pub are : AreFields before mark own
   pub part : AppendsPrefix old new own
-  pub count : ℕ
-  pub end : ℕ
-  pub runs : HasRuns (before ++ own) count count end mark
+
+-- some fields came behind these, no more than so many bytes in all
+pub record TakesMore (most : ℕ) (fields now : List ℕ) (old new : Option (List ℕ)) : Type 0 where
+  pub own : List ℕ
+  pub some : 0 < length own
+  pub within : length fields + length own ≤ most
+  pub puts : now ≡ fields ++ own
+  pub taken : Consumes old new own
+
+-- nothing came behind so many bytes of a unit: the source ended, or a read failed
+abbrev pub TakesNone : ℕ → Option (List ℕ) → Option (List ℕ) → FetchAnswer → Type 0
+TakesNone held old new (Short count) = (count ≡ held) × Consumes old new [] × IsAtEnd new
+TakesNone held old new ReadFault = Consumes old new []
+TakesNone held old new other = ⊥
 
 -- a field was taken behind so many bytes of a unit, or the source failed or ended within it
 pub record TakesField (old new : Option (List ℕ)) (value : ℕ) : Type 0 where

@@ -1,10 +1,13 @@
 -- The proof of `fetch_runs` in src/listed.rt.
-use Rattle.std.proofs.Common.{◌+◌, ◌++◌}
+use Rattle.std.proofs.Common.{◌≡◌, ◌∙◌, ◌*◌, ◌≤◌, ◌++◌, ℕ, List, length, take, ap, sym, subst, arith, length-append}
+use Rattle.std.specs.Io.KnownBytes.{Consumes}
 use Rattle.dvd_ports.proofs.StopLemmas.{goes_on}
+use Rattle.dvd_capture.specs.Fetching.{FetchCounts}
 use Rattle.dvd_capture.specs.Listed.{mark_of}
-use Rattle.dvd_capture.specs.Inner.Listing.{IsStopped}
+use Rattle.dvd_capture.specs.Inner.Listing.{BreaksIn, HasFields, HasRuns, IsStopped, TakesNone}
 use Rattle.dvd_capture.specs.Parts.{marks_rows}
-use Rattle.dvd_capture.proofs.ListedTaken.{if_err, number-taken, runs-behind, stopped-at-number, stopped-in-number, stopped_result}
+use Rattle.dvd_capture.proofs.ListedPieces.{Consumes-none, bad-counts, err-cause, fields-begun, fields-come, fields-grow, fields-whole, length-grow, stopped-at-field, stopped-in-fields}
+use Rattle.dvd_capture.proofs.ListedTaken.{if_err, stopped-at-number, stopped-in-number}
 use Rattle.dvd_capture.proofs.listed.fetch_runs.Goals as goal
 
 pub returns-in_err-number-clause-stopped : goal.returns-in_err-number-clause-stopped
@@ -16,23 +19,64 @@ pub returns-then-number-gt-MOST_RUNS-clause-stopped : goal.returns-then-number-g
 returns-then-number-gt-MOST_RUNS-clause-stopped g c = λ before are.
     stopped-at-number before (mark_of (marks_rows c.args.marks.now)) are _ _ c.in_ok-number.number c.in_ok-number.ensures.field c.if-number-gt-MOST_RUNS.true
 
-pub loop-i-init : goal.loop-i-init
-loop-i-init g c = record {
-  taken = λ before are. number-taken before (mark_of (marks_rows c.args.marks.now)) are _ _ c.in_ok-number.number c.in_ok-number.ensures.field c.if-number-gt-MOST_RUNS.false;
-  steady = c.in_ok-number.ensures.cause;
-}
+pub loop-fields-init : goal.loop-fields-init
+loop-fields-init g c =
+    let none = ap length c.new-fields.ensures in record {
+      within = omega (arith, none);
+      taken = omega arith;
+      fields = λ before are.
+          fields-begun before (mark_of (marks_rows c.args.marks.now)) are _ _ c.in_ok-number.number c.in_ok-number.ensures.field c.if-number-gt-MOST_RUNS.false
+          c.new-fields.result.items c.new-fields.ensures;
+      steady = c.in_ok-number.ensures.cause;
+    }
 
-pub returns-in_err-end-clause-stopped : goal.returns-in_err-end-clause-stopped
-returns-in_err-end-clause-stopped g c = λ before are.
-    let t = c.loop-i.invariant.taken before are in
-    stopped_result before t.own _ _ _ c.in_err-end.field-0.0 c.from_residual-in_err-end.result c.from_residual-in_err-end.ensures.1 t.taken
-    (c.in_err-end.ensures.stopped (before ++ t.own) c.in_ok-number.number c.loop-i-test.true t.runs)
+pub returns-in_err-read_fields-clause-stopped : goal.returns-in_err-read_fields-clause-stopped
+returns-in_err-read_fields-clause-stopped g c = λ before are.
+    if_err c.from_residual-in_err-read_fields.result c.in_err-read_fields.field-0.0 (IsStopped before _ _) c.from_residual-in_err-read_fields.ensures.1
+    (stopped-in-fields before c.in_ok-number.number c.loop-fields.fields.items (mark_of (marks_rows c.loop-fields.marks)) c.loop-fields.taken _ _ (c.loop-fields.invariant.fields before are) _
+    (omega (arith, c.loop-fields-test.true, c.len.ensures.value)) c.in_err-read_fields.field-0.0 c.in_err-read_fields.ensures.none)
 
-pub loop-i-preserved : goal.loop-i-preserved
-loop-i-preserved g c = record {
-  taken = λ before are.
-      let t = c.loop-i.invariant.taken before are in
-      runs-behind before _ _ _ c.in_ok-number.number c.loop-i.i c.loop-i.end c.in_ok-end.end (c.loop-i.i + 1) _ _ t
-      (c.in_ok-end.ensures.run (before ++ t.own) c.in_ok-number.number c.loop-i-test.true t.runs);
-  steady = goes_on _ _ _ c.loop-i.invariant.steady c.in_ok-end.ensures.cause;
-}
+pub returns-in_err-taken-clause-stopped : goal.returns-in_err-taken-clause-stopped
+returns-in_err-taken-clause-stopped g c = λ before are.
+    let t = c.loop-fields.invariant.fields before are in
+    let more = c.in_ok-read_fields.ensures.more in
+    let items = c.loop-fields.fields.items in
+    let mark = mark_of (marks_rows c.loop-fields.marks) in
+    let is = c.as_slice.ensures.value ∙ more.puts in
+    let few = length-grow c.as_slice.result.now items more.own (4 * c.in_ok-number.number) is more.within in
+    let first = fields-grow (before ++ t.number) items c.in_ok-number.number mark c.loop-fields.taken t.has c.as_slice.result.now more.own is in
+    if_err c.from_residual-in_err-taken.result c.in_err-taken.field-0.0 (IsStopped before _ _) c.from_residual-in_err-taken.ensures.1
+    (stopped-at-field before t.number (items ++ more.own) _ _ (fields-come before c.in_ok-number.number items mark c.loop-fields.taken _ _ t _ more.own more.taken) c.in_err-taken.field-0.0
+    (subst (λ l. BreaksIn ((before ++ t.number) ++ l) c.in_err-taken.field-0.0) is (c.in_err-taken.ensures.broken (before ++ t.number) c.in_ok-number.number few first)))
+
+pub returns-in_err-taken-clause-cause : goal.returns-in_err-taken-clause-cause
+returns-in_err-taken-clause-cause g c =
+    err-cause c.from_residual-in_err-taken.result c.in_err-taken.field-0.0 _ _ c.from_residual-in_err-taken.ensures.1
+    (bad-counts c.in_err-taken.field-0.0 _ _ c.in_err-taken.ensures.bad (goes_on _ _ _ c.loop-fields.invariant.steady c.in_ok-read_fields.ensures.cause))
+
+pub loop-fields-preserved : goal.loop-fields-preserved
+loop-fields-preserved g c =
+    let more = c.in_ok-read_fields.ensures.more in record {
+      within = omega (arith, ap length more.puts, length-append c.loop-fields.fields.items more.own, more.within);
+      taken = let w = c.in_ok-taken.ensures.within in omega (arith, w, ap length c.as_slice.ensures.value);
+      fields = λ before are.
+          let t = c.loop-fields.invariant.fields before are in
+          let more = c.in_ok-read_fields.ensures.more in
+          let items = c.loop-fields.fields.items in
+          let mark = mark_of (marks_rows c.loop-fields.marks) in
+          let is = c.as_slice.ensures.value ∙ more.puts in
+          let few = length-grow c.as_slice.result.now items more.own (4 * c.in_ok-number.number) is more.within in
+          let first = fields-grow (before ++ t.number) items c.in_ok-number.number mark c.loop-fields.taken t.has c.as_slice.result.now more.own is in
+          let now = c.in_ok-taken.ensures.taken (before ++ t.number) c.in_ok-number.number few first in record {
+            number = t.number;
+            consumed = subst (λ l. Consumes (g.S.Source.seen c.args.src.now).bytes (g.S.Source.seen c.read_fields.new.src).bytes (t.number ++ l)) (sym more.puts)
+                (fields-come before c.in_ok-number.number items mark c.loop-fields.taken _ _ t _ more.own more.taken);
+            has = subst (λ l. HasFields (before ++ t.number) c.in_ok-number.number l (mark_of (marks_rows c.take_runs.new.marks)) c.in_ok-taken.taken) c.as_slice.ensures.value now;
+          };
+      steady = goes_on _ _ _ c.loop-fields.invariant.steady c.in_ok-read_fields.ensures.cause;
+    }
+
+pub returns-clause-all : goal.returns-clause-all
+returns-clause-all g c = λ before are.
+    fields-whole before c.in_ok-number.number c.loop-fields.fields.items (mark_of (marks_rows c.loop-fields.marks)) c.loop-fields.taken _ _ (c.loop-fields.invariant.fields before are) _
+    (omega (arith, c.loop-fields-test.false, c.len.ensures.value, c.loop-fields.invariant.within)) (Consumes-none _)

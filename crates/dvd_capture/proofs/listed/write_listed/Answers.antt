@@ -1,23 +1,13 @@
 -- The proof of `write_listed` in src/listed.rt.
-use Rattle.std.proofs.Common.{Result, Ok, Err, subst}
-use Rattle.std.specs.Result.{OnErr, OnOk}
+use Rattle.std.proofs.Common.{subst}
 use Rattle.std.specs.Io.KnownBytes.{Appends}
 use Rattle.dvd_ports.specs.Whole.{AppendsPrefix}
 use Rattle.coding.specs.Recording.{recording}
 use Rattle.dvd_block.proofs.Recorded.{on_err}
 use Rattle.dvd_capture.specs.Works.{marks_of_work, rows_of}
-use Rattle.dvd_capture.proofs.ListedWritten.{recording_size, rows-begun, runs-begun, unit-written}
+use Rattle.dvd_capture.proofs.ListedWritten.{on_err-map, on_ok-map, recording_size, rows-begun, runs-begun, unit-written}
 use Rattle.dvd_capture.proofs.WorkParts.{marks-height, marks-width, rows-height}
 use Rattle.dvd_capture.proofs.listed.write_listed.Goals as goal
-
--- what holds of an answer in each case
-on_ok-map : {T E : Type 0} (r : Result T E) (P Q : Type 0) → (P → Q) → OnOk r P → OnOk r Q
-on_ok-map (Ok v) P Q f p = f p
-on_ok-map (Err e) P Q f p = p
-
-on_err-map : {T E : Type 0} (r : Result T E) (P Q : Type 0) → (P → Q) → OnErr r P → OnErr r Q
-on_err-map (Ok v) P Q f p = p
-on_err-map (Err e) P Q f p = f p
 
 -- the rows were written before the runs
 rows-grown : (g : _) (c : goal.After-write_runs g) → Appends (g.K.Sink.seen c.args.out.now).bytes (g.K.Sink.seen c.write_rows.new.out).bytes (recording (rows_of c.args.work.now))

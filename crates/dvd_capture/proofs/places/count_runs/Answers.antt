@@ -1,28 +1,54 @@
 -- The proof of `count_runs` in src/places.rt.
-use Rattle.std.proofs.Common.{◌≡◌, ◌∙◌, if◌then◌else◌, Bool, ap, sym, arith}
+use Rattle.std.proofs.Common.{◌≡◌, ◌∙◌, ◌<◌, sym, ap, arith}
 use Rattle.dvd_capture.specs.Listed.{mark_of}
+use Rattle.dvd_capture.specs.Inner.Listing.{starts_below}
 use Rattle.dvd_capture.specs.Parts.{marks_rows}
-use Rattle.dvd_capture.proofs.RunStarts.{start_at, starts-next, starts-none}
+use Rattle.dvd_capture.proofs.RunStarts.{IsNextRun, counted-next, same_starts-before, some-length, starts-none}
 use Rattle.dvd_capture.proofs.places.count_runs.Goals as goal
-use Rattle.dvd_capture.proofs.places.count_runs.Goals.{then-starts_run, else-starts_run}
 
-pub loop-place-init : goal.loop-place-init
-loop-place-init c = record { counted = sym (starts-none (mark_of (marks_rows c.args.marks.now))); few = omega arith }
+pub loop-end-init : goal.loop-end-init
+loop-end-init c = record {
+  counted = starts-none (mark_of (marks_rows c.args.marks.now));
+  clear = λ some. absurd (omega (arith, some));
+  few = omega arith;
+  within = omega arith;
+}
 
-pub loop-place-preserved : goal.loop-place-preserved
-loop-place-preserved c =
+pub returns-then-start-eq-PLACES : goal.returns-then-start-eq-PLACES
+returns-then-start-eq-PLACES c =
     let mark = mark_of (marks_rows c.args.marks.now) in
-    let next = starts-next mark c.loop-place.place in
-    let before = c.loop-place.invariant in
-    elim c.if-starts_run.branch [
-      | then-starts_run w ↦
-          let one : start_at mark c.loop-place.place ≡ 1 = ap (λ (t : Bool). if t then 1 else 0) (sym c.starts_run.ensures ∙ w.if-starts_run.true) in record {
-            counted = omega (arith, next, one, before.counted, w.count-is);
-            few = omega (arith, before.few, w.count-is);
-          }
-      | else-starts_run w ↦
-          let none : start_at mark c.loop-place.place ≡ 0 = ap (λ (t : Bool). if t then 1 else 0) (sym c.starts_run.ensures ∙ w.if-starts_run.false) in record {
-            counted = omega (arith, next, none, before.counted, w.count-is);
-            few = omega (arith, before.few, w.count-is);
-          }
-    ]
+    sym (ap (starts_below mark) (sym c.if-start-eq-PLACES.true)
+    ∙ same_starts-before mark c.loop-end.count c.loop-end.end c.next_place-start.result c.loop-end.invariant.counted c.next_place-start.ensures)
+
+-- the run that was found
+found : (c : goal.After-next_place-end) → IsNextRun (mark_of (marks_rows c.args.marks.now)) c.loop-end.end c.next_place-start.result c.next_place-end.result
+found c = record { starts = c.next_place-start.ensures; ends = c.next_place-end.ensures }
+
+-- it starts at a place of the block
+inside : (c : goal.After-next_place-end) → c.next_place-start.result < 37_856
+inside c = omega (arith, c.next_place-start.ensures.within, c.if-start-eq-PLACES.false)
+
+-- and has a place
+longer : (c : goal.After-next_place-end) → c.next_place-start.result < c.next_place-end.result
+longer c =
+    some-length (mark_of (marks_rows c.args.marks.now)) c.loop-end.count c.loop-end.end c.next_place-start.result c.next_place-end.result
+    c.loop-end.invariant.clear c.loop-end.invariant.counted (found c) (inside c)
+
+pub loop-end-smaller : goal.loop-end-smaller
+loop-end-smaller c = let more = longer c in omega (arith, more, c.next_place-start.ensures.least, c.next_place-end.ensures.within)
+
+pub loop-end-preserved : goal.loop-end-preserved
+loop-end-preserved c = record {
+  counted =
+      counted-next (mark_of (marks_rows c.args.marks.now)) c.loop-end.count c.loop-end.end c.next_place-start.result c.next_place-end.result
+      c.loop-end.invariant.clear c.loop-end.invariant.counted (found c) (inside c);
+  clear = λ some below. c.next_place-end.ensures.found below;
+  few = let more = longer c in omega (arith, more, c.loop-end.invariant.few, c.next_place-start.ensures.least);
+  within = c.next_place-end.ensures.within;
+}
+
+pub returns : goal.returns
+returns c =
+    let mark = mark_of (marks_rows c.args.marks.now) in
+    let all : c.loop-end.end ≡ 37_856 = omega (arith, c.loop-end-test.false, c.loop-end.invariant.within) in
+    sym (ap (starts_below mark) (sym all) ∙ c.loop-end.invariant.counted)

@@ -1,0 +1,127 @@
+//! The runs of marked places of a block as fields: put one after the other, and taken as they come.
+ghost use Rattle.std.specs.Prelude.{◌≡◌, ℕ, ◌+◌, ◌*◌, ◌<◌, ◌≤◌, ◌⊎◌, List, [], ◌++◌, length, take, IfOk, IfErr, OnOk};
+ghost use Rattle.std.specs.Int.{to_be_bytes, w16};
+ghost use Rattle.arrayvec.specs.ArrayVec.{array_vec_len};
+ghost use Rattle.dvd_capture.specs.Listed.{field_at, mark_of};
+ghost use Rattle.dvd_capture.specs.Inner.Listing.{AreFields, BreaksIn, HasFields, HasRuns, IsBadMarks};
+ghost use Rattle.dvd_capture.specs.Parts.{marks_rows};
+ghost use Rattle.dvd_capture.specs.declared.capture.FetchAnswer.TheVariants.{BadMarks};
+
+use crate::capture::FetchAnswer;
+use crate::parts::Marks;
+use crate::places::{PLACES, count_runs, mark_places, next_place};
+use arrayvec::ArrayVec;
+use byteorder::{BigEndian, ByteOrder};
+
+/// The most runs that a block has: every other place is marked.
+pub(crate) const MOST_RUNS: usize = 18_928;
+
+/// The fields behind the rows of a block: the number of its runs, and two for each.
+pub(crate) type Fields = ArrayVec<u8, 75_714>;
+
+/// How many runs were taken, and where the last of them ends.
+#[derive(Clone, Copy)]
+pub(crate) struct Taken {
+    pub runs: usize,
+    pub end: usize,
+}
+
+/// Puts the number of runs and then each run.
+pub(crate) fn list_runs(marks: &Marks, fields: &mut Fields)
+    requires { fields.old.items ≡ [] }
+    ensures { (before : List ℕ) → length before ≡ 37_856 → AreFields before (mark_of (marks_rows marks.now)) fields.new.items }
+{
+    let number = count_runs(marks);
+    put_field(fields, number);
+    let mut end = 0;
+    for _run in 0..number {
+        let start = next_place(marks, end, true);
+        end = next_place(marks, start, false);
+        put_field(fields, start);
+        put_field(fields, end - start);
+    }
+}
+
+// Puts a field.
+fn put_field(fields: &mut Fields, value: usize)
+    requires value { value ≤ 37_856 }
+    requires room { array_vec_len fields.old + 2 ≤ 75_714 }
+    ensures items { fields.new.items ≡ fields.old.items ++ to_be_bytes w16 value }
+    ensures len { array_vec_len fields.new ≡ array_vec_len fields.old + 2 }
+{
+    let _ = fields.try_extend_from_slice(&(value as u16).to_be_bytes());
+}
+
+/// Takes the runs that are whole in these fields, behind those that were taken before, and looks at the start of the next one.
+pub(crate) fn take_runs(
+    marks: &mut Marks,
+    fields: &[u8],
+    taken: Taken,
+) -> Result<Taken, FetchAnswer>
+    requires size { length fields.now ≤ 75_712 }
+    requires before { 4 * taken.runs ≤ length fields.now }
+    ensures taken { (head : List ℕ) (count : ℕ) → length fields.now ≤ 4 * count
+        → HasRuns (head ++ take (4 * taken.runs) fields.now) count taken.runs taken.end (mark_of (marks_rows marks.old))
+        → IfOk result (HasFields head count fields.now (mark_of (marks_rows marks.new))) }
+    ensures broken { (head : List ℕ) (count : ℕ) → length fields.now ≤ 4 * count
+        → HasRuns (head ++ take (4 * taken.runs) fields.now) count taken.runs taken.end (mark_of (marks_rows marks.old))
+        → IfErr result (BreaksIn (head ++ fields.now)) }
+    ensures within { IfOk result (λ now. 4 * now.runs ≤ length fields.now) }
+    ensures bad { IfErr result IsBadMarks }
+{
+    let mut taken = taken;
+    for i in taken.runs..fields.len() / 4 {
+        let start = field(fields, 4 * i);
+        let length = field(fields, 4 * i + 2);
+        check_start(i, start, taken.end)?;
+        check_length(i, start, length)?;
+        mark_places(marks, start, start + length);
+        taken = Taken {
+            runs: i + 1,
+            end: start + length,
+        };
+    }
+    if fields.len() % 4 >= 2 {
+        check_start(taken.runs, field(fields, 4 * taken.runs), taken.end)?;
+    }
+    Ok(taken)
+}
+
+// The field at an offset.
+fn field(fields: &[u8], offset: usize) -> usize
+    requires { offset + 2 ≤ length fields.now }
+    ensures value { result ≡ field_at fields.now offset }
+    ensures small { result < 65_536 }
+{
+    usize::from(BigEndian::read_u16(&fields[offset..offset + 2]))
+}
+
+// Run `i` starts at a place of the block, above the end of the one before.
+fn check_start(i: usize, start: usize, end: usize) -> Result<(), FetchAnswer>
+    requires { i < 18_928 }
+    ensures lawful { OnOk result ((start < 37_856) × (0 < i → end < start)) }
+    ensures breaks { IfErr result (λ answer. (answer ≡ BadMarks (37_858 + 4 * i)) × ((37_856 ≤ start) ⊎ ((0 < i) × (start ≤ end)))) }
+{
+    if start >= PLACES || (i > 0 && start <= end) {
+        return Err(FetchAnswer::BadMarks {
+            at: (PLACES + 2 + 4 * i) as u32,
+        });
+    }
+    Ok(())
+}
+
+// It has a place, and none beyond the block's last one.
+fn check_length(i: usize, start: usize, length: usize) -> Result<(), FetchAnswer>
+    requires i { i < 18_928 }
+    requires start { start < 37_856 }
+    requires length { length < 65_536 }
+    ensures lawful { OnOk result ((0 < length) × (start + length ≤ 37_856)) }
+    ensures breaks { IfErr result (λ answer. (answer ≡ BadMarks (37_860 + 4 * i)) × ((length ≡ 0) ⊎ (37_856 < start + length))) }
+{
+    if length == 0 || start + length > PLACES {
+        return Err(FetchAnswer::BadMarks {
+            at: (PLACES + 4 + 4 * i) as u32,
+        });
+    }
+    Ok(())
+}
