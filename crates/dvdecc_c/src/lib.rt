@@ -2,6 +2,8 @@
 //!
 //! Nothing here is required of a caller but that memory is as include/dvdecc.h declares it: what can be tested has a status.
 //! A status is a function of the definitions, and after another status than 0 each buffer of the caller is as it was.
+//!
+//! The tests are those of checks/c_library, which calls each export from C. Tests here would have the whole crate proved twice.
 #![tactic(auto)]
 
 mod blocks; // whole blocks: their parity, and two passes over a captured one
@@ -13,5 +15,3 @@ mod reading; // captured blocks: their sectors, and what is salvaged
 mod sectors; // CD-ROM sectors
 mod status; // what the calls answer
 mod words; // rows and columns of a block
-#[cfg(test)]
-mod tests;
