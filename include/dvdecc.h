@@ -172,8 +172,8 @@ uint32_t dvdecc_read_block(const uint8_t capture[42640], uint32_t id, uint32_t r
  * where its IED, its place and its EDC are right in its twelve rows. These are those of the block that two passes
  * determine. Where they determine none, they are the codewords near the twelve rows, and each row has to have one.
  *
- * The sector of a salvaged frame is its Main Data, unscrambled, and that of any other is 2,048 zeros. saved[f] is 1 where
- * frame f is salvaged, and 0 where it isn't. DVDECC_OK comes also where none is. `id`, `rule`, DVDECC_BAD_RULE,
+ * The sector of a salvaged frame is its Main Data, unscrambled, and that of any other is 2,048 zeros. saved[f] is 1
+ * where frame f is salvaged, and 0 where it isn't. DVDECC_OK comes also where none is. `id`, `rule`, DVDECC_BAD_RULE,
  * DVDECC_BAD_ID and the memory are as for dvdecc_read_block. */
 uint32_t dvdecc_salvage_block(const uint8_t capture[42640], uint32_t id, uint32_t rule, uint8_t sectors[16][2048],
                               uint8_t saved[16]);

@@ -1,5 +1,5 @@
-/* Memory for the proved functions, from malloc, realloc and free. Nothing here is proved: the proofs trust that these three
- * functions do what is said of each.
+/* Memory for the proved functions, from malloc, realloc and free. Nothing here is proved: the proofs trust that these
+ * three functions do what is said of each.
  *
  * An alignment divides 16, and the blocks of malloc are aligned to 16. A size may be 0; there is a block then too. */
 #include <stdbool.h>

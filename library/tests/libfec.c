@@ -1,6 +1,6 @@
-/* Decodes 200,000 drawn words with libfec too, a decoder that shares no text with the codec. A word that is near must be the
- * one that libfec finds. libfec also answers words beyond the bound; then no codeword is near, and the codec refuses. Linked
- * with -lfec. Prints 'N passed, M failed'. */
+/* Decodes 200,000 drawn words with libfec too, a decoder that shares no text with the codec. A codeword that is near has
+ * to be the one that libfec finds. libfec also answers words beyond the bound; then none is near, and the codec refuses.
+ * Linked with -lfec. Prints 'N passed, M failed'. */
 #include <dvdecc.h>
 #include <fec.h>
 #include <stdio.h>
@@ -41,7 +41,7 @@ static uint32_t decode(const struct code *code, uint8_t *word, const uint8_t *lo
     return dvdecc_rs_decode(word, code->size, lost, code->size, code->parity, fix);
 }
 
-/* Draws a word and its parity, by both. Then wrong bytes, some more than are borne, and lost ones, some of them right. */
+/* Draws a word and its parity, by both. Then wrong bytes, at times too many, and lost ones, some of them right. */
 static void draw(const struct code *code, struct word *word) {
     unsigned data = code->size - code->parity;
     uint8_t parity[32];
@@ -132,7 +132,8 @@ int main(void) {
     }
     bool is_drawn = both > 50000 && neither > 5000 && theirs_alone > 5000;
     if (wrong != 0 || !is_drawn) {
-        printf("FAILED: %ld wrong, %ld by both, %ld by neither, %ld by libfec alone\n", wrong, both, neither, theirs_alone);
+        printf("FAILED: %ld wrong; answered by both %ld, by neither %ld, by libfec alone %ld\n", wrong, both, neither,
+               theirs_alone);
     }
     printf("%d passed, %d failed\n", wrong == 0 && is_drawn, wrong != 0 || !is_drawn);
     return wrong != 0 || !is_drawn;
