@@ -2,6 +2,7 @@
 pub mod Bits
 pub mod Steps
 pub mod Division
+pub mod Chunks
 pub mod Places
 pub mod Encoding
 pub mod Assembly

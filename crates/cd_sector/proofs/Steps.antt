@@ -1,10 +1,10 @@
 -- Steps of the register: they take a sum to the sum, and eight steps of a word are those of its lowest byte.
 use Rattle.std.proofs.Common.{◌≡◌, ℕ, zero, suc, ◌+◌, ◌*◌, ◌/◌, ◌%◌, ◌^◌, ◌<◌, ◌≤◌, List, [], ◌∷◌, length, drop, get_or, All, cond, eqb, Bool, true, false, refl, sym, ◌∙◌, ap, ap₂, subst, add-one, arith}
 use Rattle.std.specs.Prelude.{bit_xor}
-use Rattle.std.specs.Int.Bits.{xor_zero_l, xor_zero_r}
+use Rattle.std.specs.Int.Bits.{xor_assoc, xor_zero_l, xor_zero_r}
 use Rattle.std.proofs.Math.Seq.{drop-cons}
 use Rattle.std.proofs.lemmas.List.{drop_all}
-use Rattle.std.proofs.lemmas.Nat.{xor_lt, xor_shr, xor_mod, xor_block}
+use Rattle.std.proofs.lemmas.Nat.{xor_lt, xor_block}
 use Rattle.std.proofs.lemmas.Nat.Bits.{same_from_bits, bit_at_xor}
 use Rattle.std.proofs.lemmas.List.Elements.{All-tail}
 use Rattle.coding.specs.Words.{IsByte}
@@ -44,7 +44,7 @@ stepped_sum a b =
     ∙ ap₂ bit_xor (sym (stepped_is a)) (sym (stepped_is b))
 
 -- so do n steps
-after_steps_sum : (n a b : ℕ) → after_steps n (bit_xor a b) ≡ bit_xor (after_steps n a) (after_steps n b)
+pub after_steps_sum : (n a b : ℕ) → after_steps n (bit_xor a b) ≡ bit_xor (after_steps n a) (after_steps n b)
 unfolding after_steps
 after_steps_sum zero a b = refl
 after_steps_sum (suc n) a b = ap (after_steps n) (stepped_sum a b) ∙ after_steps_sum n (stepped a) (stepped b)
@@ -90,15 +90,12 @@ eight_steps a =
     ∙ ap (λ (h : ℕ). bit_xor h (after_steps 8 (a % 256))) (after_eight (a / 256))
 
 -- a byte read into the register, as the code does it
-pub byte_read : (register byte : ℕ) → byte < 256
-    → bit_xor (register / 256) (after_steps 8 (bit_xor (register % 256) byte)) ≡ after_steps 8 (bit_xor register byte)
-byte_read register byte is_byte =
-    let high : byte / 2 ^ 8 ≡ 0 = omega arith in
-    let low : byte % 2 ^ 8 ≡ byte = omega arith in
-    sym (eight_steps (bit_xor register byte)
-    ∙ ap₂ (λ (h l : ℕ). bit_xor h (after_steps 8 l))
-    (xor_shr register byte 8 ∙ ap (bit_xor (register / 2 ^ 8)) high ∙ xor_zero_r (register / 2 ^ 8))
-    (xor_mod register byte 8 ∙ ap (bit_xor (register % 2 ^ 8)) low))
+pub byte_read : (register byte : ℕ) → bit_xor (register / 256) (after_steps 8 (bit_xor (register % 256) byte)) ≡ after_steps 8 (bit_xor register byte)
+byte_read register byte =
+    ap (bit_xor (register / 256)) (after_steps_sum 8 (register % 256) byte)
+    ∙ sym (xor_assoc (register / 256) (after_steps 8 (register % 256)) (after_steps 8 byte))
+    ∙ ap (λ (x : ℕ). bit_xor x (after_steps 8 byte)) (sym (eight_steps register))
+    ∙ sym (after_steps_sum 8 register byte)
 
 -- a bit that leaves a word of 32 bits leaves one
 pub added-lt : (register bit : ℕ) → register < 2 ^ 32 → bit_xor (register / 2) (taken bit) < 2 ^ 32

@@ -1,9 +1,10 @@
 //! The code of a sector that detects errors, the EDC (ECMA-130, 14.3).
 ghost use Rattle.std.specs.Prelude.{◌≡◌, ◌++◌, bit_xor};
+ghost use Rattle.std.specs.List.{concat};
 ghost use Rattle.cd_sector.specs.Edc.{cd_edc_of};
 ghost use Rattle.cd_sector.specs.Inner.Register.{after_reading, after_steps};
 
-use crate::table::remainder_of;
+use crate::table::{remainder_before_word, remainder_of, remainder_of_word};
 
 /// The EDC of a list of bytes of any length: the remainder of its bits, the least significant of each byte first,
 /// by (x^16 + x^15 + x^2 + 1) (x^16 + x^2 + x + 1).
@@ -24,11 +25,37 @@ pub(crate) fn edc_of_parts(front: &[u8], back: &[u8]) -> [u8; 4]
 fn with_bytes(register: u32, bytes: &[u8]) -> u32
     ensures { result ≡ after_reading bytes.now register }
 {
-    let mut next = register;
-    for byte in bytes {
+    let (chunks, others) = bytes.as_chunks::<8>();
+    let mut next = with_chunks(register, chunks);
+    for byte in others {
         next = with_byte(next, *byte);
     }
     next
+}
+
+// The register with these chunks of eight bytes more.
+fn with_chunks(register: u32, chunks: &[[u8; 8]]) -> u32
+    ensures { result ≡ after_reading (concat chunks.now) register }
+{
+    let mut next = register;
+    for chunk in chunks {
+        next = with_chunk(next, *chunk);
+    }
+    next
+}
+
+// Eight bytes more at once: the whole register leaves with the first four, and nothing of it is left for the others.
+fn with_chunk(register: u32, chunk: [u8; 8]) -> u32
+    ensures { result ≡ after_reading chunk register }
+{
+    let [first, second, third, fourth] = register.to_le_bytes();
+    let front = remainder_before_word([
+        chunk[0] ^ first,
+        chunk[1] ^ second,
+        chunk[2] ^ third,
+        chunk[3] ^ fourth,
+    ]);
+    front ^ remainder_of_word([chunk[4], chunk[5], chunk[6], chunk[7]])
 }
 
 // One byte more: its sum with the eight bits that leave the register is divided, and what this leaves is added.

@@ -1,54 +1,61 @@
-//! Division for the EDC (ECMA-130, 14.3), a byte at once.
-ghost use Rattle.std.specs.Prelude.{◌≡◌, map};
+//! Division for the EDC (ECMA-130, 14.3), a byte or eight at once.
+ghost use Rattle.std.specs.Prelude.{◌≡◌, ℕ, map};
 ghost use Rattle.std.specs.List.{range_with_len};
-ghost use Rattle.cd_sector.specs.Inner.Register.{after_steps};
+ghost use Rattle.cd_sector.specs.Inner.Register.{after_steps, after_word};
 
-/// What eight steps of the division leave of each byte in a register of zeros.
-static REMAINDERS: [u32; 256] = [
-    0x00000000, 0x90910101, 0x91210201, 0x01B00300, 0x92410401, 0x02D00500, 0x03600600, 0x93F10701,
-    0x94810801, 0x04100900, 0x05A00A00, 0x95310B01, 0x06C00C00, 0x96510D01, 0x97E10E01, 0x07700F00,
-    0x99011001, 0x09901100, 0x08201200, 0x98B11301, 0x0B401400, 0x9BD11501, 0x9A611601, 0x0AF01700,
-    0x0D801800, 0x9D111901, 0x9CA11A01, 0x0C301B00, 0x9FC11C01, 0x0F501D00, 0x0EE01E00, 0x9E711F01,
-    0x82012001, 0x12902100, 0x13202200, 0x83B12301, 0x10402400, 0x80D12501, 0x81612601, 0x11F02700,
-    0x16802800, 0x86112901, 0x87A12A01, 0x17302B00, 0x84C12C01, 0x14502D00, 0x15E02E00, 0x85712F01,
-    0x1B003000, 0x8B913101, 0x8A213201, 0x1AB03300, 0x89413401, 0x19D03500, 0x18603600, 0x88F13701,
-    0x8F813801, 0x1F103900, 0x1EA03A00, 0x8E313B01, 0x1DC03C00, 0x8D513D01, 0x8CE13E01, 0x1C703F00,
-    0xB4014001, 0x24904100, 0x25204200, 0xB5B14301, 0x26404400, 0xB6D14501, 0xB7614601, 0x27F04700,
-    0x20804800, 0xB0114901, 0xB1A14A01, 0x21304B00, 0xB2C14C01, 0x22504D00, 0x23E04E00, 0xB3714F01,
-    0x2D005000, 0xBD915101, 0xBC215201, 0x2CB05300, 0xBF415401, 0x2FD05500, 0x2E605600, 0xBEF15701,
-    0xB9815801, 0x29105900, 0x28A05A00, 0xB8315B01, 0x2BC05C00, 0xBB515D01, 0xBAE15E01, 0x2A705F00,
-    0x36006000, 0xA6916101, 0xA7216201, 0x37B06300, 0xA4416401, 0x34D06500, 0x35606600, 0xA5F16701,
-    0xA2816801, 0x32106900, 0x33A06A00, 0xA3316B01, 0x30C06C00, 0xA0516D01, 0xA1E16E01, 0x31706F00,
-    0xAF017001, 0x3F907100, 0x3E207200, 0xAEB17301, 0x3D407400, 0xADD17501, 0xAC617601, 0x3CF07700,
-    0x3B807800, 0xAB117901, 0xAAA17A01, 0x3A307B00, 0xA9C17C01, 0x39507D00, 0x38E07E00, 0xA8717F01,
-    0xD8018001, 0x48908100, 0x49208200, 0xD9B18301, 0x4A408400, 0xDAD18501, 0xDB618601, 0x4BF08700,
-    0x4C808800, 0xDC118901, 0xDDA18A01, 0x4D308B00, 0xDEC18C01, 0x4E508D00, 0x4FE08E00, 0xDF718F01,
-    0x41009000, 0xD1919101, 0xD0219201, 0x40B09300, 0xD3419401, 0x43D09500, 0x42609600, 0xD2F19701,
-    0xD5819801, 0x45109900, 0x44A09A00, 0xD4319B01, 0x47C09C00, 0xD7519D01, 0xD6E19E01, 0x46709F00,
-    0x5A00A000, 0xCA91A101, 0xCB21A201, 0x5BB0A300, 0xC841A401, 0x58D0A500, 0x5960A600, 0xC9F1A701,
-    0xCE81A801, 0x5E10A900, 0x5FA0AA00, 0xCF31AB01, 0x5CC0AC00, 0xCC51AD01, 0xCDE1AE01, 0x5D70AF00,
-    0xC301B001, 0x5390B100, 0x5220B200, 0xC2B1B301, 0x5140B400, 0xC1D1B501, 0xC061B601, 0x50F0B700,
-    0x5780B800, 0xC711B901, 0xC6A1BA01, 0x5630BB00, 0xC5C1BC01, 0x5550BD00, 0x54E0BE00, 0xC471BF01,
-    0x6C00C000, 0xFC91C101, 0xFD21C201, 0x6DB0C300, 0xFE41C401, 0x6ED0C500, 0x6F60C600, 0xFFF1C701,
-    0xF881C801, 0x6810C900, 0x69A0CA00, 0xF931CB01, 0x6AC0CC00, 0xFA51CD01, 0xFBE1CE01, 0x6B70CF00,
-    0xF501D001, 0x6590D100, 0x6420D200, 0xF4B1D301, 0x6740D400, 0xF7D1D501, 0xF661D601, 0x66F0D700,
-    0x6180D800, 0xF111D901, 0xF0A1DA01, 0x6030DB00, 0xF3C1DC01, 0x6350DD00, 0x62E0DE00, 0xF271DF01,
-    0xEE01E001, 0x7E90E100, 0x7F20E200, 0xEFB1E301, 0x7C40E400, 0xECD1E501, 0xED61E601, 0x7DF0E700,
-    0x7A80E800, 0xEA11E901, 0xEBA1EA01, 0x7B30EB00, 0xE8C1EC01, 0x7850ED00, 0x79E0EE00, 0xE971EF01,
-    0x7700F000, 0xE791F101, 0xE621F201, 0x76B0F300, 0xE541F401, 0x75D0F500, 0x7460F600, 0xE4F1F701,
-    0xE381F801, 0x7310F900, 0x72A0FA00, 0xE231FB01, 0x71C0FC00, 0xE151FD01, 0xE0E1FE01, 0x7070FF00,
+// The sums of all choices of numbers, in the order of the bytes whose bits choose them.
+macro_rules! sums {
+    ([$($sum:expr),*]) => { [$($sum),*] };
+    ([$($sum:expr),*] $number:literal $($more:literal)*) => {
+        sums!([$($sum,)* $($sum ^ $number),*] $($more)*)
+    };
+}
+
+/// What 8, 16, 24 and 32 steps of the division leave of each byte in a register of zeros. Of a sum of bytes they leave the
+/// sum of what they leave of each.
+static NEAR: [[u32; 256]; 4] = [
+    sums!([0] 0x90910101 0x91210201 0x92410401 0x94810801 0x99011001 0x82012001 0xB4014001 0xD8018001),
+    sums!([0] 0x90019000 0x90002003 0x90034005 0x90058009 0x90080011 0x90130021 0x90250041 0x90490081),
+    sums!([0] 0x00900190 0x01200320 0x02400640 0x04800C80 0x09001900 0x12003200 0x24006400 0x4800C800),
+    sums!([0] 0x41000001 0x82000002 0xB4030007 0xD805000D 0x00090019 0x00120032 0x00240064 0x004800C8),
+];
+
+/// The same of 40, 48, 56 and 64 steps.
+static FAR: [[u32; 256]; 4] = [
+    sums!([0] 0x90D00101 0x91A30201 0x93450401 0x96890801 0x9D111001 0x8A212001 0xA4414001 0xF8818001),
+    sums!([0] 0x9001D100 0x9000A203 0x90024405 0x90078809 0x900C1011 0x901B2021 0x90354041 0x90698081),
+    sums!([0] 0x009001D1 0x012003A2 0x02400744 0x04800E88 0x09001D10 0x12003A20 0x24007440 0x4800E880),
+    sums!([0] 0x65904101 0xCB208202 0x26420407 0x4C84080E 0x9908101C 0x8213203B 0xB4254075 0xD84980E9),
 ];
 
 /// What eight steps of the division leave of this byte.
 pub(crate) fn remainder_of(byte: u8) -> u32
     ensures { result ≡ after_steps 8 byte }
 {
-    entry(&REMAINDERS, byte)
+    entry(&NEAR[0], byte)
 }
 
-// An entry of a table of what each byte leaves.
+/// What is left of four bytes: 32 steps of the first, and eight less of each one behind it.
+pub(crate) fn remainder_of_word(word: [u8; 4]) -> u32
+    ensures { result ≡ after_word 8 word }
+{
+    let front = entry(&NEAR[3], word[0]) ^ entry(&NEAR[2], word[1]);
+    let back = entry(&NEAR[1], word[2]) ^ entry(&NEAR[0], word[3]);
+    front ^ back
+}
+
+/// The same where four more bytes follow: 32 steps more.
+pub(crate) fn remainder_before_word(word: [u8; 4]) -> u32
+    ensures { result ≡ after_word 40 word }
+{
+    let front = entry(&FAR[3], word[0]) ^ entry(&FAR[2], word[1]);
+    let back = entry(&FAR[1], word[2]) ^ entry(&FAR[0], word[3]);
+    front ^ back
+}
+
+// An entry of a table of what so many steps leave of each byte.
 fn entry(table: &[u32; 256], byte: u8) -> u32
-    ensures { table.now ≡ map (after_steps 8) (range_with_len 0 256) → result ≡ after_steps 8 byte }
+    ensures { (n : ℕ) → table.now ≡ map (after_steps n) (range_with_len 0 256) → result ≡ after_steps n byte }
 {
     table[byte as usize]
 }

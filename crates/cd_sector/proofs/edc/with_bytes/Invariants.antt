@@ -4,4 +4,4 @@ use Rattle.cd_sector.specs.Inner.Register.{after_reading}
 use Rattle.cd_sector.proofs.edc.with_bytes.Given as goal
 
 abbrev pub invariant-loop-byte : goal.invariant-loop-byte
-invariant-loop-byte l = after_reading (drop l.byte-index l.bytes) l.next ≡ after_reading l.bytes l.register
+invariant-loop-byte l = after_reading (drop l.byte-index l.others) l.next ≡ after_reading l.bytes l.register

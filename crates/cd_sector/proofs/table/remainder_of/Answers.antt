@@ -8,4 +8,4 @@ use Rattle.cd_sector.proofs.table.remainder_of.Goals as goal
 -- computed over all 256 entries
 pub returns : goal.returns
 unfolding after_steps stepped
-returns c = c.entry.ensures ((bytes_eq-Decides _ (map (after_steps 8) (range_with_len 0 256))).0 refl)
+returns c = c.entry.ensures 8 ((bytes_eq-Decides _ (map (after_steps 8) (range_with_len 0 256))).0 refl)
