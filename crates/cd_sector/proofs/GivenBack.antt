@@ -55,7 +55,7 @@ by_p sector read at size behind before found =
     ∙ ap (λ (k : ℕ). get_or sector k 0) (p_place at behind)
 
 -- a Q word has 45 marks
-length-word_marks : (read : List ℕ) (word : ℕ) → length (word_marks read word) ≡ 45
+pub length-word_marks : (read : List ℕ) (word : ℕ) → length (word_marks read word) ≡ 45
 unfolding word_marks
 length-word_marks read word =
     omega (arith, length-map (range_with_len 0 45) (λ (m : ℕ). nat_lt m 43 && is_lost read ((sector_place word m - 12) % 86)), length-range_with_len 0 45)

@@ -3,8 +3,10 @@ pub mod Bits
 pub mod Steps
 pub mod Division
 pub mod Chunks
+pub mod ColumnWords
 pub mod Places
 pub mod Encoding
+pub mod RowWords
 pub mod Assembly
 pub mod NearWords
 pub mod Changes
@@ -12,6 +14,7 @@ pub mod Spread
 pub mod Passes
 pub mod Costs
 pub mod GivenBack
+pub mod RightWords
 pub mod Faultless
 pub mod OneSector
 pub mod SomeSector

@@ -1,5 +1,5 @@
 -- Words of a sector that become the codewords near them.
-use Rattle.std.proofs.Common.{◌≡◌, ◌≢◌, ◌⊎◌, inl, inr, ℕ, zero, suc, ◌+◌, ◌-◌, ◌%◌, ◌<◌, ◌≤◌, List, ◌++◌, drop, length, get_or, set, Bool, false, ◌&&◌, refl, sym, ◌∙◌, ap, ap₂, subst, zero-add, add-one, arith, Option, Some, None, Result, Ok, Err}
+use Rattle.std.proofs.Common.{◌≡◌, ◌≢◌, ◌⊎◌, inl, inr, ℕ, zero, suc, ◌+◌, ◌-◌, ◌%◌, ◌<◌, ◌≤◌, List, length, get_or, set, Bool, false, ◌&&◌, refl, sym, ◌∙◌, ap, ap₂, subst, zero-add, add-one, arith, Option, Some, None, Result, Ok, Err}
 use Rattle.std.specs.Prelude.{nat_lt, replicate}
 use Rattle.std.specs.Option.{is_none}
 use Rattle.std.specs.Result.{IfErr, IsErrAnd}
@@ -12,8 +12,7 @@ use Rattle.coding.specs.Words.{IsNear}
 use Rattle.rs_decode.specs.Errors.{HasNoneNear}
 use Rattle.coding.specs.Nearest.{near_of}
 use Rattle.rs_decode.proofs.NearSearch.{near_of-some, none-near_of}
-use Rattle.cd_sector.specs.Repair.{with_word_bytes, with_word, near_word, is_lost, with_p_words, word_marks, with_q_words, repaired}
-use Rattle.cd_sector.specs.Sector.{sync}
+use Rattle.cd_sector.specs.Repair.{with_word_bytes, with_word, near_word, is_lost, with_p_words, word_marks, with_q_words}
 use Rattle.cd_sector.specs.declared.checking.CdCause.{CdCause}
 use Rattle.cd_sector.specs.Words.{sector_place, word_size, sector_word}
 use Rattle.cd_sector.proofs.Places.{same_word, length-sector_word}
@@ -90,7 +89,7 @@ unfolding with_q_words
 q_words-none read sector = refl
 
 -- a word has at most 255 bytes
-short : (word : ℕ) → word_size word ≤ 255
+pub short : (word : ℕ) → word_size word ≤ 255
 unfolding word_size
 short word = grind (arith, nat_tests)
 
@@ -144,15 +143,6 @@ pub no_mark : (n m : ℕ) → get_or (replicate n false) m false ≡ false
 no_mark zero m = refl
 no_mark (suc n) zero = refl
 no_mark (suc n) (suc m) = no_mark n m
-
--- a sync, and behind it what the two passes leave, are the repaired sector
-pub repaired_is : (read front p_repaired whole : List ℕ) (lost : List Bool) → front ≡ sync → p_repaired ≡ with_p_words read 86
-    → ((p : ℕ) → p < 86 → get_or lost p false ≡ is_lost read p)
-    → ((was : List ℕ) → ((p : ℕ) → p < 86 → get_or lost p false ≡ is_lost was p) → whole ≡ with_q_words was p_repaired 52)
-    → front ++ drop 12 whole ≡ repaired read
-unfolding repaired
-repaired_is read front p_repaired whole lost front_is p_is lost_are q_is =
-    ap₂ (λ (f w : List ℕ). f ++ drop 12 w) front_is (q_is read lost_are ∙ ap (λ (l : List ℕ). with_q_words read l 52) p_is)
 
 -- what holds of a cause holds of the error of an answer that has this cause
 pub refused : {A : Type 0} (answer : Result A CdCause) (P : CdCause → Type 0) (cause : CdCause) → IsErrAnd answer (λ e. e ≡ cause) → P cause → IfErr answer P

@@ -110,7 +110,7 @@ length-with_q_words read sector (suc n) =
     length-with_word (with_q_words read sector n) (86 + n) (near_word (with_q_words read sector n) (86 + n) (word_marks read (86 + n))) ∙ length-with_q_words read sector n
 
 -- Q words that weren't repaired yet are as they were
-later_q : (read sector : List ℕ) (n word : ℕ) → 86 + n ≤ word → word < 138 → sector_word (with_q_words read sector n) word ≡ sector_word sector word
+pub later_q : (read sector : List ℕ) (n word : ℕ) → 86 + n ≤ word → word < 138 → sector_word (with_q_words read sector n) word ≡ sector_word sector word
 unfolding with_q_words
 later_q read sector zero word from below = refl
 later_q read sector (suc n) word from below =

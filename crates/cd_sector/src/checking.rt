@@ -1,12 +1,13 @@
 //! A sector that was read, checked.
-ghost use Rattle.std.specs.Prelude.{◌≡◌, ◌↔◌, ◌<◌, IfErr, OnOk, IsTrue, IfSome, None};
+ghost use Rattle.std.specs.Prelude.{◌≡◌, ◌≢◌, ◌↔◌, ℕ, ◌<◌, length, slice_index, IfErr, OnOk, IsTrue, IfSome, None};
 ghost use Rattle.cd_sector.specs.Causes.{IsCause, IsRightSector, AreRightBelow, found_header, HasRightEdc};
 ghost use Rattle.cd_sector.specs.Sector.{header as header_of};
 ghost use Rattle.cd_sector.specs.Words.{IsRight};
 
 use crate::edc::edc_of_parts;
+use crate::rows::{p_faults, q_faults};
 use crate::sector::{SYNC, header};
-use crate::words::{P_WORDS, PWord, QWord, WORDS, wrong_word};
+use crate::words::P_WORDS;
 use thiserror::Error;
 
 /// Why a sector isn't right.
@@ -36,6 +37,16 @@ pub fn check(sector: &[u8; 2352], address: u32) -> Result<(), CdCause>
     if let Some(word) = first_wrong_word(sector) {
         return Err(CdCause::Parity { word });
     }
+    check_contents(sector, address)
+}
+
+/// The same of a sector whose words are all codewords.
+pub(crate) fn check_contents(sector: &[u8; 2352], address: u32) -> Result<(), CdCause>
+    requires address { address < 450000 }
+    requires words { AreRightBelow 138 sector.now }
+    ensures right { OnOk result (IsRightSector sector.now address) }
+    ensures refused { IfErr result (λ cause. IsCause sector.now address cause) }
+{
     if sector[15] != 1 {
         return Err(CdCause::Mode { byte: sector[15] });
     }
@@ -49,16 +60,29 @@ pub fn check(sector: &[u8; 2352], address: u32) -> Result<(), CdCause>
     Ok(())
 }
 
-// The least word that isn't a codeword.
-fn first_wrong_word(sector: &[u8; 2352]) -> Option<u16>
+/// The least word that isn't a codeword.
+pub(crate) fn first_wrong_word(sector: &[u8; 2352]) -> Option<u16>
     ensures some { IfSome result (λ word. (word < 138) × (IsRight sector.now word → ⊥) × AreRightBelow word sector.now) }
     ensures none { result ≡ None → AreRightBelow 138 sector.now }
 {
-    let word = match wrong_word(&PWord::new(), 0, P_WORDS, sector) {
-        Some(word) => word,
-        None => wrong_word(&QWord::new(), P_WORDS, WORDS, sector)?,
-    };
-    Some(word as u16)
+    if let Some(word) = first_fault(&p_faults(sector)) {
+        return Some(word as u16);
+    }
+    let word = first_fault(&q_faults(sector))?;
+    Some((P_WORDS + word) as u16)
+}
+
+// The place of the first byte that isn't 0.
+fn first_fault(faults: &[u8]) -> Option<usize>
+    ensures some { IfSome result (λ k. (k < length faults.now) × (slice_index faults.now k ≢ 0) × ((i : ℕ) → i < k → slice_index faults.now i ≡ 0)) }
+    ensures none { result ≡ None → (i : ℕ) → i < length faults.now → slice_index faults.now i ≡ 0 }
+{
+    for (k, fault) in faults.iter().enumerate() {
+        if *fault != 0 {
+            return Some(k);
+        }
+    }
+    None
 }
 
 // Whether minute, second and frame are those of an address.

@@ -3,9 +3,11 @@
 #![tactic(auto)]
 
 mod checking; // a sector that was read, checked
+mod columns; // columns of rows as words, tested and encoded
 mod edc; // the code that detects errors
 pub mod laws; // what holds of every sector
 mod repairing; // a sector that was read, repaired
+mod rows; // the words of a sector as columns of rows
 mod sector; // a whole sector
 mod table; // what each byte leaves, for the EDC
 mod words; // the words that correct errors

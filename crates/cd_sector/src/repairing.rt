@@ -1,12 +1,13 @@
 //! A sector that was read, repaired.
-ghost use Rattle.std.specs.Prelude.{◌≡◌, ℕ, List, ◌+◌, ◌-◌, ◌<◌, ◌≤◌, length, drop, false, slice_index_or, IfErr, IfOk, OnErr, OnOk};
+ghost use Rattle.std.specs.Prelude.{◌≡◌, ℕ, List, ◌+◌, ◌-◌, ◌<◌, ◌≤◌, length, drop, false, slice_index_or, IfErr, IfOk, OnErr, OnOk, IfSome, None};
 ghost use Rattle.std.specs.Option.{is_none};
 ghost use Rattle.coding.specs.Distance.{distance};
-ghost use Rattle.cd_sector.specs.Causes.{IsCause, IsRightSector};
+ghost use Rattle.cd_sector.specs.Causes.{AreRightBelow, IsCause, IsRightSector};
 ghost use Rattle.cd_sector.specs.Repair.{with_word_bytes, with_word, near_word, is_lost, with_p_words, word_marks, with_q_words, repaired};
-ghost use Rattle.cd_sector.specs.Words.{word_size};
+ghost use Rattle.cd_sector.specs.Words.{word_size, IsRight};
 
-use crate::checking::{CdCause, check};
+use crate::checking::{CdCause, check_contents, first_wrong_word};
+use crate::rows::{p_faults, q_faults};
 use crate::sector::SYNC;
 use crate::words::{P_WORDS, PWord, QWord, WORDS, place, read_word};
 use rs_code::Code;
@@ -24,13 +25,29 @@ pub fn repair(sector: &mut [u8; 2352], address: u32) -> Result<u16, CdCause>
     ensures same { OnErr result (sector.new ≡ sector.old) }
 {
     let mut fixed = *sector;
-    let lost = repair_p_words(&mut fixed);
-    repair_q_words(&lost, &mut fixed);
+    if let Some(word) = repair_words(&mut fixed) {
+        return Err(CdCause::Parity { word });
+    }
     fixed[..12].copy_from_slice(&SYNC);
-    check(&fixed, address)?;
+    check_contents(&fixed, address)?;
     let changes = count_changes(sector, &fixed);
     *sector = fixed;
     Ok(changes)
+}
+
+// Repairs all words, unless all are right, and tells the least that still isn't.
+fn repair_words(sector: &mut [u8; 2352]) -> Option<u16>
+    ensures words { sector.new ≡ with_q_words sector.old (with_p_words sector.old 86) 52 }
+    ensures size { length sector.new ≡ 2352 }
+    ensures some { IfSome result (λ word. (word < 138) × (IsRight sector.new word → ⊥) × AreRightBelow word sector.new) }
+    ensures none { result ≡ None → AreRightBelow 138 sector.new }
+{
+    if first_wrong_word(sector).is_none() {
+        return None;
+    }
+    let lost = repair_p_words(sector);
+    repair_q_words(&lost, sector);
+    first_wrong_word(sector)
 }
 
 // Repairs the P words, and tells which are lost.
@@ -41,9 +58,12 @@ fn repair_p_words(sector: &mut [u8; 2352]) -> [bool; 86]
     ensures lost { (word : ℕ) → word < 86 → slice_index_or result word false ≡ is_lost sector.old word }
 {
     let code = PWord::new();
+    let faults = p_faults(sector);
     let mut lost = [false; P_WORDS];
     for word in 0..P_WORDS {
-        lost[word] = repair_word(&code, word, &[false; 26], sector);
+        if faults[word] != 0 {
+            lost[word] = repair_word(&code, word, &[false; 26], sector);
+        }
     }
     lost
 }
@@ -54,8 +74,11 @@ fn repair_q_words(lost: &[bool; 86], sector: &mut [u8; 2352])
     ensures size { length sector.new ≡ 2352 }
 {
     let code = QWord::new();
+    let faults = q_faults(sector);
     for word in P_WORDS..WORDS {
-        repair_word(&code, word, &marks(lost, word), sector);
+        if faults[word - P_WORDS] != 0 {
+            repair_word(&code, word, &marks(lost, word), sector);
+        }
     }
 }
 

@@ -3,8 +3,9 @@ ghost use Rattle.std.specs.Prelude.{◌≡◌, ℕ, ◌+◌, ◌<◌, ◌≤◌,
 ghost use Rattle.cd_sector.specs.Sector.{digits as digits_of, header as header_of, data_part, IsSector};
 ghost use Rattle.cd_sector.specs.Words.{IsRight};
 
+use crate::columns::parity;
 use crate::edc::cd_edc;
-use crate::words::{P_WORDS, PWord, QWord, WORDS, encode_word};
+use crate::rows::{p_rows, q_rows};
 
 /// The first twelve bytes of every sector.
 pub(crate) const SYNC: [u8; 12] = [
@@ -58,8 +59,8 @@ fn set_data(address: u32, user: &[u8; 2048], out: &mut [u8; 2352])
     put(out, 2068, &[0; 8]);
 }
 
-// Writes a part behind what stands before it.
-fn put(out: &mut [u8], at: usize, part: &[u8])
+/// Writes a part behind what stands before it.
+pub(crate) fn put(out: &mut [u8], at: usize, part: &[u8])
     requires { at + length part.now ≤ length out.old }
     ensures { take (at + length part.now) out.new ≡ take at out.old ++ part.now }
 {
@@ -72,10 +73,9 @@ fn set_p_words(sector: &mut [u8; 2352])
     ensures kept { (at : ℕ) → at < 2076 → slice_index sector.new at ≡ slice_index sector.old at }
     ensures size { length sector.new ≡ 2352 }
 {
-    let code = PWord::new();
-    for word in 0..P_WORDS {
-        encode_word(&code, word, sector);
-    }
+    let [first, second] = parity(&p_rows(sector)[..24]);
+    put(sector, 2076, &first);
+    put(sector, 2162, &second);
 }
 
 // Sets the parity of each Q word.
@@ -84,8 +84,7 @@ fn set_q_words(sector: &mut [u8; 2352])
     ensures kept { (at : ℕ) → at < 2248 → slice_index sector.new at ≡ slice_index sector.old at }
     ensures size { length sector.new ≡ 2352 }
 {
-    let code = QWord::new();
-    for word in P_WORDS..WORDS {
-        encode_word(&code, word, sector);
-    }
+    let [first, second] = parity(&q_rows(sector)[..43]);
+    put(sector, 2248, &first);
+    put(sector, 2300, &second);
 }

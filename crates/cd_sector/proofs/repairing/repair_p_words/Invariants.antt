@@ -1,5 +1,5 @@
 -- What each turn of the loop in `repair_p_words` keeps.
-use Rattle.std.proofs.Common.{◌≡◌, ℕ, ◌<◌, length, get_or, false}
+use Rattle.std.proofs.Common.{◌≡◌, ℕ, ◌<◌, ◌≤◌, length, get_or, false}
 use Rattle.cd_sector.specs.Repair.{is_lost, with_p_words}
 use Rattle.cd_sector.proofs.repairing.repair_p_words.Given as goal
 
@@ -9,4 +9,5 @@ invariant-loop-word l = record {
   words : l.sector ≡ with_p_words l.fn.sector l.word;
   lost_size : length l.lost ≡ 86;
   told : (word : ℕ) → word < l.word → get_or l.lost word false ≡ is_lost l.fn.sector word;
+  rest : (word : ℕ) → l.word ≤ word → get_or l.lost word false ≡ false;
 }

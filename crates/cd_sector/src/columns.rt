@@ -1,0 +1,103 @@
+//! Columns of bytes as words with two parity bytes, 32 columns at once. A word is a codeword where its values at 1 and at alpha
+//! are 0.
+ghost use Rattle.std.specs.Prelude.{◌≡◌, ◌↔◌, ℕ, ◌+◌, ◌<◌, ◌≤◌, [], ◌∷◌, ◌++◌, length, slice_index, All};
+ghost use Rattle.coding.specs.Field.{alpha, plus, product};
+ghost use Rattle.coding.specs.Words.{IsByte, IsCodeword, value};
+ghost use Rattle.coding.specs.Rows.{line, place, column};
+ghost use Rattle.rs_lanes.specs.Inner.Lanes.{HasLanes};
+
+use rs_lanes::{any_of, load, multiple, store, with_multiple};
+use std::simd::prelude::*;
+
+/// A byte for each column, which is 0 exactly where the column is a codeword.
+pub(crate) fn faults<const W: usize>(rows: &[[u8; W]]) -> [u8; W]
+    requires { 32 ≤ W }
+    ensures size { length result ≡ W }
+    ensures codewords { (j : ℕ) → j < W → (slice_index result j ≡ 0) ↔ IsCodeword (length rows.now) 2 (column rows.now j) }
+{
+    let mut faults = [0; W];
+    for group in 0..W / 32 {
+        put_faults(rows, 32 * group, &mut faults);
+    }
+    put_faults(rows, W - 32, &mut faults);
+    faults
+}
+
+/// Two rows that make each column a codeword when they stand behind the others.
+pub(crate) fn parity<const W: usize>(rows: &[[u8; W]]) -> [[u8; W]; 2]
+    requires { 32 ≤ W }
+    ensures codewords { (j : ℕ) → j < W
+        → IsCodeword (length rows.now + 2) 2 (column rows.now j ++ place result 0 j ∷ place result 1 j ∷ []) }
+    ensures first_size { length (line result 0) ≡ W }
+    ensures second_size { length (line result 1) ≡ W }
+{
+    let mut first = [0; W];
+    let mut second = [0; W];
+    for group in 0..W / 32 {
+        put_parity(rows, 32 * group, &mut first, &mut second);
+    }
+    put_parity(rows, W - 32, &mut first, &mut second);
+    [first, second]
+}
+
+// Sets the bytes of the 32 columns from `at` on. All before them stay.
+#[inline(always)]
+fn put_faults<const W: usize>(rows: &[[u8; W]], at: usize, faults: &mut [u8; W])
+    requires { at + 32 ≤ W }
+    ensures size { length faults.new ≡ W }
+    ensures set { (j : ℕ) → j < 32
+        → (slice_index faults.new (at + j) ≡ 0) ↔ IsCodeword (length rows.now) 2 (column rows.now (at + j)) }
+    ensures below { (j : ℕ) → j < at → slice_index faults.new j ≡ slice_index faults.old j }
+{
+    store(any_of(&values_at(rows, at)), faults, at);
+}
+
+// Sets the parity of the 32 columns from `at` on. All before it stays.
+#[inline(always)]
+fn put_parity<const W: usize>(
+    rows: &[[u8; W]],
+    at: usize,
+    first: &mut [u8; W],
+    second: &mut [u8; W],
+)
+    requires { at + 32 ≤ W }
+    ensures set { (j : ℕ) → j < 32
+        → IsCodeword (length rows.now + 2) 2 (column rows.now (at + j) ++ slice_index first.new (at + j) ∷ slice_index second.new (at + j) ∷ []) }
+    ensures first_size { length first.new ≡ W }
+    ensures second_size { length second.new ≡ W }
+    ensures first_below { (j : ℕ) → j < at → slice_index first.new j ≡ slice_index first.old j }
+    ensures second_below { (j : ℕ) → j < at → slice_index second.new j ≡ slice_index second.old j }
+{
+    let [sum, value] = values_at(rows, at);
+    // The sum of both bytes is the sum of the column, and thrice the first is this and four times the value at alpha: 0xF4 is
+    // the third of 1, and 0xF7 that of 4.
+    let lanes = with_multiple(multiple(sum, 0xF4), value, 0xF7);
+    store(lanes, first, at);
+    store(lanes ^ sum, second, at);
+}
+
+// The values of the 32 columns from `at` on at 1 and at alpha. That the columns are bytes is told too.
+#[inline(always)]
+fn values_at<const W: usize>(rows: &[[u8; W]], at: usize) -> [u8x32; 2]
+    requires { at + 32 ≤ W }
+    ensures bytes { (j : ℕ) → j < 32 → All IsByte (column rows.now (at + j)) }
+    ensures sums { HasLanes (line result 0) (λ j. value (column rows.now (at + j)) 1) }
+    ensures values { HasLanes (line result 1) (λ j. value (column rows.now (at + j)) alpha) }
+{
+    let mut sum = u8x32::splat(0);
+    let mut value = u8x32::splat(0);
+    for m in 0..rows.len() {
+        [sum, value] = with_row(sum, value, load(&rows[m], at));
+    }
+    [sum, value]
+}
+
+// A step of Horner's rule at 1 and at alpha. That the next lanes are bytes is told too.
+#[inline(always)]
+fn with_row(sum: u8x32, value: u8x32, row: u8x32) -> [u8x32; 2]
+    ensures bytes { (j : ℕ) → j < 32 → slice_index row j < 256 }
+    ensures sums { HasLanes (line result 0) (λ j. plus (slice_index sum j) (slice_index row j)) }
+    ensures values { HasLanes (line result 1) (λ j. plus (slice_index row j) (product (slice_index value j) 2)) }
+{
+    [sum ^ row, with_multiple(row, value, 2)]
+}

@@ -1,0 +1,72 @@
+//! The words of a sector as the columns of rows: a row has the m-th bytes of all P words, or of all Q words, in order.
+ghost use Rattle.std.specs.Prelude.{◌≡◌, ◌↔◌, ℕ, ◌+◌, ◌*◌, ◌/◌, ◌%◌, ◌<◌, length, slice_index};
+ghost use Rattle.coding.specs.Rows.{place};
+ghost use Rattle.cd_sector.specs.Words.{sector_place, IsRight};
+
+use crate::columns::faults;
+use crate::sector::put;
+
+/// A byte for each P word, which is 0 exactly where the word is a codeword.
+pub(crate) fn p_faults(sector: &[u8; 2352]) -> [u8; 86]
+    ensures size { length result ≡ 86 }
+    ensures right { (word : ℕ) → word < 86 → (slice_index result word ≡ 0) ↔ IsRight sector.now word }
+{
+    faults(p_rows(sector))
+}
+
+/// The same of each Q word.
+pub(crate) fn q_faults(sector: &[u8; 2352]) -> [u8; 52]
+    ensures size { length result ≡ 52 }
+    ensures right { (n : ℕ) → n < 52 → (slice_index result n ≡ 0) ↔ IsRight sector.now (86 + n) }
+{
+    faults(&q_rows(sector))
+}
+
+/// The rows of P words, as they stand in a sector.
+pub(crate) fn p_rows(sector: &[u8; 2352]) -> &[[u8; 86]]
+    ensures size { length result.now ≡ 26 }
+    ensures bytes { (m j : ℕ) → m < 26 → j < 86 → place result.now m j ≡ slice_index sector.now (sector_place j m) }
+{
+    sector[12..2248].as_chunks::<86>().0
+}
+
+/// The rows of Q words. All but the last two are gathered from the diagonals.
+pub(crate) fn q_rows(sector: &[u8; 2352]) -> [[u8; 52]; 45]
+    ensures size { length result ≡ 45 }
+    ensures bytes { (m n : ℕ) → m < 45 → n < 52 → place result m n ≡ slice_index sector.now (sector_place (86 + n) m) }
+{
+    let covered = covered_twice(sector);
+    let mut rows = [[0; 52]; 45];
+    for m in 0..43 {
+        put_diagonals(&covered, 88 * m % 2236, &mut rows[m]);
+    }
+    rows[43].copy_from_slice(&sector[2248..2300]);
+    rows[44].copy_from_slice(&sector[2300..2352]);
+    rows
+}
+
+// What the Q words cover, and the same once more, where the diagonals go on that leave it below.
+#[inline(always)]
+fn covered_twice(sector: &[u8; 2352]) -> [u8; 4472]
+    ensures { (at : ℕ) → at < 4472 → slice_index result at ≡ slice_index sector.now (12 + at % 2236) }
+{
+    let mut covered = [0; 4472];
+    put(&mut covered, 0, &sector[12..2248]);
+    put(&mut covered, 2236, &sector[12..2248]);
+    covered
+}
+
+// One pair of each diagonal, the first of which stands at `from`, and each other 86 bytes behind the one before.
+#[inline(always)]
+fn put_diagonals(covered: &[u8; 4472], from: usize, row: &mut [u8; 52])
+    requires { from < 2236 }
+    ensures { (n : ℕ) → n < 52 → slice_index row.new n ≡ slice_index covered.now (from + 86 * (n / 2) + n % 2) }
+{
+    for n in 0..26 {
+        let at = from + 86 * n;
+        // Both are read before one is written: so they are copied at once.
+        let [low, high] = [covered[at], covered[at + 1]];
+        row[2 * n] = low;
+        row[2 * n + 1] = high;
+    }
+}
