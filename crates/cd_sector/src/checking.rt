@@ -74,7 +74,8 @@ pub(crate) fn first_wrong_word(sector: &[u8; 2352]) -> Option<u16>
 
 // The place of the first byte that isn't 0.
 fn first_fault(faults: &[u8]) -> Option<usize>
-    ensures some { IfSome result (λ k. (k < length faults.now) × (slice_index faults.now k ≢ 0) × ((i : ℕ) → i < k → slice_index faults.now i ≡ 0)) }
+    ensures some { IfSome result (λ k. (k < length faults.now) × (slice_index faults.now k ≢ 0)
+        × ((i : ℕ) → i < k → slice_index faults.now i ≡ 0)) }
     ensures none { result ≡ None → (i : ℕ) → i < length faults.now → slice_index faults.now i ≡ 0 }
 {
     for (k, fault) in faults.iter().enumerate() {

@@ -1,5 +1,5 @@
-//! Columns of bytes as words with two parity bytes, 32 columns at once. A word is a codeword where its values at 1 and at alpha
-//! are 0.
+//! Columns of bytes as words with two parity bytes, 32 columns at once. A word is a codeword where its values at 1 and
+//! at alpha are 0.
 ghost use Rattle.std.specs.Prelude.{◌≡◌, ◌↔◌, ℕ, ◌+◌, ◌<◌, ◌≤◌, [], ◌∷◌, ◌++◌, length, slice_index, All};
 ghost use Rattle.coding.specs.Field.{alpha, plus, product};
 ghost use Rattle.coding.specs.Words.{IsByte, IsCodeword, value};
@@ -62,7 +62,8 @@ fn put_parity<const W: usize>(
 )
     requires { at + 32 ≤ W }
     ensures set { (j : ℕ) → j < 32
-        → IsCodeword (length rows.now + 2) 2 (column rows.now (at + j) ++ slice_index first.new (at + j) ∷ slice_index second.new (at + j) ∷ []) }
+        → IsCodeword (length rows.now + 2) 2
+        (column rows.now (at + j) ++ slice_index first.new (at + j) ∷ slice_index second.new (at + j) ∷ []) }
     ensures first_size { length first.new ≡ W }
     ensures second_size { length second.new ≡ W }
     ensures first_below { (j : ℕ) → j < at → slice_index first.new j ≡ slice_index first.old j }
