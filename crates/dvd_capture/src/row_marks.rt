@@ -61,6 +61,13 @@ impl RowMarks {
         }
     }
 
+    /// The 23 bytes of mark bits. What the two spare bits are isn't said.
+    pub fn bits(&self) -> &[u8; 23]
+        ensures { marks_of_row self.now ≡ marks_of result.now }
+    {
+        &self.bits
+    }
+
     /// Sets all marks to those in 23 bytes of mark bits. The most significant bit of a byte is that of its first place.
     pub fn copy_from_bits(&mut self, bits: &[u8])
         requires { length bits.now ≡ 23 }
