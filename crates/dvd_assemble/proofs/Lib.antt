@@ -1,5 +1,6 @@
 -- Why the contracts hold: lemmas on scattered recording frames, the blocks that they name, and what they tell of these.
 pub mod Assembling
+pub mod FirstRows
 pub mod Homes
 pub mod Joining
 pub mod Mastered

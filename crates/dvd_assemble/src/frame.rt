@@ -65,12 +65,12 @@ impl FrameWork {
         &self.rows[0]
     }
 
-    // Writes the marks of row `q`.
-    pub(crate) fn row_marks(&self, q: usize, out: &mut [bool; ROW])
+    // The marks of row `q`.
+    pub(crate) fn row_marks(&self, q: usize) -> &RowMarks
         requires { q < 13 }
-        ensures { out.new ≡ marks_line (frame_marks self.now) q }
+        ensures { marks_of_row result.now ≡ marks_line (frame_marks self.now) q }
     {
-        self.marks[q].unpack(out);
+        &self.marks[q]
     }
 
     // Joins the frame into a block as its recording frame `f`.
@@ -78,10 +78,8 @@ impl FrameWork {
         requires { f < 16 }
         ensures { table_of merge.new ≡ with_frame f (captured self.now) (table_of merge.old) }
     {
-        let mut marks = [false; ROW];
         for q in 0..13usize {
-            self.row_marks(q, &mut marks);
-            merge.take_row(row_of_record(13 * f + q), &self.rows[q], &marks);
+            merge.take_row(row_of_record(13 * f + q), &self.rows[q], self.row_marks(q));
         }
     }
 }

@@ -1,6 +1,8 @@
 //! Where a captured recording frame belongs.
 ghost use Rattle.std.specs.Prelude.{◌≡◌, ◌+◌, ◌*◌, ◌<◌, ◌≤◌, ◌==◌, if◌then◌else◌, length, slice_index, IfSome};
 ghost use Rattle.std.specs.Option.{option_map};
+ghost use Rattle.coding.specs.Nearest.{near_of};
+ghost use Rattle.dvd_capture.specs.Parts.{marks_of_row};
 ghost use Rattle.dvd_frame.specs.Id.{is_same_place};
 ghost use Rattle.dvd_layout.specs.Lengths.{blocks_of};
 ghost use Rattle.dvd_layout.specs.Plan.{plan_of};
@@ -9,6 +11,7 @@ ghost use Rattle.dvd_assemble.specs.Home.{block_and_frame, home, home_in, id_wor
 ghost use Rattle.dvd_assemble.specs.Works.{captured};
 
 use crate::frame::FrameWork;
+use dvd_capture::RowMarks;
 use dvd_frame::{Id, found_id, has_right_ied};
 use dvd_layout::{Layout, Zones, id_of};
 use rs_code::Pi;
@@ -21,23 +24,43 @@ pub(crate) fn home_of(layout: &Layout, frame: &FrameWork) -> Option<(u16, u8)>
     ensures block { IfSome result (λ place. place.0 < length (plan_of layout.now DataOnly)) }
     ensures frame { IfSome result (λ place. place.1 < 16) }
 {
-    let mut marks = [false; 182];
-    frame.row_marks(0, &mut marks);
-    let id = id_in(frame.first_row(), &marks)?;
+    let id = id_in(frame.first_row(), frame.row_marks(0))?;
     home_of_id(layout, id)
 }
 
 // The ID in the codeword near a received first row, if its check is right.
-fn id_in(row: &[u8; 182], marks: &[bool; 182]) -> Option<Id>
-    ensures { result ≡ id_word_in row.now marks.now }
+fn id_in(row: &[u8; 182], marks: &RowMarks) -> Option<Id>
+    ensures { result ≡ id_word_in row.now (marks_of_row marks.now) }
 {
-    let mut word = *row;
-    decode(&Pi::new(), &mut word, marks).ok()?;
+    let word = codeword_near(row, marks)?;
     if has_right_ied(&word) {
         Some(found_id(&word))
     } else {
         None
     }
+}
+
+// The codeword near a received row. Most rows are codewords without marks, and these need no decoding.
+fn codeword_near(row: &[u8; 182], marks: &RowMarks) -> Option<[u8; 182]>
+    ensures { result ≡ near_of 182 10 row.now (marks_of_row marks.now) }
+{
+    let code = Pi::new();
+    if marks.is_clear() && code.is_codeword(row) {
+        Some(*row)
+    } else {
+        decoded(&code, row, marks)
+    }
+}
+
+// The same for any row.
+fn decoded(code: &Pi, row: &[u8; 182], marks: &RowMarks) -> Option<[u8; 182]>
+    ensures { result ≡ near_of 182 10 row.now (marks_of_row marks.now) }
+{
+    let mut word = *row;
+    let mut flags = [false; 182];
+    marks.unpack(&mut flags);
+    decode(code, &mut word, &flags).ok()?;
+    Some(word)
 }
 
 // The block and the frame that have the place of this ID: the layer tells the first block that may have it, and the

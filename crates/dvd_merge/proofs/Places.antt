@@ -49,7 +49,7 @@ unfolding join
 unseen-join p = refl
 
 -- a conflict stays, whether it comes first
-conflict-join : (p : Place) → join Conflict p ≡ Conflict
+pub conflict-join : (p : Place) → join Conflict p ≡ Conflict
 unfolding join
 conflict-join p = refl
 

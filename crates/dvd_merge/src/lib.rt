@@ -3,9 +3,11 @@
 #![tactic(auto)]
 
 pub mod laws; // what holds of every join, as contracts alone
+mod lanes; // 32 places of a row at once
 mod merge; // what is known of each place of a block
 mod place; // what is known of a place
 mod record; // rows in the marked form
+mod row; // rows joined to those of a capture
 
 pub use merge::Merge;
 pub use place::Place;

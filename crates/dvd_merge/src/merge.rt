@@ -1,5 +1,6 @@
 //! What captures of a block know of each of its places.
 ghost use Rattle.std.specs.Prelude.{◌≡◌, ◌<◌, vec_len, slice_set, IfOk};
+ghost use Rattle.dvd_capture.specs.Parts.{marks_of_row};
 ghost use Rattle.dvd_capture.specs.Rule.{HasBlock};
 ghost use Rattle.dvd_capture.specs.Works.{marks_of_work, rows_of, stage_of};
 ghost use Rattle.dvd_ports.specs.Whole.{IsWritten};
@@ -7,18 +8,24 @@ ghost use Rattle.dvd_merge.specs.Join.{join, join_rows, join_tables, known_at, k
 ghost use Rattle.dvd_merge.specs.MarkedText.{marked_text};
 ghost use Rattle.dvd_merge.specs.declared.place.Place.TheVariants.{Value};
 
-use crate::place::Place;
+use crate::place::{Place, UNSEEN};
 use crate::record::{TEXT, fill_text};
-use dvd_capture::Work;
+use crate::row;
+use dvd_capture::{RowMarks, Work};
 use dvd_ports::{NoMemory, Sink, WriteFault, write_whole};
 use std::alloc::Global;
 
-/// What captures of a block know of its places: 208 rows of 182, two bytes a place, which are twice 37,856 bytes in sum.
+/// What captures of a block know of its places, in two planes of 37,856 bytes: 208 rows of 182.
 #[derive(Drop)]
 pub struct Merge {
-    rows: Vec<[Place; 182]>,
-    /// There are 208 rows.
-    pub ghost size: { vec_len rows ≡ 208 },
+    /// The byte of each place. Where no one byte is known it doesn't count.
+    values: Vec<[u8; 182]>,
+    /// The code of what is known of each place.
+    codes: Vec<[u8; 182]>,
+    /// There are 208 rows of values.
+    pub ghost values_size: { vec_len values ≡ 208 },
+    /// And 208 rows of codes.
+    pub ghost codes_size: { vec_len codes ≡ 208 },
 }
 
 impl Merge {
@@ -28,15 +35,17 @@ impl Merge {
     pub fn new(alloc: Global) -> Result<Merge, NoMemory>
         ensures { IfOk result (λ merge. table_of merge ≡ unseen) }
     {
-        let rows = vec![in alloc; [Place::Unseen; 182]; 208].map_err(|_| NoMemory)?;
-        Ok(Merge { rows })
+        let values = vec![in alloc; [0; 182]; 208].map_err(|_| NoMemory)?;
+        let codes = vec![in alloc; [UNSEEN; 182]; 208].map_err(|_| NoMemory)?;
+        Ok(Merge { values, codes })
     }
 
     /// Forgets all places.
     pub fn clear(&mut self)
         ensures { table_of self.new ≡ unseen }
     {
-        self.rows.fill([Place::Unseen; 182]);
+        self.values.fill([0; 182]);
+        self.codes.fill([UNSEEN; 182]);
     }
 
     /// Joins a byte into row `i` at place `j`. All else stays.
@@ -46,8 +55,9 @@ impl Merge {
         ensures { table_of self.new ≡ slice_set (table_of self.old) i
             (slice_set (known_row (table_of self.old) i) j (join (known_at (table_of self.old) i j) (Value byte))) }
     {
-        let place = &mut self.rows[i][j];
-        *place = place.join(Place::Value(byte));
+        let place = self.place(i, j).join(Place::Value(byte));
+        self.values[i][j] = place.byte();
+        self.codes[i][j] = place.code();
     }
 
     /// Joins each place of the received block: its byte, or nothing where it is marked.
@@ -55,10 +65,8 @@ impl Merge {
         requires { HasBlock (stage_of work.now) }
         ensures { table_of self.new ≡ join_tables (table_of self.old) (seen_table (rows_of work.now) (marks_of_work work.now)) }
     {
-        let mut marks = [false; 182];
-        for (i, places) in self.rows.iter_mut().enumerate() {
-            work.row_marks(i).unpack(&mut marks);
-            take_row(places, work.row(i), &marks);
+        for i in 0..208 {
+            self.take_row(i, work.row(i), work.row_marks(i));
         }
     }
 
@@ -68,7 +76,7 @@ impl Merge {
         requires place { j < 182 }
         ensures { result ≡ known_at (table_of self.now) i j }
     {
-        self.rows[i][j]
+        Place::new(self.values[i][j], self.codes[i][j])
     }
 
     /// Writes the block in the marked form, 42,640 bytes: a place with no known byte is 0 and marked. After a fault a prefix
@@ -77,25 +85,16 @@ impl Merge {
         ensures { IsWritten (marked_text (table_of self.now)) (K.seen out.old) (K.seen out.new) result }
     {
         let mut text = [0; TEXT];
-        fill_text(&self.rows, &mut text);
+        fill_text(&self.values, &self.codes, &mut text);
         write_whole(out, &text)
     }
 
     /// Joins each place of a received row into row `i`: its byte, or nothing where it is marked. All else stays.
-    pub fn take_row(&mut self, i: usize, bytes: &[u8; 182], marks: &[bool; 182])
+    pub fn take_row(&mut self, i: usize, bytes: &[u8; 182], marks: &RowMarks)
         requires { i < 208 }
         ensures { table_of self.new ≡ slice_set (table_of self.old) i
-            (join_rows (known_row (table_of self.old) i) (seen_row bytes.now marks.now)) }
+            (join_rows (known_row (table_of self.old) i) (seen_row bytes.now (marks_of_row marks.now))) }
     {
-        take_row(&mut self.rows[i], bytes, marks);
-    }
-}
-
-// Joins each place of a received row.
-fn take_row(places: &mut [Place; 182], bytes: &[u8; 182], marks: &[bool; 182])
-    ensures { places.new ≡ join_rows places.old (seen_row bytes.now marks.now) }
-{
-    for (j, place) in places.iter_mut().enumerate() {
-        *place = place.join(Place::seen(bytes[j], marks[j]));
+        row::take_row(&mut self.values[i], &mut self.codes[i], bytes, marks);
     }
 }

@@ -1,6 +1,7 @@
 //! What is known of a place of a block.
 ghost use Rattle.std.specs.Prelude.{◌≡◌};
-ghost use Rattle.dvd_merge.specs.Join.{byte_of, join, joined_mark, seen};
+ghost use Rattle.dvd_merge.specs.Join.{byte_of, join};
+ghost use Rattle.dvd_merge.specs.Planes.{code_of, place_of};
 
 /// What captures of a block know of one of its places.
 #[derive(Clone, Copy, Debug, PartialEq, Eq)]
@@ -13,15 +14,22 @@ pub enum Place {
     Conflict,
 }
 
+/// The codes of what is known of a place, where a byte of its own holds it beside the value.
+pub(crate) const UNSEEN: u8 = 0;
+
+pub(crate) const SEEN: u8 = 1;
+
+pub(crate) const CONFLICT: u8 = 2;
+
 impl Place {
-    // What a capture knows of a place with this byte and this mark.
-    pub(crate) fn seen(byte: u8, mark: bool) -> Place
-        ensures { result ≡ seen byte mark }
+    // The place of these two bytes: its value, which counts where it is seen alone, and its code.
+    pub(crate) fn new(value: u8, code: u8) -> Place
+        ensures { result ≡ place_of value code }
     {
-        if mark {
-            Place::Unseen
-        } else {
-            Place::Value(byte)
+        match code {
+            UNSEEN => Place::Unseen,
+            SEEN => Place::Value(value),
+            _ => Place::Conflict,
         }
     }
 
@@ -48,13 +56,14 @@ impl Place {
         }
     }
 
-    // Whether no byte is known.
-    pub(crate) fn is_marked(self) -> bool
-        ensures { result ≡ joined_mark self }
+    // The code of what is known of it.
+    pub(crate) fn code(self) -> u8
+        ensures { result ≡ code_of self }
     {
         match self {
-            Place::Value(_) => false,
-            Place::Unseen | Place::Conflict => true,
+            Place::Unseen => UNSEEN,
+            Place::Value(_) => SEEN,
+            Place::Conflict => CONFLICT,
         }
     }
 }

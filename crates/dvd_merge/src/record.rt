@@ -1,11 +1,16 @@
 //! Rows in the marked form.
-ghost use Rattle.std.specs.Prelude.{◌≡◌, ◌*◌, ◌++◌, length, map, take, drop};
-ghost use Rattle.std.specs.List.{range_with_len};
-ghost use Rattle.dvd_merge.specs.Join.{byte_of, joined_mark};
-ghost use Rattle.dvd_merge.specs.MarkedText.{marked_row, marked_text, number_of_marks};
+ghost use Rattle.std.specs.Prelude.{◌≡◌, length, map};
+ghost use Rattle.dvd_merge.specs.Join.{byte_of};
+ghost use Rattle.dvd_merge.specs.MarkedText.{mark_bytes, marked_row, marked_text, number_of_marks};
+ghost use Rattle.dvd_merge.specs.Inner.Rows.{is_unknown};
+ghost use Rattle.dvd_merge.specs.Planes.{row_of, table_in};
 
-use crate::place::Place;
+use crate::lanes::known_bytes;
+use crate::place::SEEN;
+use crate::row::start_of;
 use dvd_block::row_of_record;
+use rs_lanes::{load, store};
+use std::simd::prelude::*;
 
 // The bytes of a recorded row in the marked form: 182 and 23 of mark bits.
 const RECORD: usize = 205;
@@ -14,57 +19,55 @@ const RECORD: usize = 205;
 pub(crate) const TEXT: usize = 208 * RECORD;
 
 /// Writes a block in the marked form, its rows in the order of recording.
-pub(crate) fn fill_text(table: &[[Place; 182]], text: &mut [u8; TEXT])
-    requires { length table.now ≡ 208 }
-    ensures { text.new ≡ marked_text table.now }
+pub(crate) fn fill_text(values: &[[u8; 182]], codes: &[[u8; 182]], text: &mut [u8; TEXT])
+    requires values { length values.now ≡ 208 }
+    requires codes { length codes.now ≡ 208 }
+    ensures { text.new ≡ marked_text (table_in values.now codes.now) }
 {
     let mut record = [0; RECORD];
     for m in 0..208 {
-        fill_record(&table[row_of_record(m)], &mut record);
+        let i = row_of_record(m);
+        fill_record(&values[i], &codes[i], &mut record);
         text[RECORD * m..RECORD * m + RECORD].copy_from_slice(&record);
     }
 }
 
 // Writes a row in the marked form.
-fn fill_record(places: &[Place; 182], bytes: &mut [u8; RECORD])
-    ensures { bytes.new ≡ marked_row places.now }
+fn fill_record(values: &[u8; 182], codes: &[u8; 182], row: &mut [u8; RECORD])
+    ensures { row.new ≡ marked_row (row_of values.now codes.now) }
 {
-    let mut marks = [false; 184];
-    let (front, bits) = bytes.split_at_mut(182);
-    split(places, front, &mut marks);
-    pack(&marks, bits);
+    let (bytes, bits) = row.split_at_mut(182);
+    fill_bytes(values, codes, bytes);
+    fill_bits(codes, bits);
 }
 
-// The bytes of a row, and its marks. What stands behind the marks stays.
-fn split(places: &[Place; 182], bytes: &mut [u8], marks: &mut [bool; 184])
+// The byte of each place.
+fn fill_bytes(values: &[u8; 182], codes: &[u8; 182], bytes: &mut [u8])
     requires { length bytes.old ≡ 182 }
-    ensures bytes { bytes.new ≡ map byte_of places.now }
-    ensures marks { marks.new ≡ map joined_mark places.now ++ drop 182 marks.old }
+    ensures { bytes.new ≡ map byte_of (row_of values.now codes.now) }
 {
-    for (j, place) in places.iter().enumerate() {
-        bytes[j] = place.byte();
-        marks[j] = place.is_marked();
+    for group in 0..6 {
+        let at = start_of(group);
+        store(known_bytes(load(values, at), load(codes, at)), bytes, at);
     }
 }
 
-// Eight marks a byte.
-fn pack(marks: &[bool; 184], bytes: &mut [u8])
-    requires { length bytes.old ≡ 23 }
-    ensures { bytes.new ≡ map (λ k. number_of_marks (take 8 (drop (8 * k) marks.now))) (range_with_len 0 23) }
+// The mark bits of a row.
+fn fill_bits(codes: &[u8; 182], bits: &mut [u8])
+    requires { length bits.old ≡ 23 }
+    ensures { bits.new ≡ mark_bytes (map is_unknown codes.now) }
 {
-    for (k, byte) in bytes.iter_mut().enumerate() {
-        *byte = number(&marks[8 * k..8 * k + 8]);
+    for k in 0..22 {
+        bits[k] = marks_byte(u8x8::from_slice(&codes[8 * k..]));
     }
+    // The last byte has six places, which are moved to its front. The two bits after them are 0.
+    bits[22] = marks_byte(u8x8::from_slice(&codes[174..])) << 2;
 }
 
-// The number whose binary digits are these marks.
-fn number(marks: &[bool]) -> u8
-    requires { length marks.now ≡ 8 }
-    ensures { result ≡ number_of_marks marks.now }
+// The mark bits of eight places, the first the highest.
+#[inline(always)]
+fn marks_byte(codes: u8x8) -> u8
+    ensures { result ≡ number_of_marks (map is_unknown codes) }
 {
-    let mut number = 0;
-    for mark in marks {
-        number = 2 * number + u8::from(*mark);
-    }
-    number
+    codes.reverse().simd_ne(u8x8::splat(SEEN)).to_bitmask() as u8
 }

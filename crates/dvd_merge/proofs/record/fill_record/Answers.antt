@@ -1,14 +1,14 @@
 -- The proof of `fill_record` in src/record.rt.
-use Rattle.std.proofs.Common.{◌∙◌, ℕ, ◌*◌, Bool, List, ◌++◌, map, take, drop, ap}
-use Rattle.std.specs.List.{range_with_len}
+use Rattle.std.proofs.Common.{◌∙◌, ℕ, List, ◌++◌, map, ap}
 use Rattle.dvd_merge.specs.Join.{byte_of}
-use Rattle.dvd_merge.specs.MarkedText.{mark_bytes, marked_row, number_of_marks}
+use Rattle.dvd_merge.specs.MarkedText.{mark_bytes, marked_row}
+use Rattle.dvd_merge.specs.Planes.{row_of}
+use Rattle.dvd_merge.proofs.Bits.{marks-codes}
 use Rattle.dvd_merge.proofs.record.fill_record.Goals as goal
 
 pub returns : goal.returns
-unfolding marked_row mark_bytes
+unfolding marked_row
 returns c =
-    ap (λ (bytes : List ℕ). bytes ++ c.pack.new.bytes) c.split.ensures.bytes
-    ∙ ap (λ (bits : List ℕ). map byte_of c.args.places.now ++ bits)
-    (c.pack.ensures
-    ∙ ap (λ (marks : List Bool). map (λ k. number_of_marks (take 8 (drop (8 * k) marks))) (range_with_len 0 23)) c.split.ensures.marks)
+    ap (λ (bytes : List ℕ). bytes ++ c.fill_bits.new.bits) c.fill_bytes.ensures
+    ∙ ap (λ (bits : List ℕ). map byte_of (row_of c.args.values.now c.args.codes.now) ++ bits)
+    (c.fill_bits.ensures ∙ ap mark_bytes (marks-codes c.args.values.now c.args.codes.now c.told-values c.told-codes))

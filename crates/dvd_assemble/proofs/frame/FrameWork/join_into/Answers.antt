@@ -1,12 +1,13 @@
 -- The proof of `FrameWork::join_into` in src/frame.rt.
-use Rattle.std.proofs.Common.{rules, ◌∙◌, sym, subst, arith}
+use Rattle.std.proofs.Common.{rules, subst, arith}
 use Rattle.dvd_merge.specs.Merges.{table_of}
+use Rattle.dvd_merge.proofs.MergeTables.{height}
 use Rattle.dvd_assemble.specs.Works.{captured}
 use Rattle.dvd_assemble.proofs.Joining.{IsPartlyJoined, all_joined, none_joined, row_joined}
 use Rattle.dvd_assemble.proofs.frame.FrameWork.join_into.Goals as goal
 
 pub loop-q-init : goal.loop-q-init
-loop-q-init c = none_joined c.args.f (captured c.args.self.now) (table_of c.args.merge.now) (sym c.args.merge.now.rows.ok.0 ∙ c.args.merge.now.size)
+loop-q-init c = none_joined c.args.f (captured c.args.self.now) (table_of c.args.merge.now) (height c.args.merge.now)
 
 pub loop-q-preserved : goal.loop-q-preserved
 loop-q-preserved c =

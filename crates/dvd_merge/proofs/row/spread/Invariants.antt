@@ -1,0 +1,11 @@
+-- What each turn of the loop in `spread` keeps.
+use Rattle.std.proofs.Common.{◌≡◌, ℕ, ◌*◌, ◌<◌, length, get_or}
+use Rattle.dvd_capture.specs.MarkBits.{mark_at}
+use Rattle.dvd_merge.specs.Inner.Rows.{is_set}
+use Rattle.dvd_merge.proofs.row.spread.Given as goal
+
+abbrev pub invariant-loop-k : goal.invariant-loop-k
+invariant-loop-k l = record {
+  size : length l.marks ≡ 184;
+  marks : (q : ℕ) → q < 8 * l.k → is_set (get_or l.marks q 0) ≡ mark_at l.bits q;
+}

@@ -1,0 +1,2 @@
+-- What private functions promise.
+pub mod Rows
