@@ -1,9 +1,9 @@
 //! The program dvdcap: it makes the real words, files and streams, and ends with the status of the run.
 #![tactic(auto)]
 
-use cap_top::{Status, mark, refuse_words};
-use cap_words::{WordsFault, read};
-use dvd_ports::{NoMemory, StdSink, StdSource};
+use cap_top::{Status, refuse_words, run_mark};
+use cap_words::{MarkSettings, Settings, WordsFault, read};
+use dvd_ports::{NoMemory, Sink, StdSink, StdSource};
 use std::env;
 use std::fs::File;
 use std::io::{self, Error, ErrorKind, Read};
@@ -14,22 +14,7 @@ fn main(rt: HostRuntime) -> ExitCode {
     let mut report = StdSink::new(rt.stderr());
     let status = match words(&rt) {
         Ok(words) => match read(rt.alloc(), &words) {
-            Ok(settings) => {
-                let file = MapFile {
-                    file: File::open(&rt, settings.map).ok(),
-                };
-                let mut map = StdSource::new(file);
-                let mut src = StdSource::new(rt.reader());
-                let mut out = StdSink::new(io::writer(&rt));
-                mark(
-                    rt.alloc(),
-                    &settings,
-                    &mut map,
-                    &mut src,
-                    &mut out,
-                    &mut report,
-                )
-            }
+            Ok(settings) => run(&rt, &settings, &mut report),
             Err(fault) => refuse_words(fault, &mut report),
         },
         Err(NoMemory) => refuse_words(WordsFault::NoMemory, &mut report),
@@ -37,13 +22,38 @@ fn main(rt: HostRuntime) -> ExitCode {
     ExitCode::from(status.number())
 }
 
-// The file of a map. One that couldn't be opened can't be read.
+// The run of a command. `lost` and `draw` have no crates yet.
+fn run<E: Sink>(rt: &HostRuntime, settings: &Settings<'_>, report: &mut E) -> Status {
+    match settings {
+        Settings::Mark(settings) => mark(rt, settings, report),
+        Settings::Interleave(_) | Settings::Lost(_) | Settings::Draw(_) => {
+            refuse_words(WordsFault::Usage, report)
+        }
+    }
+}
+
+fn mark<E: Sink>(rt: &HostRuntime, settings: &MarkSettings<'_>, report: &mut E) -> Status {
+    let mut map = StdSource::new(Opened::new(rt, settings.map));
+    let mut src = StdSource::new(rt.reader());
+    let mut out = StdSink::new(io::writer(rt));
+    run_mark(rt.alloc(), settings, &mut map, &mut src, &mut out, report)
+}
+
+// A file. One that couldn't be opened can't be read.
 #[derive(Drop)]
-struct MapFile {
+struct Opened {
     file: Option<File>,
 }
 
-impl Read for MapFile {
+impl Opened {
+    fn new(rt: &HostRuntime, name: &str) -> Opened {
+        Opened {
+            file: File::open(rt, name).ok(),
+        }
+    }
+}
+
+impl Read for Opened {
     fn read(&mut self, buf: &mut [u8]) -> io::Result<usize> {
         match &mut self.file {
             Some(file) => file.read(buf),

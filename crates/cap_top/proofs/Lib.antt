@@ -1,2 +1,2 @@
 -- Why the contracts hold: a loop and its closing line are a run.
-pub mod RunLemmas
+pub mod MarkLemmas

@@ -1,5 +1,4 @@
--- What the contracts speak of: a run, its lines and its status.
-pub mod Headline
-pub mod Lines
-pub mod Opening
+-- What the contracts speak of: a run of each command, and how it ends.
+pub mod Closing
+pub mod Mark
 pub mod Statuses

@@ -1,14 +1,13 @@
-//! What one run of `dvdcap` does: the map is read, then the capture is marked, and each line of the report is written.
+//! What one run of `dvdcap` does: a command, and each line of its report.
 #![tactic(auto)]
 
+mod closing; // the line that closes a report
 mod line; // a line of text
-mod lines; // the lines of the report
-mod opening; // the map of a run
-mod run; // the run
+mod mark; // a run of `mark`
 mod status; // how a run ends
 
-pub use opening::Refusal;
-pub use run::{mark, refuse_words};
+pub use closing::refuse_words;
+pub use mark::run_mark;
 pub use status::Status;
 
 #[cfg(test)]

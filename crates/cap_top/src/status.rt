@@ -1,9 +1,5 @@
 //! How a run ends.
 ghost use Rattle.std.specs.Prelude.{◌≡◌};
-ghost use Rattle.cap_top.specs.Statuses.{refusal_status, status_of};
-
-use crate::opening::Refusal;
-use dvd_loop::LoopEnd;
 
 /// The exit statuses of the program, with the numbers that `dvdecc` has for them.
 #[derive(Clone, Copy, Debug, PartialEq, Eq)]
@@ -18,11 +14,11 @@ pub enum Status {
     ReadFault = 3,
     /// A write failed.
     WriteFault = 4,
-    /// The capture ended within a recording frame.
+    /// The capture ended within a unit.
     Short = 5,
-    /// The capture has more recording frames than 32 bits count.
+    /// The capture has more units than 32 bits count.
     Long = 6,
-    /// There is no memory for the words or for the map.
+    /// There is no memory for the words or for the command.
     NoMemory = 8,
     /// A line of the report couldn't be written.
     ReportFault = 9,
@@ -36,34 +32,5 @@ impl Status {
         ensures { result ≡ status_number self }
     {
         self as u8
-    }
-}
-
-/// The exit status of a run that ended so.
-impl From<LoopEnd> for Status {
-    ghost from_gives = { λ end status. status ≡ status_of end };
-
-    fn from(end: LoopEnd) -> Self {
-        match end {
-            LoopEnd::Done | LoopEnd::Short { bytes: 0, .. } => Status::Done,
-            LoopEnd::ReadFault => Status::ReadFault,
-            LoopEnd::WriteFault => Status::WriteFault,
-            LoopEnd::Short { .. } => Status::Short,
-            LoopEnd::Long => Status::Long,
-            _ => Status::ReportFault,
-        }
-    }
-}
-
-/// The exit status of a run that doesn't begin.
-impl From<Refusal> for Status {
-    ghost from_gives = { λ refusal status. status ≡ refusal_status refusal };
-
-    fn from(refusal: Refusal) -> Self {
-        match refusal {
-            Refusal::NoMemory => Status::NoMemory,
-            Refusal::ReadFault => Status::ReadFault,
-            Refusal::Rule { .. } => Status::BadMap,
-        }
     }
 }

@@ -1,6 +1,6 @@
 //! Runs over memory: what is written and said, and how a fault of each stream ends.
-use crate::{Status, mark};
-use cap_words::Settings;
+use crate::{Status, run_mark};
+use cap_words::MarkSettings;
 use dvd_ports::{MemSink, MemSource, SliceSource, Source};
 use std::alloc::Global;
 use std::test::Fail;
@@ -105,8 +105,8 @@ fn runs(alloc: Global, case: &Case) -> Result<(), Fail> {
     let mut src = MemSource::new(capture, 100, vec![in alloc; case.broken_read; 1]?);
     let mut out = MemSink::new(alloc, case.room, 77, Vec::new(alloc))?;
     let mut report = MemSink::new(alloc, case.report_room, 1, Vec::new(alloc))?;
-    let settings = Settings { map: "", good: "+" };
-    let status = mark(
+    let settings = MarkSettings { map: "", good: "+" };
+    let status = run_mark(
         alloc,
         &settings,
         &mut SliceSource::new(MAP),
@@ -142,8 +142,8 @@ fn is_refused<M: Source>(
     let mut src = MemSource::new(vec![in alloc; 7u8; 2366]?, 100, Vec::new(alloc));
     let mut out = MemSink::new(alloc, 9999, 77, Vec::new(alloc))?;
     let mut report = MemSink::new(alloc, 99, 1, Vec::new(alloc))?;
-    let settings = Settings { map: "", good: "+" };
-    let ended = mark(alloc, &settings, map, &mut src, &mut out, &mut report);
+    let settings = MarkSettings { map: "", good: "+" };
+    let ended = run_mark(alloc, &settings, map, &mut src, &mut out, &mut report);
     if ended != status
         || report.held() != line
         || !out.held().is_empty()

@@ -1,2 +1,2 @@
--- Why the contracts hold: what clap makes of the words of `mark`.
+-- Why the contracts hold: what clap makes of the words of a command.
 pub mod Parsed

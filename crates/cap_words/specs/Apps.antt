@@ -1,16 +1,41 @@
--- The clap command of `mark`.
-use Rattle.std.specs.Prelude.{Bool, true, false, [], ◌∷◌, codes, Some}
+-- The clap command of each command.
+use Rattle.std.specs.Prelude.{Bool, true, false, List, [], ◌∷◌, ◌++◌, map, codes, Some}
 use Rattle.clap.specs.Words.{App, Rule, Text, new_rule}
 use Rattle.clap.specs.Simple.{new_shape}
-use Rattle.clap.specs.declared.builder.action.ArgAction.TheVariants.{Set}
+use Rattle.clap.specs.declared.builder.action.ArgAction.TheVariants.{Append, Set, SetTrue}
+use Rattle.cap_words.specs.declared.settings.Command.{Command}
+use Rattle.cap_words.specs.declared.settings.Command.TheVariants.{Mark, Interleave, Lost, Draw}
 
 -- `--name` with one value, at most once
 abbrev pub option_rule : Bool → Text → Rule
 option_rule required name = record (new_rule name) { long = Some name; action = Some Set; required = required }
 
--- a map, and perhaps the statuses that are trusted; nothing else, no flag for help either
-abbrev pub mark_app : App
-mark_app = record {
-  top = record (new_shape (codes "mark")) { rules = option_rule true (codes "map") ∷ option_rule false (codes "good") ∷ []; disable_help_flag = true };
-  subs = [];
-}
+-- `--name` without a value, at most once
+abbrev pub flag_rule : Text → Rule
+flag_rule name = record (new_rule name) { long = Some name; action = Some SetTrue }
+
+-- the words that are no option and no value of one: a file at least
+abbrev pub file_rule : Rule
+file_rule = record (new_rule (codes "file")) { action = Some Append; required = true }
+
+-- a command with these and nothing else, no flag for help either
+abbrev pub app_with : Text → List Rule → App
+app_with name rules = record { top = record (new_shape name) { rules = rules; disable_help_flag = true }; subs = [] }
+
+abbrev pub bare_app : Text → App
+bare_app name = app_with name []
+
+-- a command with these options more, none of which it needs
+abbrev pub with_options : App → List Text → App
+with_options app names = record app { top = record app.top { rules = app.top.rules ++ map (option_rule false) names } }
+
+-- the lengths of a disk but for its first layer, its shape, and which of its zones were captured
+abbrev pub layout_options : List Text
+layout_options = codes "sectors1" ∷ codes "shape" ∷ codes "zones" ∷ codes "initial" ∷ codes "tail" ∷ []
+
+-- the options that each command needs, and those that it may have
+abbrev pub app_for : Command → App
+app_for Mark = app_with (codes "mark") (option_rule true (codes "map") ∷ option_rule false (codes "good") ∷ [])
+app_for Interleave = app_with (codes "interleave") (option_rule true (codes "form") ∷ flag_rule (codes "fill") ∷ file_rule ∷ [])
+app_for Lost = app_with (codes "lost") (option_rule true (codes "sectors") ∷ map (option_rule false) layout_options)
+app_for Draw = app_with (codes "draw") (option_rule false (codes "width") ∷ [])

@@ -1,51 +1,68 @@
 -- What the words of a command line ask for.
-use Rattle.std.specs.Prelude.{◌≡◌, ℕ, ◌&&◌, ◌||◌, ◌==◌, Bool, not, if◌then◌else◌, List, [], ◌∷◌, codes, length, Option, Some, None, option_and_then}
-use Rattle.std.specs.List.{list_all}
+use Rattle.std.specs.Prelude.{◌≡◌, ◌≤◌, if◌then◌else◌, List, [], ◌∷◌, codes, Option, Some, None, option_map}
 use Rattle.std.specs.Str.{bytes_eq}
-use Rattle.clap.specs.Words.{Row, Text, fault_of, first_of, matches_of}
+use Rattle.clap.specs.Words.{Row, Text, fault_of, matches_of}
 use Rattle.clap.specs.Walk.{is_empty}
-use Rattle.cap_words.specs.Apps.{mark_app}
+use Rattle.dvd_words.specs.Reading.{◌>>=◌}
+use Rattle.cap_words.specs.Apps.{app_for}
+use Rattle.cap_words.specs.Draw.{draw_of}
+use Rattle.cap_words.specs.Interleave.{InterleaveAsked, IsLawful, interleave_asked, interleave_of}
+use Rattle.cap_words.specs.Lost.{lost_of}
+use Rattle.cap_words.specs.Mark.{MarkAsked, mark_asked, mark_of}
+use Rattle.cap_words.specs.declared.settings.Command.{Command}
+use Rattle.cap_words.specs.declared.settings.Command.TheVariants.{Mark, Interleave, Lost, Draw}
+use Rattle.cap_words.specs.declared.settings.DrawSettings.{DrawSettings}
+use Rattle.cap_words.specs.declared.settings.LostSettings.{LostSettings}
 use Rattle.cap_words.specs.declared.settings.Settings.{Settings}
+use Rattle.cap_words.specs.declared.settings.Settings.TheVariants as settings
 
--- the options of `mark`: the name of the map, and the statuses that are trusted
-pub record Asked : Type 0 where
-  pub map : Text
-  pub good : Text
+-- what is asked for, with the texts of the words themselves
+pub data Asked : Type 0 where
+  AsksMark : MarkAsked → Asked
+  AsksInterleave : InterleaveAsked → Asked
+  AsksLost : LostSettings → Asked
+  AsksDraw : DrawSettings → Asked
 
 abbrev pub asked_by : Settings → Asked
-asked_by settings = record { map = settings.map.now; good = settings.good.now }
+asked_by (settings.Mark marking) = AsksMark (mark_asked marking)
+asked_by (settings.Interleave interleaving) = AsksInterleave (interleave_asked interleaving)
+asked_by (settings.Lost losing) = AsksLost losing
+asked_by (settings.Draw drawing) = AsksDraw drawing
 
--- the options and their values, where clap finds no fault in the words
-abbrev pub rows_for : List Text → Option (List Row)
-rows_for words = if is_empty (fault_of mark_app words) then Some (matches_of mark_app words) else None
+-- the command that a word names
+abbrev pub command_of : Text → Option Command
+command_of word =
+    if bytes_eq word (codes "mark") then Some Mark
+    else (if bytes_eq word (codes "interleave") then Some Interleave
+    else (if bytes_eq word (codes "lost") then Some Lost
+    else (if bytes_eq word (codes "draw") then Some Draw else None)))
 
--- a status that a block can have: ? * / - +
-abbrev pub is_good_status : ℕ → Bool
-is_good_status c = c == 63 || (c == 42 || (c == 47 || (c == 45 || c == 43)))
+-- the options, the files and their values, where clap finds no fault in the words
+abbrev pub rows_for : Command → List Text → Option (List Row)
+rows_for command words = if is_empty (fault_of (app_for command) words) then Some (matches_of (app_for command) words) else None
 
--- some of these statuses, one at least
-abbrev pub is_good : Text → Bool
-is_good text = not (length text == 0) && list_all is_good_status text
+-- each option by its form
+abbrev pub settings_of : Command → List Row → Option Asked
+settings_of Mark rows = option_map AsksMark (mark_of rows)
+settings_of Interleave rows = option_map AsksInterleave (interleave_of rows)
+settings_of Lost rows = option_map AsksLost (lost_of rows)
+settings_of Draw rows = option_map AsksDraw (draw_of rows)
 
--- those that are given; rescued alone where none are
-abbrev pub good_in : Option Text → Option Text
-good_in None = Some (codes "+")
-good_in (Some text) = if is_good text then Some text else None
-
--- the settings by the options that are given
-abbrev pub settings_by : Option Text → Option Text → Option Asked
-settings_by None good = None
-settings_by (Some map) None = None
-settings_by (Some map) (Some good) = Some (record { map = map; good = good })
-
-abbrev pub settings_of : List Row → Option Asked
-settings_of rows = settings_by (first_of (codes "map") rows) (good_in (first_of (codes "good") rows))
-
--- the first word is the command, and clap reads those after it
+-- the first word names the command, and clap reads those after it
 unfoldable pub reading : List Text → Option Asked
 reading [] = None
-reading (word ∷ words) = if bytes_eq word (codes "mark") then option_and_then settings_of (rows_for (word ∷ words)) else None
+reading (word ∷ words) = do
+  command ← command_of word
+  rows ← rows_for command (word ∷ words)
+  settings_of command rows
 
 -- these words ask for these settings
 abbrev pub Asks : List Text → Settings → Type 0
 Asks words settings = reading words ≡ Some (asked_by settings)
+
+-- what holds of all settings that words ask for
+abbrev pub AreLawful : Settings → Type 0
+AreLawful (settings.Mark marking) = Unit {0}
+AreLawful (settings.Interleave interleaving) = IsLawful interleaving
+AreLawful (settings.Lost losing) = Unit {0}
+AreLawful (settings.Draw drawing) = (100 ≤ drawing.width) × (drawing.width ≤ 4000)

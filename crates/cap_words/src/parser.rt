@@ -1,20 +1,25 @@
-//! The clap command of `mark`. Values are texts to clap and are read by their forms in `words`.
-ghost use Rattle.std.specs.Prelude.{◌≡◌, codes, false, true, None, Some, IfOk, map, string_bytes};
-ghost use Rattle.clap.specs.Words.{app_of, found_of, rows_of, with_rule};
-ghost use Rattle.cap_words.specs.Apps.{mark_app, option_rule};
+//! The clap command of each command. Values are texts to clap, and the page of their command reads them by their forms.
+ghost use Rattle.std.specs.Prelude.{◌≡◌, codes, false, true, None, Some, IfOk, map, option_map, string_bytes};
+ghost use Rattle.clap.specs.Words.{app_of, first_of, found_of, rows_of, with_rule};
+ghost use Rattle.cap_words.specs.Apps.{app_for, bare_app, file_rule, flag_rule, option_rule, with_options};
 ghost use Rattle.cap_words.specs.Reading.{rows_for};
 
 use crate::fault::WordsFault;
+use crate::settings::Command;
 use clap::error::ErrorKind;
-use clap::{Arg, ArgAction, ArgMatches, Command};
+use clap::{Arg, ArgAction, ArgMatches};
 use std::alloc::{AllocError, Global};
 
-/// The options in the words, with their values.
-pub fn parse<'a>(alloc: Global, words: &'a [String]) -> Result<ArgMatches<'a>, WordsFault>
-    ensures taken { IfOk result (λ matches. rows_for (map string_bytes words.now) ≡ Some (rows_of (found_of matches))) }
-    ensures refused { result ≡ Err WordsFault.Usage → rows_for (map string_bytes words.now) ≡ None }
+/// The options and the files in the words of a command, with their values.
+pub fn parse<'a>(
+    alloc: Global,
+    command: Command,
+    words: &'a [String],
+) -> Result<ArgMatches<'a>, WordsFault>
+    ensures taken { IfOk result (λ matches. rows_for command (map string_bytes words.now) ≡ Some (rows_of (found_of matches))) }
+    ensures refused { result ≡ Err WordsFault.Usage → rows_for command (map string_bytes words.now) ≡ None }
 {
-    let parser = parser(alloc)?;
+    let parser = parser_for(alloc, command)?;
     match parser.try_get_matches_from(words) {
         Ok(matches) => Ok(matches),
         Err(error) if error.kind() == ErrorKind::OutOfMemory => Err(WordsFault::NoMemory),
@@ -22,21 +27,48 @@ pub fn parse<'a>(alloc: Global, words: &'a [String]) -> Result<ArgMatches<'a>, W
     }
 }
 
-fn parser<'a>(alloc: Global) -> Result<Command<'a>, AllocError>
-    ensures { IfOk result (λ parser. app_of parser ≡ mark_app) }
+/// The value of an option, if it is given. A flag has one all the same, which says whether it is.
+pub fn given<'a>(matches: &ArgMatches<'a>, name: &str) -> Option<&'a str>
+    ensures { option_map (λ s. s.now) result ≡ first_of name.now (rows_of (found_of matches.now)) }
 {
-    let parser = Command::new(alloc, "mark").disable_help_flag(true);
-    let parser = with_option(alloc, parser, "map", true)?;
-    with_option(alloc, parser, "good", false)
+    matches.get_str(name)
+}
+
+fn parser_for<'a>(alloc: Global, command: Command) -> Result<clap::Command<'a>, AllocError>
+    ensures { IfOk result (λ parser. app_of parser ≡ app_for command) }
+{
+    match command {
+        Command::Mark => {
+            let parser = with_option(alloc, bare_parser(alloc, "mark"), "map", true)?;
+            with_option(alloc, parser, "good", false)
+        }
+        Command::Interleave => {
+            let parser = with_option(alloc, bare_parser(alloc, "interleave"), "form", true)?;
+            with_files(alloc, with_flag(alloc, parser, "fill")?)
+        }
+        Command::Lost => {
+            let parser = with_option(alloc, bare_parser(alloc, "lost"), "sectors", true)?;
+            let others = &["sectors1", "shape", "zones", "initial", "tail"];
+            with_options(alloc, parser, others)
+        }
+        Command::Draw => with_option(alloc, bare_parser(alloc, "draw"), "width", false),
+    }
+}
+
+// A command with no options, no flag for help either.
+fn bare_parser<'a>(alloc: Global, name: &'a str) -> clap::Command<'a>
+    ensures { app_of result ≡ bare_app name.now }
+{
+    clap::Command::new(alloc, name).disable_help_flag(true)
 }
 
 // The command with one more option, which takes one value.
 fn with_option<'a>(
     alloc: Global,
-    parser: Command<'a>,
+    parser: clap::Command<'a>,
     name: &'a str,
     is_required: bool,
-) -> Result<Command<'a>, AllocError>
+) -> Result<clap::Command<'a>, AllocError>
     ensures { IfOk result (λ r. app_of r ≡ with_rule (app_of parser.entry) (option_rule is_required name.now)) }
 {
     let option = Arg::new(alloc, name)
@@ -44,4 +76,41 @@ fn with_option<'a>(
         .required(is_required)
         .action(ArgAction::Set);
     parser.arg(option)
+}
+
+// The command with these options more, none of which it needs.
+fn with_options<'a>(
+    alloc: Global,
+    parser: clap::Command<'a>,
+    names: &[&'a str],
+) -> Result<clap::Command<'a>, AllocError>
+    ensures { IfOk result (λ r. app_of r ≡ with_options (app_of parser.entry) (map (λ name. name.now) names.now)) }
+{
+    let mut parser = parser;
+    for name in names {
+        parser = with_option(alloc, parser, *name, false)?;
+    }
+    Ok(parser)
+}
+
+// The command with one more option, which takes no value.
+fn with_flag<'a>(
+    alloc: Global,
+    parser: clap::Command<'a>,
+    name: &'a str,
+) -> Result<clap::Command<'a>, AllocError>
+    ensures { IfOk result (λ r. app_of r ≡ with_rule (app_of parser.entry) (flag_rule name.now)) }
+{
+    let flag = Arg::new(alloc, name).long(name).action(ArgAction::SetTrue);
+    parser.arg(flag)
+}
+
+// The command with files, one at least. Each word that is no option and no value of one names a file.
+fn with_files<'a>(alloc: Global, parser: clap::Command<'a>) -> Result<clap::Command<'a>, AllocError>
+    ensures { IfOk result (λ r. app_of r ≡ with_rule (app_of parser.entry) file_rule) }
+{
+    let files = Arg::new(alloc, "file")
+        .required(true)
+        .action(ArgAction::Append);
+    parser.arg(files)
 }

@@ -1,10 +1,95 @@
 //! What the words of a command line ask for.
 
+use arrayvec::ArrayVec;
+use dvd_capture::Form;
+use dvd_layout::{Layout, LayoutFault, Shape, Zones};
+
+/// The commands of the program.
+#[derive(Clone, Copy, Debug, PartialEq, Eq)]
+pub enum Command {
+    /// A plain capture gets the marks of a ddrescue map.
+    Mark,
+    /// Blocks of several captures in turn.
+    Interleave,
+    /// The bytes that a capture has lost, as a ddrescue map of the image.
+    Lost,
+    /// A survey as a picture of the disk.
+    Draw,
+}
+
+/// A command with its options.
+#[derive(Debug, Drop)]
+pub enum Settings<'a> {
+    /// `mark`, with a map and the statuses that are trusted.
+    Mark(MarkSettings<'a>),
+    /// `interleave`, with the captures.
+    Interleave(InterleaveSettings<'a>),
+    /// `lost`, with the layout of the disk.
+    Lost(LostSettings),
+    /// `draw`, with the width of the picture.
+    Draw(DrawSettings),
+}
+
 /// The options of `mark`.
 #[derive(Clone, Copy, Debug, PartialEq, Eq, Drop)]
-pub struct Settings<'a> {
+pub struct MarkSettings<'a> {
     /// The name of the file with the map.
     pub map: &'a str,
     /// The statuses that are trusted, one byte each: some of `?*/-+`.
     pub good: &'a str,
+}
+
+/// The options of `interleave`, and its files.
+#[derive(Debug, Drop)]
+pub struct InterleaveSettings<'a> {
+    /// The form of all captures, plain or marked.
+    pub form: Form,
+    /// Whether blocks that are marked whole stand for those that a capture doesn't have. Only the marked form has them.
+    pub fill: bool,
+    /// The names of the files with the captures, from 2 to 16.
+    pub files: ArrayVec<&'a str, 16>,
+}
+
+/// The options of `lost`, which are those of `dvdecc recover` for the layout.
+#[derive(Clone, Copy, Debug, PartialEq, Eq, Drop)]
+pub struct LostSettings {
+    /// How many image sectors there are, on layer 0 where there are two.
+    pub sectors: u32,
+    /// How many image sectors layer 1 has.
+    pub sectors1: u32,
+    /// How many layers the disk has, and the track path where there are two.
+    pub shape: Shape,
+    /// Which zones of the disk were captured.
+    pub zones: Zones,
+    /// How many blocks the Initial Zone has.
+    pub initial: u32,
+    /// How many blocks the zones after the data have.
+    pub tail: u32,
+}
+
+impl LostSettings {
+    ghost use Rattle.std.specs.Prelude.{◌≡◌, None, Some, IsOk, IfErr, IfOk};
+    ghost use Rattle.cap_words.specs.Lost.{IsLayoutOf, broken_rule};
+
+    /// The layout of these lengths, or the first rule that they break.
+    pub fn layout(&self) -> Result<Layout, LayoutFault>
+        ensures lengths { IfOk result (IsLayoutOf self.now) }
+        ensures lawful { IsOk result → broken_rule self.now ≡ None }
+        ensures refused { IfErr result (λ fault. broken_rule self.now ≡ Some fault) }
+    {
+        Layout::new(
+            self.shape,
+            self.sectors,
+            self.sectors1,
+            self.initial,
+            self.tail,
+        )
+    }
+}
+
+/// The options of `draw`.
+#[derive(Clone, Copy, Debug, PartialEq, Eq, Drop)]
+pub struct DrawSettings {
+    /// The width of the picture, from 100 to 4,000.
+    pub width: u32,
 }

@@ -1,12 +1,15 @@
 //! Reads the words of the command line.
-ghost use Rattle.std.specs.Prelude.{◌≡◌, None, IfOk, map, option_map, string_bytes};
-ghost use Rattle.std.specs.List.{list_all};
-ghost use Rattle.clap.specs.Words.{first_of, found_of, rows_of};
-ghost use Rattle.cap_words.specs.Reading.{Asks, asked_by, good_in, is_good, is_good_status, reading, settings_of};
+ghost use Rattle.std.specs.Prelude.{◌≡◌, None, IfOk, IfSome, map, option_map, string_bytes};
+ghost use Rattle.clap.specs.Words.{found_of, rows_of};
+ghost use Rattle.cap_words.specs.Reading.{Asks, AreLawful, asked_by, command_of, reading, settings_of};
 
+use crate::draw::draw_settings;
 use crate::fault::WordsFault;
+use crate::interleave::interleave_settings;
+use crate::lost::lost_settings;
+use crate::mark::mark_settings;
 use crate::parser::parse;
-use crate::settings::Settings;
+use crate::settings::{Command, Settings};
 use clap::ArgMatches;
 use std::alloc::Global;
 
@@ -15,58 +18,39 @@ use std::alloc::Global;
 pub fn read<'a>(alloc: Global, words: &'a [String]) -> Result<Settings<'a>, WordsFault>
     ensures read { IfOk result (Asks (map string_bytes words.now)) }
     ensures usage { result ≡ Err WordsFault.Usage → reading (map string_bytes words.now) ≡ None }
+    ensures lawful { IfOk result AreLawful }
 {
     let Some(word) = words.first() else {
         return Err(WordsFault::Usage);
     };
-    if word.as_str() != "mark" {
+    let Some(command) = command_named(word.as_str()) else {
         return Err(WordsFault::Usage);
+    };
+    let matches = parse(alloc, command, words)?;
+    settings(command, &matches).ok_or(WordsFault::Usage)
+}
+
+fn command_named(word: &str) -> Option<Command>
+    ensures { result ≡ command_of word.now }
+{
+    match word {
+        "mark" => Some(Command::Mark),
+        "interleave" => Some(Command::Interleave),
+        "lost" => Some(Command::Lost),
+        "draw" => Some(Command::Draw),
+        _ => None,
     }
-    let matches = parse(alloc, words)?;
-    settings(&matches).ok_or(WordsFault::Usage)
 }
 
 // Each option by its form.
-fn settings<'a>(matches: &ArgMatches<'a>) -> Option<Settings<'a>>
-    ensures { option_map asked_by result ≡ settings_of (rows_of (found_of matches.now)) }
+fn settings<'a>(command: Command, matches: &ArgMatches<'a>) -> Option<Settings<'a>>
+    ensures value { option_map asked_by result ≡ settings_of command (rows_of (found_of matches.now)) }
+    ensures lawful { IfSome result AreLawful }
 {
-    let map = given(matches, "map")?;
-    let good = good_in(given(matches, "good"))?;
-    Some(Settings { map, good })
-}
-
-// The statuses that are trusted: those that are given, each of which a block can have, or `+`.
-fn good_in<'a>(text: Option<&'a str>) -> Option<&'a str>
-    ensures { option_map (λ s. s.now) result ≡ good_in (option_map (λ s. s.now) text.entry) }
-{
-    match text {
-        None => Some("+"),
-        Some(text) if is_good(text.as_bytes()) => Some(text),
-        Some(_) => None,
+    match command {
+        Command::Mark => Some(Settings::Mark(mark_settings(matches)?)),
+        Command::Interleave => Some(Settings::Interleave(interleave_settings(matches)?)),
+        Command::Lost => Some(Settings::Lost(lost_settings(matches)?)),
+        Command::Draw => Some(Settings::Draw(draw_settings(matches)?)),
     }
-}
-
-fn is_good(text: &[u8]) -> bool
-    ensures { result ≡ is_good text.now }
-{
-    !text.is_empty() && are_statuses(text)
-}
-
-fn are_statuses(text: &[u8]) -> bool
-    ensures { result ≡ list_all is_good_status text.now }
-{
-    text.iter().all(|status| is_good_status(*status))
-}
-
-fn is_good_status(status: u8) -> bool
-    ensures { result ≡ is_good_status status }
-{
-    status == b'?' || status == b'*' || status == b'/' || status == b'-' || status == b'+'
-}
-
-// The value of an option, if it is given.
-fn given<'a>(matches: &ArgMatches<'a>, name: &str) -> Option<&'a str>
-    ensures { option_map (λ s. s.now) result ≡ first_of name.now (rows_of (found_of matches.now)) }
-{
-    matches.get_str(name)
 }

@@ -17,4 +17,5 @@ mod words;
 
 pub use fault::WordsFault;
 pub use settings::{Command, Settings};
+pub use values::{read_form, read_number, read_shape, read_within, read_zones};
 pub use words::read;

@@ -1,11 +1,9 @@
--- The lines of the report. Each ends with one line feed.
+-- The lines of the report of `mark`. Each ends with one line feed.
 use Rattle.std.specs.Prelude.{ℕ, zero, suc, List, [], ◌++◌, codes, decimal}
 use Rattle.cap_map.specs.declared.fault.Cause.{Cause}
 use Rattle.cap_map.specs.declared.fault.Cause.TheVariants as causes
-use Rattle.cap_top.specs.declared.opening.Refusal.{Refusal}
-use Rattle.cap_top.specs.declared.opening.Refusal.TheVariants.{NoMemory, ReadFault, Rule}
-use Rattle.cap_words.specs.declared.fault.WordsFault.{WordsFault}
-use Rattle.cap_words.specs.declared.fault.WordsFault.TheVariants as words
+use Rattle.cap_top.specs.declared.mark.opening.Refusal.{Refusal}
+use Rattle.cap_top.specs.declared.mark.opening.Refusal.TheVariants.{NoMemory, ReadFault, Rule}
 use Rattle.dvd_loop.specs.declared.ends.LoopEnd.{LoopEnd}
 use Rattle.dvd_loop.specs.declared.ends.LoopEnd.TheVariants as ends
 
@@ -39,8 +37,3 @@ abbrev pub refusal_line : Refusal → List ℕ
 refusal_line NoMemory = codes "no memory\n"
 refusal_line ReadFault = codes "map: read fault\n"
 refusal_line (Rule line cause) = codes "map: line " ++ decimal line ++ codes ": " ++ cause_text cause ++ codes "\n"
-
--- the line of words that aren't read
-abbrev pub words_line : WordsFault → List ℕ
-words_line words.Usage = codes "usage\n"
-words_line words.NoMemory = codes "no memory\n"

@@ -5,8 +5,8 @@ use Rattle.cap_map.specs.Map.{map_of}
 use Rattle.cap_map.specs.declared.fault.Cause.{Cause}
 use Rattle.cap_map.specs.declared.fault.MapFault.TheVariants as faults
 use Rattle.cap_map.specs.declared.span.Span.{Span}
-use Rattle.cap_top.specs.declared.opening.Refusal.{Refusal}
-use Rattle.cap_top.specs.declared.opening.Refusal.TheVariants.{NoMemory, ReadFault, Rule}
+use Rattle.cap_top.specs.declared.mark.opening.Refusal.{Refusal}
+use Rattle.cap_top.specs.declared.mark.opening.Refusal.TheVariants.{NoMemory, ReadFault, Rule}
 use Rattle.dvd_ports.specs.Causes.{HasFailed, HasMetEnd}
 use Rattle.dvd_ports.specs.Seen.{Seen}
 

@@ -1,23 +1,23 @@
 -- The headline: what a run of `mark` does, for its map, for the bytes of the capture and for faults of its streams.
+pub mod Lines
+pub mod Opening
+pub mod Statuses
 use Rattle.std.specs.Prelude.{◌≡◌, ◌≢◌, ◌⊎◌, ◌-◌, ◌*◌, ◌/◌, ◌%◌, ◌^◌, ◌<◌, List, length, ℕ, Some}
-use Rattle.std.specs.Io.KnownBytes.{Appends}
 use Rattle.cap_map.specs.declared.span.Span.{Span}
 use Rattle.cap_mark.specs.Capture.{marked_capture}
 use Rattle.cap_mark.specs.Frames.{mark_units}
-use Rattle.cap_top.specs.Lines.{closing_line, refusal_line}
-use Rattle.cap_top.specs.Opening.{IsRefused, Opens}
-use Rattle.cap_top.specs.Statuses.{refusal_status, status_of}
-use Rattle.cap_top.specs.declared.opening.Refusal.{Refusal}
+use Rattle.cap_top.specs.Mark.Lines.{closing_line, refusal_line}
+use Rattle.cap_top.specs.Mark.Opening.{IsRefused, Opens}
+use Rattle.cap_top.specs.Mark.Statuses.{refusal_status, status_of}
+use Rattle.cap_top.specs.Closing.{EndsWith}
+use Rattle.cap_top.specs.declared.mark.opening.Refusal.{Refusal}
 use Rattle.cap_top.specs.declared.status.Status.{Status}
-use Rattle.cap_top.specs.declared.status.Status.TheVariants as status
 use Rattle.dvd_loop.specs.Laws.{IsFaultless}
 use Rattle.dvd_loop.specs.Machine.{IsClosed, IsOutcome}
 use Rattle.dvd_loop.specs.Streams.{Comes, HaveCauses, HaveMoved, Streams}
 use Rattle.dvd_loop.specs.declared.ends.LoopEnd.{LoopEnd}
 use Rattle.dvd_loop.specs.declared.ends.LoopEnd.TheVariants as ends
-use Rattle.dvd_ports.specs.Causes.{HasFailed, HasGoneOn}
 use Rattle.dvd_ports.specs.Seen.{Seen}
-use Rattle.dvd_ports.specs.Whole.{AppendsPrefix}
 
 -- how the loop ends over so many bytes: within a frame, none of which may have come
 abbrev pub end_of_bytes : List ℕ → LoopEnd
@@ -42,17 +42,12 @@ pub record HasMarked (spans : List Span) (old new : Streams) (result : Status) :
   -- this follows
   pub all : MarksAll spans old new end
 
--- A run that doesn't begin: its line is written and its status this one, or the report failed within the line.
-abbrev pub HasNotBegun : Status → List ℕ → Seen → Seen → Status → Type 0
-HasNotBegun wanted line old new result =
-    ((result ≡ wanted) × Appends old.bytes new.bytes line × HasGoneOn old new) ⊎ ((result ≡ status.ReportFault) × AppendsPrefix old.bytes new.bytes line × HasFailed old new)
-
 -- No spans come of the map, and the streams but for the report are as they were.
 pub record HasRefused (good : List ℕ) (old_map new_map : Seen) (Untouched : Type 0) (old new : Seen) (result : Status) : Type 0 where
   pub refusal : Refusal
   pub is_refused : IsRefused good old_map new_map refusal
   pub untouched : Untouched
-  pub told : HasNotBegun (refusal_status refusal) (refusal_line refusal) old new result
+  pub told : EndsWith (refusal_status refusal) (refusal_line refusal) old new result
 
 -- The map is read to its end, and the capture is marked by its spans.
 pub record HasRun (good : List ℕ) (old_map new_map : Seen) (old new : Streams) (result : Status) : Type 0 where

@@ -2,7 +2,7 @@
 use Rattle.std.proofs.Common.{◌-◌, ◌^◌, vec_len}
 use Rattle.std.specs.Io.KnownBytes.{Consumes}
 use Rattle.dvd_ports.specs.Causes.{HasGoneOn}
-use Rattle.cap_top.proofs.opening.read_text.Given as goal
+use Rattle.cap_top.proofs.mark.opening.read_text.Given as goal
 
 abbrev pub invariant-loop-text : goal.invariant-loop-text
 invariant-loop-text g l = record {

@@ -1,10 +1,10 @@
--- The proof of `mark` in src/run.rt.
+-- The proof of `run_mark` in src/mark.rt.
 use Rattle.std.proofs.Common.{◌≡◌, ◌∙◌, ap, inl, subst, sym}
 use Rattle.dvd_loop.specs.Streams.{streams}
-use Rattle.cap_top.specs.Lines.{closing_line}
-use Rattle.cap_top.specs.Opening.{Opens}
-use Rattle.cap_top.proofs.RunLemmas.{has_marked}
-use Rattle.cap_top.proofs.run.mark.Goals as goal
+use Rattle.cap_top.specs.Mark.Lines.{closing_line}
+use Rattle.cap_top.specs.Mark.Opening.{Opens}
+use Rattle.cap_top.proofs.MarkLemmas.{has_marked}
+use Rattle.cap_top.proofs.mark.run_mark.Goals as goal
 
 pub returns-in-Ok : goal.returns-in-Ok
 returns-in-Ok g c =
@@ -23,5 +23,5 @@ returns-in-Ok g c =
       opens = subst (λ s. Opens good before after s) (sym c.deref.ensures.value) (subst (λ t. Opens t before after c.in-Ok.spans.items) c.as_bytes.ensures.value opened);
       marks = has_marked spans old source output (g.E.Sink.seen c.args.report.now) (g.E.Sink.seen c.close.new.report) end c.close.result
           (c.mark_loop-end.ensures.follows (g.E.Sink.seen c.args.report.now)) (c.close.ensures.closes closing_line source output line)
-          (λ is. ap (λ r. g.E.Sink.seen r) (c.close.ensures.none is)) c.close.ensures.cause c.close.ensures.same c.into.result c.into.ensures;
+          (λ is. ap (λ r. g.E.Sink.seen r) (c.close.ensures.none is)) c.close.ensures.cause c.close.ensures.same c.status_of.result c.status_of.ensures;
     })

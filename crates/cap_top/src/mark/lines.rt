@@ -1,9 +1,9 @@
-//! The lines of the report, one of which closes each run.
+//! The lines of the report of `mark`, one of which closes each run.
 ghost use Rattle.std.specs.Prelude.{◌≡◌, ◌≤◌, length};
-ghost use Rattle.cap_top.specs.Lines.{cause_text, closing_line, refusal_line};
+ghost use Rattle.cap_top.specs.Mark.Lines.{cause_text, closing_line, refusal_line};
 
+use super::opening::Refusal;
 use crate::line::Line;
-use crate::opening::Refusal;
 use cap_map::Cause;
 use dvd_loop::LoopEnd;
 

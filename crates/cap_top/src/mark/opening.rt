@@ -1,6 +1,6 @@
 //! The map of a run, which is read whole before the capture is touched.
 ghost use Rattle.std.specs.Prelude.{◌≡◌, IfOk, IfErr};
-ghost use Rattle.cap_top.specs.Opening.{IsRefused, IsTextFault, Opens, TextIs};
+ghost use Rattle.cap_top.specs.Mark.Opening.{IsRefused, IsTextFault, Opens, TextIs};
 
 use cap_map::{Cause, MapFault, Span, read_map};
 use dvd_ports::{Failed, Source};

@@ -1,4 +1,4 @@
--- A run by its loop and its closing line.
+-- A run of `mark` by its loop and its closing line.
 use Rattle.std.proofs.Common.{◌≡◌, ◌≢◌, ◌⊎◌, ◌-◌, ◌*◌, ◌^◌, ◌<◌, inl, inr, List, [], ◌∷◌, ◌++◌, length, refl, ap, sym, subst, ◌∙◌, append-nil}
 use Rattle.dvd_ports.specs.Causes.{HasGoneOn}
 use Rattle.dvd_ports.specs.Seen.{Seen}
@@ -14,9 +14,9 @@ use Rattle.cap_map.specs.declared.span.Span.{Span}
 use Rattle.cap_mark.specs.Capture.{marked_capture}
 use Rattle.cap_mark.specs.Frames.{mark_units}
 use Rattle.cap_mark.proofs.CaptureLemmas.{marks_whole}
-use Rattle.cap_top.specs.Headline.{HasMarked, MarksAll, end_of_bytes}
-use Rattle.cap_top.specs.Lines.{closing_line}
-use Rattle.cap_top.specs.Statuses.{status_of}
+use Rattle.cap_top.specs.Mark.{HasMarked, MarksAll, end_of_bytes}
+use Rattle.cap_top.specs.Mark.Lines.{closing_line}
+use Rattle.cap_top.specs.Mark.Statuses.{status_of}
 use Rattle.cap_top.specs.declared.status.Status.{Status}
 
 -- an end is that of a failed line, or it isn't and the report hasn't failed

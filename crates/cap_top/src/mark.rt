@@ -1,0 +1,70 @@
+//! A run of `mark`.
+ghost use Rattle.std.specs.Prelude.{◌≡◌};
+ghost use Rattle.cap_top.specs.Mark.{Headline};
+ghost use Rattle.cap_top.specs.Mark.Statuses.{refusal_status, status_of};
+ghost use Rattle.dvd_loop.specs.Streams.{streams};
+
+mod lines; // the lines of its report
+mod opening; // its map
+
+use crate::closing::end_with;
+use crate::status::Status;
+use cap_mark::mark_loop;
+use cap_words::MarkSettings;
+use dvd_loop::{LoopEnd, close};
+use dvd_ports::{Sink, Source};
+use lines::{close_line, refused_line};
+use opening::{Refusal, open_map};
+use std::alloc::Global;
+
+/// Reads the map whole, then the capture from `src`, and writes it to `out` in the marked form. The report gets one line,
+/// which says how the run ended. Memory is taken for the map alone, before the first byte of the capture.
+pub fn run_mark<M: Source, S: Source, K: Sink, E: Sink>(
+    alloc: Global,
+    settings: &MarkSettings<'_>,
+    map: &mut M,
+    src: &mut S,
+    out: &mut K,
+    report: &mut E,
+) -> Status
+    ensures { Headline settings.now.good.now (M.seen map.old) (M.seen map.new) ((src.new ≡ src.old) × (out.new ≡ out.old))
+        (streams (S.seen src.old) (K.seen out.old) (E.seen report.old))
+        (streams (S.seen src.new) (K.seen out.new) (E.seen report.new)) result }
+{
+    match open_map(alloc, settings.good.as_bytes(), map) {
+        Ok(spans) => {
+            let end = mark_loop(&spans, src, out);
+            status_of(close(end, close_line(end).as_slice(), report))
+        }
+        Err(refusal) => end_with(
+            refusal_status(refusal),
+            refused_line(refusal).as_slice(),
+            report,
+        ),
+    }
+}
+
+// The exit status of a run that ended so.
+fn status_of(end: LoopEnd) -> Status
+    ensures { result ≡ status_of end }
+{
+    match end {
+        LoopEnd::Done | LoopEnd::Short { bytes: 0, .. } => Status::Done,
+        LoopEnd::ReadFault => Status::ReadFault,
+        LoopEnd::WriteFault => Status::WriteFault,
+        LoopEnd::Short { .. } => Status::Short,
+        LoopEnd::Long => Status::Long,
+        _ => Status::ReportFault,
+    }
+}
+
+// The exit status of a run that doesn't begin.
+fn refusal_status(refusal: Refusal) -> Status
+    ensures { result ≡ refusal_status refusal }
+{
+    match refusal {
+        Refusal::NoMemory => Status::NoMemory,
+        Refusal::ReadFault => Status::ReadFault,
+        Refusal::Rule { .. } => Status::BadMap,
+    }
+}

@@ -1,0 +1,57 @@
+-- What the words of `interleave` ask for.
+use Rattle.std.specs.Prelude.{◌≡◌, ◌≢◌, ◌≤◌, ◌&&◌, nat_le, Bool, true, false, not, if◌then◌else◌, List, codes, length, map, Option, Some, None, option_and_then}
+use Rattle.std.specs.Str.{bytes_eq}
+use Rattle.std.specs.Option.{option_map_or}
+use Rattle.clap.specs.Words.{Row, Text, all_of, first_of}
+use Rattle.dvd_capture.specs.declared.form.Form.{Form}
+use Rattle.dvd_capture.specs.declared.form.Form.TheVariants.{Plain, Marked, Listed}
+use Rattle.dvd_words.specs.Reading.{◌>>=◌, value_or}
+use Rattle.dvd_words.specs.Words.{form_of}
+use Rattle.cap_words.specs.declared.settings.InterleaveSettings.{InterleaveSettings}
+
+-- the form of the captures, whether missing blocks are filled, and the names of the files
+pub record InterleaveAsked : Type 0 where
+  pub form : Form
+  pub fill : Bool
+  pub files : List Text
+
+abbrev pub interleave_asked : InterleaveSettings → InterleaveAsked
+interleave_asked settings = record { form = settings.form; fill = settings.fill; files = map (λ file. file.now) settings.files.items }
+
+-- a form of which each block has as many bytes as any other
+abbrev pub sized : Form → Option Form
+sized Listed = None
+sized form = Some form
+
+abbrev pub form_in : Option Text → Option Form
+form_in text = option_and_then sized (value_or Plain form_of text)
+
+-- a flag has the value `true` where it is given
+abbrev pub is_set : Text → List Row → Bool
+is_set name rows = option_map_or (λ text. bytes_eq text (codes "true")) (first_of name rows) false
+
+-- no byte of the plain form says that it is lost
+abbrev pub may_fill : Form → Bool → Bool
+may_fill Marked fill = true
+may_fill form fill = not fill
+
+-- from 2 to 16 files
+abbrev pub are_few : List Text → Option (List Text)
+are_few files = if nat_le 2 (length files) && nat_le (length files) 16 then Some files else None
+
+abbrev pub files_in : List Row → Option (List Text)
+files_in rows = option_and_then are_few (all_of (codes "file") rows)
+
+-- a form, from 2 to 16 files, and blocks that are marked whole in the marked form alone
+abbrev pub interleave_of : List Row → Option InterleaveAsked
+interleave_of rows = do
+  form ← form_in (first_of (codes "form") rows)
+  files ← files_in rows
+  if may_fill form (is_set (codes "fill") rows) then Some (record { form = form; fill = is_set (codes "fill") rows; files = files }) else None
+
+-- what holds of all settings of `interleave`
+pub record IsLawful (settings : InterleaveSettings) : Type 0 where
+  pub form : settings.form ≢ Listed
+  pub fill : settings.fill ≡ true → settings.form ≡ Marked
+  pub some_files : 2 ≤ length settings.files.items
+  pub few_files : length settings.files.items ≤ 16

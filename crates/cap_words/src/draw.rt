@@ -1,0 +1,18 @@
+//! The values of `draw`.
+ghost use Rattle.std.specs.Prelude.{◌≡◌, ◌≤◌, IfSome};
+ghost use Rattle.clap.specs.Words.{found_of, rows_of};
+ghost use Rattle.cap_words.specs.Draw.{draw_of};
+
+use crate::parser::given;
+use crate::settings::DrawSettings;
+use clap::ArgMatches;
+use dvd_words::read_within;
+
+/// Each option by its form.
+pub fn draw_settings(matches: &ArgMatches<'_>) -> Option<DrawSettings>
+    ensures value { result ≡ draw_of (rows_of (found_of matches.now)) }
+    ensures bounds { IfSome result (λ settings. (100 ≤ settings.width) × (settings.width ≤ 4000)) }
+{
+    let width = read_within(given(matches, "width"), 100, 4000, 1000)?;
+    Some(DrawSettings { width })
+}

@@ -1,0 +1,74 @@
+//! The values of `interleave`.
+ghost use Rattle.std.specs.Prelude.{◌≡◌, codes, map, option_map, IfSome};
+ghost use Rattle.clap.specs.Words.{all_of, found_of, rows_of};
+ghost use Rattle.cap_words.specs.Interleave.{IsLawful, are_few, files_in, form_in, interleave_asked, interleave_of, is_set, may_fill};
+
+use crate::parser::given;
+use crate::settings::InterleaveSettings;
+use arrayvec::ArrayVec;
+use clap::ArgMatches;
+use dvd_capture::Form;
+use dvd_words::read_form;
+
+/// Each option by its form, and from 2 to 16 files.
+pub fn interleave_settings<'a>(matches: &ArgMatches<'a>) -> Option<InterleaveSettings<'a>>
+    ensures value { option_map interleave_asked result ≡ interleave_of (rows_of (found_of matches.now)) }
+    ensures lawful { IfSome result IsLawful }
+{
+    let form = form_in(given(matches, "form"))?;
+    let fill = is_set(matches, "fill");
+    let files = files_in(matches)?;
+    if may_fill(form, fill) {
+        Some(InterleaveSettings { form, fill, files })
+    } else {
+        None
+    }
+}
+
+// The form that is named, of which each block has as many bytes as any other.
+fn form_in(text: Option<&str>) -> Option<Form>
+    ensures { result ≡ form_in (option_map (λ s. s.now) text.entry) }
+{
+    match read_form(text)? {
+        Form::Listed => None,
+        form => Some(form),
+    }
+}
+
+// No byte of the plain form says that it is lost.
+fn may_fill(form: Form, fill: bool) -> bool
+    ensures { result ≡ may_fill form fill }
+{
+    form == Form::Marked || !fill
+}
+
+fn is_set(matches: &ArgMatches<'_>, name: &str) -> bool
+    ensures { result ≡ is_set name.now (rows_of (found_of matches.now)) }
+{
+    given(matches, name) == Some("true")
+}
+
+// From 2 to 16 files.
+fn files_in<'a>(matches: &ArgMatches<'a>) -> Option<ArrayVec<&'a str, 16>>
+    ensures { option_map (λ files. map (λ file. file.now) files.items) result ≡ files_in (rows_of (found_of matches.now)) }
+{
+    few_files(given_files(matches)?)
+}
+
+// The files, if one is given.
+fn given_files<'m, 'a>(matches: &'m ArgMatches<'a>) -> Option<&'m [&'a str]>
+    ensures { option_map (λ files. map (λ file. file.now) files.now) result ≡ all_of (codes "file") (rows_of (found_of matches.now)) }
+{
+    matches.get_strs("file")
+}
+
+fn few_files<'a>(names: &[&'a str]) -> Option<ArrayVec<&'a str, 16>>
+    ensures { option_map (λ files. map (λ file. file.now) files.items) result ≡ are_few (map (λ name. name.now) names.now) }
+{
+    if names.len() < 2 {
+        return None;
+    }
+    let mut files = ArrayVec::new();
+    files.try_extend_from_slice(names).ok()?;
+    Some(files)
+}

@@ -1,0 +1,24 @@
+//! The values of `lost`.
+ghost use Rattle.std.specs.Prelude.{◌≡◌};
+ghost use Rattle.clap.specs.Words.{found_of, rows_of};
+ghost use Rattle.cap_words.specs.Lost.{lost_of};
+
+use crate::parser::given;
+use crate::settings::LostSettings;
+use clap::ArgMatches;
+use dvd_words::{read_number, read_shape, read_zones};
+
+/// Each option by its form.
+#[tactic(auto, unfolding(crate::specs::Lost::lost_of))]
+pub fn lost_settings(matches: &ArgMatches<'_>) -> Option<LostSettings>
+    ensures { result ≡ lost_of (rows_of (found_of matches.now)) }
+{
+    Some(LostSettings {
+        sectors: read_number(given(matches, "sectors"), 0)?,
+        sectors1: read_number(given(matches, "sectors1"), 0)?,
+        shape: read_shape(given(matches, "shape"))?,
+        zones: read_zones(given(matches, "zones"))?,
+        initial: read_number(given(matches, "initial"), 0)?,
+        tail: read_number(given(matches, "tail"), 16)?,
+    })
+}

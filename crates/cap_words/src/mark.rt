@@ -1,0 +1,47 @@
+//! The values of `mark`.
+ghost use Rattle.std.specs.Prelude.{◌≡◌, option_map};
+ghost use Rattle.std.specs.List.{list_all};
+ghost use Rattle.clap.specs.Words.{found_of, rows_of};
+ghost use Rattle.cap_words.specs.Mark.{good_in, is_good, is_good_status, mark_asked, mark_of};
+
+use crate::parser::given;
+use crate::settings::MarkSettings;
+use clap::ArgMatches;
+
+/// Each option by its form.
+pub fn mark_settings<'a>(matches: &ArgMatches<'a>) -> Option<MarkSettings<'a>>
+    ensures { option_map mark_asked result ≡ mark_of (rows_of (found_of matches.now)) }
+{
+    let map = given(matches, "map")?;
+    let good = good_in(given(matches, "good"))?;
+    Some(MarkSettings { map, good })
+}
+
+// The statuses that are trusted: those that are given, each of which a block can have, or `+`.
+fn good_in<'a>(text: Option<&'a str>) -> Option<&'a str>
+    ensures { option_map (λ s. s.now) result ≡ good_in (option_map (λ s. s.now) text.entry) }
+{
+    match text {
+        None => Some("+"),
+        Some(text) if is_good(text.as_bytes()) => Some(text),
+        Some(_) => None,
+    }
+}
+
+fn is_good(text: &[u8]) -> bool
+    ensures { result ≡ is_good text.now }
+{
+    !text.is_empty() && are_statuses(text)
+}
+
+fn are_statuses(text: &[u8]) -> bool
+    ensures { result ≡ list_all is_good_status text.now }
+{
+    text.iter().all(|status| is_good_status(*status))
+}
+
+fn is_good_status(status: u8) -> bool
+    ensures { result ≡ is_good_status status }
+{
+    status == b'?' || status == b'*' || status == b'/' || status == b'-' || status == b'+'
+}
