@@ -1,0 +1,184 @@
+//! The buffers of a unit, which is one block of each capture.
+ghost use Rattle.std.specs.Prelude.{◌≡◌, ◌+◌, ◌*◌, ◌<◌, ◌≤◌, ◌++◌, ◌==◌, [], length, take, slice_index, nat_lt, position, true, is_some, vec_len, vec_capacity, IfOk, IfSome, OnErr, OnOk};
+ghost use Rattle.std.specs.List.{list_all};
+ghost use Rattle.dvd_capture.specs.Captured.{block_size, HasSize};
+ghost use Rattle.dvd_capture.specs.declared.form.Form.TheVariants.{Marked as marked};
+ghost use Rattle.dvd_ports.specs.Whole.{IsWritten};
+ghost use Rattle.cap_interleave.specs.Blocks.{filled, lost_block, lost_row};
+ghost use Rattle.cap_interleave.specs.Inner.{Breaks, ChecksTo, GivesBlock, IsReadInto, fresh};
+
+use crate::ends::InterleaveEnd;
+use dvd_capture::Form;
+use dvd_ports::{Failed, NoMemory, Sink, Source, WriteFault, read_whole, write_whole};
+use std::alloc::{AllocError, Global};
+use std::marker::Model;
+
+// The bytes of a unit at most: sixteen blocks in the marked form.
+const MOST_BYTES: usize = 16 * 42_640;
+
+/// A unit, a block, and how many bytes came of the last block of each capture. Where blocks are filled, it has one that is
+/// marked whole too.
+#[derive(Drop)]
+pub struct Buffers {
+    unit: Vec<u8>,
+    block: Vec<u8>,
+    held: Vec<usize>,
+    lost: Option<Vec<u8>>,
+}
+
+impl Model for Buffers {
+    ghost use Rattle.std.specs.Prelude.{◌≡◌, ◌≤◌, IfSome, vec_len, vec_capacity, is_some};
+    ghost use Rattle.cap_interleave.specs.Blocks.{lost_block};
+    ghost use Rattle.cap_interleave.specs.Inner.{BuffersState};
+
+    ghost Value = { BuffersState };
+
+    ghost view = { λ b. record { size = vec_len b.block; fill = is_some b.lost; held = b.held.items; unit = b.unit.items } };
+
+    ghost invariant = { λ b. (682_240 ≤ vec_capacity b.unit) × (1 ≤ vec_len b.block) × (vec_len b.block ≤ 42_640) × (vec_len b.held ≤ 16)
+        × IfSome b.lost (λ lost. (lost.items ≡ lost_block) × (vec_len lost ≡ 42_640)) };
+}
+
+impl Buffers {
+    /// Buffers for so many captures, of which nothing was read. All memory is taken here.
+    pub fn new(alloc: Global, form: Form, fill: bool, captures: usize) -> Result<Buffers, NoMemory>
+        requires form { HasSize form }
+        requires fill { fill ≡ true → form ≡ marked }
+        requires few { captures ≤ 16 }
+        ensures { IfOk result (λ buffers. buffers ≡ fresh (record { size = block_size form; fill = fill; count = captures })) }
+    {
+        let size = form.size();
+        let lost = if fill { Some(lost_block(alloc)?) } else { None };
+        Ok(Buffers {
+            unit: Vec::with_capacity(alloc, MOST_BYTES).map_err(|_| NoMemory)?,
+            block: vec![in alloc; 0; size].map_err(|_| NoMemory)?,
+            held: vec![in alloc; size; captures].map_err(|_| NoMemory)?,
+            lost,
+        })
+    }
+
+    /// Empties the unit.
+    pub(crate) fn clear(&mut self)
+        ensures { self.new ≡ record self.old { unit = [] } }
+    {
+        self.unit.clear();
+    }
+
+    /// Reads a block of capture `c` and puts it at the end of the unit. A capture that has ended isn't asked again.
+    pub(crate) fn read<S: Source>(&mut self, c: usize, src: &mut S) -> Result<(), Failed>
+        requires capture { c < length self.old.held }
+        requires room { length self.old.unit ≤ 42_640 * c }
+        ensures read { OnOk result (IsReadInto c self.old self.new (S.seen src.old) (S.seen src.new)) }
+        ensures broken { OnErr result (Breaks self.old.size (slice_index self.old.held c) (S.seen src.old) (S.seen src.new)) }
+    {
+        let held = fetch(&mut self.block, self.held[c], src)?;
+        self.held[c] = held;
+        put_block(&mut self.unit, &self.block[..held], &self.lost);
+        Ok(())
+    }
+
+    /// How the loop ends where the captures don't have block `k`.
+    pub(crate) fn check(&self, k: u32) -> Result<(), InterleaveEnd>
+        ensures { ChecksTo self.now k result }
+    {
+        if are_empty(&self.held) {
+            return Err(InterleaveEnd::Done);
+        }
+        if self.lost.is_some() {
+            return Ok(());
+        }
+        match first_short(&self.held, self.block.len()) {
+            None => Ok(()),
+            Some(capture) => Err(InterleaveEnd::Short {
+                capture: capture as u32,
+                block: k,
+                bytes: self.held[capture] as u32,
+            }),
+        }
+    }
+
+    /// Writes the unit.
+    pub(crate) fn write<K: Sink>(&self, out: &mut K) -> Result<(), WriteFault>
+        ensures { IsWritten self.now.unit (K.seen out.old) (K.seen out.new) result }
+    {
+        write_whole(out, &self.unit)
+    }
+}
+
+// Whether no byte came of any block.
+fn are_empty(held: &[usize]) -> bool
+    ensures { result ≡ list_all (λ h. h == 0) held.now }
+{
+    held.iter().all(|held| *held == 0)
+}
+
+// The first capture of which fewer bytes came than a block has.
+fn first_short(held: &[usize], size: usize) -> Option<usize>
+    ensures { result ≡ position (λ h. nat_lt h size) held.now }
+{
+    held.iter().position(|held| *held < size)
+}
+
+// Reads a block, if the last one came whole, and answers how many bytes came.
+fn fetch<S: Source>(block: &mut [u8], before: usize, src: &mut S) -> Result<usize, Failed>
+    ensures size { length block.new ≡ length block.old }
+    ensures bound { IfOk result (λ held. held ≤ length block.old) }
+    ensures gives { IfOk result (λ held. GivesBlock (length block.old) before (take held block.new) (S.seen src.old) (S.seen src.new)) }
+    ensures broken { OnErr result (Breaks (length block.old) before (S.seen src.old) (S.seen src.new)) }
+{
+    if before < block.len() {
+        return Ok(0);
+    }
+    read_whole(src, block)
+}
+
+// Puts a block of which these bytes came at the end of a unit, and the rest of one that is marked whole, if there is one.
+fn put_block(unit: &mut Vec<u8>, own: &[u8], lost: &Option<Vec<u8>>)
+    requires room { vec_len unit.old + 42_640 ≤ vec_capacity unit.old }
+    requires own { length own.now ≤ 42_640 }
+    requires lost { IfSome lost.now (λ block. (block.items ≡ lost_block) × (vec_len block ≡ 42_640)) }
+    ensures items { unit.new.items ≡ unit.old.items ++ filled (is_some lost.now) own.now }
+    ensures len { vec_len unit.new ≤ vec_len unit.old + 42_640 }
+    ensures capacity { vec_capacity unit.old ≤ vec_capacity unit.new }
+{
+    put(unit, own);
+    if let Some(lost) = lost {
+        put(unit, &lost[own.len()..]);
+    }
+}
+
+// Puts bytes at the end, for which there is room.
+fn put(unit: &mut Vec<u8>, bytes: &[u8])
+    requires { vec_len unit.old + length bytes.now ≤ vec_capacity unit.old }
+    ensures items { unit.new.items ≡ unit.old.items ++ bytes.now }
+    ensures len { vec_len unit.new ≡ vec_len unit.old + length bytes.now }
+    ensures capacity { vec_capacity unit.old ≤ vec_capacity unit.new }
+{
+    match unit.extend_from_slice(bytes) {
+        Ok(()) => {}
+        Err(_) => unreachable!(),
+    }
+}
+
+// A block in the marked form that is marked whole.
+#[tactic(auto, using(crate::proofs::BlockLemmas::rows_none, crate::proofs::BlockLemmas::rows_more))]
+fn lost_block(alloc: Global) -> Result<Vec<u8>, NoMemory>
+    ensures block { IfOk result (λ block. block.items ≡ lost_block) }
+    ensures len { IfOk result (λ block. vec_len block ≡ 42_640) }
+{
+    let mut block = Vec::new(alloc);
+    for _ in 0..208usize {
+        put_lost_row(&mut block).map_err(|_| NoMemory)?;
+    }
+    Ok(block)
+}
+
+fn put_lost_row(block: &mut Vec<u8>) -> Result<(), AllocError>
+    ensures row { OnOk result (block.new.items ≡ block.old.items ++ lost_row) }
+    ensures len { OnOk result (vec_len block.new ≡ vec_len block.old + 205) }
+{
+    block.extend_from_slice(&[0; 182])?;
+    block.extend_from_slice(&[255; 22])?;
+    block.push(252)?;
+    Ok(())
+}

@@ -1,0 +1,64 @@
+//! The loop over the blocks of several captures.
+ghost use Rattle.std.specs.Prelude.{◌≡◌, ◌≤◌, length, IfErr, OnOk};
+ghost use Rattle.cap_interleave.specs.Inner.{AreReadTo, EndsBroken, IsTurn, fresh, task_of};
+ghost use Rattle.cap_interleave.specs.Interleaved.{IsInterleaved};
+
+use crate::buffers::Buffers;
+use crate::ends::InterleaveEnd;
+use dvd_ports::{Failed, Sink, Source, WriteFault};
+
+/// Writes block 0 of each capture, then block 1 of each, and so on. Nothing is tried again: a failed call, and a read that
+/// met the end of a capture, is the last of its stream.
+pub fn interleave_loop<S: Source, K: Sink>(
+    buffers: &mut Buffers,
+    captures: &mut [S],
+    out: &mut K,
+) -> InterleaveEnd
+    requires fresh { buffers.old ≡ fresh (task_of buffers.old) }
+    requires count { length captures.old ≡ length buffers.old.held }
+    requires few { length captures.old ≤ 16 }
+    ensures { IsInterleaved S.seen (task_of buffers.old) captures.old captures.new (K.seen out.old) (K.seen out.new) result }
+{
+    for k in 0..u32::MAX {
+        if let Err(end) = turn(k, buffers, captures, out) {
+            return end;
+        }
+    }
+    InterleaveEnd::Long
+}
+
+// Writes block `k` of each capture, or answers how the loop ends.
+fn turn<S: Source, K: Sink>(
+    k: u32,
+    buffers: &mut Buffers,
+    captures: &mut [S],
+    out: &mut K,
+) -> Result<(), InterleaveEnd>
+    requires count { length captures.old ≡ length buffers.old.held }
+    requires few { length captures.old ≤ 16 }
+    ensures { IsTurn S.seen k buffers.old buffers.new captures.old captures.new (K.seen out.old) (K.seen out.new) result }
+{
+    read_unit(buffers, captures)?;
+    buffers.check(k)?;
+    match buffers.write(out) {
+        Ok(()) => Ok(()),
+        Err(WriteFault) => Err(InterleaveEnd::WriteFault),
+    }
+}
+
+// Reads a block of each capture.
+fn read_unit<S: Source>(buffers: &mut Buffers, captures: &mut [S]) -> Result<(), InterleaveEnd>
+    requires count { length captures.old ≡ length buffers.old.held }
+    requires few { length captures.old ≤ 16 }
+    ensures read { OnOk result (AreReadTo S.seen (length captures.old) buffers.old buffers.new captures.old captures.new) }
+    ensures broken { IfErr result (EndsBroken S.seen buffers.old captures.old captures.new) }
+{
+    buffers.clear();
+    for c in 0..captures.len() {
+        match buffers.read(c, &mut captures[c]) {
+            Ok(()) => {}
+            Err(Failed) => return Err(InterleaveEnd::ReadFault { capture: c as u32 }),
+        }
+    }
+    Ok(())
+}

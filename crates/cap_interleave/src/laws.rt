@@ -1,0 +1,19 @@
+//! What holds of blocks in turn: each function's contract is one law, and its body is empty.
+ghost use Rattle.cap_interleave.specs.Laws.{BlocksAreInMergeOrder, LostBlockIsMarkedWhole, WholeCapturesComeWhole};
+
+use dvd_ports::Source;
+
+/// The blocks come in the order in which `dvdecc merge` takes them.
+pub fn blocks_are_in_merge_order()
+    ensures { BlocksAreInMergeOrder }
+{}
+
+/// A block that stands for one that is missing has a mark at each place.
+pub fn a_lost_block_is_marked_whole()
+    ensures { LostBlockIsMarkedWhole }
+{}
+
+/// Captures of as many blocks come whole where no stream fails.
+pub fn whole_captures_come_whole<S: Source>()
+    ensures { WholeCapturesComeWhole S.seen }
+{}

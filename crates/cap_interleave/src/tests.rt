@@ -1,0 +1,278 @@
+//! Runs over memory: blocks in turn, captures that end, and a fault of each stream.
+use crate::{Buffers, InterleaveEnd, interleave_loop};
+use dvd_capture::Form;
+use dvd_ports::{MemSink, MemSource, Source};
+use std::alloc::Global;
+use std::test::Fail;
+
+// So many bytes, each of which is that of its number in this capture.
+fn capture(alloc: Global, number: u8, count: usize) -> Result<Vec<u8>, Fail> {
+    let mut bytes = Vec::new(alloc);
+    for k in 0..count {
+        bytes.push((k / 182 % 256) as u8 ^ (k % 251) as u8 ^ (number << 5))?;
+    }
+    Ok(bytes)
+}
+
+// A run over three captures of these lengths, of which the second fails at a call, and to an output with so much room.
+struct Case {
+    form: Form,
+    fill: bool,
+    counts: [usize; 3],
+    broken_read: u64,
+    room: usize,
+    end: InterleaveEnd,
+    blocks: usize,
+}
+
+const WIDE: usize = 42_640;
+
+const NONE: u64 = 9999;
+
+static CASES: [Case; 17] = [
+    Case {
+        form: Form::Plain,
+        fill: false,
+        counts: [75_712, 75_712, 75_712],
+        broken_read: NONE,
+        room: 999_999,
+        end: InterleaveEnd::Done,
+        blocks: 2,
+    },
+    Case {
+        form: Form::Marked,
+        fill: false,
+        counts: [42_640, 42_640, 42_640],
+        broken_read: NONE,
+        room: 999_999,
+        end: InterleaveEnd::Done,
+        blocks: 1,
+    },
+    Case {
+        form: Form::Plain,
+        fill: false,
+        counts: [0, 0, 0],
+        broken_read: NONE,
+        room: 0,
+        end: InterleaveEnd::Done,
+        blocks: 0,
+    },
+    Case {
+        form: Form::Plain,
+        fill: false,
+        counts: [75_712, 37_856, 75_712],
+        broken_read: NONE,
+        room: 999_999,
+        end: InterleaveEnd::Short {
+            capture: 1,
+            block: 1,
+            bytes: 0,
+        },
+        blocks: 1,
+    },
+    Case {
+        form: Form::Plain,
+        fill: false,
+        counts: [37_856, 75_712, 75_712],
+        broken_read: NONE,
+        room: 999_999,
+        end: InterleaveEnd::Short {
+            capture: 0,
+            block: 1,
+            bytes: 0,
+        },
+        blocks: 1,
+    },
+    Case {
+        form: Form::Plain,
+        fill: false,
+        counts: [37_856, 37_856, 37_857],
+        broken_read: NONE,
+        room: 999_999,
+        end: InterleaveEnd::Short {
+            capture: 0,
+            block: 1,
+            bytes: 0,
+        },
+        blocks: 1,
+    },
+    Case {
+        form: Form::Plain,
+        fill: false,
+        counts: [75_712, 75_712, 75_711],
+        broken_read: NONE,
+        room: 999_999,
+        end: InterleaveEnd::Short {
+            capture: 2,
+            block: 1,
+            bytes: 37_855,
+        },
+        blocks: 1,
+    },
+    Case {
+        form: Form::Plain,
+        fill: false,
+        counts: [100, 100, 100],
+        broken_read: NONE,
+        room: 999_999,
+        end: InterleaveEnd::Short {
+            capture: 0,
+            block: 0,
+            bytes: 100,
+        },
+        blocks: 0,
+    },
+    Case {
+        form: Form::Marked,
+        fill: true,
+        counts: [85_280, 42_640, 0],
+        broken_read: NONE,
+        room: 999_999,
+        end: InterleaveEnd::Done,
+        blocks: 2,
+    },
+    Case {
+        form: Form::Marked,
+        fill: true,
+        counts: [0, 182, 204],
+        broken_read: NONE,
+        room: 999_999,
+        end: InterleaveEnd::Done,
+        blocks: 1,
+    },
+    Case {
+        form: Form::Marked,
+        fill: true,
+        counts: [0, 0, 0],
+        broken_read: NONE,
+        room: 999_999,
+        end: InterleaveEnd::Done,
+        blocks: 0,
+    },
+    Case {
+        form: Form::Marked,
+        fill: true,
+        counts: [42_641, 42_639, 42_640],
+        broken_read: NONE,
+        room: 999_999,
+        end: InterleaveEnd::Done,
+        blocks: 2,
+    },
+    Case {
+        form: Form::Plain,
+        fill: false,
+        counts: [75_712, 75_712, 75_712],
+        broken_read: 0,
+        room: 999_999,
+        end: InterleaveEnd::ReadFault { capture: 1 },
+        blocks: 0,
+    },
+    Case {
+        form: Form::Plain,
+        fill: false,
+        counts: [75_712, 75_712, 75_712],
+        broken_read: 60,
+        room: 999_999,
+        end: InterleaveEnd::ReadFault { capture: 1 },
+        blocks: 1,
+    },
+    Case {
+        form: Form::Plain,
+        fill: false,
+        counts: [75_712, 75_712, 75_712],
+        broken_read: 76,
+        room: 999_999,
+        end: InterleaveEnd::ReadFault { capture: 1 },
+        blocks: 2,
+    },
+    Case {
+        form: Form::Plain,
+        fill: false,
+        counts: [75_712, 75_712, 75_712],
+        broken_read: NONE,
+        room: 120_000,
+        end: InterleaveEnd::WriteFault,
+        blocks: 2,
+    },
+    Case {
+        form: Form::Plain,
+        fill: false,
+        counts: [75_712, 75_712, 75_712],
+        broken_read: NONE,
+        room: 0,
+        end: InterleaveEnd::WriteFault,
+        blocks: 2,
+    },
+];
+
+// A byte of a block that is marked whole.
+fn lost(at: usize) -> u8 {
+    match at % 205 {
+        0..=181 => 0,
+        204 => 0xFC,
+        _ => 0xFF,
+    }
+}
+
+// The first so many blocks of each, one after the other.
+fn wanted(alloc: Global, case: &Case, captures: &[Vec<u8>]) -> Result<Vec<u8>, Fail> {
+    let size = case.form.size();
+    let mut bytes = Vec::new(alloc);
+    for k in 0..case.blocks {
+        for capture in captures {
+            for at in 0..size {
+                bytes.push(capture.get(k * size + at).copied().unwrap_or(lost(at)))?;
+            }
+        }
+    }
+    bytes.truncate(case.room);
+    Ok(bytes)
+}
+
+fn runs(alloc: Global, case: &Case) -> Result<(), Fail> {
+    let mut captures = Vec::new(alloc);
+    let mut sources = Vec::new(alloc);
+    for number in 0..3 {
+        let bytes = capture(alloc, number as u8, case.counts[number])?;
+        captures.push(bytes.clone()?)?;
+        let fails = if number == 1 { case.broken_read } else { NONE };
+        sources.push(MemSource::new(bytes, 1000, vec![in alloc; fails; 1]?))?;
+    }
+    let mut out = MemSink::new(alloc, case.room, 50_000, Vec::new(alloc))?;
+    let mut buffers = Buffers::new(alloc, case.form, case.fill, 3)?;
+    let end = interleave_loop(&mut buffers, &mut sources, &mut out);
+    let wanted = wanted(alloc, case, &captures)?;
+    if end != case.end || out.held() != wanted.as_slice() {
+        Err((
+            case.counts[0],
+            case.counts[1],
+            case.counts[2],
+            out.held().len(),
+        ))?;
+    }
+    Ok(())
+}
+
+#[test]
+fn blocks_come_in_turn_and_ends_are_named(rt: HostRuntime) -> Result<(), Fail> {
+    for case in &CASES {
+        runs(rt.alloc(), case)?;
+    }
+    Ok(())
+}
+
+// Nothing more is asked of a capture that has ended: its next call would fail.
+#[test]
+fn ended_captures_are_left_alone(rt: HostRuntime) -> Result<(), Fail> {
+    let alloc = rt.alloc();
+    let long = capture(alloc, 1, 3 * WIDE)?;
+    let mut sources = Vec::new(alloc);
+    sources.push(MemSource::new(capture(alloc, 0, 7)?, 10, vec![in alloc; 2; 1]?))?;
+    sources.push(MemSource::new(long, WIDE, vec![in alloc; 4; 1]?))?;
+    let mut out = MemSink::new(alloc, 6 * WIDE, WIDE, Vec::new(alloc))?;
+    let mut buffers = Buffers::new(alloc, Form::Marked, true, 2)?;
+    assert!(rt; interleave_loop(&mut buffers, &mut sources, &mut out) == InterleaveEnd::Done);
+    assert!(rt; out.held().len() == 6 * WIDE);
+    assert!(rt; sources[1].read(&mut [0; 1]).is_err());
+    Ok(())
+}
