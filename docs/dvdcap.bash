@@ -3,15 +3,17 @@ _dvdcap() {
     local before=${COMP_WORDS[COMP_CWORD - 1]} command=${COMP_WORDS[1]} at=1 words=
     [ "$command" != --progress ] || at=2 command=${COMP_WORDS[2]-}
     if [ "$COMP_CWORD" = "$at" ]; then
-        words='mark help'
+        words='mark interleave help'
         [ "$at" = 2 ] || words+=' --version --progress'
     else
         case $command,$before in
-            help,*) words='mark' ;;
+            help,*) words='mark interleave' ;;
+            *,--form) words='plain marked' ;;
             *,--*)
                 # (a value of one's own, and after it the next option)
                 ;;
             mark,*) words='--map --good' ;;
+            interleave,*) words='--form --fill' ;;
         esac
     fi
     mapfile -t COMPREPLY < <(compgen -W "$words" -- "${COMP_WORDS[COMP_CWORD]}")

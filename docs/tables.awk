@@ -84,6 +84,8 @@ function placeholder(option,    parts) {
     split(whole["option", option], parts, " ")
     return parts[2]
 }
+# The option with its value, if it has one.
+function with_value(option) { return placeholder(option) == "" ? option : option " " placeholder(option) }
 
 # A number as it is written in a sentence.
 function grouped(number,    out) {
@@ -135,6 +137,7 @@ function sentence(text) { return toupper(substr(text, 1, 1)) substr(text, 2) "."
 # Sentences on an option of a command, for the page of help.
 function about(option, command,    need, out) {
     need = needed[option]
+    if (placeholder(option) == "") return fact("option", option, "says", command) rules_of(option, command)
     out = value_of(option, command)
     out = out == "a number" ? "" : " " placeholder(option) " is " out "."
     out = fact("option", option, "says", command) out rules_of(option, command)
@@ -148,10 +151,10 @@ function synopsis(command,    n, i, out, text) {
     n = take_options(command)
     out = self " " command
     for (i = 1; i <= n; i++) {
-        text = taken[i] " " placeholder(taken[i])
+        text = with_value(taken[i])
         out = out " " (needed[taken[i]] == 1 ? text : needed[taken[i]] == 2 ? "{" text " | " unless "}" : "[" text "]")
     }
-    return out
+    return out (fact("command", command, "files") == "" ? "" : " " fact("command", command, "files"))
 }
 
 # Words of a text in lines of at most 80 columns, the first of which begins with `head`; a ~ is a blank that breaks no line.
@@ -222,7 +225,7 @@ function help(    i, j, k, n, number) {
         print wrapped("  " self, unbroken(substr(synopsis(commands[i]), length(self) + 2) " " fact("command", commands[i], "streams")), 9)
         print ""
         n = take_options(commands[i])
-        for (j = 1; j <= n; j++) print wrapped("  " taken[j] " " placeholder(taken[j]), about(taken[j], commands[i]), 17)
+        for (j = 1; j <= n; j++) print wrapped("  " with_value(taken[j]), about(taken[j], commands[i]), 17)
     }
 }
 
@@ -238,8 +241,8 @@ function table_of_command(command,    n, i, need, option) {
     for (i = 1; i <= n; i++) {
         option = taken[i]
         need = needed[option]
-        need = need == 2 ? "required, but not beside `" unless "`" : need ? "required" : "`" fact("option", option, "default", command) "`"
-        print "| `" option " " placeholder(option) "` | " value_of(option, command) " | " need " | " cell(fact("option", option, "says", command) rules_of(option, command)) " |"
+        need = need == 2 ? "required, but not beside `" unless "`" : need ? "required" : placeholder(option) == "" ? "not given" : "`" fact("option", option, "default", command) "`"
+        print "| `" with_value(option) "` | " (placeholder(option) == "" ? "none" : value_of(option, command)) " | " need " | " cell(fact("option", option, "says", command) rules_of(option, command)) " |"
     }
 }
 function manual_table(name,    i, k, number) {
@@ -304,9 +307,10 @@ function manpage_table(name,    i, j, k, n, text, number) {
             n = take_options(commands[i])
             print ".B " self " " commands[i]
             for (j = 1; j <= n; j++) {
-                text = "\\fB" roff(taken[j]) "\\fR \\fI" placeholder(taken[j]) "\\fR"
+                text = "\\fB" roff(taken[j]) "\\fR" (placeholder(taken[j]) == "" ? "" : " \\fI" placeholder(taken[j]) "\\fR")
                 print needed[taken[j]] == 1 ? text : needed[taken[j]] == 2 ? "{" text " | \\fB" roff(unless) "\\fR}" : "[" text "]"
             }
+            if (fact("command", commands[i], "files") != "") print "\\fI" fact("command", commands[i], "files") "\\fR"
             if (i < command_count) print ".br"
         }
         for (i = 1; i <= word_count; i++) print ".br\n.B " self "\n" roff("`" words_of[i] "`")

@@ -1,8 +1,12 @@
 //! The program dvdcap: it makes the real words, files and streams, and ends with the status of the run.
 #![tactic(auto)]
 
-use cap_top::{Status, refuse_words, run_mark};
-use cap_words::{MarkSettings, Settings, WordsFault, read};
+ghost use Rattle.std.specs.Prelude.{◌≡◌, length, vec_len, IfOk};
+ghost use Rattle.cap_words.specs.Interleave.{IsLawful};
+ghost use Rattle.cap_words.specs.Reading.{AreLawful};
+
+use cap_top::{Status, refuse_words, run_interleave, run_mark};
+use cap_words::{InterleaveSettings, MarkSettings, Settings, WordsFault, read};
 use dvd_ports::{NoMemory, Sink, StdSink, StdSource};
 use std::env;
 use std::fs::File;
@@ -23,12 +27,13 @@ fn main(rt: HostRuntime) -> ExitCode {
 }
 
 // The run of a command. `lost` and `draw` have no crates yet.
-fn run<E: Sink>(rt: &HostRuntime, settings: &Settings<'_>, report: &mut E) -> Status {
+fn run<E: Sink>(rt: &HostRuntime, settings: &Settings<'_>, report: &mut E) -> Status
+    requires { AreLawful settings.now }
+{
     match settings {
         Settings::Mark(settings) => mark(rt, settings, report),
-        Settings::Interleave(_) | Settings::Lost(_) | Settings::Draw(_) => {
-            refuse_words(WordsFault::Usage, report)
-        }
+        Settings::Interleave(settings) => interleave(rt, settings, report),
+        Settings::Lost(_) | Settings::Draw(_) => refuse_words(WordsFault::Usage, report),
     }
 }
 
@@ -37,6 +42,32 @@ fn mark<E: Sink>(rt: &HostRuntime, settings: &MarkSettings<'_>, report: &mut E) 
     let mut src = StdSource::new(rt.reader());
     let mut out = StdSink::new(io::writer(rt));
     run_mark(rt.alloc(), settings, &mut map, &mut src, &mut out, report)
+}
+
+fn interleave<E: Sink>(
+    rt: &HostRuntime,
+    settings: &InterleaveSettings<'_>,
+    report: &mut E,
+) -> Status
+    requires { IsLawful settings.now }
+{
+    let Ok(mut captures) = open_all(rt, settings.files.as_slice()) else {
+        return refuse_words(WordsFault::NoMemory, report);
+    };
+    let mut out = StdSink::new(io::writer(rt));
+    run_interleave(rt.alloc(), settings, &mut captures, &mut out, report)
+}
+
+// The files of these names, in their order.
+fn open_all(rt: &HostRuntime, names: &[&str]) -> Result<Vec<StdSource<Opened>>, NoMemory>
+    ensures { IfOk result (λ files. vec_len files ≡ length names.now) }
+{
+    let mut files = Vec::new(rt.alloc());
+    for name in names {
+        let file = StdSource::new(Opened::new(rt, name));
+        files.push(file).map_err(|_| NoMemory)?;
+    }
+    Ok(files)
 }
 
 // A file. One that couldn't be opened can't be read.

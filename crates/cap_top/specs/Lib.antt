@@ -1,4 +1,5 @@
 -- What the contracts speak of: a run of each command, and how it ends.
 pub mod Closing
+pub mod Interleave
 pub mod Mark
 pub mod Statuses

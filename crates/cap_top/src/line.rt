@@ -5,10 +5,10 @@ use arrayvec::ArrayVec;
 use itoa::Buffer;
 use std::marker::Model;
 
-/// A line of at most 64 bytes. A contract sees it as the list of its bytes.
+/// A line of at most 96 bytes. A contract sees it as the list of its bytes.
 #[derive(Drop)]
 pub struct Line {
-    bytes: ArrayVec<u8, 64>,
+    bytes: ArrayVec<u8, 96>,
 }
 
 impl Model for Line {
@@ -34,7 +34,7 @@ impl Line {
 
     /// Puts a text at the end of the line.
     pub fn put(&mut self, text: &[u8])
-        requires room { length self.old + length text.now ≤ 64 }
+        requires room { length self.old + length text.now ≤ 96 }
         ensures bytes { self.new ≡ self.old ++ text.now }
         ensures len { length self.new ≡ length self.old + length text.now }
     {
@@ -43,7 +43,7 @@ impl Line {
 
     /// Puts a number in decimal at the end of the line: at most 20 places.
     pub fn put_number(&mut self, number: u64)
-        requires room { length self.old + 20 ≤ 64 }
+        requires room { length self.old + 20 ≤ 96 }
         ensures bytes { self.new ≡ self.old ++ decimal number }
         ensures len { length self.new ≤ length self.old + 20 }
     {

@@ -1,6 +1,11 @@
 //! Runs over memory: what is written and said, and how a fault of each stream ends.
-use crate::{Status, run_mark};
-use cap_words::MarkSettings;
+ghost use Rattle.std.specs.Prelude.{◌≡◌};
+ghost use Rattle.arrayvec.specs.ArrayVec.{array_vec_len};
+
+use crate::{Status, run_interleave, run_mark};
+use arrayvec::ArrayVec;
+use cap_words::{InterleaveSettings, MarkSettings};
+use dvd_capture::Form;
 use dvd_ports::{MemSink, MemSource, SliceSource, Source};
 use std::alloc::Global;
 use std::test::Fail;
@@ -171,4 +176,83 @@ fn maps_that_give_no_spans(rt: HostRuntime) -> Result<(), Fail> {
     )?;
     let mut broken = MemSource::new(MAP.to_vec(alloc)?, 10, vec![in alloc; 2; 1]?);
     is_refused(alloc, &mut broken, Status::ReadFault, b"map: read fault\n")
+}
+
+// Two plain captures of so many sevens, a failing call of the second, and the status, the line and the bytes of their run.
+type Turns = (usize, usize, u64, Status, &'static [u8], usize);
+
+static TURNS: [Turns; 6] = [
+    (37_856, 37_856, 9, Status::Done, b"done\n", 75_712),
+    (0, 0, 9, Status::Done, b"done\n", 0),
+    (
+        37_856,
+        0,
+        9,
+        Status::Short,
+        b"short: file 2, block 0, 0 bytes\n",
+        0,
+    ),
+    (
+        37_855,
+        37_856,
+        9,
+        Status::Short,
+        b"short: file 1, block 0, 37855 bytes\n",
+        0,
+    ),
+    (
+        37_856,
+        37_856,
+        0,
+        Status::ReadFault,
+        b"file 2: read fault\n",
+        0,
+    ),
+    (
+        37_856,
+        37_856,
+        1,
+        Status::ReadFault,
+        b"file 2: read fault\n",
+        75_712,
+    ),
+];
+
+fn takes_turns(alloc: Global, case: &Turns) -> Result<(), Fail> {
+    let mut captures = Vec::new(alloc);
+    captures.push(MemSource::new(vec![in alloc; 7u8; case.0]?, 40_000, Vec::new(alloc)))?;
+    captures.push(MemSource::new(
+        vec![in alloc; 7u8; case.1]?,
+        40_000,
+        vec![in alloc; case.2; 1]?,
+    ))?;
+    let mut out = MemSink::new(alloc, 99_999, 99_999, Vec::new(alloc))?;
+    let mut report = MemSink::new(alloc, 99, 1, Vec::new(alloc))?;
+    let settings = InterleaveSettings {
+        form: Form::Plain,
+        fill: false,
+        files: two_names(),
+    };
+    let status = run_interleave(alloc, &settings, &mut captures, &mut out, &mut report);
+    if status != case.3 || report.held() != case.4 || out.held().len() != case.5 {
+        Err((case.0, case.1))?;
+    }
+    Ok(())
+}
+
+fn two_names<'a>() -> ArrayVec<&'a str, 16>
+    ensures { array_vec_len result ≡ 2 }
+{
+    let mut names = ArrayVec::new();
+    names.push("a");
+    names.push("b");
+    names
+}
+
+#[test]
+fn blocks_take_turns_and_files_are_named(rt: HostRuntime) -> Result<(), Fail> {
+    for case in &TURNS {
+        takes_turns(rt.alloc(), case)?;
+    }
+    Ok(())
 }

@@ -1,0 +1,50 @@
+//! A run of `interleave`.
+ghost use Rattle.std.specs.Prelude.{◌≡◌, ◌≤◌, length};
+ghost use Rattle.cap_top.specs.Interleave.{Headline, status_of};
+ghost use Rattle.cap_words.specs.Interleave.{IsLawful};
+
+mod lines; // the lines of its report
+
+use crate::closing::end_with;
+use crate::status::Status;
+use cap_interleave::{Buffers, InterleaveEnd, interleave_loop};
+use cap_words::InterleaveSettings;
+use dvd_ports::{NoMemory, Sink, Source};
+use lines::close_line;
+use std::alloc::Global;
+
+/// Writes the blocks of captures in turn to `out`. The report gets one line, which says how the run ended. Memory is taken
+/// for one block of each capture, before the first byte is read.
+pub fn run_interleave<S: Source, K: Sink, E: Sink>(
+    alloc: Global,
+    settings: &InterleaveSettings<'_>,
+    captures: &mut [S],
+    out: &mut K,
+    report: &mut E,
+) -> Status
+    requires lawful { IsLawful settings.now }
+    requires few { length captures.old ≤ 16 }
+    ensures { Headline S.seen settings.now captures.old captures.new ((captures.new ≡ captures.old) × (out.new ≡ out.old))
+        (K.seen out.old) (K.seen out.new) (E.seen report.old) (E.seen report.new) result }
+{
+    match Buffers::new(alloc, settings.form, settings.fill, captures.len()) {
+        Ok(mut buffers) => {
+            let end = interleave_loop(&mut buffers, captures, out);
+            end_with(status_of(end), close_line(end).as_slice(), report)
+        }
+        Err(NoMemory) => end_with(Status::NoMemory, b"no memory\n", report),
+    }
+}
+
+// The exit status of a run that ended so.
+fn status_of(end: InterleaveEnd) -> Status
+    ensures { result ≡ status_of end }
+{
+    match end {
+        InterleaveEnd::Done => Status::Done,
+        InterleaveEnd::ReadFault { .. } => Status::ReadFault,
+        InterleaveEnd::WriteFault => Status::WriteFault,
+        InterleaveEnd::Short { .. } => Status::Short,
+        InterleaveEnd::Long => Status::Long,
+    }
+}

@@ -1,0 +1,37 @@
+//! The line that closes the report of `interleave`.
+ghost use Rattle.std.specs.Prelude.{◌≡◌};
+ghost use Rattle.cap_top.specs.Interleave.{closing_line};
+
+use crate::line::Line;
+use cap_interleave::InterleaveEnd;
+
+/// The closing line. The files are counted from 1 there, as they are in the words.
+pub fn close_line(end: InterleaveEnd) -> Line
+    ensures { result ≡ closing_line end }
+{
+    let mut line = Line::new();
+    match end {
+        InterleaveEnd::Done => line.put(b"done\n"),
+        InterleaveEnd::ReadFault { capture } => {
+            line.put(b"file ");
+            line.put_number(u64::from(capture) + 1);
+            line.put(b": read fault\n");
+        }
+        InterleaveEnd::WriteFault => line.put(b"write fault\n"),
+        InterleaveEnd::Short {
+            capture,
+            block,
+            bytes,
+        } => {
+            line.put(b"short: file ");
+            line.put_number(u64::from(capture) + 1);
+            line.put(b", block ");
+            line.put_number(u64::from(block));
+            line.put(b", ");
+            line.put_number(u64::from(bytes));
+            line.put(b" bytes\n");
+        }
+        InterleaveEnd::Long => line.put(b"long\n"),
+    }
+    line
+}
