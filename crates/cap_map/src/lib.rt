@@ -14,6 +14,7 @@ mod span; // bytes of a capture that have one status
 
 pub use fault::{Cause, MapFault};
 pub use map::read_map;
+pub use number::digits_in;
 pub use span::Span;
 
 #[cfg(test)]

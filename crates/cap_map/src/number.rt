@@ -20,7 +20,8 @@ fn is_hexadecimal(text: &[u8]) -> bool
     text.len() > 1 && text[0] == b'0' && (text[1] == b'x' || text[1] == b'X')
 }
 
-fn digits_in(text: &[u8], radix: u32) -> Option<u64>
+/// The number that digits of a base, from binary to hexadecimal, write: below 2^63, and of one digit at least.
+pub fn digits_in(text: &[u8], radix: u32) -> Option<u64>
     requires least { 2 ≤ radix }
     requires most { radix ≤ 16 }
     ensures value { result ≡ digits_in radix text.now }

@@ -1,0 +1,79 @@
+-- What only the private functions of this crate promise. No public contract cites this page.
+use Rattle.std.specs.Prelude.{◌≡◌, ℕ, ◌+◌, ◌*◌, ◌≤◌, ◌<◌, ◌^◌, Option, Some, None, List, ◌++◌, length, Result, Err}
+use Rattle.std.specs.Io.KnownBytes.{Appends, Consumes}
+use Rattle.cap_map.specs.Fields.{line_length, lines_of}
+use Rattle.dvd_layout.specs.declared.layout.Layout.{Layout}
+use Rattle.dvd_layout.specs.declared.layout.Zones.{Zones}
+use Rattle.dvd_ports.specs.Causes.{HasGoneOn}
+use Rattle.dvd_ports.specs.Seen.{Seen}
+use Rattle.cap_lost.specs.Report.{Losses, Sayings, lines_read, losses_of}
+use Rattle.cap_lost.specs.declared.draft.Draft.{Draft}
+use Rattle.cap_lost.specs.declared.draft.Said.{Said}
+use Rattle.cap_lost.specs.declared.draft.Said.TheVariants as said
+use Rattle.cap_lost.specs.declared.draft.Stop.{Stop}
+use Rattle.cap_lost.specs.declared.draft.Stop.TheVariants as stop
+use Rattle.cap_lost.specs.declared.fault.Cause.{Cause}
+use Rattle.cap_lost.specs.declared.fault.ReportFault.{ReportFault}
+use Rattle.cap_lost.specs.declared.fault.ReportFault.TheVariants as faults
+use Rattle.cap_lost.specs.declared.reader.Reader.{Reader}
+
+-- a draft, as what was said
+abbrev pub sayings_of : Draft → Sayings
+sayings_of draft = record { extents = draft.extents.items; next = draft.next; refused = draft.refused; written = draft.written }
+
+-- a line isn't taken for this rule, or there is no memory
+abbrev pub IsStopOf : {A : Type 0} → Result A Cause → Stop → Type 0
+IsStopOf read stop.NoMemory = Unit {0}
+IsStopOf read (stop.Rule cause) = read ≡ Err cause
+
+-- a line names a block that has sectors
+abbrev pub NamesSectors : Said → Type 0
+NamesSectors (said.Refused extent) = extent.from < extent.to
+NamesSectors (said.GivenBack extent) = extent.from < extent.to
+NamesSectors (said.Ended refused written) = Unit {0}
+
+-- what a report says that goes on so after what a reader has of it
+abbrev pub goes_on : Reader → List ℕ → Result Losses ReportFault
+goes_on reader rest = lines_read reader.layout reader.zones (sayings_of reader.draft) reader.number (lines_of (reader.line.items ++ rest))
+
+-- however the report goes on, it has this fault
+abbrev pub StopsAs : (List ℕ → Result Losses ReportFault) → ReportFault → Type 0
+StopsAs says faults.NoMemory = Unit {0}
+StopsAs says faults.ReadFault = ⊥
+StopsAs says (faults.Rule line cause) = (rest : List ℕ) → says rest ≡ Err (faults.Rule line cause)
+
+-- one line more, where the end was said
+abbrev pub ended : Option ℕ → ℕ
+ended None = 0
+ended (Some written) = 1
+
+-- Each damage line names a sector at least, and a sector is a number of 32 bits.
+pub record IsCounted (draft : Draft) : Type 0 where
+  pub refused : draft.refused ≤ draft.next
+  pub below : draft.next < 2 ^ 32
+
+-- Each line but the closing one names a sector at least, and of the next line, which isn't too long, no byte ends it.
+pub record IsSound (reader : Reader) : Type 0 where
+  pub number : reader.number ≤ reader.draft.next + ended reader.draft.written + 1
+  pub counted : IsCounted reader.draft
+  pub within : line_length reader.line.items ≡ length reader.line.items
+  pub short : length reader.line.items ≤ 128
+
+-- a reader has come so many bytes further at least, each line being 129 of them
+abbrev pub HasMoved : ℕ → Reader → Reader → Type 0
+HasMoved bytes old new = 129 * old.number + length old.line.items + bytes ≤ 129 * new.number + length new.line.items
+
+-- Of a text this is left to be written; what comes before it was written, and no write failed.
+pub record IsLeft (whole rest : List ℕ) (old now : Seen) : Type 0 where
+  pub front : List ℕ
+  pub grows : Appends old.bytes now.bytes front
+  pub splits : front ++ rest ≡ whole
+  pub steady : HasGoneOn old now
+
+-- what a reader has of a report that has come so far
+pub record HasCome (layout : Layout) (zones : Zones) (old now : Seen) (reader : Reader) : Type 0 where
+  pub text : List ℕ
+  pub taken : Consumes old.bytes now.bytes text
+  pub on : HasGoneOn old now
+  pub says : (rest : List ℕ) → losses_of layout zones (text ++ rest) ≡ goes_on reader rest
+  pub sound : IsSound reader

@@ -1,0 +1,9 @@
+-- What the contracts speak of: the lines of a report, what they say of the image together, and its map.
+pub mod Blocks
+pub mod Closings
+pub mod Fronts
+pub mod Inner
+pub mod Lost
+pub mod Map
+pub mod Reads
+pub mod Report

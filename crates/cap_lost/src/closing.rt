@@ -1,0 +1,128 @@
+//! The line that closes a report.
+ghost use Rattle.std.specs.Prelude.{◌≡◌, ◌<◌, length, take, IfOk, IfSome, IfNone};
+ghost use Rattle.dvd_layout.specs.Place.{image_before, image_sectors};
+ghost use Rattle.dvd_layout.specs.Plan.{plan_of};
+ghost use Rattle.cap_lost.specs.Closings.{bad_marks_in, closing_said, counted_in, is_fault, short_in, stopped_at, stopped_in};
+ghost use Rattle.cap_lost.specs.Inner.{NamesSectors};
+
+use crate::draft::Said;
+use crate::fault::Cause;
+use crate::fronts::{after, is_text, number_first};
+use dvd_layout::{Content, Layout, Zones};
+
+/// What a line that names no block says, if it closes the report of an image.
+pub fn closing_said(layout: &Layout, zones: Zones, line: &[u8]) -> Result<Said, Cause>
+    ensures said { result ≡ closing_said layout.now zones line.now }
+    ensures some { IfOk result NamesSectors }
+{
+    if is_fault(line) {
+        return Err(Cause::Fault);
+    }
+    if is_text(line, b"long") {
+        return Ok(Said::Ended {
+            refused: None,
+            written: layout.total(),
+        });
+    }
+    if let Some(refused) = counted_in(line) {
+        return Ok(Said::Ended {
+            refused: Some(refused),
+            written: layout.total(),
+        });
+    }
+    match stopped_in(line) {
+        Some(k) => stopped_at(layout, zones, k),
+        None => Err(Cause::Line),
+    }
+}
+
+fn is_fault(line: &[u8]) -> bool
+    ensures { result ≡ is_fault line.now }
+{
+    is_text(line, b"read fault") || is_text(line, b"write fault")
+}
+
+// How many blocks were refused, where the report is of a whole image.
+fn counted_in(line: &[u8]) -> Option<u64>
+    ensures { result ≡ counted_in line.now }
+{
+    if is_text(line, b"done") {
+        return Some(0);
+    }
+    let (refused, rest) = number_first(after(line, b"damaged: ")?)?;
+    if is_text(rest, b" blocks") {
+        Some(refused)
+    } else {
+        None
+    }
+}
+
+// The block in which the run stopped: it wasn't whole, or its marks broke a rule.
+fn stopped_in(line: &[u8]) -> Option<u64>
+    ensures { result ≡ stopped_in line.now }
+{
+    match short_in(line) {
+        Some(k) => Some(k),
+        None => bad_marks_in(line),
+    }
+}
+
+fn short_in(line: &[u8]) -> Option<u64>
+    ensures { result ≡ short_in line.now }
+{
+    let (k, rest) = number_first(after(line, b"short: block ")?)?;
+    let (_, rest) = number_first(after(rest, b", ")?)?;
+    if is_text(rest, b" bytes") {
+        Some(k)
+    } else {
+        None
+    }
+}
+
+fn bad_marks_in(line: &[u8]) -> Option<u64>
+    ensures { result ≡ bad_marks_in line.now }
+{
+    let (k, rest) = number_first(after(line, b"bad marks: block ")?)?;
+    let (_, rest) = number_first(after(rest, b", byte ")?)?;
+    if rest.is_empty() { Some(k) } else { None }
+}
+
+// The image sectors of the blocks before this one were written.
+fn stopped_at(layout: &Layout, zones: Zones, k: u64) -> Result<Said, Cause>
+    ensures said { result ≡ stopped_at layout.now zones k }
+    ensures some { IfOk result NamesSectors }
+{
+    if k >= layout.blocks(zones) {
+        return Err(Cause::Block);
+    }
+    Ok(Said::Ended {
+        refused: None,
+        written: written_before(layout, zones, k),
+    })
+}
+
+// How many image sectors the blocks before one hold: the first of the next block that has any, or all.
+fn written_before(layout: &Layout, zones: Zones, k: u64) -> u32
+    requires { k < length (plan_of layout.now zones) }
+    ensures { result ≡ image_before layout.now (take k (plan_of layout.now zones)) }
+{
+    for later in k..layout.blocks(zones) {
+        let plan = layout.plan(zones, later);
+        match image_first(layout, plan.content) {
+            Some(first) => return first,
+            None => {}
+        }
+    }
+    layout.total()
+}
+
+// The first image sector of a block, if it holds any.
+fn image_first(layout: &Layout, content: Content) -> Option<u32>
+    ensures some { IfSome result (λ first. content ≡ Content.Image first) }
+    ensures none { IfNone result (image_sectors layout.now content ≡ 0) }
+{
+    match content {
+        Content::Image(first) => Some(first),
+        Content::Zero | Content::Reference | Content::Control => None,
+    }
+}

@@ -1,0 +1,175 @@
+//! What the lines of a report say together.
+ghost use Rattle.std.specs.Prelude.{◌≡◌, ◌+◌, ◌≤◌, ◌<◌, None, Some, Ok, OnOk, IfErr};
+ghost use Rattle.cap_lost.specs.Inner.{IsCounted, IsStopOf, NamesSectors, ended, sayings_of};
+ghost use Rattle.cap_lost.specs.Report.{is_count, is_end, last_of, nothing, with_end, with_extent, with_said};
+
+use crate::extent::Extent;
+use crate::fault::Cause;
+use std::alloc::Global;
+
+/// What a line says.
+#[derive(Clone, Copy, Debug, PartialEq, Eq)]
+pub enum Said {
+    /// The block with these image sectors is refused.
+    Refused(Extent),
+    /// The block with these image sectors was given back by a round.
+    GivenBack(Extent),
+    /// The run ended: so many blocks were refused, where it says that, and so many image sectors were written.
+    Ended { refused: Option<u64>, written: u32 },
+}
+
+/// Why a line isn't taken.
+#[derive(Clone, Copy, Debug, PartialEq, Eq)]
+pub enum Stop {
+    /// It breaks a rule.
+    Rule(Cause),
+    /// There is no memory for its extent.
+    NoMemory,
+}
+
+/// What a whole report says of an image.
+#[derive(Debug, PartialEq, Eq, Drop)]
+pub struct Lost {
+    /// The image sectors of refused blocks, in order. No extent begins where another ends.
+    pub extents: Vec<Extent>,
+    /// How many image sectors were written.
+    pub written: u32,
+}
+
+/// What was said so far: the sectors of refused blocks, the sector after those of the last block that was named, how many
+/// blocks were refused, and how many sectors were written, once that is said.
+#[derive(Drop)]
+pub struct Draft {
+    pub extents: Vec<Extent>,
+    pub next: u32,
+    pub refused: u32,
+    pub written: Option<u32>,
+}
+
+impl Draft {
+    /// Nothing was said.
+    pub fn new(alloc: Global) -> Draft
+        ensures { sayings_of result ≡ nothing }
+    {
+        Draft {
+            extents: Vec::new(alloc),
+            next: 0,
+            refused: 0,
+            written: None,
+        }
+    }
+
+    /// Adds what one more line says.
+    pub fn add(&mut self, said: Said) -> Result<(), Stop>
+        requires counted { IsCounted self.old }
+        requires some { NamesSectors said }
+        requires before_end { self.old.written ≡ None }
+        ensures added { OnOk result (with_said (sayings_of self.old) said ≡ Ok (sayings_of self.new)) }
+        ensures rule { IfErr result (IsStopOf (with_said (sayings_of self.old) said)) }
+        ensures counted { OnOk result (IsCounted self.new) }
+        ensures goes_on { OnOk result (self.old.next + 1 ≤ self.new.next + ended self.new.written) }
+    {
+        match said {
+            Said::Refused(extent) => self.refuse(extent),
+            Said::GivenBack(extent) => self.pass(extent),
+            Said::Ended { refused, written } => self.end(refused, written),
+        }
+    }
+
+    // Adds the sectors of a refused block.
+    fn refuse(&mut self, extent: Extent) -> Result<(), Stop>
+        requires counted { IsCounted self.old }
+        requires some { extent.from < extent.to }
+        ensures added { OnOk result (with_said (sayings_of self.old) (Said.Refused extent) ≡ Ok (sayings_of self.new)) }
+        ensures rule { IfErr result (IsStopOf (with_said (sayings_of self.old) (Said.Refused extent))) }
+        ensures counted { OnOk result (IsCounted self.new) }
+        ensures next { OnOk result (self.new.next ≡ extent.to) }
+        ensures from { OnOk result (self.old.next ≤ extent.from) }
+    {
+        self.pass(extent)?;
+        self.refused += 1;
+        self.lose(extent)
+    }
+
+    // Passes the sectors of a block that a line names.
+    fn pass(&mut self, extent: Extent) -> Result<(), Stop>
+        requires some { extent.from < extent.to }
+        ensures added { OnOk result (with_said (sayings_of self.old) (Said.GivenBack extent) ≡ Ok (sayings_of self.new)) }
+        ensures rule { IfErr result (λ stop. (stop ≡ Stop.Rule Cause.Order) × (extent.from < self.old.next)) }
+        ensures only { self.new ≡ record self.old { next = self.new.next } }
+        ensures next { OnOk result (self.new.next ≡ extent.to) }
+        ensures from { OnOk result (self.old.next ≤ extent.from) }
+    {
+        if extent.from < self.next {
+            return Err(Stop::Rule(Cause::Order));
+        }
+        self.next = extent.to;
+        Ok(())
+    }
+
+    // Adds an extent, to the last one where that ends at its first sector.
+    fn lose(&mut self, extent: Extent) -> Result<(), Stop>
+        ensures added { OnOk result (self.new.extents.items ≡ with_extent self.old.extents.items extent) }
+        ensures memory { IfErr result (λ stop. stop ≡ Stop.NoMemory) }
+        ensures next { self.new.next ≡ self.old.next }
+        ensures refused { self.new.refused ≡ self.old.refused }
+        ensures written { self.new.written ≡ self.old.written }
+    {
+        if self.ends_at(extent.from) {
+            self.lengthen(extent.to);
+            return Ok(());
+        }
+        match self.extents.push(extent) {
+            Ok(()) => Ok(()),
+            Err(_) => Err(Stop::NoMemory),
+        }
+    }
+
+    // Whether the last extent ends at a sector.
+    fn ends_at(&self, sector: u32) -> bool
+        ensures { result ≡ is_end (last_of self.now.extents.items) sector }
+    {
+        match self.extents.last() {
+            Some(last) => last.to == sector,
+            None => false,
+        }
+    }
+
+    // Gives the last extent another end.
+    fn lengthen(&mut self, to: u32)
+        ensures longer { self.new.extents.items ≡ with_end self.old.extents.items (last_of self.old.extents.items) to }
+        ensures next { self.new.next ≡ self.old.next }
+        ensures refused { self.new.refused ≡ self.old.refused }
+        ensures written { self.new.written ≡ self.old.written }
+    {
+        if let Some(last) = self.extents.last_mut() {
+            last.to = to;
+        }
+    }
+
+    // Ends with so many sectors that were written.
+    fn end(&mut self, refused: Option<u64>, written: u32) -> Result<(), Stop>
+        ensures added { OnOk result (with_said (sayings_of self.old) (Said.Ended refused written) ≡ Ok (sayings_of self.new)) }
+        ensures rule { IfErr result (IsStopOf (with_said (sayings_of self.old) (Said.Ended refused written))) }
+        ensures only { OnOk result (self.new ≡ record self.old { written = Some written }) }
+    {
+        if !self.counts(refused) {
+            return Err(Stop::Rule(Cause::Count));
+        }
+        if written < self.next {
+            return Err(Stop::Rule(Cause::Order));
+        }
+        self.written = Some(written);
+        Ok(())
+    }
+
+    // Whether a closing line that counts so many refused blocks, or none, is right.
+    fn counts(&self, refused: Option<u64>) -> bool
+        ensures { result ≡ is_count self.now.refused refused }
+    {
+        match refused {
+            Some(refused) => refused == u64::from(self.refused),
+            None => true,
+        }
+    }
+}

@@ -1,0 +1,50 @@
+//! Why a report isn't read.
+
+use thiserror::Error;
+
+/// The rule that a line breaks.
+#[derive(Clone, Copy, Debug, PartialEq, Eq, Error)]
+pub enum Cause {
+    /// It is no line that `recover` or `deep` writes of a block, nor one that closes the report of an image.
+    #[error("no line")]
+    Line,
+    /// The layout has no block of that number.
+    #[error("no block")]
+    Block,
+    /// In the layout that block has another sector number or layer.
+    #[error("other place")]
+    Place,
+    /// In the layout that block has no image sectors.
+    #[error("no image")]
+    NoImage,
+    /// It names a block that doesn't come after that of the line before it.
+    #[error("order")]
+    Order,
+    /// It doesn't count the damage lines before it.
+    #[error("count")]
+    Count,
+    /// The run ended with a fault, and how much of the image it wrote isn't said.
+    #[error("fault")]
+    Fault,
+    /// It comes after the closing line.
+    #[error("after the end")]
+    AfterEnd,
+    /// The report ends without a closing line.
+    #[error("no end")]
+    NoEnd,
+}
+
+/// Why a report says nothing of an image.
+#[derive(Clone, Copy, Debug, PartialEq, Eq, Error)]
+pub enum ReportFault {
+    /// There is no memory for the extents.
+    #[error("no memory")]
+    NoMemory,
+    /// A read of the report failed.
+    #[error("read fault")]
+    ReadFault,
+    /// This line, counted from 1, is the first that breaks a rule. It is the one after the last where the closing line is
+    /// missing.
+    #[error("line {line}: {cause}")]
+    Rule { line: u64, cause: Cause },
+}

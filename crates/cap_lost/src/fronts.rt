@@ -1,0 +1,83 @@
+//! Texts and numbers at the front of a text.
+ghost use Rattle.std.specs.Prelude.{◌≡◌, ◌≤◌, length, bytes_eq, option_map};
+ghost use Rattle.std.specs.List.{list_all};
+ghost use Rattle.cap_lost.specs.Fronts.{after, after_number, after_word, digits_of, is_capital_digit, number_first};
+
+use cap_map::digits_in;
+use itoa::Buffer;
+
+/// Whether a text is this one.
+pub fn is_text(text: &[u8], other: &[u8]) -> bool
+    ensures { result ≡ bytes_eq text.now other.now }
+{
+    text == other
+}
+
+/// What comes after this front of a text, if the text has it.
+pub fn after<'a>(text: &'a [u8], front: &[u8]) -> Option<&'a [u8]>
+    ensures { option_map (λ rest. rest.now) result ≡ after front.now text.now }
+{
+    text.strip_prefix(front)
+}
+
+/// The number that a text begins with, as `dvdecc` writes it, and what comes after its digits.
+pub fn number_first<'a>(text: &'a [u8]) -> Option<(u64, &'a [u8])>
+    ensures { option_map (λ found. (found.0, found.1.now)) result ≡ number_first text.now }
+{
+    let (digits, rest) = text.split_at(count_digits(text));
+    let number = digits_in(digits, 10)?;
+    if Buffer::new().format(number).as_bytes() == digits {
+        Some((number, rest))
+    } else {
+        None
+    }
+}
+
+fn count_digits(text: &[u8]) -> usize
+    ensures count { result ≡ digits_of text.now }
+    ensures bound { result ≤ length text.now }
+{
+    let mut count = 0;
+    for byte in text {
+        if !byte.is_ascii_digit() {
+            return count;
+        }
+        count += 1;
+    }
+    count
+}
+
+/// What comes after a number below a bound, if a text begins with one.
+pub fn after_number<'a>(text: &'a [u8], bound: u64) -> Option<&'a [u8]>
+    ensures { option_map (λ rest. rest.now) result ≡ after_number bound text.now }
+{
+    let (number, rest) = number_first(text)?;
+    if number < bound { Some(rest) } else { None }
+}
+
+/// What comes after eight hexadecimal digits with capitals, if a text begins with them.
+pub fn after_word<'a>(text: &'a [u8]) -> Option<&'a [u8]>
+    ensures { option_map (λ rest. rest.now) result ≡ after_word text.now }
+{
+    if text.len() < 8 {
+        return None;
+    }
+    let (word, rest) = text.split_at(8);
+    if are_capital_digits(word) {
+        Some(rest)
+    } else {
+        None
+    }
+}
+
+fn are_capital_digits(text: &[u8]) -> bool
+    ensures { result ≡ list_all is_capital_digit text.now }
+{
+    text.iter().all(|byte| is_capital_digit(*byte))
+}
+
+fn is_capital_digit(byte: u8) -> bool
+    ensures { result ≡ is_capital_digit byte }
+{
+    byte.is_ascii_digit() || (byte >= b'A' && byte <= b'F')
+}

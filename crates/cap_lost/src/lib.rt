@@ -1,0 +1,25 @@
+//! Which sectors of an image are lost: from the report of `dvdecc recover` or `deep` to a map of GNU ddrescue.
+//!
+//! The lines of the report are read as they come, and each is one that `dvdecc` writes for the blocks of a layout, or the
+//! first that isn't is named. What is kept is where the sectors of refused blocks are. The map then has the image from its
+//! first byte to its last.
+#![tactic(auto)]
+
+mod block; // the lines of blocks
+mod closing; // the closing line
+mod draft; // what lines say together
+mod extent; // sectors one after the other
+mod fault; // why a report isn't read
+mod fronts; // texts and numbers at the front of a text
+mod map; // the map of the image
+mod reader; // lines out of bytes
+mod report; // a whole report
+
+pub use draft::Lost;
+pub use extent::Extent;
+pub use fault::{Cause, ReportFault};
+pub use map::write_map;
+pub use report::read_report;
+
+#[cfg(test)]
+mod tests;

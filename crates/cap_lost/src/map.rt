@@ -1,0 +1,138 @@
+//! The map of an image.
+ghost use Rattle.std.specs.Prelude.{◌≡◌, ◌+◌, ◌*◌, ◌≤◌, ◌<◌, ◌^◌, ◌++◌, [], ◌∷◌, length, true, IfOk, OnOk, OnErr};
+ghost use Rattle.std.specs.Fmt.{digit_glyph};
+ghost use Rattle.arrayvec.specs.ArrayVec.{array_vec_len};
+ghost use Rattle.std.specs.Io.KnownBytes.{Appends};
+ghost use Rattle.dvd_ports.specs.Causes.{HasCause};
+ghost use Rattle.dvd_ports.specs.Whole.{AppendsPrefix, IsWritten};
+ghost use Rattle.dvd_report.specs.Lines.{hexadecimal};
+ghost use Rattle.cap_lost.specs.Map.{end_of, extent_lines, last_lines, map_text, number_text, sectors_line};
+
+use crate::draft::Lost;
+use crate::extent::Extent;
+use arrayvec::ArrayVec;
+use dvd_ports::{Sink, WriteFault, write_whole};
+
+// How many extents are written as one piece.
+const TOGETHER: usize = 64;
+
+// The lines of so many extents: two for each, of at most 28 bytes.
+type Lines = ArrayVec<u8, 3584>;
+
+static HEAD: &[u8] =
+    b"# Mapfile. Created by dvdcap\n# current_pos  current_status  current_pass\n0x00000000     +               1\n#      pos        size  status\n";
+
+/// Writes the map of an image of so many sectors, in pieces of some thousand bytes. After a fault a front of it was written.
+pub fn write_map<K: Sink>(lost: &Lost, total: u32, out: &mut K) -> Result<(), WriteFault>
+    ensures { IsWritten (map_text lost.now.extents.items lost.now.written total) (K.seen out.old) (K.seen out.new) result }
+{
+    write_whole(out, HEAD)?;
+    let mut at = 0;
+    let mut rest = lost.extents.as_slice();
+    while !rest.is_empty() {
+        let (extents, later) = rest.split_at(rest.len().min(TOGETHER));
+        at = write_extents(at, extents, out)?;
+        rest = later;
+    }
+    write_last(at, lost.written, total, out)
+}
+
+// Writes the lines of a few extents, which come after this sector, and answers the sector after them.
+fn write_extents<K: Sink>(at: u32, extents: &[Extent], out: &mut K) -> Result<u32, WriteFault>
+    requires few { length extents.now ≤ 64 }
+    ensures written { OnOk result (Appends (K.seen out.old).bytes (K.seen out.new).bytes (extent_lines at extents.now)) }
+    ensures begun { OnErr result (AppendsPrefix (K.seen out.old).bytes (K.seen out.new).bytes (extent_lines at extents.now)) }
+    ensures cause { HasCause (K.seen out.old) (K.seen out.new) result }
+    ensures end { IfOk result (λ end. end ≡ end_of at extents.now) }
+{
+    let mut lines = Lines::new();
+    let end = put_extents(&mut lines, at, extents);
+    write_whole(out, lines.as_slice())?;
+    Ok(end)
+}
+
+// Writes the lines after the last extent.
+fn write_last<K: Sink>(at: u32, written: u32, total: u32, out: &mut K) -> Result<(), WriteFault>
+    ensures { IsWritten (last_lines at written total) (K.seen out.old) (K.seen out.new) result }
+{
+    let mut lines = Lines::new();
+    put_line(&mut lines, at, written, b'+');
+    put_line(&mut lines, written, total, b'?');
+    write_whole(out, lines.as_slice())
+}
+
+// Puts the lines of extents, which come after this sector, and answers the sector after them.
+fn put_extents(lines: &mut Lines, at: u32, extents: &[Extent]) -> u32
+    requires empty { lines.old.items ≡ [] }
+    requires few { length extents.now ≤ 64 }
+    ensures lines { lines.new.items ≡ extent_lines at extents.now }
+    ensures end { result ≡ end_of at extents.now }
+{
+    let mut end = at;
+    for extent in extents {
+        put_line(lines, end, extent.from, b'+');
+        put_line(lines, extent.from, extent.to, b'-');
+        end = extent.to;
+    }
+    end
+}
+
+// Puts the line of the sectors from one to the one before an end, which have this status: none where there are none.
+fn put_line(lines: &mut Lines, from: u32, to: u32, status: u8)
+    requires room { array_vec_len lines.old + 28 ≤ 3584 }
+    ensures items { lines.new.items ≡ lines.old.items ++ sectors_line from to status }
+    ensures len { array_vec_len lines.new ≤ array_vec_len lines.old + 28 }
+{
+    if from < to {
+        put_number(lines, bytes_of(from));
+        put(lines, b"  ");
+        put_number(lines, bytes_of(to - from));
+        put(lines, b"  ");
+        put(lines, &[status, b'\n']);
+    }
+}
+
+fn bytes_of(sectors: u32) -> u64
+    ensures { result ≡ 2048 * sectors }
+{
+    2048 * u64::from(sectors)
+}
+
+// Puts a number in hexadecimal, of eight digits or nine.
+fn put_number(lines: &mut Lines, number: u64)
+    requires room { array_vec_len lines.old + 11 ≤ 3584 }
+    ensures items { lines.new.items ≡ lines.old.items ++ number_text number }
+    ensures len { array_vec_len lines.new ≤ array_vec_len lines.old + 11 }
+{
+    put(lines, b"0x");
+    put_digits(lines, number, if number < 1 << 32 { 8 } else { 9 });
+}
+
+// Puts the last so many hexadecimal digits of a number, the highest first.
+fn put_digits(lines: &mut Lines, number: u64, width: u32)
+    requires digits { width ≤ 9 }
+    requires room { array_vec_len lines.old + width ≤ 3584 }
+    ensures items { lines.new.items ≡ lines.old.items ++ hexadecimal width number }
+    ensures len { array_vec_len lines.new ≡ array_vec_len lines.old + width }
+{
+    for place in (0..width).rev() {
+        put(lines, &[hexadecimal_digit(number / 16u64.pow(place) % 16)]);
+    }
+}
+
+// The hexadecimal digit, in capitals.
+fn hexadecimal_digit(value: u64) -> u8
+    requires { value < 16 }
+    ensures { result ≡ digit_glyph true value }
+{
+    b"0123456789ABCDEF"[value as usize]
+}
+
+// Puts bytes at the end.
+fn put(lines: &mut Lines, bytes: &[u8])
+    requires room { array_vec_len lines.old + length bytes.now ≤ 3584 }
+    ensures items { lines.new.items ≡ lines.old.items ++ bytes.now }
+    ensures len { array_vec_len lines.new ≡ array_vec_len lines.old + length bytes.now }
+{
+    let _ = lines.try_extend_from_slice(bytes);
+}

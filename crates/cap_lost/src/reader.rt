@@ -1,0 +1,170 @@
+//! Lines out of bytes that come in pieces.
+ghost use Rattle.std.specs.Prelude.{◌≡◌, ◌+◌, ◌<◌, ◌≤◌, ◌++◌, [], ◌∷◌, ℕ, List, Ok, codes, length, IfOk, OnOk, IfErr};
+ghost use Rattle.cap_lost.specs.Inner.{HasMoved, IsCounted, IsSound, IsStopOf, NamesSectors, StopsAs, ended, goes_on, sayings_of};
+ghost use Rattle.cap_lost.specs.Report.{IsFaultOf, line_read, losses_of, word_said};
+ghost use Rattle.cap_lost.specs.Lost.{losses_in};
+ghost use Rattle.cap_lost.specs.Fronts.{after};
+
+use crate::block::block_said;
+use crate::closing::closing_said;
+use crate::draft::{Draft, Lost, Said, Stop};
+use crate::fault::{Cause, ReportFault};
+use crate::fronts::after;
+use arrayvec::ArrayVec;
+use dvd_layout::{Layout, Zones};
+use std::alloc::Global;
+
+// No line that is read has more bytes.
+const LONGEST: usize = 128;
+
+/// A report of this layout, as far as it came: what its whole lines say, the number of the next, and the bytes of it.
+#[derive(Drop)]
+pub struct Reader {
+    layout: Layout,
+    zones: Zones,
+    draft: Draft,
+    number: u64,
+    line: ArrayVec<u8, LONGEST>,
+}
+
+impl Reader {
+    /// A report of which nothing came.
+    pub fn new(alloc: Global, layout: Layout, zones: Zones) -> Reader
+        ensures begins { (text : List ℕ) → goes_on result text ≡ losses_of layout zones text }
+        ensures sound { IsSound result }
+    {
+        Reader {
+            layout,
+            zones,
+            draft: Draft::new(alloc),
+            number: 1,
+            line: ArrayVec::new(),
+        }
+    }
+
+    /// Reads one more piece of it.
+    pub fn take(&mut self, piece: &[u8]) -> Result<(), ReportFault>
+        requires sound { IsSound self.old }
+        ensures read { OnOk result ((rest : List ℕ) → goes_on self.old (piece.now ++ rest) ≡ goes_on self.new rest) }
+        ensures rule { IfErr result (StopsAs (λ rest. goes_on self.old (piece.now ++ rest))) }
+        ensures sound { OnOk result (IsSound self.new) }
+        ensures moved { OnOk result (HasMoved (length piece.now) self.old self.new) }
+    {
+        for byte in piece {
+            self.take_byte(*byte)?;
+        }
+        Ok(())
+    }
+
+    fn take_byte(&mut self, byte: u8) -> Result<(), ReportFault>
+        requires sound { IsSound self.old }
+        ensures read { OnOk result ((rest : List ℕ) → goes_on self.old (byte ∷ rest) ≡ goes_on self.new rest) }
+        ensures rule { IfErr result (StopsAs (λ rest. goes_on self.old (byte ∷ rest))) }
+        ensures sound { OnOk result (IsSound self.new) }
+        ensures moved { OnOk result (HasMoved 1 self.old self.new) }
+    {
+        if byte == b'\n' {
+            return self.end_line();
+        }
+        if self.line.is_full() {
+            return Err(self.breaks(Cause::Line));
+        }
+        self.line.push(byte);
+        Ok(())
+    }
+
+    // Reads the line that came, as one that ends here.
+    fn end_line(&mut self) -> Result<(), ReportFault>
+        requires sound { IsSound self.old }
+        ensures read { OnOk result ((rest : List ℕ) → goes_on self.old (10 ∷ rest) ≡ goes_on self.new rest) }
+        ensures rule { IfErr result (StopsAs (λ rest. goes_on self.old (10 ∷ rest))) }
+        ensures read_last { OnOk result (0 < length self.old.line.items → goes_on self.old [] ≡ goes_on self.new []) }
+        ensures rule_last { IfErr result (λ fault. 0 < length self.old.line.items → IsFaultOf (goes_on self.old []) fault) }
+        ensures line { OnOk result (self.new.line.items ≡ []) }
+        ensures sound { OnOk result (IsSound self.new) }
+        ensures moved { OnOk result (HasMoved 1 self.old self.new) }
+    {
+        match read_line(
+            &self.layout,
+            self.zones,
+            &mut self.draft,
+            self.line.as_slice(),
+        ) {
+            Ok(()) => {
+                self.line.clear();
+                self.number += 1;
+                Ok(())
+            }
+            Err(Stop::NoMemory) => Err(ReportFault::NoMemory),
+            Err(Stop::Rule(cause)) => Err(self.breaks(cause)),
+        }
+    }
+
+    // A fault of the line that came.
+    fn breaks(&self, cause: Cause) -> ReportFault
+        ensures { result ≡ ReportFault.Rule self.now.number cause }
+    {
+        ReportFault::Rule {
+            line: self.number,
+            cause,
+        }
+    }
+
+    /// What the report says that ends here.
+    pub fn finish(mut self) -> Result<Lost, ReportFault>
+        requires sound { IsSound self }
+        ensures read { IfOk result (λ lost. goes_on self [] ≡ Ok (losses_in lost)) }
+        ensures rule { IfErr result (IsFaultOf (goes_on self [])) }
+    {
+        self.end_last()?;
+        match self.draft.written {
+            Some(written) => Ok(Lost {
+                extents: self.draft.extents,
+                written,
+            }),
+            None => Err(self.breaks(Cause::NoEnd)),
+        }
+    }
+
+    // Reads the line that came, if any did, as the last.
+    fn end_last(&mut self) -> Result<(), ReportFault>
+        requires sound { IsSound self.old }
+        ensures read { OnOk result (goes_on self.old [] ≡ goes_on self.new []) }
+        ensures rule { IfErr result (IsFaultOf (goes_on self.old [])) }
+        ensures line { OnOk result (self.new.line.items ≡ []) }
+    {
+        if self.line.is_empty() {
+            return Ok(());
+        }
+        self.end_line()
+    }
+}
+
+// Reads a whole line.
+fn read_line(layout: &Layout, zones: Zones, draft: &mut Draft, line: &[u8]) -> Result<(), Stop>
+    requires short { length line.now ≤ 128 }
+    requires counted { IsCounted draft.old }
+    ensures read { OnOk result (line_read layout.now zones (sayings_of draft.old) line.now ≡ Ok (sayings_of draft.new)) }
+    ensures rule { IfErr result (IsStopOf (line_read layout.now zones (sayings_of draft.old) line.now)) }
+    ensures counted { OnOk result (IsCounted draft.new) }
+    ensures goes_on { OnOk result (draft.old.next + ended draft.old.written + 1 ≤ draft.new.next + ended draft.new.written) }
+{
+    if draft.written.is_some() {
+        return Err(Stop::Rule(Cause::AfterEnd));
+    }
+    match said_by(layout, zones, line) {
+        Ok(said) => draft.add(said),
+        Err(cause) => Err(Stop::Rule(cause)),
+    }
+}
+
+// What a line says.
+fn said_by(layout: &Layout, zones: Zones, line: &[u8]) -> Result<Said, Cause>
+    ensures said { result ≡ word_said layout.now zones line.now (after (codes "block ") line.now) }
+    ensures some { IfOk result NamesSectors }
+{
+    match after(line, b"block ") {
+        Some(rest) => block_said(layout, zones, line, rest),
+        None => closing_said(layout, zones, line),
+    }
+}
