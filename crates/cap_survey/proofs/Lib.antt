@@ -1,0 +1,2 @@
+-- Why the contracts hold: lines that break a rule.
+pub mod Faults

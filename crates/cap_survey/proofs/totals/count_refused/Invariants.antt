@@ -1,0 +1,10 @@
+-- What each turn of the loop in `count_refused` keeps.
+use Rattle.std.proofs.Common.{◌≡◌, ◌≤◌, take, count_by}
+use Rattle.cap_survey.specs.Totals.{refused_of}
+use Rattle.cap_survey.proofs.totals.count_refused.Given as goal
+
+abbrev pub invariant-loop-cell : goal.invariant-loop-cell
+invariant-loop-cell l = record {
+  count : l.count ≡ count_by refused_of (take l.cell-index l.cells);
+  few : l.count ≤ l.cell-index;
+}

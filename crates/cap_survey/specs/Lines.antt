@@ -1,0 +1,106 @@
+-- What one line of a survey says.
+use Rattle.std.specs.Prelude.{ℕ, ◌&&◌, ◌||◌, ◌==◌, nat_le, Bool, true, false, if◌then◌else◌, List, codes, length, take, drop, Option, Some, None, option_and_then}
+use Rattle.cap_survey.specs.Numbers.{NumberAt, after_text, are_hexadecimal, number_after}
+use Rattle.cap_survey.specs.declared.block.BlockLine.{BlockLine}
+use Rattle.cap_survey.specs.declared.totals.Totals.{Totals}
+
+-- there is a text, and nothing in it
+abbrev pub is_empty : Option (List ℕ) → Bool
+is_empty None = false
+is_empty (Some text) = length text == 0
+
+-- there is a number, and nothing after it
+abbrev pub ends : Option NumberAt → Bool
+ends None = false
+ends (Some number) = length number.rest == 0
+
+-- a name and a number alone
+abbrev pub is_alone : List ℕ → List ℕ → Bool
+is_alone name text = ends (number_after name text)
+
+-- the eight digits of an ID
+abbrev pub is_word : Option (List ℕ) → Bool
+is_word None = false
+is_word (Some word) = length word == 8 && are_hexadecimal word
+
+abbrev pub is_found : List ℕ → Bool
+is_found text = is_word (after_text (codes " found ") text)
+
+abbrev pub has_found : Option NumberAt → Bool
+has_found None = false
+has_found (Some frame) = is_found frame.rest
+
+-- the number of a frame, and the ID that was found there
+abbrev pub is_address : List ℕ → Bool
+is_address text = has_found (number_after (codes "address ") text)
+
+-- why a block is refused
+abbrev pub is_cause : List ℕ → Bool
+is_cause text =
+    is_alone (codes "rows ") text || (is_alone (codes "column ") text || (is_alone (codes "row ") text
+    || (is_alone (codes "ied ") text || (is_alone (codes "edc ") text || is_address text))))
+
+-- whether a block is refused, by what its line says after the colon
+abbrev pub refused_by : List ℕ → Option Bool
+refused_by answer =
+    if is_empty (after_text (codes "whole") answer) then Some false else (if is_cause answer then Some true else None)
+
+-- a text after six hexadecimal digits
+abbrev pub after_six : List ℕ → Option (List ℕ)
+after_six text = if nat_le 6 (length text) && are_hexadecimal (take 6 text) then Some (drop 6 text) else None
+
+abbrev pub after_sector : List ℕ → Option (List ℕ)
+after_sector text = option_and_then after_six (after_text (codes " sector ") text)
+
+-- The line of a block, `block K sector H6 layer L pi P failed F sum8 S: ANSWER`, where ANSWER is `whole` or a cause.
+abbrev pub block_of : List ℕ → Option BlockLine
+block_of line =
+    option_and_then (λ block.
+    option_and_then (λ place.
+    option_and_then (λ layer.
+    option_and_then (λ pi.
+    option_and_then (λ failed.
+    option_and_then (λ sum8.
+    option_and_then (λ answer.
+    option_and_then (λ refused. Some (record {
+      block = block.value;
+      layer = layer.value;
+      pi = pi.value;
+      failed = failed.value;
+      sum8 = sum8.value;
+      refused = refused;
+    }))
+    (refused_by answer))
+    (after_text (codes ": ") sum8.rest))
+    (number_after (codes " sum8 ") failed.rest))
+    (number_after (codes " failed ") pi.rest))
+    (number_after (codes " pi ") layer.rest))
+    (number_after (codes " layer ") place))
+    (after_sector block.rest))
+    (number_after (codes "block ") line)
+
+-- The line of totals, `blocks B pi P failed F damaged D peak S at K over O`.
+abbrev pub totals_in : List ℕ → Option Totals
+totals_in line =
+    option_and_then (λ blocks.
+    option_and_then (λ pi.
+    option_and_then (λ failed.
+    option_and_then (λ damaged.
+    option_and_then (λ peak.
+    option_and_then (λ at.
+    option_and_then (λ over. if length over.rest == 0 then Some (record {
+      blocks = blocks.value;
+      pi = pi.value;
+      failed = failed.value;
+      damaged = damaged.value;
+      peak = peak.value;
+      peak_at = at.value;
+      over = over.value;
+    }) else None)
+    (number_after (codes " over ") at.rest))
+    (number_after (codes " at ") peak.rest))
+    (number_after (codes " peak ") damaged.rest))
+    (number_after (codes " damaged ") failed.rest))
+    (number_after (codes " failed ") pi.rest))
+    (number_after (codes " pi ") blocks.rest))
+    (number_after (codes "blocks ") line)

@@ -1,0 +1,111 @@
+//! The line of a block.
+ghost use Rattle.std.specs.Prelude.{◌≡◌, option_map};
+ghost use Rattle.cap_survey.specs.Lines.{after_sector, block_of, is_address, is_alone, is_cause, is_empty, is_found, refused_by};
+
+use crate::number::{after_text, are_hexadecimal, number_after};
+
+/// What the line of a block says.
+#[derive(Clone, Copy, Debug, PartialEq, Eq, Drop)]
+pub struct BlockLine {
+    pub block: u64,
+    pub layer: u64,
+    pub pi: u64,
+    pub failed: u64,
+    pub sum8: u64,
+    pub refused: bool,
+}
+
+/// What a line says, if it is that of a block.
+pub fn block_of(line: &[u8]) -> Option<BlockLine>
+    ensures { result ≡ block_of line.now }
+{
+    let block = number_after(line, b"block ")?;
+    let layer = number_after(after_sector(block.rest)?, b" layer ")?;
+    let pi = number_after(layer.rest, b" pi ")?;
+    let failed = number_after(pi.rest, b" failed ")?;
+    let sum8 = number_after(failed.rest, b" sum8 ")?;
+    let refused = refused_by(after_text(sum8.rest, b": ")?)?;
+    Some(BlockLine {
+        block: block.value,
+        layer: layer.value,
+        pi: pi.value,
+        failed: failed.value,
+        sum8: sum8.value,
+        refused,
+    })
+}
+
+// What comes after ` sector ` and its six digits.
+fn after_sector<'a>(text: &'a [u8]) -> Option<&'a [u8]>
+    ensures { option_map (λ s. s.now) result ≡ after_sector text.now }
+{
+    let text = after_text(text, b" sector ")?;
+    if text.len() >= 6 && are_hexadecimal(&text[..6]) {
+        Some(&text[6..])
+    } else {
+        None
+    }
+}
+
+// Whether a block is refused, by what its line says after the colon.
+fn refused_by(answer: &[u8]) -> Option<bool>
+    ensures { result ≡ refused_by answer.now }
+{
+    if is_empty(after_text(answer, b"whole")) {
+        Some(false)
+    } else if is_cause(answer) {
+        Some(true)
+    } else {
+        None
+    }
+}
+
+// Whether there is a text, and nothing in it.
+fn is_empty(text: Option<&[u8]>) -> bool
+    ensures { result ≡ is_empty (option_map (λ s. s.now) text.entry) }
+{
+    match text {
+        Some(text) => text.is_empty(),
+        None => false,
+    }
+}
+
+fn is_cause(text: &[u8]) -> bool
+    ensures { result ≡ is_cause text.now }
+{
+    is_alone(text, b"rows ")
+        || is_alone(text, b"column ")
+        || is_alone(text, b"row ")
+        || is_alone(text, b"ied ")
+        || is_alone(text, b"edc ")
+        || is_address(text)
+}
+
+// Whether a text is a name and a number.
+fn is_alone(text: &[u8], name: &[u8]) -> bool
+    ensures { result ≡ is_alone name.now text.now }
+{
+    match number_after(text, name) {
+        Some(number) => number.rest.is_empty(),
+        None => false,
+    }
+}
+
+fn is_address(text: &[u8]) -> bool
+    ensures { result ≡ is_address text.now }
+{
+    match number_after(text, b"address ") {
+        Some(frame) => is_found(frame.rest),
+        None => false,
+    }
+}
+
+// Whether a text is ` found ` and the eight digits of an ID.
+fn is_found(text: &[u8]) -> bool
+    ensures { result ≡ is_found text.now }
+{
+    match after_text(text, b" found ") {
+        Some(word) => word.len() == 8 && are_hexadecimal(word),
+        None => false,
+    }
+}

@@ -1,0 +1,16 @@
+//! What is kept of a block.
+
+/// The counts in the line of a block.
+#[derive(Clone, Copy, Debug, PartialEq, Eq, Drop)]
+pub struct Cell {
+    /// The PI error rows of the block and the seven before it.
+    pub sum8: u16,
+    /// Its PI error rows.
+    pub pi: u8,
+    /// Its failed rows.
+    pub failed: u8,
+    /// The layer that it is on: 0 or 1.
+    pub layer: u8,
+    /// Whether two passes or the frame checks refuse it.
+    pub refused: bool,
+}

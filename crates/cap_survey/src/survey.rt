@@ -1,0 +1,158 @@
+//! What was read so far of a survey.
+ghost use Rattle.std.specs.Prelude.{◌≡◌, ◌≤◌, ◌+◌, [], length, false, sum_by, Ok, Err, IfOk, IfErr, OnOk, OnErr};
+ghost use Rattle.cap_survey.specs.Survey.{cell_of, last_seven, line_read, next_line, with_block, with_totals};
+ghost use Rattle.cap_survey.specs.Totals.{pi_of};
+
+use crate::block::{BlockLine, block_of};
+use crate::cell::Cell;
+use crate::fault::Cause;
+use crate::totals::{Totals, sum_pi, totals_in, totals_of};
+use std::alloc::{AllocError, Global};
+use std::marker::Model;
+
+// A survey has at most so many blocks: more than twice those of the greatest disk.
+const ROOM: usize = 2_097_152;
+
+// No line of a survey is longer.
+const LINE: usize = 255;
+
+/// The blocks whose lines were read, and whether the line of totals was. Contracts see it as these two.
+#[derive(Drop)]
+pub struct Survey {
+    cells: Vec<Cell>,
+    closed: bool,
+}
+
+impl Model for Survey {
+    ghost use Rattle.std.specs.Prelude.{◌≤◌, vec_len, vec_capacity};
+    ghost use Rattle.cap_survey.specs.Survey.{Read};
+
+    ghost Value = { Read };
+
+    ghost view = { λ s. record { cells = s.cells.items; closed = s.closed } };
+
+    ghost invariant = { λ s. (vec_len s.cells ≤ 2097152) × (2097152 ≤ vec_capacity s.cells) };
+}
+
+impl Survey {
+    /// A survey of which nothing was read. The memory for all of its blocks is taken here.
+    pub fn new(alloc: Global) -> Result<Survey, AllocError>
+        ensures { IfOk result (λ survey. survey ≡ record { cells = []; closed = false }) }
+    {
+        Ok(Survey {
+            cells: Vec::with_capacity(alloc, ROOM)?,
+            closed: false,
+        })
+    }
+
+    /// Reads one more line, which is given without its line feed. A line that breaks a rule leaves the survey as it was.
+    pub fn add(&mut self, line: &[u8]) -> Result<(), Cause>
+        ensures read { OnOk result (line_read self.old line.now ≡ Ok self.new) }
+        ensures rule { IfErr result (λ cause. line_read self.old line.now ≡ Err cause) }
+        ensures same { OnErr result (self.new ≡ self.old) }
+    {
+        if line.len() > LINE {
+            return Err(Cause::Form);
+        }
+        if self.closed {
+            return Err(Cause::After);
+        }
+        if let Some(block) = block_of(line) {
+            return self.add_block(&block);
+        }
+        match totals_in(line) {
+            Some(totals) => self.add_totals(&totals),
+            None => Err(Cause::Form),
+        }
+    }
+
+    // Reads the line of a block.
+    fn add_block(&mut self, block: &BlockLine) -> Result<(), Cause>
+        ensures read { OnOk result (with_block self.old block.now ≡ Ok self.new) }
+        ensures rule { IfErr result (λ cause. with_block self.old block.now ≡ Err cause) }
+        ensures same { OnErr result (self.new ≡ self.old) }
+    {
+        let cell = cell_of(&self.cells, block)?;
+        match self.cells.push(cell) {
+            Ok(()) => Ok(()),
+            Err(_) => unreachable!(),
+        }
+    }
+
+    // Reads the line of totals.
+    fn add_totals(&mut self, totals: &Totals) -> Result<(), Cause>
+        ensures read { OnOk result (with_totals self.old totals.now ≡ Ok self.new) }
+        ensures rule { IfErr result (λ cause. with_totals self.old totals.now ≡ Err cause) }
+        ensures same { OnErr result (self.new ≡ self.old) }
+    {
+        if *totals != totals_of(&self.cells) {
+            return Err(Cause::Totals);
+        }
+        self.closed = true;
+        Ok(())
+    }
+
+    /// The number of the line that comes next, counted from 1.
+    pub fn next_line(&self) -> u64
+        ensures { result ≡ next_line self.now }
+    {
+        self.cells.len() as u64 + if self.closed { 2 } else { 1 }
+    }
+
+    /// The blocks whose lines were read: at most 2,097,152.
+    pub fn cells(&self) -> &[Cell]
+        ensures cells { result.now ≡ self.now.cells }
+        ensures bound { length result.now ≤ 2097152 }
+    {
+        &self.cells
+    }
+
+    /// Whether the line of totals was read.
+    pub fn is_closed(&self) -> bool
+        ensures { result ≡ self.now.closed }
+    {
+        self.closed
+    }
+}
+
+// What is kept of a block that comes after these, or the first rule that its line breaks.
+fn cell_of(cells: &[Cell], block: &BlockLine) -> Result<Cell, Cause>
+    requires { length cells.now ≤ 2097152 }
+    ensures cell { result ≡ cell_of cells.now block.now }
+    ensures room { OnOk result (length cells.now + 1 ≤ 2097152) }
+{
+    let BlockLine {
+        pi,
+        failed,
+        sum8,
+        ..
+    } = *block;
+    if block.block != cells.len() as u64 {
+        return Err(Cause::Order);
+    }
+    if block.layer > 1 || pi > 208 || failed > pi {
+        return Err(Cause::Range);
+    }
+    if sum8 != pi + sum_of_seven(cells) {
+        return Err(Cause::Sum8);
+    }
+    if cells.len() == ROOM {
+        return Err(Cause::TooMany);
+    }
+    Ok(Cell {
+        sum8: sum8 as u16,
+        pi: pi as u8,
+        failed: failed as u8,
+        layer: block.layer as u8,
+        refused: block.refused,
+    })
+}
+
+// The PI error rows of the last seven blocks.
+fn sum_of_seven(cells: &[Cell]) -> u64
+    requires { length cells.now ≤ 2097152 }
+    ensures sum { result ≡ sum_by pi_of (last_seven cells.now) }
+    ensures bound { result ≤ 1785 }
+{
+    sum_pi(&cells[cells.len().saturating_sub(7)..])
+}

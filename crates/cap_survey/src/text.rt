@@ -1,0 +1,106 @@
+//! A survey that comes in pieces of any length.
+ghost use Rattle.std.specs.Prelude.{◌≡◌, ℕ, List, [], ◌∷◌, ◌++◌, length, Ok, Err, IfOk, IfErr, OnOk};
+ghost use Rattle.cap_survey.specs.Survey.{fault_at, nothing, reading};
+
+use crate::fault::{Cause, Fault};
+use crate::survey::Survey;
+use arrayvec::ArrayVec;
+use std::alloc::{AllocError, Global};
+use std::marker::Model;
+
+/// A survey of which some bytes were read: its whole lines, and the bytes of a line that were begun. Contracts see it as
+/// these two.
+#[derive(Drop)]
+pub struct Reading {
+    survey: Survey,
+    line: ArrayVec<u8, 255>,
+}
+
+impl Model for Reading {
+    ghost use Rattle.cap_survey.specs.Survey.{Begun};
+
+    ghost Value = { Begun };
+
+    ghost view = { λ r. record { read = r.survey; line = r.line.items } };
+}
+
+impl Reading {
+    /// A survey of which nothing was read. All of its memory is taken here.
+    pub fn new(alloc: Global) -> Result<Reading, AllocError>
+        ensures { IfOk result (λ reading. reading ≡ record { read = nothing; line = [] }) }
+    {
+        Ok(Reading {
+            survey: Survey::new(alloc)?,
+            line: ArrayVec::new(),
+        })
+    }
+
+    /// Reads more bytes, or gives the first line that breaks a rule, whatever follows.
+    pub fn take(&mut self, bytes: &[u8]) -> Result<(), Fault>
+        ensures read { OnOk result ((more : List ℕ) → reading self.old (bytes.now ++ more) ≡ reading self.new more) }
+        ensures rule { IfErr result (λ fault. (more : List ℕ) → reading self.old (bytes.now ++ more) ≡ Err fault) }
+    {
+        for byte in bytes {
+            self.put(*byte)?;
+        }
+        Ok(())
+    }
+
+    // Reads one byte more.
+    fn put(&mut self, byte: u8) -> Result<(), Fault>
+        ensures read { OnOk result ((more : List ℕ) → reading self.old (byte ∷ more) ≡ reading self.new more) }
+        ensures rule { IfErr result (λ fault. (more : List ℕ) → reading self.old (byte ∷ more) ≡ Err fault) }
+    {
+        if byte == b'\n' {
+            return self.end_line();
+        }
+        if self.line.is_full() {
+            return Err(self.fault(Cause::Form));
+        }
+        self.line.push(byte);
+        Ok(())
+    }
+
+    // Reads the line that was begun.
+    fn end_line(&mut self) -> Result<(), Fault>
+        ensures read { OnOk result ((more : List ℕ) → reading self.old (10 ∷ more) ≡ reading self.new more) }
+        ensures rule { IfErr result (λ fault. (more : List ℕ) → reading self.old (10 ∷ more) ≡ Err fault) }
+    {
+        match self.survey.add(&self.line) {
+            Ok(()) => {
+                self.line.clear();
+                Ok(())
+            }
+            Err(cause) => Err(self.fault(cause)),
+        }
+    }
+
+    /// Ends the text: how many bytes of a last line that is cut there are, or that these break a rule.
+    pub fn end(&self) -> Result<usize, Fault>
+        ensures read { IfOk result (λ left. reading self.now [] ≡ Ok (record { read = self.now.read; left = left })) }
+        ensures rule { IfErr result (λ fault. reading self.now [] ≡ Err fault) }
+    {
+        let left = self.line.len();
+        if self.survey.is_closed() && left > 0 {
+            return Err(self.fault(Cause::After));
+        }
+        Ok(left)
+    }
+
+    // The fault of the line that comes next.
+    fn fault(&self, cause: Cause) -> Fault
+        ensures { result ≡ fault_at self.now.read cause }
+    {
+        Fault {
+            line: self.survey.next_line(),
+            cause,
+        }
+    }
+
+    /// What was read.
+    pub fn survey(&self) -> &Survey
+        ensures { result.now ≡ self.now.read }
+    {
+        &self.survey
+    }
+}
