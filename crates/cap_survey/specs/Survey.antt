@@ -1,5 +1,5 @@
 -- What comes of the lines of a survey: the counts of its blocks, or the first line that breaks a rule.
-use Rattle.std.specs.Prelude.{ℕ, ◌+◌, ◌-◌, ◌&&◌, ◌||◌, ◌==◌, nat_lt, Bool, true, false, not, if◌then◌else◌, List, [], ◌∷◌, ◌++◌, length, drop, sum_by, Option, Some, None, Result, Ok, Err}
+use Rattle.std.specs.Prelude.{ℕ, ◌+◌, ◌-◌, ◌*◌, ◌&&◌, ◌||◌, ◌==◌, nat_lt, Bool, true, false, not, if◌then◌else◌, List, [], ◌∷◌, ◌++◌, length, drop, sum_by, Option, Some, None, Result, Ok, Err}
 use Rattle.cap_survey.specs.Lines.{block_of, totals_in}
 use Rattle.cap_survey.specs.Totals.{pi_of, totals_of}
 use Rattle.cap_survey.specs.declared.block.BlockLine.{BlockLine}
@@ -120,3 +120,7 @@ pub record Begun : Type 0 where
 -- what comes of a text that was begun so, with these bytes more
 abbrev pub reading : Begun → List ℕ → Result Ended Fault
 reading begun more = let pieces = pieces_of more in pieces_read begun.read (begun.line ++ pieces.first) pieces.others
+
+-- how far a text was read: it grows with each byte, since a line has at most 255
+abbrev pub progress : Begun → ℕ
+progress begun = 256 * next_line begun.read + length begun.line

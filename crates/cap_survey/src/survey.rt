@@ -50,6 +50,8 @@ impl Survey {
         ensures read { OnOk result (line_read self.old line.now ≡ Ok self.new) }
         ensures rule { IfErr result (λ cause. line_read self.old line.now ≡ Err cause) }
         ensures same { OnErr result (self.new ≡ self.old) }
+        ensures next { OnOk result (next_line self.new ≡ next_line self.old + 1) }
+        ensures bound { OnOk result (next_line self.new ≤ 2097154) }
     {
         if line.len() > LINE {
             return Err(Cause::Form);
@@ -71,6 +73,7 @@ impl Survey {
         ensures read { OnOk result (with_block self.old block.now ≡ Ok self.new) }
         ensures rule { IfErr result (λ cause. with_block self.old block.now ≡ Err cause) }
         ensures same { OnErr result (self.new ≡ self.old) }
+        ensures next { OnOk result (next_line self.new ≡ next_line self.old + 1) }
     {
         let cell = cell_of(&self.cells, block)?;
         match self.cells.push(cell) {
@@ -81,9 +84,11 @@ impl Survey {
 
     // Reads the line of totals.
     fn add_totals(&mut self, totals: &Totals) -> Result<(), Cause>
+        requires { self.old.closed ≡ false }
         ensures read { OnOk result (with_totals self.old totals.now ≡ Ok self.new) }
         ensures rule { IfErr result (λ cause. with_totals self.old totals.now ≡ Err cause) }
         ensures same { OnErr result (self.new ≡ self.old) }
+        ensures next { OnOk result (next_line self.new ≡ next_line self.old + 1) }
     {
         if *totals != totals_of(&self.cells) {
             return Err(Cause::Totals);

@@ -1,6 +1,6 @@
 //! A survey that comes in pieces of any length.
-ghost use Rattle.std.specs.Prelude.{◌≡◌, ℕ, List, [], ◌∷◌, ◌++◌, length, Ok, Err, IfOk, IfErr, OnOk};
-ghost use Rattle.cap_survey.specs.Survey.{fault_at, nothing, reading};
+ghost use Rattle.std.specs.Prelude.{◌≡◌, ◌<◌, ◌≤◌, ◌+◌, ◌^◌, ℕ, List, [], ◌∷◌, ◌++◌, length, Ok, Err, IfOk, IfErr, OnOk};
+ghost use Rattle.cap_survey.specs.Survey.{fault_at, nothing, progress, reading};
 
 use crate::fault::{Cause, Fault};
 use crate::survey::Survey;
@@ -17,11 +17,14 @@ pub struct Reading {
 }
 
 impl Model for Reading {
-    ghost use Rattle.cap_survey.specs.Survey.{Begun};
+    ghost use Rattle.std.specs.Prelude.{◌≤◌, length};
+    ghost use Rattle.cap_survey.specs.Survey.{Begun, next_line};
 
     ghost Value = { Begun };
 
     ghost view = { λ r. record { read = r.survey; line = r.line.items } };
+
+    ghost invariant = { λ r. (next_line r.survey ≤ 2097154) × (length r.line.items ≤ 255) };
 }
 
 impl Reading {
@@ -35,10 +38,12 @@ impl Reading {
         })
     }
 
-    /// Reads more bytes, or gives the first line that breaks a rule, whatever follows.
+    /// Reads more bytes, or gives the first line that breaks a rule, whatever follows. No survey has 2^30 bytes.
     pub fn take(&mut self, bytes: &[u8]) -> Result<(), Fault>
         ensures read { OnOk result ((more : List ℕ) → reading self.old (bytes.now ++ more) ≡ reading self.new more) }
         ensures rule { IfErr result (λ fault. (more : List ℕ) → reading self.old (bytes.now ++ more) ≡ Err fault) }
+        ensures grows { OnOk result (progress self.old + length bytes.now ≤ progress self.new) }
+        ensures bound { OnOk result (0 < length bytes.now → progress self.new < 2 ^ 30) }
     {
         for byte in bytes {
             self.put(*byte)?;
@@ -50,6 +55,8 @@ impl Reading {
     fn put(&mut self, byte: u8) -> Result<(), Fault>
         ensures read { OnOk result ((more : List ℕ) → reading self.old (byte ∷ more) ≡ reading self.new more) }
         ensures rule { IfErr result (λ fault. (more : List ℕ) → reading self.old (byte ∷ more) ≡ Err fault) }
+        ensures grows { OnOk result (progress self.old + 1 ≤ progress self.new) }
+        ensures bound { OnOk result (progress self.new < 2 ^ 30) }
     {
         if byte == b'\n' {
             return self.end_line();
@@ -65,6 +72,8 @@ impl Reading {
     fn end_line(&mut self) -> Result<(), Fault>
         ensures read { OnOk result ((more : List ℕ) → reading self.old (10 ∷ more) ≡ reading self.new more) }
         ensures rule { IfErr result (λ fault. (more : List ℕ) → reading self.old (10 ∷ more) ≡ Err fault) }
+        ensures grows { OnOk result (progress self.old + 1 ≤ progress self.new) }
+        ensures bound { OnOk result (progress self.new < 2 ^ 30) }
     {
         match self.survey.add(&self.line) {
             Ok(()) => {
