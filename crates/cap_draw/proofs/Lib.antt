@@ -1,0 +1,2 @@
+-- Why the contracts hold: texts one after the other.
+pub mod Texts

@@ -1,0 +1,66 @@
+-- The columns of a picture, as rectangles and marks.
+use Rattle.std.specs.Prelude.{ℕ, zero, suc, ◌+◌, ◌*◌, ◌/◌, nat_lt, if◌then◌else◌, List, [], ◌++◌, codes, decimal}
+use Rattle.cap_survey.specs.declared.cell.Cell.{Cell}
+use Rattle.cap_draw.specs.Columns.{column_of}
+use Rattle.cap_draw.specs.declared.column.Column.{Column}
+use Rattle.cap_draw.specs.declared.plot.Plot.{Plot}
+
+-- so many texts, one after the other
+unfoldable pub texts : (ℕ → List ℕ) → ℕ → List ℕ
+texts text zero = []
+texts text (suc n) = texts text n ++ text n
+
+-- which blocks a column has
+abbrev pub title : Column → List ℕ
+title column = codes "'><title>" ++ decimal column.blocks ++ codes " blocks from " ++ decimal column.first ++ codes ": "
+
+-- a column above the limit of ECMA-267 is black, with a mark at the upper edge of the plot
+abbrev pub over_class : ℕ → List ℕ
+over_class sum8 = if nat_lt 280 sum8 then codes " class='o'" else []
+
+abbrev pub mark_at : ℕ → Column → List ℕ
+mark_at rows column =
+    codes "<path class='o' d='M" ++ decimal column.x ++ codes " " ++ decimal (440 * rows) ++ codes "h" ++ decimal column.width ++ codes "v-" ++ decimal (14 * rows)
+    ++ codes "h-" ++ decimal column.width ++ codes "z'/>\n"
+
+abbrev pub over_mark : ℕ → Column → List ℕ
+over_mark rows column = if nat_lt 280 column.sum8 then mark_at rows column else []
+
+-- The bar of a column: it is as high as the greatest sum of eight of its blocks.
+abbrev pub bar : ℕ → Column → List ℕ
+bar rows column =
+    codes "<rect" ++ over_class column.sum8 ++ codes " x='" ++ decimal column.x ++ codes "' width='" ++ decimal column.width ++ codes "' height='" ++ decimal column.sum8
+    ++ title column ++ codes "sum8 " ++ decimal column.sum8 ++ codes "</title></rect>\n" ++ over_mark rows column
+
+-- The bar of a column in which a block has failed rows, as high as the most of a block, and a mark below it.
+abbrev pub failed_rows : Column → List ℕ
+failed_rows column =
+    codes "<rect x='" ++ decimal column.x ++ codes "' width='" ++ decimal column.width ++ codes "' height='" ++ decimal column.failed
+    ++ title column ++ codes "failed " ++ decimal column.failed ++ codes "</title></rect><path class='o' d='M" ++ decimal column.x
+    ++ codes " 0h" ++ decimal column.width ++ codes "v-16h-" ++ decimal column.width ++ codes "z'/>\n"
+
+abbrev pub failed_bar : Column → List ℕ
+failed_bar column = if nat_lt 0 column.failed then failed_rows column else []
+
+-- the middle of a column
+abbrev pub middle_of : Column → ℕ
+middle_of column = column.x + column.width / 2
+
+-- The mark of a column in which a block is refused.
+abbrev pub triangle : Column → List ℕ
+triangle column =
+    codes "<path d='M" ++ decimal (middle_of column) ++ codes " 0l5 14h-10z" ++ title column ++ codes "refused " ++ decimal column.refused
+    ++ codes "</title></path>\n"
+
+abbrev pub refused_mark : Column → List ℕ
+refused_mark column = if nat_lt 0 column.refused then triangle column else []
+
+-- those of the first so many columns
+abbrev pub bars : List Cell → Plot → ℕ → List ℕ
+bars cells plot = texts (λ c. bar plot.rows (column_of cells plot c))
+
+abbrev pub failed_bars : List Cell → Plot → ℕ → List ℕ
+failed_bars cells plot = texts (λ c. failed_bar (column_of cells plot c))
+
+abbrev pub refused_marks : List Cell → Plot → ℕ → List ℕ
+refused_marks cells plot = texts (λ c. refused_mark (column_of cells plot c))

@@ -1,0 +1,21 @@
+-- How wide and how high the parts of a picture are.
+use Rattle.std.specs.Prelude.{ℕ, ◌+◌, ◌*◌, ◌/◌, min, nat_le, if◌then◌else◌, List, length}
+use Rattle.cap_survey.specs.Totals.{greatest_of, sum8_of}
+use Rattle.cap_survey.specs.declared.cell.Cell.{Cell}
+use Rattle.cap_draw.specs.declared.plot.Plot.{Plot}
+
+-- so many columns of whole units, together at least 1,000 wide
+abbrev pub plot_width : ℕ → ℕ
+plot_width most = most * ((999 + most) / most)
+
+-- PI error rows that are as high as one unit: the plot is 420 units high
+abbrev pub rows_by : ℕ → ℕ
+rows_by peak = if nat_le peak 420 then 1 else (if nat_le peak 840 then 2 else 4)
+
+-- the plot of some blocks that has at most so many columns
+abbrev pub plot_of : List Cell → ℕ → Plot
+plot_of cells most = record { width = plot_width most; rows = rows_by (greatest_of sum8_of cells); columns = min (length cells) most }
+
+-- where part k begins, if a whole is shared among so many parts
+abbrev pub share : ℕ → ℕ → ℕ → ℕ
+share k whole parts = k * whole / parts

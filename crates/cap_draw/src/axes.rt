@@ -1,0 +1,210 @@
+//! The axes of a picture, and what frames its parts.
+ghost use Rattle.std.specs.Prelude.{◌≡◌, ◌≤◌, ◌<◌, ◌+◌, ◌*◌, ◌++◌, length};
+ghost use Rattle.cap_draw.specs.Axes.{block_axis, block_tick, block_ticks, is_on_layer_1, layer_at, layer_mark, limit_line, lower_frame, marks_frame, marks_line, plot_frame, place_of, row_line, row_lines, tick_at};
+ghost use Rattle.cap_survey.specs.Totals.{before_first};
+
+use crate::page::Page;
+use crate::plot::{Plot, share};
+use cap_survey::Cell;
+
+/// Puts the seven lines of the axis of rows, with their numbers.
+pub fn put_row_lines(page: &mut Page, plot: &Plot)
+    requires room { length page.old ≤ 2000 }
+    requires width { plot.now.width ≤ 4999 }
+    requires rows { plot.now.rows ≤ 4 }
+    ensures bytes { page.new ≡ page.old ++ row_lines plot.now 7 }
+    ensures len { length page.new ≤ length page.old + 840 }
+{
+    for i in 0..7 {
+        put_row_line(page, plot, i);
+    }
+}
+
+fn put_row_line(page: &mut Page, plot: &Plot, i: u16)
+    requires room { length page.old ≤ 5000 }
+    requires width { plot.now.width ≤ 4999 }
+    requires rows { plot.now.rows ≤ 4 }
+    requires line { i < 7 }
+    ensures bytes { page.new ≡ page.old ++ row_line plot.now i }
+    ensures len { length page.new ≤ length page.old + 120 }
+{
+    page.put_short(b"<path class='g' d='M60 ", 540 - 70 * i);
+    page.put_short(b"h", plot.width + 4);
+    page.put_short(b"'/><text x='54' y='", 545 - 70 * i);
+    page.put_short(b"' text-anchor='end'>", 70 * plot.rows * i);
+    page.put(b"</text>\n");
+}
+
+/// Puts what opens the plot of sums. It counts PI error rows from its lower edge up.
+pub fn put_plot_frame(page: &mut Page, plot: &Plot)
+    requires room { length page.old ≤ 5000 }
+    requires rows { plot.now.rows ≤ 4 }
+    ensures bytes { page.new ≡ page.old ++ plot_frame plot.now }
+    ensures len { length page.new ≤ length page.old + 220 }
+{
+    page.put_short(b"<svg x='64' y='100' width='", plot.width);
+    page.put_short(b"' height='440' viewBox='0 0 ", plot.width);
+    page.put_short(b" ", 440 * plot.rows);
+    page.put_short(
+        b"' preserveAspectRatio='none'><g class='u' transform='matrix(1 0 0 -1 0 ",
+        440 * plot.rows,
+    );
+    page.put(b")'>\n");
+}
+
+/// Puts the line at 280, and closes the plot of sums.
+pub fn put_limit(page: &mut Page, plot: &Plot)
+    requires room { length page.old ≤ 802500 }
+    requires rows { plot.now.rows ≤ 4 }
+    ensures bytes { page.new ≡ page.old ++ limit_line plot.now }
+    ensures len { length page.new ≤ length page.old + 130 }
+{
+    page.put_short(b"<path class='d' stroke-width='", 2 * plot.rows);
+    page.put_short(b"' d='M0 280h", plot.width);
+    page.put_short(b"'/></g></svg>\n<path class='k' d='M64 540h", plot.width);
+    page.put(b"M64 100v440'/>\n");
+}
+
+/// Puts the axis of blocks, and where layer 1 begins.
+pub fn put_block_axis(page: &mut Page, cells: &[Cell], plot: &Plot)
+    requires room { length page.old ≤ 802700 }
+    requires few { length cells.now ≤ 2097152 }
+    requires width { plot.now.width ≤ 4999 }
+    ensures bytes { page.new ≡ page.old ++ block_axis cells.now plot.now }
+    ensures len { length page.new ≤ length page.old + 1000 }
+{
+    put_layer(page, cells, plot.width);
+    if !cells.is_empty() {
+        put_block_ticks(page, cells.len() as u32, plot.width);
+    }
+    page.put_short(b"<text x='", 64 + plot.width / 2);
+    page.put(b"' y='580' text-anchor='middle'>block</text>\n");
+}
+
+// Where a block begins in the picture.
+fn place_of(block: u32, blocks: u32, width: u16) -> u16
+    requires some { 0 < blocks }
+    requires within { block ≤ blocks }
+    requires few { blocks ≤ 2097152 }
+    requires width { width ≤ 4999 }
+    ensures place { result ≡ place_of block blocks width }
+    ensures bound { result ≤ 5063 }
+{
+    64 + share(block, u32::from(width), blocks) as u16
+}
+
+// The mark where layer 1 begins, if it does.
+fn put_layer(page: &mut Page, cells: &[Cell], width: u16)
+    requires room { length page.old ≤ 802700 }
+    requires few { length cells.now ≤ 2097152 }
+    requires width { width ≤ 4999 }
+    ensures bytes { page.new ≡ page.old ++ layer_mark cells.now width }
+    ensures len { length page.new ≤ length page.old + 120 }
+{
+    let first = first_on_layer_1(cells);
+    let blocks = cells.len() as u32;
+    if first < blocks {
+        put_layer_at(page, place_of(first, blocks, width));
+    }
+}
+
+fn put_layer_at(page: &mut Page, x: u16)
+    requires room { length page.old ≤ 802700 }
+    requires x { x ≤ 5063 }
+    ensures bytes { page.new ≡ page.old ++ layer_at x }
+    ensures len { length page.new ≤ length page.old + 120 }
+{
+    page.put_short(b"<path class='k' stroke-dasharray='2 4' d='M", x);
+    page.put_short(b" 100v440'/><text x='", x + 5);
+    page.put(b"' y='132'>layer 1</text>\n");
+}
+
+// The first block on layer 1; the number of all where none is.
+fn first_on_layer_1(cells: &[Cell]) -> u32
+    requires { length cells.now ≤ 2097152 }
+    ensures first { result ≡ before_first is_on_layer_1 cells.now }
+    ensures within { result ≤ length cells.now }
+{
+    let mut place = 0;
+    for cell in cells {
+        if cell.layer == 1 {
+            return place;
+        }
+        place += 1;
+    }
+    place
+}
+
+// The ticks of the axis: at most six.
+fn put_block_ticks(page: &mut Page, blocks: u32, width: u16)
+    requires room { length page.old ≤ 802900 }
+    requires some { 0 < blocks }
+    requires few { blocks ≤ 2097152 }
+    requires width { width ≤ 4999 }
+    ensures bytes { page.new ≡ page.old ++ block_ticks blocks width }
+    ensures len { length page.new ≤ length page.old + 600 }
+{
+    let parts = blocks.min(5);
+    for i in 0..parts + 1 {
+        put_block_tick(page, share(i, blocks, parts), blocks, width);
+    }
+}
+
+fn put_block_tick(page: &mut Page, block: u32, blocks: u32, width: u16)
+    requires room { length page.old ≤ 818000 }
+    requires some { 0 < blocks }
+    requires within { block ≤ blocks }
+    requires few { blocks ≤ 2097152 }
+    requires width { width ≤ 4999 }
+    ensures bytes { page.new ≡ page.old ++ block_tick blocks width block }
+    ensures len { length page.new ≤ length page.old + 100 }
+{
+    put_tick_at(page, place_of(block, blocks, width), block);
+}
+
+fn put_tick_at(page: &mut Page, x: u16, block: u32)
+    requires { length page.old ≤ 818000 }
+    ensures bytes { page.new ≡ page.old ++ tick_at x block }
+    ensures len { length page.new ≤ length page.old + 100 }
+{
+    page.put_short(b"<path class='k' d='M", x);
+    page.put_short(b" 540v6'/><text x='", x);
+    page.put_count(b"' y='562' text-anchor='middle'>", block);
+    page.put(b"</text>\n");
+}
+
+/// Puts what opens the band of failed rows.
+pub fn put_lower_frame(page: &mut Page, plot: &Plot)
+    requires room { length page.old ≤ 804000 }
+    ensures bytes { page.new ≡ page.old ++ lower_frame plot.now }
+    ensures len { length page.new ≤ length page.old + 200 }
+{
+    page.put_short(b"<svg x='64' y='592' width='", plot.width);
+    page.put_short(b"' height='56' viewBox='0 0 ", plot.width);
+    page.put(
+        b" 224' preserveAspectRatio='none'><g class='f' transform='matrix(1 0 0 -1 0 208)'>\n",
+    );
+}
+
+/// Closes the band of failed rows, and puts what opens that of refused blocks.
+pub fn put_marks_frame(page: &mut Page, plot: &Plot)
+    requires room { length page.old ≤ 1485000 }
+    ensures bytes { page.new ≡ page.old ++ marks_frame plot.now }
+    ensures len { length page.new ≤ length page.old + 300 }
+{
+    page.put_short(b"</g></svg>\n<path class='k' d='M64 644h", plot.width);
+    page.put(b"M64 592v52'/><text x='54' y='603' text-anchor='end'>208</text>");
+    page.put(
+        b"<text x='54' y='648' text-anchor='end'>0</text>\n<g class='o' transform='translate(64 656)'>\n",
+    );
+}
+
+/// Closes the band of refused blocks.
+pub fn put_marks_line(page: &mut Page, plot: &Plot)
+    requires room { length page.old ≤ 1930000 }
+    ensures bytes { page.new ≡ page.old ++ marks_line plot.now }
+    ensures len { length page.new ≤ length page.old + 60 }
+{
+    page.put_short(b"</g>\n<path class='k' d='M64 672h", plot.width);
+    page.put(b"'/>\n");
+}

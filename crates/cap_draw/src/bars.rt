@@ -1,0 +1,175 @@
+//! The columns of a picture, as rectangles and marks.
+ghost use Rattle.std.specs.Prelude.{◌≡◌, ◌≤◌, ◌+◌, ◌*◌, ◌++◌, length};
+ghost use Rattle.cap_draw.specs.Bars.{bar, bars, failed_bar, failed_bars, failed_rows, mark_at, middle_of, over_class, over_mark, refused_mark, refused_marks, title, triangle};
+ghost use Rattle.cap_draw.specs.Columns.{column_of};
+
+use crate::column::{Column, column_of};
+use crate::page::Page;
+use crate::plot::Plot;
+use cap_survey::Cell;
+
+/// Puts the bar of each column, as high as its greatest `sum8`.
+pub fn put_bars(page: &mut Page, cells: &[Cell], plot: &Plot)
+    requires room { length page.old ≤ 10000 }
+    requires few { length cells.now ≤ 2097152 }
+    requires width { plot.now.width ≤ 4999 }
+    requires rows { plot.now.rows ≤ 4 }
+    requires columns { plot.now.columns ≤ 4000 }
+    requires fewer { plot.now.columns ≤ length cells.now }
+    ensures bytes { page.new ≡ page.old ++ bars cells.now plot.now plot.now.columns }
+    ensures len { length page.new ≤ length page.old + 200 * plot.now.columns }
+{
+    for c in 0..plot.columns {
+        put_bar(page, &column_of(cells, plot, c), plot.rows);
+    }
+}
+
+fn put_bar(page: &mut Page, column: &Column, rows: u16)
+    requires room { length page.old + 200 ≤ 2000000 }
+    requires rows { rows ≤ 4 }
+    ensures bytes { page.new ≡ page.old ++ bar rows column.now }
+    ensures len { length page.new ≤ length page.old + 200 }
+{
+    page.put(b"<rect");
+    put_class(page, column.sum8);
+    page.put_short(b" x='", column.x);
+    page.put_short(b"' width='", column.width);
+    page.put_short(b"' height='", column.sum8);
+    put_title(page, column);
+    page.put_short(b"sum8 ", column.sum8);
+    page.put(b"</title></rect>\n");
+    put_mark(page, column, rows);
+}
+
+// The class of a bar above the limit.
+fn put_class(page: &mut Page, sum8: u16)
+    requires room { length page.old + 10 ≤ 2000000 }
+    ensures bytes { page.new ≡ page.old ++ over_class sum8 }
+    ensures len { length page.new ≤ length page.old + 10 }
+{
+    if sum8 > 280 {
+        page.put(b" class='o'");
+    }
+}
+
+// Which blocks a column has.
+fn put_title(page: &mut Page, column: &Column)
+    requires room { length page.old + 44 ≤ 2000000 }
+    ensures bytes { page.new ≡ page.old ++ title column.now }
+    ensures len { length page.new ≤ length page.old + 44 }
+{
+    page.put_count(b"'><title>", column.blocks);
+    page.put_count(b" blocks from ", column.first);
+    page.put(b": ");
+}
+
+// The mark of a column above the limit, at the upper edge of the plot.
+fn put_mark(page: &mut Page, column: &Column, rows: u16)
+    requires room { length page.old + 60 ≤ 2000000 }
+    requires rows { rows ≤ 4 }
+    ensures bytes { page.new ≡ page.old ++ over_mark rows column.now }
+    ensures len { length page.new ≤ length page.old + 60 }
+{
+    if column.sum8 > 280 {
+        put_mark_at(page, column, rows);
+    }
+}
+
+fn put_mark_at(page: &mut Page, column: &Column, rows: u16)
+    requires room { length page.old + 60 ≤ 2000000 }
+    requires rows { rows ≤ 4 }
+    ensures bytes { page.new ≡ page.old ++ mark_at rows column.now }
+    ensures len { length page.new ≤ length page.old + 60 }
+{
+    page.put_short(b"<path class='o' d='M", column.x);
+    page.put_short(b" ", 440 * rows);
+    page.put_short(b"h", column.width);
+    page.put_short(b"v-", 14 * rows);
+    page.put_short(b"h-", column.width);
+    page.put(b"z'/>\n");
+}
+
+/// Puts the bar and the mark of each column that has a failed row.
+pub fn put_failed_bars(page: &mut Page, cells: &[Cell], plot: &Plot)
+    requires room { length page.old ≤ 805000 }
+    requires few { length cells.now ≤ 2097152 }
+    requires width { plot.now.width ≤ 4999 }
+    requires columns { plot.now.columns ≤ 4000 }
+    requires fewer { plot.now.columns ≤ length cells.now }
+    ensures bytes { page.new ≡ page.old ++ failed_bars cells.now plot.now plot.now.columns }
+    ensures len { length page.new ≤ length page.old + 170 * plot.now.columns }
+{
+    for c in 0..plot.columns {
+        put_failed_bar(page, &column_of(cells, plot, c));
+    }
+}
+
+fn put_failed_bar(page: &mut Page, column: &Column)
+    requires room { length page.old + 170 ≤ 2000000 }
+    ensures bytes { page.new ≡ page.old ++ failed_bar column.now }
+    ensures len { length page.new ≤ length page.old + 170 }
+{
+    if column.failed > 0 {
+        put_failed_rows(page, column);
+    }
+}
+
+fn put_failed_rows(page: &mut Page, column: &Column)
+    requires room { length page.old + 170 ≤ 2000000 }
+    ensures bytes { page.new ≡ page.old ++ failed_rows column.now }
+    ensures len { length page.new ≤ length page.old + 170 }
+{
+    page.put_short(b"<rect x='", column.x);
+    page.put_short(b"' width='", column.width);
+    page.put_short(b"' height='", column.failed);
+    put_title(page, column);
+    page.put_short(b"failed ", column.failed);
+    page.put_short(b"</title></rect><path class='o' d='M", column.x);
+    page.put_short(b" 0h", column.width);
+    page.put_short(b"v-16h-", column.width);
+    page.put(b"z'/>\n");
+}
+
+/// Puts a mark for each column that has a refused block.
+pub fn put_refused_marks(page: &mut Page, cells: &[Cell], plot: &Plot)
+    requires room { length page.old ≤ 1486000 }
+    requires few { length cells.now ≤ 2097152 }
+    requires width { plot.now.width ≤ 4999 }
+    requires columns { plot.now.columns ≤ 4000 }
+    requires fewer { plot.now.columns ≤ length cells.now }
+    ensures bytes { page.new ≡ page.old ++ refused_marks cells.now plot.now plot.now.columns }
+    ensures len { length page.new ≤ length page.old + 110 * plot.now.columns }
+{
+    for c in 0..plot.columns {
+        put_refused_mark(page, &column_of(cells, plot, c));
+    }
+}
+
+fn put_refused_mark(page: &mut Page, column: &Column)
+    requires room { length page.old + 110 ≤ 2000000 }
+    ensures bytes { page.new ≡ page.old ++ refused_mark column.now }
+    ensures len { length page.new ≤ length page.old + 110 }
+{
+    if column.refused > 0 {
+        put_triangle(page, column);
+    }
+}
+
+fn put_triangle(page: &mut Page, column: &Column)
+    requires room { length page.old + 110 ≤ 2000000 }
+    ensures bytes { page.new ≡ page.old ++ triangle column.now }
+    ensures len { length page.new ≤ length page.old + 110 }
+{
+    page.put_count(b"<path d='M", middle_of(column));
+    page.put(b" 0l5 14h-10z");
+    put_title(page, column);
+    page.put_count(b"refused ", column.refused);
+    page.put(b"</title></path>\n");
+}
+
+// The middle of a column.
+fn middle_of(column: &Column) -> u32
+    ensures { result ≡ middle_of column.now }
+{
+    u32::from(column.x) + u32::from(column.width) / 2
+}

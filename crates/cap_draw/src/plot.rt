@@ -1,0 +1,66 @@
+//! How wide and how high the parts of a picture are.
+ghost use Rattle.std.specs.Prelude.{◌≡◌, ◌<◌, ◌≤◌, ◌+◌, min, length};
+ghost use Rattle.cap_draw.specs.Plot.{plot_of, plot_width, rows_by, share};
+ghost use Rattle.cap_survey.specs.Totals.{greatest_of, sum8_of};
+
+use cap_survey::{Cell, greatest_sum8};
+
+/// How wide a plot is, how many PI error rows are as high as one unit of it, and how many columns share its width.
+#[derive(Clone, Copy, Debug, PartialEq, Eq, Drop)]
+pub struct Plot {
+    pub width: u16,
+    pub rows: u16,
+    pub columns: u16,
+}
+
+/// The plot of some blocks that has at most so many columns.
+pub fn plot_of(cells: &[Cell], most: u16) -> Plot
+    requires some { 0 < most }
+    requires most { most ≤ 4000 }
+    ensures plot { result ≡ plot_of cells.now most }
+    ensures width { result.width ≤ 4999 }
+    ensures rows { result.rows ≤ 4 }
+    ensures columns { result.columns ≤ 4000 }
+    ensures fewer { result.columns ≤ length cells.now }
+{
+    Plot {
+        width: plot_width(most),
+        rows: rows_by(greatest_sum8(cells)),
+        columns: cells.len().min(usize::from(most)) as u16,
+    }
+}
+
+// So many columns of whole units, together at least 1,000 wide.
+fn plot_width(most: u16) -> u16
+    requires some { 0 < most }
+    requires most { most ≤ 4000 }
+    ensures width { result ≡ plot_width most }
+    ensures bound { result ≤ 4999 }
+{
+    most * ((999 + most) / most)
+}
+
+fn rows_by(peak: u16) -> u16
+    ensures rows { result ≡ rows_by peak }
+    ensures bound { result ≤ 4 }
+{
+    if peak <= 420 {
+        1
+    } else if peak <= 840 {
+        2
+    } else {
+        4
+    }
+}
+
+/// Where part `k` begins, if a whole is shared among so many parts.
+pub fn share(k: u32, whole: u32, parts: u32) -> u32
+    requires some { 0 < parts }
+    requires within { k ≤ parts }
+    requires few { parts ≤ 2097152 }
+    requires bound { whole ≤ 2097152 }
+    ensures share { result ≡ share k whole parts }
+    ensures within { result ≤ whole }
+{
+    (u64::from(k) * u64::from(whole) / u64::from(parts)) as u32
+}
