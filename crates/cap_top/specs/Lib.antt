@@ -1,5 +1,6 @@
 -- What the contracts speak of: a run of each command, and how it ends.
 pub mod Closing
+pub mod Draw
 pub mod Interleave
 pub mod Mark
 pub mod Statuses

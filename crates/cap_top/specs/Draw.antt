@@ -1,0 +1,45 @@
+-- A run of `draw`: its drawing, its line and its status.
+use Rattle.std.specs.Prelude.{◌≡◌, ℕ, List, ◌++◌, codes, decimal}
+use Rattle.cap_draw.specs.Drawn.{HasDrawn}
+use Rattle.cap_draw.specs.declared.drawing.DrawEnd.{DrawEnd}
+use Rattle.cap_draw.specs.declared.drawing.DrawEnd.TheVariants.{Done, NoMemory, ReadFault, Rule, Short, WriteFault}
+use Rattle.cap_survey.specs.declared.fault.Cause.{Cause}
+use Rattle.cap_survey.specs.declared.fault.Cause.TheVariants as causes
+use Rattle.cap_top.specs.Closing.{EndsWith}
+use Rattle.cap_top.specs.declared.status.Status.{Status}
+use Rattle.cap_top.specs.declared.status.Status.TheVariants as status
+use Rattle.dvd_ports.specs.Seen.{Seen}
+
+-- the rule that a line of the survey breaks
+abbrev pub rule_text : Cause → List ℕ
+rule_text causes.Form = codes "form"
+rule_text causes.Order = codes "order"
+rule_text causes.Range = codes "range"
+rule_text causes.Sum8 = codes "sum8"
+rule_text causes.TooMany = codes "too many"
+rule_text causes.Totals = codes "totals"
+rule_text causes.After = codes "after"
+
+-- the closing line
+abbrev pub draw_line : DrawEnd → List ℕ
+draw_line Done = codes "done\n"
+draw_line (Short line bytes) = codes "short: line " ++ decimal line ++ codes ", " ++ decimal bytes ++ codes " bytes\n"
+draw_line ReadFault = codes "read fault\n"
+draw_line WriteFault = codes "write fault\n"
+draw_line (Rule fault) = codes "survey: line " ++ decimal fault.line ++ codes ": " ++ rule_text fault.cause ++ codes "\n"
+draw_line NoMemory = codes "no memory\n"
+
+-- and the status
+abbrev pub draw_status : DrawEnd → Status
+draw_status Done = status.Done
+draw_status (Short line bytes) = status.Short
+draw_status ReadFault = status.ReadFault
+draw_status WriteFault = status.WriteFault
+draw_status (Rule fault) = status.BadMap
+draw_status NoMemory = status.NoMemory
+
+-- The survey is drawn in at most so many columns, and the run ends with the line and the status of that.
+pub record Runs (most : ℕ) (source new_source out new_out : Seen) (SourceSame OutSame : Type 0) (report new_report : Seen) (result : Status) : Type 0 where
+  pub end : DrawEnd
+  pub draws : HasDrawn most source new_source out new_out SourceSame OutSame end
+  pub told : EndsWith (draw_status end) (draw_line end) report new_report result

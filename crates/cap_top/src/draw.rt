@@ -1,0 +1,45 @@
+//! A run of `draw`.
+ghost use Rattle.std.specs.Prelude.{◌≡◌, ◌≤◌};
+ghost use Rattle.cap_top.specs.Draw.{Runs, draw_status};
+
+mod lines; // the lines of its report
+
+use crate::closing::end_with;
+use crate::status::Status;
+use cap_draw::{DrawEnd, draw};
+use cap_words::DrawSettings;
+use dvd_ports::{Sink, Source};
+use lines::draw_line;
+use std::alloc::Global;
+
+/// Reads a survey from `src` to its end, and writes its picture to `out`. The report gets one line, which says how the run
+/// ended. All memory is taken before the first byte of the survey is read.
+pub fn run_draw<S: Source, K: Sink, E: Sink>(
+    alloc: Global,
+    settings: &DrawSettings,
+    src: &mut S,
+    out: &mut K,
+    report: &mut E,
+) -> Status
+    requires least { 100 ≤ settings.now.width }
+    requires most { settings.now.width ≤ 4000 }
+    ensures { Runs settings.now.width (S.seen src.old) (S.seen src.new) (K.seen out.old) (K.seen out.new) (src.new ≡ src.old) (out.new ≡ out.old)
+        (E.seen report.old) (E.seen report.new) result }
+{
+    let end = draw(alloc, settings.width as u16, src, out);
+    end_with(draw_status(end), draw_line(end).as_slice(), report)
+}
+
+// The exit status of a drawing that ended so.
+fn draw_status(end: DrawEnd) -> Status
+    ensures { result ≡ draw_status end }
+{
+    match end {
+        DrawEnd::Done => Status::Done,
+        DrawEnd::Short { .. } => Status::Short,
+        DrawEnd::ReadFault => Status::ReadFault,
+        DrawEnd::WriteFault => Status::WriteFault,
+        DrawEnd::Rule(_) => Status::BadMap,
+        DrawEnd::NoMemory => Status::NoMemory,
+    }
+}
