@@ -3,17 +3,21 @@ _dvdcap() {
     local before=${COMP_WORDS[COMP_CWORD - 1]} command=${COMP_WORDS[1]} at=1 words=
     [ "$command" != --progress ] || at=2 command=${COMP_WORDS[2]-}
     if [ "$COMP_CWORD" = "$at" ]; then
-        words='mark interleave help'
+        words='mark interleave draw lost help'
         [ "$at" = 2 ] || words+=' --version --progress'
     else
         case $command,$before in
-            help,*) words='mark interleave' ;;
+            help,*) words='mark interleave draw lost' ;;
             *,--form) words='plain marked' ;;
+            *,--shape) words='single parallel opposite' ;;
+            *,--zones) words='data all' ;;
             *,--*)
                 # (a value of one's own, and after it the next option)
                 ;;
             mark,*) words='--map --good' ;;
             interleave,*) words='--form --fill' ;;
+            draw,*) words='--width' ;;
+            lost,*) words='--sectors --sectors1 --shape --zones --initial --tail' ;;
         esac
     fi
     mapfile -t COMPREPLY < <(compgen -W "$words" -- "${COMP_WORDS[COMP_CWORD]}")

@@ -1,12 +1,14 @@
 //! The program dvdcap: it makes the real words, files and streams, and ends with the status of the run.
 #![tactic(auto)]
 
-ghost use Rattle.std.specs.Prelude.{◌≡◌, length, vec_len, IfOk};
+ghost use Rattle.std.specs.Prelude.{◌≡◌, ◌≤◌, length, vec_len, IfOk};
 ghost use Rattle.cap_words.specs.Interleave.{IsLawful};
 ghost use Rattle.cap_words.specs.Reading.{AreLawful};
 
-use cap_top::{Status, refuse_words, run_interleave, run_mark};
-use cap_words::{InterleaveSettings, MarkSettings, Settings, WordsFault, read};
+use cap_top::{Status, refuse_words, run_draw, run_interleave, run_lost, run_mark};
+use cap_words::{
+    DrawSettings, InterleaveSettings, LostSettings, MarkSettings, Settings, WordsFault, read,
+};
 use dvd_ports::{NoMemory, Sink, StdSink, StdSource};
 use std::env;
 use std::fs::File;
@@ -26,14 +28,15 @@ fn main(rt: HostRuntime) -> ExitCode {
     ExitCode::from(status.number())
 }
 
-// The run of a command. `lost` and `draw` have no crates yet.
+// The run of a command.
 fn run<E: Sink>(rt: &HostRuntime, settings: &Settings<'_>, report: &mut E) -> Status
     requires { AreLawful settings.now }
 {
     match settings {
         Settings::Mark(settings) => mark(rt, settings, report),
         Settings::Interleave(settings) => interleave(rt, settings, report),
-        Settings::Lost(_) | Settings::Draw(_) => refuse_words(WordsFault::Usage, report),
+        Settings::Lost(settings) => lost(rt, settings, report),
+        Settings::Draw(settings) => draw(rt, settings, report),
     }
 }
 
@@ -68,6 +71,21 @@ fn open_all(rt: &HostRuntime, names: &[&str]) -> Result<Vec<StdSource<Opened>>, 
         files.push(file).map_err(|_| NoMemory)?;
     }
     Ok(files)
+}
+
+fn lost<E: Sink>(rt: &HostRuntime, settings: &LostSettings, report: &mut E) -> Status {
+    let mut src = StdSource::new(rt.reader());
+    let mut out = StdSink::new(io::writer(rt));
+    run_lost(rt.alloc(), settings, &mut src, &mut out, report)
+}
+
+fn draw<E: Sink>(rt: &HostRuntime, settings: &DrawSettings, report: &mut E) -> Status
+    requires least { 100 ≤ settings.now.width }
+    requires most { settings.now.width ≤ 4000 }
+{
+    let mut src = StdSource::new(rt.reader());
+    let mut out = StdSink::new(io::writer(rt));
+    run_draw(rt.alloc(), settings, &mut src, &mut out, report)
 }
 
 // A file. One that couldn't be opened can't be read.

@@ -2,5 +2,6 @@
 pub mod Closing
 pub mod Draw
 pub mod Interleave
+pub mod Lost
 pub mod Mark
 pub mod Statuses

@@ -5,12 +5,14 @@ mod closing; // the line that closes a report
 mod draw; // a run of `draw`
 mod interleave; // a run of `interleave`
 mod line; // a line of text
+mod lost; // a run of `lost`
 mod mark; // a run of `mark`
 mod status; // how a run ends
 
 pub use closing::refuse_words;
 pub use draw::run_draw;
 pub use interleave::run_interleave;
+pub use lost::run_lost;
 pub use mark::run_mark;
 pub use status::Status;
 

@@ -1,0 +1,72 @@
+//! A run of `lost`.
+ghost use Rattle.std.specs.Prelude.{◌≡◌};
+ghost use Rattle.cap_top.specs.Lost.{Headline, HasEnded, refusal_status};
+ghost use Rattle.dvd_loop.specs.Streams.{streams};
+
+mod lines; // the lines of its report
+
+use crate::closing::end_with;
+use crate::status::Status;
+use cap_lost::{ReportFault, read_report, write_map};
+use cap_words::LostSettings;
+use dvd_layout::{Layout, Zones};
+use dvd_ports::{Sink, Source, WriteFault};
+use lines::{refused_line, setting_line};
+use std::alloc::Global;
+
+/// Reads the report of a run of `dvdecc` from `src`, line by line, and then writes the map of its image to `out`. The report
+/// of this run gets one line, which says how it ended. Memory is taken for the extents of lost sectors alone, and nothing is
+/// written before the last line was read.
+pub fn run_lost<S: Source, K: Sink, E: Sink>(
+    alloc: Global,
+    settings: &LostSettings,
+    src: &mut S,
+    out: &mut K,
+    report: &mut E,
+) -> Status
+    ensures { Headline settings.now (src.new ≡ src.old) (out.new ≡ out.old)
+        (streams (S.seen src.old) (K.seen out.old) (E.seen report.old))
+        (streams (S.seen src.new) (K.seen out.new) (E.seen report.new)) result }
+{
+    match settings.layout() {
+        Ok(layout) => map_image(alloc, layout, settings.zones, src, out, report),
+        Err(fault) => end_with(Status::BadMap, setting_line(fault).as_slice(), report),
+    }
+}
+
+// The same for a layout that breaks no rule.
+fn map_image<S: Source, K: Sink, E: Sink>(
+    alloc: Global,
+    layout: Layout,
+    zones: Zones,
+    src: &mut S,
+    out: &mut K,
+    report: &mut E,
+) -> Status
+    ensures { HasEnded layout zones (out.new ≡ out.old)
+        (streams (S.seen src.old) (K.seen out.old) (E.seen report.old))
+        (streams (S.seen src.new) (K.seen out.new) (E.seen report.new)) result }
+{
+    match read_report(alloc, layout, zones, src) {
+        Ok(lost) => match write_map(&lost, layout.total(), out) {
+            Ok(()) => end_with(Status::Done, b"done\n", report),
+            Err(WriteFault) => end_with(Status::WriteFault, b"write fault\n", report),
+        },
+        Err(fault) => end_with(
+            refusal_status(fault),
+            refused_line(fault).as_slice(),
+            report,
+        ),
+    }
+}
+
+// The exit status of a run whose report isn't read.
+fn refusal_status(fault: ReportFault) -> Status
+    ensures { result ≡ refusal_status fault }
+{
+    match fault {
+        ReportFault::NoMemory => Status::NoMemory,
+        ReportFault::ReadFault => Status::ReadFault,
+        ReportFault::Rule { .. } => Status::BadMap,
+    }
+}
