@@ -12,7 +12,7 @@ ghost use Rattle.dvd_deep.specs.Inner.Steps.{AreMarksTaken, AreWide, IsColumnPut
 
 use dvd_capture::{RowMarks, Work};
 use rs_code::{Code, Pi, Po};
-use rs_decode::decode;
+use rs_decode::{Erasures, decode};
 
 /// The rows of a block: 37,856 bytes.
 pub(crate) type Rows = [[u8; 182]; 208];
@@ -98,6 +98,10 @@ fn answer_word<const N: usize, const R: usize>(
     ensures word { word.new ≡ unwrap_or (near_of N R word.old marks.now) word.old }
     ensures size { length word.new ≡ N }
 {
+    // Most words are codewords, and with few marks these are near themselves: a test is shorter than a search.
+    if code.is_codeword(word) && Erasures::new(marks, R).is_some() {
+        return true;
+    }
     match decode(code, word, marks) {
         Ok(_) => true,
         Err(_) => false,
