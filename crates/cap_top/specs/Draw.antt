@@ -35,7 +35,7 @@ draw_status Done = status.Done
 draw_status (Short line bytes) = status.Short
 draw_status ReadFault = status.ReadFault
 draw_status WriteFault = status.WriteFault
-draw_status (Rule fault) = status.BadMap
+draw_status (Rule fault) = status.BadInput
 draw_status NoMemory = status.NoMemory
 
 -- The survey is drawn in at most so many columns, and the run ends with the line and the status of that.

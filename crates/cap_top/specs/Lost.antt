@@ -25,7 +25,7 @@ use Rattle.dvd_ports.specs.declared.port.WriteFault.{WriteFault}
 abbrev pub refusal_status : ReportFault → Status
 refusal_status NoMemory = status.NoMemory
 refusal_status ReadFault = status.ReadFault
-refusal_status (Rule line cause) = status.BadMap
+refusal_status (Rule line cause) = status.BadInput
 
 -- the status of a run that wrote its map, or failed within it, and its line
 abbrev pub status_by : Result (Unit {0}) WriteFault → Status
@@ -62,7 +62,7 @@ pub record HasBroken (settings : LostSettings) (Unread Untouched : Type 0) (old 
   pub breaks : broken_rule settings ≡ Some fault
   pub unread : Unread
   pub untouched : Untouched
-  pub told : EndsWith status.BadMap (setting_line fault) old.report new.report result
+  pub told : EndsWith status.BadInput (setting_line fault) old.report new.report result
 
 -- it breaks none
 pub record HasRun (settings : LostSettings) (Untouched : Type 0) (old new : Streams) (result : Status) : Type 0 where

@@ -7,7 +7,7 @@ use Rattle.cap_top.specs.declared.status.Status.TheVariants as status
 abbrev pub status_number : Status → ℕ
 status_number status.Done = 0
 status_number status.Usage = 1
-status_number status.BadMap = 2
+status_number status.BadInput = 2
 status_number status.ReadFault = 3
 status_number status.WriteFault = 4
 status_number status.Short = 5

@@ -39,7 +39,7 @@ fn draw_status(end: DrawEnd) -> Status
         DrawEnd::Short { .. } => Status::Short,
         DrawEnd::ReadFault => Status::ReadFault,
         DrawEnd::WriteFault => Status::WriteFault,
-        DrawEnd::Rule(_) => Status::BadMap,
+        DrawEnd::Rule(_) => Status::BadInput,
         DrawEnd::NoMemory => Status::NoMemory,
     }
 }

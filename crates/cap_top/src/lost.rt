@@ -30,7 +30,7 @@ pub fn run_lost<S: Source, K: Sink, E: Sink>(
 {
     match settings.layout() {
         Ok(layout) => map_image(alloc, layout, settings.zones, src, out, report),
-        Err(fault) => end_with(Status::BadMap, setting_line(fault).as_slice(), report),
+        Err(fault) => end_with(Status::BadInput, setting_line(fault).as_slice(), report),
     }
 }
 
@@ -67,6 +67,6 @@ fn refusal_status(fault: ReportFault) -> Status
     match fault {
         ReportFault::NoMemory => Status::NoMemory,
         ReportFault::ReadFault => Status::ReadFault,
-        ReportFault::Rule { .. } => Status::BadMap,
+        ReportFault::Rule { .. } => Status::BadInput,
     }
 }

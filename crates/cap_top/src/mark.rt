@@ -65,6 +65,6 @@ fn refusal_status(refusal: Refusal) -> Status
     match refusal {
         Refusal::NoMemory => Status::NoMemory,
         Refusal::ReadFault => Status::ReadFault,
-        Refusal::Rule { .. } => Status::BadMap,
+        Refusal::Rule { .. } => Status::BadInput,
     }
 }

@@ -8,8 +8,8 @@ pub enum Status {
     Done = 0,
     /// The words ask for nothing.
     Usage = 1,
-    /// A line of the map breaks a rule.
-    BadMap = 2,
+    /// A line of the map, the report or the survey breaks a rule, or the layout does.
+    BadInput = 2,
     /// A read failed.
     ReadFault = 3,
     /// A write failed.

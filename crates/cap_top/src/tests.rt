@@ -165,13 +165,13 @@ fn maps_that_give_no_spans(rt: HostRuntime) -> Result<(), Fail> {
     is_refused(
         alloc,
         &mut SliceSource::new(b"0 +\n0 1 +\n2 1 +\n"),
-        Status::BadMap,
+        Status::BadInput,
         b"map: line 3: gap\n",
     )?;
     is_refused(
         alloc,
         &mut SliceSource::new(b""),
-        Status::BadMap,
+        Status::BadInput,
         b"map: line 1: no state\n",
     )?;
     let mut broken = MemSource::new(MAP.to_vec(alloc)?, 10, vec![in alloc; 2; 1]?);

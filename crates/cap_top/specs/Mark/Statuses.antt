@@ -25,4 +25,4 @@ status_of other = status.ReportFault
 abbrev pub refusal_status : Refusal → Status
 refusal_status refusals.NoMemory = status.NoMemory
 refusal_status refusals.ReadFault = status.ReadFault
-refusal_status (refusals.Rule line cause) = status.BadMap
+refusal_status (refusals.Rule line cause) = status.BadInput
