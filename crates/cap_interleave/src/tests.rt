@@ -214,14 +214,22 @@ fn lost(at: usize) -> u8 {
     }
 }
 
+fn size_of(form: Form) -> usize {
+    match form {
+        Form::Plain => 37_856,
+        Form::Marked | Form::Listed => 42_640,
+    }
+}
+
 // The first so many blocks of each, one after the other.
 fn wanted(alloc: Global, case: &Case, captures: &[Vec<u8>]) -> Result<Vec<u8>, Fail> {
-    let size = case.form.size();
+    let size = size_of(case.form);
     let mut bytes = Vec::new(alloc);
     for k in 0..case.blocks {
         for capture in captures {
             for at in 0..size {
-                bytes.push(capture.get(k * size + at).copied().unwrap_or(lost(at)))?;
+                let place = k.wrapping_mul(size).wrapping_add(at);
+                bytes.push(capture.get(place).copied().unwrap_or(lost(at)))?;
             }
         }
     }

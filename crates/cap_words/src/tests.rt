@@ -108,74 +108,54 @@ fn words_that_ask_for_marks(rt: HostRuntime) -> Result<(), Fail> {
 }
 
 // Words, and the form, the filling and the files that they ask for.
-static BLOCKS: [(&str, Form, bool, &[&str]); 7] = [
-    (
-        "interleave --form plain a b",
-        Form::Plain,
-        false,
-        &["a", "b"],
-    ),
-    (
-        "interleave b a --form=plain",
-        Form::Plain,
-        false,
-        &["b", "a"],
-    ),
-    (
-        "interleave a --form plain a a",
-        Form::Plain,
-        false,
-        &["a", "a", "a"],
-    ),
+static BLOCKS: [(&str, Form, bool, &str); 7] = [
+    ("interleave --form plain a b", Form::Plain, false, "a b"),
+    ("interleave b a --form=plain", Form::Plain, false, "b a"),
+    ("interleave a --form plain a a", Form::Plain, false, "a a a"),
     (
         "interleave --form marked -- --fill -",
         Form::Marked,
         false,
-        &["--fill", "-"],
+        "--fill -",
     ),
     (
         "interleave --fill --form marked - b",
         Form::Marked,
         true,
-        &["-", "b"],
+        "- b",
     ),
     (
         "interleave a b --fill --form marked",
         Form::Marked,
         true,
-        &["a", "b"],
+        "a b",
     ),
     (
         "interleave --form marked 1 2 3 4 5 6 7 8 9 a b c d e f interleave",
         Form::Marked,
         false,
-        &[
-            "1",
-            "2",
-            "3",
-            "4",
-            "5",
-            "6",
-            "7",
-            "8",
-            "9",
-            "a",
-            "b",
-            "c",
-            "d",
-            "e",
-            "f",
-            "interleave",
-        ],
+        "1 2 3 4 5 6 7 8 9 a b c d e f interleave",
     ),
 ];
 
-fn asks_for_blocks(alloc: Global, case: &(&str, Form, bool, &[&str])) -> Result<(), Fail> {
+// Whether these are the files, in their order.
+fn are_files(files: &[&str], names: &str) -> bool {
+    let mut left = files;
+    for name in names.split_whitespace() {
+        if left.is_empty() || left[0] != name {
+            return false;
+        }
+        left = &left[1..];
+    }
+    left.is_empty()
+}
+
+fn asks_for_blocks(alloc: Global, case: &(&str, Form, bool, &str)) -> Result<(), Fail> {
     let words = words(alloc, case.0)?;
     match read(alloc, &words) {
         Ok(Settings::Interleave(asked)) => {
             let same = asked.form == case.1 && asked.fill == case.2;
-            if same && asked.files.as_slice() == case.3 {
+            if same && are_files(asked.files.as_slice(), case.3) {
                 Ok(())
             } else {
                 Err(case.0)?

@@ -20,7 +20,7 @@ pub fn setting_line(fault: LayoutFault) -> Line
 fn put_fault(line: &mut Line, fault: LayoutFault)
     requires { length line.old ≡ 9 }
     ensures bytes { line.new ≡ line.old ++ fault_text fault }
-    ensures len { length line.new < 64 }
+    ensures len { length line.new < 96 }
 {
     match fault {
         LayoutFault::EmptyLayer { layer } => put_named(line, b"empty layer ", u64::from(layer)),
@@ -54,7 +54,7 @@ fn put_fault(line: &mut Line, fault: LayoutFault)
 
 // Puts a text and a number.
 fn put_named(line: &mut Line, name: &[u8], number: u64)
-    requires room { length line.old + length name.now + 20 ≤ 64 }
+    requires room { length line.old + length name.now + 20 ≤ 96 }
     ensures bytes { line.new ≡ line.old ++ name.now ++ decimal number }
     ensures len { length line.new ≤ length line.old + length name.now + 20 }
 {
