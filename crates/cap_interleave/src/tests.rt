@@ -246,8 +246,14 @@ fn runs(alloc: Global, case: &Case) -> Result<(), Fail> {
         let fails = if number == 1 { case.broken_read } else { NONE };
         sources.push(MemSource::new(bytes, 1000, vec![in alloc; fails; 1]?))?;
     }
+    if sources.len() != 3 {
+        Err(sources.len())?;
+    }
     let mut out = MemSink::new(alloc, case.room, 50_000, Vec::new(alloc))?;
-    let mut buffers = Buffers::new(alloc, case.form, case.fill, 3)?;
+    let mut buffers = match case.form {
+        Form::Marked => Buffers::new(alloc, Form::Marked, case.fill, 3)?,
+        Form::Plain | Form::Listed => Buffers::new(alloc, Form::Plain, false, 3)?,
+    };
     let end = interleave_loop(&mut buffers, &mut sources, &mut out);
     let wanted = wanted(alloc, case, &captures)?;
     if end != case.end || out.held() != wanted.as_slice() {
