@@ -3,6 +3,7 @@ pub mod Blocks
 pub mod Closings
 pub mod Fronts
 pub mod Inner
+pub mod Laws
 pub mod Lost
 pub mod Map
 pub mod Reads

@@ -11,6 +11,7 @@ mod draft; // what lines say together
 mod extent; // sectors one after the other
 mod fault; // why a report isn't read
 mod fronts; // texts and numbers at the front of a text
+pub mod laws; // what holds of every report, as contracts alone
 mod map; // the map of the image
 mod reader; // lines out of bytes
 mod report; // a whole report
