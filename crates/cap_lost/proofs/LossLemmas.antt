@@ -71,6 +71,7 @@ module _ (extent : Extent) (some : extent.from < extent.to) where
         swapped : IsOf extent sector ⊎ ⊥ → ⊥ ⊎ IsOf extent sector
         swapped (inl is) = inr is
         swapped (inr is) = absurd is
+
         back : ⊥ ⊎ IsOf extent sector → IsOf extent sector ⊎ ⊥
         back (inl is) = absurd is
         back (inr is) = inl is
@@ -81,16 +82,19 @@ module _ (extent : Extent) (some : extent.from < extent.to) where
           where
             meet : x.to ≡ extent.from
             meet = eqb-true x.to extent.from is
+
             one : IsLost ((record { from = x.from; to = extent.to }) ∷ []) sector → IsLost (x ∷ []) sector ⊎ IsOf extent sector
             one (inl within) = elim (cases_lt sector x.to) [
               | inl below ↦ inl (inl (within.0, below))
               | inr above ↦ inr (omega (arith, meet, above), within.1)
             ]
             one (inr none) = absurd none
+
             other : IsLost (x ∷ []) sector ⊎ IsOf extent sector → IsLost ((record { from = x.from; to = extent.to }) ∷ []) sector
             other (inl (inl within)) = inl (within.0, omega (arith, within.1, meet, some))
             other (inl (inr none)) = absurd none
             other (inr within) = inl (omega (arith, within.0, meet, apart.1), within.1)
+
         kept : (x.to == extent.from) ≡ false → IsLost (x ∷ extent ∷ []) sector ↔ (IsLost (x ∷ []) sector ⊎ IsOf extent sector)
         kept is = (one, other)
           where
@@ -98,6 +102,7 @@ module _ (extent : Extent) (some : extent.from < extent.to) where
             one (inl within) = inl (inl within)
             one (inr (inl within)) = inr within
             one (inr (inr none)) = absurd none
+
             other : IsLost (x ∷ []) sector ⊎ IsOf extent sector → IsLost (x ∷ extent ∷ []) sector
             other (inl (inl within)) = inl within
             other (inl (inr none)) = absurd none
@@ -109,10 +114,12 @@ module _ (extent : Extent) (some : extent.from < extent.to) where
         behind : IsLost (y ∷ es) sector ⊎ IsOf extent sector → IsLost (x ∷ y ∷ es) sector ⊎ IsOf extent sector
         behind (inl lost) = inl (inr lost)
         behind (inr is) = inr is
+
         one : (IsLost (with_extent (y ∷ es) extent) sector → IsLost (y ∷ es) sector ⊎ IsOf extent sector)
             → IsLost (x ∷ with_extent (y ∷ es) extent) sector → IsLost (x ∷ y ∷ es) sector ⊎ IsOf extent sector
         one rest (inl within) = inl (inl within)
         one rest (inr lost) = behind (rest lost)
+
         other : (IsLost (y ∷ es) sector ⊎ IsOf extent sector → IsLost (with_extent (y ∷ es) extent) sector)
             → IsLost (x ∷ y ∷ es) sector ⊎ IsOf extent sector → IsLost (x ∷ with_extent (y ∷ es) extent) sector
         other rest (inl (inl within)) = inl within
@@ -163,6 +170,7 @@ module _ (layout : Layout) (zones : Zones) (sector : ℕ) where
         named : IsLost said.extents sector ⊎ IsOf extent sector → IsLost said.extents sector ⊎ RefusesBlockOf layout zones sector line
         named (inl lost) = inl lost
         named (inr within) = inr (extent, is, within)
+
         unnamed : IsLost said.extents sector ⊎ RefusesBlockOf layout zones sector line → IsLost said.extents sector ⊎ IsOf extent sector
         unnamed (inl lost) = inl lost
         unnamed (inr refuses) =
@@ -253,9 +261,11 @@ module _ (layout : Layout) (zones : Zones) (sector : ℕ) where
       first : IsLost said.extents sector ⊎ RefusesBlockOf layout zones sector line → IsLost said.extents sector ⊎ OneRefusesBlockOf layout zones sector (line ∷ lines)
       first (inl before) = inl before
       first (inr refuses) = inr (inl refuses)
+
       split : Adds said next line → IsLost next.extents sector ⊎ OneRefusesBlockOf layout zones sector lines → IsLost said.extents sector ⊎ OneRefusesBlockOf layout zones sector (line ∷ lines)
       split one (inl lost) = first (one.lost.0 lost)
       split one (inr refuses) = inr (inr refuses)
+
       joined : Adds said next line → IsLost said.extents sector ⊎ OneRefusesBlockOf layout zones sector (line ∷ lines) → IsLost next.extents sector ⊎ OneRefusesBlockOf layout zones sector lines
       joined one (inl lost) = inl (one.lost.1 (inl lost))
       joined one (inr (inl refuses)) = inl (one.lost.1 (inr refuses))

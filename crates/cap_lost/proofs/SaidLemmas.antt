@@ -24,7 +24,6 @@ module _ {A E : Type 0} where
   not_refused true fault answer value is = absurd cc
   not_refused false fault answer value is = (refl, is)
 
-
 -- two answers are the same
 abbrev pub Same : {A E : Type 0} → Result A E → Result A E → Type 0
 Same one other = one ≡ other
