@@ -1,4 +1,4 @@
--- Eight bytes read into the register at once: what is left of each, with the register's own bytes added to the first four, is
+-- Sixteen bytes read into the register at once: what is left of each, with the register's own bytes added to the first four, is
 -- added up.
 use Rattle.std.proofs.Common.{◌≡◌, ℕ, zero, suc, ◌+◌, ◌*◌, ◌/◌, ◌%◌, ◌^◌, ◌<◌, ◌≤◌, List, [], ◌∷◌, ◌++◌, length, get_or, take, drop, refl, sym, ◌∙◌, ap, ap₂, append_assoc, zero-add, add-one, arith}
 use Rattle.std.specs.Prelude.{bit_xor}
@@ -71,36 +71,56 @@ reading_four a b c d n bytes register size =
     ∙ ap (bit_xor (bit_xor (after_steps (24 + n) x) (after_steps (16 + n) y))) (sym (xor_assoc (after_steps (8 + n) z) (after_steps n w) rest))
     ∙ sym (xor_assoc (bit_xor (after_steps (24 + n) x) (after_steps (16 + n) y)) (bit_xor (after_steps (8 + n) z) (after_steps n w)) rest)
 
--- eight bytes, the last four of which meet nothing of the register
-reading_eight : (a b c d e f g h register : ℕ) → register < 2 ^ 32
-    → bit_xor (after_word 40 (bit_xor a (register % 256) ∷ bit_xor b (register / 256 % 256) ∷ bit_xor c (register / 256 / 256 % 256) ∷ bit_xor d (register / 256 / 256 / 256 % 256) ∷ []))
-    (after_word 8 (e ∷ f ∷ g ∷ h ∷ []))
-    ≡ after_reading (a ∷ b ∷ c ∷ d ∷ e ∷ f ∷ g ∷ h ∷ []) register
-unfolding after_reading
-reading_eight a b c d e f g h register fits =
-    let none : register / 256 / 256 / 256 / 256 ≡ 0 = omega arith in
-    let last : List ℕ = e ∷ f ∷ g ∷ h ∷ [] in
-    let word : List ℕ = bit_xor a (register % 256) ∷ bit_xor b (register / 256 % 256) ∷ bit_xor c (register / 256 / 256 % 256) ∷ bit_xor d (register / 256 / 256 / 256 % 256) ∷ [] in
-    sym (reading_four a b c d 40 last register refl
-    ∙ ap (bit_xor (after_word 40 word))
-    (ap (after_reading last) none
-    ∙ reading_four e f g h 8 [] 0 refl
-    ∙ xor_zero_r (after_word 8 (bit_xor e 0 ∷ bit_xor f 0 ∷ bit_xor g 0 ∷ bit_xor h 0 ∷ []))
-    ∙ rw (xor_zero_r e, xor_zero_r f, xor_zero_r g, xor_zero_r h) refl))
+-- four bytes that meet nothing of the register
+reading_word : (e f g h n : ℕ) (bytes : List ℕ) → n ≡ 8 + 8 * length bytes
+    → after_reading (e ∷ f ∷ g ∷ h ∷ bytes) 0 ≡ bit_xor (after_word n (e ∷ f ∷ g ∷ h ∷ [])) (after_reading bytes 0)
+reading_word e f g h n bytes size = reading_four e f g h n bytes 0 size ∙ rw (xor_zero_r e, xor_zero_r f, xor_zero_r g, xor_zero_r h) refl
 
--- eight bytes, one by one
-eight_bytes : (chunk : List ℕ) → length chunk ≡ 8
-    → get_or chunk 0 0 ∷ get_or chunk 1 0 ∷ get_or chunk 2 0 ∷ get_or chunk 3 0 ∷ get_or chunk 4 0 ∷ get_or chunk 5 0 ∷ get_or chunk 6 0 ∷ get_or chunk 7 0 ∷ [] ≡ chunk
-eight_bytes [] size = absurd (omega arith)
-eight_bytes (a ∷ []) size = absurd (omega arith)
-eight_bytes (a ∷ b ∷ []) size = absurd (omega arith)
-eight_bytes (a ∷ b ∷ c ∷ []) size = absurd (omega arith)
-eight_bytes (a ∷ b ∷ c ∷ d ∷ []) size = absurd (omega arith)
-eight_bytes (a ∷ b ∷ c ∷ d ∷ e ∷ []) size = absurd (omega arith)
-eight_bytes (a ∷ b ∷ c ∷ d ∷ e ∷ f ∷ []) size = absurd (omega arith)
-eight_bytes (a ∷ b ∷ c ∷ d ∷ e ∷ f ∷ g ∷ []) size = absurd (omega arith)
-eight_bytes (a ∷ b ∷ c ∷ d ∷ e ∷ f ∷ g ∷ h ∷ []) size = refl
-eight_bytes (a ∷ b ∷ c ∷ d ∷ e ∷ f ∷ g ∷ h ∷ i ∷ rest) size = absurd (omega arith)
+-- sixteen bytes, of which only the first four meet the register
+reading_sixteen : (a b c d e f g h i j k l m n o p register : ℕ) → register < 2 ^ 32
+    → bit_xor (bit_xor (after_word 104 (bit_xor a (register % 256) ∷ bit_xor b (register / 256 % 256) ∷ bit_xor c (register / 256 / 256 % 256) ∷ bit_xor d (register / 256 / 256 / 256 % 256) ∷ []))
+    (after_word 72 (e ∷ f ∷ g ∷ h ∷ []))) (bit_xor (after_word 40 (i ∷ j ∷ k ∷ l ∷ [])) (after_word 8 (m ∷ n ∷ o ∷ p ∷ [])))
+    ≡ after_reading (a ∷ b ∷ c ∷ d ∷ e ∷ f ∷ g ∷ h ∷ i ∷ j ∷ k ∷ l ∷ m ∷ n ∷ o ∷ p ∷ []) register
+unfolding after_reading
+reading_sixteen a b c d e f g h i j k l m n o p register fits =
+    let none : register / 256 / 256 / 256 / 256 ≡ 0 = omega arith in
+    let four : List ℕ = m ∷ n ∷ o ∷ p ∷ [] in
+    let eight : List ℕ = i ∷ j ∷ k ∷ l ∷ four in
+    let twelve : List ℕ = e ∷ f ∷ g ∷ h ∷ eight in
+    let first : ℕ = after_word 104 (bit_xor a (register % 256) ∷ bit_xor b (register / 256 % 256) ∷ bit_xor c (register / 256 / 256 % 256) ∷ bit_xor d (register / 256 / 256 / 256 % 256) ∷ []) in
+    let second : ℕ = after_word 72 (e ∷ f ∷ g ∷ h ∷ []) in
+    let third : ℕ = after_word 40 (i ∷ j ∷ k ∷ l ∷ []) in
+    let fourth : ℕ = after_word 8 (m ∷ n ∷ o ∷ p ∷ []) in
+    xor_assoc first second (bit_xor third fourth)
+    ∙ sym (reading_four a b c d 104 twelve register refl
+    ∙ ap (bit_xor first)
+    (ap (after_reading twelve) none
+    ∙ reading_word e f g h 72 eight refl
+    ∙ ap (bit_xor second)
+    (reading_word i j k l 40 four refl
+    ∙ ap (bit_xor third) (reading_word m n o p 8 [] refl ∙ xor_zero_r fourth))))
+
+-- sixteen bytes, one by one
+sixteen_bytes : (chunk : List ℕ) → length chunk ≡ 16
+    → get_or chunk 0 0 ∷ get_or chunk 1 0 ∷ get_or chunk 2 0 ∷ get_or chunk 3 0 ∷ get_or chunk 4 0 ∷ get_or chunk 5 0 ∷ get_or chunk 6 0 ∷ get_or chunk 7 0 ∷ get_or chunk 8 0 ∷ get_or chunk 9 0 ∷ get_or chunk 10 0 ∷ get_or chunk 11 0 ∷ get_or chunk 12 0 ∷ get_or chunk 13 0 ∷ get_or chunk 14 0 ∷ get_or chunk 15 0 ∷ [] ≡ chunk
+sixteen_bytes [] size = absurd (omega arith)
+sixteen_bytes (a ∷ []) size = absurd (omega arith)
+sixteen_bytes (a ∷ b ∷ []) size = absurd (omega arith)
+sixteen_bytes (a ∷ b ∷ c ∷ []) size = absurd (omega arith)
+sixteen_bytes (a ∷ b ∷ c ∷ d ∷ []) size = absurd (omega arith)
+sixteen_bytes (a ∷ b ∷ c ∷ d ∷ e ∷ []) size = absurd (omega arith)
+sixteen_bytes (a ∷ b ∷ c ∷ d ∷ e ∷ f ∷ []) size = absurd (omega arith)
+sixteen_bytes (a ∷ b ∷ c ∷ d ∷ e ∷ f ∷ g ∷ []) size = absurd (omega arith)
+sixteen_bytes (a ∷ b ∷ c ∷ d ∷ e ∷ f ∷ g ∷ h ∷ []) size = absurd (omega arith)
+sixteen_bytes (a ∷ b ∷ c ∷ d ∷ e ∷ f ∷ g ∷ h ∷ i ∷ []) size = absurd (omega arith)
+sixteen_bytes (a ∷ b ∷ c ∷ d ∷ e ∷ f ∷ g ∷ h ∷ i ∷ j ∷ []) size = absurd (omega arith)
+sixteen_bytes (a ∷ b ∷ c ∷ d ∷ e ∷ f ∷ g ∷ h ∷ i ∷ j ∷ k ∷ []) size = absurd (omega arith)
+sixteen_bytes (a ∷ b ∷ c ∷ d ∷ e ∷ f ∷ g ∷ h ∷ i ∷ j ∷ k ∷ l ∷ []) size = absurd (omega arith)
+sixteen_bytes (a ∷ b ∷ c ∷ d ∷ e ∷ f ∷ g ∷ h ∷ i ∷ j ∷ k ∷ l ∷ m ∷ []) size = absurd (omega arith)
+sixteen_bytes (a ∷ b ∷ c ∷ d ∷ e ∷ f ∷ g ∷ h ∷ i ∷ j ∷ k ∷ l ∷ m ∷ n ∷ []) size = absurd (omega arith)
+sixteen_bytes (a ∷ b ∷ c ∷ d ∷ e ∷ f ∷ g ∷ h ∷ i ∷ j ∷ k ∷ l ∷ m ∷ n ∷ o ∷ []) size = absurd (omega arith)
+sixteen_bytes (a ∷ b ∷ c ∷ d ∷ e ∷ f ∷ g ∷ h ∷ i ∷ j ∷ k ∷ l ∷ m ∷ n ∷ o ∷ p ∷ []) size = refl
+sixteen_bytes (a ∷ b ∷ c ∷ d ∷ e ∷ f ∷ g ∷ h ∷ i ∷ j ∷ k ∷ l ∷ m ∷ n ∷ o ∷ p ∷ q ∷ rest) size = absurd (omega arith)
 
 -- the register's bytes, one by one
 register_bytes : (register : ℕ) (four : List ℕ) → four ≡ to_le_bytes w32 register
@@ -110,29 +130,30 @@ register_bytes register four is =
     let byte : (i : ℕ) → get_or four i 0 ≡ get_or (to_le_bytes w32 register) i 0 = λ i. ap (λ (l : List ℕ). get_or l i 0) is in
     (omega (arith, byte 0), omega (arith, byte 1), omega (arith, byte 2), omega (arith, byte 3))
 
--- a chunk of eight bytes, with the register's four bytes added to the first four
-pub chunk_read : (register : ℕ) (chunk four : List ℕ) → register < 2 ^ 32 → length chunk ≡ 8 → four ≡ to_le_bytes w32 register
-    → bit_xor (after_word 40 (bit_xor (get_or chunk 0 0) (get_or four 0 0) ∷ bit_xor (get_or chunk 1 0) (get_or four 1 0)
+-- a chunk of sixteen bytes, with the register's four bytes added to the first four
+pub chunk_read : (register : ℕ) (chunk four : List ℕ) → register < 2 ^ 32 → length chunk ≡ 16 → four ≡ to_le_bytes w32 register
+    → bit_xor (bit_xor (after_word 104 (bit_xor (get_or chunk 0 0) (get_or four 0 0) ∷ bit_xor (get_or chunk 1 0) (get_or four 1 0)
     ∷ bit_xor (get_or chunk 2 0) (get_or four 2 0) ∷ bit_xor (get_or chunk 3 0) (get_or four 3 0) ∷ []))
-    (after_word 8 (get_or chunk 4 0 ∷ get_or chunk 5 0 ∷ get_or chunk 6 0 ∷ get_or chunk 7 0 ∷ []))
+    (after_word 72 (get_or chunk 4 0 ∷ get_or chunk 5 0 ∷ get_or chunk 6 0 ∷ get_or chunk 7 0 ∷ [])))
+    (bit_xor (after_word 40 (get_or chunk 8 0 ∷ get_or chunk 9 0 ∷ get_or chunk 10 0 ∷ get_or chunk 11 0 ∷ [])) (after_word 8 (get_or chunk 12 0 ∷ get_or chunk 13 0 ∷ get_or chunk 14 0 ∷ get_or chunk 15 0 ∷ [])))
     ≡ after_reading chunk register
 chunk_read register chunk four fits size is =
     let are = register_bytes register four is in
     rw (are.0, are.1, are.2, are.3)
-    (reading_eight (get_or chunk 0 0) (get_or chunk 1 0) (get_or chunk 2 0) (get_or chunk 3 0) (get_or chunk 4 0) (get_or chunk 5 0) (get_or chunk 6 0) (get_or chunk 7 0)
+    (reading_sixteen (get_or chunk 0 0) (get_or chunk 1 0) (get_or chunk 2 0) (get_or chunk 3 0) (get_or chunk 4 0) (get_or chunk 5 0) (get_or chunk 6 0) (get_or chunk 7 0) (get_or chunk 8 0) (get_or chunk 9 0) (get_or chunk 10 0) (get_or chunk 11 0) (get_or chunk 12 0) (get_or chunk 13 0) (get_or chunk 14 0) (get_or chunk 15 0)
     register fits
-    ∙ ap (λ (l : List ℕ). after_reading l register) (eight_bytes chunk size))
+    ∙ ap (λ (l : List ℕ). after_reading l register) (sixteen_bytes chunk size))
 
 -- the whole chunks and the bytes behind them, joined, are all the bytes
-pub chunks_joined : (count : ℕ) (bytes : List ℕ) → concat (first_chunks 8 count bytes) ++ drop (count * 8) bytes ≡ bytes
+pub chunks_joined : (count : ℕ) (bytes : List ℕ) → concat (first_chunks 16 count bytes) ++ drop (count * 16) bytes ≡ bytes
 chunks_joined zero bytes = refl
 chunks_joined (suc count) bytes =
-    let more : suc count * 8 ≡ 8 + count * 8 = omega arith in
-    ap (λ (n : ℕ). (take 8 bytes ++ concat (first_chunks 8 count (drop 8 bytes))) ++ drop n bytes) more
-    ∙ append_assoc (take 8 bytes) (concat (first_chunks 8 count (drop 8 bytes))) (drop (8 + count * 8) bytes)
-    ∙ ap (λ (l : List ℕ). take 8 bytes ++ (concat (first_chunks 8 count (drop 8 bytes)) ++ l)) (sym (drop-drop (count * 8) 8 bytes))
-    ∙ ap (λ (l : List ℕ). take 8 bytes ++ l) (chunks_joined count (drop 8 bytes))
-    ∙ take-append-drop 8 bytes
+    let more : suc count * 16 ≡ 16 + count * 16 = omega arith in
+    ap (λ (n : ℕ). (take 16 bytes ++ concat (first_chunks 16 count (drop 16 bytes))) ++ drop n bytes) more
+    ∙ append_assoc (take 16 bytes) (concat (first_chunks 16 count (drop 16 bytes))) (drop (16 + count * 16) bytes)
+    ∙ ap (λ (l : List ℕ). take 16 bytes ++ (concat (first_chunks 16 count (drop 16 bytes)) ++ l)) (sym (drop-drop (count * 16) 16 bytes))
+    ∙ ap (λ (l : List ℕ). take 16 bytes ++ l) (chunks_joined count (drop 16 bytes))
+    ∙ take-append-drop 16 bytes
 
 -- the next chunk of a list of chunks
 pub chunks-next : (chunks : List (List ℕ)) (i register : ℕ) → i < length chunks

@@ -4,7 +4,9 @@ ghost use Rattle.std.specs.List.{concat};
 ghost use Rattle.cd_sector.specs.Edc.{cd_edc_of};
 ghost use Rattle.cd_sector.specs.Inner.Register.{after_reading, after_steps};
 
-use crate::table::{remainder_before_word, remainder_of, remainder_of_word};
+use crate::table::{
+    remainder_of, remainder_of_first, remainder_of_fourth, remainder_of_second, remainder_of_third,
+};
 
 /// The EDC of a list of bytes of any length: the remainder of its bits, the least significant of each byte first,
 /// by (x^16 + x^15 + x^2 + 1) (x^16 + x^2 + x + 1).
@@ -25,7 +27,7 @@ pub(crate) fn edc_of_parts(front: &[u8], back: &[u8]) -> [u8; 4]
 fn with_bytes(register: u32, bytes: &[u8]) -> u32
     ensures { result ≡ after_reading bytes.now register }
 {
-    let (chunks, others) = bytes.as_chunks::<8>();
+    let (chunks, others) = bytes.as_chunks::<16>();
     let mut next = with_chunks(register, chunks);
     for byte in others {
         next = with_byte(next, *byte);
@@ -33,8 +35,8 @@ fn with_bytes(register: u32, bytes: &[u8]) -> u32
     next
 }
 
-// The register with these chunks of eight bytes more.
-fn with_chunks(register: u32, chunks: &[[u8; 8]]) -> u32
+// The register with these chunks of sixteen bytes more.
+fn with_chunks(register: u32, chunks: &[[u8; 16]]) -> u32
     ensures { result ≡ after_reading (concat chunks.now) register }
 {
     let mut next = register;
@@ -44,18 +46,20 @@ fn with_chunks(register: u32, chunks: &[[u8; 8]]) -> u32
     next
 }
 
-// Eight bytes more at once: the whole register leaves with the first four, and nothing of it is left for the others.
-fn with_chunk(register: u32, chunk: [u8; 8]) -> u32
+// Sixteen bytes more at once: the whole register leaves with the first four, and nothing of it is left for the others.
+fn with_chunk(register: u32, chunk: [u8; 16]) -> u32
     ensures { result ≡ after_reading chunk register }
 {
     let [first, second, third, fourth] = register.to_le_bytes();
-    let front = remainder_before_word([
+    let front = remainder_of_first([
         chunk[0] ^ first,
         chunk[1] ^ second,
         chunk[2] ^ third,
         chunk[3] ^ fourth,
-    ]);
-    front ^ remainder_of_word([chunk[4], chunk[5], chunk[6], chunk[7]])
+    ]) ^ remainder_of_second([chunk[4], chunk[5], chunk[6], chunk[7]]);
+    let back = remainder_of_third([chunk[8], chunk[9], chunk[10], chunk[11]])
+        ^ remainder_of_fourth([chunk[12], chunk[13], chunk[14], chunk[15]]);
+    front ^ back
 }
 
 // One byte more: its sum with the eight bits that leave the register is divided, and what this leaves is added.

@@ -1,4 +1,4 @@
-//! Division for the EDC (ECMA-130, 14.3), a byte or eight at once.
+//! Division for the EDC (ECMA-130, 14.3), a byte or sixteen at once.
 ghost use Rattle.std.specs.Prelude.{◌≡◌, ℕ, map};
 ghost use Rattle.std.specs.List.{range_with_len};
 ghost use Rattle.cd_sector.specs.Inner.Register.{after_steps, after_word};
@@ -20,12 +20,26 @@ static NEAR: [[u32; 256]; 4] = [
     sums!([0] 0x41000001 0x82000002 0xB4030007 0xD805000D 0x00090019 0x00120032 0x00240064 0x004800C8),
 ];
 
-/// The same of 40, 48, 56 and 64 steps.
-static FAR: [[u32; 256]; 4] = [
+// The same of 40 to 64 steps, of 72 to 96, and of 104 to 128.
+static THIRD: [[u32; 256]; 4] = [
     sums!([0] 0x90D00101 0x91A30201 0x93450401 0x96890801 0x9D111001 0x8A212001 0xA4414001 0xF8818001),
     sums!([0] 0x9001D100 0x9000A203 0x90024405 0x90078809 0x900C1011 0x901B2021 0x90354041 0x90698081),
     sums!([0] 0x009001D1 0x012003A2 0x02400744 0x04800E88 0x09001D10 0x12003A20 0x24007440 0x4800E880),
     sums!([0] 0x65904101 0xCB208202 0x26420407 0x4C84080E 0x9908101C 0x8213203B 0xB4254075 0xD84980E9),
+];
+
+static SECOND: [[u32; 256]; 4] = [
+    sums!([0] 0x90F49140 0x91EA2283 0x93D74505 0x97AD8A09 0x9F581411 0x8EB32821 0xAD655041 0xEAC9A081),
+    sums!([0] 0xB491B490 0xD9206923 0x0243D245 0x0487A48A 0x090F4914 0x121E9228 0x243D2450 0x487A48A0),
+    sums!([0] 0x41B401B4 0x83680368 0xB6D306D3 0xDDA50DA5 0x0B491B49 0x16923692 0x2D246D24 0x5A48DA48),
+    sums!([0] 0x51010001 0xA2020002 0xF4070007 0x580D000D 0xB01A001A 0xD0370037 0x106D006D 0x20DA00DA),
+];
+
+static FIRST: [[u32; 256]; 4] = [
+    sums!([0] 0x90C00001 0x91830001 0x93050001 0x96090001 0x9C110001 0x88210001 0xA0410001 0xF0810001),
+    sums!([0] 0x9001C101 0x90008201 0x90020401 0x90070801 0x900D1001 0x90192001 0x90314001 0x90618001),
+    sums!([0] 0x900100C0 0x90010183 0x90010305 0x90010609 0x90010C11 0x90011821 0x90013041 0x90016081),
+    sums!([0] 0x6C90C100 0xD9218200 0x02400403 0x04800806 0x0900100C 0x12002018 0x24004030 0x48008060),
 ];
 
 /// What eight steps of the division leave of this byte.
@@ -35,8 +49,8 @@ pub(crate) fn remainder_of(byte: u8) -> u32
     entry(&NEAR[0], byte)
 }
 
-/// What is left of four bytes: 32 steps of the first, and eight less of each one behind it.
-pub(crate) fn remainder_of_word(word: [u8; 4]) -> u32
+/// What is left of the last four of sixteen bytes: 32 steps of the first, and eight less of each one behind it.
+pub(crate) fn remainder_of_fourth(word: [u8; 4]) -> u32
     ensures { result ≡ after_word 8 word }
 {
     let front = entry(&NEAR[3], word[0]) ^ entry(&NEAR[2], word[1]);
@@ -44,12 +58,30 @@ pub(crate) fn remainder_of_word(word: [u8; 4]) -> u32
     front ^ back
 }
 
-/// The same where four more bytes follow: 32 steps more.
-pub(crate) fn remainder_before_word(word: [u8; 4]) -> u32
+/// The same of the four before these: 32 steps more.
+pub(crate) fn remainder_of_third(word: [u8; 4]) -> u32
     ensures { result ≡ after_word 40 word }
 {
-    let front = entry(&FAR[3], word[0]) ^ entry(&FAR[2], word[1]);
-    let back = entry(&FAR[1], word[2]) ^ entry(&FAR[0], word[3]);
+    let front = entry(&THIRD[3], word[0]) ^ entry(&THIRD[2], word[1]);
+    let back = entry(&THIRD[1], word[2]) ^ entry(&THIRD[0], word[3]);
+    front ^ back
+}
+
+/// The same of the four before these.
+pub(crate) fn remainder_of_second(word: [u8; 4]) -> u32
+    ensures { result ≡ after_word 72 word }
+{
+    let front = entry(&SECOND[3], word[0]) ^ entry(&SECOND[2], word[1]);
+    let back = entry(&SECOND[1], word[2]) ^ entry(&SECOND[0], word[3]);
+    front ^ back
+}
+
+/// The same of the first four.
+pub(crate) fn remainder_of_first(word: [u8; 4]) -> u32
+    ensures { result ≡ after_word 104 word }
+{
+    let front = entry(&FIRST[3], word[0]) ^ entry(&FIRST[2], word[1]);
+    let back = entry(&FIRST[1], word[2]) ^ entry(&FIRST[0], word[3]);
     front ^ back
 }
 

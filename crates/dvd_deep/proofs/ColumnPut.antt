@@ -1,21 +1,16 @@
 -- A column that is put into its rows, one byte after the other.
-use Rattle.std.proofs.Common.{◌≡◌, ◌≢◌, ◌∙◌, ℕ, ◌+◌, ◌<◌, Bool, false, List, [], length, get_or, set, slice_index, inl, inr, sym, ap, arith}
+use Rattle.std.proofs.Common.{◌≡◌, ◌≢◌, ◌∙◌, ℕ, ◌+◌, ◌<◌, List, [], length, get_or, set, slice_index, inl, inr, sym, ap, arith}
 use Rattle.std.proofs.lemmas.Bool.{cases_eq}
 use Rattle.std.proofs.lemmas.List.{get_or-set_same, get_or-set_other, length-set}
 use Rattle.coding.specs.Product.{line, place}
-use Rattle.dvd_capture.specs.Answers.{marks_line}
-use Rattle.dvd_deep.specs.Rounds.{mark_in}
-use Rattle.dvd_deep.specs.Inner.Steps.{AreMarksTaken, AreWide, IsColumnPut}
+use Rattle.dvd_deep.specs.Inner.Steps.{AreWide, IsColumnPut}
 
--- the first i rows have their byte and no mark at place j, and all else is as it was
-pub record IsPutBefore (j : ℕ) (word : List ℕ) (old now : List (List ℕ)) (marks_old marks_now : List (List Bool)) (i : ℕ) : Type 0 where
+-- the first i rows have their byte at place j, and all else is as it was
+pub record IsPutBefore (j : ℕ) (word : List ℕ) (old now : List (List ℕ)) (i : ℕ) : Type 0 where
   pub height : length now ≡ 208
-  pub marks_height : length marks_now ≡ 208
   pub wide : AreWide now
   pub put : (k : ℕ) → k < i → place now k j ≡ slice_index word k
-  pub taken : (k : ℕ) → k < i → mark_in marks_now k j ≡ false
   pub others : (k p : ℕ) → k < 208 → p < 182 → p ≢ j → place now k p ≡ place old k p
-  pub marks_others : (k p : ℕ) → k < 208 → p < 182 → p ≢ j → mark_in marks_now k p ≡ mark_in marks_old k p
 
 -- a byte that is put at place j of row i stands there
 set-same : {X : Type 0} (rows : List (List X)) (i j : ℕ) (x d : X) → i < length rows → j < length (get_or rows i [])
@@ -40,17 +35,13 @@ set-elsewhere : {X : Type 0} (rows : List (List X)) (i j k p : ℕ) (x d : X) �
 set-elsewhere rows i j k p x d apart = ap (λ row. get_or row p d) (get_or-set_other rows i k (set (get_or rows i []) j x) [] apart)
 
 -- one row more
-pub put-next : (j : ℕ) (word : List ℕ) (old now new : List (List ℕ)) (marks_old marks_now marks_new : List (List Bool)) (i : ℕ)
-    → i < 208 → j < 182 → length (marks_line marks_now i) ≡ 182
-    → new ≡ set now i (set (line now i) j (slice_index word i)) → marks_new ≡ set marks_now i (set (marks_line marks_now i) j false)
-    → IsPutBefore j word old now marks_old marks_now i → IsPutBefore j word old new marks_old marks_new (i + 1)
-put-next j word old now new marks_old marks_now marks_new i below inside marks_width new_is marks_is part =
+pub put-next : (j : ℕ) (word : List ℕ) (old now new : List (List ℕ)) (i : ℕ) → i < 208 → j < 182 → new ≡ set now i (set (line now i) j (slice_index word i))
+    → IsPutBefore j word old now i → IsPutBefore j word old new (i + 1)
+put-next j word old now new i below inside new_is part =
     let within : i < length now = omega (arith, part.height) in
-    let marks_within : i < length marks_now = omega (arith, part.marks_height) in
     let row_width : length (line now i) ≡ 182 = part.wide i below in
     record {
       height = ap length new_is ∙ length-set now i (set (line now i) j (slice_index word i)) ∙ part.height;
-      marks_height = ap length marks_is ∙ length-set marks_now i (set (marks_line marks_now i) j false) ∙ part.marks_height;
       put = λ k k_below. elim (cases_eq k i) [
         | inl same ↦
             ap (λ n. place new n j) same ∙ ap (λ l. place l i j) new_is ∙ set-same now i j (slice_index word i) 0 within (omega (arith, row_width))
@@ -64,23 +55,10 @@ put-next j word old now new marks_old marks_now marks_new i below inside marks_w
         | inr apart ↦
             ap (λ l. length (line l k)) new_is ∙ ap length (get_or-set_other now i k (set (line now i) j (slice_index word i)) [] apart) ∙ part.wide k k_below
       ];
-      taken = λ k k_below. elim (cases_eq k i) [
-        | inl same ↦
-            ap (λ n. mark_in marks_new n j) same ∙ ap (λ l. mark_in l i j) marks_is ∙ set-same marks_now i j false false marks_within (omega (arith, marks_width))
-        | inr apart ↦ ap (λ l. mark_in l k j) marks_is ∙ set-elsewhere marks_now i j k j false false apart ∙ part.taken k (omega arith)
-      ];
       others = λ k p k_below p_below apart.
           ap (λ l. place l k p) new_is ∙ set-other now i j k p (slice_index word i) 0 within apart ∙ part.others k p k_below p_below apart;
-      marks_others = λ k p k_below p_below apart.
-          ap (λ l. mark_in l k p) marks_is ∙ set-other marks_now i j k p false false marks_within apart ∙ part.marks_others k p k_below p_below apart;
     }
 
 -- with all 208 rows passed, column j is put
-pub column-put : (j : ℕ) (word : List ℕ) (old now : List (List ℕ)) (marks_old marks_now : List (List Bool)) → IsPutBefore j word old now marks_old marks_now 208
-    → IsColumnPut j word old now
-column-put j word old now marks_old marks_now part = record { here = λ i below. part.put i below; others = part.others }
-
--- and its marks are taken away
-pub marks-taken : (j : ℕ) (word : List ℕ) (old now : List (List ℕ)) (marks_old marks_now : List (List Bool)) → IsPutBefore j word old now marks_old marks_now 208
-    → AreMarksTaken j marks_old marks_now
-marks-taken j word old now marks_old marks_now part = record { here = λ i below. part.taken i below; others = part.marks_others }
+pub column-put : (j : ℕ) (word : List ℕ) (old now : List (List ℕ)) → IsPutBefore j word old now 208 → IsColumnPut j word old now
+column-put j word old now part = record { here = λ i below. part.put i below; others = part.others }

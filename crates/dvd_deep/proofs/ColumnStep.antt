@@ -1,10 +1,10 @@
 -- The column step, one column after the other.
-use Rattle.std.proofs.Common.{◌≡◌, ◌≢◌, ◌∙◌, ℕ, ◌+◌, ◌<◌, ◌≤◌, Bool, true, false, ◌&&◌, true≢false, cond, List, [], ◌∷◌, ◌++◌, length, map, get_or, slice_index, unwrap_or, inl, inr, refl, sym, ap, arith, Some, None, is_some}
+use Rattle.std.proofs.Common.{◌≡◌, ◌≢◌, ◌∙◌, ℕ, ◌+◌, ◌<◌, ◌≤◌, Bool, true, false, ◌&&◌, true≢false, cond, List, [], ◌∷◌, ◌++◌, length, map, get_or, set, slice_index, slice_index_or, unwrap_or, inl, inr, refl, sym, ap, arith, Some, None, is_some}
 use Rattle.std.specs.List.{list_all, range_with_len}
 use Rattle.std.specs.Option.{option_or}
 use Rattle.std.specs.declared.option.Option.{Option}
 use Rattle.std.proofs.lemmas.Bool.{cases_eq}
-use Rattle.std.proofs.lemmas.List.{get_or-map, length-map, ext_get_or, map-id}
+use Rattle.std.proofs.lemmas.List.{get_or-map, get_or-set_other, get_or-set_same, length-map, ext_get_or, map-id}
 use Rattle.std.proofs.lemmas.List.Folds.{list_all-append}
 use Rattle.std.proofs.lemmas.List.FromFn.{fill_by_all, length-map-range_with_len, get_or-map-range_with_len, map-range_with_len_more}
 use Rattle.std.proofs.lemmas.Grind.{same_number_lists}
@@ -26,12 +26,10 @@ abbrev pub mark_then : List Bool → State → ℕ → ℕ → Bool
 mark_then failed state i j = cond (is_some (column_near failed state j)) false (mark_in state.marks i j)
 
 -- the columns before column j have had their step, and the others are as they were
-pub record AreStepped (failed : List Bool) (state : State) (rows : List (List ℕ)) (marks : List (List Bool)) (j : ℕ) : Type 0 where
+pub record AreStepped (failed : List Bool) (state : State) (rows : List (List ℕ)) (j : ℕ) : Type 0 where
   pub wide : AreWide rows
-  pub rows_done : (i k : ℕ) → i < 208 → k < j → place rows i k ≡ slice_index (column_then failed state k) i
-  pub marks_done : (i k : ℕ) → i < 208 → k < j → mark_in marks i k ≡ mark_then failed state i k
-  pub rows_left : (i k : ℕ) → i < 208 → j ≤ k → k < 182 → place rows i k ≡ place state.rows i k
-  pub marks_left : (i k : ℕ) → i < 208 → j ≤ k → k < 182 → mark_in marks i k ≡ mark_in state.marks i k
+  pub done : (i k : ℕ) → i < 208 → k < j → place rows i k ≡ slice_index (column_then failed state k) i
+  pub left : (i k : ℕ) → i < 208 → j ≤ k → k < 182 → place rows i k ≡ place state.rows i k
 
 -- columns of the same bytes are the same
 pub same-column : (a b : List (List ℕ)) (j : ℕ) → length a ≡ 208 → length b ≡ 208 → ((i : ℕ) → i < 208 → place a i j ≡ place b i j) → column a j ≡ column b j
@@ -47,20 +45,6 @@ pub marks-read : (marks : List (List Bool)) (j : ℕ) (own : List Bool) → leng
 unfolding column_marks
 marks-read marks j own size read = fill_by_all (λ i. mark_in marks i j) own 208 false size read
 
--- columns have the same marks where each row has the same mark in both
-pub same-column_marks : (a b : List (List Bool)) (j : ℕ) → ((i : ℕ) → i < 208 → mark_in a i j ≡ mark_in b i j) → column_marks a j ≡ column_marks b j
-unfolding column_marks
-same-column_marks a b j same =
-    fill_by_all (λ i. mark_in b i j) (map (λ i. mark_in a i j) (range_with_len 0 208)) 208 false (length-map-range_with_len (λ i. mark_in a i j) 0 208)
-    (λ i below. get_or-map-range_with_len (λ k. mark_in a k j) 0 208 i i false below (omega arith) ∙ same i below)
-
--- columns of the same bytes and marks have the same answers
-pub same-column_near : (failed : List Bool) (a b : State) (j : ℕ) → column a.rows j ≡ column b.rows j → column_marks a.marks j ≡ column_marks b.marks j
-    → column_near failed a j ≡ column_near failed b j
-same-column_near failed a b j same same_marks =
-    ap (λ (word : List ℕ). option_or (near_of 208 16 word failed) (near_of 208 16 word (column_marks a.marks j))) same
-    ∙ ap (λ (marks : List Bool). option_or (near_of 208 16 (column b.rows j) failed) (near_of 208 16 (column b.rows j) marks)) same_marks
-
 -- a test of one number more
 pub list_all-next : (test : ℕ → Bool) (n : ℕ) → list_all test (range_with_len 0 (n + 1)) ≡ (list_all test (range_with_len 0 n) && test n)
 list_all-next test n =
@@ -73,65 +57,59 @@ list_all-next test n =
       single false = refl
 
 -- the column that comes next is as it was
-pub next-near : (failed : List Bool) (state : State) (rows : List (List ℕ)) (marks : List (List Bool)) (j : ℕ) → length state.rows ≡ 208 → length rows ≡ 208 → j < 182
-    → AreStepped failed state rows marks j → (column rows j ≡ column state.rows j) × (column_near failed (state_in rows marks) j ≡ column_near failed state j)
-next-near failed state rows marks j height rows_height below part =
-    let same : column rows j ≡ column state.rows j = same-column rows state.rows j rows_height height (λ i i_below. part.rows_left i j i_below (omega arith) below) in
-    let same_marks : column_marks marks j ≡ column_marks state.marks j = same-column_marks marks state.marks j (λ i i_below. part.marks_left i j i_below (omega arith) below) in
-    (same, same-column_near failed (state_in rows marks) state j same same_marks)
-
--- the marks of a column are taken where it is answered, and stay where it isn't
-mark-here : (found : Option (List ℕ)) (answered : Bool) (marks marks_new : List (List Bool)) (i j : ℕ) → i < 208 → answered ≡ is_some found
-    → (answered ≡ true → AreMarksTaken j marks marks_new) → (answered ≡ false → marks_new ≡ marks)
-    → mark_in marks_new i j ≡ cond (is_some found) false (mark_in marks i j)
-mark-here None answered marks marks_new i j below is taken same = ap (λ l. mark_in l i j) (same is)
-mark-here (Some word) answered marks marks_new i j below is taken same = (taken is).here i below
-
--- the marks of another column stay, whether this one is answered or not
-mark-there : (answered : Bool) (marks marks_new : List (List Bool)) (i j k : ℕ) → i < 208 → k < 182 → k ≢ j
-    → (answered ≡ true → AreMarksTaken j marks marks_new) → (answered ≡ false → marks_new ≡ marks) → mark_in marks_new i k ≡ mark_in marks i k
-mark-there true marks marks_new i j k below inside other taken same = (taken refl).others i k below inside other
-mark-there false marks marks_new i j k below inside other taken same = ap (λ l. mark_in l i k) (same refl)
+pub next-near : (failed : List Bool) (state : State) (rows : List (List ℕ)) (j : ℕ) → length state.rows ≡ 208 → length rows ≡ 208 → j < 182
+    → AreStepped failed state rows j → (column rows j ≡ column state.rows j) × (column_near failed (state_in rows state.marks) j ≡ column_near failed state j)
+next-near failed state rows j height rows_height below part =
+    let same : column rows j ≡ column state.rows j = same-column rows state.rows j rows_height height (λ i i_below. part.left i j i_below (omega arith) below) in
+    let own : List Bool = column_marks state.marks j in
+    (same, ap (λ (word : List ℕ). option_or (near_of 208 16 word failed) (near_of 208 16 word own)) same)
 
 -- one column more
-pub columns-next : (failed : List Bool) (state : State) (rows rows_new : List (List ℕ)) (marks marks_new : List (List Bool)) (j : ℕ) (answered : Bool)
-    → length state.rows ≡ 208 → length rows ≡ 208 → j < 182 → answered ≡ is_some (column_near failed (state_in rows marks) j)
-    → IsColumnPut j (column_then failed (state_in rows marks) j) rows rows_new
-    → (answered ≡ true → AreMarksTaken j marks marks_new) → (answered ≡ false → marks_new ≡ marks) → AreWide rows_new
-    → AreStepped failed state rows marks j → AreStepped failed state rows_new marks_new (j + 1)
-columns-next failed state rows rows_new marks marks_new j answered height rows_height below is put taken same wide part =
-    let next = next-near failed state rows marks j height rows_height below part in
-    let then : column_then failed (state_in rows marks) j ≡ column_then failed state j =
+pub columns-next : (failed : List Bool) (state : State) (rows rows_new : List (List ℕ)) (j : ℕ)
+    → length state.rows ≡ 208 → length rows ≡ 208 → j < 182 → IsColumnPut j (column_then failed (state_in rows state.marks) j) rows rows_new → AreWide rows_new
+    → AreStepped failed state rows j → AreStepped failed state rows_new (j + 1)
+columns-next failed state rows rows_new j height rows_height below put wide part =
+    let next = next-near failed state rows j height rows_height below part in
+    let then : column_then failed (state_in rows state.marks) j ≡ column_then failed state j =
     ap (λ (found : Option (List ℕ)). unwrap_or found (column rows j)) next.1 ∙ ap (unwrap_or (column_near failed state j)) next.0 in
     record {
       wide = wide;
-      rows_done = λ i k i_below k_below. elim (cases_eq k j) [
+      done = λ i k i_below k_below. elim (cases_eq k j) [
         | inl k_is ↦
             ap (place rows_new i) k_is ∙ put.here i i_below ∙ ap (λ (word : List ℕ). slice_index word i) then
             ∙ ap (λ n. slice_index (column_then failed state n) i) (sym k_is)
-        | inr other ↦ put.others i k i_below (omega arith) other ∙ part.rows_done i k i_below (omega arith)
+        | inr other ↦ put.others i k i_below (omega arith) other ∙ part.done i k i_below (omega arith)
       ];
-      marks_done = λ i k i_below k_below. elim (cases_eq k j) [
-        | inl k_is ↦
-            ap (mark_in marks_new i) k_is ∙ mark-here (column_near failed (state_in rows marks) j) answered marks marks_new i j i_below is taken same
-            ∙ ap (λ (found : Option (List ℕ)). cond (is_some found) false (mark_in marks i j)) next.1
-            ∙ ap (cond (is_some (column_near failed state j)) false) (part.marks_left i j i_below (omega arith) below)
-            ∙ ap (mark_then failed state i) (sym k_is)
-        | inr other ↦ mark-there answered marks marks_new i j k i_below (omega arith) other taken same ∙ part.marks_done i k i_below (omega arith)
-      ];
-      rows_left = λ i k i_below from k_below.
+      left = λ i k i_below from k_below.
           let other : k ≢ j = λ equal. omega (arith, equal) in
-          put.others i k i_below k_below other ∙ part.rows_left i k i_below (omega arith) k_below;
-      marks_left = λ i k i_below from k_below.
-          let other : k ≢ j = λ equal. omega (arith, equal) in
-          mark-there answered marks marks_new i j k i_below k_below other taken same ∙ part.marks_left i k i_below (omega arith) k_below;
+          put.others i k i_below k_below other ∙ part.left i k i_below (omega arith) k_below;
     }
+
+-- whether the columns before column j are answered is told
+abbrev pub AreTold : List Bool → State → List Bool → ℕ → Type 0
+AreTold failed state answered j = (k : ℕ) → k < j → slice_index_or answered k false ≡ is_some (column_near failed state k)
+
+pub told-next : (failed : List Bool) (state : State) (answered : List Bool) (j : ℕ) (found : Bool) → length answered ≡ 182 → j < 182
+    → found ≡ is_some (column_near failed state j) → AreTold failed state answered j → AreTold failed state (set answered j found) (j + 1)
+told-next failed state answered j found size below is told = λ k k_below. elim (cases_eq k j) [
+  | inl same ↦
+      ap (λ n. get_or (set answered j found) n false) same ∙ get_or-set_same answered j found false (omega (arith, size)) ∙ is
+      ∙ ap (λ n. is_some (column_near failed state n)) (sym same)
+  | inr apart ↦ get_or-set_other answered j k found false apart ∙ told k (omega arith)
+]
+
+-- the marks that are left are those of the columns without an answer
+pub marks-left : (failed : List Bool) (state : State) (answered : List Bool) (marks : List (List Bool)) → AreTold failed state answered 182
+    → AreMarksTaken answered state.marks marks → (i k : ℕ) → i < 208 → k < 182 → mark_in marks i k ≡ mark_then failed state i k
+marks-left failed state answered marks told taken i k below inside =
+    taken i k below inside ∙ ap (λ b. cond b false (mark_in state.marks i k)) (told k inside)
 
 -- all columns
 pub columns-all : (failed : List Bool) (state : State) (rows : List (List ℕ)) (marks : List (List Bool)) → length rows ≡ 208 → length marks ≡ 208
-    → ((i : ℕ) → i < 208 → length (marks_line marks i) ≡ 182) → AreStepped failed state rows marks 182 → state_in rows marks ≡ column_step failed state
+    → ((i : ℕ) → i < 208 → length (marks_line marks i) ≡ 182) → AreStepped failed state rows 182
+    → ((i k : ℕ) → i < 208 → k < 182 → mark_in marks i k ≡ mark_then failed state i k) → state_in rows marks ≡ column_step failed state
 unfolding column_step
-columns-all failed state rows marks height marks_height marks_wide part =
+columns-all failed state rows marks height marks_height marks_wide part left =
     ap (λ l. state_in l marks) rows_are ∙ ap (state_in (from_columns words)) marks_are where
       -- the new columns
       words : List (List ℕ)
@@ -145,7 +123,7 @@ columns-all failed state rows marks height marks_height marks_wide part =
           (λ k within.
           let inside : k < 182 = omega (arith, part.wide i below) in
           let words_within : k < length words = omega (arith, length-map-range_with_len (column_then failed state) 0 182) in
-          part.rows_done i k below inside
+          part.done i k below inside
           ∙ sym (get_or-map (λ word. slice_index word i) words k [] 0 words_within
           ∙ ap (λ (word : List ℕ). slice_index word i) (get_or-map-range_with_len (column_then failed state) 0 182 k k [] inside (omega arith))))
           ∙ sym (from_columns-line words i below)
@@ -160,7 +138,7 @@ columns-all failed state rows marks height marks_height marks_wide part =
       marks_are : marks ≡ map (λ i. map (mark_then failed state i) (range_with_len 0 182)) (range_with_len 0 208)
       marks_are =
           fill_by_all (λ i. map (mark_then failed state i) (range_with_len 0 182)) marks 208 [] marks_height
-          (λ i below. fill_by_all (mark_then failed state i) (marks_line marks i) 182 false (marks_wide i below) (λ k inside. part.marks_done i k below inside))
+          (λ i below. fill_by_all (mark_then failed state i) (marks_line marks i) 182 false (marks_wide i below) (λ k inside. left i k below inside))
 
 -- a column without an answer stays
 pub unanswered-put : (found : Option (List ℕ)) (rows : List (List ℕ)) (j : ℕ) → length rows ≡ 208 → is_some found ≡ false

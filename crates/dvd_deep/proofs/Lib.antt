@@ -2,6 +2,7 @@
 pub mod RowStep
 pub mod ColumnStep
 pub mod ColumnPut
+pub mod MarksTaken
 pub mod Searches
 pub mod Mains
 pub mod Products

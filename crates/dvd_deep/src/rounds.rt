@@ -1,14 +1,15 @@
 //! Rounds over the state of a search: a row step, a column step, and the test whether the round finishes.
-ghost use Rattle.std.specs.Prelude.{◌≡◌, ◌<◌, IfSome, IsTrue, Some, false, true, if◌then◌else◌, is_some, length, replicate, slice_set, unwrap_or};
+ghost use Rattle.std.specs.Prelude.{◌≡◌, ◌<◌, ℕ, IfSome, Some, false, if◌then◌else◌, is_some, length, replicate, slice_index_or, slice_set, unwrap_or};
 ghost use Rattle.std.specs.List.{list_all};
 ghost use Rattle.std.specs.Option.{option_or};
 ghost use Rattle.coding.specs.Nearest.{near_of, vanishes_at_all};
 ghost use Rattle.coding.specs.Product.{column, line};
+ghost use Rattle.dvd_capture.specs.Parts.{marks_of_row};
 ghost use Rattle.dvd_capture.specs.Rule.{HasBlock};
 ghost use Rattle.dvd_capture.specs.Works.{marks_of_work, rows_of, stage_of};
 ghost use Rattle.dvd_deep.specs.Inner.Buffers.{buffered_state, marks_of_rows};
-ghost use Rattle.dvd_deep.specs.Rounds.{after, are_answered, column_marks, column_near, column_step, failed_marks, finishes, first_round, round, row_near, row_step, state_in};
-ghost use Rattle.dvd_deep.specs.Inner.Steps.{AreMarksTaken, AreWide, IsColumnPut};
+ghost use Rattle.dvd_deep.specs.Rounds.{after, are_answered, column_marks, column_near, column_step, failed_marks, finishes, first_round, mark_in, round, row_near, row_step, state_in};
+ghost use Rattle.dvd_deep.specs.Inner.Steps.{AreMarksTaken, AreWide, IsColumnPut, TellsMarked, mark_left};
 
 use dvd_capture::{RowMarks, Work};
 use rs_code::{Code, Pi, Po};
@@ -80,7 +81,9 @@ fn answer_row(code: &Pi, rows: &mut Rows, marks: &mut Marks, i: usize) -> bool
     ensures height { length marks.new ≡ 208 }
 {
     let mut row_marks = [false; 182];
-    marks[i].unpack(&mut row_marks);
+    if !marks[i].is_clear() {
+        marks[i].unpack(&mut row_marks);
+    }
     let answered = answer_word(code, &mut rows[i], &row_marks);
     if answered {
         marks[i] = RowMarks::none();
@@ -108,44 +111,60 @@ fn answer_word<const N: usize, const R: usize>(
     }
 }
 
-// The column step. Answers whether all columns are answered.
+// The column step. Answers whether all columns are answered. What one column's answer takes away are its own marks, which no
+// other column asks for, so that all are taken at the end.
 fn answer_columns(rows: &mut Rows, marks: &mut Marks, failed: &[bool; 208]) -> bool
     requires wide { AreWide rows.old }
     ensures state { buffered_state rows.new marks.new ≡ column_step failed.now (buffered_state rows.old marks.old) }
     ensures answered { result ≡ are_answered failed.now (buffered_state rows.old marks.old) }
 {
     let code = Po::new();
+    let marked = marked_rows(marks);
+    let mut answered = [false; 182];
     let mut all = true;
     for j in 0..182usize {
-        all &= answer_column(&code, rows, marks, failed, j);
+        let is_answered = answer_column(&code, rows, marks, &marked, failed, j);
+        answered[j] = is_answered;
+        all &= is_answered;
     }
+    take_marks(marks, &answered);
     all
 }
 
-// Answers column `j`: it becomes the codeword that the first or the second try finds and loses its marks, if there is one.
-// Answers whether there is.
+// The rows that have a mark.
+fn marked_rows(marks: &Marks) -> [bool; 208]
+    ensures { TellsMarked (marks_of_rows marks.now) result }
+{
+    let mut marked = [false; 208];
+    for i in 0..208usize {
+        marked[i] = !marks[i].is_clear();
+    }
+    marked
+}
+
+// Answers column `j`: it becomes the codeword that the first or the second try finds, if there is one. Answers whether there
+// is.
 fn answer_column(
     code: &Po,
     rows: &mut Rows,
-    marks: &mut Marks,
+    marks: &Marks,
+    marked: &[bool; 208],
     failed: &[bool; 208],
     j: usize,
 ) -> bool
     requires place { j < 182 }
     requires wide { AreWide rows.old }
-    ensures answered { result ≡ is_some (column_near failed.now (buffered_state rows.old marks.old) j) }
-    ensures column { IsColumnPut j (unwrap_or (column_near failed.now (buffered_state rows.old marks.old) j) (column rows.old j)) rows.old rows.new }
-    ensures marks { IsTrue result → AreMarksTaken j (marks_of_rows marks.old) (marks_of_rows marks.new) }
-    ensures same { result ≡ false → marks_of_rows marks.new ≡ marks_of_rows marks.old }
+    requires marked { TellsMarked (marks_of_rows marks.now) marked.now }
+    ensures answered { result ≡ is_some (column_near failed.now (buffered_state rows.old marks.now) j) }
+    ensures column { IsColumnPut j (unwrap_or (column_near failed.now (buffered_state rows.old marks.now) j) (column rows.old j)) rows.old rows.new }
     ensures wide { AreWide rows.new }
-    ensures height { length marks.new ≡ 208 }
 {
     let mut word = [0; 208];
     read_column(rows, j, &mut word);
-    if !answer_column_word(code, &mut word, failed, marks, j) {
+    if !answer_column_word(code, &mut word, failed, marks, marked, j) {
         return false;
     }
-    put_column(rows, marks, j, &word);
+    put_column(rows, j, &word);
     true
 }
 
@@ -155,18 +174,15 @@ fn answer_column_word(
     word: &mut [u8; 208],
     failed: &[bool; 208],
     marks: &Marks,
+    marked: &[bool; 208],
     j: usize,
 ) -> bool
-    requires { j < 182 }
+    requires place { j < 182 }
+    requires marked { TellsMarked (marks_of_rows marks.now) marked.now }
     ensures answered { result ≡ is_some (option_or (near_of 208 16 word.old failed.now) (near_of 208 16 word.old (column_marks (marks_of_rows marks.now) j))) }
     ensures word { word.new ≡ unwrap_or (option_or (near_of 208 16 word.old failed.now) (near_of 208 16 word.old (column_marks (marks_of_rows marks.now) j))) word.old }
 {
-    if answer_word(code, word, failed) {
-        return true;
-    }
-    let mut own = [false; 208];
-    read_marks(marks, j, &mut own);
-    answer_word(code, word, &own)
+    answer_word(code, word, failed) || answer_word(code, word, &own_marks(marks, marked, j))
 }
 
 // Writes the bytes of column `j`.
@@ -179,28 +195,63 @@ fn read_column(rows: &Rows, j: usize, word: &mut [u8; 208])
     }
 }
 
-// Writes the marks of column `j`.
-fn read_marks(marks: &Marks, j: usize, own: &mut [bool; 208])
-    requires { j < 182 }
-    ensures { own.new ≡ column_marks (marks_of_rows marks.now) j }
+// The marks of column `j`.
+fn own_marks(marks: &Marks, marked: &[bool; 208], j: usize) -> [bool; 208]
+    requires place { j < 182 }
+    requires marked { TellsMarked (marks_of_rows marks.now) marked.now }
+    ensures { result ≡ column_marks (marks_of_rows marks.now) j }
 {
+    let mut own = [false; 208];
     for i in 0..208usize {
-        own[i] = marks[i].get(j);
+        own[i] = own_mark(marks, marked, i, j);
     }
+    own
 }
 
-// Sets column `j` to a word, and takes its marks away.
-fn put_column(rows: &mut Rows, marks: &mut Marks, j: usize, word: &[u8; 208])
+// Its mark in row `i`.
+#[tactic(auto, using(crate::proofs::MarksTaken::unmarked))]
+fn own_mark(marks: &Marks, marked: &[bool; 208], i: usize, j: usize) -> bool
+    requires row { i < 208 }
+    requires place { j < 182 }
+    requires marked { TellsMarked (marks_of_rows marks.now) marked.now }
+    ensures { result ≡ mark_in (marks_of_rows marks.now) i j }
+{
+    marked[i] && marks[i].get(j)
+}
+
+// Sets column `j` to a word.
+fn put_column(rows: &mut Rows, j: usize, word: &[u8; 208])
     requires place { j < 182 }
     requires wide { AreWide rows.old }
     ensures column { IsColumnPut j word.now rows.old rows.new }
-    ensures marks { AreMarksTaken j (marks_of_rows marks.old) (marks_of_rows marks.new) }
     ensures wide { AreWide rows.new }
-    ensures height { length marks.new ≡ 208 }
 {
     for i in 0..208usize {
         rows[i][j] = word[i];
-        marks[i].set(j, false);
+    }
+}
+
+// Takes away the marks of the columns that are answered.
+fn take_marks(marks: &mut Marks, answered: &[bool; 182])
+    ensures taken { AreMarksTaken answered.now (marks_of_rows marks.old) (marks_of_rows marks.new) }
+    ensures height { length marks.new ≡ 208 }
+{
+    for i in 0..208usize {
+        take_row_marks(&mut marks[i], answered);
+    }
+}
+
+// Takes them away in one row.
+fn take_row_marks(row: &mut RowMarks, answered: &[bool; 182])
+    ensures { (j : ℕ) → j < 182 → slice_index_or (marks_of_row row.new) j false ≡ mark_left answered.now (marks_of_row row.old) j }
+{
+    if row.is_clear() {
+        return;
+    }
+    for j in 0..182usize {
+        if answered[j] {
+            row.set(j, false);
+        }
     }
 }
 

@@ -1,13 +1,14 @@
 -- The generator polynomial: a factor (x + root) more keeps the roots and adds its own.
-use Rattle.std.proofs.Common.{◌≡◌, ℕ, zero, suc, ◌+◌, ◌<◌, List, [], ◌∷◌, ◌++◌, length, get_or, refl, sym, ap, ◌∙◌, arith, inl, inr, length-append, add-one, drop}
+use Rattle.std.proofs.Common.{◌≡◌, ℕ, zero, suc, ◌+◌, ◌<◌, List, [], ◌∷◌, ◌++◌, length, get_or, refl, sym, ap, subst, ◌∙◌, arith, inl, inr, length-append, add-one, drop}
 use Rattle.std.specs.List.{refill}
 use Rattle.std.proofs.lemmas.List.{take_at}
 use Rattle.std.proofs.lemmas.Bool.{cases_eq}
 use Rattle.std.proofs.lemmas.Grind.{same_number_lists}
-use Rattle.coding.specs.Field.{alpha, plus, product, power}
+use Rattle.coding.specs.Field.{alpha, plus, product, partial_product, power, shift, shifted}
 use Rattle.coding.specs.Words.{value}
 use Rattle.gf_field.proofs.FieldLaws.{plus-self, product-zero, zero-product, one-product, power-suc, power-byte}
 use Rattle.rs_code.specs.Polynomials.{HasRoots}
+use Rattle.rs_code.specs.declared.division.TheConstants.{PI_GENERATOR, PO_GENERATOR}
 use Rattle.rs_code.specs.Inner.Polynomials.{sum_of, scaled, times_root}
 use Rattle.rs_code.proofs.Ring.{ring}
 use Rattle.rs_code.proofs.Values.{value-cons, value-push, value-sum_of, value-scaled, length-sum_of, length-scaled, get_or-sum_of, get_or-scaled}
@@ -76,6 +77,21 @@ pub HasRoots-generator_of : (r : ℕ) → HasRoots r (generator_of r)
 unfolding generator_of
 HasRoots-generator_of zero = HasRoots-start []
 HasRoots-generator_of (suc r) = HasRoots-next r (generator_of r) (HasRoots-generator_of r)
+
+-- the generators at hand are those of the codes of an ECC block
+PI-same : generator_of 10 ≡ PI_GENERATOR
+unfolding generator_of times_root sum_of scaled product partial_product shifted power shift
+PI-same = refl
+
+PO-same : generator_of 16 ≡ PO_GENERATOR
+unfolding generator_of times_root sum_of scaled product partial_product shifted power shift
+PO-same = refl
+
+pub PI-generator : HasRoots 10 PI_GENERATOR
+PI-generator = subst (HasRoots 10) PI-same (HasRoots-generator_of 10)
+
+pub PO-generator : HasRoots 16 PO_GENERATOR
+PO-generator = subst (HasRoots 16) PO-same (HasRoots-generator_of 16)
 
 -- a zero behind a list changes nothing at any place, since 0 is read there anyway
 pub get_or-padded : (xs : List ℕ) (k : ℕ) → get_or (xs ++ 0 ∷ []) k 0 ≡ get_or xs k 0

@@ -9,8 +9,28 @@ ghost use Rattle.rs_code.specs.Inner.Polynomials.{sum_of, times_root, IsRemainde
 use arrayvec::ArrayVec;
 use gf_field::mul;
 
+// The generators of the codes of an ECC block, which are at hand since callers from outside make a code for each word.
+static PI_GENERATOR: [u8; 10] = [0xD8, 0xC2, 0x9F, 0x6F, 0xC7, 0x5E, 0x5F, 0x71, 0x9D, 0xC1];
+
+static PO_GENERATOR: [u8; 16] = [
+    0x3B, 0x0D, 0x68, 0xBD, 0x44, 0xD1, 0x1E, 0x08, 0xA3, 0x41, 0x29, 0xE5, 0x62, 0x32, 0x24, 0x3B,
+];
+
 /// The product of (x + alpha^k) for k from 0 to `parity` - 1, without its leading 1.
 pub fn generator(parity: u8) -> ArrayVec<u8, 32>
+    requires { parity ≤ 32 }
+    ensures degree { array_vec_len result ≡ parity }
+    ensures roots { HasRoots parity result.items }
+{
+    match parity {
+        10 => ArrayVec::try_from(&PI_GENERATOR[..]).unwrap(),
+        16 => ArrayVec::try_from(&PO_GENERATOR[..]).unwrap(),
+        _ => product_of_factors(parity),
+    }
+}
+
+// The same product, factor by factor.
+fn product_of_factors(parity: u8) -> ArrayVec<u8, 32>
     requires { parity ≤ 32 }
     ensures degree { array_vec_len result ≡ parity }
     ensures roots { HasRoots parity result.items }

@@ -59,6 +59,14 @@ length-picked (mark ∷ marks) [] size = absurd (omega arith)
 length-picked (true ∷ marks) (x ∷ xs) size = ap suc (length-picked marks xs (omega arith)) ∙ omega arith
 length-picked (false ∷ marks) (x ∷ xs) size = length-picked marks xs (omega arith) ∙ omega arith
 
+-- where no place is marked nothing is picked
+pub picked-none : (marks : List Bool) (xs : List ℕ) → length xs ≡ length marks → marked marks ≡ 0 → picked marks xs ≡ []
+picked-none marks xs size none = no_item (picked marks xs) (length-picked marks xs size ∙ none)
+  where
+    no_item : (ys : List ℕ) → length ys ≡ 0 → ys ≡ []
+    no_item [] is = refl
+    no_item (y ∷ ys) is = absurd (omega (arith, is))
+
 -- where there are only places without a mark nothing is picked
 pub picked-replicate : (n : ℕ) (xs : List ℕ) → picked (replicate n false) xs ≡ []
 unfolding picked

@@ -108,16 +108,34 @@ fn marked_points(marks: &[bool], most: usize) -> Option<ArrayVec<u8, 32>>
     requires short { length marks.now ≤ 255 }
     ensures { MatchOption result (most < marked marks.now) (λ points. (marked marks.now ≤ most) × (points.items ≡ picked marks.now (points_of (length marks.now)))) }
 {
-    let mut places = [0; 256];
-    let count = gather_places(marks, &mut places);
+    let count = usize::from(count_marks(marks));
     if count > most {
         return None;
     }
+    // Most words have no mark.
     let mut points = ArrayVec::new();
+    if count == 0 {
+        return Some(points);
+    }
+    let mut places = [0; 256];
+    gather_places(marks, &mut places);
     for place in &places[..count] {
         points.push(point_of(marks.len(), usize::from(*place)));
     }
     Some(points)
+}
+
+// How many places are marked.
+fn count_marks(marks: &[bool]) -> u16
+    requires short { length marks.now ≤ 255 }
+    ensures { result ≡ marked marks.now }
+{
+    let mut count = 0;
+    for place in 0..marks.len() {
+        // Without a branch, so that many places are taken at once.
+        count += u16::from(marks[place]);
+    }
+    count
 }
 
 // The power of alpha that a place of a word of this size stands at.
@@ -129,11 +147,10 @@ fn point_of(size: usize, place: usize) -> u8
     alpha_pow((size - 1 - place) as u32)
 }
 
-// Writes the marked places in order, and tells how many they are.
-fn gather_places(marks: &[bool], places: &mut [u8; 256]) -> usize
+// Writes the marked places in order.
+fn gather_places(marks: &[bool], places: &mut [u8; 256])
     requires short { length marks.now ≤ 255 }
-    ensures count { result ≡ marked marks.now }
-    ensures gathered { ArePlaces marks.now result places.new }
+    ensures { ArePlaces marks.now (marked marks.now) places.new }
 {
     let mut count = 0;
     for place in 0..marks.len() {
@@ -141,7 +158,6 @@ fn gather_places(marks: &[bool], places: &mut [u8; 256]) -> usize
         places[count] = place as u8;
         count += usize::from(marks[place]);
     }
-    count
 }
 
 /// Adds each byte to the place that has its point. Where the points are those of marked places, these are patched in order.

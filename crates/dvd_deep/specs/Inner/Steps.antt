@@ -1,6 +1,7 @@
 -- Ours: what the functions of one row and one column change.
-use Rattle.std.specs.Prelude.{◌≡◌, ◌≢◌, ℕ, ◌<◌, Bool, false, List, length, slice_index}
+use Rattle.std.specs.Prelude.{◌≡◌, ◌≢◌, ℕ, ◌<◌, Bool, false, List, if◌then◌else◌, length, replicate, slice_index, slice_index_or}
 use Rattle.coding.specs.Product.{line, place}
+use Rattle.dvd_capture.specs.Answers.{marks_line}
 use Rattle.dvd_deep.specs.Rounds.{mark_in}
 
 -- each row has 182 bytes
@@ -12,7 +13,14 @@ pub record IsColumnPut (j : ℕ) (word : List ℕ) (old new : List (List ℕ)) :
   pub here : (i : ℕ) → i < 208 → place new i j ≡ slice_index word i
   pub others : (i k : ℕ) → i < 208 → k < 182 → k ≢ j → place new i k ≡ place old i k
 
--- column j has no marks, and each other mark stays
-pub record AreMarksTaken (j : ℕ) (old new : List (List Bool)) : Type 0 where
-  pub here : (i : ℕ) → i < 208 → mark_in new i j ≡ false
-  pub others : (i k : ℕ) → i < 208 → k < 182 → k ≢ j → mark_in new i k ≡ mark_in old i k
+-- a row that isn't told as marked has no marks
+abbrev pub TellsMarked : List (List Bool) → List Bool → Type 0
+TellsMarked marks marked = (i : ℕ) → i < 208 → slice_index_or marked i false ≡ false → marks_line marks i ≡ replicate 182 false
+
+-- the mark at place j of a row after those of the answered columns were taken
+abbrev pub mark_left : List Bool → List Bool → ℕ → Bool
+mark_left answered row j = if slice_index_or answered j false then false else slice_index_or row j false
+
+-- the answered columns have no marks, and each other mark stays
+abbrev pub AreMarksTaken : List Bool → List (List Bool) → List (List Bool) → Type 0
+AreMarksTaken answered old new = (i j : ℕ) → i < 208 → j < 182 → mark_in new i j ≡ mark_left answered (marks_line old i) j

@@ -1,29 +1,16 @@
 -- The proof of `generator` in src/division.rt.
-use Rattle.std.proofs.Common.{◌≡◌, length, sym, ◌∙◌, ap, arith, rules}
-use Rattle.rs_code.proofs.Generator.{HasRoots-start, HasRoots-more, refill-same}
-use Rattle.rs_code.proofs.Values.{power-more}
-use Rattle.rs_code.specs.Inner.Polynomials.{times_root}
-use Rattle.coding.specs.Field.{alpha}
-use Rattle.gf_field.proofs.FieldLaws.{power-zero}
+use Rattle.std.proofs.Common.{rules, ◌≡◌, subst, sym}
+use Rattle.rs_code.specs.Polynomials.{HasRoots}
+use Rattle.rs_code.specs.declared.division.TheConstants.{PI_GENERATOR, PO_GENERATOR}
+use Rattle.rs_code.proofs.Generator.{PI-generator, PO-generator}
 use Rattle.rs_code.proofs.division.generator.Goals as goal
 
-pub loop-k-init : goal.loop-k-init
-loop-k-init c = record {
-  root_is = sym (power-zero alpha);
-  degree = search rules;
-  roots = HasRoots-start c.new-coefficients.result.items;
-}
+pub returns-in-10-clause-roots : goal.returns-in-10-clause-roots
+returns-in-10-clause-roots c =
+    let items : c.unwrap.result.items ≡ PI_GENERATOR = search rules in
+    subst (λ n. HasRoots n c.unwrap.result.items) (sym c.in-10.is) (subst (HasRoots 10) (sym items) PI-generator)
 
-pub loop-k-preserved : goal.loop-k-preserved
-loop-k-preserved c =
-    let power_is = power-more alpha c.loop-k._k in
-    let padded = c.push.new.self.items in
-    let after = c.multiply_by_root.new.coefficients in
-    let multiplied : after ≡ times_root c.loop-k.coefficients.items c.loop-k.root = c.multiply_by_root.ensures c.loop-k.coefficients.items (c.deref_mut.ensures.value ∙ c.push.ensures.items) in
-    let long : length after ≡ length padded = omega (arith, ap length c.deref_mut.ensures.value) in
-    let kept = refill-same (length padded) padded after long in
-    record {
-      root_is = cc;
-      degree = omega (arith, ap length kept);
-      roots = HasRoots-more c.loop-k._k c.loop-k.root c.loop-k.coefficients.items _ c.loop-k.invariant.root_is (kept ∙ multiplied) c.loop-k.invariant.roots;
-    }
+pub returns-in-16-clause-roots : goal.returns-in-16-clause-roots
+returns-in-16-clause-roots c =
+    let items : c.unwrap-in-16.result.items ≡ PO_GENERATOR = search rules in
+    subst (λ n. HasRoots n c.unwrap-in-16.result.items) (sym c.in-16.is) (subst (HasRoots 16) (sym items) PO-generator)

@@ -1,11 +1,12 @@
 -- The proof of `marked_points` in src/places.rt.
-use Rattle.std.proofs.Common.{◌≡◌, ◌<◌, ◌+◌, ◌-◌, ◌++◌, ◌∷◌, [], length, take, arith, ap, sym, ◌∙◌}
+use Rattle.std.proofs.Common.{rules, ◌≡◌, ◌<◌, ◌+◌, ◌-◌, ◌++◌, ◌∷◌, [], length, take, arith, ap, sym, subst, ◌∙◌}
 use Rattle.std.proofs.lemmas.List.{get_or-take, length-take, take_all}
 use Rattle.coding.specs.Field.{alpha, power}
+use Rattle.coding.specs.Filling.{marked}
 use Rattle.rs_code.specs.Inner.PowerSums.{points_of}
 use Rattle.rs_code.proofs.PowerSums.{length-points_of}
-use Rattle.rs_decode.specs.Inner.Places.{picked}
-use Rattle.rs_decode.proofs.Marks.{length-picked, point-next}
+use Rattle.rs_decode.specs.Inner.Places.{ArePlaces, picked}
+use Rattle.rs_decode.proofs.Marks.{length-picked, picked-none, point-next}
 use Rattle.rs_decode.proofs.places.marked_points.Goals as goal
 use Rattle.rs_decode.proofs.places.marked_points.Goals.{After-from}
 
@@ -14,14 +15,24 @@ next : (c : After-from) → (c.from.result < length c.args.marks.now)
     × (take (c.loop-place.place-index + 1) (picked c.args.marks.now (points_of (length c.args.marks.now)))
     ≡ take c.loop-place.place-index (picked c.args.marks.now (points_of (length c.args.marks.now))) ++ power alpha (length c.args.marks.now - 1 - c.from.result) ∷ [])
 next c =
-    let gathered = c.gather_places-count in
+    let marks = c.args.marks.now in
+    let places = c.gather_places.new.places in
+    let count = c.from-count.result in
+    let counted : count ≡ marked marks = c.from-count.ensures ∙ c.count_marks.ensures in
     let i = c.loop-place.place-index in
-    let inside : i < gathered.result = omega (arith, c.loop-place-test.true, length-take gathered.result gathered.new.places) in
-    point-next c.args.marks.now gathered.new.places i gathered.result c.from.result inside gathered.ensures.count gathered.ensures.gathered
-    (c.from.ensures ∙ get_or-take gathered.result gathered.new.places i 0 inside)
+    let inside : i < count = omega (arith, c.loop-place-test.true, length-take count places) in
+    point-next marks places i count c.from.result inside counted (subst (λ n. ArePlaces marks n places) (sym counted) c.gather_places.ensures)
+    (c.from.ensures ∙ get_or-take count places i 0 inside)
 
 pub point_of-requires-clause-inside : goal.point_of-requires-clause-inside
 point_of-requires-clause-inside c = (next c).0
+
+pub returns-then-count-eq0 : goal.returns-then-count-eq0
+returns-then-count-eq0 c =
+    let marks = c.args.marks.now in
+    let none : marked marks ≡ 0 = omega (arith, c.from-count.ensures, c.count_marks.ensures, c.if-count-eq0.true) in
+    let empty : c.new-points.result.items ≡ [] = search rules in
+    (omega (arith, none), empty ∙ sym (picked-none marks (points_of (length marks)) (length-points_of (length marks)) none))
 
 pub loop-place-preserved : goal.loop-place-preserved
 loop-place-preserved c =
@@ -32,9 +43,10 @@ loop-place-preserved c =
 pub returns : goal.returns
 returns c =
     let marks = c.args.marks.now in
-    let gathered = c.gather_places-count in
-    let long = length-take gathered.result gathered.new.places in (
-      omega (arith, gathered.ensures.count),
+    let count = c.from-count.result in
+    let counted = c.from-count.ensures ∙ c.count_marks.ensures in
+    let long = length-take count c.gather_places.new.places in (
+      omega (arith, counted, c.if-count-most.false),
       c.loop-place.invariant ∙ take_all c.loop-place.place-index (picked marks (points_of (length marks)))
-          (omega (arith, long, c.loop-place-test.false, gathered.ensures.count, c.if-count-most.false, c.requires.room, length-picked marks (points_of (length marks)) (length-points_of (length marks)))),
+          (omega (arith, long, c.loop-place-test.false, counted, c.if-count-most.false, c.requires.room, length-picked marks (points_of (length marks)) (length-points_of (length marks)))),
     )

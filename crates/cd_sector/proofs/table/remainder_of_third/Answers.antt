@@ -1,10 +1,10 @@
--- The proof of `remainder_before_word` in src/table.rt.
+-- The proof of `remainder_of_third` in src/table.rt.
 use Rattle.std.proofs.Common.{refl, map, ap₂}
 use Rattle.std.specs.Prelude.{bit_xor}
 use Rattle.std.specs.List.{range_with_len}
 use Rattle.std.proofs.lemmas.Slice.Eq.{bytes_eq-Decides}
 use Rattle.cd_sector.specs.Inner.Register.{after_steps, stepped}
-use Rattle.cd_sector.proofs.table.remainder_before_word.Goals as goal
+use Rattle.cd_sector.proofs.table.remainder_of_third.Goals as goal
 
 -- computed over all 256 entries of each table
 pub returns : goal.returns

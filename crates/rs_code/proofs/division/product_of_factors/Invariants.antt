@@ -1,9 +1,9 @@
--- What each turn of the loop in `generator` keeps.
+-- What each turn of the loop in `product_of_factors` keeps.
 use Rattle.std.proofs.Common.{◌≡◌}
 use Rattle.arrayvec.specs.ArrayVec.{array_vec_len}
 use Rattle.coding.specs.Field.{alpha, power}
 use Rattle.rs_code.specs.Polynomials.{HasRoots}
-use Rattle.rs_code.proofs.division.generator.Given as goal
+use Rattle.rs_code.proofs.division.product_of_factors.Given as goal
 
 -- as many roots as turns, and the next root at hand
 abbrev pub invariant-loop-k : goal.invariant-loop-k

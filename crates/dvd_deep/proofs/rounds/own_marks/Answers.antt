@@ -1,8 +1,8 @@
--- The proof of `read_marks` in src/rounds.rt.
+-- The proof of `own_marks` in src/rounds.rt.
 use Rattle.std.proofs.Common.{arith}
 use Rattle.dvd_deep.specs.Inner.Buffers.{marks_of_rows}
 use Rattle.dvd_deep.proofs.ColumnStep.{marks-read}
-use Rattle.dvd_deep.proofs.rounds.read_marks.Goals as goal
+use Rattle.dvd_deep.proofs.rounds.own_marks.Goals as goal
 
 pub returns : goal.returns
 returns c =

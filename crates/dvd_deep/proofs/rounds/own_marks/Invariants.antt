@@ -1,8 +1,8 @@
--- What each turn of the loop in `read_marks` keeps.
+-- What each turn of the loop in `own_marks` keeps.
 use Rattle.std.proofs.Common.{◌≡◌, ℕ, ◌<◌, false, length, get_or}
 use Rattle.dvd_deep.specs.Inner.Buffers.{marks_of_rows}
 use Rattle.dvd_deep.specs.Rounds.{mark_in}
-use Rattle.dvd_deep.proofs.rounds.read_marks.Given as goal
+use Rattle.dvd_deep.proofs.rounds.own_marks.Given as goal
 
 abbrev pub invariant-loop-i : goal.invariant-loop-i
 invariant-loop-i l = record {
