@@ -4,7 +4,6 @@
 mod closing; // the line that closes a report
 mod draw; // a run of `draw`
 mod interleave; // a run of `interleave`
-mod line; // a line of text
 mod lost; // a run of `lost`
 mod mark; // a run of `mark`
 mod status; // how a run ends

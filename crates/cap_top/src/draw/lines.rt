@@ -2,8 +2,8 @@
 ghost use Rattle.std.specs.Prelude.{◌≡◌, ◌≤◌, length};
 ghost use Rattle.cap_top.specs.Draw.{draw_line, rule_text};
 
-use crate::line::Line;
 use cap_draw::{Cause, DrawEnd};
+use dvd_report::Line;
 
 /// The line that closes the report.
 pub fn draw_line(end: DrawEnd) -> Line

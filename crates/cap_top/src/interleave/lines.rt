@@ -2,8 +2,8 @@
 ghost use Rattle.std.specs.Prelude.{◌≡◌};
 ghost use Rattle.cap_top.specs.Interleave.{closing_line};
 
-use crate::line::Line;
 use cap_interleave::InterleaveEnd;
+use dvd_report::Line;
 
 /// The closing line. The files are counted from 1 there, as they are in the words.
 pub fn close_line(end: InterleaveEnd) -> Line

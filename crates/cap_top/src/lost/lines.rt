@@ -2,9 +2,9 @@
 ghost use Rattle.std.specs.Prelude.{◌≡◌, ◌+◌, ◌<◌, ◌≤◌, ◌++◌, decimal, length};
 ghost use Rattle.cap_top.specs.Lost.Lines.{cause_text, fault_text, refusal_line, setting_line};
 
-use crate::line::Line;
 use cap_lost::{Cause, ReportFault};
 use dvd_layout::LayoutFault;
+use dvd_report::Line;
 
 /// The line of a run whose layout breaks a rule, in the words of `dvdecc`.
 pub fn setting_line(fault: LayoutFault) -> Line

@@ -3,9 +3,9 @@ ghost use Rattle.std.specs.Prelude.{◌≡◌, ◌≤◌, length};
 ghost use Rattle.cap_top.specs.Mark.Lines.{cause_text, closing_line, refusal_line};
 
 use super::opening::Refusal;
-use crate::line::Line;
 use cap_map::Cause;
 use dvd_loop::LoopEnd;
+use dvd_report::Line;
 
 /// The line that closes the report of a run. A capture has as many recording frames as it has, so that the end within a
 /// frame none of which came is that of a whole capture. No run ends otherwise than so.

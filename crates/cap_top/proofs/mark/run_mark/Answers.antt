@@ -16,7 +16,7 @@ returns-in-Ok g c =
     let good = c.args.settings.now.good.now in
     let before = g.M.Source.seen c.args.map.now in
     let after = g.M.Source.seen c.open_map.new.map in
-    let line : closing_line end ≡ c.as_slice.result.now = sym (c.as_slice.ensures ∙ c.close_line.ensures) in
+    let line : closing_line end ≡ c.as_slice.result.now = sym (c.as_slice.ensures.bytes ∙ c.close_line.ensures) in
     let opened : Opens c.as_bytes.result.now before after c.in-Ok.spans.items = c.in-Ok.ensures.opened in
     inl (record {
       spans = spans;
