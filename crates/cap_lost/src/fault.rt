@@ -6,31 +6,31 @@ use thiserror::Error;
 #[derive(Clone, Copy, Debug, PartialEq, Eq, Error)]
 pub enum Cause {
     /// It is no line that `recover` or `deep` writes of a block, nor one that closes the report of an image.
-    #[error("no line")]
+    #[error("not a report line")]
     Line,
     /// The layout has no block of that number.
-    #[error("no block")]
+    #[error("no such block")]
     Block,
     /// In the layout that block has another sector number or layer.
     #[error("other place")]
     Place,
     /// In the layout that block has no image sectors.
-    #[error("no image")]
+    #[error("no image sectors")]
     NoImage,
     /// It names a block that doesn't come after that of the line before it.
-    #[error("order")]
+    #[error("out of order")]
     Order,
     /// It doesn't count the damage lines before it.
-    #[error("count")]
+    #[error("wrong count")]
     Count,
     /// The run ended with a fault, and how much of the image it wrote isn't said.
-    #[error("fault")]
+    #[error("ended by a fault")]
     Fault,
     /// It comes after the closing line.
     #[error("after the end")]
     AfterEnd,
     /// The report ends without a closing line.
-    #[error("no end")]
+    #[error("no closing line")]
     NoEnd,
 }
 

@@ -23,15 +23,15 @@ setting_line fault = codes "setting: " ++ fault_text fault ++ codes "\n"
 
 -- the rule that a line breaks
 abbrev pub cause_text : Cause → List ℕ
-cause_text causes.Line = codes "no line"
-cause_text causes.Block = codes "no block"
+cause_text causes.Line = codes "not a report line"
+cause_text causes.Block = codes "no such block"
 cause_text causes.Place = codes "other place"
-cause_text causes.NoImage = codes "no image"
-cause_text causes.Order = codes "order"
-cause_text causes.Count = codes "count"
-cause_text causes.Fault = codes "fault"
+cause_text causes.NoImage = codes "no image sectors"
+cause_text causes.Order = codes "out of order"
+cause_text causes.Count = codes "wrong count"
+cause_text causes.Fault = codes "ended by a fault"
 cause_text causes.AfterEnd = codes "after the end"
-cause_text causes.NoEnd = codes "no end"
+cause_text causes.NoEnd = codes "no closing line"
 
 -- the line of a report that isn't read
 abbrev pub refusal_line : ReportFault → List ℕ

@@ -86,17 +86,17 @@ pub fn refused_line(fault: ReportFault) -> Line
 
 fn text_of(cause: Cause) -> &'static [u8]
     ensures text { result.now ≡ cause_text cause }
-    ensures short { length result.now ≤ 13 }
+    ensures short { length result.now ≤ 20 }
 {
     match cause {
-        Cause::Line => b"no line",
-        Cause::Block => b"no block",
+        Cause::Line => b"not a report line",
+        Cause::Block => b"no such block",
         Cause::Place => b"other place",
-        Cause::NoImage => b"no image",
-        Cause::Order => b"order",
-        Cause::Count => b"count",
-        Cause::Fault => b"fault",
+        Cause::NoImage => b"no image sectors",
+        Cause::Order => b"out of order",
+        Cause::Count => b"wrong count",
+        Cause::Fault => b"ended by a fault",
         Cause::AfterEnd => b"after the end",
-        Cause::NoEnd => b"no end",
+        Cause::NoEnd => b"no closing line",
     }
 }
