@@ -65,9 +65,10 @@ impl<const N: usize, const R: usize> Code<N, R> {
         evaluation::is_zero(&self.remainder(word))
     }
 
-    // The remainder of a whole word, which has the word's values at the roots of the generator.
-    // That the word is bytes is told too, since a word of constant length doesn't tell it.
-    fn remainder(&self, word: &[u8; N]) -> [u8; R]
+    /// The remainder of `word` by the generator polynomial: `R` bytes that have the word's values at alpha^0 to alpha^(R-1). They
+    /// are zeros where the word is a codeword.
+    /// That the word is bytes is told too, since a word of constant length doesn't tell it.
+    pub fn remainder(&self, word: &[u8; N]) -> [u8; R]
         ensures values { (k : ℕ) → k < R → value result (power alpha k) ≡ value word.now (power alpha k) }
         ensures bytes { All IsByte result }
         ensures word_bytes { All IsByte word.now }

@@ -20,10 +20,14 @@ pub fn syndromes<const N: usize, const R: usize>(
 ) -> ArrayVec<u8, 32>
     ensures { result.items ≡ syndromes_of R word.now }
 {
-    if R <= 16 {
-        return front(values(word), R);
+    if R > 16 {
+        return code.syndromes(word);
     }
-    code.syndromes(word)
+    // The codes of an ECC block divide by tables, which is shorter than to go over the whole word lane by lane.
+    if R == 10 || R == 16 {
+        return front(values(&code.remainder(word)), R);
+    }
+    front(values(word), R)
 }
 
 /// Whether all numbers are 0.

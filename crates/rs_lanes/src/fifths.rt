@@ -7,7 +7,7 @@ ghost use Rattle.coding.specs.Rows.{line};
 ghost use Rattle.rs_lanes.specs.Inner.Lanes.{HasLanes};
 ghost use Rattle.rs_lanes.specs.Inner.Thirds.{exponent_at, folded, third};
 
-use crate::factors::{POWERS, PRODUCTS};
+use crate::factors::{powers_of, products};
 use crate::lanes::{mixed, times};
 use std::simd::prelude::*;
 
@@ -40,7 +40,7 @@ fn turned(lanes: u8x32, turns: usize) -> u8x32
     if rest == 0 {
         lanes
     } else {
-        times(&PRODUCTS[POWERS[85][rest] as usize], lanes)
+        times(&products(powers_of(85)[rest]), lanes)
     }
 }
 
@@ -55,8 +55,8 @@ fn fifths(y0: u8x32, y1: u8x32, y2: u8x32, y3: u8x32, y4: u8x32) -> [u8x32; 5]
     let ends = mixed(y1, y4);
     let middle = mixed(y2, y3);
     let both = mixed(ends, middle);
-    let turned = times(&PRODUCTS[0xD7], both);
-    let crossed = mixed(y0, times(&PRODUCTS[0xD7], mixed(y1, y2)));
+    let turned = times(&products(0xD7), both);
+    let crossed = mixed(y0, times(&products(0xD7), mixed(y1, y2)));
     let first = mixed(mixed(crossed, y2), weighed(ends, 0xDD, middle, 0x92));
     let second = mixed(mixed(crossed, y1), weighed(middle, 0x0A, ends, 0x92));
     [
@@ -73,8 +73,5 @@ fn fifths(y0: u8x32, y1: u8x32, y2: u8x32, y3: u8x32, y4: u8x32) -> [u8x32; 5]
 fn weighed(a: u8x32, factor: u8, b: u8x32, other: u8) -> u8x32
     ensures { HasLanes result (λ j. plus (product (slice_index a j) factor) (product (slice_index b j) other)) }
 {
-    mixed(
-        times(&PRODUCTS[factor as usize], a),
-        times(&PRODUCTS[other as usize], b),
-    )
+    mixed(times(&products(factor), a), times(&products(other), b))
 }

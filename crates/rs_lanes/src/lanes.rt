@@ -5,7 +5,7 @@ ghost use Rattle.coding.specs.Rows.{place};
 ghost use Rattle.rs_lanes.specs.Inner.Lanes.{HasLanes};
 ghost use Rattle.rs_lanes.specs.Inner.Tables.{IsTable};
 
-use crate::factors::PRODUCTS;
+use crate::factors::products;
 use std::simd::prelude::*;
 
 /// The sum of two vectors.
@@ -68,7 +68,7 @@ pub fn multiple(lanes: u8x32, factor: u8) -> u8x32
     ensures size { length result ≡ 32 }
     ensures each { (k : ℕ) → k < 32 → slice_index result k ≡ product (slice_index lanes k) factor }
 {
-    times(&PRODUCTS[factor as usize], lanes)
+    times(&products(factor), lanes)
 }
 
 /// The sum of a vector and a multiple of another.

@@ -3,7 +3,7 @@ ghost use Rattle.std.specs.Prelude.{◌≡◌, ℕ, ◌*◌, ◌/◌, ◌%◌, �
 ghost use Rattle.coding.specs.Field.{alpha, product, power};
 ghost use Rattle.rs_lanes.specs.Inner.Lanes.{HoldsLanes};
 
-use crate::factors::{POWERS, PRODUCTS};
+use crate::factors::{powers_of, products};
 use std::simd::prelude::*;
 
 /// The product of each lane and a factor.
@@ -12,7 +12,7 @@ pub fn scaled(lanes: u8x16, factor: u8) -> u8x16
     ensures size { length result ≡ 16 }
     ensures each { (k : ℕ) → k < 16 → slice_index result k ≡ product (slice_index lanes k) factor }
 {
-    let table = &PRODUCTS[factor as usize];
+    let table = products(factor);
     at_low_nibbles(&table[0], lanes) ^ at_high_nibbles(&table[1], lanes)
 }
 
@@ -23,7 +23,7 @@ pub fn powers(exponent: usize) -> u8x16
     ensures size { length result ≡ 16 }
     ensures each { (k : ℕ) → k < 16 → slice_index result k ≡ power alpha (exponent * k) }
 {
-    u8x16::from_slice(&POWERS[exponent])
+    u8x16::from_array(powers_of(exponent))
 }
 
 // The table's entries at the low four bits of each lane.

@@ -9,7 +9,7 @@ ghost use Rattle.coding.specs.Rows.{line, place};
 ghost use Rattle.rs_lanes.specs.Inner.Lanes.{HasLanes};
 ghost use Rattle.rs_lanes.specs.Inner.Thirds.{exponent_at, third, third_byte};
 
-use crate::factors::{POWERS, PRODUCTS};
+use crate::factors::{powers_of, products};
 use crate::fifths::folded_places;
 use crate::lanes::{mixed, times};
 use std::simd::prelude::*;
@@ -22,7 +22,7 @@ pub fn thirds_of(a: u8x32, b: u8x32, c: u8x32) -> [u8x32; 3]
 {
     // alpha^85 is 0xD6, and alpha^170 is 0xD6 + 1: one product serves both.
     let sum = mixed(a, b);
-    let shared = times(&PRODUCTS[0xD6], sum);
+    let shared = times(&products(0xD6), sum);
     [
         mixed(sum, c),
         mixed(shared, mixed(a, c)),
@@ -119,7 +119,7 @@ fn next_value(k: usize, count: usize, value: u8x32, next: u8x32) -> u8x32
     ensures bytes { (j : ℕ) → j < 32 → slice_index next j < 256 }
 {
     if k < count {
-        mixed(times(&PRODUCTS[POWERS[1][k] as usize], value), next)
+        mixed(times(&products(powers_of(1)[k]), value), next)
     } else {
         value
     }

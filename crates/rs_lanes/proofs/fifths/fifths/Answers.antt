@@ -4,7 +4,6 @@ use Rattle.coding.specs.Field.{alpha, power}
 use Rattle.coding.specs.Words.{value}
 use Rattle.rs_lanes.specs.Inner.Lanes.{HasLanes}
 use Rattle.coding.specs.Rows.{line}
-use Rattle.rs_lanes.proofs.FactorLemmas.{PRODUCTS-tables}
 use Rattle.rs_lanes.proofs.FifthLemmas.{FifthSums, fifth_sums, each_of_five}
 use Rattle.rs_lanes.proofs.LaneLemmas.{byte_lane}
 use Rattle.rs_lanes.proofs.fifths.fifths.Goals as goal
@@ -21,8 +20,8 @@ returns c =
     fifth_sums (y0 j) (y1 j) (y2 j) (y3 j) (y4 j)
     (byte_lane 32 c.args.y0 c.fits-y0 j below) (byte_lane 32 c.args.y1 c.fits-y1 j below) (byte_lane 32 c.args.y2 c.fits-y2 j below)
     (byte_lane 32 c.args.y3 c.fits-y3 j below) (byte_lane 32 c.args.y4 c.fits-y4 j below) in
-    let turned = c.times-turned.ensures 0xD7 (PRODUCTS-tables 0xD7 (omega arith)) in
-    let shared = c.times.ensures 0xD7 (PRODUCTS-tables 0xD7 (omega arith)) in
+    let turned = c.times-turned.ensures 0xD7 c.products.ensures in
+    let shared = c.times.ensures 0xD7 c.products-2.ensures in
     let ends = c.mixed-ends.ensures in
     let middle = c.mixed-middle.ensures in
     let both = c.mixed-both.ensures in

@@ -3,7 +3,7 @@ use Rattle.std.proofs.Common.{◌≡◌, ◌*◌, ◌%◌, get_or, sym, ap, subs
 use Rattle.coding.specs.Field.{alpha, product, power}
 use Rattle.gf_field.proofs.FieldLaws.{power-zero, product-one}
 use Rattle.rs_lanes.specs.Inner.Lanes.{HasLanes}
-use Rattle.rs_lanes.proofs.FactorLemmas.{POWERS-tables}
+use Rattle.rs_lanes.specs.Inner.Tables.{IsTable}
 use Rattle.rs_lanes.proofs.FifthLemmas.{power-alpha-same}
 use Rattle.rs_lanes.proofs.LaneLemmas.{byte_lane}
 use Rattle.rs_lanes.proofs.fifths.turned.Goals.{then-rest-eq0, else-rest-eq0}
@@ -28,5 +28,5 @@ returns-clause-turned c =
       | else-rest-eq0 w ↦
           let same : power alpha (85 * (turns % 3)) ≡ factor = power-alpha-same (85 * (turns % 3)) (85 * turns) (omega arith) in
           subst (λ row. HasLanes row (λ j. product (get_or lanes j 0) factor)) (sym w.result-is)
-          (w.times.ensures factor (POWERS-tables 85 (turns % 3) factor (omega arith) (omega arith) same))
+          (w.times.ensures factor (subst (λ x. IsTable x w.products.result) (w.powers_of.ensures (turns % 3) (omega arith) ∙ same) w.products.ensures))
     ]

@@ -1,10 +1,8 @@
 -- The proof of `multiple` in src/lanes.rt.
-use Rattle.std.proofs.Common.{arith}
-use Rattle.rs_lanes.proofs.FactorLemmas.{PRODUCTS-tables}
 use Rattle.rs_lanes.proofs.lanes.multiple.Goals as goal
 
 pub returns-clause-size : goal.returns-clause-size
-returns-clause-size c = (c.times.ensures c.args.factor (PRODUCTS-tables c.args.factor (omega arith))).size
+returns-clause-size c = (c.times.ensures c.args.factor c.products.ensures).size
 
 pub returns-clause-each : goal.returns-clause-each
-returns-clause-each c = (c.times.ensures c.args.factor (PRODUCTS-tables c.args.factor (omega arith))).each
+returns-clause-each c = (c.times.ensures c.args.factor c.products.ensures).each

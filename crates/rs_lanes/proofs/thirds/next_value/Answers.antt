@@ -3,7 +3,7 @@ use Rattle.std.proofs.Common.{◌≡◌, ◌*◌, get_or, sym, ap, subst, ◌∙
 use Rattle.coding.specs.Field.{alpha, plus, product, power}
 use Rattle.gf_field.proofs.FieldLaws.{product-comm}
 use Rattle.rs_lanes.specs.Inner.Lanes.{HasLanes}
-use Rattle.rs_lanes.proofs.FactorLemmas.{POWERS-tables}
+use Rattle.rs_lanes.specs.Inner.Tables.{IsTable}
 use Rattle.rs_lanes.proofs.thirds.next_value.Goals.{then-k-count, else-k-count}
 use Rattle.rs_lanes.proofs.thirds.next_value.Goals as goal
 
@@ -20,7 +20,7 @@ returns-clause-step c = λ wanted.
             each = λ j below.
                 w.mixed.ensures.each j below
                 ∙ ap (λ p. plus p (get_or c.args.next j 0))
-                ((w.times.ensures x (POWERS-tables 1 k x (omega arith) c.requires (ap (power alpha) one))).each j below ∙ product-comm (get_or c.args.value j 0) x);
+                ((w.times.ensures x (subst (λ f. IsTable f w.products.result) (w.powers_of.ensures k c.requires ∙ ap (power alpha) one) w.products.ensures)).each j below ∙ product-comm (get_or c.args.value j 0) x);
           })
       | else-k-count w ↦ absurd (omega (arith, wanted, w.if-k-count.false))
     ]

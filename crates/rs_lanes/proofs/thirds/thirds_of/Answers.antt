@@ -3,7 +3,6 @@ use Rattle.std.proofs.Common.{ℕ, ◌<◌, [], ◌∷◌, get_or, arith}
 use Rattle.coding.specs.Rows.{line}
 use Rattle.rs_lanes.specs.Inner.Lanes.{HasLanes}
 use Rattle.rs_lanes.specs.Inner.Thirds.{third_byte}
-use Rattle.rs_lanes.proofs.FactorLemmas.{PRODUCTS-tables}
 use Rattle.rs_lanes.proofs.LaneLemmas.{byte_lane}
 use Rattle.rs_lanes.proofs.ThirdLemmas.{third-zero, third-one, third-two, each_of_three}
 use Rattle.rs_lanes.proofs.thirds.thirds_of.Goals as goal
@@ -16,7 +15,7 @@ returns-clause-thirds c =
     let byte_a : (j : ℕ) → j < 32 → a j < 256 = byte_lane 32 c.args.a c.fits-a in
     let byte_b : (j : ℕ) → j < 32 → b j < 256 = byte_lane 32 c.args.b c.fits-b in
     let sum = c.mixed-sum.ensures in
-    let shared = c.times-shared.ensures 0xD6 (PRODUCTS-tables 0xD6 (omega arith)) in
+    let shared = c.times-shared.ensures 0xD6 c.products.ensures in
     each_of_three (λ i. HasLanes (line (c.mixed.result ∷ c.mixed-3.result ∷ c.mixed-5.result ∷ []) i) (λ j. third_byte i (a j) (b j) (d j)))
     (record {
       size = c.mixed.ensures.size;
