@@ -1,8 +1,6 @@
 -- The tables for sixteen points, found right by computing them.
-use Rattle.std.proofs.Common.{◌≡◌, ℕ, ◌*◌, ◌%◌, ◌<◌, List, [], ◌∷◌, length, get_or, map, refl, sym, ap, ◌∙◌, arith}
-use Rattle.std.specs.Int.{to_le_bytes, bytes_low_first, w128}
+use Rattle.std.proofs.Common.{◌≡◌, ℕ, ◌*◌, ◌%◌, ◌<◌, List, [], ◌∷◌, get_or, map, refl, ap, ◌∙◌, arith}
 use Rattle.std.specs.List.{range_with_len}
-use Rattle.std.proofs.lemmas.List.{get_or-map}
 use Rattle.std.proofs.lemmas.List.FromFn.{get_or-map-range_with_len}
 use Rattle.coding.specs.Field.{alpha, shift, shifted, partial_product, product, power}
 use Rattle.gf_field.specs.declared.powers.TheConstants.{POWERS as powers_of_alpha}
@@ -10,12 +8,6 @@ use Rattle.gf_field.proofs.FieldLaws.{power-alpha-mod}
 use Rattle.gf_field.proofs.Logarithms.{POWERS_at}
 use Rattle.rs_lanes.specs.declared.factors.TheConstants.{LOW_PRODUCTS, HIGH_PRODUCTS, POWERS}
 use Rattle.rs_lanes.specs.Inner.Tables.{IsTable}
-
--- numbers whose bytes are made so, entry by entry
-bytes_at : (f : ℕ → List ℕ) (numbers : List ℕ) (count k : ℕ) → length numbers ≡ count → map (to_le_bytes w128) numbers ≡ map f (range_with_len 0 count) → k < count
-    → to_le_bytes w128 (get_or numbers k 0) ≡ f k
-bytes_at f numbers count k long made below =
-    sym (get_or-map (to_le_bytes w128) numbers k 0 [] (omega arith)) ∙ ap (λ t. get_or t k []) made ∙ get_or-map-range_with_len f 0 count k k [] below (omega arith)
 
 -- the products of a factor with the low nibbles
 unfoldable low_products : ℕ → List ℕ
@@ -26,24 +18,24 @@ unfoldable high_products : ℕ → List ℕ
 high_products factor = map (λ n. product (16 * n) factor) (range_with_len 0 16)
 
 -- those of each byte
-LOW-made : map (to_le_bytes w128) LOW_PRODUCTS ≡ map low_products (range_with_len 0 256)
+LOW-made : LOW_PRODUCTS ≡ map low_products (range_with_len 0 256)
 unfolding low_products product partial_product shifted shift
 LOW-made = refl
 
-HIGH-made : map (to_le_bytes w128) HIGH_PRODUCTS ≡ map high_products (range_with_len 0 256)
+HIGH-made : HIGH_PRODUCTS ≡ map high_products (range_with_len 0 256)
 unfolding high_products product partial_product shifted shift
 HIGH-made = refl
 
--- so the entries of a byte are a table of it
-pub IsTable-products : (factor : ℕ) (low high : List ℕ) → factor < 256 → low ≡ to_le_bytes w128 (get_or LOW_PRODUCTS factor 0)
-    → high ≡ to_le_bytes w128 (get_or HIGH_PRODUCTS factor 0) → IsTable factor (low ∷ high ∷ [])
+-- so the rows of a byte are a table of it
+pub IsTable-products : (factor : ℕ) (low high : List ℕ) → factor < 256 → low ≡ get_or LOW_PRODUCTS factor [] → high ≡ get_or HIGH_PRODUCTS factor []
+    → IsTable factor (low ∷ high ∷ [])
 unfolding low_products high_products
 IsTable-products factor low high byte is_low is_high = record {
   low = λ n below.
-      ap (λ t. get_or t n 0) (is_low ∙ bytes_at low_products LOW_PRODUCTS 256 factor refl LOW-made byte)
+      ap (λ row. get_or row n 0) (is_low ∙ ap (λ made. get_or made factor []) LOW-made ∙ get_or-map-range_with_len low_products 0 256 factor factor [] byte (omega arith))
       ∙ get_or-map-range_with_len (λ m. product m factor) 0 16 n n 0 below (omega arith);
   high = λ n below.
-      ap (λ t. get_or t n 0) (is_high ∙ bytes_at high_products HIGH_PRODUCTS 256 factor refl HIGH-made byte)
+      ap (λ row. get_or row n 0) (is_high ∙ ap (λ made. get_or made factor []) HIGH-made ∙ get_or-map-range_with_len high_products 0 256 factor factor [] byte (omega arith))
       ∙ get_or-map-range_with_len (λ m. product (16 * m) factor) 0 16 n n 0 below (omega arith);
 }
 
@@ -52,15 +44,15 @@ unfoldable powers_in : ℕ → List ℕ
 powers_in e = map (λ k. get_or powers_of_alpha (e * k % 255) 0) (range_with_len 0 16)
 
 -- those of each exponent
-POWERS-made : map (to_le_bytes w128) POWERS ≡ map powers_in (range_with_len 0 255)
+POWERS-made : POWERS ≡ map powers_in (range_with_len 0 255)
 unfolding powers_in
 POWERS-made = refl
 
--- so byte k of an entry is the power of alpha that the two tell
-pub POWERS-power : (e k : ℕ) (bytes : List ℕ) → e < 255 → k < 16 → bytes ≡ to_le_bytes w128 (get_or POWERS e 0) → get_or bytes k 0 ≡ power alpha (e * k)
+-- so byte k of a row is the power of alpha that the two tell
+pub POWERS-power : (e k : ℕ) (row : List ℕ) → e < 255 → k < 16 → row ≡ get_or POWERS e [] → get_or row k 0 ≡ power alpha (e * k)
 unfolding powers_in
-POWERS-power e k bytes row lane are =
-    ap (λ entries. get_or entries k 0) (are ∙ bytes_at powers_in POWERS 255 e refl POWERS-made row)
+POWERS-power e k row below lane is =
+    ap (λ entries. get_or entries k 0) (is ∙ ap (λ made. get_or made e []) POWERS-made ∙ get_or-map-range_with_len powers_in 0 255 e e [] below (omega arith))
     ∙ get_or-map-range_with_len (λ j. get_or powers_of_alpha (e * j % 255) 0) 0 16 k k 0 lane (omega arith)
     ∙ POWERS_at (e * k % 255) (omega arith)
     ∙ power-alpha-mod (e * k)
