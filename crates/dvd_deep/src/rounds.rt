@@ -12,6 +12,7 @@ ghost use Rattle.dvd_deep.specs.Rounds.{after, are_answered, column_marks, colum
 ghost use Rattle.dvd_deep.specs.Inner.Steps.{AreMarksTaken, AreWide, IsColumnPut, TellsMarked, mark_left};
 
 use dvd_capture::{RowMarks, Work};
+use dvd_read::parts::is_codeword;
 use rs_code::{Code, Pi, Po};
 use rs_decode::{Erasures, decode};
 
@@ -101,8 +102,11 @@ fn answer_word<const N: usize, const R: usize>(
     ensures word { word.new ≡ unwrap_or (near_of N R word.old marks.now) word.old }
     ensures size { length word.new ≡ N }
 {
+    if Erasures::new(marks, R).is_none() {
+        return false;
+    }
     // Most words are codewords, and with few marks these are near themselves: a test is shorter than a search.
-    if code.is_codeword(word) && Erasures::new(marks, R).is_some() {
+    if code.is_codeword(word) {
         return true;
     }
     match decode(code, word, marks) {
@@ -266,10 +270,4 @@ fn are_codewords(rows: &Rows) -> bool
         }
     }
     true
-}
-
-fn is_codeword(code: &Pi, row: &[u8; 182]) -> bool
-    ensures { result ≡ vanishes_at_all 10 row.now }
-{
-    code.is_codeword(row)
 }

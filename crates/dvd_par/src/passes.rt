@@ -3,10 +3,10 @@ ghost use Rattle.std.specs.Prelude.{◌≡◌, ◌+◌, ◌<◌, ◌≤◌, leng
 ghost use Rattle.coding.specs.Filling.{marked};
 ghost use Rattle.dvd_capture.specs.Rule.{HasBlock};
 ghost use Rattle.coding.specs.TwoPass.{failed_of};
-ghost use Rattle.dvd_capture.specs.Works.{stage_of};
-ghost use Rattle.dvd_capture.specs.Parts.{marks_rows, received_rows};
+ghost use Rattle.dvd_capture.specs.Works.{answers_of_work, marks_of_work, rows_of, stage_of};
+ghost use Rattle.dvd_capture.specs.Parts.{column_answers, marks_rows, received_rows};
 ghost use Rattle.dvd_read.specs.Calls.{IsDecoded};
-ghost use Rattle.dvd_read.specs.Parts.{AreAnswersFrom, AreColumnsFrom, AreOwnFrom, answer_word};
+ghost use Rattle.dvd_read.specs.Parts.{AreAnswersFrom, AreColumnsFrom, AreKeptFrom, answer_word};
 
 use crate::cutting::for_each_piece;
 use crate::gate::Gate;
@@ -29,12 +29,32 @@ pub fn two_pass_par<R: Threads + Sync, G: Gate>(
     requires stage { HasBlock (stage_of work.old) }
     ensures { IsDecoded work.old work.new result }
 {
+    let are_kept = answer_block(rt, workers, gate, work);
+    settle(work, are_kept)
+}
+
+/// Answers the rows and columns of a captured block. Answers whether the columns are known to correct no row that was answered.
+pub(crate) fn answer_block<R: Threads + Sync, G: Gate>(
+    rt: &R,
+    workers: u8,
+    gate: &G,
+    work: &mut Work,
+) -> bool
+    requires workers { (1 ≤ workers) × (workers ≤ 16) }
+    requires stage { HasBlock (stage_of work.old) }
+    ensures answers { AreAnswersFrom (rows_of work.old) (marks_of_work work.old) 0 (answers_of_work work.new) }
+    ensures columns { marked (failed_of (map answer_word (answers_of_work work.new))) ≤ 16
+        → AreColumnsFrom (map answer_word (answers_of_work work.new)) 0 (column_answers work.new.columns) }
+    ensures kept { IsTrue result → AreKeptFrom (answers_of_work work.new) 0 (column_answers work.new.columns) }
+    ensures received { work.new.received ≡ work.old.received }
+    ensures marks { work.new.marks ≡ work.old.marks }
+    ensures sectors { work.new.sectors ≡ work.old.sectors }
+{
     work.set_stage(Stage::Fetched);
     let answers = work.answers.rows_mut();
     row_pass(rt, workers, gate, &work.received, &work.marks, answers);
     let columns = work.columns.all_mut();
-    let stands = column_pass(rt, workers, gate, work.answers.rows(), columns);
-    settle(work, stands)
+    column_pass(rt, workers, gate, work.answers.rows(), columns)
 }
 
 // The first pass. A single piece is done on this thread.
@@ -62,8 +82,7 @@ fn row_pass<R: Threads + Sync, G: Gate>(
 }
 
 // Several workers answer their pieces apart from each other, so that of their answers nothing is known beyond this pass.
-// The second pass, where no more rows failed than it can bear. Answers whether the block is known to stand as its rows were
-// answered.
+// The second pass, where no more rows failed than it can bear. Answers whether it is known to correct no row that was answered.
 fn column_pass<R: Threads + Sync, G: Gate>(
     rt: &R,
     workers: u8,
@@ -75,8 +94,7 @@ fn column_pass<R: Threads + Sync, G: Gate>(
     requires rows { length answers.now ≡ 208 }
     requires columns { length columns.old ≡ 182 }
     ensures columns { marked (failed_of (map answer_word answers.now)) ≤ 16 → AreColumnsFrom (map answer_word answers.now) 0 columns.new }
-    ensures none_failed { IsTrue result → marked (failed_of (map answer_word answers.now)) ≡ 0 }
-    ensures own { IsTrue result → AreOwnFrom answers.now 0 columns.new }
+    ensures kept { IsTrue result → AreKeptFrom answers.now 0 columns.new }
 {
     let mut failed = [false; 208];
     mark_failed(answers, &mut failed);

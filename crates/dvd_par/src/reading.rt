@@ -6,10 +6,10 @@ ghost use Rattle.dvd_layout.specs.Place.{HasNumbers};
 ghost use Rattle.dvd_read.specs.Calls.{IsBlockRead};
 
 use crate::gate::Gate;
-use crate::passes::two_pass_par;
+use crate::passes::answer_block;
 use dvd_capture::Work;
 use dvd_layout::BlockPlan;
-use dvd_read::parts::sectors_of_block;
+use dvd_read::parts::{Source, sectors_of_block, settle};
 use dvd_read::{Cause, Fixed};
 use std::thread::Threads;
 
@@ -28,9 +28,10 @@ pub fn read_block_par<R: Threads + Sync, G: Gate>(
     requires numbers { HasNumbers plan.now }
     ensures { IsBlockRead work.old work.new plan.now result }
 {
-    match two_pass_par(rt, workers, gate, work) {
+    let are_kept = answer_block(rt, workers, gate, work);
+    match settle(work, are_kept) {
         Ok(fixed) => {
-            sectors_of_block(work, plan, fixed.bytes == 0)?;
+            sectors_of_block(work, plan, Source::of(fixed.bytes, are_kept))?;
             Ok(fixed)
         }
         Err(cause) => {

@@ -1,13 +1,13 @@
--- Rows and columns that are their own answers, and blocks that stand as their rows were answered.
-use Rattle.std.proofs.Common.{◌≡◌, ◌∙◌, ℕ, zero, suc, ◌+◌, ◌<◌, ◌≤◌, ◌==◌, Bool, true, false, if◌then◌else◌, MatchOption, List, [], ◌∷◌, length, map, get_or, replicate, slice_index, refl, sym, ap, subst, arith, Some, None, is_none}
+-- Rows and columns that are their own answers, and blocks whose columns correct no row that was answered.
+use Rattle.std.proofs.Common.{◌≡◌, ◌∙◌, ℕ, zero, suc, ◌+◌, ◌<◌, ◌≤◌, ◌==◌, Bool, true, false, if◌then◌else◌, MatchOption, List, [], ◌∷◌, length, map, get_or, replicate, slice_index, refl, sym, ap, subst, arith, Some, None, is_none, is_some}
 use Rattle.std.specs.declared.option.Option.{Option}
 use Rattle.std.proofs.lemmas.Bool.Decides.{nat_tests}
-use Rattle.std.proofs.lemmas.List.{get_or-map, ext_get_or, length-map, length-replicate}
+use Rattle.std.proofs.lemmas.List.{get_or-map, length-map, length-replicate}
 use Rattle.std.proofs.lemmas.Grind.{same_number_lists}
 use Rattle.coding.specs.Words.{IsCodeword, IsNear}
 use Rattle.coding.specs.Distance.{distance}
 use Rattle.rs_decode.specs.Errors.{error_count}
-use Rattle.coding.specs.Filling.{marked}
+use Rattle.coding.specs.Filling.{AgreeUnmarked, marked}
 use Rattle.coding.specs.Nearest.{near_of, vanishes_at_all}
 use Rattle.rs_decode.specs.declared.errors.Fix.{Fix}
 use Rattle.rs_decode.proofs.Counting.{IsNear-from_counts, error_count-self}
@@ -21,8 +21,8 @@ use Rattle.dvd_capture.proofs.WorkParts.{marks-width}
 use Rattle.coding.specs.TwoPass.{failed_of, from_columns}
 use Rattle.dvd_capture.specs.declared.parts.AnswerRow.{AnswerRow}
 use Rattle.dvd_capture.specs.declared.parts.ColumnAnswer.{ColumnAnswer}
-use Rattle.dvd_capture.proofs.Columns.{from_columns-line, length-from_columns}
-use Rattle.dvd_read.specs.Parts.{AreOwnFrom, answer_by, answer_word, bytes_of}
+use Rattle.dvd_capture.proofs.Columns.{from_columns-line}
+use Rattle.dvd_read.specs.Parts.{AreKeptFrom, AreRowsKept, answer_by, answer_word, bytes_of}
 use Rattle.dvd_read.specs.Inner.Found.{words_of_columns}
 use Rattle.dvd_read.specs.Inner.Standing.{AreCodewords}
 use Rattle.dvd_read.proofs.ColumnAnswers.{blank_column}
@@ -82,30 +82,62 @@ uncorrected row marks answer fix size is errors erased told =
     let fixed : IsFix row marks answer.bytes fix = fix-told row answer.bytes marks answer.fix fix is told in
     none-differ row answer.bytes marks (omega (arith, size)) (sym fixed.2 ∙ erased) (sym fixed.1 ∙ errors)
 
--- ---- rows of which none failed
+-- ---- a column of which nothing was corrected that isn't marked
 
--- where no mark is counted, none is set
-none-marked : (marks : List Bool) (k : ℕ) → marked marks ≡ 0 → get_or marks k false ≡ false
-unfolding marked
-none-marked [] k none = refl
-none-marked (true ∷ marks) k none = absurd (omega (arith, none))
-none-marked (false ∷ marks) zero none = refl
-none-marked (false ∷ marks) (suc k) none = none-marked marks k (omega (arith, none))
+-- a first place that has no error doesn't differ
+same-step : (x y rest : ℕ) → (if y == x then 0 else 1) + rest ≡ 0 → y ≡ x
+same-step x y rest none = grind (arith, nat_tests)
+
+-- a word with no errors agrees with what was received at all places that aren't marked
+pub none-corrected : (received word : List ℕ) (marks : List Bool) → length word ≡ length received → error_count received word marks ≡ 0
+    → AgreeUnmarked marks received word
+unfolding error_count
+none-corrected [] [] marks size none k within clear = refl
+none-corrected [] (y ∷ word) marks size none k within clear = absurd (omega (arith, size))
+none-corrected (x ∷ received) [] marks size none k within clear = absurd (omega (arith, size))
+none-corrected (x ∷ received) (y ∷ word) [] size none k within clear = absurd (omega arith)
+none-corrected (x ∷ received) (y ∷ word) (true ∷ marks) size none zero within clear = cc
+none-corrected (x ∷ received) (y ∷ word) (false ∷ marks) size none zero within clear = same-step x y (error_count received word marks) none
+none-corrected (x ∷ received) (y ∷ word) (true ∷ marks) size none (suc k) within clear =
+    none-corrected received word marks (omega (arith, size)) (omega (arith, none)) k (omega arith) clear
+none-corrected (x ∷ received) (y ∷ word) (false ∷ marks) size none (suc k) within clear =
+    none-corrected received word marks (omega (arith, size)) (omega (arith, none)) k (omega arith) clear
+
+-- ---- rows that were answered
 
 -- an answer that isn't missing is its bytes
-answered-by : (fix : Option Fix) (bytes : List ℕ) → is_none (answer_by fix bytes) ≡ false → answer_by fix bytes ≡ Some bytes
+answered-by : (fix : Option Fix) (bytes : List ℕ) → is_some fix ≡ true → answer_by fix bytes ≡ Some bytes
 answered-by None bytes answered = cc
 answered-by (Some fix) bytes answered = refl
 
--- each is answered by its bytes
-pub whole-answered : (answers : List AnswerRow) (i : ℕ) → i < length answers → marked (failed_of (map answer_word answers)) ≡ 0
-    → answer_word (get_or answers i blank_answer) ≡ Some (get_or answers i blank_answer).bytes
-whole-answered answers i within none =
-    let answer : AnswerRow = get_or answers i blank_answer in
-    let inside : i < length (map answer_word answers) = rw length-map within in
-    answered-by answer.fix answer.bytes
-    (ap is_none (sym (get_or-map answer_word answers i blank_answer None within))
-    ∙ sym (get_or-map is_none (map answer_word answers) i None false inside) ∙ none-marked (failed_of (map answer_word answers)) i none)
+-- where no answer is missing there is a fix
+fix-by : (fix : Option Fix) (bytes : List ℕ) → is_none (answer_by fix bytes) ≡ false → is_some fix ≡ true
+fix-by None bytes answered = cc
+fix-by (Some fix) bytes answered = refl
+
+-- the mark of row i tells whether it has an answer
+failed-at : (answers : List AnswerRow) (i : ℕ) (d : AnswerRow) → i < length answers
+    → get_or (failed_of (map answer_word answers)) i false ≡ is_none (answer_word (get_or answers i d))
+failed-at answers i d within =
+    get_or-map is_none (map answer_word answers) i None false (rw length-map within)
+    ∙ ap is_none (get_or-map answer_word answers i d None within)
+
+-- a row that was answered isn't marked
+unmarked-at : (answers : List AnswerRow) (i : ℕ) (d : AnswerRow) → i < length answers → is_some (get_or answers i d).fix ≡ true
+    → get_or (failed_of (map answer_word answers)) i false ≡ false
+unmarked-at answers i d within answered =
+    failed-at answers i d within ∙ ap is_none (answered-by (get_or answers i d).fix (get_or answers i d).bytes answered)
+
+-- and one that isn't marked was answered
+answered-at : (answers : List AnswerRow) (i : ℕ) (d : AnswerRow) → i < length answers → get_or (failed_of (map answer_word answers)) i false ≡ false
+    → is_some (get_or answers i d).fix ≡ true
+answered-at answers i d within clear = fix-by (get_or answers i d).fix (get_or answers i d).bytes (sym (failed-at answers i d within) ∙ clear)
+
+-- its bytes are a codeword
+answered-codeword : (answers : List AnswerRow) (i : ℕ) (d : AnswerRow) → i < 208 → AreCodewords answers → is_some (get_or answers i d).fix ≡ true
+    → IsCodeword 182 10 (get_or answers i d).bytes
+answered-codeword answers i d below codewords answered =
+    codewords i d (get_or answers i d).bytes below (answered-by (get_or answers i d).fix (get_or answers i d).bytes answered)
 
 -- the bytes of an answer
 abbrev bytes : AnswerRow → List ℕ
@@ -130,67 +162,48 @@ column-copied answers j word size word_size copied =
     let inside : k < length (bytes_of answers) = omega (arith, length-bytes_of answers) in
     copied k (omega arith) ∙ sym (get_or-map (λ (row : List ℕ). slice_index row j) (bytes_of answers) k [] 0 inside))
 
--- ---- blocks that stand
+-- ---- blocks whose columns correct no row that was answered
 
--- where no row failed, all rows are codewords
-pub whole-codewords : (answers : List AnswerRow) (i : ℕ) → length answers ≡ 208 → i < 208 → AreCodewords answers → marked (failed_of (map answer_word answers)) ≡ 0
-    → IsCodeword 182 10 (line (bytes_of answers) i)
-whole-codewords answers i size below codewords none =
-    let inside : i < length answers = omega arith in
-    subst (IsCodeword 182 10) (sym (get_or-bytes_of answers i inside))
-    (codewords i blank_answer (get_or answers i blank_answer).bytes below (whole-answered answers i inside none))
-
--- each column has the bytes of the rows' answers
-abbrev pub AreOwnColumns : List AnswerRow → List ColumnAnswer → Type 0
-AreOwnColumns answers columns = (j : ℕ) (default : ColumnAnswer) → j < 182 → (get_or columns j default).bytes ≡ column (bytes_of answers) j
-
--- where no row failed and each column is its own answer, the block stands as its rows were answered
-pub stands : (answers : List AnswerRow) (columns : List ColumnAnswer) → length answers ≡ 208 → length columns ≡ 182 → AreCodewords answers
-    → marked (failed_of (map answer_word answers)) ≡ 0 → AreOwnColumns answers columns → from_columns (words_of_columns columns) ≡ bytes_of answers
-stands answers columns size columns_size codewords none own =
+-- such a block has these rows' answers
+pub rows-kept : (answers : List AnswerRow) (columns : List ColumnAnswer) → length answers ≡ 208 → length columns ≡ 182 → AreCodewords answers
+    → AreKeptFrom answers 0 columns → AreRowsKept answers (from_columns (words_of_columns columns))
+rows-kept answers columns size columns_size codewords kept i d below answered =
     let word : ColumnAnswer → List ℕ = λ column. column.bytes in
     let words : List (List ℕ) = words_of_columns columns in
     let rows : List (List ℕ) = bytes_of answers in
-    ext_get_or [] (from_columns words) rows (length-from_columns words ∙ sym (length-bytes_of answers ∙ size))
-    (λ i within.
-    let below : i < 208 = subst (λ n. i < n) (length-from_columns words) within in
-    let inside : i < length rows = subst (λ n. i < n) (sym (length-bytes_of answers ∙ size)) below in
-    let width : length (line rows i) ≡ 182 = (whole-codewords answers i size below codewords none).size in
+    let inside : i < length answers = omega arith in
+    let inside_rows : i < length rows = omega (arith, length-bytes_of answers) in
+    let width : length (get_or answers i d).bytes ≡ 182 = (answered-codeword answers i d below codewords answered).size in
+    let height : length (failed_of (map answer_word answers)) ≡ 208 = length-map (map answer_word answers) is_none ∙ length-map answers answer_word ∙ size in
     from_columns-line words i below
-    ∙ same_number_lists (map (λ w. slice_index w i) words) (line rows i)
+    ∙ same_number_lists (map (λ w. slice_index w i) words) (get_or answers i d).bytes
     (length-map words (λ w. slice_index w i) ∙ length-map columns word ∙ columns_size ∙ sym width)
     (λ j within_row.
     let inside_words : j < length words = subst (λ n. j < n) (length-map words (λ w. slice_index w i)) within_row in
     let inside_columns : j < length columns = subst (λ n. j < n) (length-map columns word) inside_words in
-    let j_below : j < 182 = omega arith in
     get_or-map (λ w. slice_index w i) words j [] 0 inside_words
-    ∙ ap (λ (w : List ℕ). slice_index w i) (get_or-map word columns j blank_column [] inside_columns ∙ own j blank_column j_below)
-    ∙ get_or-map (λ row. slice_index row j) rows i [] 0 inside))
+    ∙ ap (λ (w : List ℕ). slice_index w i) (get_or-map word columns j blank_column [] inside_columns)
+    ∙ kept.are j blank_column inside_columns i (omega (arith, height)) (unmarked-at answers i d inside answered)
+    ∙ get_or-map (λ row. slice_index row (0 + j)) rows i [] 0 inside_rows
+    ∙ ap (λ (row : List ℕ). slice_index row (0 + j)) (get_or-map bytes answers i d [] inside)
+    ∙ ap (λ n. slice_index (get_or answers i d).bytes n) {x = 0 + j} (omega arith))
 
--- no row of such a block is wrong
-pub rows-stand : (answers : List AnswerRow) (columns : List ColumnAnswer) → length answers ≡ 208 → length columns ≡ 182 → AreCodewords answers
-    → marked (failed_of (map answer_word answers)) ≡ 0 → AreOwnColumns answers columns → (k : ℕ) → k < 208
-    → vanishes_at_all 10 (line (from_columns (words_of_columns columns)) k) ≡ true
-rows-stand answers columns size columns_size codewords none own k below =
-    ap (λ (block : List (List ℕ)). vanishes_at_all 10 (line block k)) (stands answers columns size columns_size codewords none own)
-    ∙ codeword-vanishes 182 10 (line (bytes_of answers) k) (whole-codewords answers k size below codewords none)
-
--- all columns from the first on are their own answers
-pub own-whole : (answers : List AnswerRow) (columns : List ColumnAnswer) → length columns ≡ 182 → AreOwnFrom answers 0 columns → AreOwnColumns answers columns
-own-whole answers columns size from j d below =
-    subst (λ (n : ℕ). (get_or columns j d).bytes ≡ column (bytes_of answers) n) {x = 0 + j} (omega arith) (from.are j d (omega (arith, below, size)))
+-- and they vanish
+pub kept-vanish : (answers : List AnswerRow) (block : List (List ℕ)) (i : ℕ) → length answers ≡ 208 → AreCodewords answers → AreRowsKept answers block → i < 208
+    → get_or (failed_of (map answer_word answers)) i false ≡ false → vanishes_at_all 10 (line block i) ≡ true
+kept-vanish answers block i size codewords kept below clear =
+    let answered = answered-at answers i blank_answer (omega arith) clear in
+    ap (vanishes_at_all 10) (kept i blank_answer below answered)
+    ∙ codeword-vanishes 182 10 (get_or answers i blank_answer).bytes (answered-codeword answers i blank_answer below codewords answered)
 
 -- what is counted of row i of a captured block
-pub row-counted : (work : Work) (i : ℕ) (row : List ℕ) (default : AnswerRow) (count : ℕ) → i < 208 → HasAnswers (stage_of work) → row ≡ line (rows_of work) i
-    → ((marks : List Bool) → length marks ≡ 182 → IsAnswer row marks (get_or (answers_of_work work) i default)
-    → count ≡ distance row (get_or (answers_of_work work) i default).bytes)
-    → count ≡ distance (line (rows_of work) i) (line (bytes_of (answers_of_work work)) i)
-row-counted work i row default count below stage is counted =
+pub row-counted : (work : Work) (i : ℕ) (row : List ℕ) (default : AnswerRow) (block : List (List ℕ)) (count : ℕ) → i < 208 → HasAnswers (stage_of work)
+    → row ≡ line (rows_of work) i
+    → ((marks : List Bool) → length marks ≡ 182 → IsAnswer row marks (get_or (answers_of_work work) i default) → count ≡ distance row (line block i))
+    → count ≡ distance (line (rows_of work) i) (line block i)
+row-counted work i row default block count below stage is counted =
     let answers : List AnswerRow = answers_of_work work in
     let marks : List Bool = marks_line (marks_of_work work) i in
-    let inside : i < length answers = omega (arith, work.answers.size, work.answers.rows.ok.0) in
     let width : length marks ≡ 182 = marks-width work.marks i below in
     let told : IsAnswer row marks (get_or answers i default) = subst (λ (r : List ℕ). IsAnswer r marks (get_or answers i default)) (sym is) (work.answered stage i default below) in
-    counted marks width told
-    ∙ ap (λ (r : List ℕ). distance r (get_or answers i default).bytes) is
-    ∙ ap (distance (line (rows_of work) i)) (sym (get_or-map bytes answers i default [] inside))
+    counted marks width told ∙ ap (λ (r : List ℕ). distance r (line block i)) is

@@ -1,13 +1,14 @@
 -- Ours: what the buffers of a captured block hold between the passes, and what a piece of them holds whose rows or columns
 -- begin at one of the block's. All rows, and all columns, are the piece that begins at the first.
-use Rattle.std.specs.Prelude.{◌≡◌, ◌+◌, ◌<◌, ℕ, Bool, List, length, map, slice_index_or, Some, None, if◌then◌else◌}
+use Rattle.std.specs.Prelude.{◌≡◌, ◌+◌, ◌<◌, ℕ, Bool, true, List, length, map, slice_index_or, Some, None, is_some, if◌then◌else◌}
 use Rattle.std.specs.declared.option.Option.{Option}
 use Rattle.rs_decode.specs.declared.errors.Fix.{Fix}
+use Rattle.coding.specs.Filling.{AgreeUnmarked}
 use Rattle.coding.specs.Product.{column, line}
 use Rattle.dvd_capture.specs.Answers.{IsAnswer, marks_line}
 use Rattle.dvd_capture.specs.declared.parts.AnswerRow.{AnswerRow}
 use Rattle.dvd_capture.specs.declared.parts.ColumnAnswer.{ColumnAnswer}
-use Rattle.coding.specs.TwoPass.{column_answer}
+use Rattle.coding.specs.TwoPass.{column_answer, failed_of}
 
 -- a row's answer as a word or none
 abbrev pub answer_by : Option Fix → List ℕ → Option (List ℕ)
@@ -36,7 +37,12 @@ pub record AreColumnsFrom (answers : List (Option (List ℕ))) (start : ℕ) (pi
   pub are : (k : ℕ) (default : ColumnAnswer) → k < length piece
       → column_word (slice_index_or piece k default) ≡ column_answer answers (start + k)
 
--- these have the bytes of the columns of these answers from `start` on
-pub record AreOwnFrom (answers : List AnswerRow) (start : ℕ) (piece : List ColumnAnswer) : Type 0 where
+-- these have, in each row that didn't fail, the bytes of the columns of these answers from `start` on
+pub record AreKeptFrom (answers : List AnswerRow) (start : ℕ) (piece : List ColumnAnswer) : Type 0 where
   pub are : (k : ℕ) (default : ColumnAnswer) → k < length piece
-      → (slice_index_or piece k default).bytes ≡ column (bytes_of answers) (start + k)
+      → AgreeUnmarked (failed_of (map answer_word answers)) (column (bytes_of answers) (start + k)) (slice_index_or piece k default).bytes
+
+-- a block has the answers of all rows that didn't fail
+abbrev pub AreRowsKept : List AnswerRow → List (List ℕ) → Type 0
+AreRowsKept answers block =
+    (i : ℕ) (default : AnswerRow) → i < 208 → is_some (slice_index_or answers i default).fix ≡ true → line block i ≡ (slice_index_or answers i default).bytes

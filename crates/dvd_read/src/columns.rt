@@ -1,27 +1,27 @@
 //! The second pass: each column of the rows' answers is answered by the codeword near it, the failed rows being marked.
-ghost use Rattle.std.specs.Prelude.{◌≡◌, ℕ, ◌+◌, ◌<◌, ◌≤◌, IsTrue, false, length, map, slice_index, slice_index_or, position, not, MatchOption};
+ghost use Rattle.std.specs.Prelude.{◌≡◌, ℕ, ◌+◌, ◌<◌, ◌≤◌, IsTrue, true, false, length, map, slice_index, slice_index_or, position, not, MatchOption};
 ghost use Rattle.coding.specs.Field.{alpha, power};
 ghost use Rattle.coding.specs.Words.{IsCodeword, value};
 ghost use Rattle.rs_code.specs.Syndromes.{syndromes_of};
 ghost use Rattle.coding.specs.TwoPass.{failed_of, from_columns};
 ghost use Rattle.coding.specs.Nearest.{near_of, vanishes_at_all};
-ghost use Rattle.coding.specs.Filling.{marked};
+ghost use Rattle.coding.specs.Filling.{AgreeUnmarked, marked};
 ghost use Rattle.coding.specs.Product.{column, line, place};
-ghost use Rattle.dvd_read.specs.Parts.{AreColumnsFrom, AreOwnFrom, answer_word, column_word};
+ghost use Rattle.dvd_read.specs.Parts.{AreColumnsFrom, AreKeptFrom, answer_word, column_word};
 ghost use Rattle.dvd_read.specs.Inner.Found.{AreRightFrom, IsFirstWrongRow, words_of_columns};
-ghost use Rattle.dvd_read.specs.Inner.Standing.{AreCopied};
+ghost use Rattle.dvd_read.specs.Inner.Standing.{AreCopied, AreOwnFrom};
 
 use crate::lanes::lane_of;
-use crate::rows::MOST_FAILED;
+use crate::rows::{MOST_FAILED, is_codeword};
 use arrayvec::ArrayVec;
 use dvd_capture::parts::{AnswerRow, ColumnAnswer};
-use rs_code::Po;
+use rs_code::{Pi, Po};
 use rs_decode::{Erasures, decode_from};
 use rs_lanes::{any_of, column_values, load, load_turned, store, turned_values};
 use std::simd::prelude::*;
 
-/// Answers the columns from `start` on, one for each place of a piece of the columns. Answers whether each is as its rows
-/// were answered: no row failed, and the column is its own answer.
+/// Answers the columns from `start` on, one for each place of a piece of the columns. Answers whether they correct no row
+/// that was answered.
 pub fn answer_columns(
     code: &Po,
     answers: &[AnswerRow],
@@ -33,8 +33,7 @@ pub fn answer_columns(
     requires marks { failed.now ≡ failed_of (map answer_word answers.now) }
     requires columns { start + length piece.old ≤ 182 }
     ensures columns { AreColumnsFrom (map answer_word answers.now) start piece.new }
-    ensures none_failed { IsTrue result → marked failed.now ≡ 0 }
-    ensures own { IsTrue result → AreOwnFrom answers.now start piece.new }
+    ensures kept { IsTrue result → AreKeptFrom answers.now start piece.new }
 {
     copy_columns(answers, start, piece);
     match Erasures::shared(failed, usize::from(MOST_FAILED)) {
@@ -111,8 +110,7 @@ fn leave_unanswered(piece: &mut [ColumnAnswer])
     }
 }
 
-// Answers columns whose bytes are copied, with the failed rows marked. Answers whether no row failed and each column is its
-// own answer.
+// Answers columns whose bytes are copied, with the failed rows marked. Answers whether they correct no row that was answered.
 fn answer_copied(
     code: &Po,
     answers: &[AnswerRow],
@@ -126,20 +124,19 @@ fn answer_copied(
     requires columns { start + length piece.old ≤ 182 }
     requires own { AreOwnFrom answers.now start piece.old }
     ensures columns { AreColumnsFrom (map answer_word answers.now) start piece.new }
-    ensures none_failed { IsTrue result → marked erasures.now.marks ≡ 0 }
-    ensures own { IsTrue result → AreOwnFrom answers.now start piece.new }
+    ensures kept { IsTrue result → AreKeptFrom answers.now start piece.new }
 {
-    let mut stands = erasures.is_empty();
+    let mut are_kept = true;
     for group in 0..piece.len().div_ceil(32) {
         let at = 32 * group;
         let end = piece.len().min(at + 32);
-        let group_stands = answer_group(code, answers, erasures, start + at, &mut piece[at..end]);
-        stands = stands && group_stands;
+        let group_is_kept = answer_group(code, answers, erasures, start + at, &mut piece[at..end]);
+        are_kept = are_kept && group_is_kept;
     }
-    stands
+    are_kept
 }
 
-// Answers at most 32 of these columns, by their values. Answers whether each is its own answer.
+// Answers at most 32 of these columns, by their values. Answers whether they correct no row that was answered.
 // The values that test a column are its syndromes too, so that a column isn't read once more to be decoded.
 fn answer_group(
     code: &Po,
@@ -156,23 +153,23 @@ fn answer_group(
     requires own { AreOwnFrom answers.now start piece.old }
     ensures size { length piece.new ≡ length piece.old }
     ensures columns { AreColumnsFrom (map answer_word answers.now) start piece.new }
-    ensures own { IsTrue result → AreOwnFrom answers.now start piece.new }
+    ensures kept { IsTrue result → AreKeptFrom answers.now start piece.new }
 {
     // The values of 32 columns are found even where fewer follow.
     let left = start.min(150);
     let values = column_values(answers, left);
     let wrong = any_of(&values);
-    let mut stands = true;
+    let mut are_kept = true;
     for (k, column) in piece.iter_mut().enumerate() {
         let n = start - left + k;
-        let whole = answer_column(code, erasures, &values, n, wrong[n], column);
-        stands = stands && whole;
+        let is_kept = answer_column(code, erasures, &values, n, wrong[n], column);
+        are_kept = are_kept && is_kept;
     }
-    stands
+    are_kept
 }
 
 // Answers one column, whose values stand in lane `n`; `wrong` is zero where they all are. A codeword is its own answer, also
-// where rows failed: each costs one, and at most sixteen did. Answers whether it is one.
+// where rows failed: each costs one, and at most sixteen did. Answers whether nothing is corrected in rows that aren't marked.
 fn answer_column(
     code: &Po,
     erasures: &Erasures<208>,
@@ -186,29 +183,35 @@ fn answer_column(
     requires values { (k : ℕ) → k < 16 → place values.now k n ≡ value column.old.bytes (power alpha k) }
     requires wrong { wrong ≡ 0 → IsCodeword 208 16 column.old.bytes }
     ensures answered { column_word column.new ≡ near_of 208 16 column.old.bytes erasures.now.marks }
-    ensures own { IsTrue result → column.new.bytes ≡ column.old.bytes }
+    ensures kept { IsTrue result → AgreeUnmarked erasures.now.marks column.old.bytes column.new.bytes }
 {
     if wrong == 0 {
         column.answered = true;
         return true;
     }
-    decode_column(code, erasures, lane_of(values, n), column);
-    false
+    decode_column(code, erasures, lane_of(values, n), column)
 }
 
-// Answers one column by its syndromes, in its place.
+// Answers one column by its syndromes, in its place. Answers whether nothing is corrected in rows that aren't marked.
 fn decode_column(
     code: &Po,
     erasures: &Erasures<208>,
     syndromes: ArrayVec<u8, 32>,
     column: &mut ColumnAnswer,
-)
+) -> bool
     requires { syndromes.items ≡ syndromes_of 16 column.old.bytes }
-    ensures { column_word column.new ≡ near_of 208 16 column.old.bytes erasures.now.marks }
+    ensures answered { column_word column.new ≡ near_of 208 16 column.old.bytes erasures.now.marks }
+    ensures kept { IsTrue result → AgreeUnmarked erasures.now.marks column.old.bytes column.new.bytes }
 {
     match decode_from(code, erasures, syndromes, &mut column.bytes) {
-        Ok(_) => column.answered = true,
-        Err(_) => column.answered = false,
+        Ok(fix) => {
+            column.answered = true;
+            fix.errors == 0
+        }
+        Err(_) => {
+            column.answered = false;
+            false
+        }
     }
 }
 
@@ -220,6 +223,29 @@ pub(crate) fn first_missing(columns: &[ColumnAnswer]) -> Option<u16>
     for (j, column) in columns.iter().enumerate() {
         if !column.answered {
             return Some(j as u16);
+        }
+    }
+    None
+}
+
+/// The first of the failed rows of the columns' words that isn't a codeword, where all others are.
+pub(crate) fn first_wrong_failed(
+    code: &Pi,
+    columns: &[ColumnAnswer],
+    failed: &[bool; 208],
+) -> Option<u16>
+    requires columns { length columns.now ≡ 182 }
+    requires others { (i : ℕ) → i < 208 → slice_index_or failed.now i false ≡ false
+        → vanishes_at_all 10 (line (from_columns (words_of_columns columns.now)) i) ≡ true }
+    ensures { result ≡ position (λ row. not (vanishes_at_all 10 row)) (from_columns (words_of_columns columns.now)) }
+{
+    let mut row = [0; 182];
+    for i in 0..208usize {
+        if failed[i] {
+            read_row(columns, i, &mut row);
+            if !is_codeword(code, &row) {
+                return Some(i as u16);
+            }
         }
     }
     None

@@ -3,15 +3,16 @@ ghost use Rattle.std.specs.Prelude.{◌≡◌, ℕ, ◌+◌, ◌*◌, ◌<◌, �
 ghost use Rattle.coding.specs.Product.{line};
 ghost use Rattle.dvd_capture.specs.Parts.{received_rows, sector_bytes};
 ghost use Rattle.coding.specs.TwoPass.{from_columns};
-ghost use Rattle.dvd_capture.specs.Works.{block_of, rows_of, stage_of};
+ghost use Rattle.dvd_capture.specs.Works.{answers_of_work, block_of, rows_of, stage_of};
 ghost use Rattle.dvd_layout.specs.Place.{HasNumbers};
 ghost use Rattle.dvd_read.specs.Calls.{AreFramesChecked};
+ghost use Rattle.dvd_read.specs.Parts.{AreRowsKept};
 ghost use Rattle.coding.specs.Found.{block_differences};
 ghost use Rattle.dvd_read.specs.Inner.Found.{words_of_columns};
 ghost use Rattle.dvd_decoding.specs.Frames.{cause_in, fault_at, frame_of, frames_cause, main_at, main_data};
 
 use crate::columns::read_row;
-use dvd_capture::parts::{ColumnAnswer, Received, Sectors};
+use dvd_capture::parts::{AnswerRow, ColumnAnswer, Received, Sectors};
 use dvd_capture::{Stage, Work};
 use dvd_decoding::Cause;
 use dvd_frame::{FrameCause, Scrambler, read_frame, read_frame_with};
@@ -26,25 +27,49 @@ pub fn sectors(work: &mut Work, plan: &BlockPlan) -> Result<(), Cause>
     requires numbers { HasNumbers plan.now }
     ensures { AreFramesChecked work.old work.new plan.now result }
 {
-    sectors_of_block(work, plan, false)
+    sectors_of_block(work, plan, Source::Columns)
 }
 
-/// Checks the frames as `sectors` does. Where two passes fixed no byte, the block is what was received, and its frames are
-/// taken from there: row by row, and not from all columns.
-pub fn sectors_of_block(work: &mut Work, plan: &BlockPlan, as_received: bool) -> Result<(), Cause>
+/// Where the rows of a block that two passes fixed are read. They are whole in the received rows and in the rows' answers, and
+/// spread over all columns.
+#[derive(Clone, Copy, Debug, PartialEq, Eq)]
+pub enum Source {
+    /// In what was received, where the block is that.
+    Received,
+    /// In the rows' answers, where those are the block's, and the failed rows in the columns.
+    Answers,
+    /// In the columns.
+    Columns,
+}
+
+impl Source {
+    /// Where the rows of a block are read of which so many bytes were fixed, and whose answered rows are kept or may not be.
+    pub fn of(bytes: u32, are_kept: bool) -> Source
+        ensures received { result ≡ Source.Received → bytes ≡ 0 }
+        ensures answers { result ≡ Source.Answers → IsTrue are_kept }
+    {
+        if bytes == 0 {
+            Source::Received
+        } else if are_kept {
+            Source::Answers
+        } else {
+            Source::Columns
+        }
+    }
+}
+
+/// Checks the frames as `sectors` does, of rows that are read from this source.
+pub fn sectors_of_block(work: &mut Work, plan: &BlockPlan, source: Source) -> Result<(), Cause>
     requires stage { stage_of work.old ≡ Stage.Fixed }
     requires numbers { HasNumbers plan.now }
-    requires as_received { IsTrue as_received → block_differences (rows_of work.old) (block_of work.old) ≡ 0 }
+    requires received { source ≡ Source.Received → block_differences (rows_of work.old) (block_of work.old) ≡ 0 }
+    requires answers { source ≡ Source.Answers → AreRowsKept (answers_of_work work.old) (block_of work.old) }
     ensures { AreFramesChecked work.old work.new plan.now result }
 {
+    let answers = work.answers.rows();
     let columns = work.columns.all();
-    match read_frames(
-        &work.received,
-        columns,
-        as_received,
-        plan,
-        &mut work.sectors,
-    ) {
+    let sectors = &mut work.sectors;
+    match read_frames(&work.received, answers, columns, source, plan, sectors) {
         Ok(()) => Ok(()),
         Err(cause) => {
             work.blank();
@@ -56,13 +81,16 @@ pub fn sectors_of_block(work: &mut Work, plan: &BlockPlan, as_received: bool) ->
 // Reads the frames of the block of these columns into the sectors, up to the first that has a cause.
 fn read_frames(
     received: &Received,
+    answers: &[AnswerRow],
     columns: &[ColumnAnswer],
-    as_received: bool,
+    source: Source,
     plan: &BlockPlan,
     sectors: &mut Sectors,
 ) -> Result<(), Cause>
+    requires rows { length answers.now ≡ 208 }
     requires columns { length columns.now ≡ 182 }
-    requires as_received { IsTrue as_received → block_differences (received_rows received.now) (from_columns (words_of_columns columns.now)) ≡ 0 }
+    requires received { source ≡ Source.Received → block_differences (received_rows received.now) (from_columns (words_of_columns columns.now)) ≡ 0 }
+    requires answers { source ≡ Source.Answers → AreRowsKept answers.now (from_columns (words_of_columns columns.now)) }
     requires numbers { HasNumbers plan.now }
     ensures refused { IfErr result (λ cause. frames_cause (from_columns (words_of_columns columns.now)) plan.now ≡ Some cause) }
     ensures right { OnOk result (frames_cause (from_columns (words_of_columns columns.now)) plan.now ≡ None) }
@@ -72,7 +100,7 @@ fn read_frames(
     let mut scrambler = Scrambler::new();
     let mut frame = [0; 2064];
     for f in 0..16usize {
-        get_frame(received, columns, as_received, f, &mut frame);
+        get_frame(received, answers, columns, source, f, &mut frame);
         let want = id_of(plan, false, f);
         let rule = rule_of(plan.content, f);
         let main = sectors.sector_mut(f);
@@ -116,23 +144,64 @@ fn cause_of(f: u8, cause: FrameCause) -> Cause
     }
 }
 
-// Writes frame `f` of the block of these columns, which may be what was received.
+// Writes frame `f` of the block of these columns, whose rows are read from this source.
 fn get_frame(
     received: &Received,
+    answers: &[AnswerRow],
     columns: &[ColumnAnswer],
-    as_received: bool,
+    source: Source,
     f: usize,
     frame: &mut [u8; 2064],
 )
+    requires rows { length answers.now ≡ 208 }
     requires columns { length columns.now ≡ 182 }
-    requires as_received { IsTrue as_received → block_differences (received_rows received.now) (from_columns (words_of_columns columns.now)) ≡ 0 }
+    requires received { source ≡ Source.Received → block_differences (received_rows received.now) (from_columns (words_of_columns columns.now)) ≡ 0 }
+    requires answers { source ≡ Source.Answers → AreRowsKept answers.now (from_columns (words_of_columns columns.now)) }
     requires frame { f < 16 }
     ensures { frame.new ≡ frame_of (from_columns (words_of_columns columns.now)) f }
 {
-    if as_received {
-        copy_received(received.rows(), f, frame);
+    match source {
+        Source::Received => copy_received(received.rows(), f, frame),
+        Source::Answers => copy_kept(answers, columns, f, frame),
+        Source::Columns => copy_frame(columns, f, frame),
+    }
+}
+
+// Writes frame `f` of the rows' answers, which are the block's, and of its failed rows.
+fn copy_kept(answers: &[AnswerRow], columns: &[ColumnAnswer], f: usize, frame: &mut [u8; 2064])
+    requires rows { length answers.now ≡ 208 }
+    requires columns { length columns.now ≡ 182 }
+    requires kept { AreRowsKept answers.now (from_columns (words_of_columns columns.now)) }
+    requires frame { f < 16 }
+    ensures { frame.new ≡ frame_of (from_columns (words_of_columns columns.now)) f }
+{
+    for q in 0..12usize {
+        put_kept_row(answers, columns, 12 * f + q, 172 * q, frame);
+    }
+}
+
+// Writes the first 172 bytes of row `i` behind what stands before them.
+fn put_kept_row(
+    answers: &[AnswerRow],
+    columns: &[ColumnAnswer],
+    i: usize,
+    at: usize,
+    frame: &mut [u8; 2064],
+)
+    requires rows { length answers.now ≡ 208 }
+    requires columns { length columns.now ≡ 182 }
+    requires kept { AreRowsKept answers.now (from_columns (words_of_columns columns.now)) }
+    requires row { i < 208 }
+    requires at { at + 172 ≤ 2064 }
+    ensures { take (at + 172) frame.new ≡ take at frame.old ++ take 172 (line (from_columns (words_of_columns columns.now)) i) }
+{
+    let answer = &answers[i];
+    if answer.fix.is_some() {
+        put_front(frame, at, &answer.bytes);
     } else {
-        copy_frame(columns, f, frame);
+        let mut row = [0; 182];
+        read_row(columns, i, &mut row);
+        put_front(frame, at, &row);
     }
 }
 

@@ -2,7 +2,7 @@
 //! once. `two_pass` and `read_block` are made of the same calls, with one piece each. One frame is salvaged by itself, for
 //! whoever asks which of the sixteen are.
 pub use crate::columns::answer_columns;
-pub use crate::frames::sectors_of_block;
+pub use crate::frames::{Source, sectors_of_block};
 pub use crate::passes::settle;
 pub use crate::rescue::salvage_frame;
-pub use crate::rows::{answer_rows, are_few, count_failed, mark_failed};
+pub use crate::rows::{answer_rows, are_few, count_failed, is_codeword, mark_failed};

@@ -1,7 +1,9 @@
 //! Both passes over a captured block, and the test of the rows.
-ghost use Rattle.std.specs.Prelude.{◌≡◌, ◌<◌, ◌≤◌, Bool, List, None, Some, length, map, IsTrue, IfErr, IfOk, OnErr, OnOk};
+ghost use Rattle.std.specs.Prelude.{◌≡◌, ℕ, ◌<◌, ◌≤◌, Bool, List, None, Some, true, false, is_some, length, map, not, position, slice_index_or, IsTrue, IfErr, IfOk, OnErr, OnOk};
 ghost use Rattle.coding.specs.Distance.{distance};
 ghost use Rattle.coding.specs.Filling.{marked};
+ghost use Rattle.coding.specs.Nearest.{vanishes_at_all};
+ghost use Rattle.coding.specs.Product.{line};
 ghost use Rattle.dvd_capture.specs.Answers.{AreAnswers, IsAnswer};
 ghost use Rattle.dvd_capture.specs.Rule.{HasAnswers, HasBlock, HasNoTwoPass};
 ghost use Rattle.coding.specs.TwoPass.{AgreesWith, answers_of, failed_of, from_columns, IsTwoPass};
@@ -10,11 +12,11 @@ ghost use Rattle.dvd_capture.specs.Parts.{column_answers, received_rows};
 ghost use Rattle.dvd_read.specs.Calls.{IsDecoded};
 ghost use Rattle.dvd_decoding.specs.Causes.{two_pass_cause};
 ghost use Rattle.coding.specs.Found.{block_differences, block_found};
-ghost use Rattle.dvd_read.specs.Parts.{AreAnswersFrom, AreColumnsFrom, AreOwnFrom, answer_word, bytes_of};
+ghost use Rattle.dvd_read.specs.Parts.{AreAnswersFrom, AreColumnsFrom, AreKeptFrom, AreRowsKept, answer_word};
 ghost use Rattle.dvd_read.specs.Inner.Found.{words_of_columns};
 ghost use Rattle.dvd_read.specs.Inner.Standing.{AreCodewords};
 
-use crate::columns::{answer_columns, first_missing, first_wrong, read_row};
+use crate::columns::{answer_columns, first_missing, first_wrong, first_wrong_failed, read_row};
 use crate::fixed::Fixed;
 use crate::rows::{MOST_FAILED, answer_rows, are_few, count_failed, mark_failed};
 use dvd_capture::parts::{AnswerRow, ColumnAnswer, Received};
@@ -30,6 +32,21 @@ pub fn two_pass(work: &mut Work) -> Result<Fixed, Cause>
 
     ensures { IsDecoded work.old work.new result }
 {
+    let are_kept = answer_block(work);
+    settle(work, are_kept)
+}
+
+/// Answers the rows and columns of a captured block. Answers whether the columns correct no row that was answered.
+pub(crate) fn answer_block(work: &mut Work) -> bool
+    requires { HasBlock (stage_of work.old) }
+    ensures answers { AreAnswersFrom (rows_of work.old) (marks_of_work work.old) 0 (answers_of_work work.new) }
+    ensures columns { marked (failed_of (map answer_word (answers_of_work work.new))) ≤ 16
+        → AreColumnsFrom (map answer_word (answers_of_work work.new)) 0 (column_answers work.new.columns) }
+    ensures kept { IsTrue result → AreKeptFrom (answers_of_work work.new) 0 (column_answers work.new.columns) }
+    ensures received { work.new.received ≡ work.old.received }
+    ensures marks { work.new.marks ≡ work.old.marks }
+    ensures sectors { work.new.sectors ≡ work.old.sectors }
+{
     work.set_stage(Stage::Fetched);
     answer_rows(
         &Pi::new(),
@@ -38,17 +55,15 @@ pub fn two_pass(work: &mut Work) -> Result<Fixed, Cause>
         0,
         work.answers.rows_mut(),
     );
-    let stands = answer_all_columns(work.answers.rows(), work.columns.all_mut());
-    settle(work, stands)
+    answer_all_columns(work.answers.rows(), work.columns.all_mut())
 }
 
-// The second pass, where no more rows failed than it can bear. Answers whether the block stands as its rows were answered.
+// The second pass, where no more rows failed than it can bear. Answers whether it corrects no row that was answered.
 fn answer_all_columns(answers: &[AnswerRow], columns: &mut [ColumnAnswer]) -> bool
     requires rows { length answers.now ≡ 208 }
     requires columns { length columns.old ≡ 182 }
     ensures columns { marked (failed_of (map answer_word answers.now)) ≤ 16 → AreColumnsFrom (map answer_word answers.now) 0 columns.new }
-    ensures none_failed { IsTrue result → marked (failed_of (map answer_word answers.now)) ≡ 0 }
-    ensures own { IsTrue result → AreOwnFrom answers.now 0 columns.new }
+    ensures kept { IsTrue result → AreKeptFrom answers.now 0 columns.new }
 {
     let mut failed = [false; 208];
     mark_failed(answers, &mut failed);
@@ -59,20 +74,20 @@ fn answer_all_columns(answers: &[AnswerRow], columns: &mut [ColumnAnswer]) -> bo
 }
 
 /// Sets the stage of a block whose rows and columns are answered, as `two_pass` does: the block of these columns must have
-/// codewords in all its rows. Where it stands as its rows were answered they are codewords, and need no test.
-pub fn settle(work: &mut Work, stands: bool) -> Result<Fixed, Cause>
+/// codewords in all its rows. Where the columns correct no row that was answered, these rows are codewords and need no test.
+pub fn settle(work: &mut Work, are_kept: bool) -> Result<Fixed, Cause>
     requires answers { AreAnswersFrom (rows_of work.old) (marks_of_work work.old) 0 (answers_of_work work.old) }
     requires columns { marked (failed_of (map answer_word (answers_of_work work.old))) ≤ 16
         → AreColumnsFrom (map answer_word (answers_of_work work.old)) 0 (column_answers work.old.columns) }
-    requires none_failed { IsTrue stands → marked (failed_of (map answer_word (answers_of_work work.old))) ≡ 0 }
-    requires own { IsTrue stands → AreOwnFrom (answers_of_work work.old) 0 (column_answers work.old.columns) }
+    requires kept { IsTrue are_kept → AreKeptFrom (answers_of_work work.old) 0 (column_answers work.old.columns) }
 
-    ensures { IsDecoded work.old work.new result }
+    ensures decoded { IsDecoded work.old work.new result }
+    ensures rows { IsTrue are_kept → AreRowsKept (answers_of_work work.new) (block_of work.new) }
 {
-    match find_block(work, stands) {
+    match find_block(work, are_kept) {
         Ok(failed_rows) => {
             work.set_stage(Stage::Fixed);
-            let bytes = count_fixed(work, stands);
+            let bytes = count_fixed(work, are_kept);
             Ok(Fixed { bytes, failed_rows })
         }
         Err(cause) => {
@@ -83,12 +98,11 @@ pub fn settle(work: &mut Work, stands: bool) -> Result<Fixed, Cause>
 }
 
 // How many rows failed, or why there is no block.
-fn find_block(work: &Work, stands: bool) -> Result<u16, Cause>
+fn find_block(work: &Work, are_kept: bool) -> Result<u16, Cause>
     requires answers { AreAnswersFrom (rows_of work.now) (marks_of_work work.now) 0 (answers_of_work work.now) }
     requires columns { marked (failed_of (map answer_word (answers_of_work work.now))) ≤ 16
         → AreColumnsFrom (map answer_word (answers_of_work work.now)) 0 (column_answers work.now.columns) }
-    requires none_failed { IsTrue stands → marked (failed_of (map answer_word (answers_of_work work.now))) ≡ 0 }
-    requires own { IsTrue stands → AreOwnFrom (answers_of_work work.now) 0 (column_answers work.now.columns) }
+    requires kept { IsTrue are_kept → AreKeptFrom (answers_of_work work.now) 0 (column_answers work.now.columns) }
     ensures answers { AreAnswers (rows_of work.now) (marks_of_work work.now) (answers_of_work work.now) }
     ensures refused { IfErr result (λ cause. two_pass_cause (answers_of (rows_of work.now) (marks_of_work work.now)) ≡ Some cause) }
     ensures none { OnErr result (HasNoTwoPass (rows_of work.now) (marks_of_work work.now)) }
@@ -96,27 +110,30 @@ fn find_block(work: &Work, stands: bool) -> Result<u16, Cause>
     ensures block { OnOk result (block_of work.now ≡ block_found (answers_of (rows_of work.now) (marks_of_work work.now))) }
     ensures agrees { OnOk result (IsTwoPass (rows_of work.now) (marks_of_work work.now) (block_of work.now)) }
     ensures failed { IfOk result (λ failed. failed ≡ marked (failed_of (answers_of (rows_of work.now) (marks_of_work work.now)))) }
-    ensures stands { IsTrue stands → block_of work.now ≡ bytes_of (answers_of_work work.now) }
+    ensures rows { IsTrue are_kept → AreRowsKept (answers_of_work work.now) (block_of work.now) }
 {
-    find_columns(work.answers.rows(), work.columns.all(), stands)
+    find_columns(work.answers.rows(), work.columns.all(), are_kept)
 }
 
 // The same of the answers alone.
 // More than 16 failed rows leave no column an answer, so they are counted first. The columns alone don't make a product
 // codeword: without the test of the rows a block could be answered that was never recorded.
-fn find_columns(answers: &[AnswerRow], columns: &[ColumnAnswer], stands: bool) -> Result<u16, Cause>
+fn find_columns(
+    answers: &[AnswerRow],
+    columns: &[ColumnAnswer],
+    are_kept: bool,
+) -> Result<u16, Cause>
     requires rows { length answers.now ≡ 208 }
     requires codewords { AreCodewords answers.now }
     requires columns { length columns.now ≡ 182 }
     requires answered { marked (failed_of (map answer_word answers.now)) ≤ 16 → AreColumnsFrom (map answer_word answers.now) 0 columns.now }
-    requires none_failed { IsTrue stands → marked (failed_of (map answer_word answers.now)) ≡ 0 }
-    requires own { IsTrue stands → AreOwnFrom answers.now 0 columns.now }
+    requires kept { IsTrue are_kept → AreKeptFrom answers.now 0 columns.now }
     ensures refused { IfErr result (λ cause. two_pass_cause (map answer_word answers.now) ≡ Some cause) }
     ensures found { OnOk result (two_pass_cause (map answer_word answers.now) ≡ None) }
     ensures block { OnOk result (from_columns (words_of_columns columns.now) ≡ block_found (map answer_word answers.now)) }
     ensures agrees { OnOk result (AgreesWith (map answer_word answers.now) (from_columns (words_of_columns columns.now))) }
     ensures failed { IfOk result (λ failed. failed ≡ marked (failed_of (map answer_word answers.now))) }
-    ensures stands { IsTrue stands → from_columns (words_of_columns columns.now) ≡ bytes_of answers.now }
+    ensures rows { IsTrue are_kept → AreRowsKept answers.now (from_columns (words_of_columns columns.now)) }
 {
     let mut failed = [false; 208];
     mark_failed(answers, &mut failed);
@@ -129,49 +146,77 @@ fn find_columns(answers: &[AnswerRow], columns: &[ColumnAnswer], stands: bool) -
     if let Some(j) = first_missing(columns) {
         return Err(Cause::Column { j });
     }
-    if stands {
-        return Ok(failed_rows);
+    match find_wrong(columns, &failed, are_kept) {
+        Some(i) => Err(Cause::Row { i }),
+        None => Ok(failed_rows),
     }
-    if let Some(i) = first_wrong(columns) {
-        return Err(Cause::Row { i });
+}
+
+// The first row of the columns' words that isn't a codeword. Where rows that were answered are kept, they needn't be looked at.
+fn find_wrong(columns: &[ColumnAnswer], failed: &[bool; 208], are_kept: bool) -> Option<u16>
+    requires columns { length columns.now ≡ 182 }
+    requires kept { IsTrue are_kept → (i : ℕ) → i < 208 → slice_index_or failed.now i false ≡ false
+        → vanishes_at_all 10 (line (from_columns (words_of_columns columns.now)) i) ≡ true }
+    ensures { result ≡ position (λ row. not (vanishes_at_all 10 row)) (from_columns (words_of_columns columns.now)) }
+{
+    if are_kept {
+        first_wrong_failed(&Pi::new(), columns, failed)
+    } else {
+        first_wrong(columns)
     }
-    Ok(failed_rows)
 }
 
 // In how many places the block differs from what was received.
-fn count_fixed(work: &Work, stands: bool) -> u32
+fn count_fixed(work: &Work, are_kept: bool) -> u32
     requires stage { HasAnswers (stage_of work.now) }
-    requires stands { IsTrue stands → block_of work.now ≡ bytes_of (answers_of_work work.now) }
+    requires kept { IsTrue are_kept → AreRowsKept (answers_of_work work.now) (block_of work.now) }
     ensures { result ≡ block_differences (rows_of work.now) (block_of work.now) }
 {
-    if stands {
+    if are_kept {
         count_corrections(work)
     } else {
         count_differences(&work.received, work.columns.all())
     }
 }
 
-// In how many places the rows' answers differ from what was received.
+// The same where the rows that were answered are those of the block.
 fn count_corrections(work: &Work) -> u32
-    requires { HasAnswers (stage_of work.now) }
-    ensures { result ≡ block_differences (rows_of work.now) (bytes_of (answers_of_work work.now)) }
+    requires stage { HasAnswers (stage_of work.now) }
+    requires kept { AreRowsKept (answers_of_work work.now) (block_of work.now) }
+    ensures { result ≡ block_differences (rows_of work.now) (block_of work.now) }
 {
     let answers = work.answers.rows();
+    let columns = work.columns.all();
     let mut count = 0;
     for i in 0..208usize {
-        count += row_corrections(work.received.row(i), &answers[i]);
+        count += row_corrections(work.received.row(i), &answers[i], columns, i);
     }
     count
 }
 
-// In how many places the answer to one row differs from it: in none where nothing was corrected and nothing marked.
-fn row_corrections(row: &[u8; 182], answer: &AnswerRow) -> u32
-    ensures count { (marks : List Bool) → length marks ≡ 182 → IsAnswer row.now marks answer.now → result ≡ distance row.now answer.now.bytes }
+// In how many places row `i` of the block differs from what was received: in none where nothing was corrected and nothing
+// marked.
+fn row_corrections(
+    received: &[u8; 182],
+    answer: &AnswerRow,
+    columns: &[ColumnAnswer],
+    i: usize,
+) -> u32
+    requires columns { length columns.now ≡ 182 }
+    requires row { i < 208 }
+    requires kept { is_some answer.now.fix ≡ true → line (from_columns (words_of_columns columns.now)) i ≡ answer.now.bytes }
+    ensures count { (marks : List Bool) → length marks ≡ 182 → IsAnswer received.now marks answer.now
+        → result ≡ distance received.now (line (from_columns (words_of_columns columns.now)) i) }
     ensures most { result ≤ 182 }
 {
     match answer.fix {
         Some(fix) if fix.errors == 0 && fix.erased == 0 => 0,
-        _ => row_differences(row, &answer.bytes),
+        Some(_) => row_differences(received, &answer.bytes),
+        None => {
+            let mut row = [0; 182];
+            read_row(columns, i, &mut row);
+            row_differences(received, &row)
+        }
     }
 }
 

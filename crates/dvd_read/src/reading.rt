@@ -5,8 +5,8 @@ ghost use Rattle.dvd_layout.specs.Place.{HasNumbers};
 ghost use Rattle.dvd_read.specs.Calls.{IsBlockRead};
 
 use crate::fixed::Fixed;
-use crate::frames::sectors_of_block;
-use crate::passes::two_pass;
+use crate::frames::{Source, sectors_of_block};
+use crate::passes::{answer_block, settle};
 use dvd_capture::Work;
 use dvd_decoding::Cause;
 use dvd_layout::BlockPlan;
@@ -19,9 +19,10 @@ pub fn read_block(work: &mut Work, plan: &BlockPlan) -> Result<Fixed, Cause>
     requires numbers { HasNumbers plan.now }
     ensures { IsBlockRead work.old work.new plan.now result }
 {
-    match two_pass(work) {
+    let are_kept = answer_block(work);
+    match settle(work, are_kept) {
         Ok(fixed) => {
-            sectors_of_block(work, plan, fixed.bytes == 0)?;
+            sectors_of_block(work, plan, Source::of(fixed.bytes, are_kept))?;
             Ok(fixed)
         }
         Err(cause) => {

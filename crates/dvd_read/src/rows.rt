@@ -6,6 +6,7 @@ ghost use Rattle.rs_code.specs.Syndromes.{syndromes_of};
 ghost use Rattle.coding.specs.Filling.{marked};
 ghost use Rattle.dvd_capture.specs.Answers.{IsAnswer};
 ghost use Rattle.dvd_capture.specs.Parts.{marks_rows, received_rows};
+ghost use Rattle.coding.specs.Nearest.{vanishes_at_all};
 ghost use Rattle.coding.specs.TwoPass.{failed_of};
 ghost use Rattle.dvd_read.specs.Parts.{AreAnswersFrom, answer_word};
 
@@ -13,7 +14,7 @@ use crate::lanes::lane_of;
 use arrayvec::ArrayVec;
 use dvd_capture::parts::{AnswerRow, Marks, Received};
 use rs_code::Pi;
-use rs_decode::{Erasures, Fix, decode, decode_from};
+use rs_decode::{Erasures, Fix, decode_from};
 use rs_lanes::{any_of, row_values};
 use std::simd::prelude::*;
 
@@ -64,13 +65,14 @@ fn answer_group(
     let mut row_marks = [false; 182];
     for (k, answer) in piece.iter_mut().enumerate() {
         let i = start + k;
+        let row = received.row(i);
         if !marks.is_clear(i) {
             marks.row(i, &mut row_marks);
-            answer_row(code, received.row(i), &row_marks, answer);
+            answer_marked(code, row, &row_marks, lane_of(&values, i - top), answer);
         } else if wrong[i - top] == 0 {
-            answer_codeword(received.row(i), answer);
+            answer_codeword(row, answer);
         } else {
-            answer_unmarked(code, received.row(i), lane_of(&values, i - top), answer);
+            answer_unmarked(code, row, lane_of(&values, i - top), answer);
         }
     }
 }
@@ -88,22 +90,49 @@ fn answer_unmarked(code: &Pi, row: &[u8; 182], syndromes: ArrayVec<u8, 32>, answ
     requires { syndromes.items ≡ syndromes_of 10 row.now }
     ensures { IsAnswer row.now (replicate 182 false) answer.new }
 {
+    answer_erased(code, row, &Erasures::none(), syndromes, answer);
+}
+
+// Answers one row with marks, by its syndromes.
+fn answer_marked(
+    code: &Pi,
+    row: &[u8; 182],
+    marks: &[bool; 182],
+    syndromes: ArrayVec<u8, 32>,
+    answer: &mut AnswerRow,
+)
+    requires { syndromes.items ≡ syndromes_of 10 row.now }
+    ensures { IsAnswer row.now marks.now answer.new }
+{
+    match Erasures::new(marks, 10) {
+        Some(erasures) => answer_erased(code, row, &erasures, syndromes, answer),
+        None => answer.set(row, None),
+    }
+}
+
+// Answers one row by its marked places and its syndromes, in the place of its answer.
+fn answer_erased(
+    code: &Pi,
+    row: &[u8; 182],
+    erasures: &Erasures<182>,
+    syndromes: ArrayVec<u8, 32>,
+    answer: &mut AnswerRow,
+)
+    requires { syndromes.items ≡ syndromes_of 10 row.now }
+    ensures { IsAnswer row.now erasures.now.marks answer.new }
+{
     answer.bytes = *row;
-    match decode_from(code, &Erasures::none(), syndromes, &mut answer.bytes) {
+    match decode_from(code, erasures, syndromes, &mut answer.bytes) {
         Ok(fix) => answer.fix = Some(fix),
         Err(_) => answer.fix = None,
     }
 }
 
-// Answers one row, in the place of its answer.
-fn answer_row(code: &Pi, row: &[u8; 182], marks: &[bool; 182], answer: &mut AnswerRow)
-    ensures { IsAnswer row.now marks.now answer.new }
+/// Whether a row is a codeword.
+pub fn is_codeword(code: &Pi, row: &[u8; 182]) -> bool
+    ensures { result ≡ vanishes_at_all 10 row.now }
 {
-    answer.bytes = *row;
-    match decode(code, &mut answer.bytes, marks) {
-        Ok(fix) => answer.fix = Some(fix),
-        Err(_) => answer.fix = None,
-    }
+    code.is_codeword(row)
 }
 
 /// Notes which rows failed.

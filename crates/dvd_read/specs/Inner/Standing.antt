@@ -1,6 +1,6 @@
--- Ours: rows that are answered by codewords, and columns that are copied of these answers. Where no row failed, the second
--- pass finds nothing to correct in such columns, and the rows need no test.
+-- Ours: rows that are answered by codewords, and columns that are copied of these answers.
 use Rattle.std.specs.Prelude.{◌≡◌, ℕ, ◌+◌, ◌<◌, List, [], length, slice_index, slice_index_or, Some}
+use Rattle.coding.specs.Product.{column}
 use Rattle.coding.specs.Words.{IsCodeword}
 use Rattle.dvd_capture.specs.declared.parts.AnswerRow.{AnswerRow}
 use Rattle.dvd_capture.specs.declared.parts.ColumnAnswer.{ColumnAnswer}
@@ -10,6 +10,11 @@ use Rattle.dvd_read.specs.Parts.{answer_word, bytes_of}
 abbrev pub AreCodewords : List AnswerRow → Type 0
 AreCodewords answers =
     (i : ℕ) (default : AnswerRow) (word : List ℕ) → i < 208 → answer_word (slice_index_or answers i default) ≡ Some word → IsCodeword 182 10 word
+
+-- these have the bytes of the columns of these answers from `start` on
+pub record AreOwnFrom (answers : List AnswerRow) (start : ℕ) (piece : List ColumnAnswer) : Type 0 where
+  pub are : (k : ℕ) (default : ColumnAnswer) → k < length piece
+      → (slice_index_or piece k default).bytes ≡ column (bytes_of answers) (start + k)
 
 -- of each column of a piece that begins at column `start` the bytes of the first n rows' answers are copied
 abbrev pub AreCopied : List AnswerRow → ℕ → List ColumnAnswer → ℕ → Type 0

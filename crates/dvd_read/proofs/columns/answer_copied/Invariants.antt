@@ -1,8 +1,8 @@
 -- What each turn of the loop in `answer_copied` keeps.
 use Rattle.std.proofs.Common.{◌≡◌, ℕ, ◌+◌, ◌*◌, ◌<◌, ◌≤◌, true, length, map, get_or}
-use Rattle.coding.specs.Filling.{marked}
+use Rattle.coding.specs.Filling.{AgreeUnmarked}
 use Rattle.coding.specs.Product.{column}
-use Rattle.coding.specs.TwoPass.{column_answer}
+use Rattle.coding.specs.TwoPass.{column_answer, failed_of}
 use Rattle.dvd_capture.specs.declared.parts.ColumnAnswer.{ColumnAnswer}
 use Rattle.dvd_read.specs.Parts.{answer_word, bytes_of, column_word}
 use Rattle.dvd_read.proofs.columns.answer_copied.Given as goal
@@ -13,9 +13,8 @@ invariant-loop-group l = record {
   size : length l.piece ≡ length l.initial.piece;
   answered : (k : ℕ) (d : ColumnAnswer) → k < 32 * l.group → k < length l.piece
       → column_word (get_or l.piece k d) ≡ column_answer (map answer_word l.answers) (l.start + k);
-  own : l.stands ≡ true → (k : ℕ) (d : ColumnAnswer) → k < 32 * l.group → k < length l.piece
-      → (get_or l.piece k d).bytes ≡ column (bytes_of l.answers) (l.start + k);
-  none_failed : l.stands ≡ true → marked l.erasures.marks ≡ 0;
+  kept : l.are_kept ≡ true → (k : ℕ) (d : ColumnAnswer) → k < 32 * l.group → k < length l.piece
+      → AgreeUnmarked (failed_of (map answer_word l.answers)) (column (bytes_of l.answers) (l.start + k)) (get_or l.piece k d).bytes;
   others : (k : ℕ) (d : ColumnAnswer) → 32 * l.group ≤ k → k < length l.piece
       → (get_or l.piece k d).bytes ≡ column (bytes_of l.answers) (l.start + k);
 }

@@ -13,8 +13,8 @@ use Rattle.dvd_read.proofs.Differences.{rows-same}
 use Rattle.dvd_read.proofs.FrameFaults.{frames-same}
 use Rattle.dvd_read.proofs.frames.get_frame.Goals as goal
 
-pub returns-then-as_received : goal.returns-then-as_received
-returns-then-as_received c =
+pub returns-in-Received : goal.returns-in-Received
+returns-in-Received c =
     let rows : List (List ℕ) = received_rows c.args.received.now in
     let words : List (List ℕ) = words_of_columns c.args.columns.now in
     let height : length rows ≡ 208 = rows-height c.args.received.now in
@@ -25,5 +25,5 @@ returns-then-as_received c =
     let width : length (line (from_columns words) i) ≡ 182 =
     ap length (from_columns-line words i (omega (arith, c.requires.frame))) ∙ length-map words (λ word. slice_index word i)
     ∙ length-map c.args.columns.now (λ (column : ColumnAnswer). column.bytes) ∙ c.requires.columns in
-    rows-same rows (from_columns words) i (c.requires.as_received c.if-as_received.true) (omega (arith, height, c.requires.frame))
+    rows-same rows (from_columns words) i (c.requires.received c.in-Received.is) (omega (arith, height, c.requires.frame))
     (omega (arith, length-from_columns words, c.requires.frame)) (sym (ap (λ (l : List (List ℕ)). length (line l i)) c.rows.ensures.rows) ∙ c.copy_received.ensures.widths q below ∙ sym width))

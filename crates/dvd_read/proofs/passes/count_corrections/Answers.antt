@@ -1,11 +1,13 @@
 -- The proof of `count_corrections` in src/passes.rt.
 use Rattle.std.proofs.Common.{◌≡◌, ◌∙◌, ℕ, List, ap, length, take, sym, arith}
 use Rattle.std.proofs.lemmas.List.{take_all}
-use Rattle.dvd_capture.specs.Works.{answers_of_work, rows_of}
 use Rattle.coding.specs.Found.{block_differences}
-use Rattle.dvd_read.specs.Parts.{bytes_of}
+use Rattle.dvd_capture.proofs.Columns.{length-from_columns}
+use Rattle.dvd_capture.specs.Parts.{column_answers}
+use Rattle.dvd_capture.specs.Works.{block_of, rows_of}
+use Rattle.dvd_read.specs.Inner.Found.{words_of_columns}
 use Rattle.dvd_read.proofs.Differences.{block_differences-none, block_differences-next}
-use Rattle.dvd_read.proofs.Standing.{length-bytes_of, row-counted}
+use Rattle.dvd_read.proofs.Standing.{row-counted}
 use Rattle.dvd_read.proofs.passes.count_corrections.Goals as goal
 
 pub loop-i-init : goal.loop-i-init
@@ -14,25 +16,23 @@ loop-i-init c = record { counted = sym block_differences-none; few = omega arith
 pub loop-i-preserved : goal.loop-i-preserved
 loop-i-preserved c =
     let rows : List (List ℕ) = rows_of c.args.work.now in
-    let block : List (List ℕ) = bytes_of (answers_of_work c.args.work.now) in
+    let block : List (List ℕ) = block_of c.args.work.now in
     let i : ℕ = c.loop-i.i in
     let size : length rows ≡ 208 = omega (arith, c.args.work.now.received.size, c.args.work.now.received.rows.ok.0) in
-    let counted = rw c.rows-answers.ensures.rows at c.row_corrections-count.ensures.count in
+    let counted = rw (c.rows-answers.ensures.rows, c.all-columns.ensures.columns) at c.row_corrections-count.ensures.count in
     record {
       counted = block_differences-next rows block i c.loop-i.count c.row_corrections-count.result (omega arith)
-          (omega (arith, length-bytes_of (answers_of_work c.args.work.now), c.args.work.now.answers.size, c.args.work.now.answers.rows.ok.0))
+          (omega (arith, length-from_columns (words_of_columns (column_answers c.args.work.now.columns))))
           c.loop-i.invariant.counted
-          (row-counted c.args.work.now i c.row.result.now _ c.row_corrections-count.result (omega arith) c.requires c.row.ensures counted);
+          (row-counted c.args.work.now i c.row.result.now _ block c.row_corrections-count.result (omega arith) c.requires.stage c.row.ensures counted);
       few = omega (arith, c.loop-i.invariant.few, c.row_corrections-count.ensures.most);
     }
 
 pub returns : goal.returns
 returns c =
     let rows : List (List ℕ) = rows_of c.args.work.now in
-    let block : List (List ℕ) = bytes_of (answers_of_work c.args.work.now) in
+    let block : List (List ℕ) = block_of c.args.work.now in
     let size : length rows ≡ 208 = omega (arith, c.args.work.now.received.size, c.args.work.now.received.rows.ok.0) in
-    let height : length block ≡ 208 =
-    omega (arith, length-bytes_of (answers_of_work c.args.work.now), c.args.work.now.answers.size, c.args.work.now.answers.rows.ok.0) in
     c.loop-i.invariant.counted
     ∙ ap (λ l. block_differences l (take c.loop-i.i block)) (take_all c.loop-i.i rows (omega arith))
-    ∙ ap (block_differences rows) (take_all c.loop-i.i block (omega arith))
+    ∙ ap (block_differences rows) (take_all c.loop-i.i block (omega (arith, length-from_columns (words_of_columns (column_answers c.args.work.now.columns)))))

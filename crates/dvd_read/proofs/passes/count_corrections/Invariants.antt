@@ -1,12 +1,11 @@
 -- What each turn of the loop in `count_corrections` keeps.
 use Rattle.std.proofs.Common.{◌≡◌, ◌≤◌, ◌*◌, take}
-use Rattle.dvd_capture.specs.Works.{answers_of_work, rows_of}
+use Rattle.dvd_capture.specs.Works.{block_of, rows_of}
 use Rattle.coding.specs.Found.{block_differences}
-use Rattle.dvd_read.specs.Parts.{bytes_of}
 use Rattle.dvd_read.proofs.passes.count_corrections.Given as goal
 
 abbrev pub invariant-loop-i : goal.invariant-loop-i
 invariant-loop-i l = record {
-  counted : l.count ≡ block_differences (take l.i (rows_of l.work)) (take l.i (bytes_of (answers_of_work l.work)));
+  counted : l.count ≡ block_differences (take l.i (rows_of l.work)) (take l.i (block_of l.work));
   few : l.count ≤ 182 * l.i;
 }

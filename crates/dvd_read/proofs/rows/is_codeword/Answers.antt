@@ -1,8 +1,8 @@
--- The proof of `is_codeword` in src/rounds.rt.
+-- The proof of `is_codeword` in src/rows.rt.
 use Rattle.std.proofs.lemmas.List.Elements.{All-from_get_or}
 use Rattle.coding.specs.Words.{IsByte}
 use Rattle.dvd_read.proofs.ColumnAnswers.{codeword_tested}
-use Rattle.dvd_deep.proofs.rounds.is_codeword.Goals as goal
+use Rattle.dvd_read.proofs.rows.is_codeword.Goals as goal
 
 pub returns : goal.returns
 returns c =
