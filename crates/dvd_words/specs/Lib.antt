@@ -1,6 +1,6 @@
 -- What the contracts speak of: the words of a command line, and the settings that they ask for.
-pub mod Apps
 pub mod Inner
 pub mod Reading
 pub mod Settings
+pub mod Table
 pub mod Words

@@ -1,17 +1,19 @@
 -- What the words of a command line ask for.
-use Rattle.std.specs.Prelude.{◌≡◌, ◌≤◌, ℕ, ◌+◌, ◌^◌, ◌&&◌, ◌||◌, not, nat_le, Bool, true, false, if◌then◌else◌, List, [], ◌∷◌, codes, replicate, Option, Some, None, is_some, option_and_then}
+use Rattle.std.specs.Prelude.{◌≡◌, ◌≤◌, ℕ, ◌+◌, ◌^◌, ◌&&◌, ◌||◌, not, nat_le, Bool, true, if◌then◌else◌, List, [], ◌∷◌, codes, replicate, Option, Some, None, is_some, option_and_then, find}
 use Rattle.std.specs.Str.{bytes_eq}
 use Rattle.clap.specs.Words.{Row, Text, fault_of, first_of, matches_of}
 use Rattle.clap.specs.Walk.{is_empty}
 use Rattle.dvd_capture.specs.declared.form.Form.{Form}
-use Rattle.dvd_capture.specs.declared.form.Form.TheVariants.{Plain, Marked, Listed}
+use Rattle.dvd_capture.specs.declared.form.Form.TheVariants.{Plain, Listed}
 use Rattle.dvd_layout.specs.declared.layout.Shape.TheVariants.{Single}
 use Rattle.dvd_layout.specs.declared.layout.Zones.TheVariants.{DataOnly}
-use Rattle.dvd_words.specs.Apps.{app_for}
+use Rattle.dvd_words.specs.Table.{all, app_for, entry_of}
 use Rattle.dvd_words.specs.Words.{hex_bytes, form_of, number_in, number_within, sector_number_of, shape_of, zones_of}
 use Rattle.dvd_words.specs.declared.settings.Command.{Command}
-use Rattle.dvd_words.specs.declared.settings.Command.TheVariants.{Frames, Master, Recover, Info, Survey, Exercise, CdMake, CdRead, Merge, Deep, Assemble, Convert}
+use Rattle.dvd_words.specs.declared.settings.Command.TheVariants.{Frames, Exercise, CdMake, CdRead, Assemble}
 use Rattle.dvd_words.specs.declared.settings.Settings.{Settings}
+use Rattle.dvd_words.specs.declared.table.Limit.{Limit}
+use Rattle.dvd_words.specs.declared.table.Limit.TheVariants.{Any, Numbers, Addresses, Blocks, WholeDisk}
 
 -- what follows from a value, where there is one
 infixl 10 ◌>>=◌
@@ -20,19 +22,7 @@ o >>= f = option_and_then f o
 
 -- the command that a word names
 abbrev pub command_of : Text → Option Command
-command_of word =
-    if bytes_eq word (codes "frames") then Some Frames
-    else (if bytes_eq word (codes "master") then Some Master
-    else (if bytes_eq word (codes "recover") then Some Recover
-    else (if bytes_eq word (codes "info") then Some Info
-    else (if bytes_eq word (codes "survey") then Some Survey
-    else (if bytes_eq word (codes "exercise") then Some Exercise
-    else (if bytes_eq word (codes "cdmake") then Some CdMake
-    else (if bytes_eq word (codes "cdread") then Some CdRead
-    else (if bytes_eq word (codes "merge") then Some Merge
-    else (if bytes_eq word (codes "deep") then Some Deep
-    else (if bytes_eq word (codes "assemble") then Some Assemble
-    else (if bytes_eq word (codes "convert") then Some Convert else None)))))))))))
+command_of word = find (λ command. bytes_eq word (entry_of command).name) all
 
 -- the options and their values, where clap finds no fault in the words
 abbrev pub rows_for : Command → List Text → Option (List Row)
@@ -43,26 +33,14 @@ abbrev pub value_or : {X : Type 0} → X → (Text → Option X) → Option Text
 value_or default value_of None = Some default
 value_or default value_of (Some text) = value_of text
 
--- `frames` has at least one sector, and none beyond FFFFFF; `exercise` has at least one block; `cdmake` and `cdread` have at
--- least one sector, and none beyond the last address
-abbrev pub is_within : Command → ℕ → ℕ → ℕ → ℕ → Bool
-is_within Frames first sectors blocks address = nat_le 1 sectors && nat_le (first + sectors) (2 ^ 24)
-is_within Master first sectors blocks address = true
-is_within Recover first sectors blocks address = true
-is_within Info first sectors blocks address = true
-is_within Survey first sectors blocks address = true
-is_within Exercise first sectors blocks address = nat_le 1 blocks
-is_within CdMake first sectors blocks address = nat_le 1 sectors && nat_le (address + sectors) 450000
-is_within CdRead first sectors blocks address = nat_le 1 sectors && nat_le (address + sectors) 450000
-is_within Merge first sectors blocks address = true
-is_within Deep first sectors blocks address = true
-is_within Assemble first sectors blocks address = true
-is_within Convert first sectors blocks address = true
-
--- `assemble` keeps a whole disk, so it has at most 16,384 sectors on both layers
-abbrev pub has_room : Command → ℕ → Bool
-has_room Assemble sectors = nat_le sectors 16384
-has_room other sectors = true
+-- Whether the numbers of a command keep its limit: sector numbers end at FFFFFF and addresses at 449,999, and a whole disk
+-- that is kept has at most 16,384 sectors on both layers.
+abbrev pub is_within : Limit → ℕ → ℕ → ℕ → ℕ → ℕ → Bool
+is_within Any first sectors sectors1 blocks address = true
+is_within Numbers first sectors sectors1 blocks address = nat_le 1 sectors && nat_le (first + sectors) (2 ^ 24)
+is_within Addresses first sectors sectors1 blocks address = nat_le 1 sectors && nat_le (address + sectors) 450000
+is_within Blocks first sectors sectors1 blocks address = nat_le 1 blocks
+is_within WholeDisk first sectors sectors1 blocks address = nat_le (sectors + sectors1) 16384
 
 -- whether an option is given
 abbrev pub is_given : Text → List Row → Bool
@@ -76,26 +54,14 @@ tells_layout rows =
 
 -- the commands that read listed captures
 abbrev pub takes_listed : Command → Bool
-takes_listed Recover = true
-takes_listed Info = true
-takes_listed Survey = true
-takes_listed Deep = true
-takes_listed other = false
-
--- these need no number of sectors where a capture states it
-abbrev pub has_sectors : Command → List Row → Bool
-has_sectors Recover rows = is_given (codes "sectors") rows
-has_sectors Survey rows = is_given (codes "sectors") rows
-has_sectors Deep rows = is_given (codes "sectors") rows
-has_sectors other rows = true
+takes_listed command = (entry_of command).takes_listed
 
 -- The layout is told once: a listed capture states its own, and no option tells of it then; else the words state it.
 abbrev pub has_layout : Command → Form → List Row → Bool
 has_layout command Listed rows = takes_listed command && not (tells_layout rows)
-has_layout command Plain rows = has_sectors command rows
-has_layout command Marked rows = has_sectors command rows
+has_layout command other rows = not (entry_of command).sectors_or_listed || is_given (codes "sectors") rows
 
--- each option by its form, the layout told once, and the sectors and blocks in range
+-- each option by its form, the layout told once, and the limit of the command kept
 unfoldable pub settings_of : Command → List Row → Option Settings
 settings_of command rows = do
   first ← value_or 0 sector_number_of (first_of (codes "first") rows)
@@ -113,7 +79,7 @@ settings_of command rows = do
   address ← value_or 0 number_in (first_of (codes "address") rows)
   captures ← value_or 0 (number_within 2 16) (first_of (codes "captures") rows)
   frames ← value_or 0 (number_within 1 4294967295) (first_of (codes "frames") rows)
-  if has_layout command form rows && (is_within command first sectors blocks address && has_room command (sectors + sectors1)) then Some (record {
+  if has_layout command form rows && is_within (entry_of command).limit first sectors sectors1 blocks address then Some (record {
     command = command;
     first = first;
     sectors = sectors;

@@ -3,6 +3,7 @@
 //! - `fault`: why words give no settings.
 //! - `parser`: the `clap` command of each command.
 //! - `settings`: what the words ask for.
+//! - `table`: the commands, a row each.
 //! - `values`: the values of options.
 //! - `words`: reads the words.
 #![tactic(auto)]
@@ -10,6 +11,7 @@
 mod fault;
 mod parser;
 mod settings;
+mod table;
 #[cfg(test)]
 mod tests;
 mod values;

@@ -2,11 +2,12 @@
 
 ghost use Rattle.std.specs.Prelude.{◌≡◌, ◌+◌, None, IfOk, IfSome, map, option_map, string_bytes};
 ghost use Rattle.clap.specs.Words.{first_of, found_of, rows_of};
-ghost use Rattle.dvd_words.specs.Reading.{IsLawful, Reads, command_of, has_layout, has_room, has_sectors, is_given, is_within, takes_listed, tells_layout, reading, settings_of};
+ghost use Rattle.dvd_words.specs.Reading.{IsLawful, Reads, has_layout, is_given, is_within, tells_layout, reading, settings_of};
 
 use crate::fault::WordsFault;
 use crate::parser::parse;
 use crate::settings::{Command, Settings};
+use crate::table::{Limit, command_named, spec_of};
 use crate::values::{
     read_cpr, read_form, read_number, read_sector_number, read_shape, read_within, read_workers,
     read_zones,
@@ -30,26 +31,6 @@ pub fn read(alloc: Global, words: &[String]) -> Result<Settings, WordsFault>
     };
     let matches = parse(alloc, command, words)?;
     settings(command, &matches).ok_or(WordsFault::Usage)
-}
-
-fn command_named(word: &str) -> Option<Command>
-    ensures { result ≡ command_of word.now }
-{
-    match word {
-        "frames" => Some(Command::Frames),
-        "master" => Some(Command::Master),
-        "recover" => Some(Command::Recover),
-        "info" => Some(Command::Info),
-        "survey" => Some(Command::Survey),
-        "exercise" => Some(Command::Exercise),
-        "cdmake" => Some(Command::CdMake),
-        "cdread" => Some(Command::CdRead),
-        "merge" => Some(Command::Merge),
-        "deep" => Some(Command::Deep),
-        "assemble" => Some(Command::Assemble),
-        "convert" => Some(Command::Convert),
-        _ => None,
-    }
 }
 
 // Each option by its form.
@@ -76,10 +57,7 @@ fn settings(command: Command, matches: &ArgMatches<'_>) -> Option<Settings>
         captures: read_within(given(matches, "captures"), 2, 16, 0)?,
         frames: read_within(given(matches, "frames"), 1, 4_294_967_295, 0)?,
     };
-    if has_layout(command, settings.form, matches)
-        && has_units(command, &settings)
-        && has_room(command, &settings)
-    {
+    if has_layout(command, settings.form, matches) && is_within(spec_of(command).limit, &settings) {
         Some(settings)
     } else {
         None
@@ -90,19 +68,10 @@ fn settings(command: Command, matches: &ArgMatches<'_>) -> Option<Settings>
 fn has_layout(command: Command, form: Form, matches: &ArgMatches<'_>) -> bool
     ensures { result ≡ has_layout command form (rows_of (found_of matches.now)) }
 {
+    let spec = spec_of(command);
     match form {
-        Form::Listed => takes_listed(command) && !tells_layout(matches),
-        Form::Plain | Form::Marked => has_sectors(command, matches),
-    }
-}
-
-// The commands that read listed captures.
-fn takes_listed(command: Command) -> bool
-    ensures { result ≡ takes_listed command }
-{
-    match command {
-        Command::Recover | Command::Info | Command::Survey | Command::Deep => true,
-        _ => false,
+        Form::Listed => spec.takes_listed && !tells_layout(matches),
+        Form::Plain | Form::Marked => !spec.sectors_or_listed || is_given(matches, "sectors"),
     }
 }
 
@@ -117,43 +86,17 @@ fn tells_layout(matches: &ArgMatches<'_>) -> bool
         || is_given(matches, "tail")
 }
 
-// `recover`, `survey` and `deep` may leave their number of sectors to a capture that states it.
-fn has_sectors(command: Command, matches: &ArgMatches<'_>) -> bool
-    ensures { result ≡ has_sectors command (rows_of (found_of matches.now)) }
+fn is_within(limit: Limit, settings: &Settings) -> bool
+    ensures { result ≡ is_within limit settings.now.first settings.now.sectors settings.now.sectors1
+        settings.now.blocks settings.now.address }
 {
-    match command {
-        Command::Recover | Command::Survey | Command::Deep => is_given(matches, "sectors"),
-        _ => true,
-    }
-}
-
-// `frames` has at least one sector, and none beyond FFFFFF; `exercise` has at least one block; `cdmake` and `cdread` have at
-// least one sector, and none beyond address 449,999.
-fn has_units(command: Command, settings: &Settings) -> bool
-    ensures { result ≡ is_within command settings.now.first settings.now.sectors settings.now.blocks settings.now.address }
-{
-    match command {
-        Command::Frames => {
-            settings.sectors >= 1
-                && u64::from(settings.first) + u64::from(settings.sectors) <= 0x100_0000
-        }
-        Command::Exercise => settings.blocks >= 1,
-        Command::CdMake | Command::CdRead => {
-            settings.sectors >= 1
-                && u64::from(settings.address) + u64::from(settings.sectors) <= 450_000
-        }
-        Command::Master | Command::Recover | Command::Info | Command::Survey => true,
-        Command::Merge | Command::Deep | Command::Assemble | Command::Convert => true,
-    }
-}
-
-// `assemble` keeps a whole disk, so it has at most 16,384 sectors on both layers.
-fn has_room(command: Command, settings: &Settings) -> bool
-    ensures { result ≡ has_room command (settings.now.sectors + settings.now.sectors1) }
-{
-    match command {
-        Command::Assemble => u64::from(settings.sectors) + u64::from(settings.sectors1) <= 16_384,
-        _ => true,
+    let sectors = u64::from(settings.sectors);
+    match limit {
+        Limit::Any => true,
+        Limit::Numbers => sectors >= 1 && u64::from(settings.first) + sectors <= 0x100_0000,
+        Limit::Addresses => sectors >= 1 && u64::from(settings.address) + sectors <= 450_000,
+        Limit::Blocks => settings.blocks >= 1,
+        Limit::WholeDisk => sectors + u64::from(settings.sectors1) <= 16_384,
     }
 }
 

@@ -1,8 +1,7 @@
 -- Commands of clap that get options one after the other.
-use Rattle.std.specs.Prelude.{Bool, List, ◌++◌, map}
-use Rattle.clap.specs.Words.{App, Text}
-use Rattle.dvd_words.specs.Apps.{option_rule}
+use Rattle.std.specs.Prelude.{List, ◌++◌}
+use Rattle.clap.specs.Words.{App, Rule}
 
 -- a command with these options more, behind those that it has
-abbrev pub with_options : Bool → App → List Text → App
-with_options required app names = record app { top = record app.top { rules = app.top.rules ++ map (option_rule required) names } }
+abbrev pub with_options : App → List Rule → App
+with_options app options = record app { top = record app.top { rules = app.top.rules ++ options } }

@@ -2,7 +2,7 @@
 use Rattle.std.proofs.Common.{◌≡◌, ◌∙◌, ap, subst, sym, map, string_bytes, inl, inr, rules}
 use Rattle.clap.specs.Words.{IsAmong, app_of, fault_of, is_simple, is_simple_and_free, matches_of}
 use Rattle.clap.specs.Values.{kind_of}
-use Rattle.dvd_words.specs.Apps.{app_for}
+use Rattle.dvd_words.specs.Table.{app_for}
 use Rattle.dvd_words.proofs.Parsed.{free, rows_refused, rows_taken, simple}
 use Rattle.dvd_words.proofs.parser.parse.Goals as goal
 

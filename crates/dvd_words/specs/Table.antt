@@ -1,0 +1,74 @@
+-- The table of the commands: what each is called, and which options and limits it has. A command is one row, and a word
+-- in `all`.
+use Prim.Native.String.{String}
+use Rattle.std.specs.Prelude.{Bool, true, false, List, [], ◌∷◌, ◌++◌, map, codes, Some}
+use Rattle.clap.specs.Words.{App, Rule, Text, new_rule}
+use Rattle.clap.specs.Simple.{new_shape}
+use Rattle.clap.specs.declared.builder.action.ArgAction.TheVariants.{Set}
+use Rattle.dvd_words.specs.declared.settings.Command.{Command}
+use Rattle.dvd_words.specs.declared.settings.Command.TheVariants.{Frames, Master, Recover, Info, Survey, Exercise, CdMake, CdRead, Merge, Deep, Assemble, Convert}
+use Rattle.dvd_words.specs.declared.table.Limit.{Limit}
+use Rattle.dvd_words.specs.declared.table.Limit.TheVariants.{Any, Numbers, Addresses, Blocks, WholeDisk}
+
+-- `--name` with one value, at most once
+abbrev pub option_rule : Bool → Text → Rule
+option_rule required name = record (new_rule name) { long = Some name; action = Some Set; required = required }
+
+-- options that must stand
+abbrev pub must : List String → List Rule
+must names = map (λ name. option_rule true (codes name)) names
+
+-- options that may stand
+abbrev pub may : List String → List Rule
+may names = map (λ name. option_rule false (codes name)) names
+
+-- the shape and the lengths of a disk but for its first layer, and which of its zones a stream has
+abbrev pub layout : List String
+layout = "sectors1" ∷ "shape" ∷ "zones" ∷ "initial" ∷ "tail" ∷ []
+
+-- The word that names a command, whether it reads listed captures, whether it needs a number of sectors or a listed
+-- capture, what its numbers have to keep, and its options.
+pub record Entry : Type 0 where
+  pub name : Text
+  pub takes_listed : Bool
+  pub sectors_or_listed : Bool
+  pub limit : Limit
+  pub options : List Rule
+
+-- an entry in the order of its fields
+abbrev pub row : String → Bool → Bool → Limit → List Rule → Entry
+row name listed or_listed limit options = record {
+  name = codes name;
+  takes_listed = listed;
+  sectors_or_listed = or_listed;
+  limit = limit;
+  options = options;
+}
+
+-- the row of each command
+abbrev pub entry_of : Command → Entry
+entry_of Frames = row "frames" false false Numbers (must ("first" ∷ "sectors" ∷ []))
+entry_of Master = row "master" false false Any (must ("sectors" ∷ []) ++ may (layout ++ "workers" ∷ "cpr" ∷ []))
+entry_of Recover = row "recover" true true Any (may ("sectors" ∷ layout ++ "workers" ∷ "form" ∷ []))
+entry_of Info = row "info" true false Any (may ("initial" ∷ "form" ∷ []))
+entry_of Survey = row "survey" true true Any (may ("sectors" ∷ layout ++ "workers" ∷ "form" ∷ []))
+entry_of Exercise = row "exercise" false false Blocks (must ("seed" ∷ "blocks" ∷ []) ++ may ("workers" ∷ []))
+entry_of CdMake = row "cdmake" false false Addresses (must ("address" ∷ "sectors" ∷ []))
+entry_of CdRead = row "cdread" false false Addresses (must ("address" ∷ "sectors" ∷ []))
+entry_of Merge = row "merge" false false Any
+    (must ("sectors" ∷ []) ++ may (layout ++ "form" ∷ []) ++ must ("captures" ∷ []))
+entry_of Deep = row "deep" true true Any (may ("sectors" ∷ layout ++ "form" ∷ []))
+entry_of Assemble = row "assemble" false false WholeDisk
+    (must ("sectors" ∷ "frames" ∷ []) ++ may ("sectors1" ∷ "shape" ∷ "form" ∷ []))
+entry_of Convert = row "convert" false false Any (must ("sectors" ∷ []) ++ may (layout ++ "form" ∷ []))
+
+-- the commands
+abbrev pub all : List Command
+all = Frames ∷ Master ∷ Recover ∷ Info ∷ Survey ∷ Exercise ∷ CdMake ∷ CdRead ∷ Merge ∷ Deep ∷ Assemble ∷ Convert ∷ []
+
+-- a command as clap is told of it: its word, its options and nothing else, no flag for help either
+abbrev pub app_for : Command → App
+app_for command = record {
+  top = record (new_shape (entry_of command).name) { rules = (entry_of command).options; disable_help_flag = true };
+  subs = [];
+}

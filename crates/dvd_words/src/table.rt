@@ -1,0 +1,112 @@
+//! The table of the commands: what each is called, and which options and limits it has. A command is one row.
+
+ghost use Rattle.std.specs.Prelude.{◌≡◌};
+ghost use Rattle.dvd_words.specs.Inner.Rows.{entry, named_in};
+ghost use Rattle.dvd_words.specs.Reading.{command_of};
+ghost use Rattle.dvd_words.specs.Table.{entry_of};
+
+use crate::settings::Command;
+
+/// A row of the table.
+pub struct CommandSpec<'a> {
+    /// The command.
+    pub command: Command,
+    /// The word that names it.
+    pub name: &'a str,
+    /// Whether it reads listed captures.
+    pub takes_listed: bool,
+    /// Whether it needs a number of sectors or a listed capture, which states it.
+    pub sectors_or_listed: bool,
+    /// What its numbers have to keep.
+    pub limit: Limit,
+    /// Its options, in the order in which clap is told of them.
+    pub options: &'a [OptionSpec<'a>],
+}
+
+/// An option of a command.
+pub struct OptionSpec<'a> {
+    /// Its name, without the two dashes.
+    pub name: &'a str,
+    /// Whether the command needs it.
+    pub is_required: bool,
+}
+
+/// What the numbers of a command have to keep, beside the range that each has by itself.
+#[derive(Clone, Copy, Debug, PartialEq, Eq)]
+pub enum Limit {
+    /// Nothing.
+    Any,
+    /// There is at least one sector, and none beyond number FFFFFF.
+    Numbers,
+    /// There is at least one sector, and none beyond address 449,999.
+    Addresses,
+    /// There is at least one block.
+    Blocks,
+    /// Both layers have at most 16,384 sectors, since a whole disk is kept.
+    WholeDisk,
+}
+
+macro_rules! rows {
+    ($(
+        $command:ident $name:ident $takes_listed:literal $sectors_or_listed:literal $limit:ident
+        $($kind:ident [$($option:ident)*])*;
+    )*) => {
+        [$(CommandSpec {
+            command: Command::$command,
+            name: stringify!($name),
+            takes_listed: $takes_listed,
+            sectors_or_listed: $sectors_or_listed,
+            limit: Limit::$limit,
+            options: &[$($(OptionSpec { name: stringify!($option), is_required: is_must!($kind) },)*)*],
+        },)*]
+    };
+}
+
+macro_rules! is_must {
+    (must) => { true };
+    (may) => { false };
+}
+
+// Command, word, takes_listed, sectors_or_listed, limit, and the options that must stand and those that may.
+// No definition can name a constant that holds references: so specs/Table.antt has the same rows, and `spec_of` is proved to
+// give these.
+static COMMANDS: [CommandSpec<'static>; 12] = rows! {
+    Frames   frames   false false Numbers   must [first sectors];
+    Master   master   false false Any       must [sectors] may [sectors1 shape zones initial tail workers cpr];
+    Recover  recover  true  true  Any       may [sectors sectors1 shape zones initial tail workers form];
+    Info     info     true  false Any       may [initial form];
+    Survey   survey   true  true  Any       may [sectors sectors1 shape zones initial tail workers form];
+    Exercise exercise false false Blocks    must [seed blocks] may [workers];
+    CdMake   cdmake   false false Addresses must [address sectors];
+    CdRead   cdread   false false Addresses must [address sectors];
+    Merge    merge    false false Any       must [sectors] may [sectors1 shape zones initial tail form] must [captures];
+    Deep     deep     true  true  Any       may [sectors sectors1 shape zones initial tail form];
+    Assemble assemble false false WholeDisk must [sectors frames] may [sectors1 shape form];
+    Convert  convert  false false Any       must [sectors] may [sectors1 shape zones initial tail form];
+};
+
+/// The row of a command.
+pub fn spec_of<'a>(command: Command) -> &'a CommandSpec<'a>
+    ensures { entry result.now ≡ entry_of command }
+{
+    &COMMANDS[command as usize]
+}
+
+/// The command that a word names.
+pub fn command_named(word: &str) -> Option<Command>
+    ensures { result ≡ command_of word.now }
+{
+    find_named(&COMMANDS, word)
+}
+
+// The command of the first row with this name.
+fn find_named(specs: &[CommandSpec<'_>], word: &str) -> Option<Command>
+    ensures { result ≡ named_in word.now specs.now }
+{
+    for spec in specs {
+        if word == spec.name {
+            return Some(spec.command);
+        }
+    }
+    None
+}
