@@ -22,15 +22,13 @@ use Rattle.dvd_loop.proofs.Fronts.{same_front, same_left as left_same}
 use Rattle.dvd_loop.proofs.Reached.{goes_on}
 use Rattle.dvd_loop.proofs.Sizes.{TakesOne, goes_one}
 use Rattle.dvd_loop.proofs.StepLemmas.{does_all, onto, taken_then}
-use Rattle.dvd_top.specs.Commands.{GoesOver, meaning}
-use Rattle.dvd_top.specs.Commands.Convert.{convert_units}
-use Rattle.dvd_top.specs.Commands.Recover.{IsDone, IsRecovered, recover_units}
+use Rattle.dvd_commands.specs.Commands.{GoesOver, meaning}
+use Rattle.dvd_commands.specs.Convert.{convert_units}
+use Rattle.dvd_commands.specs.Recover.{IsDone, IsRecovered, recover_units}
 use Rattle.dvd_top.specs.Laws.{ConvertedIsRead}
-use Rattle.dvd_top.specs.Opening.{IsHeaderOf, IsOpened, Opens}
-use Rattle.dvd_top.proofs.CapturedTurns.{captured_whole}
-use Rattle.dvd_top.proofs.ConvertedBlocks.{sized_part}
-use Rattle.dvd_top.proofs.HeaderTaken.{breaks_by_words, words_of}
-use Rattle.dvd_top.proofs.OneHeader.{header-size}
+use Rattle.dvd_commands.specs.Opening.{IsHeaderOf, IsOpened, Opens}
+use Rattle.dvd_commands.proofs.CapturedTurns.{captured_whole}
+use Rattle.dvd_commands.proofs.ForRuns.{breaks_by_words, header-size, sized_part, words_of}
 use Rattle.dvd_words.specs.Settings.{IsLayoutOf, broken_rule}
 use Rattle.dvd_words.specs.declared.settings.Command.TheVariants.{Recover}
 use Rattle.dvd_words.specs.declared.settings.Settings.{Settings}

@@ -13,22 +13,20 @@ use Rattle.dvd_layout.specs.declared.layout.Zones.{Zones}
 use Rattle.dvd_loop.specs.Laws.{IsFaultless}
 use Rattle.dvd_loop.specs.Machine.{IsOutcome, Outcome}
 use Rattle.dvd_loop.specs.Turns.{written}
-use Rattle.dvd_top.specs.Bound.{GivesGoodSectors, HasGoodRows, IsBeyond, KeepsGoodFrames, sector_part}
-use Rattle.dvd_top.specs.Captured.{block_bytes}
-use Rattle.dvd_top.specs.Commands.{GoesOver, meaning}
-use Rattle.dvd_top.specs.Commands.Master.{image_bytes, image_part}
-use Rattle.dvd_top.specs.Commands.Recover.{IsRecovered, recover_units}
+use Rattle.dvd_top.specs.Bound.{GivesGoodSectors, IsBeyond, KeepsGoodFrames, sector_part}
+use Rattle.dvd_commands.specs.Captured.{block_bytes}
+use Rattle.dvd_commands.specs.Commands.{GoesOver, meaning}
+use Rattle.dvd_commands.specs.Master.{image_bytes, image_part}
+use Rattle.dvd_commands.specs.Recover.{HasGoodRows, IsRecovered, recover_units}
 use Rattle.dvd_top.specs.Laws.{GoodFramesAreKept}
 use Rattle.dvd_words.specs.Settings.{IsLayoutOf}
 use Rattle.dvd_words.specs.declared.settings.Settings.{Settings}
-use Rattle.dvd_top.proofs.AnyEnd.{at_any_end, part-begun}
-use Rattle.dvd_top.proofs.MasterBlocks.{size_is}
-use Rattle.dvd_top.proofs.BoundKept.{has_turn, length-part}
-use Rattle.dvd_top.proofs.CapturedBlocks.{block-whole}
+use Rattle.dvd_commands.proofs.AnyEnd.{at_any_end, part-begun}
+use Rattle.dvd_commands.proofs.ForRuns.{given_good, recover_total, size_is}
+use Rattle.dvd_commands.proofs.BlockTurns.{has_turn, length-part}
+use Rattle.dvd_commands.proofs.CapturedBlocks.{block-whole}
 use Rattle.dvd_top.proofs.OpenedRuns.{after_header}
-use Rattle.dvd_top.proofs.RecoveredWidths.{recovered-wide}
-use Rattle.dvd_top.proofs.Rescues.{given_good}
-use Rattle.dvd_top.proofs.SomethingDone.{recover_total}
+use Rattle.dvd_commands.proofs.RecoveredWidths.{recovered-wide}
 
 -- a part of the front of a list
 part-front : (xs : List ℕ) (m a n : ℕ) → a + n ≤ length (take m xs) → take n (drop a (take m xs)) ≡ take n (drop a xs)

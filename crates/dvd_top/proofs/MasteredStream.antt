@@ -28,19 +28,19 @@ use Rattle.dvd_loop.specs.declared.ends.Turn.{Turn}
 use Rattle.dvd_loop.specs.declared.ends.Turn.TheVariants.{Good}
 use Rattle.dvd_loop.proofs.Sizes.{sized_whole}
 use Rattle.dvd_loop.proofs.Over.{AreGood, InPieces, over, over_is, same_pieces, start}
-use Rattle.dvd_top.specs.Commands.Master.{IsMastered, bytes_of_block, filled_block, frames_of, image_bytes, image_part, master_units}
-use Rattle.dvd_top.specs.Commands.Recover.{IsDone, IsRecovered, recover_units}
-use Rattle.dvd_top.specs.Captured.{IsPassedOver}
+use Rattle.dvd_commands.specs.Master.{IsMastered, bytes_of_block, filled_block, frames_of, image_bytes, image_part, master_units}
+use Rattle.dvd_commands.specs.Recover.{IsDone, IsRecovered, recover_units}
+use Rattle.dvd_commands.specs.Captured.{IsPassedOver}
 use Rattle.dvd_top.specs.Laws.{ImageIsMastered, MasteredStreamIsRecovered}
 use Rattle.dvd_top.specs.Promises.{IsStreamOf}
-use Rattle.dvd_top.proofs.MasterBlocks.{size_is}
+use Rattle.dvd_commands.proofs.ForRuns.{size_is}
 use Rattle.dvd_top.proofs.OnlyThese.{only_these, runs_only}
-use Rattle.dvd_top.proofs.BoundKept.{length-part}
-use Rattle.dvd_top.proofs.Pieces.{length-pieces, piece-at, pieces-front, start-same}
-use Rattle.dvd_top.proofs.PlanBytes.{start-all, start-blocks}
-use Rattle.dvd_top.proofs.SomethingDone.{some_entry}
-use Rattle.dvd_top.proofs.EntryBlocks.{done_at}
-use Rattle.dvd_top.proofs.BorneBlocks.{repaired}
+use Rattle.dvd_commands.proofs.BlockTurns.{length-part}
+use Rattle.dvd_commands.proofs.Pieces.{length-pieces, piece-at, pieces-front, start-same}
+use Rattle.dvd_commands.proofs.PlanBytes.{start-all, start-blocks}
+use Rattle.dvd_commands.proofs.PlanEntries.{some_entry}
+use Rattle.dvd_commands.proofs.EntryBlocks.{done_at}
+use Rattle.dvd_commands.proofs.BorneBlocks.{repaired}
 
 -- the rows of a block are 182 bytes wide
 widths-of : (block : List (List ℕ)) → IsProduct block → All (λ row. length row ≡ 182) block

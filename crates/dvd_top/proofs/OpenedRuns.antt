@@ -20,10 +20,9 @@ use Rattle.dvd_loop.proofs.Fronts.{same_front, same_left}
 use Rattle.dvd_loop.proofs.Totality.{Exists}
 use Rattle.dvd_words.specs.Settings.{broken_rule}
 use Rattle.dvd_words.specs.declared.settings.Settings.{Settings}
-use Rattle.dvd_top.specs.Opening.{AfterHeader, BreaksHeader, IsHeaderOf, IsOpened, Opens, fault_byte, shape_number}
-use Rattle.dvd_top.proofs.FrameBytes.{IsByte}
-use Rattle.dvd_top.proofs.Headers.{zones_for}
-use Rattle.dvd_top.proofs.OneHeader.{breaks_once, breaks_or_states, header-size, stated_once}
+use Rattle.dvd_commands.specs.Opening.{AfterHeader, BreaksHeader, IsHeaderOf, IsOpened, Opens, fault_byte, shape_number}
+use Rattle.dvd_commands.proofs.FrameBytes.{IsByte}
+use Rattle.dvd_commands.proofs.ForRuns.{breaks_once, breaks_or_states, header-size, stated_once, zones_for}
 
 -- they are one, but for what was taken of a block that breaks a rule
 abbrev pub AreSame : Outcome → Outcome → Type 0

@@ -1,5 +1,5 @@
 -- The promise in plain words holds of every run, and of each call that doesn't come to a run.
-use Rattle.std.proofs.Common.{◌≡◌, ◌≢◌, ◌⊎◌, ◌∙◌, inl, inr, ℕ, List, [], ◌++◌, None, Some, refl, ap, sym, subst}
+use Rattle.std.proofs.Common.{◌≡◌, ◌≢◌, ◌⊎◌, ◌∙◌, inl, inr, ℕ, List, [], ◌++◌, None, Some, refl, ap, sym, subst, ◌+◌, ◌*◌, length, arith}
 use Rattle.std.specs.Prelude.{codes}
 use Rattle.std.specs.Io.KnownBytes.{Consumes}
 use Rattle.dvd_capture.specs.declared.form.Form.{Form}
@@ -16,9 +16,9 @@ use Rattle.dvd_loop.specs.declared.ends.LoopEnd.TheVariants.{Damaged, Done}
 use Rattle.dvd_ports.specs.Seen.{Seen}
 use Rattle.dvd_ports.specs.Causes.{HasGoneOn, Rose}
 use Rattle.dvd_ports.proofs.StopLemmas.{rose}
-use Rattle.dvd_top.specs.Commands.{GoesOver, breaks, breaks_in, meaning}
-use Rattle.dvd_top.specs.Commands.Master.{master_units}
-use Rattle.dvd_top.specs.Commands.Recover.{recover_units}
+use Rattle.dvd_commands.specs.Commands.{GoesOver, breaks, breaks_in, meaning}
+use Rattle.dvd_commands.specs.Master.{master_units, bytes_of_block}
+use Rattle.dvd_commands.specs.Recover.{recover_units, IsRecovered}
 use Rattle.dvd_top.specs.Headline.{HaveFailed, IsLoop, IsRun, Reports}
 use Rattle.dvd_top.specs.Lines.{closing_line}
 use Rattle.dvd_top.specs.Promises.{GivesImage, Masters, NoneFailed, Recovers}
@@ -30,8 +30,16 @@ use Rattle.dvd_words.specs.declared.settings.Command.TheVariants.{Master}
 use Rattle.dvd_words.specs.declared.settings.Settings.{Settings}
 use Rattle.dvd_top.proofs.Determined.{one_layout}
 use Rattle.dvd_top.proofs.MasteredStream.{image_mastered, stream_recovered}
-use Rattle.dvd_top.proofs.RecoveredCapture.{capture_recovered}
 use Rattle.dvd_top.proofs.RunEnds.{closes_is, in_words}
+use Rattle.std.proofs.lemmas.List.{take_all}
+use Rattle.dvd_capture.specs.Captured.{block_size}
+use Rattle.dvd_layout.specs.Plan.{plan_of}
+use Rattle.dvd_loop.proofs.EndsBySize.{ends_so}
+use Rattle.dvd_top.specs.Laws.{CaptureIsRecovered}
+use Rattle.dvd_commands.proofs.PlanBytes.{start-all}
+use Rattle.dvd_commands.proofs.RecoveredWidths.{never_last, recovered-wide}
+use Rattle.dvd_commands.proofs.Written.{length-over}
+use Rattle.dvd_commands.proofs.ForRuns.{begins_so, block-is, each_there, size-is}
 
 -- the statuses of ends after the last unit
 over_status : (end : LoopEnd) → IsOver end → (status_of end ≡ status.Done) ⊎ (status_of end ≡ status.Damaged)
@@ -80,6 +88,33 @@ run_masters settings old new result plain run layout image is is_layout known si
     let (stream, is_stream, all) = image_mastered layout settings.zones settings.cpr image run.loop size over (faultless settings old new result run image known none) in
     let (done, moved) = done-moved settings old new result run image known none image stream all in
     inr (done, (stream, is_stream, moved))
+
+-- the law: what is written for a capture are its image sectors, block by block
+pub capture_recovered : CaptureIsRecovered
+capture_recovered layout zones form capture a one rows runs none =
+    let units = recover_units layout zones form in
+    let wide = recovered-wide layout zones form in
+    let count = length (plan_of layout zones) in
+    let size : length capture ≡ count * block_size form = rows ∙ ap (λ n. count * n) (size-is form one) in
+    let ends = ends_so units (block_size form) (record {
+      begins = λ k bytes. begins_so form one bytes;
+      never_last = never_last layout zones form (IsRecovered layout zones form) wide;
+      asks = refl;
+    }) capture a runs none in
+    let over = ends.over.1 size in
+    let all = length-over units (bytes_of_block layout zones) (record {
+      opens = refl;
+      does = λ before own steps turn unit. wide (length before) own steps turn unit.does;
+      closes = λ before steps nothing. nothing;
+    }) capture a runs none over in (
+      record {
+        size = all ∙ start-all layout zones;
+        each = λ k entry own stands own_is.
+            each_there layout zones form capture a one size runs none entry.content k entry own stands refl (own_is ∙ sym (block-is form one capture k));
+      },
+      ends.taken ∙ take_all (count * block_size form + 1) capture (omega (arith, size)),
+      over,
+    )
 
 -- `recover` writes the image sectors of the capture
 pub run_recovers : (settings : Settings) (old new : Streams) (result : Status) → IsRun settings old new result → Recovers settings old new result

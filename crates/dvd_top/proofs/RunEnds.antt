@@ -13,9 +13,9 @@ use Rattle.dvd_loop.specs.declared.ends.LoopEnd.{LoopEnd}
 use Rattle.dvd_loop.specs.declared.ends.LoopEnd.TheVariants.{ReadFault, ReportFault, WriteFault}
 use Rattle.dvd_loop.specs.declared.ends.LoopEnd.TheVariants as ends
 use Rattle.dvd_loop.proofs.Faults.{ends_there}
-use Rattle.dvd_top.specs.Commands.{GoesOver}
+use Rattle.dvd_commands.specs.Commands.{GoesOver}
 use Rattle.dvd_top.specs.Headline.{HaveFailed, IsLoop}
-use Rattle.dvd_top.specs.Opening.{Opens}
+use Rattle.dvd_commands.specs.Opening.{Opens}
 use Rattle.dvd_top.specs.Promises.{NoneFailed}
 use Rattle.dvd_top.specs.Statuses.{status_of}
 use Rattle.dvd_words.specs.declared.settings.Settings.{Settings}

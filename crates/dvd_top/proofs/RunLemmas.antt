@@ -14,12 +14,12 @@ use Rattle.dvd_loop.proofs.StreamLemmas.{counts_after}
 use Rattle.dvd_top.specs.Headline.{HaveFailed, IsRun}
 use Rattle.dvd_top.specs.Statuses.{status_of}
 use Rattle.dvd_top.specs.Lines.{closing_line}
-use Rattle.dvd_top.specs.Inner.Performing.{HasLooped}
+use Rattle.dvd_commands.specs.Performed.{HasLooped}
 use Rattle.dvd_words.specs.declared.settings.Command.TheVariants.{CdRead}
 use Rattle.dvd_words.specs.declared.settings.Settings.{Settings}
 use Rattle.dvd_top.specs.declared.status.Status.{Status}
 use Rattle.dvd_top.proofs.BoundKept.{kept}
-use Rattle.dvd_top.proofs.CdKept.{kept_sectors}
+use Rattle.dvd_commands.proofs.ForRuns.{kept_sectors}
 use Rattle.dvd_top.proofs.GoodFrames.{kept_good}
 use Rattle.dvd_top.proofs.RunEnds.{ended_there, in_words, remembered, risen, sound_end}
 

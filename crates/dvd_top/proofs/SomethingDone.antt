@@ -1,90 +1,47 @@
 -- For every input each command does something.
-use Rattle.std.proofs.Common.{◌≡◌, ◌≢◌, ◌≤◌, inl, inr, ℕ, zero, suc, ◌+◌, ◌*◌, ◌<◌, Bool, List, [], ◌∷◌, ◌++◌, length, take, drop, slice_get, All, Option, Some, None, cond, refl, sym, subst, ap, ◌∙◌, take-append-drop, arith}
+use Rattle.std.proofs.Common.{◌≡◌, ◌≢◌, ◌≤◌, inl, inr, ℕ, zero, suc, ◌+◌, ◌*◌, ◌<◌, List, [], ◌∷◌, ◌++◌, length, take, drop, All, Some, None, cond, refl, sym, subst, ap, ◌∙◌, take-append-drop, arith}
 use Rattle.std.proofs.lemmas.Bool.{cases_lt, lt-leb}
 use Rattle.std.proofs.lemmas.List.{length-take-le}
 use Rattle.std.proofs.lemmas.List.Elements.{All-drop, All-take}
-use Rattle.std.proofs.lemmas.Option.{slice_get_cases}
-use Rattle.cd_sector.specs.Sector.{IsSector}
-use Rattle.cd_sector.proofs.SomeSector.{some_sector}
-use Rattle.dvd_block.proofs.OneBlock.{some_block}
-use Rattle.coding.specs.Product.{line}
-use Rattle.coding.specs.Recording.{recording}
-use Rattle.dvd_capture.specs.Captured.{block_size, captured_marks, captured_rows}
+use Rattle.dvd_capture.specs.Captured.{block_size}
 use Rattle.dvd_capture.specs.declared.form.Form.{Form}
 use Rattle.dvd_capture.specs.declared.form.Form.TheVariants.{Plain, Marked, Listed}
-use Rattle.dvd_layout.specs.Place.{image_sectors}
-use Rattle.dvd_control.specs.Format.{control_fault, fields_in}
-use Rattle.dvd_control.specs.declared.format.ControlFault.{ControlFault}
-use Rattle.dvd_layout.specs.Plan.{lead_in_blocks, plan_of}
-use Rattle.dvd_layout.proofs.LeadIn.{length-lead_in_blocks}
-use Rattle.dvd_layout.specs.declared.entry.BlockPlan.{BlockPlan}
-use Rattle.dvd_layout.specs.declared.entry.Content.{Content}
-use Rattle.dvd_layout.specs.declared.entry.Content.TheVariants.{Control, Image}
 use Rattle.dvd_layout.specs.declared.fault.LayoutFault.TheVariants.{InitialTooLong}
 use Rattle.dvd_layout.specs.declared.layout.Layout.{Layout}
-use Rattle.dvd_layout.specs.declared.layout.Zones.{Zones}
-use Rattle.dvd_loop.specs.Laws.{AreTotal}
-use Rattle.dvd_loop.specs.Machine.Part.{Whole}
 use Rattle.dvd_loop.specs.Machine.{Goes, IsOutcome, Step, Units, bad_of, sized}
-use Rattle.dvd_loop.specs.Machine.Step.{Write, Tell}
-use Rattle.dvd_loop.specs.declared.ends.Turn.{Turn}
-use Rattle.dvd_loop.specs.declared.ends.Turn.TheVariants.{Good, Bad, Last}
+use Rattle.dvd_loop.specs.Machine.Step.{Write}
+use Rattle.dvd_loop.specs.declared.ends.Turn.TheVariants.{Good}
 use Rattle.dvd_loop.proofs.Sizes.{sized_fewer, sized_whole}
 use Rattle.dvd_loop.proofs.Totality.{Exists, closed_exists, cut_exists, exists, one_fewer, steps_exist, taken_exists}
-use Rattle.dvd_decoding.specs.Reading.{block_cause, block_sectors}
-use Rattle.dvd_decoding.specs.Salvage.{block_out, saved_in}
-use Rattle.dvd_decoding.specs.declared.cause.Cause.{Cause}
-use Rattle.dvd_read.proofs.BlockRead.{no_cause-read}
-use Rattle.dvd_report.specs.Lines.{damage_line}
-use Rattle.dvd_top.specs.Commands.{GoesOver, breaks_in, meaning}
-use Rattle.dvd_top.specs.Commands.CdMake.{HasAddresses, cdmake_units}
-use Rattle.dvd_top.specs.Commands.CdRead.{cdread_units}
+use Rattle.dvd_commands.specs.Commands.{GoesOver, breaks_in, meaning}
+use Rattle.dvd_commands.specs.CdMake.{HasAddresses, cdmake_units}
+use Rattle.dvd_commands.specs.CdRead.{cdread_units}
 use Rattle.dvd_merge.specs.Join.{joined}
 use Rattle.dvd_merge.specs.MarkedText.{marked_text}
-use Rattle.dvd_top.specs.Commands.Exercise.{exercise_units}
-use Rattle.dvd_top.specs.Commands.Merge.{merge_units, tables_in}
-use Rattle.dvd_top.specs.Commands.Assemble.{assemble_units}
-use Rattle.dvd_top.specs.Commands.Convert.{IsConverted, convert_units}
+use Rattle.dvd_commands.specs.Exercise.{exercise_units}
+use Rattle.dvd_commands.specs.Merge.{merge_units, tables_in}
+use Rattle.dvd_commands.specs.Assemble.{assemble_units}
+use Rattle.dvd_commands.specs.Convert.{convert_units}
 use Rattle.dvd_assemble.specs.Frames.{frame_size}
-use Rattle.dvd_top.specs.Commands.Frames.{frames_units}
-use Rattle.dvd_top.specs.Commands.Info.{IsAsked, IsControlDone, IsSought, format_lines, info_units}
-use Rattle.dvd_top.specs.Commands.Making.{IsMade}
-use Rattle.dvd_top.specs.Commands.Master.{IsMastered, bytes_of_block, bytes_of_entry, cpr_in, filled_block, frames_of, main_for, master_units}
-use Rattle.coding.specs.TwoPass.{answers_of}
-use Rattle.dvd_deep.specs.Reading.{deep_cause}
-use Rattle.dvd_deep.proofs.Readings.{deep-some}
-use Rattle.dvd_decoding.specs.Causes.{two_pass_cause}
-use Rattle.dvd_top.specs.Commands.Deep.{IsDeepened, IsImageRead, IsReadDeep, deep_units, round_told}
-use Rattle.dvd_top.specs.Commands.Recover.{IsDone, IsImageDone, IsRecovered, IsRefused, recover_units}
-use Rattle.dvd_top.specs.Commands.Survey.{IsSurveyed, survey_units}
-use Rattle.dvd_top.specs.Inner.Performing.{sectors_out}
-use Rattle.dvd_top.specs.Captured.{IfImage, IsDoneByEntry, IsPassedOver, captured_part}
+use Rattle.dvd_commands.specs.Frames.{frames_units}
+use Rattle.dvd_commands.specs.Info.{info_units}
+use Rattle.dvd_commands.specs.Master.{bytes_of_block, master_units}
+use Rattle.dvd_commands.specs.Deep.{deep_units}
+use Rattle.dvd_commands.specs.Recover.{recover_units}
+use Rattle.dvd_commands.specs.Survey.{survey_units}
+use Rattle.dvd_commands.specs.Captured.{captured_part}
 use Rattle.dvd_top.specs.Laws.{SomethingIsDone}
-use Rattle.dvd_top.specs.Opening.{IsHeaderOf, Opens}
+use Rattle.dvd_commands.specs.Opening.{IsHeaderOf, Opens}
 use Rattle.dvd_words.specs.Settings.{IsLayoutOf, broken_rule}
 use Rattle.dvd_words.specs.declared.settings.Command.{Command}
 use Rattle.dvd_words.specs.declared.settings.Command.TheVariants as command
 use Rattle.dvd_words.specs.declared.settings.Settings.{Settings}
-use Rattle.dvd_top.proofs.BlockFrames.{line-frames_of}
-use Rattle.dvd_top.proofs.CapturedBlocks.{blocks_total}
-use Rattle.dvd_top.proofs.ConvertedBlocks.{some_opening}
-use Rattle.dvd_top.proofs.BorneBlocks.{captured-received}
-use Rattle.dvd_capture.proofs.ListedWritten.{some_spelling}
-use Rattle.dvd_top.proofs.CdSectors.{read_some}
-use Rattle.dvd_top.proofs.Determined.{length-captured_marks, length-captured_rows}
-use Rattle.dvd_top.proofs.ExerciseRuns.{exercised_some}
-use Rattle.dvd_top.proofs.FormatBytes.{bytes-cpr, bytes-filled_block, bytes-main_for}
-use Rattle.dvd_top.proofs.FrameBytes.{HasBytes, IsByte, bytes-frame}
-use Rattle.dvd_top.proofs.Layouts.{layout_for}
+use Rattle.dvd_commands.proofs.CapturedBlocks.{blocks_total}
+use Rattle.dvd_commands.proofs.ForRuns.{some_opening, read_some, exercised_some, converted_some, deepened_some, made_some, mastered_some, recovered_some, sought_some, surveyed_some}
+use Rattle.dvd_commands.proofs.FrameBytes.{HasBytes, IsByte}
+use Rattle.dvd_commands.proofs.Layouts.{layout_for}
 use Rattle.dvd_top.proofs.OpenedRuns.{opened_exists, stated-command}
-
--- something may be done
-abbrev MaySome : (List Step → Turn → Type 0) → Type 0
-MaySome May = (steps : List Step) × (turn : Turn) × May steps turn
-
--- something may be done for each of so many units of given sizes
-abbrev MayEach : ℕ → (ℕ → ℕ) → (ℕ → List ℕ → List Step → Turn → Type 0) → Type 0
-MayEach count size does = (k : ℕ) (own : List ℕ) → k < count → HasBytes (size k) own → MaySome (does k own)
+use Rattle.dvd_commands.proofs.SomeThing.{MaySome, no_closing}
 
 -- Units of given sizes: where something may be done for each unit of bytes and behind all, every input of bytes has an
 -- outcome without a fault.
@@ -116,164 +73,6 @@ captures_exist : (units : Units) (form : Form) → ((k : ℕ) (own : List ℕ) �
     → ((before : List (List ℕ)) → length before ≡ units.count → (steps : List Step) × units.closes before steps)
     → (bytes : List ℕ) → Exists (IsOutcome units bytes)
 captures_exist units form begins may closing bytes = exists units (blocks_total units form begins (λ before own lt whole. may before own lt) closing) bytes
-
--- nothing closes these
-no_closing : (steps : List Step) × (steps ≡ [])
-no_closing = ([], refl)
-
--- a place of a plan has an entry
-pub some_entry : (entries : List BlockPlan) (k : ℕ) → k < length entries → (entry : BlockPlan) × (slice_get entries k ≡ Some entry)
-some_entry entries k within = elim (slice_get_cases entries k).1 [
-  | inl (entry, below, stands, read) ↦ (entry, stands)
-  | inr (past, none) ↦ absurd (omega arith)
-]
-
--- MASTER. The sixteen frames of a block have a block.
-mastered_some : (layout : Layout) (zones : Zones) (cpr : List ℕ) → HasBytes 6 cpr
-    → MayEach (length (plan_of layout zones)) (bytes_of_block layout zones) (IsMastered layout zones cpr)
-mastered_some layout zones cpr six k own within are =
-    let some = some_entry (plan_of layout zones) k within in
-    let entry = some.0 in
-    let piece = bytes-filled_block layout entry.content own (subst (λ n. HasBytes n own) (ap (bytes_of_entry layout) some.1) are) in
-    let frame : (f : ℕ) → f < 16 → HasBytes 2064 (line (frames_of layout entry cpr (filled_block own)) f) =
-    λ f below.
-    subst (HasBytes 2064) (sym (line-frames_of layout entry cpr (filled_block own) f below))
-    (bytes-frame _ (cpr_in entry.area cpr) _ (main_for entry.content layout entry (filled_block own) f) (bytes-cpr entry.area cpr six)
-    (bytes-main_for entry.content layout entry (filled_block own) f below piece)) in
-    let block = some_block (frames_of layout entry cpr (filled_block own)) (λ f below. (frame f below).size) (λ f below. (frame f below).bytes) in (
-      Write (recording block.0) ∷ [],
-      Good,
-      record { entry = entry; stands = some.1; block = block.0; is_block = block.1; writes = refl; good = refl },
-    )
-
--- a block may be passed over
-passed_some : MaySome IsPassedOver
-passed_some = ([], Good, (refl, refl))
-
--- where something may be done for image, something may whatever a block holds
-if_image_some : (Does : List Step → Turn → Type 0) → MaySome Does → (content : Content) → MaySome (IfImage Does content)
-if_image_some Does some (Image sector) = some
-if_image_some Does some content = passed_some
-
--- something may be done for a block, where something may for each entry
-entry_some : (entries : List BlockPlan) (Does : BlockPlan → List (List ℕ) → List (List Bool) → List Step → Turn → Type 0)
-    → ((entry : BlockPlan) (rows : List (List ℕ)) (marks : List (List Bool)) → length rows ≡ 208 → length marks ≡ 208 → MaySome (Does entry rows marks))
-    → (form : Form) (k : ℕ) (own : List ℕ) → k < length entries → MaySome (IsDoneByEntry entries Does form k own)
-entry_some entries Does some form k own within =
-    let at = some_entry entries k within in
-    let done = some at.0 (captured_rows form own) (captured_marks form own) (length-captured_rows form own) (length-captured_marks form own) in
-    (done.0, done.1, record { entry = at.0; stands = at.1; does = done.2 })
-
--- a block may be refused for a cause that it has
-refused_some : (has : Option Cause) (cause : Cause) → has ≡ Some cause → (layout : Layout) (k : ℕ) (entry : BlockPlan) (rows : List (List ℕ)) (marks : List (List Bool))
-    → (steps : List Step) × (turn : Turn) × IsRefused has layout k entry rows marks steps turn
-refused_some has cause first layout k entry rows marks = (
-  Tell (damage_line k entry cause (saved_in rows marks entry)) ∷ Write (sectors_out (image_sectors layout entry.content) (block_out rows marks entry)) ∷ [],
-  Bad,
-  record { cause = cause; first = first; tells = refl; bad = refl },
-)
-
--- RECOVER. A captured block has a cause, or it is read.
-module _ (layout : Layout) (k : ℕ) (entry : BlockPlan) (rows : List (List ℕ)) (marks : List (List Bool)) (size : length rows ≡ 208) (marks_size : length marks ≡ 208) where
-  -- a block of image sectors without a cause may be given, and one with a cause may be refused for it
-  image_some : (cause : Option Cause) → block_cause rows marks entry ≡ cause → MaySome (IsImageDone layout k entry rows marks)
-  image_some None none = (
-    Write (sectors_out (image_sectors layout entry.content) (block_sectors rows marks entry)) ∷ [],
-    Good,
-    inl (record { sectors = block_sectors rows marks entry; read = no_cause-read rows marks entry size marks_size none; writes = refl; good = refl }),
-  )
-  image_some (Some cause) first =
-      let some = refused_some (block_cause rows marks entry) cause first layout k entry rows marks in
-      (some.0, some.1, inr some.2)
-
--- so something is done for each block that `recover` reads
-recovered_some : (layout : Layout) (zones : Zones) (form : Form) (k : ℕ) (own : List ℕ) → k < length (plan_of layout zones)
-    → MaySome (IsRecovered layout zones form k own)
-recovered_some layout zones form k =
-    entry_some (plan_of layout zones) (λ e. IsDone e.content layout k e)
-    (λ e rows marks size marks_size. if_image_some (IsImageDone layout k e rows marks) (image_some layout k e rows marks size marks_size (block_cause rows marks e) refl) e.content) form k
-
--- DEEP. A captured block has a cause, or rounds give it back.
-module _ (layout : Layout) (k : ℕ) (entry : BlockPlan) (rows : List (List ℕ)) (marks : List (List Bool)) (size : length rows ≡ 208) (marks_size : length marks ≡ 208) where
-  -- a block without a cause may be given back by rounds, and one with a cause may be refused for it
-  image_read_some : (cause : Option Cause) → deep_cause rows marks entry ≡ cause → MaySome (IsImageRead layout k entry rows marks)
-  image_read_some None none =
-      let some = deep-some rows marks entry size marks_size none in (
-        round_told (two_pass_cause (answers_of rows marks)) k entry some.0 ++ Write (sectors_out (image_sectors layout entry.content) some.1) ∷ [],
-        Good,
-        inl (record { round = some.0; sectors = some.1; read = some.2; writes = refl; good = refl }),
-      )
-  image_read_some (Some cause) first =
-      let some = refused_some (deep_cause rows marks entry) cause first layout k entry rows marks in
-      (some.0, some.1, inr some.2)
-
--- so something is done for each block that `deep` reads
-deepened_some : (layout : Layout) (zones : Zones) (form : Form) (k : ℕ) (own : List ℕ) → k < length (plan_of layout zones)
-    → MaySome (IsDeepened layout zones form k own)
-deepened_some layout zones form k =
-    entry_some (plan_of layout zones) (λ e. IsReadDeep e.content layout k e)
-    (λ e rows marks size marks_size. if_image_some (IsImageRead layout k e rows marks) (image_read_some layout k e rows marks size marks_size (deep_cause rows marks e) refl) e.content) form k
-
--- so the units of both are total
-pub recover_total : (layout : Layout) (zones : Zones) (form : Form) → AreTotal (recover_units layout zones form)
-recover_total layout zones form =
-    blocks_total (recover_units layout zones form) form (λ k own. refl) (λ before own lt whole. recovered_some layout zones form (length before) own lt) (λ before all. no_closing)
-
-pub deep_total : (layout : Layout) (zones : Zones) (form : Form) → AreTotal (deep_units layout zones form)
-deep_total layout zones form =
-    blocks_total (deep_units layout zones form) form (λ k own. refl) (λ before own lt whole. deepened_some layout zones form (length before) own lt) (λ before all. no_closing)
-
--- INFO. A block of control data answers or it doesn't.
-module _ (entry : BlockPlan) (rows : List (List ℕ)) (marks : List (List Bool)) (size : length rows ≡ 208) (marks_size : length marks ≡ 208) where
-  -- a block without a cause may answer with its format, or with none where that breaks a rule
-  format_some : block_cause rows marks entry ≡ None → (fault : Option ControlFault) → control_fault (line (block_sectors rows marks entry) 0) ≡ fault
-      → MaySome (IsControlDone entry rows marks)
-  format_some none None lawful = (
-    Write (format_lines (fields_in (line (block_sectors rows marks entry) 0))) ∷ [],
-    Last,
-    inl (record { sectors = block_sectors rows marks entry; read = no_cause-read rows marks entry size marks_size none; lawful = lawful; writes = refl; last = refl }),
-  )
-  format_some none (Some fault) broken = (
-    [],
-    Good,
-    inr (record { why = inr (block_sectors rows marks entry, fault, no_cause-read rows marks entry size marks_size none, broken); nothing = refl; good = refl }),
-  )
-
-  -- a block of control data with a cause may go without an answer, and one without may be asked for its format
-  control_some : (cause : Option Cause) → block_cause rows marks entry ≡ cause → MaySome (IsControlDone entry rows marks)
-  control_some None none = format_some none (control_fault (line (block_sectors rows marks entry) 0)) refl
-  control_some (Some cause) first = ([], Good, inr (record { why = inl (cause, first); nothing = refl; good = refl }))
-
-  -- whatever a block holds, something may be done when it is asked for its format
-  asked_some : (content : Content) → MaySome (IsAsked content entry rows marks)
-  asked_some Control = control_some (block_cause rows marks entry) refl
-  asked_some content = passed_some
-
--- so something is done for each block that `info` asks
-sought_some : (initial : ℕ) (form : Form) (k : ℕ) (own : List ℕ) → k < initial + 224 → MaySome (IsSought initial form k own)
-sought_some initial form k own within =
-    entry_some (lead_in_blocks initial) (λ e. IsAsked e.content e) (λ e rows marks size marks_size. asked_some e rows marks size marks_size e.content) form k own
-    (let size = length-lead_in_blocks initial in omega arith)
-
--- SURVEY. Every block has a line.
-surveyed_some : (layout : Layout) (zones : Zones) (form : Form) (before : List (List ℕ)) (own : List ℕ) → length before < length (plan_of layout zones)
-    → MaySome (IsSurveyed layout zones form (length before) before own)
-surveyed_some layout zones form before own within =
-    let some = some_entry (plan_of layout zones) (length before) within in
-    (_, _, record { entry = some.0; stands = some.1; writes = refl; answers = refl })
-
--- CDMAKE. Every address below the last has a sector.
-made_some : (address : ℕ) (user : List ℕ) → address < 450000 → HasBytes 2048 user → MaySome (IsMade (IsSector address user))
-made_some address user below are =
-    let some = some_sector address user below are.size are.bytes in
-    (Write some.0 ∷ [], Good, record { made = some.0; holds = some.1; writes = refl; good = refl })
-
--- CONVERT. Whole blocks have a unit.
-converted_some : (form : Form) (own : List ℕ) → captured_part form own ≡ Whole (length own) → MaySome (IsConverted form own)
-converted_some form own whole =
-    let received = captured-received form own whole in
-    let unit = some_spelling (captured_rows form own) (captured_marks form own) received.height received.widths received.marks_height received.marks_widths in
-    (Write unit.0 ∷ [], Good, record { unit = unit.0; is_unit = unit.1; writes = refl; good = refl })
 
 module _ (settings : Settings) (bytes : List ℕ) (six : HasBytes 6 settings.cpr) (are : All IsByte bytes) where
   -- where the units of each layout have an outcome, those of the layout of the settings have

@@ -1,7 +1,7 @@
 -- What holds of the units of a command may be said otherwise, and an outcome may be taken out of it.
 use Rattle.std.proofs.Common.{List, ℕ}
 use Rattle.dvd_loop.specs.Machine.{IsOutcome, Outcome, Units}
-use Rattle.dvd_top.specs.Commands.{meaning}
+use Rattle.dvd_commands.specs.Commands.{meaning}
 use Rattle.dvd_words.specs.declared.settings.Command.{Command}
 use Rattle.dvd_words.specs.declared.settings.Command.TheVariants.{Frames, Master, Recover, Info, Survey, Exercise, CdMake, CdRead, Merge, Deep, Assemble, Convert}
 use Rattle.dvd_words.specs.declared.settings.Settings.{Settings}

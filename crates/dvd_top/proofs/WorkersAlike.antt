@@ -5,11 +5,11 @@ use Rattle.dvd_capture.specs.declared.form.Form.TheVariants.{Plain, Marked, List
 use Rattle.dvd_layout.specs.declared.layout.Layout.{Layout}
 use Rattle.dvd_loop.specs.Machine.{Outcome, Units}
 use Rattle.dvd_loop.specs.Streams.{Streams}
-use Rattle.dvd_top.specs.CdBound.{IsBorneSector, KeepsSectors}
-use Rattle.dvd_top.specs.Commands.{GoesOver, meaning}
+use Rattle.dvd_commands.specs.CdBound.{IsBorneSector, KeepsSectors}
+use Rattle.dvd_commands.specs.Commands.{GoesOver, meaning}
 use Rattle.dvd_top.specs.Headline.{IsLoop, IsRun}
 use Rattle.dvd_top.specs.Laws.{WorkersChangeNothing}
-use Rattle.dvd_top.specs.Opening.{BreaksHeader, ComesBehind, IsHeaderOf, Opens}
+use Rattle.dvd_commands.specs.Opening.{BreaksHeader, ComesBehind, IsHeaderOf, Opens}
 use Rattle.dvd_words.specs.Settings.{IsLayoutOf}
 use Rattle.dvd_words.specs.declared.settings.Command.{Command}
 use Rattle.dvd_words.specs.declared.settings.Command.TheVariants.{Frames, Master, Recover, Info, Survey, Exercise, CdMake, CdRead, Merge, Deep, Assemble, Convert}

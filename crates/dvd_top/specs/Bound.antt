@@ -1,10 +1,9 @@
 -- The bound of recovery: what a run gives back where the damage of a block is within the bound.
-use Rattle.std.specs.Prelude.{◌≡◌, ℕ, ◌+◌, ◌*◌, ◌<◌, ⊤, Bool, List, [], ◌∷◌, length, take, drop, Some, slice_get}
-use Rattle.coding.specs.Product.{IsBlockOf, line}
-use Rattle.dvd_capture.specs.Answers.{marks_line}
+use Rattle.std.specs.Prelude.{◌≡◌, ℕ, ◌+◌, ◌*◌, ◌<◌, ⊤, List, [], ◌∷◌, length, take, drop, Some, slice_get}
+use Rattle.coding.specs.Product.{IsBlockOf}
 use Rattle.dvd_capture.specs.Captured.{captured_marks, captured_rows}
 use Rattle.coding.specs.TwoPass.{answers_of}
-use Rattle.coding.specs.Within.{IsWithin, row_weight}
+use Rattle.coding.specs.Within.{IsWithin}
 use Rattle.dvd_capture.specs.declared.form.Form.{Form}
 use Rattle.dvd_layout.specs.Content.{IsImage, image_from}
 use Rattle.dvd_layout.specs.Place.{image_sectors, total_sectors}
@@ -20,10 +19,10 @@ use Rattle.dvd_loop.specs.declared.ends.Turn.{Turn}
 use Rattle.dvd_loop.specs.declared.ends.Turn.TheVariants.{Good}
 use Rattle.dvd_decoding.specs.Causes.{two_pass_cause}
 use Rattle.dvd_decoding.specs.declared.cause.Cause.{Cause}
-use Rattle.dvd_top.specs.Captured.{HasBlocks, block_bytes}
-use Rattle.dvd_top.specs.Commands.Master.{filled_block, frames_of, image_part}
-use Rattle.dvd_top.specs.Commands.Deep.{IsDeepened}
-use Rattle.dvd_top.specs.Commands.Recover.{IsRecovered}
+use Rattle.dvd_commands.specs.Captured.{HasBlocks, block_bytes}
+use Rattle.dvd_commands.specs.Master.{filled_block, frames_of, image_part}
+use Rattle.dvd_commands.specs.Deep.{IsDeepened}
+use Rattle.dvd_commands.specs.Recover.{HasGoodRows, IsRecovered}
 use Rattle.dvd_words.specs.Settings.{IsLayoutOf}
 use Rattle.dvd_words.specs.declared.settings.Command.{Command}
 use Rattle.dvd_words.specs.declared.settings.Command.TheVariants.{Recover, Deep}
@@ -39,11 +38,6 @@ Rescues other = ⊥
 abbrev pub IsRescued : Command → Layout → Zones → Form → ℕ → List ℕ → List Step → Turn → Type 0
 IsRescued Deep = IsDeepened
 IsRescued other = IsRecovered
-
--- the twelve rows of frame f are good against the block that was recorded: none weighs anything
-abbrev pub HasGoodRows : List (List ℕ) → List (List ℕ) → List (List Bool) → ℕ → Type 0
-HasGoodRows block received marks f =
-    (q : ℕ) → q < 12 → row_weight (line block (12 * f + q)) (line received (12 * f + q)) (marks_line marks (12 * f + q)) ≡ 0
 
 -- Captured block k is whole in the stream, and it was mastered for its place of this image and this CPR_MAI.
 pub record WasMastered (layout : Layout) (zones : Zones) (form : Form) (bytes cpr image : List ℕ) (k : ℕ) (entry : BlockPlan) : Type 0 where

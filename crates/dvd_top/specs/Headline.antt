@@ -12,10 +12,10 @@ use Rattle.dvd_ports.specs.Causes.{HasFailed, HasGoneOn, HasMetEnd}
 use Rattle.dvd_ports.specs.Seen.{Seen}
 use Rattle.dvd_ports.specs.Whole.{AppendsPrefix}
 use Rattle.dvd_top.specs.Bound.{KeepsBound, KeepsGoodFrames, Rescues}
-use Rattle.dvd_top.specs.CdBound.{KeepsSectors}
-use Rattle.dvd_top.specs.Commands.{GoesOver, breaks}
+use Rattle.dvd_commands.specs.CdBound.{KeepsSectors}
+use Rattle.dvd_commands.specs.Commands.{GoesOver, breaks}
 use Rattle.dvd_top.specs.Lines.{closing_line, setting_line}
-use Rattle.dvd_top.specs.Opening.{AfterHeader, Opens}
+use Rattle.dvd_commands.specs.Opening.{AfterHeader, Opens}
 use Rattle.dvd_top.specs.Promises.{GivesImage, Masters, NoneFailed, Recovers}
 use Rattle.dvd_top.specs.Statuses.{status_of}
 use Rattle.dvd_words.specs.Reading.{reading}
@@ -28,7 +28,7 @@ use Rattle.dvd_top.specs.declared.status.Status.TheVariants as status
 -- `breaks` gives the first rule of layouts that these break. A listed capture states its layout in a header, which is
 -- read later.
 
--- LOOP. A command cuts its input into units, as `recover` and `master` into blocks, and says on its page Commands/NAME
+-- LOOP. A command cuts its input into units, as `recover` and `master` into blocks, and says on its page of dvd_commands
 -- what is done for each. A unit is acted on only when all its bytes have come. Its steps are done in order: each writes
 -- to the output or reports a line. `recover` reports the damage line of a refused block, and then writes its sectors;
 -- an accepted block has no line, and beyond the bound it may be a wrong one. After the last unit every command but

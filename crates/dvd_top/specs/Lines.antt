@@ -4,7 +4,7 @@ use Rattle.dvd_layout.specs.declared.fault.LayoutFault.{LayoutFault}
 use Rattle.dvd_layout.specs.declared.fault.LayoutFault.TheVariants.{EmptyLayer, OddLayer, SecondLayer, LayerLonger, InitialTooLong, TailTooLong, LayerTooLong}
 use Rattle.dvd_loop.specs.declared.ends.LoopEnd.{LoopEnd}
 use Rattle.dvd_loop.specs.declared.ends.LoopEnd.TheVariants.{Done, ReadFault, WriteFault, ReportFault, Short, Long, Damaged, NoControl, BadMarks, ShortHeader, BadHeader}
-use Rattle.dvd_top.specs.Commands.{meaning}
+use Rattle.dvd_commands.specs.Commands.{meaning}
 use Rattle.dvd_words.specs.declared.settings.Command.{Command}
 
 -- the text of a refused layout

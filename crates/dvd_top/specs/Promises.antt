@@ -16,7 +16,7 @@ use Rattle.dvd_layout.specs.declared.layout.Layout.{Layout}
 use Rattle.dvd_layout.specs.declared.layout.Zones.{Zones}
 use Rattle.dvd_ports.specs.Causes.{Rose}
 use Rattle.dvd_loop.specs.Streams.{HaveMoved, Streams}
-use Rattle.dvd_top.specs.Commands.Master.{filled_block, frames_of, image_part}
+use Rattle.dvd_commands.specs.Master.{filled_block, frames_of, image_part}
 use Rattle.dvd_top.specs.declared.status.Status.{Status}
 use Rattle.dvd_top.specs.declared.status.Status.TheVariants as status
 use Rattle.dvd_words.specs.Settings.{IsLayoutOf}

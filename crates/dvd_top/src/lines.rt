@@ -1,6 +1,6 @@
 //! The closing lines of the report.
 ghost use Rattle.std.specs.Prelude.{◌≡◌, ◌+◌, ◌<◌, ◌≤◌, ◌++◌, length, decimal};
-ghost use Rattle.dvd_top.specs.Commands.{meaning};
+ghost use Rattle.dvd_commands.specs.Commands.{meaning};
 ghost use Rattle.dvd_top.specs.Lines.{closing_line, setting_line, fault_text};
 
 use dvd_layout::LayoutFault;

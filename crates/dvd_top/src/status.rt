@@ -1,11 +1,8 @@
-//! How a run ends, and why a command doesn't begin.
+//! How a run ends.
 ghost use Rattle.std.specs.Prelude.{◌≡◌};
 ghost use Rattle.dvd_top.specs.Statuses.{status_of};
-ghost use Rattle.dvd_top.specs.declared.status.Refusal.TheVariants.{Setting as setting, NoMemory as no_memory};
 
-use dvd_layout::LayoutFault;
 use dvd_loop::LoopEnd;
-use dvd_ports::NoMemory;
 
 /// The exit statuses of the program.
 #[derive(Clone, Copy, Debug, PartialEq, Eq)]
@@ -67,30 +64,5 @@ impl From<LoopEnd> for Status {
             LoopEnd::ShortHeader { .. } => Status::Short,
             LoopEnd::BadHeader { .. } => Status::BadHeader,
         }
-    }
-}
-
-/// Why a command doesn't begin.
-#[derive(Clone, Copy, Debug, PartialEq, Eq)]
-pub enum Refusal {
-    /// The layout that the settings ask for is not lawful.
-    Setting(LayoutFault),
-    /// There is no memory for its buffers.
-    NoMemory,
-}
-
-impl From<LayoutFault> for Refusal {
-    ghost from_gives = { λ fault refusal. refusal ≡ setting fault };
-
-    fn from(fault: LayoutFault) -> Self {
-        Refusal::Setting(fault)
-    }
-}
-
-impl From<NoMemory> for Refusal {
-    ghost from_gives = { λ _ refusal. refusal ≡ no_memory };
-
-    fn from(_: NoMemory) -> Self {
-        Refusal::NoMemory
     }
 }

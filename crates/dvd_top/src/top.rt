@@ -2,15 +2,15 @@
 ghost use Rattle.std.specs.Prelude.{◌≡◌, map, string_bytes, IsErr};
 ghost use Rattle.dvd_loop.specs.Streams.{streams};
 ghost use Rattle.dvd_top.specs.Headline.{Headline, Reports};
-ghost use Rattle.dvd_top.specs.Inner.Performing.{IsPerformed};
+ghost use Rattle.dvd_commands.specs.Performed.{IsPerformed};
 ghost use Rattle.dvd_words.specs.Reading.{IsLawful};
 
-use crate::commands::{
-    cdmake_loop, cdread_loop, frames_loop, run_assemble, run_convert, run_deep, run_exercise,
-    run_info, run_master, run_merge, run_recover, run_survey,
-};
 use crate::lines::{close_line, refused_line};
-use crate::status::{Refusal, Status};
+use crate::status::Status;
+use dvd_commands::{
+    Refusal, cdmake_loop, cdread_loop, frames_loop, run_assemble, run_convert, run_deep,
+    run_exercise, run_info, run_master, run_merge, run_recover, run_survey,
+};
 use dvd_loop::{LoopEnd, close};
 use dvd_par::Gate;
 use dvd_ports::{Sink, Source, WriteFault, write_whole};

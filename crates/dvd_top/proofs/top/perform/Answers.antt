@@ -4,16 +4,16 @@ use Rattle.std.specs.Prelude.{Result}
 use Rattle.dvd_capture.specs.Captured.{HasSize}
 use Rattle.dvd_loop.specs.Streams.{Streams}
 use Rattle.dvd_loop.specs.declared.ends.LoopEnd.{LoopEnd}
-use Rattle.dvd_top.specs.Commands.CdMake.{cdmake_units}
-use Rattle.dvd_top.specs.Commands.Frames.{frames_units}
-use Rattle.dvd_top.specs.Inner.Performing.{IsPerformed, IsPerformedByWords}
-use Rattle.dvd_top.specs.declared.status.Refusal.{Refusal}
-use Rattle.dvd_top.specs.declared.status.Refusal.TheVariants.{NoMemory, Setting}
+use Rattle.dvd_commands.specs.CdMake.{cdmake_units}
+use Rattle.dvd_commands.specs.Frames.{frames_units}
+use Rattle.dvd_commands.specs.Performed.{IsPerformed, IsPerformedByWords}
+use Rattle.dvd_commands.specs.declared.refusal.Refusal.{Refusal}
+use Rattle.dvd_commands.specs.declared.refusal.Refusal.TheVariants.{NoMemory, Setting}
 use Rattle.dvd_words.specs.Reading.{IsLawful, takes_listed}
 use Rattle.dvd_words.specs.declared.settings.Command.{Command}
 use Rattle.dvd_words.specs.declared.settings.Command.TheVariants.{CdMake, Convert, Exercise, Frames, Master, Merge}
 use Rattle.dvd_words.specs.declared.settings.Settings.{Settings}
-use Rattle.dvd_top.proofs.HeaderTaken.{breaks_by_words, gone_over, looped_by_words}
+use Rattle.dvd_commands.proofs.ForRuns.{breaks_by_words, gone_over, looped_by_words}
 use Rattle.dvd_top.proofs.top.perform.Goals as goal
 
 -- a command that reads no listed captures is told no such form

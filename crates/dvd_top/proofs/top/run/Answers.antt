@@ -6,10 +6,10 @@ use Rattle.dvd_words.specs.Reading.{IsLawful, reading, takes_listed}
 use Rattle.dvd_words.specs.declared.settings.Command.{Command}
 use Rattle.dvd_words.specs.declared.settings.Command.TheVariants.{CdRead, Master}
 use Rattle.dvd_words.specs.declared.settings.Settings.{Settings}
-use Rattle.dvd_top.specs.Commands.{breaks, meaning}
+use Rattle.dvd_commands.specs.Commands.{breaks, meaning}
 use Rattle.dvd_top.specs.Headline.{HaveFailed, IsRun, Reports}
 use Rattle.dvd_top.specs.Headline.Call.{IsRunOf, IsSetting}
-use Rattle.dvd_top.specs.Inner.Performing.{IsRefusal}
+use Rattle.dvd_commands.specs.Performed.{IsRefusal}
 use Rattle.dvd_top.specs.Lines.{closing_line, setting_line}
 use Rattle.dvd_top.specs.Promises.{GivesImage, Masters, Recovers}
 use Rattle.dvd_top.specs.declared.status.Status.TheVariants as status

@@ -1,0 +1,37 @@
+-- What an output has however its loop ended, where every loop that no fault ended gives it.
+use Rattle.std.proofs.Common.{◌≡◌, ℕ, List, drop, subst, take}
+use Rattle.dvd_loop.specs.Laws.{AreTotal, IsFaultless, IsFrontOf}
+use Rattle.dvd_loop.specs.Machine.{IsOutcome, Outcome, Units}
+use Rattle.dvd_loop.specs.declared.ends.LoopEnd.TheVariants.{ReadFault}
+use Rattle.dvd_loop.proofs.Faults.{ends_there, leave_fronts}
+use Rattle.dvd_commands.proofs.Pieces.{front-part}
+
+-- It is so where no fault ended the loop, and of the bytes that came before a failed read; else the output is the front of one
+-- that it is so of.
+pub record AtAnyEnd (Gives : List ℕ → List ℕ → Type 0) (bytes : List ℕ) (a : Outcome) : Type 0 where
+  pub at_place : IsFaultless a.end → Gives bytes a.out
+  pub received : a.end ≡ ReadFault → Gives a.taken a.out
+  pub whole : List ℕ
+  pub gives : Gives bytes whole
+  pub front : IsFrontOf a.out whole
+
+-- every loop has it, where each that no fault ended gives it
+pub at_any_end : (Gives : List ℕ → List ℕ → Type 0) (units : Units) → AreTotal units
+    → ((bytes : List ℕ) (b : Outcome) → IsOutcome units bytes b → IsFaultless b.end → Gives bytes b.out)
+    → (bytes : List ℕ) (a : Outcome) → IsOutcome units bytes a → AtAnyEnd Gives bytes a
+at_any_end Gives units total law bytes a runs =
+    let (b, so, none, out, lines) = leave_fronts units total bytes a runs in
+    record {
+      at_place = law bytes a runs;
+      received = λ failed.
+          let (c, loops, faultless, taken, written, told) = ends_there units bytes a runs failed in
+          subst (Gives a.taken) written (law a.taken c loops faultless);
+      whole = b.out;
+      gives = law bytes b so none;
+      front = out;
+    }
+
+-- a part of such an output is the front of that part of the whole
+pub part-begun : {Gives : List ℕ → List ℕ → Type 0} {bytes : List ℕ} {a : Outcome} (any : AtAnyEnd Gives bytes a) (n p : ℕ) (part : List ℕ)
+    → take n (drop p any.whole) ≡ part → IsFrontOf (take n (drop p a.out)) part
+part-begun {a = a} any n p part is = subst (IsFrontOf (take n (drop p a.out))) is (front-part n p a.out any.whole any.front)

@@ -1,0 +1,27 @@
+-- Why the contracts hold: lemmas on what several commands share. Those of one command stand in the folder of its proofs.
+pub mod AnyEnd
+pub mod BlockFrames
+pub mod BlockTurns
+pub mod BorneBlocks
+pub mod BrokenFields
+pub mod CaptureEnds
+pub mod CapturedBlocks
+pub mod CapturedParts
+pub mod CapturedTurns
+pub mod EntryBlocks
+pub mod ForRuns
+pub mod FrameBytes
+pub mod ImageInBlocks
+pub mod Layouts
+pub mod OneThing
+pub mod Pieces
+pub mod PlanBytes
+pub mod PlanEntries
+pub mod PlanLengths
+pub mod RecoveredWidths
+pub mod SectorsWritten
+pub mod SeveralWrites
+pub mod SomeThing
+pub mod SourceCounts
+pub mod TwoSteps
+pub mod Written

@@ -1,0 +1,61 @@
+-- Something may be done for a unit: what the commands have in common.
+use Rattle.std.proofs.Common.{◌≡◌, ℕ, List, ◌∷◌, [], length, Bool, Some, refl, Option, ◌<◌}
+use Rattle.dvd_capture.specs.Captured.{captured_marks, captured_rows}
+use Rattle.dvd_capture.specs.declared.form.Form.{Form}
+use Rattle.dvd_layout.specs.Place.{image_sectors}
+use Rattle.dvd_layout.specs.declared.entry.BlockPlan.{BlockPlan}
+use Rattle.dvd_layout.specs.declared.entry.Content.{Content}
+use Rattle.dvd_layout.specs.declared.entry.Content.TheVariants.{Image}
+use Rattle.dvd_layout.specs.declared.layout.Layout.{Layout}
+use Rattle.dvd_decoding.specs.declared.cause.Cause.{Cause}
+use Rattle.dvd_loop.specs.Machine.{Step}
+use Rattle.dvd_loop.specs.Machine.Step.{Write, Tell}
+use Rattle.dvd_loop.specs.declared.ends.Turn.{Turn}
+use Rattle.dvd_decoding.specs.Salvage.{block_out, saved_in}
+use Rattle.dvd_report.specs.Lines.{damage_line}
+use Rattle.dvd_commands.specs.Recover.{IsRefused}
+use Rattle.dvd_commands.specs.Inner.Performing.{sectors_out}
+use Rattle.dvd_commands.specs.Captured.{IfImage, IsDoneByEntry, IsPassedOver}
+use Rattle.dvd_loop.specs.declared.ends.Turn.TheVariants.{Good, Bad}
+use Rattle.dvd_commands.proofs.EntryBlocks.{length-captured_marks, length-captured_rows}
+use Rattle.dvd_commands.proofs.FrameBytes.{HasBytes}
+use Rattle.dvd_commands.proofs.PlanEntries.{some_entry}
+
+-- something may be done
+abbrev pub MaySome : (List Step → Turn → Type 0) → Type 0
+MaySome May = (steps : List Step) × (turn : Turn) × May steps turn
+
+-- nothing closes these
+pub no_closing : (steps : List Step) × (steps ≡ [])
+no_closing = ([], refl)
+
+-- a block may be passed over
+pub passed_some : MaySome IsPassedOver
+passed_some = ([], Good, (refl, refl))
+
+-- where something may be done for image, something may whatever a block holds
+pub if_image_some : (Does : List Step → Turn → Type 0) → MaySome Does → (content : Content) → MaySome (IfImage Does content)
+if_image_some Does some (Image sector) = some
+if_image_some Does some content = passed_some
+
+-- something may be done for a block, where something may for each entry
+pub entry_some : (entries : List BlockPlan) (Does : BlockPlan → List (List ℕ) → List (List Bool) → List Step → Turn → Type 0)
+    → ((entry : BlockPlan) (rows : List (List ℕ)) (marks : List (List Bool)) → length rows ≡ 208 → length marks ≡ 208 → MaySome (Does entry rows marks))
+    → (form : Form) (k : ℕ) (own : List ℕ) → k < length entries → MaySome (IsDoneByEntry entries Does form k own)
+entry_some entries Does some form k own within =
+    let at = some_entry entries k within in
+    let done = some at.0 (captured_rows form own) (captured_marks form own) (length-captured_rows form own) (length-captured_marks form own) in
+    (done.0, done.1, record { entry = at.0; stands = at.1; does = done.2 })
+
+-- a block may be refused for a cause that it has
+pub refused_some : (has : Option Cause) (cause : Cause) → has ≡ Some cause → (layout : Layout) (k : ℕ) (entry : BlockPlan) (rows : List (List ℕ)) (marks : List (List Bool))
+    → (steps : List Step) × (turn : Turn) × IsRefused has layout k entry rows marks steps turn
+refused_some has cause first layout k entry rows marks = (
+  Tell (damage_line k entry cause (saved_in rows marks entry)) ∷ Write (sectors_out (image_sectors layout entry.content) (block_out rows marks entry)) ∷ [],
+  Bad,
+  record { cause = cause; first = first; tells = refl; bad = refl },
+)
+
+-- something may be done for each of so many units of given sizes
+abbrev pub MayEach : ℕ → (ℕ → ℕ) → (ℕ → List ℕ → List Step → Turn → Type 0) → Type 0
+MayEach count size does = (k : ℕ) (own : List ℕ) → k < count → HasBytes (size k) own → MaySome (does k own)

@@ -1,0 +1,3 @@
+-- Why the contracts of `cdread` hold: its sectors, and what is kept of those that are borne.
+pub mod Kept
+pub mod Sectors

@@ -1,0 +1,2 @@
+-- Why the contracts of `convert` hold: its blocks.
+pub mod Blocks

@@ -1,0 +1,3 @@
+-- Why the contracts of `deep` hold: its blocks.
+pub mod Blocks
+pub mod Done

@@ -1,0 +1,76 @@
+-- The proof of `deep_block` in src/deep.rt.
+use Rattle.std.proofs.Common.{◌≡◌, ◌∙◌, ◌*◌, inr, ℕ, List, Some, take, ap, subst}
+use Rattle.std.specs.Io.KnownBytes.{Appends}
+use Rattle.dvd_block.specs.Buffers.{piece_bytes}
+use Rattle.dvd_capture.proofs.WorkParts.{marks-height, rows-height}
+use Rattle.dvd_capture.specs.Works.{marks_of_work, rows_of, sectors_of}
+use Rattle.dvd_deep.specs.Reading.{deep_cause}
+use Rattle.dvd_loop.specs.Streams.{streams}
+use Rattle.dvd_loop.specs.declared.ends.LoopEnd.TheVariants.{WriteFault}
+use Rattle.dvd_loop.proofs.TurnLemmas.{err_is, write_begun, write_done}
+use Rattle.dvd_ports.specs.Whole.{AppendsPrefix}
+use Rattle.dvd_commands.specs.Inner.Performing.{IsFoundBy, IsRefusedFor, sectors_out}
+use Rattle.dvd_commands.proofs.deep.Blocks.{found_given, read_given}
+use Rattle.dvd_commands.proofs.EntryBlocks.{an_image, no_image}
+use Rattle.dvd_commands.proofs.recover.Blocks.{refused, same_work}
+use Rattle.dvd_commands.proofs.TwoSteps.{done_as}
+use Rattle.dvd_commands.proofs.deep.deep_block.Goals as goal
+
+pub returns-in-Zero : goal.returns-in-Zero
+returns-in-Zero g c = λ source. no_image _ c.args.entry.now.content c.in-Zero.is _
+
+pub returns-in_err-write_sectors-in-Ok : goal.returns-in_err-write_sectors-in-Ok
+returns-in_err-write_sectors-in-Ok g c = λ source.
+    let work = c.args.work.now in
+    let output = g.K.Sink.seen c.args.out.now in
+    let new_output = g.K.Sink.seen c.write_sectors.new.out in
+    let sectors = sectors_of c.read_block.new.work in
+    an_image _ _ _ c.in-Image.is _ _ _
+    (write_begun _ _ _ (read_given c.args.layout.now c.args.k c.args.entry.now (rows_of work) (marks_of_work work) sectors (rows-height work.received) (marks-height work.marks) c.in-Ok.ensures.read)
+    source output new_output (g.E.Sink.seen c.args.report.now) c.from_residual.result (err_is c.from_residual.result WriteFault c.from_residual.ensures.1)
+    (subst (λ n. AppendsPrefix output.bytes new_output.bytes (sectors_out n sectors)) c.image_sectors-count.ensures.value c.in_err-write_sectors-in-Ok.ensures.begun)
+    c.in_err-write_sectors-in-Ok.ensures.cause.failed)
+
+pub returns-in_ok-write_sectors-in-Ok : goal.returns-in_ok-write_sectors-in-Ok
+returns-in_ok-write_sectors-in-Ok g c = λ source.
+    let work = c.args.work.now in
+    let output = g.K.Sink.seen c.args.out.now in
+    let new_output = g.K.Sink.seen c.write_sectors.new.out in
+    let sectors = sectors_of c.read_block.new.work in
+    an_image _ _ _ c.in-Image.is _ _ _
+    (write_done _ _ _ (read_given c.args.layout.now c.args.k c.args.entry.now (rows_of work) (marks_of_work work) sectors (rows-height work.received) (marks-height work.marks) c.in-Ok.ensures.read)
+    source output new_output (g.E.Sink.seen c.args.report.now)
+    (subst (λ n. Appends output.bytes new_output.bytes (sectors_out n sectors)) c.image_sectors-count.ensures.value c.in_ok-write_sectors-in-Ok.ensures.written)
+    c.in_ok-write_sectors-in-Ok.ensures.cause.steady)
+
+pub returns-in-Ok-search_block : goal.returns-in-Ok-search_block
+returns-in-Ok-search_block g c = λ source.
+    let layout = c.args.layout.now in
+    let entry = c.args.entry.now in
+    let work = c.args.work.now in
+    let bytes : List ℕ = piece_bytes c.search_block.new.piece in
+    let round = c.in-Ok-search_block.round in
+    let found = same_work (λ rows marks. IsFoundBy layout entry rows marks bytes round) work c.read_block.new.work c.read_block.ensures.received c.read_block.ensures.marks
+    (c.in-Ok-search_block.ensures.found layout) in
+    an_image _ _ _ c.in-Image.is _ _ _
+    (done_as _ _
+    (found_given layout c.args.k entry (rows_of work) (marks_of_work work) bytes _ round found
+    (ap (take (2048 * c.image_sectors-count.result)) c.bytes.ensures.bytes ∙ ap (λ (n : ℕ). take (2048 * n) bytes) c.image_sectors-count.ensures.value))
+    (streams source (g.K.Sink.seen c.args.out.now) (g.E.Sink.seen c.args.report.now))
+    (streams source (g.K.Sink.seen c.give_back.new.out) (g.E.Sink.seen c.give_back.new.report)) c.give_back.result (c.give_back.ensures source))
+
+pub returns-in-Err-search_block : goal.returns-in-Err-search_block
+returns-in-Err-search_block g c = λ source.
+    let layout = c.args.layout.now in
+    let entry = c.args.entry.now in
+    let work = c.args.work.now in
+    let cause = c.in-Err-search_block.cause in
+    let first = same_work (λ rows marks. deep_cause rows marks entry ≡ Some cause) work c.read_block.new.work c.read_block.ensures.received c.read_block.ensures.marks
+    c.in-Err-search_block.ensures.refused in
+    an_image _ _ _ c.in-Image.is _ _ _
+    (done_as _ _
+    (λ steps turn is.
+    inr (refused layout c.args.k entry (rows_of work) (marks_of_work work) _ cause first steps turn
+    (same_work (λ rows marks. IsRefusedFor layout c.args.k entry rows marks cause steps turn) work c.read_block.new.work c.read_block.ensures.received c.read_block.ensures.marks is)))
+    (streams source (g.K.Sink.seen c.args.out.now) (g.E.Sink.seen c.args.report.now))
+    (streams source (g.K.Sink.seen c.refuse_block.new.out) (g.E.Sink.seen c.refuse_block.new.report)) c.refuse_block.result (c.refuse_block.ensures source))

@@ -1,0 +1,5 @@
+-- Why the contracts of `exercise` hold: its blocks, what is counted of them, and its turns.
+pub mod Blocks
+pub mod Runs
+pub mod Trials
+pub mod Turns

@@ -1,0 +1,58 @@
+-- The proof of `turn` of `Turns` for `Exercise` in src/exercise.rt.
+use Rattle.std.proofs.Common.{◌∙◌, ◌+◌, [], ◌∷◌, length-append, refl, sym, ap, subst, arith}
+use Rattle.dvd_block.specs.Buffers.{block_rows, piece_bytes}
+use Rattle.dvd_exercise.specs.Generator.{state_of}
+use Rattle.dvd_layout.specs.declared.layout.Zones.TheVariants.{DataOnly}
+use Rattle.dvd_loop.proofs.StreamLemmas.{all_unmoved, stays}
+use Rattle.dvd_commands.specs.Inner.Exercising.{IsBehind}
+use Rattle.dvd_commands.proofs.exercise.Blocks.{length-data_plan}
+use Rattle.dvd_commands.proofs.exercise.Turns.{no_cause, turn_behind}
+use Rattle.dvd_commands.proofs.PlanEntries.{has_numbers}
+use Rattle.dvd_commands.proofs.exercise.ExerciseTurns.turn.Goals as goal
+
+pub plan-entry-requires : goal.plan-entry-requires
+plan-entry-requires g c =
+    let e = c.args.self.now in
+    omega (arith, c.from.ensures, c.requires.unit, length-data_plan e.layout e.shape e.blocks e.sectors)
+
+pub draw_block-requires-clause-numbers : goal.draw_block-requires-clause-numbers
+draw_block-requires-clause-numbers g c = has_numbers c.args.self.now.layout DataOnly c.from.result c.plan-entry.result c.plan-entry.ensures
+
+pub read_back-requires-clause-numbers : goal.read_back-requires-clause-numbers
+read_back-requires-clause-numbers g c = has_numbers c.args.self.now.layout DataOnly c.from.result c.plan-entry.result c.plan-entry.ensures
+
+pub read_back-requires-clause-right : goal.read_back-requires-clause-right
+read_back-requires-clause-right g c =
+    let e = c.args.self.now in
+    let made = c.draw_block.ensures in
+    let stands = rw c.from.ensures at c.plan-entry.ensures in
+    no_cause e.blocks c.args.k (state_of e.rand) e.layout e.shape c.requires.unit e.few c.plan-entry.result stands
+    (piece_bytes c.draw_block.new.piece) (block_rows c.draw_block.new.block) c.draw_block.new.work made.drawn made.made made.hurt
+
+pub returns-clause-turn : goal.returns-clause-turn
+returns-clause-turn g c = λ before number ready.
+    let e = c.args.self.now in
+    let k = c.args.k in
+    let entry = c.plan-entry.result in
+    let stands = rw c.from.ensures at c.plan-entry.ensures in
+    let piece = piece_bytes c.draw_block.new.piece in
+    let block = block_rows c.draw_block.new.block in
+    let work = c.draw_block.new.work in
+    let made = c.draw_block.ensures in
+    let read = c.read_back.ensures in
+    let x = state_of e.rand in
+    let new_state = state_of c.draw_block.new.rand in
+    let counts = c.read_back.new.counts in
+    let new_work = c.read_back.new.work in
+    let behind = subst (λ n. IsBehind e.seed n x e.counts e.work.now) number ready.0 in
+    let next : IsBehind e.seed (k + 1) new_state counts new_work =
+    turn_behind e.blocks k x e.layout e.shape c.requires.unit e.few entry stands piece block work made.drawn made.made made.hurt
+    e.seed c.bytes.result.now c.bytes.ensures.bytes e.counts counts e.work.now new_work new_state behind made.state
+    read.read read.counted read.fixed_most read.failed_most read.stage read.received.received read.received.marks in record {
+      own = [];
+      steps = [];
+      unit = record { whole = refl; does = (refl, refl) };
+      moved = stays _;
+      causes = all_unmoved _;
+      next = (subst (λ n. IsBehind e.seed n new_state counts new_work) (sym (length-append before ([] ∷ []) ∙ ap (λ n. n + 1) number)) next, ready.1, ready.2);
+    }

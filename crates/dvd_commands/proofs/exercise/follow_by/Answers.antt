@@ -1,0 +1,29 @@
+-- The proof of `follow_by` in src/exercise.rt.
+use Rattle.std.proofs.Common.{◌≡◌, ◌-◌, rules, refl, ap, subst, sym}
+use Rattle.dvd_loop.proofs.Silent.{AreWrites, beside, one_write}
+use Rattle.dvd_commands.specs.Exercise.{IsLeft, exercise_units}
+use Rattle.dvd_commands.proofs.exercise.Trials.{none_behind}
+use Rattle.dvd_commands.proofs.exercise.follow_by.Goals as goal
+
+pub follow-requires : goal.follow-requires
+follow-requires g c = (none_behind _ _ _ _ c.rand_of.ensures refl refl refl, c.requires.adder, c.requires.reader)
+
+pub returns-clause-follows : goal.returns-clause-follows
+returns-clause-follows g c = λ report.
+    let settings = c.args.settings.now in
+    beside (exercise_units settings.seed settings.blocks)
+    (record {
+      opens = tt;
+      does = λ k before own steps turn done. subst AreWrites (sym done.0) tt;
+      closes = λ before steps told. one_write steps _ told.writes;
+    })
+    _ _ _ _ report c.follow.result c.follow.ensures.follows
+
+pub returns-clause-left : goal.returns-clause-left
+returns-clause-left g c =
+    let command = c.follow.new.command in
+    let seed : command.seed ≡ c.args.settings.now.seed = ap (λ key. key.0) c.follow.ensures.same in
+    let blocks : command.blocks ≡ c.args.settings.now.blocks = ap (λ key. key.1) c.follow.ensures.same in
+    subst (IsLeft c.args.settings.now.seed (c.args.settings.now.blocks - 1)) (search rules)
+    (subst (λ n. IsLeft c.args.settings.now.seed (n - 1) command.work.now) blocks
+    (subst (λ s. IsLeft s (command.blocks - 1) command.work.now) seed c.follow.ensures.left))

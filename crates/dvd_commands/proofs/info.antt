@@ -1,0 +1,4 @@
+-- Why the contracts of `info` hold: its blocks, and which of them answers.
+pub mod Blocks
+pub mod Done
+pub mod Found

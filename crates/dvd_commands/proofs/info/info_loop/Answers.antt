@@ -1,0 +1,26 @@
+-- The proof of `info_loop` in src/info.rt.
+use Rattle.std.proofs.Common.{refl, subst, sym}
+use Rattle.dvd_loop.proofs.LoopEnds.{never_told}
+use Rattle.dvd_loop.proofs.Silent.{AreWrites, beside}
+use Rattle.dvd_commands.specs.Info.{info_units}
+use Rattle.dvd_commands.proofs.CaptureEnds.{sought_end}
+use Rattle.dvd_commands.proofs.info.Blocks.{asked_silent, never_bad}
+use Rattle.dvd_commands.proofs.info.info_loop.Goals as goal
+
+pub returns-clause-follows : goal.returns-clause-follows
+returns-clause-follows g c = λ report.
+    let settings = c.args.settings.now in
+    beside (info_units settings.initial settings.form)
+    (record {
+      opens = tt;
+      does = λ k before own steps turn done. asked_silent done.entry.content done.entry _ _ steps turn done.does;
+      closes = λ before steps none. subst AreWrites (sym none) tt;
+    })
+    _ _ _ _ report c.follow.result c.follow.ensures.follows
+
+pub returns-clause-ends : goal.returns-clause-ends
+returns-clause-ends g c =
+    let f = c.follow.ensures.follows.comes in
+    let settings = c.args.settings.now in
+    sought_end settings.form (info_units settings.initial settings.form) (λ k own. refl) refl (never_bad settings.initial settings.form)
+    f.bytes f.outcome f.holds c.follow.result f.ends (never_told c.follow.result c.follow.ensures.follows.causes.report)

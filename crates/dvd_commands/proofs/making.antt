@@ -1,0 +1,2 @@
+-- Why the contracts of `frames` and `cdmake` hold: what is made of a sector.
+pub mod Done

@@ -1,0 +1,5 @@
+-- Why the contracts of `master` hold: its blocks, their Main Data, and what they take of the image.
+pub mod Blocks
+pub mod Done
+pub mod FormatBytes
+pub mod ImageTaken

@@ -1,0 +1,2 @@
+-- Why the contracts of `merge` hold: the captures of a block.
+pub mod Captures

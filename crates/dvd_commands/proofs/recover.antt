@@ -1,0 +1,5 @@
+-- Why the contracts of `recover` hold: its blocks, what is saved of them, and a whole capture.
+pub mod Blocks
+pub mod Capture
+pub mod Done
+pub mod Rescues

@@ -1,0 +1,42 @@
+-- The bound of `cdread`: what a run gives back of CD-ROM sectors whose damage the words of a sector bear (ours).
+use Rattle.std.specs.Prelude.{◌≡◌, ℕ, ◌+◌, ◌*◌, ◌<◌, ◌≤◌, List, [], ◌∷◌, length, take, drop}
+use Rattle.cd_sector.specs.Laws.{IsBorne}
+use Rattle.cd_sector.specs.Sector.{IsSector}
+use Rattle.dvd_loop.specs.Laws.{IsFaultless, IsFrontOf}
+use Rattle.dvd_loop.specs.Machine.{Outcome, Step}
+use Rattle.dvd_loop.specs.Machine.Step.{Write}
+use Rattle.dvd_loop.specs.declared.ends.LoopEnd.TheVariants.{ReadFault}
+use Rattle.dvd_loop.specs.declared.ends.Turn.{Turn}
+use Rattle.dvd_loop.specs.declared.ends.Turn.TheVariants.{Good}
+use Rattle.dvd_commands.specs.CdRead.{IsSectorRead}
+use Rattle.dvd_words.specs.declared.settings.Settings.{Settings}
+
+-- the bytes of sector k of the input
+abbrev pub cd_sector_bytes : List ℕ → ℕ → List ℕ
+cd_sector_bytes bytes k = take 2352 (drop (2352 * k) bytes)
+
+-- Sector k is whole in the input, it was made of these user data for its address, and in each half, that of the low and that of
+-- the high bytes, its damage is one that the words bear.
+pub record IsBorneSector (settings : Settings) (bytes user : List ℕ) (k : ℕ) : Type 0 where
+  pub asked : k < settings.sectors
+  pub whole : 2352 * (k + 1) ≤ length bytes
+  pub user_size : length user ≡ 2048
+  pub sector : List ℕ
+  pub is_sector : IsSector (settings.address + k) user sector
+  pub low : IsBorne 0 sector (cd_sector_bytes bytes k)
+  pub high : IsBorne 1 sector (cd_sector_bytes bytes k)
+
+-- Of all user data: each of these sectors that is borne has given exactly these, at their place in the output.
+abbrev pub GivesUserData : Settings → List ℕ → List ℕ → Type 0
+GivesUserData settings bytes out = (user : List ℕ) (k : ℕ) → IsBorneSector settings bytes user k → take 2048 (drop (2048 * k) out) ≡ user
+
+-- The bound of `cdread`, whatever ended the run: of the sectors of the input where no fault ended it, and of those that came
+-- before a read failed. After any other fault what was written of a sector that is borne is its user data. And nothing else may
+-- be done for it, so that no line names it.
+pub record KeepsSectors (settings : Settings) (bytes : List ℕ) (outcome : Outcome) : Type 0 where
+  pub at_place : IsFaultless outcome.end → GivesUserData settings bytes outcome.out
+  pub received : outcome.end ≡ ReadFault → GivesUserData settings outcome.taken outcome.out
+  pub begun : (user : List ℕ) (k : ℕ) → IsBorneSector settings bytes user k → IsFrontOf (take 2048 (drop (2048 * k) outcome.out)) user
+  pub alone : (user : List ℕ) (k : ℕ) → IsBorneSector settings bytes user k
+      → (steps : List Step) (turn : Turn) → IsSectorRead (settings.address + k) k (cd_sector_bytes bytes k) steps turn
+      → (steps ≡ Write user ∷ []) × (turn ≡ Good)

@@ -1,0 +1,45 @@
+-- The command `cdread`: sector k is a CD-ROM sector of Mode 1 (ECMA-130, 14). If it has nothing wrong after its repair, its
+-- user data are written. Otherwise a line is reported with the sector and the first cause, and then 2,048 zeros are written.
+use Rattle.std.specs.Prelude.{◌≡◌, ◌⊎◌, ℕ, ◌+◌, List, [], ◌∷◌, codes, take, drop, replicate, None}
+use Rattle.cd_sector.specs.Causes.{IsCause, IsRightSector}
+use Rattle.cd_sector.specs.Repair.{repaired}
+use Rattle.cd_sector.specs.declared.checking.CdCause.{CdCause}
+use Rattle.dvd_loop.specs.Machine.{Step, Units, plain_units}
+use Rattle.dvd_loop.specs.Machine.Step.{Write, Tell}
+use Rattle.dvd_loop.specs.declared.ends.Turn.{Turn}
+use Rattle.dvd_loop.specs.declared.ends.Turn.TheVariants.{Good, Bad}
+use Rattle.dvd_commands.specs.CdLines.{damaged_sector_line}
+use Rattle.dvd_commands.specs.Meaning.{Meaning}
+
+-- the user data of a sector
+abbrev pub user_data : List ℕ → List ℕ
+user_data sector = take 2048 (drop 16 sector)
+
+-- Nothing is wrong with what the sector is repaired to: its user data are written.
+pub record IsSectorGiven (address : ℕ) (read : List ℕ) (steps : List Step) (turn : Turn) : Type 0 where
+  pub faultless : IsRightSector (repaired read) address
+  pub writes : steps ≡ Write (user_data (repaired read)) ∷ []
+  pub good : turn ≡ Good
+
+-- Or something is: a line tells the first cause, and then as many zeros are written.
+pub record IsSectorRefused (address k : ℕ) (read : List ℕ) (steps : List Step) (turn : Turn) : Type 0 where
+  pub cause : CdCause
+  pub is_cause : IsCause (repaired read) address cause
+  pub tells : steps ≡ Tell (damaged_sector_line k cause) ∷ Write (replicate 2048 0) ∷ []
+  pub bad : turn ≡ Bad
+
+-- what is done for sector k of the input, which has this address
+abbrev pub IsSectorRead : ℕ → ℕ → List ℕ → List Step → Turn → Type 0
+IsSectorRead address k read steps turn = IsSectorGiven address read steps turn ⊎ IsSectorRefused address k read steps turn
+
+-- sector k has 2,352 bytes of the input, and the address first + k
+abbrev pub cdread_units : ℕ → ℕ → Units
+cdread_units first sectors = plain_units sectors (λ k. 2352) (λ k. IsSectorRead (first + k) k)
+
+-- the meaning of `cdread`: its units are sectors, and it has no layout
+abbrev pub cdread_meaning : Meaning
+cdread_meaning = record {
+  unit_name = codes "sector";
+  breaks = λ settings. None;
+  OfUnits = λ settings P. P (cdread_units settings.address settings.sectors);
+}

@@ -1,0 +1,42 @@
+-- The command `convert` (ours): block k is a captured block in the plain or the marked form. A header with the layout is
+-- written before the first, and then the listed unit of each.
+use Rattle.std.specs.Prelude.{◌≡◌, ℕ, List, [], ◌∷◌, codes, length}
+use Rattle.dvd_capture.specs.Captured.{IsUnitOf, captured_rows, captured_marks}
+use Rattle.dvd_capture.specs.declared.form.Form.{Form}
+use Rattle.dvd_layout.specs.Plan.{plan_of}
+use Rattle.dvd_layout.specs.declared.layout.Layout.{Layout}
+use Rattle.dvd_layout.specs.declared.layout.Zones.{Zones}
+use Rattle.dvd_loop.specs.Machine.{Step, Units}
+use Rattle.dvd_loop.specs.Machine.Step.{Write}
+use Rattle.dvd_loop.specs.declared.ends.Turn.{Turn}
+use Rattle.dvd_loop.specs.declared.ends.Turn.TheVariants.{Good}
+use Rattle.dvd_commands.specs.Captured.{captured_units}
+use Rattle.dvd_commands.specs.Meaning.{Meaning}
+use Rattle.dvd_commands.specs.Opening.{IsHeaderOf}
+use Rattle.dvd_words.specs.Settings.{IsLayoutOf, broken_rule}
+use Rattle.dvd_words.specs.declared.settings.Settings.{Settings}
+
+-- the listed unit of the rows and marks of a captured block is written
+pub record IsConverted (form : Form) (own : List ℕ) (steps : List Step) (turn : Turn) : Type 0 where
+  pub unit : List ℕ
+  pub is_unit : IsUnitOf (captured_rows form own) (captured_marks form own) unit
+  pub writes : steps ≡ Write unit ∷ []
+  pub good : turn ≡ Good
+
+-- Unit k is a captured block, whatever the plan has there. Before the first of them these bytes are written.
+abbrev pub convert_units : Layout → Zones → Form → List ℕ → Units
+convert_units layout zones form opening =
+    record (captured_units (length (plan_of layout zones)) form (λ k. IsConverted form)) { opens = Write opening ∷ [] }
+
+-- those that open with the header that states these settings
+abbrev pub OfConverted : Settings → Layout → (Units → Type 0) → Type 0
+OfConverted settings layout P =
+    (opening : List ℕ) × IsHeaderOf settings settings opening × P (convert_units layout settings.zones settings.form opening)
+
+-- the meaning of `convert`: its units are blocks, and its layout has to break no rule
+abbrev pub convert_meaning : Meaning
+convert_meaning = record {
+  unit_name = codes "block";
+  breaks = broken_rule;
+  OfUnits = λ settings P. (layout : Layout) × IsLayoutOf settings layout × OfConverted settings layout P;
+}

@@ -1,0 +1,91 @@
+-- What the private calls of the commands promise: what is read and written for one block.
+use Rattle.std.specs.Prelude.{◌≡◌, ◌⊎◌, ◌<◌, ℕ, ◌+◌, ◌*◌, Bool, true, is_some, List, [], ◌∷◌, ◌++◌, length, take, Option, None}
+use Rattle.std.specs.List.{flat_map}
+use Rattle.std.specs.Io.KnownBytes.{Consumes, IsAtEnd}
+use Rattle.coding.specs.Product.{line}
+use Rattle.dvd_capture.specs.Captured.{block_size}
+use Rattle.dvd_capture.specs.declared.form.Form.{Form}
+use Rattle.dvd_control.specs.Format.{Fields, control_fault, fields_in}
+use Rattle.dvd_layout.specs.declared.entry.BlockPlan.{BlockPlan}
+use Rattle.dvd_layout.specs.declared.layout.Layout.{Layout}
+use Rattle.dvd_loop.specs.Machine.{EndsWithin, Step}
+use Rattle.dvd_loop.specs.Machine.Step.{Tell, Write}
+use Rattle.dvd_loop.specs.declared.ends.Turn.{Turn}
+use Rattle.dvd_loop.specs.declared.ends.Turn.TheVariants.{Bad, Good}
+use Rattle.dvd_commands.specs.Info.{GivesNoFormat}
+use Rattle.dvd_loop.specs.Streams.{IsTold}
+use Rattle.dvd_loop.specs.declared.ends.LoopEnd.{LoopEnd}
+use Rattle.dvd_loop.specs.declared.ends.LoopEnd.TheVariants.{ReadFault, Short}
+use Rattle.dvd_merge.specs.Join.{Table, joined}
+use Rattle.dvd_ports.specs.Seen.{Seen}
+use Rattle.dvd_decoding.specs.Reading.{IsReadAs, block_cause}
+use Rattle.dvd_report.specs.Survey.{survey_line, surveyed}
+use Rattle.dvd_report.specs.declared.counts.Surveyed.{Surveyed}
+use Rattle.dvd_commands.specs.Merge.{tables_in}
+use Rattle.coding.specs.TwoPass.{answers_of}
+use Rattle.dvd_deep.specs.Reading.{IsDeep}
+use Rattle.dvd_layout.specs.Place.{image_sectors}
+use Rattle.dvd_decoding.specs.Causes.{two_pass_cause}
+use Rattle.dvd_decoding.specs.Salvage.{block_out, saved_in}
+use Rattle.dvd_decoding.specs.declared.cause.Cause.{Cause}
+use Rattle.dvd_report.specs.Lines.{damage_line}
+use Rattle.dvd_commands.specs.Survey.{turn_by}
+use Rattle.dvd_commands.specs.Captured.{captured_part}
+
+-- A source gave a part of captured block k, and the loop ends so; these are left, where the source tells them.
+pub record EndsCaptured (form : Form) (k : ℕ) (old new : Seen) (end : LoopEnd) : Type 0 where
+  pub own : List ℕ
+  pub left : List ℕ
+  pub reads : Consumes old.bytes new.bytes own
+  pub told : IsTold new.bytes left
+  pub ends : EndsWithin (captured_part form own) k (length own) left end
+
+-- so many sectors, one after the other
+abbrev pub sectors_out : ℕ → List (List ℕ) → List ℕ
+sectors_out count sectors = flat_map (λ sector. sector) (take count sectors)
+
+-- a line is told, these bytes are written, and the unit is this
+abbrev pub TellsAndWrites : List ℕ → List ℕ → Turn → List Step → Turn → Type 0
+TellsAndWrites line bytes is steps turn = (steps ≡ Tell line ∷ Write bytes ∷ []) × (turn ≡ is)
+
+-- what is done for a block that is refused for this cause
+abbrev pub IsRefusedFor : Layout → ℕ → BlockPlan → List (List ℕ) → List (List Bool) → Cause → List Step → Turn → Type 0
+IsRefusedFor layout k entry rows marks cause =
+    TellsAndWrites (damage_line k entry cause (saved_in rows marks entry)) (sectors_out (image_sectors layout entry.content) (block_out rows marks entry)) Bad
+
+-- what rounds read of a block that two passes refused: these are its first image sectors, and its frames are right
+pub record IsFoundBy (layout : Layout) (entry : BlockPlan) (rows : List (List ℕ)) (marks : List (List Bool)) (bytes : List ℕ) (round : ℕ) : Type 0 where
+  pub sectors : List (List ℕ)
+  pub read : IsDeep rows marks entry round sectors
+  pub refused : is_some (two_pass_cause (answers_of rows marks)) ≡ true
+  pub first : take (2048 * image_sectors layout entry.content) bytes ≡ sectors_out (image_sectors layout entry.content) sectors
+
+-- a block of control data tells this format
+pub record Tells (entry : BlockPlan) (rows : List (List ℕ)) (marks : List (List Bool)) (format : Fields) : Type 0 where
+  pub sectors : List (List ℕ)
+  pub read : IsReadAs rows marks entry sectors
+  pub lawful : control_fault (line sectors 0) ≡ None
+  pub fields : format ≡ fields_in (line sectors 0)
+
+-- or it tells none
+abbrev pub AnswersNothing : BlockPlan → List (List ℕ) → List (List Bool) → Type 0
+AnswersNothing entry rows marks = GivesNoFormat entry rows marks [] Good
+
+-- what is done for a block that is surveyed behind those
+pub record IsLineDone (entry : BlockPlan) (blocks : List Surveyed) (rows : List (List ℕ)) (marks : List (List Bool)) (steps : List Step) (turn : Turn) : Type 0 where
+  pub writes : steps ≡ Write (survey_line (length blocks) entry (blocks ++ surveyed rows marks entry ∷ [])) ∷ []
+  pub answers : turn ≡ turn_by (block_cause rows marks entry)
+
+-- A source gave so many captures of a block, and this is the join of what they know of it.
+pub record AreTaken (captures : ℕ) (form : Form) (old new : Option (List ℕ)) (table : Table) : Type 0 where
+  pub bytes : List ℕ
+  pub size : length bytes ≡ captures * block_size form
+  pub taken : Consumes old new bytes
+  pub joins : table ≡ joined (tables_in captures form bytes)
+
+-- A source gave a part of the captured block that stands behind so many bytes of unit k, and the loop ends so.
+pub record EndsInCapture (k held size : ℕ) (old new : Seen) (end : LoopEnd) : Type 0 where
+  pub own : List ℕ
+  pub reads : Consumes old.bytes new.bytes own
+  pub fewer : length own < size
+  pub ends : ((end ≡ Short k (held + length own)) × IsAtEnd new.bytes) ⊎ (end ≡ ReadFault)

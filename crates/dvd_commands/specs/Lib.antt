@@ -1,0 +1,24 @@
+-- What the contracts speak of: the commands, each on a page of its own, and how a run of one opens.
+pub mod Assemble
+pub mod Captured
+pub mod CdBound
+pub mod CdLines
+pub mod CdMake
+pub mod CdRead
+pub mod Commands
+pub mod Convert
+pub mod Deep
+pub mod Exercise
+pub mod Frames
+pub mod HeaderEnds
+pub mod Info
+pub mod Inner
+pub mod Laws
+pub mod Making
+pub mod Master
+pub mod Meaning
+pub mod Merge
+pub mod Opening
+pub mod Performed
+pub mod Recover
+pub mod Survey

@@ -1,0 +1,39 @@
+-- What a command that was asked for does before its closing line: how its loop ended, or why it doesn't begin.
+use Rattle.std.specs.Prelude.{◌≡◌, Result, Ok, Err, None, Some}
+use Rattle.dvd_loop.specs.Streams.{HasEnded, Streams}
+use Rattle.dvd_loop.specs.declared.ends.LoopEnd.{LoopEnd}
+use Rattle.dvd_commands.specs.Commands.{GoesOver, breaks, meaning}
+use Rattle.dvd_commands.specs.Opening.{Opens}
+use Rattle.dvd_words.specs.declared.settings.Settings.{Settings}
+use Rattle.dvd_commands.specs.declared.refusal.Refusal.{Refusal}
+use Rattle.dvd_commands.specs.declared.refusal.Refusal.TheVariants.{Setting, NoMemory}
+
+-- its layout is lawful, and its loop ended so
+pub record HasLooped (settings : Settings) (old new : Streams) (end : LoopEnd) : Type 0 where
+  pub lawful : breaks settings ≡ None
+  pub loop : HasEnded (Opens settings.form GoesOver settings) old new end
+
+-- why it doesn't begin: its layout breaks a rule, or there is no memory for its buffers
+abbrev pub IsRefusal : Settings → Refusal → Type 0
+IsRefusal settings (Setting fault) = breaks settings ≡ Some fault
+IsRefusal settings NoMemory = breaks settings ≡ None
+
+-- what a command did: its loop ended so, or it didn't begin
+abbrev pub IsPerformed : Settings → Streams → Streams → Result LoopEnd Refusal → Type 0
+IsPerformed settings old new (Ok end) = HasLooped settings old new end
+IsPerformed settings old new (Err refusal) = IsRefusal settings refusal
+
+-- The same of a command by its words alone, which no header comes before.
+pub record HasGoneOver (settings : Settings) (old new : Streams) (end : LoopEnd) : Type 0 where
+  pub lawful : (meaning settings.command).breaks settings ≡ None
+  pub loop : HasEnded (GoesOver settings) old new end
+
+-- why it doesn't begin, by the rules of its command alone
+abbrev pub IsRefusalOfWords : Settings → Refusal → Type 0
+IsRefusalOfWords settings (Setting fault) = (meaning settings.command).breaks settings ≡ Some fault
+IsRefusalOfWords settings NoMemory = (meaning settings.command).breaks settings ≡ None
+
+-- what it did
+abbrev pub IsPerformedByWords : Settings → Streams → Streams → Result LoopEnd Refusal → Type 0
+IsPerformedByWords settings old new (Ok end) = HasGoneOver settings old new end
+IsPerformedByWords settings old new (Err refusal) = IsRefusalOfWords settings refusal

@@ -1,0 +1,197 @@
+//! The command `assemble`: scattered recording frames put in order.
+ghost use Rattle.std.specs.Prelude.{◌≡◌, ◌+◌, ◌<◌, ◌≤◌, ℕ, length, replicate, IsErr, IfErr, OnOk};
+ghost use Rattle.std.specs.Option.{option_map_or};
+ghost use Rattle.dvd_assemble.specs.Assembled.{settled};
+ghost use Rattle.dvd_assemble.specs.Frames.{CapturesFrame, frame_size};
+ghost use Rattle.dvd_assemble.specs.Home.{home};
+ghost use Rattle.dvd_assemble.specs.Shelves.{tables_of};
+ghost use Rattle.dvd_assemble.specs.Works.{captured};
+ghost use Rattle.dvd_capture.specs.Captured.{HasSize};
+ghost use Rattle.dvd_capture.specs.declared.form.Form.{Form as CaptureForm};
+ghost use Rattle.dvd_layout.specs.Plan.{plan_of};
+ghost use Rattle.dvd_layout.specs.declared.layout.Layout.{Layout as DiskLayout};
+ghost use Rattle.dvd_layout.specs.declared.layout.Zones.TheVariants.{DataOnly};
+ghost use Rattle.dvd_loop.specs.Machine.{IsOutcome};
+ghost use Rattle.dvd_loop.specs.Streams.{streams, HasEnded};
+ghost use Rattle.dvd_loop.specs.Turns.{EndsShort, HasReadCause};
+ghost use Rattle.dvd_merge.specs.Join.{unseen};
+ghost use Rattle.dvd_ports.specs.Whole.{IsWritten};
+ghost use Rattle.dvd_commands.specs.Assemble.{IsAssembleEnd, IsShelfOf, assemble_units, placed_line, text_of};
+ghost use Rattle.dvd_commands.specs.Performed.{IsPerformedByWords};
+ghost use Rattle.dvd_words.specs.Settings.{IsLayoutOf};
+
+use crate::refusal::Refusal;
+use dvd_assemble::{FrameWork, Shelf, fetch_frame};
+use dvd_capture::{FetchAnswer, Form};
+use dvd_layout::{Layout, Zones};
+use dvd_loop::{Behind, LoopEnd, Turn, Turns, follow};
+use dvd_ports::{Sink, Source, WriteFault, write_whole};
+use dvd_report::Line;
+use dvd_words::{Command, Settings};
+use std::alloc::Global;
+
+/// How many frames there are, how many of those that came have a home, and the memory of one frame and of all blocks.
+#[derive(Drop)]
+struct Assembling<'a> {
+    layout: Layout,
+    form: Form,
+    frames: u32,
+    placed: u32,
+    shelf: &'a mut Shelf,
+    frame: &'a mut FrameWork,
+
+    ghost sized: { HasSize form },
+}
+
+impl<'a> Turns for Assembling<'a> {
+    ghost Key = { DiskLayout × CaptureForm × ℕ };
+
+    ghost key = { λ a. (a.layout, a.form, a.frames) };
+
+    ghost units = { λ key. assemble_units key.0 key.1 key.2 };
+
+    ghost ready = { λ a before. IsShelfOf a.layout a.form before (tables_of a.shelf.now) a.placed };
+
+    ghost left = { λ _ _. Unit {0} };
+
+    fn count(&self) -> u32 {
+        self.frames
+    }
+
+    fn behind(&self) -> Behind {
+        Behind::Asks
+    }
+
+    fn open<K: Sink, E: Sink>(&self, _out: &mut K, _report: &mut E) -> Result<(), LoopEnd> {
+        Ok(())
+    }
+
+    fn turn<S: Source, K: Sink, E: Sink>(
+        &mut self,
+        k: u32,
+        src: &mut S,
+        _out: &mut K,
+        _report: &mut E,
+    ) -> Result<Turn, LoopEnd> {
+        read_frame(src, k, self.form, self.frame)?;
+        self.placed += settle_frame(&self.layout, self.frame, self.shelf);
+        Ok(Turn::Good)
+    }
+
+    // Before one byte more is asked for: where the input is too long, the line is true of what was written.
+    fn close<K: Sink, E: Sink>(&self, out: &mut K, report: &mut E) -> Result<(), LoopEnd> {
+        write_blocks(self.shelf, out)?;
+        let line = placed_line(self.placed, self.frames.saturating_sub(self.placed));
+        match write_whole(report, line.as_slice()) {
+            Ok(()) => Ok(()),
+            Err(WriteFault) => Err(LoopEnd::ReportFault),
+        }
+    }
+}
+
+/// Puts as many recording frames in order as the settings say. The shelf has the data blocks of the layout that the settings
+/// choose, and none of their places is seen yet.
+pub fn assemble_loop<S: Source, K: Sink, E: Sink>(
+    settings: &Settings,
+    layout: &Layout,
+    shelf: &mut Shelf,
+    frame: &mut FrameWork,
+    src: &mut S,
+    out: &mut K,
+    report: &mut E,
+) -> LoopEnd
+    requires layout { IsLayoutOf settings.now layout.now }
+    requires form { HasSize settings.now.form }
+    requires unseen { tables_of shelf.old ≡ replicate (length (plan_of layout.now DataOnly)) unseen }
+    ensures follows { HasEnded (IsOutcome (assemble_units layout.now settings.now.form settings.now.frames))
+        (streams (S.seen src.old) (K.seen out.old) (E.seen report.old))
+        (streams (S.seen src.new) (K.seen out.new) (E.seen report.new)) result }
+    ensures ends { IsAssembleEnd settings.now.frames result }
+{
+    let mut assembling = Assembling {
+        layout: *layout,
+        form: settings.form,
+        frames: settings.frames,
+        placed: 0,
+        shelf,
+        frame,
+    };
+    follow(&mut assembling, src, out, report)
+}
+
+/// The command with its buffers, or why it doesn't begin.
+pub fn run_assemble<S: Source, K: Sink, E: Sink>(
+    alloc: Global,
+    settings: &Settings,
+    src: &mut S,
+    out: &mut K,
+    report: &mut E,
+) -> Result<LoopEnd, Refusal>
+    requires command { settings.now.command ≡ Command.Assemble }
+    requires form { HasSize settings.now.form }
+    requires few { settings.now.sectors + settings.now.sectors1 ≤ 16384 }
+    ensures performed { IsPerformedByWords settings.now
+        (streams (S.seen src.old) (K.seen out.old) (E.seen report.old))
+        (streams (S.seen src.new) (K.seen out.new) (E.seen report.new)) result }
+    ensures untouched { IsErr result → (src.new ≡ src.old) × (out.new ≡ out.old) × (report.new ≡ report.old) }
+{
+    let layout = settings.layout()?;
+    let mut shelf = Shelf::new(alloc, layout.blocks(Zones::DataOnly) as u16)?;
+    let mut frame = FrameWork::new();
+    Ok(assemble_loop(settings, &layout, &mut shelf, &mut frame, src, out, report))
+}
+
+// Reads frame `k`, or answers how the loop ends within it.
+fn read_frame<S: Source>(
+    src: &mut S,
+    k: u32,
+    form: Form,
+    frame: &mut FrameWork,
+) -> Result<(), LoopEnd>
+    requires { HasSize form }
+    ensures full { OnOk result (CapturesFrame form (S.seen src.old).bytes (S.seen src.new).bytes (captured frame.new)) }
+    ensures short { IfErr result (EndsShort k (frame_size form) (S.seen src.old) (S.seen src.new)) }
+    ensures causes { HasReadCause result (S.seen src.old) (S.seen src.new) }
+{
+    match fetch_frame(src, form, frame) {
+        FetchAnswer::Full => Ok(()),
+        FetchAnswer::End => Err(LoopEnd::Short { unit: k, bytes: 0 }),
+        FetchAnswer::Short { bytes } => Err(LoopEnd::Short { unit: k, bytes }),
+        FetchAnswer::ReadFault => Err(LoopEnd::ReadFault),
+        FetchAnswer::BadMarks { at } => Err(LoopEnd::BadMarks { block: k, at }),
+    }
+}
+
+// Joins a frame to its home. Answers 1, or 0 where it has none.
+fn settle_frame(layout: &Layout, frame: &FrameWork, shelf: &mut Shelf) -> u32
+    requires { length (tables_of shelf.old) ≡ length (plan_of layout.now DataOnly) }
+    ensures count { result ≡ option_map_or (λ n. 1) (home layout.now (captured frame.now)) 0 }
+    ensures settled { tables_of shelf.new ≡ settled layout.now (tables_of shelf.old) (captured frame.now) }
+{
+    match shelf.settle(layout, frame) {
+        Some(_) => 1,
+        None => 0,
+    }
+}
+
+// Writes all blocks in the marked form.
+fn write_blocks<K: Sink>(shelf: &Shelf, out: &mut K) -> Result<(), WriteFault>
+    ensures { IsWritten (text_of (tables_of shelf.now)) (K.seen out.old) (K.seen out.new) result }
+{
+    for k in 0..shelf.blocks() {
+        shelf.merged(k).write_marked(out)?;
+    }
+    Ok(())
+}
+
+// The line of all frames.
+#[tactic(auto, unfolding(crate::specs::Assemble::placed_line))]
+fn placed_line(placed: u32, strays: u32) -> Line
+    ensures { result ≡ placed_line placed strays }
+{
+    let mut line = Line::new();
+    line.put_named(b"placed ", u64::from(placed));
+    line.put_named(b" strays ", u64::from(strays));
+    line.put(b"\n");
+    line
+}

@@ -1,0 +1,85 @@
+//! Captured blocks, as the commands that read a stream of them take them.
+ghost use Rattle.std.specs.Prelude.{◌≤◌, IfErr, OnOk};
+ghost use Rattle.dvd_capture.specs.Captured.{Captures};
+ghost use Rattle.dvd_capture.specs.Rule.{HasAnswers, HasBlock};
+ghost use Rattle.dvd_capture.specs.Works.{rows_of, marks_of_work, sectors_of, stage_of};
+ghost use Rattle.dvd_loop.specs.Streams.{streams};
+ghost use Rattle.dvd_layout.specs.Place.{HasNumbers};
+ghost use Rattle.dvd_loop.specs.Turns.{AreDone, HasReadCause};
+ghost use Rattle.dvd_ports.specs.Seen.{Seen};
+ghost use Rattle.dvd_ports.specs.Whole.{IsWritten};
+ghost use Rattle.dvd_commands.specs.Inner.Performing.{EndsCaptured, IsRefusedFor, sectors_out};
+
+use dvd_capture::{FetchAnswer, Form, Work, fetch};
+use dvd_layout::{BlockPlan, Layout};
+use dvd_loop::{LoopEnd, Turn};
+use dvd_ports::{Sink, Source, WriteFault, write_whole};
+use dvd_read::{Cause, salvage};
+use dvd_report::write_cause;
+
+/// Reads captured block `k`, or answers how the loop ends within it.
+pub(crate) fn fetch_block<S: Source>(
+    src: &mut S,
+    k: u32,
+    form: Form,
+    work: &mut Work,
+) -> Result<(), LoopEnd>
+    ensures full { OnOk result (Captures form (S.seen src.old).bytes (S.seen src.new).bytes (rows_of work.new) (marks_of_work work.new)) }
+    ensures stage { OnOk result (HasBlock (stage_of work.new)) }
+    ensures ended { IfErr result (EndsCaptured form k (S.seen src.old) (S.seen src.new)) }
+    ensures causes { HasReadCause result (S.seen src.old) (S.seen src.new) }
+{
+    match fetch(src, form, work) {
+        FetchAnswer::Full => Ok(()),
+        FetchAnswer::End => Err(LoopEnd::Short { unit: k, bytes: 0 }),
+        FetchAnswer::Short { bytes } => Err(LoopEnd::Short { unit: k, bytes }),
+        FetchAnswer::ReadFault => Err(LoopEnd::ReadFault),
+        FetchAnswer::BadMarks { at } => Err(LoopEnd::BadMarks { block: k, at }),
+    }
+}
+
+/// Tells the line of a block that is refused for this cause, and writes the image sectors of it that are saved, and zeros for
+/// the others.
+pub(crate) fn refuse_block<K: Sink, E: Sink>(
+    layout: &Layout,
+    k: u32,
+    entry: &BlockPlan,
+    cause: &Cause,
+    work: &mut Work,
+    out: &mut K,
+    report: &mut E,
+) -> Result<Turn, LoopEnd>
+    requires numbers { HasNumbers entry.now }
+    requires stage { HasAnswers (stage_of work.old) }
+    ensures { (source : Seen) → AreDone (IsRefusedFor layout.now k entry.now (rows_of work.old) (marks_of_work work.old) cause.now)
+        (streams source (K.seen out.old) (E.seen report.old)) (streams source (K.seen out.new) (E.seen report.new)) result }
+{
+    let saved = salvage(work, entry);
+    if let Err(WriteFault) = write_cause(u64::from(k), entry, cause, saved, report) {
+        return Err(LoopEnd::ReportFault);
+    }
+    write_sectors(work, layout.image_sectors(entry.content), out)?;
+    Ok(Turn::Bad)
+}
+
+/// Writes the first sectors, one after the other.
+pub(crate) fn write_sectors<K: Sink>(
+    work: &Work,
+    count: usize,
+    out: &mut K,
+) -> Result<(), WriteFault>
+    requires { count ≤ 16 }
+    ensures { IsWritten (sectors_out count (sectors_of work.now)) (K.seen out.old) (K.seen out.new) result }
+{
+    write_each(work.first_sectors(count), out)
+}
+
+/// Writes the sectors that these bytes are, each as one piece. After a fault a prefix of the bytes was taken.
+pub(crate) fn write_each<K: Sink>(sectors: &[u8], out: &mut K) -> Result<(), WriteFault>
+    ensures { IsWritten sectors.now (K.seen out.old) (K.seen out.new) result }
+{
+    for sector in sectors.chunks(2048) {
+        write_whole(out, sector)?;
+    }
+    Ok(())
+}

@@ -1,0 +1,36 @@
+//! The line of a damaged CD-ROM sector.
+ghost use Rattle.std.specs.Prelude.{◌≡◌, ◌+◌, ◌≤◌, ◌++◌, length};
+ghost use Rattle.dvd_commands.specs.CdLines.{cd_cause_text, damaged_sector_line as line_of_sector};
+
+use cd_sector::CdCause;
+use dvd_report::Line;
+
+/// The line that names sector `k` of the input and its first cause: `sector K: CAUSE` and a line feed.
+#[tactic(auto, unfolding(crate::specs::CdLines::damaged_sector_line))]
+pub fn damaged_sector_line(k: u32, cause: CdCause) -> Line
+    ensures { result ≡ line_of_sector k cause }
+{
+    let mut line = Line::new();
+    line.put_named(b"sector ", u64::from(k));
+    line.put(b": ");
+    put_cause(&mut line, cause);
+    line.put(b"\n");
+    line
+}
+
+#[tactic(auto, unfolding(crate::specs::CdLines::cd_cause_text))]
+fn put_cause(line: &mut Line, cause: CdCause)
+    requires room { length line.old + 27 ≤ 256 }
+    ensures bytes { line.new ≡ line.old ++ cd_cause_text cause }
+    ensures len { length line.new ≤ length line.old + 27 }
+{
+    match cause {
+        CdCause::Parity { word } => line.put_named(b"parity ", u64::from(word)),
+        CdCause::Mode { byte } => line.put_named(b"mode ", u64::from(byte)),
+        CdCause::Address { found } => {
+            line.put(b"address found ");
+            line.put_hexadecimal(found, 6);
+        }
+        CdCause::Edc => line.put(b"edc"),
+    }
+}

@@ -1,0 +1,21 @@
+//! The command `cdmake`: a CD-ROM sector of Mode 1 for each sector of user data.
+ghost use Rattle.dvd_loop.specs.Laws.{IsPlainEnd};
+ghost use Rattle.dvd_loop.specs.Machine.{IsOutcome};
+ghost use Rattle.dvd_loop.specs.Streams.{streams, HasEnded};
+ghost use Rattle.dvd_ports.specs.Seen.{Seen};
+ghost use Rattle.dvd_commands.specs.CdMake.{HasAddresses, cdmake_units};
+
+use crate::making::{Made, make_each};
+use dvd_loop::LoopEnd;
+use dvd_ports::{Sink, Source};
+use dvd_words::Settings;
+
+/// Makes a CD-ROM sector for each of `settings.sectors` sectors of 2,048 bytes, with addresses from `settings.address` on.
+pub fn cdmake_loop<S: Source, K: Sink>(settings: &Settings, src: &mut S, out: &mut K) -> LoopEnd
+    requires { HasAddresses settings.now }
+    ensures follows { (report : Seen) → HasEnded (IsOutcome (cdmake_units settings.now.address settings.now.sectors))
+        (streams (S.seen src.old) (K.seen out.old) report) (streams (S.seen src.new) (K.seen out.new) report) result }
+    ensures ends { IsPlainEnd settings.now.sectors result }
+{
+    make_each(Made::CdSector, settings.address, settings.sectors, src, out)
+}

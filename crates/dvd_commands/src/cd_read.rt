@@ -1,0 +1,97 @@
+//! The command `cdread`: the user data of CD-ROM sectors of Mode 1.
+ghost use Rattle.std.specs.Prelude.{◌+◌, ◌<◌, ◌≤◌, ℕ, refl};
+ghost use Rattle.dvd_loop.specs.Laws.{IsDamageEnd};
+ghost use Rattle.dvd_loop.specs.Machine.{IsOutcome};
+ghost use Rattle.dvd_loop.specs.Streams.{streams, HasEnded};
+ghost use Rattle.dvd_loop.specs.Turns.{AreDone};
+ghost use Rattle.dvd_ports.specs.Seen.{Seen};
+ghost use Rattle.dvd_commands.specs.CdMake.{HasAddresses};
+ghost use Rattle.dvd_commands.specs.CdRead.{IsSectorRead, cdread_units};
+
+use crate::cd_line::damaged_sector_line;
+use cd_sector::repair;
+use dvd_loop::{LoneTurns, LoopEnd, Turn, follow_lone, read_unit};
+use dvd_ports::{Sink, Source, WriteFault, write_whole};
+use dvd_words::Settings;
+
+/// The sectors that are read: the address of the first, and how many.
+#[derive(Drop)]
+struct CdRead {
+    address: u32,
+    sectors: u32,
+    ghost within: { address + sectors ≤ 450000 },
+}
+
+impl LoneTurns for CdRead {
+    ghost Key = { ℕ × ℕ };
+
+    ghost key = { λ r. (r.address, r.sectors) };
+
+    ghost units = { λ key. cdread_units key.0 key.1 };
+
+    ghost alone = { λ _. record { opens = refl; closes = λ _. refl; behind = refl } };
+
+    fn count(&self) -> u32 {
+        self.sectors
+    }
+
+    fn turn<S: Source, K: Sink, E: Sink>(
+        &mut self,
+        k: u32,
+        src: &mut S,
+        out: &mut K,
+        report: &mut E,
+    ) -> Result<Turn, LoopEnd> {
+        let mut sector = [0; 2352];
+        read_unit(src, k, &mut sector)?;
+        give_sector(self.address + k, k, &mut sector, out, report)
+    }
+}
+
+/// Gives the user data of `settings.sectors` CD-ROM sectors with addresses from `settings.address` on, each repaired. A line
+/// names each that can't be, and zeros stand in its place.
+pub fn cdread_loop<S: Source, K: Sink, E: Sink>(
+    settings: &Settings,
+    src: &mut S,
+    out: &mut K,
+    report: &mut E,
+) -> LoopEnd
+    requires { HasAddresses settings.now }
+    ensures follows { HasEnded (IsOutcome (cdread_units settings.now.address settings.now.sectors))
+        (streams (S.seen src.old) (K.seen out.old) (E.seen report.old))
+        (streams (S.seen src.new) (K.seen out.new) (E.seen report.new)) result }
+    ensures ends { IsDamageEnd settings.now.sectors result }
+{
+    let reading = CdRead {
+        address: settings.address,
+        sectors: settings.sectors,
+    };
+    follow_lone(reading, src, out, report)
+}
+
+// Repairs a sector and writes its user data; or tells what is wrong with it and writes zeros.
+fn give_sector<K: Sink, E: Sink>(
+    address: u32,
+    k: u32,
+    sector: &mut [u8; 2352],
+    out: &mut K,
+    report: &mut E,
+) -> Result<Turn, LoopEnd>
+    requires { address < 450000 }
+    ensures { (source : Seen) → AreDone (IsSectorRead address k sector.old)
+        (streams source (K.seen out.old) (E.seen report.old)) (streams source (K.seen out.new) (E.seen report.new)) result }
+{
+    match repair(sector, address) {
+        Ok(_) => {
+            write_whole(out, &sector[16..2064])?;
+            Ok(Turn::Good)
+        }
+        Err(cause) => {
+            if let Err(WriteFault) = write_whole(report, damaged_sector_line(k, cause).as_slice()) {
+                return Err(LoopEnd::ReportFault);
+            }
+            write_whole(out, &[0; 2048])?;
+            Ok(Turn::Bad)
+        }
+    }
+}

@@ -1,0 +1,121 @@
+//! The command `convert`: captured blocks in the listed form, behind the header that states their layout.
+ghost use Rattle.std.specs.Prelude.{◌≡◌, length, IsErr};
+ghost use Rattle.dvd_capture.specs.Captured.{HasSize};
+ghost use Rattle.dvd_capture.specs.Header.{header_bytes};
+ghost use Rattle.dvd_capture.specs.declared.form.Form.{Form as CaptureForm};
+ghost use Rattle.dvd_capture.specs.declared.header.Header.{Header as CaptureHeader};
+ghost use Rattle.dvd_layout.specs.Plan.{plan_of};
+ghost use Rattle.dvd_layout.specs.declared.layout.Layout.{Layout as DiskLayout};
+ghost use Rattle.dvd_layout.specs.declared.layout.Zones.{Zones as WhichZones};
+ghost use Rattle.dvd_loop.specs.Laws.{IsPlainEnd};
+ghost use Rattle.dvd_loop.specs.Machine.{IsOutcome};
+ghost use Rattle.dvd_loop.specs.Streams.{streams, HasEnded};
+ghost use Rattle.dvd_ports.specs.Seen.{Seen};
+ghost use Rattle.dvd_commands.specs.Convert.{OfConverted, convert_units};
+ghost use Rattle.dvd_commands.specs.Performed.{IsPerformedByWords};
+ghost use Rattle.dvd_words.specs.Settings.{IsLayoutOf};
+
+use crate::captured::fetch_block;
+use crate::opening::header_of;
+use crate::refusal::Refusal;
+use dvd_capture::{Form, Header, Work, write_listed};
+use dvd_layout::{Layout, Zones};
+use dvd_loop::{Behind, LoopEnd, Turn, Turns, follow};
+use dvd_ports::{NullSink, Sink, Source, write_whole};
+use dvd_words::{Command, Settings};
+use std::alloc::Global;
+
+/// Its blocks, whose number the layout tells, the header that opens them, and the memory of one block.
+#[derive(Drop)]
+struct Converting<'a> {
+    layout: Layout,
+    zones: Zones,
+    form: Form,
+    header: Header,
+    work: &'a mut Work,
+}
+
+impl<'a> Turns for Converting<'a> {
+    ghost Key = { DiskLayout × WhichZones × CaptureForm × CaptureHeader };
+
+    ghost key = { λ c. (c.layout, c.zones, c.form, c.header) };
+
+    ghost units = { λ key. convert_units key.0 key.1 key.2 (header_bytes key.3) };
+
+    ghost ready = { λ _ _. Unit {0} };
+
+    ghost left = { λ _ _. Unit {0} };
+
+    fn count(&self) -> u32 {
+        self.layout.blocks(self.zones) as u32
+    }
+
+    fn behind(&self) -> Behind {
+        Behind::Asks
+    }
+
+    fn open<K: Sink, E: Sink>(&self, out: &mut K, _report: &mut E) -> Result<(), LoopEnd> {
+        let mut bytes = [0; 32];
+        self.header.to_bytes(&mut bytes);
+        write_whole(out, &bytes)?;
+        Ok(())
+    }
+
+    fn turn<S: Source, K: Sink, E: Sink>(
+        &mut self,
+        k: u32,
+        src: &mut S,
+        out: &mut K,
+        _report: &mut E,
+    ) -> Result<Turn, LoopEnd> {
+        fetch_block(src, k, self.form, self.work)?;
+        write_listed(self.work, out)?;
+        Ok(Turn::Good)
+    }
+
+    fn close<K: Sink, E: Sink>(&self, _out: &mut K, _report: &mut E) -> Result<(), LoopEnd> {
+        Ok(())
+    }
+}
+
+/// Writes the header of the layout and of the zones that the settings choose, and then each captured block as a listed one.
+pub fn convert_loop<S: Source, K: Sink>(
+    settings: &Settings,
+    layout: &Layout,
+    work: &mut Work,
+    src: &mut S,
+    out: &mut K,
+) -> LoopEnd
+    requires layout { IsLayoutOf settings.now layout.now }
+    requires form { HasSize settings.now.form }
+    ensures follows { (report : Seen) → HasEnded (λ bytes outcome. OfConverted settings.now layout.now (λ units. IsOutcome units bytes outcome))
+        (streams (S.seen src.old) (K.seen out.old) report) (streams (S.seen src.new) (K.seen out.new) report) result }
+    ensures ends { IsPlainEnd (length (plan_of layout.now settings.now.zones)) result }
+{
+    let mut converting = Converting {
+        layout: *layout,
+        zones: settings.zones,
+        form: settings.form,
+        header: header_of(layout, settings.zones),
+        work,
+    };
+    follow(&mut converting, src, out, &mut NullSink::new())
+}
+
+/// The command with its buffers, or why it doesn't begin.
+pub fn run_convert<S: Source, K: Sink>(
+    alloc: Global,
+    settings: &Settings,
+    src: &mut S,
+    out: &mut K,
+) -> Result<LoopEnd, Refusal>
+    requires command { settings.now.command ≡ Command.Convert }
+    requires form { HasSize settings.now.form }
+    ensures performed { (report : Seen) → IsPerformedByWords settings.now
+        (streams (S.seen src.old) (K.seen out.old) report) (streams (S.seen src.new) (K.seen out.new) report) result }
+    ensures untouched { IsErr result → (src.new ≡ src.old) × (out.new ≡ out.old) }
+{
+    let layout = settings.layout()?;
+    let mut work = Work::new(alloc)?;
+    Ok(convert_loop(settings, &layout, &mut work, src, out))
+}

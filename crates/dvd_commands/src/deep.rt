@@ -1,0 +1,223 @@
+//! The command `deep`: image sectors from a stream of captured blocks, by rounds where two passes refuse a block.
+ghost use Rattle.std.specs.Prelude.{◌≡◌, length, Some, IfErr, IfOk, IsErr, refl};
+ghost use Rattle.dvd_ports.specs.Seen.{Seen};
+ghost use Rattle.dvd_block.specs.Buffers.{piece_bytes};
+ghost use Rattle.dvd_capture.specs.Rule.{HasBlock};
+ghost use Rattle.dvd_capture.specs.Works.{rows_of, marks_of_work, stage_of};
+ghost use Rattle.dvd_capture.specs.declared.form.Form.{Form as CaptureForm};
+ghost use Rattle.dvd_deep.specs.Reading.{deep_cause};
+ghost use Rattle.dvd_layout.specs.Place.{HasNumbers};
+ghost use Rattle.dvd_layout.specs.Plan.{plan_of};
+ghost use Rattle.dvd_layout.specs.declared.layout.Layout.{Layout as DiskLayout};
+ghost use Rattle.dvd_layout.specs.declared.layout.Zones.{Zones as WhichZones};
+ghost use Rattle.dvd_loop.specs.Machine.{IsOutcome};
+ghost use Rattle.dvd_loop.specs.Streams.{streams, HasEnded};
+ghost use Rattle.dvd_loop.specs.Turns.{AreDone};
+ghost use Rattle.dvd_loop.specs.declared.ends.Turn.TheVariants.{Good};
+ghost use Rattle.dvd_decoding.specs.Reading.{block_cause};
+ghost use Rattle.dvd_report.specs.Lines.{round_line};
+ghost use Rattle.dvd_commands.specs.Captured.{IsCaptureEnd};
+ghost use Rattle.dvd_commands.specs.Deep.{IsReadDeep, deep_units};
+ghost use Rattle.dvd_commands.specs.Performed.{IsPerformed};
+ghost use Rattle.dvd_commands.specs.Inner.Performing.{IsFoundBy, TellsAndWrites};
+ghost use Rattle.dvd_words.specs.Settings.{IsLayoutOf};
+
+use crate::captured::{fetch_block, refuse_block, write_each, write_sectors};
+use crate::opening::{open_blocks, worded_layout};
+use crate::refusal::Refusal;
+use dvd_block::Piece;
+use dvd_capture::{Form, Work};
+use dvd_deep::Deep;
+use dvd_layout::{BlockPlan, Content, Layout, Zones};
+use dvd_loop::{LoneTurns, LoopEnd, Turn, follow_lone};
+use dvd_ports::{Sink, Source, WriteFault};
+use dvd_read::{Cause, read_block};
+use dvd_report::write_round;
+use dvd_words::{Command, Settings};
+use std::alloc::Global;
+
+/// Its blocks, in the order of the plan, and the memory of one block and of its rounds.
+#[derive(Drop)]
+struct Deepening<'a> {
+    layout: Layout,
+    zones: Zones,
+    form: Form,
+    deep: &'a mut Deep,
+    piece: &'a mut Piece,
+    work: &'a mut Work,
+}
+
+impl<'a> LoneTurns for Deepening<'a> {
+    ghost Key = { DiskLayout × WhichZones × CaptureForm };
+
+    ghost key = { λ r. (r.layout, r.zones, r.form) };
+
+    ghost units = { λ key. deep_units key.0 key.1 key.2 };
+
+    ghost alone = { λ _. record { opens = refl; closes = λ _. refl; behind = refl } };
+
+    fn count(&self) -> u32 {
+        self.layout.blocks(self.zones) as u32
+    }
+
+    fn turn<S: Source, K: Sink, E: Sink>(
+        &mut self,
+        k: u32,
+        src: &mut S,
+        out: &mut K,
+        report: &mut E,
+    ) -> Result<Turn, LoopEnd> {
+        let entry = self.layout.plan(self.zones, u64::from(k));
+        fetch_block(src, k, self.form, self.work)?;
+        deep_block(
+            &self.layout,
+            k,
+            &entry,
+            self.deep,
+            self.piece,
+            self.work,
+            out,
+            report,
+        )
+    }
+}
+
+/// Reads every block of the plan of the layout and the zones that the settings choose, by rounds where two passes refuse it,
+/// and writes its image sectors. A line names each that is refused, and zeros stand in the place of those that aren't saved.
+pub fn deep_loop<S: Source, K: Sink, E: Sink>(
+    settings: &Settings,
+    layout: &Layout,
+    deep: &mut Deep,
+    piece: &mut Piece,
+    work: &mut Work,
+    src: &mut S,
+    out: &mut K,
+    report: &mut E,
+) -> LoopEnd
+    requires layout { IsLayoutOf settings.now layout.now }
+    ensures follows { HasEnded (IsOutcome (deep_units layout.now settings.now.zones settings.now.form))
+        (streams (S.seen src.old) (K.seen out.old) (E.seen report.old))
+        (streams (S.seen src.new) (K.seen out.new) (E.seen report.new)) result }
+    ensures ends { IsCaptureEnd settings.now.form (length (plan_of layout.now settings.now.zones)) result }
+{
+    let turns = Deepening {
+        layout: *layout,
+        zones: settings.zones,
+        form: settings.form,
+        deep,
+        piece,
+        work,
+    };
+    follow_lone(turns, src, out, report)
+}
+
+/// The command with its buffers, or why it doesn't begin.
+pub fn run_deep<S: Source, K: Sink, E: Sink>(
+    alloc: Global,
+    settings: &Settings,
+    src: &mut S,
+    out: &mut K,
+    report: &mut E,
+) -> Result<LoopEnd, Refusal>
+    requires { settings.now.command ≡ Command.Deep }
+    ensures performed { IsPerformed settings.now
+        (streams (S.seen src.old) (K.seen out.old) (E.seen report.old))
+        (streams (S.seen src.new) (K.seen out.new) (E.seen report.new)) result }
+    ensures untouched { IsErr result → (src.new ≡ src.old) × (out.new ≡ out.old) × (report.new ≡ report.old) }
+{
+    let worded = worded_layout(settings)?;
+    let mut deep = Deep::new(alloc)?;
+    let mut piece = Piece::new(alloc)?;
+    let mut work = Work::new(alloc)?;
+    match open_blocks(settings, worded, src) {
+        Ok(stated) => Ok(deep_loop(
+            &stated.settings,
+            &stated.layout,
+            &mut deep,
+            &mut piece,
+            &mut work,
+            src,
+            out,
+            report,
+        )),
+        Err(end) => Ok(end),
+    }
+}
+
+// Reads a block of image sectors and writes them, behind the line of its round where two passes refused it; or tells its cause
+// and writes those that are saved, and zeros for the others. Any other block is passed over.
+fn deep_block<K: Sink, E: Sink>(
+    layout: &Layout,
+    k: u32,
+    entry: &BlockPlan,
+    deep: &mut Deep,
+    piece: &mut Piece,
+    work: &mut Work,
+    out: &mut K,
+    report: &mut E,
+) -> Result<Turn, LoopEnd>
+    requires numbers { HasNumbers entry.now }
+    requires stage { HasBlock (stage_of work.old) }
+    ensures { (source : Seen) → AreDone (IsReadDeep entry.now.content layout.now k entry.now (rows_of work.old) (marks_of_work work.old))
+        (streams source (K.seen out.old) (E.seen report.old)) (streams source (K.seen out.new) (E.seen report.new)) result }
+{
+    match entry.content {
+        Content::Image(_) => {}
+        Content::Zero | Content::Reference | Content::Control => return Ok(Turn::Good),
+    }
+    let count = layout.image_sectors(entry.content);
+    match read_block(work, entry) {
+        Ok(_) => {
+            write_sectors(work, count, out)?;
+            Ok(Turn::Good)
+        }
+        Err(cause) => match search_block(entry, cause, deep, work, piece) {
+            Ok(round) => give_back(k, entry, round, &piece.bytes()[..2048 * count], out, report),
+            Err(cause) => refuse_block(layout, k, entry, &cause, work, out, report),
+        },
+    }
+}
+
+// Looks by rounds for a block that was refused for this cause. Answers the round that gave it back, its frames being right,
+// with its Main Data in the piece; or why it is refused still.
+fn search_block(
+    entry: &BlockPlan,
+    cause: Cause,
+    deep: &mut Deep,
+    work: &Work,
+    piece: &mut Piece,
+) -> Result<u8, Cause>
+    requires numbers { HasNumbers entry.now }
+    requires stage { HasBlock (stage_of work.now) }
+    requires refused { block_cause (rows_of work.now) (marks_of_work work.now) entry.now ≡ Some cause }
+    ensures found { (layout : DiskLayout) → IfOk result (IsFoundBy layout entry.now (rows_of work.now) (marks_of_work work.now) (piece_bytes piece.new)) }
+    ensures refused { IfErr result (λ cause. deep_cause (rows_of work.now) (marks_of_work work.now) entry.now ≡ Some cause) }
+{
+    let Some(round) = deep.search(work) else {
+        return Err(cause);
+    };
+    match deep.sectors(entry, piece) {
+        Ok(()) => Ok(round),
+        Err(cause) => Err(cause),
+    }
+}
+
+// Tells the line of a block that a round gave back, and writes its image sectors.
+fn give_back<K: Sink, E: Sink>(
+    k: u32,
+    entry: &BlockPlan,
+    round: u8,
+    sectors: &[u8],
+    out: &mut K,
+    report: &mut E,
+) -> Result<Turn, LoopEnd>
+    requires { HasNumbers entry.now }
+    ensures { (source : Seen) → AreDone (TellsAndWrites (round_line k entry.now round) sectors.now Good)
+        (streams source (K.seen out.old) (E.seen report.old)) (streams source (K.seen out.new) (E.seen report.new)) result }
+{
+    if let Err(WriteFault) = write_round(u64::from(k), entry, round, report) {
+        return Err(LoopEnd::ReportFault);
+    }
+    write_each(sectors, out)?;
+    Ok(Turn::Good)
+}

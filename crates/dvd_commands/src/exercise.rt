@@ -1,0 +1,386 @@
+//! The command `exercise`: blocks that are drawn from a number, damaged within the bound, and read back.
+ghost use Rattle.std.specs.Thread.{IsSync};
+ghost use Rattle.std.specs.Prelude.{◌≡◌, ◌⊎◌, ◌+◌, ◌-◌, ◌*◌, ◌<◌, ◌≤◌, ◌^◌, ℕ, length, None, replicate, false, true, IsErr};
+ghost use Rattle.std.specs.Str.{bytes_eq};
+ghost use Rattle.dvd_block.specs.Buffers.{block_rows, piece_bytes};
+ghost use Rattle.coding.specs.Product.{IsBlockOf, IsParityAdded, line};
+ghost use Rattle.dvd_capture.specs.Kept.{KeepsReceived};
+ghost use Rattle.dvd_capture.specs.Rule.{HasBlock};
+ghost use Rattle.dvd_capture.specs.Works.{marks_of_work, rows_of, sectors_of, stage_of};
+ghost use Rattle.dvd_exercise.specs.Damage.{IsHurt, hurt_state};
+ghost use Rattle.dvd_exercise.specs.Generator.{bytes_from, state_after, state_of};
+ghost use Rattle.dvd_layout.specs.Place.{HasNumbers};
+ghost use Rattle.dvd_layout.specs.Plan.{IsEntry};
+ghost use Rattle.dvd_layout.specs.declared.layout.Shape.TheVariants.{Single};
+ghost use Rattle.dvd_loop.specs.Machine.{IsOutcome};
+ghost use Rattle.dvd_loop.specs.Streams.{streams, HasEnded, no_stream};
+ghost use Rattle.dvd_ports.specs.Seen.{Seen};
+ghost use Rattle.dvd_read.specs.Calls.{IsBlockRead};
+ghost use Rattle.dvd_decoding.specs.Reading.{block_cause, IsReadAs};
+ghost use Rattle.dvd_commands.specs.Exercise.{IsLeft, drawn_sector, drawn_sectors, exercise_line, exercise_units, no_marks, state_at};
+ghost use Rattle.dvd_commands.specs.Master.{frames_of};
+ghost use Rattle.dvd_commands.specs.Inner.Exercising.{CountsOne, IsBehind, IsDiskOf, are_sectors};
+ghost use Rattle.dvd_commands.specs.Performed.{IsPerformedByWords};
+ghost use Rattle.dvd_commands.specs.Inner.Workers.{IsAdder, IsReader};
+
+use crate::master::fill_block;
+use crate::refusal::Refusal;
+use crate::workers::read_by;
+use dvd_block::{Block, Piece};
+use dvd_capture::{Stage, Work};
+use dvd_exercise::{Rand, fill_piece, hurt};
+use dvd_layout::{BlockPlan, Layout, Shape, Zones};
+use dvd_loop::{Behind, LoopEnd, Turn, Turns, follow};
+use dvd_par::{Gate, add_parity_par, read_block_par};
+use dvd_ports::{NullSink, Sink, SliceSource, Source, write_whole};
+use dvd_read::{Cause, Fixed};
+use dvd_report::Line;
+use dvd_words::{Command, Settings};
+use std::alloc::Global;
+use std::thread::Threads;
+
+// What was found of the blocks so far.
+#[derive(Drop)]
+struct Counts {
+    whole: u32, // blocks that gave back what was drawn
+    fixed: u64, // places in which the received blocks differ from those made
+    failed: u64, // received rows that have no codeword near
+}
+
+impl Counts {
+    // Counts a block that was read, and whether it gave back what was drawn.
+    fn add(&mut self, fixed: Fixed, is_whole: bool)
+        requires whole_room { self.old.whole < 4096 }
+        requires fixed_room { self.old.fixed ≤ 4096 * 2 ^ 32 }
+        requires failed_room { self.old.failed ≤ 4096 * 2 ^ 16 }
+        ensures whole { is_whole ≡ true → self.new.whole ≡ self.old.whole + 1 }
+        ensures not_whole { is_whole ≡ false → self.new.whole ≡ self.old.whole }
+        ensures fixed { self.new.fixed ≡ self.old.fixed + fixed.bytes }
+        ensures fixed_most { self.new.fixed ≤ self.old.fixed + 2 ^ 32 }
+        ensures failed { self.new.failed ≡ self.old.failed + fixed.failed_rows }
+        ensures failed_most { self.new.failed ≤ self.old.failed + 2 ^ 16 }
+    {
+        self.fixed += u64::from(fixed.bytes);
+        self.failed += u64::from(fixed.failed_rows);
+        if is_whole {
+            self.whole += 1;
+        }
+    }
+}
+
+// Its blocks, the state that the next is drawn from, what was found so far, how a block gets its parity and is read, and the
+// memory of one block.
+#[derive(Drop)]
+struct Exercise<'a, 'r, A, F> {
+    seed: u32,
+    blocks: u32,
+    layout: Layout,
+    rand: Rand,
+    counts: Counts,
+    add: &'r A,
+    read: &'r F,
+    block: &'a mut Block,
+    piece: &'a mut Piece,
+    work: &'a mut Work,
+    ghost some: { 1 ≤ blocks },
+    ghost few: { blocks ≤ 4096 },
+    ghost shape: { layout.shape ≡ Single },
+    ghost sectors: { layout.sectors0 ≡ 16 * blocks },
+}
+
+impl<'a, 'r, A: Fn(&mut Block), F: Fn(&mut Work, &BlockPlan) -> Result<Fixed, Cause>> Turns
+    for Exercise<'a, 'r, A, F> {
+    ghost Key = { ℕ × ℕ × ℕ };
+
+    // The caller finds what the last block left in the work that it lent.
+    ghost key = { λ e. (e.seed, e.blocks, e.work.ghost_name) };
+
+    ghost units = { λ key. exercise_units key.0 key.1 };
+
+    ghost ready = { λ e before. IsBehind e.seed (length before) (state_of e.rand) e.counts e.work.now
+        × IsAdder A.Fn e.add.now × IsReader F.Fn e.read.now };
+
+    ghost left = { λ e _. IsLeft e.seed (e.blocks - 1) e.work.now };
+
+    fn count(&self) -> u32 {
+        self.blocks
+    }
+
+    fn behind(&self) -> Behind {
+        Behind::Done
+    }
+
+    fn open<K: Sink, E: Sink>(&self, _out: &mut K, _report: &mut E) -> Result<(), LoopEnd> {
+        Ok(())
+    }
+
+    fn turn<S: Source, K: Sink, E: Sink>(
+        &mut self,
+        k: u32,
+        _src: &mut S,
+        _out: &mut K,
+        _report: &mut E,
+    ) -> Result<Turn, LoopEnd> {
+        let entry = self.layout.plan(Zones::DataOnly, u64::from(k));
+        draw_block(
+            &self.layout,
+            &entry,
+            &mut self.rand,
+            self.add,
+            self.block,
+            self.piece,
+            self.work,
+        );
+        read_back(
+            &entry,
+            self.piece.bytes(),
+            self.read,
+            self.work,
+            &mut self.counts,
+        );
+        Ok(Turn::Good)
+    }
+
+    fn close<K: Sink, E: Sink>(&self, out: &mut K, _report: &mut E) -> Result<(), LoopEnd> {
+        let line = exercise_line(self.seed, self.blocks, &self.counts);
+        write_whole(out, line.as_slice())?;
+        Ok(())
+    }
+}
+
+/// Draws, damages and reads back as many blocks as the settings say, from 1 to 4,096. The work then holds the last of them.
+pub fn exercise_loop<R: Threads + Sync, K: Sink, G: Gate>(
+    rt: &R,
+    settings: &Settings,
+    gate: &G,
+    block: &mut Block,
+    piece: &mut Piece,
+    work: &mut Work,
+    out: &mut K,
+) -> LoopEnd
+    requires some { 1 ≤ settings.now.blocks }
+    requires few { settings.now.blocks ≤ 4096 }
+    requires workers { (1 ≤ settings.now.workers) × (settings.now.workers ≤ 16) }
+    ensures follows { (report : Seen) → HasEnded (IsOutcome (exercise_units settings.now.seed settings.now.blocks))
+        (streams no_stream (K.seen out.old) report) (streams no_stream (K.seen out.new) report) result }
+    ensures ends { (result ≡ LoopEnd.Done) ⊎ (result ≡ LoopEnd.WriteFault) }
+    ensures left { IsLeft settings.now.seed (settings.now.blocks - 1) work.new }
+{
+    follow_trials(
+        rt,
+        settings,
+        gate,
+        block,
+        piece,
+        work,
+        &mut SliceSource::new(&[]),
+        out,
+    )
+}
+
+// The same beside any source, which stays as it is.
+fn follow_trials<R: Threads + Sync, S: Source, K: Sink, G: Gate>(
+    rt: &R,
+    settings: &Settings,
+    gate: &G,
+    block: &mut Block,
+    piece: &mut Piece,
+    work: &mut Work,
+    src: &mut S,
+    out: &mut K,
+) -> LoopEnd
+    requires some { 1 ≤ settings.now.blocks }
+    requires few { settings.now.blocks ≤ 4096 }
+    requires workers { (1 ≤ settings.now.workers) × (settings.now.workers ≤ 16) }
+    ensures follows { (report : Seen) → HasEnded (IsOutcome (exercise_units settings.now.seed settings.now.blocks))
+        (streams (S.seen src.old) (K.seen out.old) report) (streams (S.seen src.new) (K.seen out.new) report) result }
+    ensures left { IsLeft settings.now.seed (settings.now.blocks - 1) work.new }
+{
+    let workers = settings.workers;
+    let add = |block: &mut Block|
+        requires { IsSync R.row × IsSync G.row × (1 ≤ workers) × (workers ≤ 16) }
+        ensures { IsParityAdded (block_rows block.entry.now) (block_rows block.exit.now) }
+    { add_parity_par(rt, workers, gate, block) };
+    let read = |work: &mut Work, plan: &BlockPlan| -> Result<Fixed, Cause>
+        requires { IsSync R.row
+            × IsSync G.row
+            × (1 ≤ workers)
+            × (workers ≤ 16)
+            × HasBlock (stage_of work.now)
+            × HasNumbers plan.now }
+        ensures { IsBlockRead work.entry.now work.exit.now plan.entry.now result }
+    { read_block_par(rt, workers, gate, work, plan) };
+    follow_by(&add, &read, settings, block, piece, work, src, out)
+}
+
+// The same with what gives a block its parity, and what reads it.
+fn follow_by<
+    'a,
+    'r,
+    A: Fn(&mut Block),
+    F: Fn(&mut Work, &BlockPlan) -> Result<Fixed, Cause>,
+    S: Source,
+    K: Sink,
+>(
+    add: &'r A,
+    read: &'r F,
+    settings: &Settings,
+    block: &'a mut Block,
+    piece: &'a mut Piece,
+    work: &'a mut Work,
+    src: &mut S,
+    out: &mut K,
+) -> LoopEnd
+    requires adder { IsAdder A.Fn add.now }
+    requires reader { IsReader F.Fn read.now }
+    requires some { 1 ≤ settings.now.blocks }
+    requires few { settings.now.blocks ≤ 4096 }
+    ensures follows { (report : Seen) → HasEnded (IsOutcome (exercise_units settings.now.seed settings.now.blocks))
+        (streams (S.seen src.old) (K.seen out.old) report) (streams (S.seen src.new) (K.seen out.new) report) result }
+    ensures left { IsLeft settings.now.seed (settings.now.blocks - 1) work.new }
+{
+    let mut exercise = Exercise {
+        seed: settings.seed,
+        blocks: settings.blocks,
+        layout: disk_of(settings.blocks),
+        rand: rand_of(settings.seed),
+        counts: Counts {
+            whole: 0,
+            fixed: 0,
+            failed: 0,
+        },
+        add,
+        read,
+        block,
+        piece,
+        work,
+    };
+    follow(&mut exercise, src, out, &mut NullSink::new())
+}
+
+/// The command with its buffers, or why it doesn't begin.
+pub fn run_exercise<R: Threads + Sync, S: Source, K: Sink, G: Gate>(
+    rt: &R,
+    alloc: Global,
+    settings: &Settings,
+    gate: &G,
+    src: &mut S,
+    out: &mut K,
+) -> Result<LoopEnd, Refusal>
+    requires command { settings.now.command ≡ Command.Exercise }
+    requires some { 1 ≤ settings.now.blocks }
+    requires few { settings.now.blocks ≤ 4096 }
+    requires workers { (1 ≤ settings.now.workers) × (settings.now.workers ≤ 16) }
+    ensures performed { (report : Seen) → IsPerformedByWords settings.now
+        (streams (S.seen src.old) (K.seen out.old) report) (streams (S.seen src.new) (K.seen out.new) report) result }
+    ensures untouched { IsErr result → (src.new ≡ src.old) × (out.new ≡ out.old) }
+{
+    let mut block = Block::new(alloc)?;
+    let mut piece = Piece::new(alloc)?;
+    let mut work = Work::new(alloc)?;
+    Ok(follow_trials(
+        rt, settings, gate, &mut block, &mut piece, &mut work, src, out,
+    ))
+}
+
+// A disk with one layer of so many blocks.
+fn disk_of(blocks: u32) -> Layout
+    requires some { 1 ≤ blocks }
+    requires few { blocks ≤ 4096 }
+    ensures { IsDiskOf blocks result }
+{
+    Layout::new(Shape::Single, 16 * blocks, 0, 0, 0).unwrap()
+}
+
+// The generator that block 0 is drawn from.
+fn rand_of(seed: u32) -> Rand
+    ensures { state_of result ≡ state_at seed 0 }
+{
+    Rand::new(seed)
+}
+
+// Draws sixteen sectors, makes their block, and loads and damages it.
+fn draw_block<A: Fn(&mut Block)>(
+    layout: &Layout,
+    entry: &BlockPlan,
+    rand: &mut Rand,
+    add: &A,
+    block: &mut Block,
+    piece: &mut Piece,
+    work: &mut Work,
+)
+    requires entry { IsEntry layout.now entry.now }
+    requires numbers { HasNumbers entry.now }
+    requires adder { IsAdder A.Fn add.now }
+    ensures drawn { piece_bytes piece.new ≡ bytes_from (state_of rand.old) 32768 }
+    ensures made { IsBlockOf (frames_of layout.now entry.now (replicate 6 0) (piece_bytes piece.new)) (block_rows block.new) }
+    ensures hurt { IsHurt (state_after (state_of rand.old) 32768) (block_rows block.new) no_marks (rows_of work.new) (marks_of_work work.new) }
+    ensures state { state_of rand.new ≡ hurt_state (state_after (state_of rand.old) 32768) }
+    ensures stage { HasBlock (stage_of work.new) }
+{
+    fill_piece(rand, piece);
+    fill_block(layout, entry, &[0; 6], piece.bytes(), add, block);
+    work.load_block(block);
+    hurt(rand, work);
+}
+
+// Reads a block and counts what is found of it. Here it has no cause, and its sectors are those that were drawn.
+fn read_back<F: Fn(&mut Work, &BlockPlan) -> Result<Fixed, Cause>>(
+    entry: &BlockPlan,
+    image: &[u8],
+    read: &F,
+    work: &mut Work,
+    counts: &mut Counts,
+)
+    requires size { length image.now ≡ 32768 }
+    requires reader { IsReader F.Fn read.now }
+    requires numbers { HasNumbers entry.now }
+    requires stage { HasBlock (stage_of work.old) }
+    requires right { block_cause (rows_of work.old) (marks_of_work work.old) entry.now ≡ None }
+    requires whole_room { counts.old.whole < 4096 }
+    requires fixed_room { counts.old.fixed ≤ 4096 * 2 ^ 32 }
+    requires failed_room { counts.old.failed ≤ 4096 * 2 ^ 16 }
+    ensures read { IsReadAs (rows_of work.old) (marks_of_work work.old) entry.now (sectors_of work.new) }
+    ensures counted { sectors_of work.new ≡ drawn_sectors image.now → CountsOne (rows_of work.old) (marks_of_work work.old) counts.old counts.new }
+    ensures fixed_most { counts.new.fixed ≤ counts.old.fixed + 2 ^ 32 }
+    ensures failed_most { counts.new.failed ≤ counts.old.failed + 2 ^ 16 }
+    ensures stage { stage_of work.new ≡ Stage.Fixed }
+    ensures received { KeepsReceived work.old work.new }
+{
+    if let Ok(fixed) = read_by(read, work, entry) {
+        counts.add(fixed, has_sectors(work, image));
+    }
+}
+
+// Whether the sectors that were read are those of an image.
+#[tactic(auto, unfolding(crate::specs::Inner::Exercising::are_sectors))]
+fn has_sectors(work: &Work, image: &[u8]) -> bool
+    requires { length image.now ≡ 32768 }
+    ensures { result ≡ are_sectors (sectors_of work.now) image.now }
+{
+    (0..16).all(|f| is_sector(work, image, f))
+}
+
+// Whether sector `f` is that of the image.
+fn is_sector(work: &Work, image: &[u8], f: usize) -> bool
+    requires size { length image.now ≡ 32768 }
+    requires sector { f < 16 }
+    ensures { result ≡ bytes_eq (line (sectors_of work.now) f) (drawn_sector image.now f) }
+{
+    work.sector(f) == &image[2048 * f..2048 * f + 2048]
+}
+
+// The line of all blocks.
+#[tactic(auto, unfolding(crate::specs::Exercise::exercise_line))]
+fn exercise_line(seed: u32, blocks: u32, counts: &Counts) -> Line
+    ensures { result ≡ exercise_line seed blocks counts.now.whole counts.now.fixed counts.now.failed }
+{
+    let mut line = Line::new();
+    line.put_named(b"exercise seed ", u64::from(seed));
+    line.put_named(b" blocks ", u64::from(blocks));
+    line.put_named(b" whole ", u64::from(counts.whole));
+    line.put_named(b" fixed ", counts.fixed);
+    line.put_named(b" failed ", counts.failed);
+    line.put(b"\n");
+    line
+}

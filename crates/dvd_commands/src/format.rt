@@ -1,0 +1,64 @@
+//! The lines of a physical format.
+ghost use Rattle.std.specs.Prelude.{◌≡◌, ◌+◌, ◌<◌, ◌≤◌, ◌^◌, ◌++◌, codes, length, if◌then◌else◌};
+ghost use Rattle.dvd_control.specs.Format.{fields_of};
+ghost use Rattle.dvd_commands.specs.Info.{format_lines, number_line, sector_line};
+
+use dvd_control::PhysicalFormat;
+use dvd_report::Line;
+
+/// The eleven lines that tell a physical format.
+#[tactic(auto, unfolding(crate::specs::Info::format_lines))]
+pub fn format_lines(format: &PhysicalFormat) -> Line
+    ensures { result ≡ format_lines (fields_of format.now) }
+{
+    let mut lines = Line::new();
+    put_number(&mut lines, b"version ", format.version);
+    put_number(&mut lines, b"rate ", format.rate);
+    put_number(
+        &mut lines,
+        b"layers ",
+        if format.two_layers { 2 } else { 1 },
+    );
+    lines.put(path_line(format.opposite));
+    put_number(&mut lines, b"kind ", format.kind);
+    put_number(&mut lines, b"density ", format.density);
+    put_number(&mut lines, b"pitch ", format.pitch);
+    put_sector(&mut lines, b"first ", format.first);
+    put_sector(&mut lines, b"last ", format.last);
+    put_sector(&mut lines, b"layer0 ", format.layer0_last);
+    put_number(&mut lines, b"bca ", if format.bca { 1 } else { 0 });
+    lines
+}
+
+fn path_line(opposite: bool) -> &'static [u8]
+    ensures line { result.now ≡ (if opposite then codes "path opposite\n" else codes "path parallel\n") }
+    ensures len { length result.now ≡ 14 }
+{
+    if opposite {
+        b"path opposite\n"
+    } else {
+        b"path parallel\n"
+    }
+}
+
+// A line with a number in decimal.
+fn put_number(lines: &mut Line, name: &[u8], number: u8)
+    requires { length lines.old + length name.now + 4 ≤ 256 }
+    ensures bytes { lines.new ≡ lines.old ++ number_line name.now number }
+    ensures len { length lines.new ≤ length lines.old + length name.now + 4 }
+{
+    lines.put(name);
+    lines.put_byte(number);
+    lines.put(b"\n");
+}
+
+// A line with a sector number in six hexadecimal digits.
+fn put_sector(lines: &mut Line, name: &[u8], number: u32)
+    requires { length lines.old + length name.now + 7 ≤ 256 }
+    ensures bytes { lines.new ≡ lines.old ++ sector_line name.now number }
+    ensures len { length lines.new ≡ length lines.old + length name.now + 7 }
+{
+    lines.put(name);
+    lines.put_hexadecimal(number, 6);
+    lines.put(b"\n");
+}

@@ -1,0 +1,21 @@
+//! The command `frames`: a scrambled data frame for each sector.
+ghost use Rattle.dvd_loop.specs.Laws.{IsPlainEnd};
+ghost use Rattle.dvd_loop.specs.Machine.{IsOutcome};
+ghost use Rattle.dvd_loop.specs.Streams.{streams, HasEnded};
+ghost use Rattle.dvd_ports.specs.Seen.{Seen};
+ghost use Rattle.dvd_commands.specs.Frames.{HasSectors, frames_units};
+
+use crate::making::{Made, make_each};
+use dvd_loop::LoopEnd;
+use dvd_ports::{Sink, Source};
+use dvd_words::Settings;
+
+/// Makes a scrambled data frame for each of `settings.sectors` sectors of 2,048 bytes, numbered from `settings.first` on.
+pub fn frames_loop<S: Source, K: Sink>(settings: &Settings, src: &mut S, out: &mut K) -> LoopEnd
+    requires { HasSectors settings.now }
+    ensures follows { (report : Seen) → HasEnded (IsOutcome (frames_units settings.now.first settings.now.sectors))
+        (streams (S.seen src.old) (K.seen out.old) report) (streams (S.seen src.new) (K.seen out.new) report) result }
+    ensures ends { IsPlainEnd settings.now.sectors result }
+{
+    make_each(Made::DataFrame, settings.first, settings.sectors, src, out)
+}

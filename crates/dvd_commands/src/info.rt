@@ -1,0 +1,180 @@
+//! The command `info`: the physical format that the lead-in of a disk tells.
+ghost use Rattle.std.specs.Prelude.{◌≡◌, ◌≤◌, ◌+◌, ℕ, None, IsErr, IfSome};
+ghost use Rattle.dvd_capture.specs.Rule.{HasBlock};
+ghost use Rattle.dvd_capture.specs.Works.{rows_of, marks_of_work, stage_of};
+ghost use Rattle.dvd_capture.specs.declared.form.Form.{Form as CaptureForm};
+ghost use Rattle.dvd_control.specs.Format.{fields_of};
+ghost use Rattle.dvd_layout.specs.Lengths.{most_initial};
+ghost use Rattle.dvd_layout.specs.Place.{HasNumbers};
+ghost use Rattle.dvd_loop.specs.Machine.{IsOutcome};
+ghost use Rattle.dvd_loop.specs.Streams.{streams, HasEnded};
+ghost use Rattle.dvd_loop.specs.Turns.{AreDone};
+ghost use Rattle.dvd_ports.specs.Seen.{Seen};
+ghost use Rattle.dvd_commands.specs.Captured.{IsSoughtEnd};
+ghost use Rattle.dvd_commands.specs.Commands.{GoesOver};
+ghost use Rattle.dvd_commands.specs.Opening.{IsOpened};
+ghost use Rattle.dvd_commands.specs.Info.{IsAsked, IsControlDone, info_units};
+ghost use Rattle.dvd_commands.specs.Performed.{IsPerformed};
+ghost use Rattle.dvd_commands.specs.Inner.Performing.{AnswersNothing, Tells};
+
+use crate::captured::fetch_block;
+use crate::format::format_lines;
+use crate::opening::{open_listed, worded_initial};
+use crate::refusal::Refusal;
+use dvd_capture::{Form, Work};
+use dvd_control::PhysicalFormat;
+use dvd_layout::{BlockPlan, Content, lead_in_block};
+use dvd_loop::{Behind, LoopEnd, Turn, Turns, follow};
+use dvd_ports::{NullSink, Sink, Source, write_whole};
+use dvd_read::read_block;
+use dvd_words::{Command, Settings};
+use std::alloc::Global;
+
+// The blocks of the lead-in behind its Initial Zone, up to the last of control data.
+const BLOCKS_BEHIND_INITIAL: u32 = 224;
+
+/// The blocks of the lead-in up to the last of control data, and the memory of one block.
+#[derive(Drop)]
+struct Info<'a> {
+    initial: u32,
+    form: Form,
+    work: &'a mut Work,
+    ghost fits: { initial ≤ most_initial },
+}
+
+impl<'a> Turns for Info<'a> {
+    ghost Key = { ℕ × CaptureForm };
+
+    ghost key = { λ i. (i.initial, i.form) };
+
+    ghost units = { λ key. info_units key.0 key.1 };
+
+    ghost ready = { λ _ _. Unit {0} };
+
+    ghost left = { λ _ _. Unit {0} };
+
+    fn count(&self) -> u32 {
+        self.initial + BLOCKS_BEHIND_INITIAL
+    }
+
+    fn behind(&self) -> Behind {
+        Behind::NoControl
+    }
+
+    fn open<K: Sink, E: Sink>(&self, _out: &mut K, _report: &mut E) -> Result<(), LoopEnd> {
+        Ok(())
+    }
+
+    fn turn<S: Source, K: Sink, E: Sink>(
+        &mut self,
+        k: u32,
+        src: &mut S,
+        out: &mut K,
+        _report: &mut E,
+    ) -> Result<Turn, LoopEnd> {
+        let entry = lead_in_block(self.initial, k);
+        fetch_block(src, k, self.form, self.work)?;
+        ask_block(&entry, self.work, out)
+    }
+
+    fn close<K: Sink, E: Sink>(&self, _out: &mut K, _report: &mut E) -> Result<(), LoopEnd> {
+        Ok(())
+    }
+}
+
+/// Seeks the first control block that answers, and writes the lines of its physical format.
+pub fn info_loop<S: Source, K: Sink>(
+    settings: &Settings,
+    work: &mut Work,
+    src: &mut S,
+    out: &mut K,
+) -> LoopEnd
+    requires { settings.now.initial ≤ most_initial }
+    ensures follows { (report : Seen) → HasEnded (IsOutcome (info_units settings.now.initial settings.now.form))
+        (streams (S.seen src.old) (K.seen out.old) report) (streams (S.seen src.new) (K.seen out.new) report) result }
+    ensures ends { IsSoughtEnd settings.now.form (settings.now.initial + 224) result }
+{
+    let mut info = Info {
+        initial: settings.initial,
+        form: settings.form,
+        work,
+    };
+    follow(&mut info, src, out, &mut NullSink::new())
+}
+
+/// The command with its buffers, or why it doesn't begin.
+pub fn run_info<S: Source, K: Sink>(
+    alloc: Global,
+    settings: &Settings,
+    src: &mut S,
+    out: &mut K,
+) -> Result<LoopEnd, Refusal>
+    requires { settings.now.command ≡ Command.Info }
+    ensures performed { (report : Seen) → IsPerformed settings.now
+        (streams (S.seen src.old) (K.seen out.old) report) (streams (S.seen src.new) (K.seen out.new) report) result }
+    ensures untouched { IsErr result → (src.new ≡ src.old) × (out.new ≡ out.old) }
+{
+    let worded = worded_initial(settings)?;
+    let mut work = Work::new(alloc)?;
+    match worded {
+        Some(_) => Ok(info_loop(settings, &mut work, src, out)),
+        None => Ok(info_listed(settings, &mut work, src, out)),
+    }
+}
+
+// The same of a listed capture: its header, and then its blocks.
+fn info_listed<S: Source, K: Sink>(
+    settings: &Settings,
+    work: &mut Work,
+    src: &mut S,
+    out: &mut K,
+) -> LoopEnd
+    requires { settings.now.command ≡ Command.Info }
+    ensures { (report : Seen) → HasEnded (IsOpened GoesOver settings.now)
+        (streams (S.seen src.old) (K.seen out.old) report) (streams (S.seen src.new) (K.seen out.new) report) result }
+{
+    match open_listed(settings, src) {
+        Ok(stated) => info_loop(&stated.settings, work, src, out),
+        Err(end) => end,
+    }
+}
+
+// Asks a block of control data for the physical format. Any other block is passed over.
+fn ask_block<K: Sink>(entry: &BlockPlan, work: &mut Work, out: &mut K) -> Result<Turn, LoopEnd>
+    requires numbers { HasNumbers entry.now }
+    requires stage { HasBlock (stage_of work.old) }
+    ensures { (source report : Seen) → AreDone (IsAsked entry.now.content entry.now (rows_of work.old) (marks_of_work work.old))
+        (streams source (K.seen out.old) report) (streams source (K.seen out.new) report) result }
+{
+    match entry.content {
+        Content::Control => ask_control(entry, work, out),
+        Content::Zero | Content::Reference | Content::Image(_) => Ok(Turn::Good),
+    }
+}
+
+fn ask_control<K: Sink>(entry: &BlockPlan, work: &mut Work, out: &mut K) -> Result<Turn, LoopEnd>
+    requires numbers { HasNumbers entry.now }
+    requires stage { HasBlock (stage_of work.old) }
+    ensures { (source report : Seen) → AreDone (IsControlDone entry.now (rows_of work.old) (marks_of_work work.old))
+        (streams source (K.seen out.old) report) (streams source (K.seen out.new) report) result }
+{
+    let Some(format) = format_in(entry, work) else {
+        return Ok(Turn::Good);
+    };
+    // One piece, so that the output has a front of these lines after a fault.
+    write_whole(out, format_lines(&format).as_slice())?;
+    Ok(Turn::Last)
+}
+
+// The physical format in the first sector of a block, if the block is right and the sector is one.
+fn format_in(entry: &BlockPlan, work: &mut Work) -> Option<PhysicalFormat>
+    requires numbers { HasNumbers entry.now }
+    requires stage { HasBlock (stage_of work.old) }
+    ensures format { IfSome result (λ format. Tells entry.now (rows_of work.old) (marks_of_work work.old) (fields_of format)) }
+    ensures none { result ≡ None → AnswersNothing entry.now (rows_of work.old) (marks_of_work work.old) }
+{
+    read_block(work, entry).ok()?;
+    let mut sector = [0; 2048];
+    sector.copy_from_slice(work.sector(0));
+    PhysicalFormat::from_bytes(&sector).ok()
+}

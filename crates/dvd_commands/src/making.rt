@@ -1,0 +1,117 @@
+//! The loop of the commands that make something of each sector of user data: `frames` and `cdmake`.
+ghost use Rattle.std.specs.Prelude.{◌+◌, ◌<◌, ◌≤◌, ◌^◌, ℕ, refl};
+ghost use Rattle.dvd_loop.specs.Laws.{IsPlainEnd};
+ghost use Rattle.dvd_loop.specs.Machine.{IsOutcome};
+ghost use Rattle.dvd_loop.specs.Streams.{streams, HasEnded};
+ghost use Rattle.dvd_loop.specs.Turns.{AreDone};
+ghost use Rattle.dvd_ports.specs.Seen.{Seen};
+ghost use Rattle.dvd_commands.specs.Frames.{IsSectorFrame};
+ghost use Rattle.dvd_commands.specs.Making.{IsMade, sectors_made};
+ghost use Rattle.dvd_commands.specs.Inner.Making.{IsMadeAs, number_limit};
+
+use cd_sector::make;
+use dvd_frame::{Area, Id, Rule, make_frame};
+use dvd_loop::{LoneTurns, LoopEnd, Turn, follow_lone, read_unit};
+use dvd_ports::{NullSink, Sink, Source, write_whole};
+
+/// What is made of a sector of 2,048 bytes.
+#[derive(Clone, Copy, Drop)]
+pub(crate) enum Made {
+    /// Its scrambled data frame in the Data Zone of a disk with one layer, 2,064 bytes.
+    DataFrame,
+    /// The CD-ROM sector of Mode 1 with these user data, 2,352 bytes.
+    CdSector,
+}
+
+/// The sectors that are taken: what is made of each, the number or address of the first, and how many.
+#[derive(Drop)]
+struct Making {
+    made: Made,
+    first: u32,
+    sectors: u32,
+    ghost within: { first + sectors ≤ number_limit made },
+}
+
+impl LoneTurns for Making {
+    ghost use Rattle.dvd_commands.specs.declared.making.Made.{Made};
+
+    ghost Key = { Made × ℕ × ℕ };
+
+    ghost key = { λ making. (making.made, making.first, making.sectors) };
+
+    ghost units = { λ (made, first, sectors). sectors_made (IsMadeAs made) first sectors };
+
+    ghost alone = { λ _. record { opens = refl; closes = λ _. refl; behind = refl } };
+
+    fn count(&self) -> u32 {
+        self.sectors
+    }
+
+    fn turn<S: Source, K: Sink, E: Sink>(
+        &mut self,
+        k: u32,
+        src: &mut S,
+        out: &mut K,
+        _report: &mut E,
+    ) -> Result<Turn, LoopEnd> {
+        let mut sector = [0; 2048];
+        read_unit(src, k, &mut sector)?;
+        write_made(self.made, self.first + k, &sector, out)
+    }
+}
+
+/// Makes this of each of so many sectors, the first of which has that number or address.
+pub(crate) fn make_each<S: Source, K: Sink>(
+    made: Made,
+    first: u32,
+    sectors: u32,
+    src: &mut S,
+    out: &mut K,
+) -> LoopEnd
+    requires { first + sectors ≤ number_limit made }
+    ensures follows { (report : Seen) → HasEnded (IsOutcome (sectors_made (IsMadeAs made) first sectors))
+        (streams (S.seen src.old) (K.seen out.old) report) (streams (S.seen src.new) (K.seen out.new) report) result }
+    ensures ends { IsPlainEnd sectors result }
+{
+    let making = Making {
+        made,
+        first,
+        sectors,
+    };
+    follow_lone(making, src, out, &mut NullSink::new())
+}
+
+// Makes this of one sector and writes it.
+fn write_made<K: Sink>(
+    made: Made,
+    number: u32,
+    sector: &[u8; 2048],
+    out: &mut K,
+) -> Result<Turn, LoopEnd>
+    requires { number < number_limit made }
+    ensures { (source report : Seen) → AreDone (IsMade (IsMadeAs made number sector.now))
+        (streams source (K.seen out.old) report) (streams source (K.seen out.new) report) result }
+{
+    match made {
+        Made::DataFrame => {
+            let mut frame = [0; 2064];
+            write_frame(number, sector, &mut frame);
+            write_whole(out, &frame)?;
+        }
+        Made::CdSector => {
+            let mut whole = [0; 2352];
+            make(number, sector, &mut whole);
+            write_whole(out, &whole)?;
+        }
+    }
+    Ok(Turn::Good)
+}
+
+// The frame of a sector in the Data Zone of a disk with one layer.
+fn write_frame(number: u32, sector: &[u8; 2048], frame: &mut [u8; 2064])
+    requires { number < 2 ^ 24 }
+    ensures { IsSectorFrame number sector.now frame.new }
+{
+    let id = Id::new(Area::DataZone, 0, false, number);
+    make_frame(id, &[0; 6], Rule::Whole, sector, frame);
+}

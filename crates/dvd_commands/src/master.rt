@@ -1,0 +1,234 @@
+//! The command `master`: the recording frames of each ECC block of a disk.
+ghost use Rattle.std.specs.Thread.{IsSync};
+ghost use Rattle.std.specs.Prelude.{◌≡◌, ◌-◌, ◌*◌, ◌<◌, ◌≤◌, ℕ, List, length, take, drop, replicate, IfErr, IsErr, OnOk, refl};
+ghost use Rattle.std.specs.Io.KnownBytes.{Consumes};
+ghost use Rattle.dvd_block.specs.Buffers.{block_rows, piece_bytes};
+ghost use Rattle.coding.specs.Product.{IsBlockOf, IsParityAdded};
+ghost use Rattle.dvd_layout.specs.Place.{HasNumbers};
+ghost use Rattle.dvd_layout.specs.Plan.{IsEntry, plan_of};
+ghost use Rattle.dvd_layout.specs.declared.layout.Layout.{Layout as DiskLayout};
+ghost use Rattle.dvd_layout.specs.declared.layout.Zones.{Zones as WhichZones};
+ghost use Rattle.dvd_loop.specs.Laws.{IsPlainEnd};
+ghost use Rattle.dvd_loop.specs.Machine.{IsOutcome};
+ghost use Rattle.dvd_loop.specs.Streams.{streams, HasEnded};
+ghost use Rattle.dvd_loop.specs.Turns.{EndsShort, HasReadCause};
+ghost use Rattle.dvd_ports.specs.Seen.{Seen};
+ghost use Rattle.dvd_commands.specs.Master.{cpr_in, frame_for, frames_of, image_bytes, main_for, master_units};
+ghost use Rattle.dvd_commands.specs.Performed.{IsPerformedByWords};
+ghost use Rattle.dvd_commands.specs.Inner.Workers.{IsAdder};
+ghost use Rattle.dvd_words.specs.Settings.{IsLayoutOf};
+
+use crate::refusal::Refusal;
+use crate::workers::add_by;
+use dvd_block::{Block, Piece};
+use dvd_control::main_of;
+use dvd_frame::{Area, Scrambler, make_frame_with};
+use dvd_layout::{BlockPlan, Content, Layout, Zones, id_of, rule_of};
+use dvd_loop::{LoneTurns, LoopEnd, Turn, follow_lone, read_unit};
+use dvd_par::{Gate, add_parity_par};
+use dvd_ports::{NullSink, Sink, Source};
+use dvd_words::{Command, Settings};
+use std::alloc::Global;
+use std::thread::Threads;
+
+/// Its blocks, in the order of the plan, how they get their parity, and the buffers of one block.
+#[derive(Drop)]
+struct Master<'a, 'r, F> {
+    layout: Layout,
+    zones: Zones,
+    cpr: [u8; 6],
+    add: &'r F,
+    block: &'a mut Block,
+    piece: &'a mut Piece,
+}
+
+impl<'a, 'r, F: Fn(&mut Block)> LoneTurns for Master<'a, 'r, F> {
+    ghost Key = { DiskLayout × WhichZones × List ℕ };
+
+    ghost key = { λ m. (m.layout, m.zones, m.cpr) };
+
+    ghost units = { λ key. master_units key.0 key.1 key.2 };
+
+    ghost ready = { λ m. IsAdder F.Fn m.add.now };
+
+    ghost alone = { λ _. record { opens = refl; closes = λ _. refl; behind = refl } };
+
+    fn count(&self) -> u32 {
+        self.layout.blocks(self.zones) as u32
+    }
+
+    fn turn<S: Source, K: Sink, E: Sink>(
+        &mut self,
+        k: u32,
+        src: &mut S,
+        out: &mut K,
+        _report: &mut E,
+    ) -> Result<Turn, LoopEnd> {
+        let entry = self.layout.plan(self.zones, u64::from(k));
+        let size = image_size(&self.layout, &entry);
+        read_image(src, k, self.piece, size)?;
+        fill_block(
+            &self.layout,
+            &entry,
+            &self.cpr,
+            self.piece.bytes(),
+            self.add,
+            self.block,
+        );
+        self.block.write_recording(out)?;
+        Ok(Turn::Good)
+    }
+}
+
+/// Masters every block of the plan of the layout and the zones that the settings choose.
+pub fn master_loop<R: Threads + Sync, S: Source, K: Sink, G: Gate>(
+    rt: &R,
+    settings: &Settings,
+    layout: &Layout,
+    gate: &G,
+    block: &mut Block,
+    piece: &mut Piece,
+    src: &mut S,
+    out: &mut K,
+) -> LoopEnd
+    requires layout { IsLayoutOf settings.now layout.now }
+    requires workers { (1 ≤ settings.now.workers) × (settings.now.workers ≤ 16) }
+    ensures follows { (report : Seen) → HasEnded (IsOutcome (master_units layout.now settings.now.zones settings.now.cpr))
+        (streams (S.seen src.old) (K.seen out.old) report) (streams (S.seen src.new) (K.seen out.new) report) result }
+    ensures ends { IsPlainEnd (length (plan_of layout.now settings.now.zones)) result }
+{
+    let workers = settings.workers;
+    let add = |block: &mut Block|
+        requires { IsSync R.row × IsSync G.row × (1 ≤ workers) × (workers ≤ 16) }
+        ensures { IsParityAdded (block_rows block.entry.now) (block_rows block.exit.now) }
+    { add_parity_par(rt, workers, gate, block) };
+    let master = Master {
+        layout: *layout,
+        zones: settings.zones,
+        cpr: settings.cpr,
+        add: &add,
+        block,
+        piece,
+    };
+    follow_lone(master, src, out, &mut NullSink::new())
+}
+
+/// The command with its buffers, or why it doesn't begin.
+pub fn run_master<R: Threads + Sync, S: Source, K: Sink, G: Gate>(
+    rt: &R,
+    alloc: Global,
+    settings: &Settings,
+    gate: &G,
+    src: &mut S,
+    out: &mut K,
+) -> Result<LoopEnd, Refusal>
+    requires command { settings.now.command ≡ Command.Master }
+    requires workers { (1 ≤ settings.now.workers) × (settings.now.workers ≤ 16) }
+    ensures performed { (report : Seen) → IsPerformedByWords settings.now
+        (streams (S.seen src.old) (K.seen out.old) report) (streams (S.seen src.new) (K.seen out.new) report) result }
+    ensures untouched { IsErr result → (src.new ≡ src.old) × (out.new ≡ out.old) }
+{
+    let layout = settings.layout()?;
+    let mut block = Block::new(alloc)?;
+    let mut piece = Piece::new(alloc)?;
+    Ok(master_loop(
+        rt, settings, &layout, gate, &mut block, &mut piece, src, out,
+    ))
+}
+
+// How many bytes of the image a block takes.
+fn image_size(layout: &Layout, entry: &BlockPlan) -> usize
+    ensures value { result ≡ image_bytes layout.now entry.now }
+    ensures most { result ≤ 32768 }
+{
+    2048 * layout.image_sectors(entry.content)
+}
+
+// Reads the image bytes of block `k` to the front of the piece, and zeros behind them.
+fn read_image<S: Source>(src: &mut S, k: u32, piece: &mut Piece, size: usize) -> Result<(), LoopEnd>
+    requires { size ≤ 32768 }
+    ensures length { length (piece_bytes piece.new) ≡ 32768 }
+    ensures whole { OnOk result (Consumes (S.seen src.old).bytes (S.seen src.new).bytes (take size (piece_bytes piece.new))) }
+    ensures zeros { OnOk result (drop size (piece_bytes piece.new) ≡ replicate (32768 - size) 0) }
+    ensures short { IfErr result (EndsShort k size (S.seen src.old) (S.seen src.new)) }
+    ensures causes { HasReadCause result (S.seen src.old) (S.seen src.new) }
+{
+    let bytes = piece.bytes_mut();
+    read_unit(src, k, &mut bytes[..size])?;
+    bytes[size..].fill(0);
+    Ok(())
+}
+
+// Puts the sixteen frames of a block into it, and adds the parity.
+pub(crate) fn fill_block<F: Fn(&mut Block)>(
+    layout: &Layout,
+    entry: &BlockPlan,
+    cpr: &[u8; 6],
+    sectors: &[u8],
+    add: &F,
+    block: &mut Block,
+)
+    requires size { length sectors.now ≡ 32768 }
+    requires entry { IsEntry layout.now entry.now }
+    requires numbers { HasNumbers entry.now }
+    requires adder { IsAdder F.Fn add.now }
+    ensures { IsBlockOf (frames_of layout.now entry.now cpr.now sectors.now) (block_rows block.new) }
+{
+    // The frames of a block have one preset.
+    let mut scrambler = Scrambler::new();
+    let mut frame = [0; 2064];
+    for f in 0..16 {
+        write_frame(&mut scrambler, layout, entry, cpr, sectors, f, &mut frame);
+        block.put_frame(f, &frame);
+    }
+    add_by(add, block);
+}
+
+fn write_frame(
+    scrambler: &mut Scrambler,
+    layout: &Layout,
+    entry: &BlockPlan,
+    cpr: &[u8; 6],
+    sectors: &[u8],
+    f: usize,
+    frame: &mut [u8; 2064],
+)
+    requires size { length sectors.now ≡ 32768 }
+    requires entry { IsEntry layout.now entry.now }
+    requires numbers { HasNumbers entry.now }
+    requires frame { f < 16 }
+    ensures { frame.new ≡ frame_for layout.now entry.now cpr.now sectors.now f }
+{
+    let mut main = [0; 2048];
+    write_main(layout, entry, sectors, f, &mut main);
+    let id = id_of(entry, layout.dim(), f);
+    make_frame_with(
+        scrambler,
+        id,
+        &cpr_of(entry.area, cpr),
+        rule_of(entry.content, f),
+        &main,
+        frame,
+    );
+}
+
+fn cpr_of(area: Area, cpr: &[u8; 6]) -> [u8; 6]
+    ensures { result ≡ cpr_in area cpr.now }
+{
+    match area {
+        Area::DataZone => *cpr,
+        Area::LeadIn | Area::LeadOut | Area::Middle => [0; 6],
+    }
+}
+
+fn write_main(layout: &Layout, entry: &BlockPlan, sectors: &[u8], f: usize, main: &mut [u8; 2048])
+    requires size { length sectors.now ≡ 32768 }
+    requires entry { IsEntry layout.now entry.now }
+    requires frame { f < 16 }
+    ensures { main.new ≡ main_for entry.now.content layout.now entry.now sectors.now f }
+{
+    match entry.content {
+        Content::Image(_) => main.copy_from_slice(&sectors[2048 * f..2048 * f + 2048]),
+        Content::Zero | Content::Reference | Content::Control => main_of(layout, entry, f, main),
+    }
+}

@@ -1,0 +1,170 @@
+//! The command `merge`: one stream of captured blocks, joined of several captures of one disk.
+ghost use Rattle.std.specs.Prelude.{◌≡◌, ◌*◌, ◌<◌, ◌≤◌, ℕ, length, IsErr, IfErr, OnOk, refl};
+ghost use Rattle.dvd_capture.specs.Captured.{block_size, Captures, HasSize};
+ghost use Rattle.dvd_capture.specs.Rule.{HasBlock};
+ghost use Rattle.dvd_capture.specs.Works.{rows_of, marks_of_work, stage_of};
+ghost use Rattle.dvd_capture.specs.declared.form.Form.{Form as CaptureForm};
+ghost use Rattle.dvd_layout.specs.Plan.{plan_of};
+ghost use Rattle.dvd_layout.specs.declared.layout.Layout.{Layout as DiskLayout};
+ghost use Rattle.dvd_layout.specs.declared.layout.Zones.{Zones as WhichZones};
+ghost use Rattle.dvd_loop.specs.Laws.{IsPlainEnd};
+ghost use Rattle.dvd_loop.specs.Machine.{IsOutcome};
+ghost use Rattle.dvd_loop.specs.Streams.{streams, HasEnded};
+ghost use Rattle.dvd_loop.specs.Turns.{EndsShort, HasReadCause};
+ghost use Rattle.dvd_merge.specs.Merges.{table_of};
+ghost use Rattle.dvd_ports.specs.Seen.{Seen};
+ghost use Rattle.dvd_commands.specs.Merge.{merge_units};
+ghost use Rattle.dvd_commands.specs.Performed.{IsPerformedByWords};
+ghost use Rattle.dvd_commands.specs.Inner.Performing.{AreTaken, EndsInCapture};
+ghost use Rattle.dvd_words.specs.Settings.{IsLayoutOf};
+
+use crate::refusal::Refusal;
+use dvd_capture::{FetchAnswer, Form, Work, fetch};
+use dvd_layout::{Layout, Zones};
+use dvd_loop::{LoneTurns, LoopEnd, Turn, follow_lone};
+use dvd_merge::Merge;
+use dvd_ports::{NullSink, Sink, Source};
+use dvd_words::{Command, Settings};
+use std::alloc::Global;
+
+/// Its blocks, how many captures there are of each, and the memory of one capture and of the join.
+#[derive(Drop)]
+struct Merging<'a> {
+    layout: Layout,
+    zones: Zones,
+    form: Form,
+    captures: u32,
+    merge: &'a mut Merge,
+    work: &'a mut Work,
+
+    ghost few: { captures ≤ 16 },
+    ghost sized: { HasSize form },
+}
+
+impl<'a> LoneTurns for Merging<'a> {
+    ghost Key = { DiskLayout × WhichZones × CaptureForm × ℕ };
+
+    ghost key = { λ m. (m.layout, m.zones, m.form, m.captures) };
+
+    ghost units = { λ key. merge_units key.0 key.1 key.2 key.3 };
+
+    ghost alone = { λ _. record { opens = refl; closes = λ _. refl; behind = refl } };
+
+    fn count(&self) -> u32 {
+        self.layout.blocks(self.zones) as u32
+    }
+
+    fn turn<S: Source, K: Sink, E: Sink>(
+        &mut self,
+        k: u32,
+        src: &mut S,
+        out: &mut K,
+        _report: &mut E,
+    ) -> Result<Turn, LoopEnd> {
+        take_captures(src, k, self.form, self.captures, self.merge, self.work)?;
+        self.merge.write_marked(out)?;
+        Ok(Turn::Good)
+    }
+}
+
+/// Joins the captures of each block of the plan of the layout and the zones that the settings choose: a captured block of
+/// each of them, one after the other.
+pub fn merge_loop<S: Source, K: Sink>(
+    settings: &Settings,
+    layout: &Layout,
+    merge: &mut Merge,
+    work: &mut Work,
+    src: &mut S,
+    out: &mut K,
+) -> LoopEnd
+    requires layout { IsLayoutOf settings.now layout.now }
+    requires form { HasSize settings.now.form }
+    requires captures { settings.now.captures ≤ 16 }
+    ensures follows { (report : Seen) → HasEnded (IsOutcome (merge_units layout.now settings.now.zones settings.now.form settings.now.captures))
+        (streams (S.seen src.old) (K.seen out.old) report) (streams (S.seen src.new) (K.seen out.new) report) result }
+    ensures ends { IsPlainEnd (length (plan_of layout.now settings.now.zones)) result }
+{
+    let merging = Merging {
+        layout: *layout,
+        zones: settings.zones,
+        form: settings.form,
+        captures: settings.captures,
+        merge,
+        work,
+    };
+    follow_lone(merging, src, out, &mut NullSink::new())
+}
+
+/// The command with its buffers, or why it doesn't begin.
+pub fn run_merge<S: Source, K: Sink>(
+    alloc: Global,
+    settings: &Settings,
+    src: &mut S,
+    out: &mut K,
+) -> Result<LoopEnd, Refusal>
+    requires command { settings.now.command ≡ Command.Merge }
+    requires form { HasSize settings.now.form }
+    requires captures { settings.now.captures ≤ 16 }
+    ensures performed { (report : Seen) → IsPerformedByWords settings.now
+        (streams (S.seen src.old) (K.seen out.old) report) (streams (S.seen src.new) (K.seen out.new) report) result }
+    ensures untouched { IsErr result → (src.new ≡ src.old) × (out.new ≡ out.old) }
+{
+    let layout = settings.layout()?;
+    let mut merge = Merge::new(alloc)?;
+    let mut work = Work::new(alloc)?;
+    Ok(merge_loop(settings, &layout, &mut merge, &mut work, src, out))
+}
+
+// Joins the captures of block `k`, these alone, or answers how the loop ends within them.
+fn take_captures<S: Source>(
+    src: &mut S,
+    k: u32,
+    form: Form,
+    captures: u32,
+    merge: &mut Merge,
+    work: &mut Work,
+) -> Result<(), LoopEnd>
+    requires form { HasSize form }
+    requires captures { captures ≤ 16 }
+    ensures taken { OnOk result (AreTaken captures form (S.seen src.old).bytes (S.seen src.new).bytes (table_of merge.new)) }
+    ensures short { IfErr result (EndsShort k (captures * block_size form) (S.seen src.old) (S.seen src.new)) }
+    ensures causes { HasReadCause result (S.seen src.old) (S.seen src.new) }
+{
+    merge.clear();
+    for c in 0..captures {
+        fetch_capture(src, k, c, form, work)?;
+        merge.take(work);
+    }
+    Ok(())
+}
+
+// Reads capture `c` of block `k`, or answers how the loop ends within it.
+fn fetch_capture<S: Source>(
+    src: &mut S,
+    k: u32,
+    c: u32,
+    form: Form,
+    work: &mut Work,
+) -> Result<(), LoopEnd>
+    requires form { HasSize form }
+    requires capture { c < 16 }
+    ensures full { OnOk result (Captures form (S.seen src.old).bytes (S.seen src.new).bytes (rows_of work.new) (marks_of_work work.new)) }
+    ensures stage { OnOk result (HasBlock (stage_of work.new)) }
+    ensures short { IfErr result (EndsInCapture k (c * block_size form) (block_size form) (S.seen src.old) (S.seen src.new)) }
+    ensures causes { HasReadCause result (S.seen src.old) (S.seen src.new) }
+{
+    let held = c * form.size() as u32;
+    match fetch(src, form, work) {
+        FetchAnswer::Full => Ok(()),
+        FetchAnswer::End => Err(LoopEnd::Short {
+            unit: k,
+            bytes: held,
+        }),
+        FetchAnswer::Short { bytes } => Err(LoopEnd::Short {
+            unit: k,
+            bytes: held + bytes,
+        }),
+        FetchAnswer::ReadFault => Err(LoopEnd::ReadFault),
+        FetchAnswer::BadMarks { at } => Err(LoopEnd::BadMarks { block: k, at }),
+    }
+}

@@ -1,0 +1,239 @@
+//! The header that a listed capture opens with.
+//! It is read before the loop, which then runs by the settings that it states: so each loop is the one of the other forms.
+ghost use Rattle.std.specs.Prelude.{◌≡◌, ◌<◌, ℕ, List, Some, IfOk, IfErr};
+ghost use Rattle.dvd_capture.specs.Header.{header_bytes};
+ghost use Rattle.dvd_layout.specs.Lengths.{initial_fault};
+ghost use Rattle.dvd_loop.specs.Turns.{HasReadCause};
+ghost use Rattle.dvd_commands.specs.HeaderEnds.{AnswersHeader, HeaderCounts, ReadsHeader};
+ghost use Rattle.dvd_commands.specs.Inner.Opened.{EndsInHeader, HasBegun, HasOpened, IsWorded, IsWordedInitial};
+ghost use Rattle.dvd_commands.specs.Opening.{IsHeaderOf, fault_byte, layer_byte, shape_number, zones_number};
+ghost use Rattle.dvd_capture.specs.Captured.{HasSize};
+ghost use Rattle.dvd_capture.specs.declared.form.Form.TheVariants.{Listed};
+ghost use Rattle.dvd_words.specs.Settings.{IsLayoutOf, broken_rule};
+ghost use Rattle.dvd_words.specs.declared.settings.Settings.{Settings as WordSettings};
+
+use dvd_capture::{Form, Header, HeaderFault};
+use dvd_layout::{Layout, LayoutFault, Shape, Zones, check_initial};
+use dvd_loop::LoopEnd;
+use dvd_ports::{Failed, Source, read_whole};
+use dvd_words::Settings;
+
+/// What is found where a listed capture begins.
+#[derive(Clone, Copy, Debug, PartialEq, Eq)]
+pub enum HeaderEnd {
+    /// A header, which states this layout and these zones.
+    Found { layout: Layout, zones: Zones },
+    /// The input ended in the header, after so many bytes.
+    Short { bytes: u32 },
+    /// 32 bytes that break a rule, whose field begins at that byte.
+    BadHeader { at: u32 },
+    /// A read failed before all 32 bytes came.
+    ReadFault,
+}
+
+/// Reads the header of a listed capture: 32 bytes, and none behind them. It is Short exactly where the input ended before,
+/// BadHeader exactly where a byte can't stand in a header or the layout that it states breaks a rule, and ReadFault only
+/// where a read failed.
+pub fn listed_layout<S: Source>(src: &mut S) -> HeaderEnd
+    ensures header { ReadsHeader result (S.seen src.old) (S.seen src.new) }
+    ensures counts { HeaderCounts result (S.seen src.old) (S.seen src.new) }
+{
+    let mut bytes = [0; 32];
+    match read_whole(src, &mut bytes) {
+        Ok(count) if count < 32 => HeaderEnd::Short {
+            bytes: count as u32,
+        },
+        Ok(_) => layout_in(&bytes),
+        Err(Failed) => HeaderEnd::ReadFault,
+    }
+}
+
+// What 32 bytes state, if they break no rule.
+fn layout_in(bytes: &[u8; 32]) -> HeaderEnd
+    ensures { (left : List ℕ) → AnswersHeader result bytes.now left }
+{
+    match Header::from_bytes(bytes) {
+        Ok(header) => layout_of(&header),
+        Err(HeaderFault::Place { at }) => HeaderEnd::BadHeader { at: u32::from(at) },
+    }
+}
+
+fn layout_of(header: &Header) -> HeaderEnd
+    ensures { (left : List ℕ) → AnswersHeader result (header_bytes header.now) left }
+{
+    match Layout::new(
+        shape_of(header.shape),
+        header.sectors0,
+        header.sectors1,
+        header.initial,
+        header.tail,
+    ) {
+        Ok(layout) => HeaderEnd::Found {
+            layout,
+            zones: zones_of(header.zones),
+        },
+        Err(fault) => HeaderEnd::BadHeader {
+            at: fault_byte(fault),
+        },
+    }
+}
+
+/// The header that states a layout and zones.
+pub(crate) fn header_of(layout: &Layout, zones: Zones) -> Header
+    ensures { (settings : WordSettings) → IsLayoutOf settings layout.now → settings.zones ≡ zones
+        → IsHeaderOf settings settings (header_bytes result) }
+{
+    Header {
+        shape: number_of_shape(layout.shape),
+        zones: number_of_zones(zones),
+        sectors0: layout.sectors0,
+        sectors1: layout.sectors1,
+        initial: layout.initial,
+        tail: layout.tail,
+    }
+}
+
+fn number_of_shape(shape: Shape) -> u8
+    ensures number { shape_number shape ≡ result }
+    ensures known { result < 3 }
+{
+    match shape {
+        Shape::Single => 0,
+        Shape::Parallel => 1,
+        Shape::Opposite => 2,
+    }
+}
+
+fn number_of_zones(zones: Zones) -> u8
+    ensures number { zones_number zones ≡ result }
+    ensures known { result < 2 }
+{
+    match zones {
+        Zones::DataOnly => 0,
+        Zones::All => 1,
+    }
+}
+
+fn shape_of(number: u8) -> Shape
+    requires { number < 3 }
+    ensures { shape_number result ≡ number }
+{
+    match number {
+        0 => Shape::Single,
+        1 => Shape::Parallel,
+        _ => Shape::Opposite,
+    }
+}
+
+fn zones_of(number: u8) -> Zones
+    requires { number < 2 }
+    ensures { zones_number result ≡ number }
+{
+    match number {
+        0 => Zones::DataOnly,
+        _ => Zones::All,
+    }
+}
+
+// The first byte of the field that a broken rule of layouts names.
+fn fault_byte(fault: LayoutFault) -> u32
+    ensures { result ≡ fault_byte fault }
+{
+    match fault {
+        LayoutFault::EmptyLayer { layer } => layer_byte(layer),
+        LayoutFault::OddLayer { .. } => 12,
+        LayoutFault::SecondLayer { .. } => 16,
+        LayoutFault::LayerLonger { .. } => 16,
+        LayoutFault::InitialTooLong { .. } => 20,
+        LayoutFault::TailTooLong { .. } => 24,
+        LayoutFault::LayerTooLong { layer, .. } => layer_byte(layer),
+    }
+}
+
+fn layer_byte(layer: u8) -> u32
+    ensures { result ≡ layer_byte layer }
+{
+    if layer == 0 { 12 } else { 16 }
+}
+
+/// The layout that the words ask for, or the first rule that it breaks; none where a listed capture states its own.
+pub(crate) fn worded_layout(settings: &Settings) -> Result<Option<Layout>, LayoutFault>
+    ensures worded { IfOk result (IsWorded settings.now) }
+    ensures refused { IfErr result (λ fault. HasSize settings.now.form × (broken_rule settings.now ≡ Some fault)) }
+{
+    match settings.form {
+        Form::Listed => Ok(None),
+        Form::Plain | Form::Marked => Ok(Some(settings.layout()?)),
+    }
+}
+
+/// The length of the Initial Zone that the words ask for, or the rule that it breaks; none where a listed capture states its own.
+pub(crate) fn worded_initial(settings: &Settings) -> Result<Option<u32>, LayoutFault>
+    ensures worded { IfOk result (IsWordedInitial settings.now) }
+    ensures refused { IfErr result (λ fault. HasSize settings.now.form × (initial_fault settings.now.initial ≡ Some fault)) }
+{
+    match settings.form {
+        Form::Listed => Ok(None),
+        Form::Plain | Form::Marked => {
+            check_initial(settings.initial)?;
+            Ok(Some(settings.initial))
+        }
+    }
+}
+
+/// The settings of a run with the layout and the zones that a listed capture states, and that layout.
+#[derive(Drop)]
+pub(crate) struct Stated {
+    /// The settings of the run, as the header states them.
+    pub settings: Settings,
+    /// The layout of its disk.
+    pub layout: Layout,
+}
+
+/// Reads the header of a listed capture, or answers how the run ends in it.
+pub(crate) fn open_listed<S: Source>(settings: &Settings, src: &mut S) -> Result<Stated, LoopEnd>
+    ensures opened { IfOk result (λ stated. HasOpened settings.now (S.seen src.old) (S.seen src.new) stated.settings stated.layout) }
+    ensures ended { IfErr result (EndsInHeader settings.now (S.seen src.old) (S.seen src.new)) }
+    ensures causes { HasReadCause result (S.seen src.old) (S.seen src.new) }
+{
+    match listed_layout(src) {
+        HeaderEnd::Found { layout, zones } => Ok(Stated {
+            settings: Settings {
+                shape: layout.shape,
+                zones,
+                sectors: layout.sectors0,
+                sectors1: layout.sectors1,
+                initial: layout.initial,
+                tail: layout.tail,
+                ..*settings
+            },
+            layout,
+        }),
+        HeaderEnd::Short { bytes } => Err(LoopEnd::ShortHeader { bytes }),
+        HeaderEnd::BadHeader { at } => Err(LoopEnd::BadHeader { at }),
+        HeaderEnd::ReadFault => Err(LoopEnd::ReadFault),
+    }
+}
+
+/// The settings and the layout by which a command goes over its blocks: those of its words, or those that the header of a listed
+/// capture states, which is read here; or how the run ends in that header.
+pub(crate) fn open_blocks<S: Source>(
+    settings: &Settings,
+    worded: Option<Layout>,
+    src: &mut S,
+) -> Result<Stated, LoopEnd>
+    requires worded { IsWorded settings.now worded }
+    ensures begun { IfOk result (λ stated. HasBegun settings.now (S.seen src.old) (S.seen src.new) stated.settings stated.layout) }
+    ensures layout { IfOk result (λ stated. IsLayoutOf stated.settings stated.layout) }
+    ensures workers { IfOk result (λ stated. stated.settings.workers ≡ settings.now.workers) }
+    ensures ended { IfErr result (λ end. (settings.now.form ≡ Listed) × EndsInHeader settings.now (S.seen src.old) (S.seen src.new) end) }
+    ensures causes { HasReadCause result (S.seen src.old) (S.seen src.new) }
+{
+    match worded {
+        Some(layout) => Ok(Stated {
+            settings: *settings,
+            layout,
+        }),
+        None => open_listed(settings, src),
+    }
+}

@@ -1,0 +1,177 @@
+//! The command `recover`: image sectors from a stream of captured blocks.
+ghost use Rattle.std.specs.Thread.{IsSync};
+ghost use Rattle.std.specs.Prelude.{◌≡◌, ◌≤◌, length, IsErr, refl};
+ghost use Rattle.dvd_ports.specs.Seen.{Seen};
+ghost use Rattle.dvd_capture.specs.Rule.{HasBlock};
+ghost use Rattle.dvd_capture.specs.Works.{rows_of, marks_of_work, stage_of};
+ghost use Rattle.dvd_capture.specs.declared.form.Form.{Form as CaptureForm};
+ghost use Rattle.dvd_layout.specs.Place.{HasNumbers};
+ghost use Rattle.dvd_layout.specs.Plan.{plan_of};
+ghost use Rattle.dvd_layout.specs.declared.layout.Layout.{Layout as DiskLayout};
+ghost use Rattle.dvd_layout.specs.declared.layout.Zones.{Zones as WhichZones};
+ghost use Rattle.dvd_loop.specs.Machine.{IsOutcome};
+ghost use Rattle.dvd_loop.specs.Streams.{streams, HasEnded};
+ghost use Rattle.dvd_loop.specs.Turns.{AreDone};
+ghost use Rattle.dvd_read.specs.Calls.{IsBlockRead};
+ghost use Rattle.dvd_commands.specs.Captured.{IsCaptureEnd};
+ghost use Rattle.dvd_commands.specs.Recover.{IsDone, recover_units};
+ghost use Rattle.dvd_commands.specs.Performed.{IsPerformed};
+ghost use Rattle.dvd_commands.specs.Inner.Workers.{IsReader};
+ghost use Rattle.dvd_words.specs.Settings.{IsLayoutOf};
+
+use crate::captured::{fetch_block, refuse_block, write_sectors};
+use crate::opening::{open_blocks, worded_layout};
+use crate::refusal::Refusal;
+use crate::workers::read_by;
+use dvd_capture::{Form, Work};
+use dvd_layout::{BlockPlan, Content, Layout, Zones};
+use dvd_loop::{LoneTurns, LoopEnd, Turn, follow_lone};
+use dvd_par::{Gate, read_block_par};
+use dvd_ports::{Sink, Source};
+use dvd_read::{Cause, Fixed};
+use dvd_words::{Command, Settings};
+use std::alloc::Global;
+use std::thread::Threads;
+
+/// Its blocks, in the order of the plan, how they are read, and the memory of one block.
+#[derive(Drop)]
+struct Recover<'a, 'r, F> {
+    layout: Layout,
+    zones: Zones,
+    form: Form,
+    read: &'r F,
+    work: &'a mut Work,
+}
+
+impl<'a, 'r, F: Fn(&mut Work, &BlockPlan) -> Result<Fixed, Cause>> LoneTurns
+    for Recover<'a, 'r, F> {
+    ghost Key = { DiskLayout × WhichZones × CaptureForm };
+
+    ghost key = { λ r. (r.layout, r.zones, r.form) };
+
+    ghost units = { λ key. recover_units key.0 key.1 key.2 };
+
+    ghost ready = { λ r. IsReader F.Fn r.read.now };
+
+    ghost alone = { λ _. record { opens = refl; closes = λ _. refl; behind = refl } };
+
+    fn count(&self) -> u32 {
+        self.layout.blocks(self.zones) as u32
+    }
+
+    fn turn<S: Source, K: Sink, E: Sink>(
+        &mut self,
+        k: u32,
+        src: &mut S,
+        out: &mut K,
+        report: &mut E,
+    ) -> Result<Turn, LoopEnd> {
+        let entry = self.layout.plan(self.zones, u64::from(k));
+        fetch_block(src, k, self.form, self.work)?;
+        recover_block(&self.layout, k, &entry, self.read, self.work, out, report)
+    }
+}
+
+/// Reads every block of the plan of the layout and the zones that the settings choose, and writes its image sectors. A line
+/// names each that is refused, and zeros stand in the place of its sectors that aren't saved.
+pub fn recover_loop<R: Threads + Sync, S: Source, K: Sink, E: Sink, G: Gate>(
+    rt: &R,
+    settings: &Settings,
+    layout: &Layout,
+    gate: &G,
+    work: &mut Work,
+    src: &mut S,
+    out: &mut K,
+    report: &mut E,
+) -> LoopEnd
+    requires layout { IsLayoutOf settings.now layout.now }
+    requires workers { (1 ≤ settings.now.workers) × (settings.now.workers ≤ 16) }
+    ensures follows { HasEnded (IsOutcome (recover_units layout.now settings.now.zones settings.now.form))
+        (streams (S.seen src.old) (K.seen out.old) (E.seen report.old))
+        (streams (S.seen src.new) (K.seen out.new) (E.seen report.new)) result }
+    ensures ends { IsCaptureEnd settings.now.form (length (plan_of layout.now settings.now.zones)) result }
+{
+    let workers = settings.workers;
+    let read = |work: &mut Work, plan: &BlockPlan| -> Result<Fixed, Cause>
+        requires { IsSync R.row
+            × IsSync G.row
+            × (1 ≤ workers)
+            × (workers ≤ 16)
+            × HasBlock (stage_of work.now)
+            × HasNumbers plan.now }
+        ensures { IsBlockRead work.entry.now work.exit.now plan.entry.now result }
+    { read_block_par(rt, workers, gate, work, plan) };
+    let recover = Recover {
+        layout: *layout,
+        zones: settings.zones,
+        form: settings.form,
+        read: &read,
+        work,
+    };
+    follow_lone(recover, src, out, report)
+}
+
+/// The command with its buffers, or why it doesn't begin.
+pub fn run_recover<R: Threads + Sync, S: Source, K: Sink, E: Sink, G: Gate>(
+    rt: &R,
+    alloc: Global,
+    settings: &Settings,
+    gate: &G,
+    src: &mut S,
+    out: &mut K,
+    report: &mut E,
+) -> Result<LoopEnd, Refusal>
+    requires command { settings.now.command ≡ Command.Recover }
+    requires workers { (1 ≤ settings.now.workers) × (settings.now.workers ≤ 16) }
+    ensures performed { IsPerformed settings.now
+        (streams (S.seen src.old) (K.seen out.old) (E.seen report.old))
+        (streams (S.seen src.new) (K.seen out.new) (E.seen report.new)) result }
+    ensures untouched { IsErr result → (src.new ≡ src.old) × (out.new ≡ out.old) × (report.new ≡ report.old) }
+{
+    let worded = worded_layout(settings)?;
+    let mut work = Work::new(alloc)?;
+    match open_blocks(settings, worded, src) {
+        Ok(stated) => Ok(recover_loop(
+            rt,
+            &stated.settings,
+            &stated.layout,
+            gate,
+            &mut work,
+            src,
+            out,
+            report,
+        )),
+        Err(end) => Ok(end),
+    }
+}
+
+// Decodes a block of image sectors and writes them; or tells its cause and writes those that are saved, and zeros for the
+// others. Any other block is passed over.
+fn recover_block<F: Fn(&mut Work, &BlockPlan) -> Result<Fixed, Cause>, K: Sink, E: Sink>(
+    layout: &Layout,
+    k: u32,
+    entry: &BlockPlan,
+    read: &F,
+    work: &mut Work,
+    out: &mut K,
+    report: &mut E,
+) -> Result<Turn, LoopEnd>
+    requires reader { IsReader F.Fn read.now }
+    requires numbers { HasNumbers entry.now }
+    requires stage { HasBlock (stage_of work.old) }
+    ensures { (source : Seen) → AreDone (IsDone entry.now.content layout.now k entry.now (rows_of work.old) (marks_of_work work.old))
+        (streams source (K.seen out.old) (E.seen report.old)) (streams source (K.seen out.new) (E.seen report.new)) result }
+{
+    match entry.content {
+        Content::Image(_) => {}
+        Content::Zero | Content::Reference | Content::Control => return Ok(Turn::Good),
+    }
+    let count = layout.image_sectors(entry.content);
+    match read_by(read, work, entry) {
+        Ok(_) => {
+            write_sectors(work, count, out)?;
+            Ok(Turn::Good)
+        }
+        Err(cause) => refuse_block(layout, k, entry, &cause, work, out, report),
+    }
+}

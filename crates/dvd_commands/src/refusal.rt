@@ -1,0 +1,31 @@
+//! Why a command doesn't begin.
+ghost use Rattle.std.specs.Prelude.{◌≡◌};
+ghost use Rattle.dvd_commands.specs.declared.refusal.Refusal.TheVariants.{Setting as setting, NoMemory as no_memory};
+
+use dvd_layout::LayoutFault;
+use dvd_ports::NoMemory;
+
+/// Why a command doesn't begin.
+#[derive(Clone, Copy, Debug, PartialEq, Eq)]
+pub enum Refusal {
+    /// The layout that the settings ask for is not lawful.
+    Setting(LayoutFault),
+    /// There is no memory for its buffers.
+    NoMemory,
+}
+
+impl From<LayoutFault> for Refusal {
+    ghost from_gives = { λ fault refusal. refusal ≡ setting fault };
+
+    fn from(fault: LayoutFault) -> Self {
+        Refusal::Setting(fault)
+    }
+}
+
+impl From<NoMemory> for Refusal {
+    ghost from_gives = { λ _ refusal. refusal ≡ no_memory };
+
+    fn from(_: NoMemory) -> Self {
+        Refusal::NoMemory
+    }
+}

@@ -1,0 +1,37 @@
+//! What the workers do for a turn of a command: a closure, which the loop made, holds them.
+//! A turn is a method of a trait. What it sent to a thread would rest on what its caller can't promise, that the runtime
+//! and the gate may be shared. The function that makes the loop knows this, so it makes the closure.
+ghost use Rattle.dvd_block.specs.Buffers.{block_rows};
+ghost use Rattle.coding.specs.Product.{IsParityAdded};
+ghost use Rattle.dvd_capture.specs.Rule.{HasBlock};
+ghost use Rattle.dvd_capture.specs.Works.{stage_of};
+ghost use Rattle.dvd_layout.specs.Place.{HasNumbers};
+ghost use Rattle.dvd_read.specs.Calls.{IsBlockRead};
+ghost use Rattle.dvd_commands.specs.Inner.Workers.{IsAdder, IsReader};
+
+use dvd_block::Block;
+use dvd_capture::Work;
+use dvd_layout::BlockPlan;
+use dvd_read::{Cause, Fixed};
+
+/// Reads a captured block as an entry of a plan, as `dvd_read::read_block` does.
+pub(crate) fn read_by<F: Fn(&mut Work, &BlockPlan) -> Result<Fixed, Cause>>(
+    read: &F,
+    work: &mut Work,
+    plan: &BlockPlan,
+) -> Result<Fixed, Cause>
+    requires reader { IsReader F.Fn read.now }
+    requires stage { HasBlock (stage_of work.old) }
+    requires numbers { HasNumbers plan.now }
+    ensures { IsBlockRead work.old work.new plan.now result }
+{
+    read(work, plan)
+}
+
+/// Sets the inner and the outer parity of a block, as `Block::add_parity` does.
+pub(crate) fn add_by<F: Fn(&mut Block)>(add: &F, block: &mut Block)
+    requires adder { IsAdder F.Fn add.now }
+    ensures { IsParityAdded (block_rows block.old) (block_rows block.new) }
+{
+    add(block);
+}

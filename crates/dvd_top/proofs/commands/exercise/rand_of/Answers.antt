@@ -1,7 +1,0 @@
--- The proof of `rand_of` in src/commands/exercise.rt.
-use Rattle.std.proofs.Common.{◌∙◌, arith}
-use Rattle.dvd_top.proofs.ExerciseTrials.{state_first}
-use Rattle.dvd_top.proofs.commands.exercise.rand_of.Goals as goal
-
-pub returns : goal.returns
-returns c = c.new.ensures ∙ state_first c.args.seed (omega (arith, c.ranges.seed.fits))

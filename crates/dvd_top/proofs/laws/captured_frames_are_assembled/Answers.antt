@@ -1,6 +1,0 @@
--- The proof of the law `captured_frames_are_assembled` in src/laws.rt.
-use Rattle.dvd_top.proofs.CapturedFrames.{assembled_so}
-use Rattle.dvd_top.proofs.laws.captured_frames_are_assembled.Goals as goal
-
-pub returns : goal.returns
-returns c = assembled_so

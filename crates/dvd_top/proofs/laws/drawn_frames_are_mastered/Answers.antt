@@ -1,6 +1,0 @@
--- The proof of the law `drawn_frames_are_mastered` in src/laws.rt.
-use Rattle.dvd_top.proofs.ExerciseBlocks.{drawn_mastered}
-use Rattle.dvd_top.proofs.laws.drawn_frames_are_mastered.Goals as goal
-
-pub returns : goal.returns
-returns c = drawn_mastered

@@ -1,6 +1,0 @@
--- The proof of the law `info_finds_the_first_answer` in src/laws.rt.
-use Rattle.dvd_top.proofs.InfoFound.{found}
-use Rattle.dvd_top.proofs.laws.info_finds_the_first_answer.Goals as goal
-
-pub returns : goal.returns
-returns c = found
