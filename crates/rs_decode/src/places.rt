@@ -1,5 +1,5 @@
 //! The marked places of a word.
-ghost use Rattle.std.specs.Prelude.{◌≡◌, ◌↔◌, List, Bool, false, ◌-◌, ◌<◌, ◌≤◌, length, replicate, All, IsTrue, IfSome, MatchOption};
+ghost use Rattle.std.specs.Prelude.{◌≡◌, List, Bool, false, ◌-◌, ◌<◌, ◌≤◌, length, replicate, All, IfSome, MatchOption};
 ghost use Rattle.std.specs.Option.{ForSome};
 ghost use Rattle.coding.specs.Field.{alpha, power};
 ghost use Rattle.coding.specs.Words.{IsByte};
@@ -81,13 +81,6 @@ impl<const N: usize> Erasures<N> {
             Some(inverse) => inverse.bytes_at(sums),
             None => bytes_at(&self.points, sums),
         }
-    }
-
-    /// Whether no place is marked.
-    pub fn is_empty(&self) -> bool
-        ensures { IsTrue result ↔ (marked self.now.marks ≡ 0) }
-    {
-        self.points.is_empty()
     }
 }
 
