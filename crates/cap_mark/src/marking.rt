@@ -13,7 +13,7 @@ use crate::marks::put_rows;
 use crate::walk::spans_from;
 use arrayvec::ArrayVec;
 use cap_map::Span;
-use dvd_loop::{LoneTurns, LoopEnd, Turn, follow_lone, read_unit};
+use dvd_loop::{LoneTurns, LoopEnd, Turn, follow_owned, read_unit};
 use dvd_ports::{NullSink, Sink, Source, write_whole};
 
 /// The spans of a map, and those of them that don't end before a place or at it: where the loop is in the map.
@@ -80,7 +80,7 @@ pub fn mark_loop<S: Source, K: Sink>(spans: &[Span], src: &mut S, out: &mut K) -
         left: spans,
         place: 0,
     };
-    follow_lone(marking, src, out, &mut NullSink::new())
+    follow_owned(marking, src, out, &mut NullSink::new())
 }
 
 // Writes frame `k` with the marks of its rows.

@@ -1,5 +1,6 @@
 -- Why the contracts of `exercise` hold: its blocks, what is counted of them, and its turns.
 pub mod Blocks
+pub mod Facts
 pub mod Runs
 pub mod Trials
 pub mod Turns

@@ -1,2 +1,3 @@
 -- Why the contracts of `merge` hold: the captures of a block.
 pub mod Captures
+pub mod Facts

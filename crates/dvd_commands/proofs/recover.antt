@@ -2,4 +2,6 @@
 pub mod Blocks
 pub mod Capture
 pub mod Done
+pub mod Facts
+pub mod GoodFrames
 pub mod Rescues

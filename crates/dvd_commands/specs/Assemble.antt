@@ -18,8 +18,7 @@ use Rattle.dvd_loop.specs.declared.ends.LoopEnd.TheVariants.{ReportFault}
 use Rattle.dvd_loop.specs.declared.ends.Turn.TheVariants.{Good}
 use Rattle.dvd_merge.specs.Join.{Table}
 use Rattle.dvd_merge.specs.MarkedText.{marked_text}
-use Rattle.dvd_commands.specs.Meaning.{Meaning}
-use Rattle.dvd_words.specs.Settings.{IsLayoutOf, broken_rule}
+use Rattle.dvd_commands.specs.Meaning.{Meaning, by_layout}
 
 -- the captured frames, these being their bytes
 unfoldable pub frames_in : Form → List (List ℕ) → List Frame
@@ -54,13 +53,9 @@ assemble_units layout form frames = record {
   behind = Asks;
 }
 
--- the meaning of `assemble`: its units are frames, and its layout has to break no rule
+-- the meaning of `assemble`: its layout has to break no rule
 abbrev pub assemble_meaning : Meaning
-assemble_meaning = record {
-  unit_name = codes "frame";
-  breaks = broken_rule;
-  OfUnits = λ settings P. (layout : Layout) × IsLayoutOf settings layout × P (assemble_units layout settings.form settings.frames);
-}
+assemble_meaning = by_layout (λ settings layout. assemble_units layout settings.form settings.frames)
 
 -- A shelf and a count of frames stand for these captured frames, which may be read in any pieces.
 pub record IsShelfOf (layout : Layout) (form : Form) (units : List (List ℕ)) (tables : List Table) (placed : ℕ) : Type 0 where

@@ -1,6 +1,6 @@
 -- The command `cdread`: sector k is a CD-ROM sector of Mode 1 (ECMA-130, 14). If it has nothing wrong after its repair, its
 -- user data are written. Otherwise a line is reported with the sector and the first cause, and then 2,048 zeros are written.
-use Rattle.std.specs.Prelude.{◌≡◌, ◌⊎◌, ℕ, ◌+◌, List, [], ◌∷◌, codes, take, drop, replicate, None}
+use Rattle.std.specs.Prelude.{◌≡◌, ◌⊎◌, ℕ, ◌+◌, List, [], ◌∷◌, take, drop, replicate}
 use Rattle.cd_sector.specs.Causes.{IsCause, IsRightSector}
 use Rattle.cd_sector.specs.Repair.{repaired}
 use Rattle.cd_sector.specs.declared.checking.CdCause.{CdCause}
@@ -9,7 +9,7 @@ use Rattle.dvd_loop.specs.Machine.Step.{Write, Tell}
 use Rattle.dvd_loop.specs.declared.ends.Turn.{Turn}
 use Rattle.dvd_loop.specs.declared.ends.Turn.TheVariants.{Good, Bad}
 use Rattle.dvd_commands.specs.CdLines.{damaged_sector_line}
-use Rattle.dvd_commands.specs.Meaning.{Meaning}
+use Rattle.dvd_commands.specs.Meaning.{Meaning, by_settings}
 
 -- the user data of a sector
 abbrev pub user_data : List ℕ → List ℕ
@@ -36,10 +36,6 @@ IsSectorRead address k read steps turn = IsSectorGiven address read steps turn �
 abbrev pub cdread_units : ℕ → ℕ → Units
 cdread_units first sectors = plain_units sectors (λ k. 2352) (λ k. IsSectorRead (first + k) k)
 
--- the meaning of `cdread`: its units are sectors, and it has no layout
+-- the meaning of `cdread`: it has no layout
 abbrev pub cdread_meaning : Meaning
-cdread_meaning = record {
-  unit_name = codes "sector";
-  breaks = λ settings. None;
-  OfUnits = λ settings P. P (cdread_units settings.address settings.sectors);
-}
+cdread_meaning = by_settings (λ settings. cdread_units settings.address settings.sectors)

@@ -3,8 +3,8 @@ use Rattle.std.specs.Prelude.{ℕ, List, Option, None}
 use Rattle.dvd_capture.specs.declared.form.Form.{Form}
 use Rattle.dvd_capture.specs.declared.form.Form.TheVariants.{Listed}
 use Rattle.dvd_layout.specs.declared.fault.LayoutFault.{LayoutFault}
-use Rattle.dvd_loop.specs.Machine.{IsOutcome, Outcome}
-use Rattle.dvd_commands.specs.Meaning.{Meaning}
+use Rattle.dvd_loop.specs.Machine.{Outcome}
+use Rattle.dvd_commands.specs.Meaning.{GoesBy, Meaning}
 use Rattle.dvd_commands.specs.Exercise.{exercise_meaning}
 use Rattle.dvd_commands.specs.Frames.{frames_meaning}
 use Rattle.dvd_commands.specs.Info.{info_meaning}
@@ -47,4 +47,4 @@ breaks settings = breaks_in settings.form settings
 
 -- a loop over the units of the command that the settings name
 abbrev pub GoesOver : Settings → List ℕ → Outcome → Type 0
-GoesOver settings bytes outcome = (meaning settings.command).OfUnits settings (λ units. IsOutcome units bytes outcome)
+GoesOver settings = GoesBy (meaning settings.command) settings

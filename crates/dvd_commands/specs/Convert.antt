@@ -1,12 +1,12 @@
 -- The command `convert` (ours): block k is a captured block in the plain or the marked form. A header with the layout is
 -- written before the first, and then the listed unit of each.
-use Rattle.std.specs.Prelude.{◌≡◌, ℕ, List, [], ◌∷◌, codes, length}
+use Rattle.std.specs.Prelude.{◌≡◌, ℕ, List, [], ◌∷◌, length}
 use Rattle.dvd_capture.specs.Captured.{IsUnitOf, captured_rows, captured_marks}
 use Rattle.dvd_capture.specs.declared.form.Form.{Form}
 use Rattle.dvd_layout.specs.Plan.{plan_of}
 use Rattle.dvd_layout.specs.declared.layout.Layout.{Layout}
 use Rattle.dvd_layout.specs.declared.layout.Zones.{Zones}
-use Rattle.dvd_loop.specs.Machine.{Step, Units}
+use Rattle.dvd_loop.specs.Machine.{IsOutcome, Outcome, Step, Units}
 use Rattle.dvd_loop.specs.Machine.Step.{Write}
 use Rattle.dvd_loop.specs.declared.ends.Turn.{Turn}
 use Rattle.dvd_loop.specs.declared.ends.Turn.TheVariants.{Good}
@@ -28,15 +28,17 @@ abbrev pub convert_units : Layout → Zones → Form → List ℕ → Units
 convert_units layout zones form opening =
     record (captured_units (length (plan_of layout zones)) form (λ k. IsConverted form)) { opens = Write opening ∷ [] }
 
--- those that open with the header that states these settings
-abbrev pub OfConverted : Settings → Layout → (Units → Type 0) → Type 0
-OfConverted settings layout P =
-    (opening : List ℕ) × IsHeaderOf settings settings opening × P (convert_units layout settings.zones settings.form opening)
+-- a loop over units of this layout that open with the header that states these settings
+abbrev pub Converts : Settings → Layout → List ℕ → Outcome → Type 0
+Converts settings layout bytes outcome =
+    (opening : List ℕ) × IsHeaderOf settings settings opening
+    × IsOutcome (convert_units layout settings.zones settings.form opening) bytes outcome
 
--- the meaning of `convert`: its units are blocks, and its layout has to break no rule
+-- the meaning of `convert`: its layout has to break no rule, and its units open with the header that states the settings
 abbrev pub convert_meaning : Meaning
 convert_meaning = record {
-  unit_name = codes "block";
   breaks = broken_rule;
-  OfUnits = λ settings P. (layout : Layout) × IsLayoutOf settings layout × OfConverted settings layout P;
+  Subject = Layout × List ℕ;
+  IsSubject = λ settings subject. IsLayoutOf settings subject.0 × IsHeaderOf settings settings subject.1;
+  units = λ settings subject. convert_units subject.0 settings.zones settings.form subject.1;
 }

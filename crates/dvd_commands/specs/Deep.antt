@@ -1,7 +1,7 @@
 -- The command `deep` (ours): as `recover`, but a block that two passes refuse is read by up to four rounds. Where a round
 -- gives it back and its frames are right, a line is reported with the block and the round. After it its image sectors are
 -- written.
-use Rattle.std.specs.Prelude.{◌≡◌, ◌⊎◌, ℕ, Bool, None, Some, List, [], ◌∷◌, ◌++◌, codes, length, take}
+use Rattle.std.specs.Prelude.{◌≡◌, ◌⊎◌, ℕ, Bool, None, Some, List, [], ◌∷◌, ◌++◌, length, take}
 use Rattle.std.specs.List.{flat_map}
 use Rattle.std.specs.declared.option.Option.{Option}
 use Rattle.coding.specs.TwoPass.{answers_of}
@@ -22,8 +22,7 @@ use Rattle.dvd_decoding.specs.declared.cause.Cause.{Cause}
 use Rattle.dvd_report.specs.Lines.{round_line}
 use Rattle.dvd_commands.specs.Captured.{IfImage, IsDoneByEntry, captured_units}
 use Rattle.dvd_commands.specs.Recover.{IsRefused}
-use Rattle.dvd_commands.specs.Meaning.{Meaning}
-use Rattle.dvd_words.specs.Settings.{IsLayoutOf, broken_rule}
+use Rattle.dvd_commands.specs.Meaning.{Meaning, by_layout}
 
 -- the line of a round, where the two passes have a cause
 abbrev pub round_told : Option Cause → ℕ → BlockPlan → ℕ → List Step
@@ -58,8 +57,4 @@ deep_units layout zones form = captured_units (length (plan_of layout zones)) fo
 
 -- the meaning of `deep`: its layout has to break no rule
 abbrev pub deep_meaning : Meaning
-deep_meaning = record {
-  unit_name = codes "block";
-  breaks = broken_rule;
-  OfUnits = λ settings P. (layout : Layout) × IsLayoutOf settings layout × P (deep_units layout settings.zones settings.form);
-}
+deep_meaning = by_layout (λ settings layout. deep_units layout settings.zones settings.form)

@@ -1,7 +1,7 @@
 -- The command `exercise` (ours): nothing is read. Blocks are drawn from a number, damaged within the bound and read back,
 -- and one line is written to the output: how many there were, how many came back whole, how many of their bytes were
 -- corrected, and how many of their rows failed. By this definition all come back whole.
-use Rattle.std.specs.Prelude.{◌≡◌, ℕ, zero, suc, ◌+◌, ◌*◌, ◌%◌, ◌^◌, ◌<◌, Bool, false, List, [], ◌∷◌, ◌++◌, codes, decimal, length, map, replicate, take, drop, None, slice_index_or}
+use Rattle.std.specs.Prelude.{◌≡◌, ℕ, zero, suc, ◌+◌, ◌*◌, ◌%◌, ◌^◌, ◌<◌, Bool, false, List, [], ◌∷◌, ◌++◌, codes, decimal, length, map, replicate, take, drop, slice_index_or}
 use Rattle.std.specs.List.{range_with_len, sum_by}
 use Rattle.coding.specs.Filling.{marked}
 use Rattle.coding.specs.Product.{IsBlockOf}
@@ -21,7 +21,7 @@ use Rattle.dvd_loop.specs.Machine.Step.{Write}
 use Rattle.dvd_loop.specs.declared.ends.Behind.TheVariants.{Done}
 use Rattle.dvd_loop.specs.declared.ends.Turn.TheVariants.{Good}
 use Rattle.coding.specs.Found.{block_differences}
-use Rattle.dvd_commands.specs.Meaning.{Meaning}
+use Rattle.dvd_commands.specs.Meaning.{Meaning, by_settings}
 
 -- sector f of the sixteen in these bytes
 abbrev pub drawn_sector : List ℕ → ℕ → List ℕ
@@ -104,13 +104,9 @@ exercise_units seed blocks = record {
   behind = Done;
 }
 
--- the meaning of `exercise`: its units are blocks, and it has no layout
+-- the meaning of `exercise`: it has no layout
 abbrev pub exercise_meaning : Meaning
-exercise_meaning = record {
-  unit_name = codes "block";
-  breaks = λ settings. None;
-  OfUnits = λ settings P. P (exercise_units settings.seed settings.blocks);
-}
+exercise_meaning = by_settings (λ settings. exercise_units settings.seed settings.blocks)
 
 -- What block k leaves in the memory of a captured block: its received rows and marks, and its sectors as they were drawn.
 pub record IsLeft (seed k : ℕ) (work : Work) : Type 0 where

@@ -1,12 +1,12 @@
 -- The command `frames`: sector k is 2,048 bytes of the input. Its scrambled data frame, 2,064 bytes, is written.
-use Rattle.std.specs.Prelude.{◌≡◌, ◌≤◌, ℕ, ◌+◌, ◌^◌, false, List, codes, replicate, None}
+use Rattle.std.specs.Prelude.{◌≡◌, ◌≤◌, ℕ, ◌+◌, ◌^◌, false, List, replicate}
 use Rattle.dvd_frame.specs.Id.{id_word}
 use Rattle.dvd_frame.specs.Frame.{data_frame}
 use Rattle.dvd_frame.specs.declared.id.Area.TheVariants.{DataZone}
 use Rattle.dvd_frame.specs.declared.scrambling.Rule.TheVariants.{Whole}
 use Rattle.dvd_loop.specs.Machine.{Units}
 use Rattle.dvd_commands.specs.Making.{sectors_made}
-use Rattle.dvd_commands.specs.Meaning.{Meaning}
+use Rattle.dvd_commands.specs.Meaning.{Meaning, by_settings}
 use Rattle.dvd_words.specs.declared.settings.Settings.{Settings}
 
 -- the frame of a sector in the Data Zone of a disk with one layer, with six bytes 00 for CPR_MAI
@@ -17,13 +17,9 @@ IsSectorFrame number sector frame = frame ≡ data_frame (id_word DataZone 0 fal
 abbrev pub frames_units : ℕ → ℕ → Units
 frames_units = sectors_made IsSectorFrame
 
--- the meaning of `frames`: its units are sectors, and it has no layout
+-- the meaning of `frames`: it has no layout
 abbrev pub frames_meaning : Meaning
-frames_meaning = record {
-  unit_name = codes "sector";
-  breaks = λ settings. None;
-  OfUnits = λ settings P. P (frames_units settings.first settings.sectors);
-}
+frames_meaning = by_settings (λ settings. frames_units settings.first settings.sectors)
 
 -- what holds of `frames` by its words: there is a sector, and the numbers have 24 bits
 abbrev pub HasSectors : Settings → Type 0

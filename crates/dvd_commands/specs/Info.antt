@@ -20,7 +20,7 @@ use Rattle.dvd_decoding.specs.Reading.{IsReadAs, block_cause}
 use Rattle.dvd_decoding.specs.declared.cause.Cause.{Cause}
 use Rattle.dvd_report.specs.Lines.{hexadecimal}
 use Rattle.dvd_commands.specs.Captured.{IsDoneByEntry, IsPassedOver, captured_units}
-use Rattle.dvd_commands.specs.Meaning.{Meaning}
+use Rattle.dvd_commands.specs.Meaning.{Meaning, by_settings}
 
 -- a line with a name and a number in decimal
 abbrev pub number_line : List ℕ → ℕ → List ℕ
@@ -80,10 +80,8 @@ IsSought initial = IsDoneByEntry (lead_in_blocks initial) (λ entry. IsAsked ent
 abbrev pub info_units : ℕ → Form → Units
 info_units initial form = record (captured_units (initial + 224) form (IsSought initial form)) { behind = NoControl }
 
--- the meaning of `info`: its units are blocks, and of a layout it has the Initial Zone alone
+-- the meaning of `info`: of a layout it has the Initial Zone alone
 abbrev pub info_meaning : Meaning
-info_meaning = record {
-  unit_name = codes "block";
+info_meaning = record (by_settings (λ settings. info_units settings.initial settings.form)) {
   breaks = λ settings. initial_fault settings.initial;
-  OfUnits = λ settings P. P (info_units settings.initial settings.form);
 }

@@ -1,5 +1,6 @@
 -- What the contracts speak of: the commands, each on a page of its own, and how a run of one opens.
 pub mod Assemble
+pub mod Bound
 pub mod Captured
 pub mod CdBound
 pub mod CdLines

@@ -1,6 +1,6 @@
 -- The command `master`: block k of the plan reads the image sectors that are in it, filled with zeros to sixteen. The
 -- recording of the one ECC block of its sixteen data frames is written, 37,856 bytes.
-use Rattle.std.specs.Prelude.{◌≡◌, ℕ, ◌+◌, ◌-◌, ◌*◌, Option, Some, None, List, [], ◌∷◌, ◌++◌, codes, map, length, take, drop, replicate, slice_get}
+use Rattle.std.specs.Prelude.{◌≡◌, ℕ, ◌+◌, ◌-◌, ◌*◌, Option, Some, None, List, [], ◌∷◌, ◌++◌, map, length, take, drop, replicate, slice_get}
 use Rattle.std.specs.List.{range_with_len}
 use Rattle.dvd_frame.specs.Id.{id_word}
 use Rattle.dvd_frame.specs.Frame.{data_frame}
@@ -22,8 +22,7 @@ use Rattle.dvd_loop.specs.Machine.{Step, Units, plain_units}
 use Rattle.dvd_loop.specs.Machine.Step.{Write}
 use Rattle.dvd_loop.specs.declared.ends.Turn.{Turn}
 use Rattle.dvd_loop.specs.declared.ends.Turn.TheVariants.{Good}
-use Rattle.dvd_commands.specs.Meaning.{Meaning}
-use Rattle.dvd_words.specs.Settings.{IsLayoutOf, broken_rule}
+use Rattle.dvd_commands.specs.Meaning.{Meaning, by_layout}
 
 -- how many bytes of the image a block takes
 abbrev pub image_bytes : Layout → BlockPlan → ℕ
@@ -85,8 +84,4 @@ master_units layout zones cpr = plain_units (length (plan_of layout zones)) (byt
 
 -- the meaning of `master`: its layout has to break no rule
 abbrev pub master_meaning : Meaning
-master_meaning = record {
-  unit_name = codes "block";
-  breaks = broken_rule;
-  OfUnits = λ settings P. (layout : Layout) × IsLayoutOf settings layout × P (master_units layout settings.zones settings.cpr);
-}
+master_meaning = by_layout (λ settings layout. master_units layout settings.zones settings.cpr)

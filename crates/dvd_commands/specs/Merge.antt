@@ -1,6 +1,6 @@
 -- The command `merge` (ours): unit k is captured block k of each capture, one after the other. Their join is written in the
 -- marked form. A byte of it is that of the captures that have one there, if these have the same; else it is marked.
-use Rattle.std.specs.Prelude.{◌≡◌, ℕ, ◌*◌, List, [], ◌∷◌, codes, length, map, take, drop}
+use Rattle.std.specs.Prelude.{◌≡◌, ℕ, ◌*◌, List, [], ◌∷◌, length, map, take, drop}
 use Rattle.std.specs.List.{range_with_len}
 use Rattle.dvd_capture.specs.Captured.{block_size, captured_rows, captured_marks}
 use Rattle.dvd_capture.specs.declared.form.Form.{Form}
@@ -12,8 +12,7 @@ use Rattle.dvd_loop.specs.Machine.Step.{Write}
 use Rattle.dvd_loop.specs.declared.ends.Turn.TheVariants.{Good}
 use Rattle.dvd_merge.specs.Join.{Table, joined, seen_table}
 use Rattle.dvd_merge.specs.MarkedText.{marked_text}
-use Rattle.dvd_commands.specs.Meaning.{Meaning}
-use Rattle.dvd_words.specs.Settings.{IsLayoutOf, broken_rule}
+use Rattle.dvd_commands.specs.Meaning.{Meaning, by_layout}
 
 -- capture c of a unit, in which they stand one after the other
 abbrev pub capture_in : Form → List ℕ → ℕ → List ℕ
@@ -33,10 +32,6 @@ merge_units layout zones form captures =
     plain_units (length (plan_of layout zones)) (λ k. captures * block_size form)
     (λ k own steps turn. (steps ≡ Write (marked_text (joined (tables_in captures form own))) ∷ []) × (turn ≡ Good))
 
--- the meaning of `merge`: its units are blocks, and its layout has to break no rule
+-- the meaning of `merge`: its layout has to break no rule
 abbrev pub merge_meaning : Meaning
-merge_meaning = record {
-  unit_name = codes "block";
-  breaks = broken_rule;
-  OfUnits = λ settings P. (layout : Layout) × IsLayoutOf settings layout × P (merge_units layout settings.zones settings.form settings.captures);
-}
+merge_meaning = by_layout (λ settings layout. merge_units layout settings.zones settings.form settings.captures)

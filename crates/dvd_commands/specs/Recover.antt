@@ -2,7 +2,7 @@
 -- block and its frames are right, its image sectors are written. Otherwise a line is reported with the block, its first
 -- cause and how many frames are salvaged. After it the image sectors are written: those of the frames that are right by
 -- themselves, and zeros for the others.
-use Rattle.std.specs.Prelude.{◌≡◌, ◌⊎◌, ℕ, Bool, Option, Some, List, [], ◌∷◌, codes, length, take, ◌+◌, ◌*◌, ◌<◌}
+use Rattle.std.specs.Prelude.{◌≡◌, ◌⊎◌, ℕ, Bool, Option, Some, List, [], ◌∷◌, length, take, ◌+◌, ◌*◌, ◌<◌}
 use Rattle.std.specs.List.{flat_map}
 use Rattle.dvd_capture.specs.declared.form.Form.{Form}
 use Rattle.dvd_layout.specs.Place.{image_sectors}
@@ -20,8 +20,7 @@ use Rattle.dvd_decoding.specs.Salvage.{block_out, saved_in}
 use Rattle.dvd_decoding.specs.declared.cause.Cause.{Cause}
 use Rattle.dvd_report.specs.Lines.{damage_line}
 use Rattle.dvd_commands.specs.Captured.{IfImage, IsDoneByEntry, captured_units}
-use Rattle.dvd_commands.specs.Meaning.{Meaning}
-use Rattle.dvd_words.specs.Settings.{IsLayoutOf, broken_rule}
+use Rattle.dvd_commands.specs.Meaning.{Meaning, by_layout}
 use Rattle.coding.specs.Product.{line}
 use Rattle.dvd_capture.specs.Answers.{marks_line}
 use Rattle.coding.specs.Within.{row_weight}
@@ -65,8 +64,4 @@ HasGoodRows block received marks f =
 
 -- the meaning of `recover`: its layout has to break no rule
 abbrev pub recover_meaning : Meaning
-recover_meaning = record {
-  unit_name = codes "block";
-  breaks = broken_rule;
-  OfUnits = λ settings P. (layout : Layout) × IsLayoutOf settings layout × P (recover_units layout settings.zones settings.form);
-}
+recover_meaning = by_layout (λ settings layout. recover_units layout settings.zones settings.form)

@@ -1,6 +1,6 @@
 -- The command `survey`: block k is a captured block, whatever the disk has there. A line is written to the output with its
 -- PI error rows, its failed rows and its cause, and after the last block a line of totals.
-use Rattle.std.specs.Prelude.{◌≡◌, ℕ, Some, None, Option, List, [], ◌∷◌, ◌++◌, codes, length, map, zip, slice_get}
+use Rattle.std.specs.Prelude.{◌≡◌, ℕ, Some, None, Option, List, [], ◌∷◌, ◌++◌, length, map, zip, slice_get}
 use Rattle.dvd_capture.specs.Captured.{captured_rows, captured_marks}
 use Rattle.dvd_capture.specs.declared.form.Form.{Form}
 use Rattle.dvd_layout.specs.Plan.{plan_of}
@@ -17,8 +17,7 @@ use Rattle.dvd_decoding.specs.declared.cause.Cause.{Cause}
 use Rattle.dvd_report.specs.Survey.{survey_line, surveyed, totals_line}
 use Rattle.dvd_report.specs.declared.counts.Surveyed.{Surveyed}
 use Rattle.dvd_commands.specs.Captured.{captured_part}
-use Rattle.dvd_commands.specs.Meaning.{Meaning}
-use Rattle.dvd_words.specs.Settings.{IsLayoutOf, broken_rule}
+use Rattle.dvd_commands.specs.Meaning.{Meaning, by_layout}
 
 -- what is found of a captured block that stands for an entry of the plan
 abbrev pub found_of : Form → List ℕ × BlockPlan → Surveyed
@@ -51,10 +50,6 @@ survey_units layout zones form = record {
   behind = Asks;
 }
 
--- the meaning of `survey`: its units are blocks, and its layout has to break no rule
+-- the meaning of `survey`: its layout has to break no rule
 abbrev pub survey_meaning : Meaning
-survey_meaning = record {
-  unit_name = codes "block";
-  breaks = broken_rule;
-  OfUnits = λ settings P. (layout : Layout) × IsLayoutOf settings layout × P (survey_units layout settings.zones settings.form);
-}
+survey_meaning = by_layout (λ settings layout. survey_units layout settings.zones settings.form)

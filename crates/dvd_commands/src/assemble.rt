@@ -120,7 +120,7 @@ pub fn assemble_loop<S: Source, K: Sink, E: Sink>(
 }
 
 /// The command with its buffers, or why it doesn't begin.
-pub fn run_assemble<S: Source, K: Sink, E: Sink>(
+pub(crate) fn run_assemble<S: Source, K: Sink, E: Sink>(
     alloc: Global,
     settings: &Settings,
     src: &mut S,

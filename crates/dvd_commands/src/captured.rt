@@ -17,6 +17,14 @@ use dvd_ports::{Sink, Source, WriteFault, write_whole};
 use dvd_read::{Cause, salvage};
 use dvd_report::write_cause;
 
+/// Block `k` of the stream, with its entry in the plan of the layout.
+#[derive(Drop)]
+pub(crate) struct Planned<'a> {
+    pub layout: &'a Layout,
+    pub k: u32,
+    pub entry: &'a BlockPlan,
+}
+
 /// Reads captured block `k`, or answers how the loop ends within it.
 pub(crate) fn fetch_block<S: Source>(
     src: &mut S,
@@ -41,24 +49,22 @@ pub(crate) fn fetch_block<S: Source>(
 /// Tells the line of a block that is refused for this cause, and writes the image sectors of it that are saved, and zeros for
 /// the others.
 pub(crate) fn refuse_block<K: Sink, E: Sink>(
-    layout: &Layout,
-    k: u32,
-    entry: &BlockPlan,
+    block: &Planned<'_>,
     cause: &Cause,
     work: &mut Work,
     out: &mut K,
     report: &mut E,
 ) -> Result<Turn, LoopEnd>
-    requires numbers { HasNumbers entry.now }
+    requires numbers { HasNumbers block.now.entry.now }
     requires stage { HasAnswers (stage_of work.old) }
-    ensures { (source : Seen) → AreDone (IsRefusedFor layout.now k entry.now (rows_of work.old) (marks_of_work work.old) cause.now)
+    ensures { (source : Seen) → AreDone (IsRefusedFor block.now.layout.now block.now.k block.now.entry.now (rows_of work.old) (marks_of_work work.old) cause.now)
         (streams source (K.seen out.old) (E.seen report.old)) (streams source (K.seen out.new) (E.seen report.new)) result }
 {
-    let saved = salvage(work, entry);
-    if let Err(WriteFault) = write_cause(u64::from(k), entry, cause, saved, report) {
+    let saved = salvage(work, block.entry);
+    if let Err(WriteFault) = write_cause(u64::from(block.k), block.entry, cause, saved, report) {
         return Err(LoopEnd::ReportFault);
     }
-    write_sectors(work, layout.image_sectors(entry.content), out)?;
+    write_sectors(work, block.layout.image_sectors(block.entry.content), out)?;
     Ok(Turn::Bad)
 }
 

@@ -10,7 +10,7 @@ ghost use Rattle.dvd_commands.specs.CdRead.{IsSectorRead, cdread_units};
 
 use crate::cd_line::damaged_sector_line;
 use cd_sector::repair;
-use dvd_loop::{LoneTurns, LoopEnd, Turn, follow_lone, read_unit};
+use dvd_loop::{LoneTurns, LoopEnd, Turn, follow_owned, read_unit};
 use dvd_ports::{Sink, Source, WriteFault, write_whole};
 use dvd_words::Settings;
 
@@ -66,7 +66,7 @@ pub fn cdread_loop<S: Source, K: Sink, E: Sink>(
         address: settings.address,
         sectors: settings.sectors,
     };
-    follow_lone(reading, src, out, report)
+    follow_owned(reading, src, out, report)
 }
 
 // Repairs a sector and writes its user data; or tells what is wrong with it and writes zeros.

@@ -11,7 +11,7 @@ ghost use Rattle.dvd_loop.specs.Laws.{IsPlainEnd};
 ghost use Rattle.dvd_loop.specs.Machine.{IsOutcome};
 ghost use Rattle.dvd_loop.specs.Streams.{streams, HasEnded};
 ghost use Rattle.dvd_ports.specs.Seen.{Seen};
-ghost use Rattle.dvd_commands.specs.Convert.{OfConverted, convert_units};
+ghost use Rattle.dvd_commands.specs.Convert.{Converts, convert_units};
 ghost use Rattle.dvd_commands.specs.Performed.{IsPerformedByWords};
 ghost use Rattle.dvd_words.specs.Settings.{IsLayoutOf};
 
@@ -88,7 +88,7 @@ pub fn convert_loop<S: Source, K: Sink>(
 ) -> LoopEnd
     requires layout { IsLayoutOf settings.now layout.now }
     requires form { HasSize settings.now.form }
-    ensures follows { (report : Seen) → HasEnded (λ bytes outcome. OfConverted settings.now layout.now (λ units. IsOutcome units bytes outcome))
+    ensures follows { (report : Seen) → HasEnded (Converts settings.now layout.now)
         (streams (S.seen src.old) (K.seen out.old) report) (streams (S.seen src.new) (K.seen out.new) report) result }
     ensures ends { IsPlainEnd (length (plan_of layout.now settings.now.zones)) result }
 {
@@ -103,7 +103,7 @@ pub fn convert_loop<S: Source, K: Sink>(
 }
 
 /// The command with its buffers, or why it doesn't begin.
-pub fn run_convert<S: Source, K: Sink>(
+pub(crate) fn run_convert<S: Source, K: Sink>(
     alloc: Global,
     settings: &Settings,
     src: &mut S,

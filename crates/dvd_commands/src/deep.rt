@@ -22,14 +22,14 @@ ghost use Rattle.dvd_commands.specs.Performed.{IsPerformed};
 ghost use Rattle.dvd_commands.specs.Inner.Performing.{IsFoundBy, TellsAndWrites};
 ghost use Rattle.dvd_words.specs.Settings.{IsLayoutOf};
 
-use crate::captured::{fetch_block, refuse_block, write_each, write_sectors};
+use crate::captured::{Planned, fetch_block, refuse_block, write_each, write_sectors};
 use crate::opening::{open_blocks, worded_layout};
 use crate::refusal::Refusal;
 use dvd_block::Piece;
 use dvd_capture::{Form, Work};
 use dvd_deep::Deep;
 use dvd_layout::{BlockPlan, Content, Layout, Zones};
-use dvd_loop::{LoneTurns, LoopEnd, Turn, follow_lone};
+use dvd_loop::{LoneTurns, LoopEnd, Turn, follow_owned};
 use dvd_ports::{Sink, Source, WriteFault};
 use dvd_read::{Cause, read_block};
 use dvd_report::write_round;
@@ -69,16 +69,12 @@ impl<'a> LoneTurns for Deepening<'a> {
     ) -> Result<Turn, LoopEnd> {
         let entry = self.layout.plan(self.zones, u64::from(k));
         fetch_block(src, k, self.form, self.work)?;
-        deep_block(
-            &self.layout,
+        let block = Planned {
+            layout: &self.layout,
             k,
-            &entry,
-            self.deep,
-            self.piece,
-            self.work,
-            out,
-            report,
-        )
+            entry: &entry,
+        };
+        deep_block(&block, self.deep, self.piece, self.work, out, report)
     }
 }
 
@@ -108,11 +104,11 @@ pub fn deep_loop<S: Source, K: Sink, E: Sink>(
         piece,
         work,
     };
-    follow_lone(turns, src, out, report)
+    follow_owned(turns, src, out, report)
 }
 
 /// The command with its buffers, or why it doesn't begin.
-pub fn run_deep<S: Source, K: Sink, E: Sink>(
+pub(crate) fn run_deep<S: Source, K: Sink, E: Sink>(
     alloc: Global,
     settings: &Settings,
     src: &mut S,
@@ -147,33 +143,39 @@ pub fn run_deep<S: Source, K: Sink, E: Sink>(
 // Reads a block of image sectors and writes them, behind the line of its round where two passes refused it; or tells its cause
 // and writes those that are saved, and zeros for the others. Any other block is passed over.
 fn deep_block<K: Sink, E: Sink>(
-    layout: &Layout,
-    k: u32,
-    entry: &BlockPlan,
+    block: &Planned<'_>,
     deep: &mut Deep,
     piece: &mut Piece,
     work: &mut Work,
     out: &mut K,
     report: &mut E,
 ) -> Result<Turn, LoopEnd>
-    requires numbers { HasNumbers entry.now }
+    requires numbers { HasNumbers block.now.entry.now }
     requires stage { HasBlock (stage_of work.old) }
-    ensures { (source : Seen) → AreDone (IsReadDeep entry.now.content layout.now k entry.now (rows_of work.old) (marks_of_work work.old))
+    ensures { (source : Seen) → AreDone (IsReadDeep block.now.entry.now.content block.now.layout.now block.now.k block.now.entry.now (rows_of work.old) (marks_of_work work.old))
         (streams source (K.seen out.old) (E.seen report.old)) (streams source (K.seen out.new) (E.seen report.new)) result }
 {
+    let entry = block.entry;
     match entry.content {
         Content::Image(_) => {}
         Content::Zero | Content::Reference | Content::Control => return Ok(Turn::Good),
     }
-    let count = layout.image_sectors(entry.content);
+    let count = block.layout.image_sectors(entry.content);
     match read_block(work, entry) {
         Ok(_) => {
             write_sectors(work, count, out)?;
             Ok(Turn::Good)
         }
         Err(cause) => match search_block(entry, cause, deep, work, piece) {
-            Ok(round) => give_back(k, entry, round, &piece.bytes()[..2048 * count], out, report),
-            Err(cause) => refuse_block(layout, k, entry, &cause, work, out, report),
+            Ok(round) => give_back(
+                block.k,
+                entry,
+                round,
+                &piece.bytes()[..2048 * count],
+                out,
+                report,
+            ),
+            Err(cause) => refuse_block(block, &cause, work, out, report),
         },
     }
 }

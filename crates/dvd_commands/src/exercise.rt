@@ -23,9 +23,9 @@ ghost use Rattle.dvd_commands.specs.Inner.Exercising.{CountsOne, IsBehind, IsDis
 ghost use Rattle.dvd_commands.specs.Performed.{IsPerformedByWords};
 ghost use Rattle.dvd_commands.specs.Inner.Workers.{IsAdder, IsReader};
 
-use crate::master::fill_block;
+use crate::master::{Mastered, fill_block};
 use crate::refusal::Refusal;
-use crate::workers::read_by;
+use crate::workers::{Workers, read_by};
 use dvd_block::{Block, Piece};
 use dvd_capture::{Stage, Work};
 use dvd_exercise::{Rand, fill_piece, hurt};
@@ -129,8 +129,8 @@ impl<'a, 'r, A: Fn(&mut Block), F: Fn(&mut Work, &BlockPlan) -> Result<Fixed, Ca
             self.add,
             self.block,
             self.piece,
-            self.work,
         );
+        load_hurt(self.block, &mut self.rand, self.work);
         read_back(
             &entry,
             self.piece.bytes(),
@@ -259,11 +259,10 @@ fn follow_by<
 }
 
 /// The command with its buffers, or why it doesn't begin.
-pub fn run_exercise<R: Threads + Sync, S: Source, K: Sink, G: Gate>(
-    rt: &R,
+pub(crate) fn run_exercise<R: Threads + Sync, S: Source, K: Sink, G: Gate>(
+    workers: &Workers<'_, R, G>,
     alloc: Global,
     settings: &Settings,
-    gate: &G,
     src: &mut S,
     out: &mut K,
 ) -> Result<LoopEnd, Refusal>
@@ -279,7 +278,14 @@ pub fn run_exercise<R: Threads + Sync, S: Source, K: Sink, G: Gate>(
     let mut piece = Piece::new(alloc)?;
     let mut work = Work::new(alloc)?;
     Ok(follow_trials(
-        rt, settings, gate, &mut block, &mut piece, &mut work, src, out,
+        workers.rt,
+        settings,
+        workers.gate,
+        &mut block,
+        &mut piece,
+        &mut work,
+        src,
+        out,
     ))
 }
 
@@ -299,7 +305,7 @@ fn rand_of(seed: u32) -> Rand
     Rand::new(seed)
 }
 
-// Draws sixteen sectors, makes their block, and loads and damages it.
+// Draws sixteen sectors, and makes their block.
 fn draw_block<A: Fn(&mut Block)>(
     layout: &Layout,
     entry: &BlockPlan,
@@ -307,19 +313,30 @@ fn draw_block<A: Fn(&mut Block)>(
     add: &A,
     block: &mut Block,
     piece: &mut Piece,
-    work: &mut Work,
 )
     requires entry { IsEntry layout.now entry.now }
     requires numbers { HasNumbers entry.now }
     requires adder { IsAdder A.Fn add.now }
     ensures drawn { piece_bytes piece.new ≡ bytes_from (state_of rand.old) 32768 }
     ensures made { IsBlockOf (frames_of layout.now entry.now (replicate 6 0) (piece_bytes piece.new)) (block_rows block.new) }
-    ensures hurt { IsHurt (state_after (state_of rand.old) 32768) (block_rows block.new) no_marks (rows_of work.new) (marks_of_work work.new) }
-    ensures state { state_of rand.new ≡ hurt_state (state_after (state_of rand.old) 32768) }
-    ensures stage { HasBlock (stage_of work.new) }
+    ensures state { state_of rand.new ≡ state_after (state_of rand.old) 32768 }
 {
     fill_piece(rand, piece);
-    fill_block(layout, entry, &[0; 6], piece.bytes(), add, block);
+    let drawn = Mastered {
+        layout,
+        entry,
+        cpr: &[0; 6],
+        sectors: piece.bytes(),
+    };
+    fill_block(&drawn, add, block);
+}
+
+// Loads a block, and damages it.
+fn load_hurt(block: &Block, rand: &mut Rand, work: &mut Work)
+    ensures hurt { IsHurt (state_of rand.old) (block_rows block.now) no_marks (rows_of work.new) (marks_of_work work.new) }
+    ensures state { state_of rand.new ≡ hurt_state (state_of rand.old) }
+    ensures stage { HasBlock (stage_of work.new) }
+{
     work.load_block(block);
     hurt(rand, work);
 }

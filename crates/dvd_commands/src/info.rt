@@ -103,7 +103,7 @@ pub fn info_loop<S: Source, K: Sink>(
 }
 
 /// The command with its buffers, or why it doesn't begin.
-pub fn run_info<S: Source, K: Sink>(
+pub(crate) fn run_info<S: Source, K: Sink>(
     alloc: Global,
     settings: &Settings,
     src: &mut S,

@@ -1,6 +1,6 @@
 //! The commands of dvdecc: how each begins, and what it does for each unit of its input.
 //! All share one loop. A command without a report lends it a `NullSink`, and promises its run beside any report. The crate
-//! above, dvd_top, says which command runs, and with which line and status it ends.
+//! above, dvd_top, says with which line and status a run ends.
 #![tactic(auto)]
 
 mod assemble; // scattered recording frames put in order
@@ -10,6 +10,7 @@ mod cd_make; // a CD-ROM sector for each sector of user data
 mod cd_read; // the user data of CD-ROM sectors
 mod convert; // captured blocks in the listed form
 mod deep; // image sectors by rounds, where two passes refuse a block
+mod dispatch; // which command runs
 mod exercise; // blocks that are drawn, damaged and read back
 mod format; // the lines of a physical format
 mod frames; // a scrambled data frame for each sector
@@ -22,19 +23,21 @@ mod opening; // the header that a listed capture opens with
 mod recover; // image sectors from a stream of captured blocks
 mod refusal; // why a command doesn't begin
 mod survey; // a line for each captured block, and a line of totals
-mod workers; // what the workers do for a turn of a command
+mod workers; // what makes the workers, and what they do for a turn of a command
 
-pub use assemble::{assemble_loop, run_assemble};
+pub use assemble::assemble_loop;
 pub use cd_make::cdmake_loop;
 pub use cd_read::cdread_loop;
-pub use convert::{convert_loop, run_convert};
-pub use deep::{deep_loop, run_deep};
-pub use exercise::{exercise_loop, run_exercise};
+pub use convert::convert_loop;
+pub use deep::deep_loop;
+pub use dispatch::perform;
+pub use exercise::exercise_loop;
 pub use frames::frames_loop;
-pub use info::{info_loop, run_info};
-pub use master::{master_loop, run_master};
-pub use merge::{merge_loop, run_merge};
+pub use info::info_loop;
+pub use master::master_loop;
+pub use merge::merge_loop;
 pub use opening::{HeaderEnd, listed_layout};
-pub use recover::{recover_loop, run_recover};
+pub use recover::recover_loop;
 pub use refusal::Refusal;
-pub use survey::{run_survey, survey_loop};
+pub use survey::survey_loop;
+pub use workers::Workers;

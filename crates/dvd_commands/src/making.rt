@@ -11,7 +11,7 @@ ghost use Rattle.dvd_commands.specs.Inner.Making.{IsMadeAs, number_limit};
 
 use cd_sector::make;
 use dvd_frame::{Area, Id, Rule, make_frame};
-use dvd_loop::{LoneTurns, LoopEnd, Turn, follow_lone, read_unit};
+use dvd_loop::{LoneTurns, LoopEnd, Turn, follow_owned, read_unit};
 use dvd_ports::{NullSink, Sink, Source, write_whole};
 
 /// What is made of a sector of 2,048 bytes.
@@ -78,7 +78,7 @@ pub(crate) fn make_each<S: Source, K: Sink>(
         first,
         sectors,
     };
-    follow_lone(making, src, out, &mut NullSink::new())
+    follow_owned(making, src, out, &mut NullSink::new())
 }
 
 // Makes this of one sector and writes it.

@@ -19,12 +19,12 @@ ghost use Rattle.dvd_commands.specs.Inner.Workers.{IsAdder};
 ghost use Rattle.dvd_words.specs.Settings.{IsLayoutOf};
 
 use crate::refusal::Refusal;
-use crate::workers::add_by;
+use crate::workers::{Workers, add_by};
 use dvd_block::{Block, Piece};
 use dvd_control::main_of;
 use dvd_frame::{Area, Scrambler, make_frame_with};
 use dvd_layout::{BlockPlan, Content, Layout, Zones, id_of, rule_of};
-use dvd_loop::{LoneTurns, LoopEnd, Turn, follow_lone, read_unit};
+use dvd_loop::{LoneTurns, LoopEnd, Turn, follow_owned, read_unit};
 use dvd_par::{Gate, add_parity_par};
 use dvd_ports::{NullSink, Sink, Source};
 use dvd_words::{Command, Settings};
@@ -67,14 +67,13 @@ impl<'a, 'r, F: Fn(&mut Block)> LoneTurns for Master<'a, 'r, F> {
         let entry = self.layout.plan(self.zones, u64::from(k));
         let size = image_size(&self.layout, &entry);
         read_image(src, k, self.piece, size)?;
-        fill_block(
-            &self.layout,
-            &entry,
-            &self.cpr,
-            self.piece.bytes(),
-            self.add,
-            self.block,
-        );
+        let given = Mastered {
+            layout: &self.layout,
+            entry: &entry,
+            cpr: &self.cpr,
+            sectors: self.piece.bytes(),
+        };
+        fill_block(&given, self.add, self.block);
         self.block.write_recording(out)?;
         Ok(Turn::Good)
     }
@@ -110,15 +109,14 @@ pub fn master_loop<R: Threads + Sync, S: Source, K: Sink, G: Gate>(
         block,
         piece,
     };
-    follow_lone(master, src, out, &mut NullSink::new())
+    follow_owned(master, src, out, &mut NullSink::new())
 }
 
 /// The command with its buffers, or why it doesn't begin.
-pub fn run_master<R: Threads + Sync, S: Source, K: Sink, G: Gate>(
-    rt: &R,
+pub(crate) fn run_master<R: Threads + Sync, S: Source, K: Sink, G: Gate>(
+    workers: &Workers<'_, R, G>,
     alloc: Global,
     settings: &Settings,
-    gate: &G,
     src: &mut S,
     out: &mut K,
 ) -> Result<LoopEnd, Refusal>
@@ -132,7 +130,14 @@ pub fn run_master<R: Threads + Sync, S: Source, K: Sink, G: Gate>(
     let mut block = Block::new(alloc)?;
     let mut piece = Piece::new(alloc)?;
     Ok(master_loop(
-        rt, settings, &layout, gate, &mut block, &mut piece, src, out,
+        workers.rt,
+        settings,
+        &layout,
+        workers.gate,
+        &mut block,
+        &mut piece,
+        src,
+        out,
     ))
 }
 
@@ -159,54 +164,48 @@ fn read_image<S: Source>(src: &mut S, k: u32, piece: &mut Piece, size: usize) ->
     Ok(())
 }
 
-// Puts the sixteen frames of a block into it, and adds the parity.
-pub(crate) fn fill_block<F: Fn(&mut Block)>(
-    layout: &Layout,
-    entry: &BlockPlan,
-    cpr: &[u8; 6],
-    sectors: &[u8],
-    add: &F,
-    block: &mut Block,
-)
-    requires size { length sectors.now ≡ 32768 }
-    requires entry { IsEntry layout.now entry.now }
-    requires numbers { HasNumbers entry.now }
+/// What a block is mastered of: its entry in the plan of the layout, the six bytes of CPR_MAI, and its image bytes, with zeros
+/// behind them.
+#[derive(Drop)]
+pub(crate) struct Mastered<'a> {
+    pub layout: &'a Layout,
+    pub entry: &'a BlockPlan,
+    pub cpr: &'a [u8; 6],
+    pub sectors: &'a [u8],
+}
+
+/// Puts the sixteen frames of a block into it, and adds the parity.
+pub(crate) fn fill_block<F: Fn(&mut Block)>(given: &Mastered<'_>, add: &F, block: &mut Block)
+    requires size { length given.now.sectors.now ≡ 32768 }
+    requires entry { IsEntry given.now.layout.now given.now.entry.now }
+    requires numbers { HasNumbers given.now.entry.now }
     requires adder { IsAdder F.Fn add.now }
-    ensures { IsBlockOf (frames_of layout.now entry.now cpr.now sectors.now) (block_rows block.new) }
+    ensures { IsBlockOf (frames_of given.now.layout.now given.now.entry.now given.now.cpr.now given.now.sectors.now) (block_rows block.new) }
 {
     // The frames of a block have one preset.
     let mut scrambler = Scrambler::new();
     let mut frame = [0; 2064];
     for f in 0..16 {
-        write_frame(&mut scrambler, layout, entry, cpr, sectors, f, &mut frame);
+        write_frame(&mut scrambler, given, f, &mut frame);
         block.put_frame(f, &frame);
     }
     add_by(add, block);
 }
 
-fn write_frame(
-    scrambler: &mut Scrambler,
-    layout: &Layout,
-    entry: &BlockPlan,
-    cpr: &[u8; 6],
-    sectors: &[u8],
-    f: usize,
-    frame: &mut [u8; 2064],
-)
-    requires size { length sectors.now ≡ 32768 }
-    requires entry { IsEntry layout.now entry.now }
-    requires numbers { HasNumbers entry.now }
+fn write_frame(scrambler: &mut Scrambler, given: &Mastered<'_>, f: usize, frame: &mut [u8; 2064])
+    requires size { length given.now.sectors.now ≡ 32768 }
+    requires entry { IsEntry given.now.layout.now given.now.entry.now }
+    requires numbers { HasNumbers given.now.entry.now }
     requires frame { f < 16 }
-    ensures { frame.new ≡ frame_for layout.now entry.now cpr.now sectors.now f }
+    ensures { frame.new ≡ frame_for given.now.layout.now given.now.entry.now given.now.cpr.now given.now.sectors.now f }
 {
     let mut main = [0; 2048];
-    write_main(layout, entry, sectors, f, &mut main);
-    let id = id_of(entry, layout.dim(), f);
+    write_main(given.layout, given.entry, given.sectors, f, &mut main);
     make_frame_with(
         scrambler,
-        id,
-        &cpr_of(entry.area, cpr),
-        rule_of(entry.content, f),
+        id_of(given.entry, given.layout.dim(), f),
+        &cpr_of(given.entry.area, given.cpr),
+        rule_of(given.entry.content, f),
         &main,
         frame,
     );

@@ -21,7 +21,7 @@ ghost use Rattle.dvd_words.specs.Settings.{IsLayoutOf};
 use crate::refusal::Refusal;
 use dvd_capture::{FetchAnswer, Form, Work, fetch};
 use dvd_layout::{Layout, Zones};
-use dvd_loop::{LoneTurns, LoopEnd, Turn, follow_lone};
+use dvd_loop::{LoneTurns, LoopEnd, Turn, follow_owned};
 use dvd_merge::Merge;
 use dvd_ports::{NullSink, Sink, Source};
 use dvd_words::{Command, Settings};
@@ -92,11 +92,11 @@ pub fn merge_loop<S: Source, K: Sink>(
         merge,
         work,
     };
-    follow_lone(merging, src, out, &mut NullSink::new())
+    follow_owned(merging, src, out, &mut NullSink::new())
 }
 
 /// The command with its buffers, or why it doesn't begin.
-pub fn run_merge<S: Source, K: Sink>(
+pub(crate) fn run_merge<S: Source, K: Sink>(
     alloc: Global,
     settings: &Settings,
     src: &mut S,

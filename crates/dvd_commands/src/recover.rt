@@ -19,13 +19,13 @@ ghost use Rattle.dvd_commands.specs.Performed.{IsPerformed};
 ghost use Rattle.dvd_commands.specs.Inner.Workers.{IsReader};
 ghost use Rattle.dvd_words.specs.Settings.{IsLayoutOf};
 
-use crate::captured::{fetch_block, refuse_block, write_sectors};
+use crate::captured::{Planned, fetch_block, refuse_block, write_sectors};
 use crate::opening::{open_blocks, worded_layout};
 use crate::refusal::Refusal;
-use crate::workers::read_by;
+use crate::workers::{Workers, read_by};
 use dvd_capture::{Form, Work};
 use dvd_layout::{BlockPlan, Content, Layout, Zones};
-use dvd_loop::{LoneTurns, LoopEnd, Turn, follow_lone};
+use dvd_loop::{LoneTurns, LoopEnd, Turn, follow_owned};
 use dvd_par::{Gate, read_block_par};
 use dvd_ports::{Sink, Source};
 use dvd_read::{Cause, Fixed};
@@ -68,7 +68,12 @@ impl<'a, 'r, F: Fn(&mut Work, &BlockPlan) -> Result<Fixed, Cause>> LoneTurns
     ) -> Result<Turn, LoopEnd> {
         let entry = self.layout.plan(self.zones, u64::from(k));
         fetch_block(src, k, self.form, self.work)?;
-        recover_block(&self.layout, k, &entry, self.read, self.work, out, report)
+        let block = Planned {
+            layout: &self.layout,
+            k,
+            entry: &entry,
+        };
+        recover_block(&block, self.read, self.work, out, report)
     }
 }
 
@@ -108,15 +113,14 @@ pub fn recover_loop<R: Threads + Sync, S: Source, K: Sink, E: Sink, G: Gate>(
         read: &read,
         work,
     };
-    follow_lone(recover, src, out, report)
+    follow_owned(recover, src, out, report)
 }
 
 /// The command with its buffers, or why it doesn't begin.
-pub fn run_recover<R: Threads + Sync, S: Source, K: Sink, E: Sink, G: Gate>(
-    rt: &R,
+pub(crate) fn run_recover<R: Threads + Sync, S: Source, K: Sink, E: Sink, G: Gate>(
+    workers: &Workers<'_, R, G>,
     alloc: Global,
     settings: &Settings,
-    gate: &G,
     src: &mut S,
     out: &mut K,
     report: &mut E,
@@ -132,10 +136,10 @@ pub fn run_recover<R: Threads + Sync, S: Source, K: Sink, E: Sink, G: Gate>(
     let mut work = Work::new(alloc)?;
     match open_blocks(settings, worded, src) {
         Ok(stated) => Ok(recover_loop(
-            rt,
+            workers.rt,
             &stated.settings,
             &stated.layout,
-            gate,
+            workers.gate,
             &mut work,
             src,
             out,
@@ -148,30 +152,28 @@ pub fn run_recover<R: Threads + Sync, S: Source, K: Sink, E: Sink, G: Gate>(
 // Decodes a block of image sectors and writes them; or tells its cause and writes those that are saved, and zeros for the
 // others. Any other block is passed over.
 fn recover_block<F: Fn(&mut Work, &BlockPlan) -> Result<Fixed, Cause>, K: Sink, E: Sink>(
-    layout: &Layout,
-    k: u32,
-    entry: &BlockPlan,
+    block: &Planned<'_>,
     read: &F,
     work: &mut Work,
     out: &mut K,
     report: &mut E,
 ) -> Result<Turn, LoopEnd>
     requires reader { IsReader F.Fn read.now }
-    requires numbers { HasNumbers entry.now }
+    requires numbers { HasNumbers block.now.entry.now }
     requires stage { HasBlock (stage_of work.old) }
-    ensures { (source : Seen) → AreDone (IsDone entry.now.content layout.now k entry.now (rows_of work.old) (marks_of_work work.old))
+    ensures { (source : Seen) → AreDone (IsDone block.now.entry.now.content block.now.layout.now block.now.k block.now.entry.now (rows_of work.old) (marks_of_work work.old))
         (streams source (K.seen out.old) (E.seen report.old)) (streams source (K.seen out.new) (E.seen report.new)) result }
 {
-    match entry.content {
+    match block.entry.content {
         Content::Image(_) => {}
         Content::Zero | Content::Reference | Content::Control => return Ok(Turn::Good),
     }
-    let count = layout.image_sectors(entry.content);
-    match read_by(read, work, entry) {
+    let count = block.layout.image_sectors(block.entry.content);
+    match read_by(read, work, block.entry) {
         Ok(_) => {
             write_sectors(work, count, out)?;
             Ok(Turn::Good)
         }
-        Err(cause) => refuse_block(layout, k, entry, &cause, work, out, report),
+        Err(cause) => refuse_block(block, &cause, work, out, report),
     }
 }

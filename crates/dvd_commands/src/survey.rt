@@ -10,7 +10,7 @@ ghost use Rattle.dvd_layout.specs.Plan.{plan_of};
 ghost use Rattle.dvd_layout.specs.declared.layout.Layout.{Layout as DiskLayout};
 ghost use Rattle.dvd_layout.specs.declared.layout.Zones.{Zones as WhichZones};
 ghost use Rattle.dvd_loop.specs.Machine.{IsOutcome};
-ghost use Rattle.dvd_loop.specs.Streams.{streams, HasEnded, no_stream};
+ghost use Rattle.dvd_loop.specs.Streams.{streams, HasEnded};
 ghost use Rattle.dvd_loop.specs.Turns.{AreDone, HaveCausesFor};
 ghost use Rattle.dvd_ports.specs.Seen.{Seen};
 ghost use Rattle.dvd_report.specs.Survey.{StandsFor, surveyed};
@@ -26,10 +26,10 @@ ghost use Rattle.dvd_words.specs.Settings.{IsLayoutOf};
 use crate::captured::fetch_block;
 use crate::opening::{open_blocks, worded_layout};
 use crate::refusal::Refusal;
-use crate::workers::read_by;
+use crate::workers::{Workers, read_by};
 use dvd_capture::{Form, Work};
 use dvd_layout::{BlockPlan, Layout, Zones};
-use dvd_loop::{Behind, LoopEnd, Turn, Turns, follow};
+use dvd_loop::{Behind, LoopEnd, Turn, Turns, follow_owned};
 use dvd_par::{Gate, read_block_par};
 use dvd_ports::{NullSink, Sink, Source};
 use dvd_read::{Cause, Fixed};
@@ -92,6 +92,7 @@ impl<'a, 'r, F: Fn(&mut Work, &BlockPlan) -> Result<Fixed, Cause>> Turns for Sur
 }
 
 /// Surveys every block of the plan of the layout and the zones that the settings choose. The survey has no block before.
+#[tactic(auto, unfolding(crate::specs::Survey::found_in))]
 pub fn survey_loop<R: Threads + Sync, S: Source, K: Sink, G: Gate>(
     rt: &R,
     settings: &Settings,
@@ -120,41 +121,22 @@ pub fn survey_loop<R: Threads + Sync, S: Source, K: Sink, G: Gate>(
             × HasNumbers plan.now }
         ensures { IsBlockRead work.entry.now work.exit.now plan.entry.now result }
     { read_block_par(rt, workers, gate, work, plan) };
-    survey_by(&read, settings, layout, survey, work, src, out)
-}
-
-// The same with what reads a block.
-fn survey_by<'a, F: Fn(&mut Work, &BlockPlan) -> Result<Fixed, Cause>, S: Source, K: Sink>(
-    read: &F,
-    settings: &Settings,
-    layout: &Layout,
-    survey: &'a mut Survey,
-    work: &'a mut Work,
-    src: &mut S,
-    out: &mut K,
-) -> LoopEnd
-    requires reader { IsReader F.Fn read.now }
-    requires empty { StandsFor survey.old [] }
-    ensures { HasEnded (IsOutcome (survey_units layout.now settings.now.zones settings.now.form))
-        (streams (S.seen src.old) (K.seen out.old) no_stream) (streams (S.seen src.new) (K.seen out.new) no_stream) result }
-{
-    let mut surveying = Surveying {
+    let surveying = Surveying {
         layout: *layout,
         zones: settings.zones,
         form: settings.form,
-        read,
+        read: &read,
         survey,
         work,
     };
-    follow(&mut surveying, src, out, &mut NullSink::new())
+    follow_owned(surveying, src, out, &mut NullSink::new())
 }
 
 /// The command with its buffers, or why it doesn't begin.
-pub fn run_survey<R: Threads + Sync, S: Source, K: Sink, G: Gate>(
-    rt: &R,
+pub(crate) fn run_survey<R: Threads + Sync, S: Source, K: Sink, G: Gate>(
+    workers: &Workers<'_, R, G>,
     alloc: Global,
     settings: &Settings,
-    gate: &G,
     src: &mut S,
     out: &mut K,
 ) -> Result<LoopEnd, Refusal>
@@ -169,10 +151,10 @@ pub fn run_survey<R: Threads + Sync, S: Source, K: Sink, G: Gate>(
     let mut work = Work::new(alloc)?;
     match open_blocks(settings, worded, src) {
         Ok(stated) => Ok(survey_loop(
-            rt,
+            workers.rt,
             &stated.settings,
             &stated.layout,
-            gate,
+            workers.gate,
             &mut survey,
             &mut work,
             src,

@@ -14,6 +14,13 @@ use dvd_capture::Work;
 use dvd_layout::BlockPlan;
 use dvd_read::{Cause, Fixed};
 
+/// What makes the workers of a run, and what each of them asks before a piece.
+#[derive(Drop)]
+pub struct Workers<'a, R, G> {
+    pub rt: &'a R,
+    pub gate: &'a G,
+}
+
 /// Reads a captured block as an entry of a plan, as `dvd_read::read_block` does.
 pub(crate) fn read_by<F: Fn(&mut Work, &BlockPlan) -> Result<Fixed, Cause>>(
     read: &F,

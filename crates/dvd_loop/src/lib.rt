@@ -9,7 +9,7 @@ mod reading; // the bytes of one unit
 mod turns; // a command, seen from the loop
 
 pub use ends::{Behind, LoopEnd, Turn};
-pub use lone::{LoneTurns, follow_lone};
-pub use loops::{close, follow};
+pub use lone::LoneTurns;
+pub use loops::{close, follow, follow_owned};
 pub use reading::read_unit;
 pub use turns::Turns;

@@ -1,10 +1,10 @@
 //! A command whose units stand alone: nothing opens or closes them, and the input has to end behind the last.
 ghost use Rattle.std.specs.Prelude.{◌≡◌, ◌<◌};
-ghost use Rattle.dvd_loop.specs.Machine.{IsOutcome, Units};
-ghost use Rattle.dvd_loop.specs.Streams.{streams, HasEnded};
+ghost use Rattle.dvd_loop.specs.Machine.{Units};
+ghost use Rattle.dvd_loop.specs.Streams.{streams};
 ghost use Rattle.dvd_loop.specs.Turns.{StandAlone, TakesLoneTurn};
 
-use crate::{Behind, LoopEnd, Turn, Turns, follow};
+use crate::{Behind, LoopEnd, Turn, Turns};
 use dvd_ports::{Sink, Source};
 
 /// A command whose units stand alone.
@@ -45,25 +45,20 @@ pub trait LoneTurns {
             (streams (S.seen src.new) (K.seen out.new) (E.seen report.new)) result };
 }
 
-// Such a command, seen from the loop.
-#[derive(Drop)]
-struct Lone<P> {
-    command: P,
-}
+// The loop takes it as any other: it opens and closes with nothing, and one byte more is asked for behind its last unit.
+impl<P: LoneTurns> Turns for P {
+    ghost Key = { P.LoneTurns.Key };
 
-impl<P: LoneTurns + Drop> Turns for Lone<P> {
-    ghost Key = { P.Key };
+    ghost key = { P.LoneTurns.key };
 
-    ghost key = { λ lone. P.key lone.command };
+    ghost units = { P.LoneTurns.units };
 
-    ghost units = { λ key. P.units key };
-
-    ghost ready = { λ lone _. P.ready lone.command };
+    ghost ready = { λ command _. P.LoneTurns.ready command };
 
     ghost left = { λ _ _. Unit {0} };
 
     fn count(&self) -> u32 {
-        self.command.count()
+        LoneTurns::count(self)
     }
 
     fn behind(&self) -> Behind {
@@ -81,25 +76,10 @@ impl<P: LoneTurns + Drop> Turns for Lone<P> {
         out: &mut K,
         report: &mut E,
     ) -> Result<Turn, LoopEnd> {
-        self.command.turn(k, src, out, report)
+        LoneTurns::turn(self, k, src, out, report)
     }
 
     fn close<K: Sink, E: Sink>(&self, _out: &mut K, _report: &mut E) -> Result<(), LoopEnd> {
         Ok(())
     }
-}
-
-/// Goes over the units of such a command, and asks for one byte more behind the last.
-pub fn follow_lone<P: LoneTurns + Drop, S: Source, K: Sink, E: Sink>(
-    command: P,
-    src: &mut S,
-    out: &mut K,
-    report: &mut E,
-) -> LoopEnd
-    requires { P.ready command }
-    ensures { HasEnded (IsOutcome (P.units (P.key command)))
-        (streams (S.seen src.old) (K.seen out.old) (E.seen report.old))
-        (streams (S.seen src.new) (K.seen out.new) (E.seen report.new)) result }
-{
-    follow(&mut Lone { command }, src, out, report)
 }

@@ -40,6 +40,22 @@ pub fn follow<C: Turns, S: Source, K: Sink, E: Sink>(
     }
 }
 
+/// The same of a command that is handed over, where nobody asks what it leaves.
+pub fn follow_owned<C: Turns + Drop, S: Source, K: Sink, E: Sink>(
+    command: C,
+    src: &mut S,
+    out: &mut K,
+    report: &mut E,
+) -> LoopEnd
+    requires { C.ready command [] }
+    ensures { HasEnded (IsOutcome (C.units (C.key command)))
+        (streams (S.seen src.old) (K.seen out.old) (E.seen report.old))
+        (streams (S.seen src.new) (K.seen out.new) (E.seen report.new)) result }
+{
+    let mut command = command;
+    follow(&mut command, src, out, report)
+}
+
 // Asks for one byte more, where one is to be asked for.
 fn seek_end<S: Source>(behind: Behind, bad: u32, src: &mut S) -> LoopEnd
     ensures comes { (output report : Seen) → Comes (EndsBehind behind bad)

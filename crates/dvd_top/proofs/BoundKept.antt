@@ -1,5 +1,5 @@
--- A run of recovery, by two passes or by rounds, keeps the bound.
-use Rattle.std.proofs.Common.{◌≡◌, ℕ, ◌+◌, ◌*◌, List, [], ◌∷◌, ◌++◌, take, drop, refl, sym, subst, arith}
+-- A run of recovery keeps the bound, and the good frames of the blocks that two passes refuse.
+use Rattle.std.proofs.Common.{◌≡◌, ◌∙◌, inl, inr, ℕ, ◌+◌, ◌*◌, List, [], ◌∷◌, ◌++◌, take, drop, sym, subst, arith}
 use Rattle.dvd_capture.specs.declared.form.Form.{Form}
 use Rattle.dvd_layout.specs.Content.{image_from}
 use Rattle.dvd_layout.specs.declared.entry.BlockPlan.{BlockPlan}
@@ -11,23 +11,24 @@ use Rattle.dvd_loop.specs.Machine.Step.{Write}
 use Rattle.dvd_loop.specs.Turns.{written}
 use Rattle.dvd_loop.specs.declared.ends.Turn.{Turn}
 use Rattle.dvd_loop.specs.declared.ends.Turn.TheVariants.{Good}
-use Rattle.dvd_top.specs.Bound.{GivesBack, IsBorneBlock, IsRescued, KeepsBound, Rescues}
+use Rattle.dvd_commands.specs.Bound.{GivesBack, IsBorneBlock, IsRescued, KeepsBound, KeepsGoodFrames, Rescues}
 use Rattle.dvd_commands.specs.Captured.{block_bytes}
 use Rattle.dvd_commands.specs.Commands.{GoesOver, meaning}
+use Rattle.dvd_commands.specs.Meaning.{GoesBy}
 use Rattle.dvd_commands.specs.Deep.{IsDeepened}
 use Rattle.dvd_commands.specs.Master.{bytes_of_block, image_bytes, image_part}
 use Rattle.dvd_commands.specs.Recover.{IsRecovered}
-use Rattle.dvd_top.specs.Laws.{BoundIsKept, LoopsKeepTheBound}
+use Rattle.dvd_top.specs.Laws.{BoundIsKept, GoodFramesAreKept, LoopsKeepTheBound}
 use Rattle.dvd_words.specs.Settings.{IsLayoutOf}
 use Rattle.dvd_words.specs.declared.settings.Command.{Command}
-use Rattle.dvd_words.specs.declared.settings.Command.TheVariants.{Frames, Master, Recover, Info, Survey, Exercise, CdMake, CdRead, Merge, Deep, Assemble, Convert}
+use Rattle.dvd_words.specs.declared.settings.Command.TheVariants.{Recover, Deep}
 use Rattle.dvd_words.specs.declared.settings.Settings.{Settings}
 use Rattle.dvd_commands.proofs.CapturedBlocks.{block-whole}
 use Rattle.dvd_top.proofs.OpenedRuns.{after_header}
 use Rattle.dvd_commands.proofs.RecoveredWidths.{IsWide, block_units, deepened-wide, recovered-wide}
 use Rattle.dvd_commands.proofs.AnyEnd.{at_any_end, part-begun}
 use Rattle.dvd_commands.proofs.BorneBlocks.{RepairsBy, repaired, repaired_deep}
-use Rattle.dvd_commands.proofs.ForRuns.{deep_total, recover_total}
+use Rattle.dvd_commands.proofs.ForRuns.{deep_total, loops_keep_good, recover_total}
 use Rattle.dvd_commands.proofs.BlockTurns.{has_turn, length-part, part_there}
 
 -- what may be done for a block that is borne, where damage within the bound is repaired
@@ -84,33 +85,29 @@ units_keep settings command layout is_layout wide total alone is bytes loop runs
           alone bytes cpr image k entry b steps turn (subst (λ word. IsRescued word layout settings.zones settings.form k (block_bytes settings.form bytes k) steps turn) is does);
     }
 
--- so each command that rescues keeps the bound
-kept_by : (settings : Settings) (command : Command) (bytes : List ℕ) (loop : Outcome) → Rescues command → settings.command ≡ command
-    → (meaning command).OfUnits settings (λ units. IsOutcome units bytes loop)
-    → KeepsBound settings bytes loop
-kept_by settings Recover bytes loop rescues is (layout, is_layout, runs) =
+-- so both commands that rescue keep the bound
+kept_by : (settings : Settings) (bytes : List ℕ) (loop : Outcome) → Rescues settings.command → GoesOver settings bytes loop → KeepsBound settings bytes loop
+kept_by settings bytes loop (inl is) goes =
+    let (layout, is_layout, runs) = subst (λ command. GoesBy (meaning command) settings bytes loop) is goes in
     units_keep settings Recover layout is_layout (recovered-wide layout settings.zones settings.form) (recover_total layout settings.zones settings.form)
     (alone IsRecovered repaired layout settings.zones settings.form) is bytes loop runs
-kept_by settings Deep bytes loop rescues is (layout, is_layout, runs) =
+kept_by settings bytes loop (inr is) goes =
+    let (layout, is_layout, runs) = subst (λ command. GoesBy (meaning command) settings bytes loop) is goes in
     units_keep settings Deep layout is_layout (deepened-wide layout settings.zones settings.form) (deep_total layout settings.zones settings.form)
     (alone IsDeepened repaired_deep layout settings.zones settings.form) is bytes loop runs
-kept_by settings Frames bytes loop rescues is holds = absurd rescues
-kept_by settings Master bytes loop rescues is holds = absurd rescues
-kept_by settings Info bytes loop rescues is holds = absurd rescues
-kept_by settings Survey bytes loop rescues is holds = absurd rescues
-kept_by settings Exercise bytes loop rescues is holds = absurd rescues
-kept_by settings CdMake bytes loop rescues is holds = absurd rescues
-kept_by settings CdRead bytes loop rescues is holds = absurd rescues
-kept_by settings Merge bytes loop rescues is holds = absurd rescues
-kept_by settings Assemble bytes loop rescues is holds = absurd rescues
-kept_by settings Convert bytes loop rescues is holds = absurd rescues
 
 -- the law: a loop over the blocks gives back the image sectors of each block that is borne
 pub loops_keep : LoopsKeepTheBound
-loops_keep settings bytes loop rescues goes = kept_by settings settings.command bytes loop rescues refl goes
+loops_keep = kept_by
 
 -- the law: and so does one over a capture with a header
 pub kept : BoundIsKept
 kept settings bytes loop is runs =
     after_header GoesOver KeepsBound loop settings.form settings bytes
     (λ stated left after same loops. loops_keep stated left after (subst Rescues (sym same) is) loops) runs
+
+-- the law: a loop of `recover` gives the good frames of each refused block
+pub kept_good : GoodFramesAreKept
+kept_good settings bytes outcome is runs =
+    after_header GoesOver KeepsGoodFrames outcome settings.form settings bytes
+    (λ stated left after same loops. loops_keep_good stated left after (same ∙ is) loops) runs

@@ -23,6 +23,7 @@ use Rattle.dvd_loop.proofs.Reached.{goes_on}
 use Rattle.dvd_loop.proofs.Sizes.{TakesOne, goes_one}
 use Rattle.dvd_loop.proofs.StepLemmas.{does_all, onto, taken_then}
 use Rattle.dvd_commands.specs.Commands.{GoesOver, meaning}
+use Rattle.dvd_commands.specs.Meaning.{GoesBy}
 use Rattle.dvd_commands.specs.Convert.{convert_units}
 use Rattle.dvd_commands.specs.Recover.{IsDone, IsRecovered, recover_units}
 use Rattle.dvd_top.specs.Laws.{ConvertedIsRead}
@@ -178,8 +179,8 @@ converted_read settings words bytes c a is_convert is_recover listed has lawful 
     let form = settings.form in
     let rule : broken_rule settings ≡ None =
     subst (λ command. (meaning command).breaks settings ≡ None) is_convert (sym (breaks_by_words form has settings) ∙ lawful) in
-    let (layout, is, (opening, header, runs)) =
-    subst (λ command. (meaning command).OfUnits settings (λ units. IsOutcome units bytes c)) is_convert (words_of form has GoesOver settings bytes c conv) in
+    let ((layout, opening), (is, header), runs) =
+    subst (λ command. GoesBy (meaning command) settings bytes c) is_convert (words_of form has GoesOver settings bytes c conv) in
     let (other, so, read) = words_of form has GoesOver (record settings { command = Recover }) bytes a rec in
     let same : other ≡ layout =
     same_lengths-same other layout (so.shape ∙ sym is.shape) (so.sectors0 ∙ sym is.sectors0) (so.sectors1 ∙ sym is.sectors1) (so.initial ∙ sym is.initial) (so.tail ∙ sym is.tail) in
@@ -215,7 +216,7 @@ converted_read settings words bytes c a is_convert is_recover listed has lawful 
     } in
     let kept : broken_rule stated ≡ None = rw (sym sectors, sym sectors1, sym initial, sym tail) rule in
     let goes : GoesOver stated opened.after.out r.again =
-    subst (λ command. (meaning command).OfUnits stated (λ units. IsOutcome units opened.after.out r.again)) (sym is_recover)
+    subst (λ command. GoesBy (meaning command) stated opened.after.out r.again) (sym is_recover)
     (layout, lengths, subst (λ f. IsOutcome (recover_units layout settings.zones f) opened.after.out r.again) (sym listed) r.goes) in
     let run : IsOpened GoesOver words c.out (taking opening r.again) = record {
       own = opening;

@@ -2,7 +2,6 @@
 pub mod BoundKept
 pub mod ConvertedRead
 pub mod Determined
-pub mod GoodFrames
 pub mod MasteredStream
 pub mod OnlyThese
 pub mod OpenedRuns
@@ -10,5 +9,4 @@ pub mod PromisesKept
 pub mod RunEnds
 pub mod RunLemmas
 pub mod SomethingDone
-pub mod UnitsOf
 pub mod WorkersAlike

@@ -12,7 +12,7 @@ use Rattle.dvd_capture.proofs.Headers.{each_byte, header-is, shape-known, zones-
 use Rattle.dvd_layout.specs.declared.fault.LayoutFault.{LayoutFault}
 use Rattle.dvd_layout.specs.declared.layout.Shape.{Shape}
 use Rattle.dvd_layout.specs.declared.layout.Shape.TheVariants.{Single, Parallel, Opposite}
-use Rattle.dvd_loop.specs.Laws.{IsFaultless, IsNotBadMarks}
+use Rattle.dvd_loop.specs.Laws.{IsFaultless}
 use Rattle.dvd_loop.specs.Machine.{Outcome, ended, taking}
 use Rattle.dvd_loop.specs.declared.ends.LoopEnd.TheVariants.{BadHeader, ReadFault, ShortHeader}
 use Rattle.dvd_loop.proofs.Faultless.{not_by_fault}
@@ -22,11 +22,8 @@ use Rattle.dvd_words.specs.Settings.{broken_rule}
 use Rattle.dvd_words.specs.declared.settings.Settings.{Settings}
 use Rattle.dvd_commands.specs.Opening.{AfterHeader, BreaksHeader, IsHeaderOf, IsOpened, Opens, fault_byte, shape_number}
 use Rattle.dvd_commands.proofs.FrameBytes.{IsByte}
+use Rattle.dvd_commands.proofs.OneRun.{AreSame, RunsOnce}
 use Rattle.dvd_commands.proofs.ForRuns.{breaks_once, breaks_or_states, header-size, stated_once, zones_for}
-
--- they are one, but for what was taken of a block that breaks a rule
-abbrev pub AreSame : Outcome → Outcome → Type 0
-AreSame a b = (a.out ≡ b.out) × (a.lines ≡ b.lines) × (a.end ≡ b.end) × (IsNotBadMarks a.end → a.taken ≡ b.taken)
 
 -- equal outcomes are the same
 pub same_as : (a b : Outcome) → a ≡ b → AreSame a b
@@ -105,7 +102,7 @@ too_few bytes own left fewer front full = omega (arith, fewer, ap length front, 
 
 -- What is done is determined, where it is so behind the header.
 module _ (Loops : Runs)
-    (once : (stated : Settings) (left : List ℕ) (a b : Outcome) → Loops stated left a → Loops stated left b → IsFaultless a.end → IsFaultless b.end → AreSame a b)
+    (once : (stated : Settings) (left : List ℕ) → RunsOnce (Loops stated left))
     (settings : Settings) (bytes : List ℕ) (a b : Outcome) (none : IsFaultless a.end) (other : IsFaultless b.end) where
   -- two headers that break a rule break it at one place
   both_bad : OpensBad settings bytes a → OpensBad settings bytes b → AreSame a b

@@ -28,7 +28,8 @@ use Rattle.dvd_top.specs.declared.status.Status.TheVariants as status
 use Rattle.dvd_words.specs.Settings.{IsLayoutOf, broken_rule}
 use Rattle.dvd_words.specs.declared.settings.Command.TheVariants.{Master}
 use Rattle.dvd_words.specs.declared.settings.Settings.{Settings}
-use Rattle.dvd_top.proofs.Determined.{one_layout}
+use Rattle.dvd_commands.proofs.OneRun.{one_layout}
+use Rattle.dvd_commands.specs.Meaning.{GoesBy}
 use Rattle.dvd_top.proofs.MasteredStream.{image_mastered, stream_recovered}
 use Rattle.dvd_top.proofs.RunEnds.{closes_is, in_words}
 use Rattle.std.proofs.lemmas.List.{take_all}
@@ -83,7 +84,7 @@ pub run_masters : (settings : Settings) (old new : Streams) (result : Status) �
     → Masters settings old new result
 run_masters settings old new result plain run layout image is is_layout known size none =
     let goes_over = goes settings old new result run image known none (plain is) in
-    let (own, is_own, runs) = subst (λ c. (meaning c).OfUnits settings (λ units. IsOutcome units image run.loop)) is goes_over in
+    let (own, is_own, runs) = subst (λ c. GoesBy (meaning c) settings image run.loop) is goes_over in
     let over = subst (λ l. IsOutcome (master_units l settings.zones settings.cpr) image run.loop) (one_layout settings own layout is_own is_layout) runs in
     let (stream, is_stream, all) = image_mastered layout settings.zones settings.cpr image run.loop size over (faultless settings old new result run image known none) in
     let (done, moved) = done-moved settings old new result run image known none image stream all in
@@ -120,7 +121,7 @@ capture_recovered layout zones form capture a one rows runs none =
 pub run_recovers : (settings : Settings) (old new : Streams) (result : Status) → IsRun settings old new result → Recovers settings old new result
 run_recovers settings old new result run layout capture is plain is_layout known size none =
     let goes_over = goes settings old new result run capture known none plain in
-    let (own, is_own, runs) = subst (λ c. (meaning c).OfUnits settings (λ units. IsOutcome units capture run.loop)) is goes_over in
+    let (own, is_own, runs) = subst (λ c. GoesBy (meaning c) settings capture run.loop) is goes_over in
     let over = subst (λ l. IsOutcome (recover_units l settings.zones settings.form) capture run.loop) (one_layout settings own layout is_own is_layout) runs in
     let (image, taken, ends) = capture_recovered layout settings.zones settings.form capture run.loop plain size over (faultless settings old new result run capture known none) in
     let status_is : result ≡ status_of run.loop.end = run.is_status ∙ ap status_of (same settings old new result run capture known none) in
@@ -133,7 +134,7 @@ run_recovers settings old new result run layout capture is plain is_layout known
 pub run_gives : (settings : Settings) (old new : Streams) (result : Status) → IsRun settings old new result → GivesImage settings old new result
 run_gives settings old new result run layout cpr image stream is plain is_layout cpr_size size is_stream known none =
     let goes_over = goes settings old new result run stream known none (λ listed. let no : Plain ≡ Listed = sym plain ∙ listed in cc) in
-    let (own, is_own, runs) = subst (λ c. (meaning c).OfUnits settings (λ units. IsOutcome units stream run.loop)) is goes_over in
+    let (own, is_own, runs) = subst (λ c. GoesBy (meaning c) settings stream run.loop) is goes_over in
     let over = subst (λ l. IsOutcome (recover_units l settings.zones settings.form) stream run.loop) (one_layout settings own layout is_own is_layout) runs in
     let back = stream_recovered layout settings.zones cpr image stream run.loop cpr_size size is_stream
     (subst (λ f. IsOutcome (recover_units layout settings.zones f) stream run.loop) plain over) (faultless settings old new result run stream known none) in

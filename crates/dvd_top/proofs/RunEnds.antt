@@ -6,14 +6,14 @@ use Rattle.dvd_ports.proofs.StopLemmas.{rose}
 use Rattle.dvd_capture.specs.declared.form.Form.{Form}
 use Rattle.dvd_capture.specs.declared.form.Form.TheVariants.{Plain, Marked, Listed}
 use Rattle.dvd_loop.specs.Laws.{IsFaultless}
-use Rattle.dvd_loop.specs.Machine.{Closes, Does, IsOutcome, Outcome, ended}
+use Rattle.dvd_loop.specs.Machine.{Closes, Does, Outcome, ended}
 use Rattle.dvd_loop.specs.Machine.Step.{Tell}
 use Rattle.dvd_loop.specs.Streams.{Counts, HaveCauses, SourceCounts, Streams, is_report_fault}
 use Rattle.dvd_loop.specs.declared.ends.LoopEnd.{LoopEnd}
 use Rattle.dvd_loop.specs.declared.ends.LoopEnd.TheVariants.{ReadFault, ReportFault, WriteFault}
 use Rattle.dvd_loop.specs.declared.ends.LoopEnd.TheVariants as ends
 use Rattle.dvd_loop.proofs.Faults.{ends_there}
-use Rattle.dvd_commands.specs.Commands.{GoesOver}
+use Rattle.dvd_commands.specs.Commands.{GoesOver, meaning}
 use Rattle.dvd_top.specs.Headline.{HaveFailed, IsLoop}
 use Rattle.dvd_commands.specs.Opening.{Opens}
 use Rattle.dvd_top.specs.Promises.{NoneFailed}
@@ -23,7 +23,6 @@ use Rattle.dvd_top.specs.declared.status.Status.{Status}
 use Rattle.dvd_top.specs.declared.status.Status.TheVariants as status
 use Rattle.dvd_top.proofs.MasteredStream.{outcome_is}
 use Rattle.dvd_top.proofs.OpenedRuns.{IsAsEnded, opens_there}
-use Rattle.dvd_top.proofs.UnitsOf.{taken_out, units_as}
 
 -- a closing line behind which the end isn't a fault of the report was told whole
 line_is : (closing : LoopEnd → List ℕ) (end : LoopEnd) (line : Outcome) → Does (Tell (closing end) ∷ []) (λ after. after ≡ ended end) line
@@ -42,22 +41,12 @@ pub closes_is : (closing : LoopEnd → List ℕ) (within : LoopEnd) (line : Outc
 closes_is closing ReportFault line is sound = absurd (sound (ap (λ (o : Outcome). o.end) is))
 closes_is closing end line does sound = line_is closing end line does sound
 
--- one outcome is as the other, and no fault ended it
-record IsLike (a b : Outcome) : Type 0 where
-  none : IsFaultless b.end
-  taken : b.taken ≡ a.taken
-  out : b.out ≡ a.out
-  lines : b.lines ≡ a.lines
-
 -- a loop that a failed read ended: over the bytes that it took no fault would have ended it
 goes_there : (settings : Settings) (bytes : List ℕ) (a : Outcome) → GoesOver settings bytes a → a.end ≡ ReadFault → IsAsEnded GoesOver settings a
 goes_there settings bytes a goes failed =
-    let (b, so, like) = taken_out settings.command settings a.taken (IsLike a)
-    (units_as settings.command settings (λ units. IsOutcome units bytes a) (λ units. (b : Outcome) × IsOutcome units a.taken b × IsLike a b)
-    (λ units runs.
-    let (b, so, none, taken, out, lines) = ends_there units bytes a runs failed in
-    (b, so, record { none = none; taken = taken; out = out; lines = lines })) goes) in
-    (b, so, like.none, like.taken, like.out, like.lines)
+    let (subject, has, runs) = goes in
+    let (b, so, none, taken, out, lines) = ends_there ((meaning settings.command).units settings subject) bytes a runs failed in
+    (b, (subject, has, so), none, taken, out, lines)
 
 -- so is one over a capture with a header: over the bytes that it took it ends by no fault, and does all else alike
 pub ended_there : (settings : Settings) (bytes : List ℕ) (loop : Outcome) → IsLoop settings bytes loop → loop.end ≡ ReadFault

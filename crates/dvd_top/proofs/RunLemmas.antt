@@ -20,7 +20,7 @@ use Rattle.dvd_words.specs.declared.settings.Settings.{Settings}
 use Rattle.dvd_top.specs.declared.status.Status.{Status}
 use Rattle.dvd_top.proofs.BoundKept.{kept}
 use Rattle.dvd_commands.proofs.ForRuns.{kept_sectors}
-use Rattle.dvd_top.proofs.GoodFrames.{kept_good}
+use Rattle.dvd_top.proofs.BoundKept.{kept_good}
 use Rattle.dvd_top.proofs.RunEnds.{ended_there, in_words, remembered, risen, sound_end}
 
 -- there is one reading of words at most

@@ -1,64 +1,32 @@
 -- Settings that differ in the number of workers alone have the same loops and the same runs.
-use Rattle.std.proofs.Common.{inl, inr, ℕ, List, ap}
+use Rattle.std.proofs.Common.{inl, inr, ℕ, List}
 use Rattle.dvd_capture.specs.declared.form.Form.{Form}
 use Rattle.dvd_capture.specs.declared.form.Form.TheVariants.{Plain, Marked, Listed}
-use Rattle.dvd_layout.specs.declared.layout.Layout.{Layout}
-use Rattle.dvd_loop.specs.Machine.{Outcome, Units}
+use Rattle.dvd_loop.specs.Machine.{Outcome}
 use Rattle.dvd_loop.specs.Streams.{Streams}
 use Rattle.dvd_commands.specs.CdBound.{IsBorneSector, KeepsSectors}
-use Rattle.dvd_commands.specs.Commands.{GoesOver, meaning}
+use Rattle.dvd_commands.specs.Commands.{GoesOver}
 use Rattle.dvd_top.specs.Headline.{IsLoop, IsRun}
 use Rattle.dvd_top.specs.Laws.{WorkersChangeNothing}
-use Rattle.dvd_commands.specs.Opening.{BreaksHeader, ComesBehind, IsHeaderOf, Opens}
-use Rattle.dvd_words.specs.Settings.{IsLayoutOf}
-use Rattle.dvd_words.specs.declared.settings.Command.{Command}
-use Rattle.dvd_words.specs.declared.settings.Command.TheVariants.{Frames, Master, Recover, Info, Survey, Exercise, CdMake, CdRead, Merge, Deep, Assemble, Convert}
+use Rattle.dvd_commands.specs.Opening.{BreaksHeader, ComesBehind, Opens}
+use Rattle.dvd_commands.proofs.EachCommand.{facts_of}
+use Rattle.dvd_commands.proofs.OtherWorkers.{header_with, set_workers}
 use Rattle.dvd_words.specs.declared.settings.Settings.{Settings}
 use Rattle.dvd_top.specs.declared.status.Status.{Status}
-use Rattle.dvd_top.proofs.BoundKept.{kept}
-use Rattle.dvd_top.proofs.GoodFrames.{kept_good}
-
--- the same settings with so many workers
-abbrev set_workers : ℕ → Settings → Settings
-set_workers workers settings = record settings { workers = workers }
+use Rattle.dvd_top.proofs.BoundKept.{kept, kept_good}
 
 module _ (workers : ℕ) where
-  -- they have the same layout
-  layout_with : (settings : Settings) (layout : Layout) → IsLayoutOf settings layout → IsLayoutOf (set_workers workers settings) layout
-  layout_with settings layout is = record { shape = is.shape; sectors0 = is.sectors0; sectors1 = is.sectors1; initial = is.initial; tail = is.tail }
-
-  -- a header states the same for them
-  header_with : (settings stated : Settings) (own : List ℕ) → IsHeaderOf settings stated own → IsHeaderOf (set_workers workers settings) (set_workers workers stated) own
-  header_with settings stated own is = record {
-    header = is.header;
-    numbers = is.numbers;
-    bytes = is.bytes;
-    states = record { shape = is.states.shape; zones = is.states.zones; all = ap (set_workers workers) is.states.all };
-  }
-
-  -- and breaks the same rules
+  -- a header breaks the same rules
   breaks_with : (settings : Settings) (own : List ℕ) (at : ℕ) → BreaksHeader settings own at → BreaksHeader (set_workers workers settings) own at
   breaks_with settings own at breaks = elim breaks [
     | inl wrong ↦ inl wrong
-    | inr (stated, fault, header, broken, is) ↦ inr (set_workers workers stated, fault, header_with settings stated own header, broken, is)
+    | inr (stated, fault, header, broken, is) ↦ inr (set_workers workers stated, fault, header_with workers settings stated own header, broken, is)
   ]
 
-  -- they have the same units
-  units_with : (command : Command) (settings : Settings) (P : Units → Type 0) → (meaning command).OfUnits settings P
-      → (meaning command).OfUnits (set_workers workers settings) P
-  units_with Frames settings P holds = holds
-  units_with Master settings P holds = (holds.0, layout_with settings holds.0 holds.1, holds.2)
-  units_with Recover settings P holds = (holds.0, layout_with settings holds.0 holds.1, holds.2)
-  units_with Info settings P holds = holds
-  units_with Survey settings P holds = (holds.0, layout_with settings holds.0 holds.1, holds.2)
-  units_with Exercise settings P holds = holds
-  units_with CdMake settings P holds = holds
-  units_with CdRead settings P holds = holds
-  units_with Merge settings P holds = (holds.0, layout_with settings holds.0 holds.1, holds.2)
-  units_with Deep settings P holds = (holds.0, layout_with settings holds.0 holds.1, holds.2)
-  units_with Assemble settings P holds = (holds.0, layout_with settings holds.0 holds.1, holds.2)
-  units_with Convert settings P holds =
-      (holds.0, layout_with settings holds.0 holds.1, (holds.2.0, header_with settings settings holds.2.0 holds.2.1, holds.2.2))
+  -- a loop over the units of their command goes over those of the other
+  goes_with : (settings : Settings) (bytes : List ℕ) (outcome : Outcome) → GoesOver settings bytes outcome
+      → GoesOver (set_workers workers settings) bytes outcome
+  goes_with settings = (facts_of settings.command).alike workers settings
 
   -- so the same comes after a header
   comes_with : (settings : Settings) (own left : List ℕ) (after : Outcome) → ComesBehind GoesOver settings own left after
@@ -67,14 +35,14 @@ module _ (workers : ℕ) where
     | inl fewer ↦ inl fewer
     | inr (full, inl (at, breaks, is)) ↦ inr (full, inl (at, breaks_with settings own at breaks, is))
     | inr (full, inr (stated, header, lawful, goes)) ↦
-        inr (full, inr (set_workers workers stated, header_with settings stated own header, lawful, units_with stated.command stated _ goes))
+        inr (full, inr (set_workers workers stated, header_with workers settings stated own header, lawful, goes_with stated left after goes))
   ]
 
   -- a loop over a capture of any form is one of theirs
   opens_with : (form : Form) (settings : Settings) (bytes : List ℕ) (outcome : Outcome) → Opens form GoesOver settings bytes outcome
       → Opens form GoesOver (set_workers workers settings) bytes outcome
-  opens_with Plain settings bytes outcome goes = units_with settings.command settings _ goes
-  opens_with Marked settings bytes outcome goes = units_with settings.command settings _ goes
+  opens_with Plain settings bytes outcome goes = goes_with settings bytes outcome goes
+  opens_with Marked settings bytes outcome goes = goes_with settings bytes outcome goes
   opens_with Listed settings bytes outcome o = record {
     own = o.own;
     left = o.left;

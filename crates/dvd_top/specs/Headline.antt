@@ -11,7 +11,7 @@ use Rattle.dvd_loop.specs.declared.ends.LoopEnd.TheVariants as ends
 use Rattle.dvd_ports.specs.Causes.{HasFailed, HasGoneOn, HasMetEnd}
 use Rattle.dvd_ports.specs.Seen.{Seen}
 use Rattle.dvd_ports.specs.Whole.{AppendsPrefix}
-use Rattle.dvd_top.specs.Bound.{KeepsBound, KeepsGoodFrames, Rescues}
+use Rattle.dvd_commands.specs.Bound.{KeepsBound, KeepsGoodFrames, Rescues}
 use Rattle.dvd_commands.specs.CdBound.{KeepsSectors}
 use Rattle.dvd_commands.specs.Commands.{GoesOver, breaks}
 use Rattle.dvd_top.specs.Lines.{closing_line, setting_line}

@@ -11,7 +11,7 @@ use Rattle.dvd_loop.specs.Laws.{IsFaultless, IsNotBadMarks, IsOver}
 use Rattle.dvd_loop.specs.Machine.{IsOutcome, Outcome}
 use Rattle.dvd_loop.specs.Streams.{Streams}
 use Rattle.dvd_loop.specs.declared.ends.LoopEnd.TheVariants.{Done}
-use Rattle.dvd_top.specs.Bound.{KeepsBound, KeepsGoodFrames, Rescues}
+use Rattle.dvd_commands.specs.Bound.{KeepsBound, KeepsGoodFrames, Rescues}
 use Rattle.dvd_commands.specs.CdMake.{HasAddresses}
 use Rattle.dvd_commands.specs.Master.{master_units}
 use Rattle.dvd_commands.specs.Recover.{recover_units}

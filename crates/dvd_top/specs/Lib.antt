@@ -1,5 +1,4 @@
 -- What the contracts speak of: what a run does, and what it promises.
-pub mod Bound
 pub mod Headline
 pub mod Laws
 pub mod Lines

@@ -4,8 +4,10 @@ use Rattle.dvd_layout.specs.declared.fault.LayoutFault.{LayoutFault}
 use Rattle.dvd_layout.specs.declared.fault.LayoutFault.TheVariants.{EmptyLayer, OddLayer, SecondLayer, LayerLonger, InitialTooLong, TailTooLong, LayerTooLong}
 use Rattle.dvd_loop.specs.declared.ends.LoopEnd.{LoopEnd}
 use Rattle.dvd_loop.specs.declared.ends.LoopEnd.TheVariants.{Done, ReadFault, WriteFault, ReportFault, Short, Long, Damaged, NoControl, BadMarks, ShortHeader, BadHeader}
-use Rattle.dvd_commands.specs.Commands.{meaning}
+use Rattle.dvd_words.specs.Table.{entry_of}
 use Rattle.dvd_words.specs.declared.settings.Command.{Command}
+use Rattle.dvd_words.specs.declared.table.Unit.{Unit}
+use Rattle.dvd_words.specs.declared.table.Unit.TheVariants.{Sector, Block, Frame}
 
 -- the text of a refused layout
 abbrev pub fault_text : LayoutFault → List ℕ
@@ -21,15 +23,21 @@ fault_text (LayerTooLong layer end) = codes "layer " ++ decimal layer ++ codes "
 abbrev pub setting_line : LayoutFault → List ℕ
 setting_line fault = codes "setting: " ++ fault_text fault ++ codes "\n"
 
+-- what the units of a command are called
+abbrev pub unit_name : Unit → List ℕ
+unit_name Sector = codes "sector"
+unit_name Block = codes "block"
+unit_name Frame = codes "frame"
+
 -- none is tried after a fault of the report
 abbrev pub closing_line : Command → LoopEnd → List ℕ
 closing_line command Done = codes "done\n"
 closing_line command ReadFault = codes "read fault\n"
 closing_line command WriteFault = codes "write fault\n"
 closing_line command ReportFault = []
-closing_line command (Short unit bytes) = codes "short: " ++ (meaning command).unit_name ++ codes " " ++ decimal unit ++ codes ", " ++ decimal bytes ++ codes " bytes\n"
+closing_line command (Short unit bytes) = codes "short: " ++ unit_name (entry_of command).unit ++ codes " " ++ decimal unit ++ codes ", " ++ decimal bytes ++ codes " bytes\n"
 closing_line command Long = codes "long\n"
-closing_line command (Damaged blocks) = codes "damaged: " ++ decimal blocks ++ codes " " ++ (meaning command).unit_name ++ codes "s\n"
+closing_line command (Damaged blocks) = codes "damaged: " ++ decimal blocks ++ codes " " ++ unit_name (entry_of command).unit ++ codes "s\n"
 closing_line command NoControl = codes "no control block\n"
 closing_line command (BadMarks block at) = codes "bad marks: block " ++ decimal block ++ codes ", byte " ++ decimal at ++ codes "\n"
 closing_line command (ShortHeader bytes) = codes "short: header, " ++ decimal bytes ++ codes " bytes\n"

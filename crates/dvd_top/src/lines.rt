@@ -1,12 +1,11 @@
 //! The closing lines of the report.
 ghost use Rattle.std.specs.Prelude.{◌≡◌, ◌+◌, ◌<◌, ◌≤◌, ◌++◌, length, decimal};
-ghost use Rattle.dvd_commands.specs.Commands.{meaning};
-ghost use Rattle.dvd_top.specs.Lines.{closing_line, setting_line, fault_text};
+ghost use Rattle.dvd_top.specs.Lines.{closing_line, setting_line, fault_text, unit_name};
 
 use dvd_layout::LayoutFault;
 use dvd_loop::LoopEnd;
 use dvd_report::Line;
-use dvd_words::Command;
+use dvd_words::{Command, Unit, unit_of};
 
 /// The line that closes the report of a run; empty where the report has failed.
 pub fn close_line(command: Command, end: LoopEnd) -> Line
@@ -20,7 +19,7 @@ pub fn close_line(command: Command, end: LoopEnd) -> Line
         LoopEnd::ReportFault => {}
         LoopEnd::Short { unit, bytes } => {
             line.put(b"short: ");
-            line.put(name_of_unit(command));
+            line.put(name_of(unit_of(command)));
             line.put(b" ");
             line.put_number(u64::from(unit));
             line.put(b", ");
@@ -32,7 +31,7 @@ pub fn close_line(command: Command, end: LoopEnd) -> Line
             line.put(b"damaged: ");
             line.put_number(u64::from(blocks));
             line.put(b" ");
-            line.put(name_of_unit(command));
+            line.put(name_of(unit_of(command)));
             line.put(b"s\n");
         }
         LoopEnd::NoControl => line.put(b"no control block\n"),
@@ -100,21 +99,13 @@ fn put_fault(line: &mut Line, fault: LayoutFault)
     }
 }
 
-fn name_of_unit(command: Command) -> &'static [u8]
-    ensures name { result.now ≡ (meaning command).unit_name }
+fn name_of(unit: Unit) -> &'static [u8]
+    ensures name { result.now ≡ unit_name unit }
     ensures short { length result.now ≤ 6 }
 {
-    match command {
-        Command::Frames => b"sector",
-        Command::Master
-        | Command::Recover
-        | Command::Info
-        | Command::Survey
-        | Command::Exercise
-        | Command::Merge
-        | Command::Deep
-        | Command::Convert => b"block",
-        Command::CdMake | Command::CdRead => b"sector",
-        Command::Assemble => b"frame",
+    match unit {
+        Unit::Sector => b"sector",
+        Unit::Block => b"block",
+        Unit::Frame => b"frame",
     }
 }

@@ -1,20 +1,15 @@
 //! The top call, which does all that the program does.
-ghost use Rattle.std.specs.Prelude.{◌≡◌, map, string_bytes, IsErr};
+ghost use Rattle.std.specs.Prelude.{map, string_bytes};
 ghost use Rattle.dvd_loop.specs.Streams.{streams};
 ghost use Rattle.dvd_top.specs.Headline.{Headline, Reports};
-ghost use Rattle.dvd_commands.specs.Performed.{IsPerformed};
-ghost use Rattle.dvd_words.specs.Reading.{IsLawful};
 
 use crate::lines::{close_line, refused_line};
 use crate::status::Status;
-use dvd_commands::{
-    Refusal, cdmake_loop, cdread_loop, frames_loop, run_assemble, run_convert, run_deep,
-    run_exercise, run_info, run_master, run_merge, run_recover, run_survey,
-};
-use dvd_loop::{LoopEnd, close};
+use dvd_commands::{Refusal, Workers, perform};
+use dvd_loop::close;
 use dvd_par::Gate;
 use dvd_ports::{Sink, Source, WriteFault, write_whole};
-use dvd_words::{Command, Settings, WordsFault, read};
+use dvd_words::{WordsFault, read};
 use std::alloc::Global;
 use std::thread::Threads;
 
@@ -38,7 +33,7 @@ pub fn run<R: Threads + Sync, S: Source, K: Sink, E: Sink, G: Gate>(
     match read(alloc, words) {
         Err(WordsFault::Usage) => refuse(Status::Usage, b"usage\n", report),
         Err(WordsFault::NoMemory) => refuse(Status::NoMemory, b"no memory\n", report),
-        Ok(settings) => match perform(rt, alloc, &settings, gate, src, out, report) {
+        Ok(settings) => match perform(&Workers { rt, gate }, alloc, &settings, src, out, report) {
             Ok(end) => close(end, close_line(settings.command, end).as_slice(), report).into(),
             Err(Refusal::Setting(fault)) => refuse(
                 Status::Setting,
@@ -47,38 +42,6 @@ pub fn run<R: Threads + Sync, S: Source, K: Sink, E: Sink, G: Gate>(
             ),
             Err(Refusal::NoMemory) => refuse(Status::NoMemory, b"no memory\n", report),
         },
-    }
-}
-
-// The loop of the command, or why it doesn't begin.
-fn perform<R: Threads + Sync, S: Source, K: Sink, E: Sink, G: Gate>(
-    rt: &R,
-    alloc: Global,
-    settings: &Settings,
-    gate: &G,
-    src: &mut S,
-    out: &mut K,
-    report: &mut E,
-) -> Result<LoopEnd, Refusal>
-    requires { IsLawful settings.now }
-    ensures performed { IsPerformed settings.now
-        (streams (S.seen src.old) (K.seen out.old) (E.seen report.old))
-        (streams (S.seen src.new) (K.seen out.new) (E.seen report.new)) result }
-    ensures untouched { IsErr result → (src.new ≡ src.old) × (out.new ≡ out.old) × (report.new ≡ report.old) }
-{
-    match settings.command {
-        Command::Frames => Ok(frames_loop(settings, src, out)),
-        Command::Master => run_master(rt, alloc, settings, gate, src, out),
-        Command::Recover => run_recover(rt, alloc, settings, gate, src, out, report),
-        Command::Info => run_info(alloc, settings, src, out),
-        Command::Survey => run_survey(rt, alloc, settings, gate, src, out),
-        Command::Exercise => run_exercise(rt, alloc, settings, gate, src, out),
-        Command::CdMake => Ok(cdmake_loop(settings, src, out)),
-        Command::CdRead => Ok(cdread_loop(settings, src, out, report)),
-        Command::Merge => run_merge(alloc, settings, src, out),
-        Command::Deep => run_deep(alloc, settings, src, out, report),
-        Command::Assemble => run_assemble(alloc, settings, src, out, report),
-        Command::Convert => run_convert(alloc, settings, src, out),
     }
 }
 

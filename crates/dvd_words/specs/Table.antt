@@ -9,6 +9,8 @@ use Rattle.dvd_words.specs.declared.settings.Command.{Command}
 use Rattle.dvd_words.specs.declared.settings.Command.TheVariants.{Frames, Master, Recover, Info, Survey, Exercise, CdMake, CdRead, Merge, Deep, Assemble, Convert}
 use Rattle.dvd_words.specs.declared.table.Limit.{Limit}
 use Rattle.dvd_words.specs.declared.table.Limit.TheVariants.{Any, Numbers, Addresses, Blocks, WholeDisk}
+use Rattle.dvd_words.specs.declared.table.Unit.{Unit}
+use Rattle.dvd_words.specs.declared.table.Unit.TheVariants.{Sector, Block, Frame}
 
 -- `--name` with one value, at most once
 abbrev pub option_rule : Bool → Text → Rule
@@ -26,19 +28,21 @@ may names = map (λ name. option_rule false (codes name)) names
 abbrev pub layout : List String
 layout = "sectors1" ∷ "shape" ∷ "zones" ∷ "initial" ∷ "tail" ∷ []
 
--- The word that names a command, whether it reads listed captures, whether it needs a number of sectors or a listed
+-- The word that names a command, what its units are, whether it reads listed captures, whether it needs a number of sectors or a listed
 -- capture, what its numbers have to keep, and its options.
 pub record Entry : Type 0 where
   pub name : Text
+  pub unit : Unit
   pub takes_listed : Bool
   pub sectors_or_listed : Bool
   pub limit : Limit
   pub options : List Rule
 
 -- an entry in the order of its fields
-abbrev pub row : String → Bool → Bool → Limit → List Rule → Entry
-row name listed or_listed limit options = record {
+abbrev pub row : String → Unit → Bool → Bool → Limit → List Rule → Entry
+row name unit listed or_listed limit options = record {
   name = codes name;
+  unit = unit;
   takes_listed = listed;
   sectors_or_listed = or_listed;
   limit = limit;
@@ -47,20 +51,20 @@ row name listed or_listed limit options = record {
 
 -- the row of each command
 abbrev pub entry_of : Command → Entry
-entry_of Frames = row "frames" false false Numbers (must ("first" ∷ "sectors" ∷ []))
-entry_of Master = row "master" false false Any (must ("sectors" ∷ []) ++ may (layout ++ "workers" ∷ "cpr" ∷ []))
-entry_of Recover = row "recover" true true Any (may ("sectors" ∷ layout ++ "workers" ∷ "form" ∷ []))
-entry_of Info = row "info" true false Any (may ("initial" ∷ "form" ∷ []))
-entry_of Survey = row "survey" true true Any (may ("sectors" ∷ layout ++ "workers" ∷ "form" ∷ []))
-entry_of Exercise = row "exercise" false false Blocks (must ("seed" ∷ "blocks" ∷ []) ++ may ("workers" ∷ []))
-entry_of CdMake = row "cdmake" false false Addresses (must ("address" ∷ "sectors" ∷ []))
-entry_of CdRead = row "cdread" false false Addresses (must ("address" ∷ "sectors" ∷ []))
-entry_of Merge = row "merge" false false Any
+entry_of Frames = row "frames" Sector false false Numbers (must ("first" ∷ "sectors" ∷ []))
+entry_of Master = row "master" Block false false Any (must ("sectors" ∷ []) ++ may (layout ++ "workers" ∷ "cpr" ∷ []))
+entry_of Recover = row "recover" Block true true Any (may ("sectors" ∷ layout ++ "workers" ∷ "form" ∷ []))
+entry_of Info = row "info" Block true false Any (may ("initial" ∷ "form" ∷ []))
+entry_of Survey = row "survey" Block true true Any (may ("sectors" ∷ layout ++ "workers" ∷ "form" ∷ []))
+entry_of Exercise = row "exercise" Block false false Blocks (must ("seed" ∷ "blocks" ∷ []) ++ may ("workers" ∷ []))
+entry_of CdMake = row "cdmake" Sector false false Addresses (must ("address" ∷ "sectors" ∷ []))
+entry_of CdRead = row "cdread" Sector false false Addresses (must ("address" ∷ "sectors" ∷ []))
+entry_of Merge = row "merge" Block false false Any
     (must ("sectors" ∷ []) ++ may (layout ++ "form" ∷ []) ++ must ("captures" ∷ []))
-entry_of Deep = row "deep" true true Any (may ("sectors" ∷ layout ++ "form" ∷ []))
-entry_of Assemble = row "assemble" false false WholeDisk
+entry_of Deep = row "deep" Block true true Any (may ("sectors" ∷ layout ++ "form" ∷ []))
+entry_of Assemble = row "assemble" Frame false false WholeDisk
     (must ("sectors" ∷ "frames" ∷ []) ++ may ("sectors1" ∷ "shape" ∷ "form" ∷ []))
-entry_of Convert = row "convert" false false Any (must ("sectors" ∷ []) ++ may (layout ++ "form" ∷ []))
+entry_of Convert = row "convert" Block false false Any (must ("sectors" ∷ []) ++ may (layout ++ "form" ∷ []))
 
 -- the commands
 abbrev pub all : List Command

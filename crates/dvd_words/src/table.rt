@@ -13,6 +13,8 @@ pub struct CommandSpec<'a> {
     pub command: Command,
     /// The word that names it.
     pub name: &'a str,
+    /// What it goes over.
+    pub unit: Unit,
     /// Whether it reads listed captures.
     pub takes_listed: bool,
     /// Whether it needs a number of sectors or a listed capture, which states it.
@@ -29,6 +31,17 @@ pub struct OptionSpec<'a> {
     pub name: &'a str,
     /// Whether the command needs it.
     pub is_required: bool,
+}
+
+/// What a command goes over, one by one.
+#[derive(Clone, Copy, Debug, PartialEq, Eq)]
+pub enum Unit {
+    /// Sectors of 2,048 or of 2,352 bytes.
+    Sector,
+    /// ECC blocks.
+    Block,
+    /// Captured recording frames.
+    Frame,
 }
 
 /// What the numbers of a command have to keep, beside the range that each has by itself.
@@ -48,12 +61,13 @@ pub enum Limit {
 
 macro_rules! rows {
     ($(
-        $command:ident $name:ident $takes_listed:literal $sectors_or_listed:literal $limit:ident
+        $command:ident $name:ident $unit:ident $takes_listed:literal $sectors_or_listed:literal $limit:ident
         $($kind:ident [$($option:ident)*])*;
     )*) => {
         [$(CommandSpec {
             command: Command::$command,
             name: stringify!($name),
+            unit: Unit::$unit,
             takes_listed: $takes_listed,
             sectors_or_listed: $sectors_or_listed,
             limit: Limit::$limit,
@@ -67,22 +81,22 @@ macro_rules! is_must {
     (may) => { false };
 }
 
-// Command, word, takes_listed, sectors_or_listed, limit, and the options that must stand and those that may.
+// Command, word, unit, takes_listed, sectors_or_listed, limit, and the options that must stand and those that may.
 // No definition can name a constant that holds references: so specs/Table.antt has the same rows, and `spec_of` is proved to
 // give these.
 static COMMANDS: [CommandSpec<'static>; 12] = rows! {
-    Frames   frames   false false Numbers   must [first sectors];
-    Master   master   false false Any       must [sectors] may [sectors1 shape zones initial tail workers cpr];
-    Recover  recover  true  true  Any       may [sectors sectors1 shape zones initial tail workers form];
-    Info     info     true  false Any       may [initial form];
-    Survey   survey   true  true  Any       may [sectors sectors1 shape zones initial tail workers form];
-    Exercise exercise false false Blocks    must [seed blocks] may [workers];
-    CdMake   cdmake   false false Addresses must [address sectors];
-    CdRead   cdread   false false Addresses must [address sectors];
-    Merge    merge    false false Any       must [sectors] may [sectors1 shape zones initial tail form] must [captures];
-    Deep     deep     true  true  Any       may [sectors sectors1 shape zones initial tail form];
-    Assemble assemble false false WholeDisk must [sectors frames] may [sectors1 shape form];
-    Convert  convert  false false Any       must [sectors] may [sectors1 shape zones initial tail form];
+    Frames   frames   Sector false false Numbers   must [first sectors];
+    Master   master   Block  false false Any       must [sectors] may [sectors1 shape zones initial tail workers cpr];
+    Recover  recover  Block  true  true  Any       may [sectors sectors1 shape zones initial tail workers form];
+    Info     info     Block  true  false Any       may [initial form];
+    Survey   survey   Block  true  true  Any       may [sectors sectors1 shape zones initial tail workers form];
+    Exercise exercise Block  false false Blocks    must [seed blocks] may [workers];
+    CdMake   cdmake   Sector false false Addresses must [address sectors];
+    CdRead   cdread   Sector false false Addresses must [address sectors];
+    Merge    merge    Block  false false Any       must [sectors] may [sectors1 shape zones initial tail form] must [captures];
+    Deep     deep     Block  true  true  Any       may [sectors sectors1 shape zones initial tail form];
+    Assemble assemble Frame  false false WholeDisk must [sectors frames] may [sectors1 shape form];
+    Convert  convert  Block  false false Any       must [sectors] may [sectors1 shape zones initial tail form];
 };
 
 /// The row of a command.
@@ -90,6 +104,13 @@ pub fn spec_of<'a>(command: Command) -> &'a CommandSpec<'a>
     ensures { entry result.now ≡ entry_of command }
 {
     &COMMANDS[command as usize]
+}
+
+/// What a command goes over.
+pub fn unit_of(command: Command) -> Unit
+    ensures { result ≡ (entry_of command).unit }
+{
+    spec_of(command).unit
 }
 
 /// The command that a word names.

@@ -22,6 +22,7 @@ use Rattle.dvd_loop.proofs.Apart.{takes_sized}
 use Rattle.dvd_loop.proofs.Sizes.{begins_somehow, sized_whole}
 use Rattle.dvd_commands.specs.CdBound.{GivesUserData, IsBorneSector, cd_sector_bytes}
 use Rattle.dvd_commands.specs.Commands.{meaning}
+use Rattle.dvd_commands.specs.Meaning.{GoesBy}
 use Rattle.dvd_commands.specs.CdRead.{IsSectorRead, cdread_units, user_data}
 use Rattle.dvd_commands.specs.Laws.{BorneSectorsAreKept}
 use Rattle.dvd_words.specs.declared.settings.Settings.{Settings}
@@ -146,7 +147,7 @@ cdread_total address sectors = record {
 pub kept_sectors : BorneSectorsAreKept
 kept_sectors settings bytes loop is goes =
     let units = cdread_units settings.address settings.sectors in
-    let runs : IsOutcome units bytes loop = subst (λ command. (meaning command).OfUnits settings (λ u. IsOutcome u bytes loop)) is goes in
+    let (subject, has, runs) = subst (λ command. GoesBy (meaning command) settings bytes loop) is goes in
     let any = at_any_end (GivesUserData settings) units (cdread_total settings.address settings.sectors) (λ own a loops none. at_place settings own a loops none) bytes loop runs in
     record {
       at_place = any.at_place;

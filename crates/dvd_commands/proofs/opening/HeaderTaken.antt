@@ -5,13 +5,14 @@ use Rattle.dvd_capture.specs.Captured.{HasSize}
 use Rattle.dvd_capture.specs.declared.form.Form.{Form}
 use Rattle.dvd_capture.specs.declared.form.Form.TheVariants.{Plain, Marked, Listed}
 use Rattle.dvd_layout.specs.declared.layout.Layout.{Layout}
-use Rattle.dvd_loop.specs.Machine.{Outcome, ended, taking, IsOutcome, Units}
+use Rattle.dvd_loop.specs.Machine.{Outcome, ended, taking, IsOutcome}
 use Rattle.dvd_loop.specs.Streams.{HasEnded, HaveCauses, HaveGoneOn, Streams, streams}
 use Rattle.dvd_loop.specs.declared.ends.LoopEnd.{LoopEnd}
 use Rattle.dvd_loop.proofs.StreamLemmas.{causes_first, comes_after, ended_as, told_before}
 use Rattle.dvd_ports.specs.Seen.{Seen}
 use Rattle.dvd_ports.proofs.KnownLemmas.{Appends-none}
 use Rattle.dvd_commands.specs.Commands.{GoesOver, breaks_in, meaning}
+use Rattle.dvd_commands.specs.Meaning.{GoesBy}
 use Rattle.dvd_commands.specs.Inner.Opened.{EndsInHeader, HasBegun, HasOpened, NoLoop}
 use Rattle.dvd_commands.specs.Performed.{HasGoneOver, HasLooped}
 use Rattle.dvd_commands.specs.Opening.{ComesBehind, IsOpened, Opens}
@@ -41,19 +42,21 @@ breaks_by_words Listed sized settings = absurd (sized refl)
 
 -- A loop over the units that a command has by its settings goes over them,
 pub goes_over : (command : Command) (settings : Settings) → settings.command ≡ command
-    → (units : Units) → ((P : Units → Type 0) → P units → (meaning command).OfUnits settings P)
-    → (old new : Streams) (end : LoopEnd) → HasEnded (IsOutcome units) old new end → HasEnded (GoesOver settings) old new end
-goes_over command settings is units has old new end =
-    ended_as (IsOutcome units) (GoesOver settings) old new end
-    (λ bytes outcome runs. subst (λ c. (meaning c).OfUnits settings (λ u. IsOutcome u bytes outcome)) (sym is) (has (λ u. IsOutcome u bytes outcome) runs))
+    → (subject : (meaning command).Subject) → (meaning command).IsSubject settings subject
+    → (old new : Streams) (end : LoopEnd) → HasEnded (IsOutcome ((meaning command).units settings subject)) old new end
+    → HasEnded (GoesOver settings) old new end
+goes_over command settings is subject has old new end =
+    ended_as (IsOutcome ((meaning command).units settings subject)) (GoesOver settings) old new end
+    (λ bytes outcome runs. subst (λ c. GoesBy (meaning c) settings bytes outcome) (sym is) (subject, has, runs))
 
 -- so that this is all that the command does, where it breaks no rule
 pub gone_over : (command : Command) (settings : Settings) → settings.command ≡ command → (meaning command).breaks settings ≡ None
-    → (units : Units) → ((P : Units → Type 0) → P units → (meaning command).OfUnits settings P)
-    → (old new : Streams) (end : LoopEnd) → HasEnded (IsOutcome units) old new end → HasGoneOver settings old new end
-gone_over command settings is lawful units has old new end ended = record {
+    → (subject : (meaning command).Subject) → (meaning command).IsSubject settings subject
+    → (old new : Streams) (end : LoopEnd) → HasEnded (IsOutcome ((meaning command).units settings subject)) old new end
+    → HasGoneOver settings old new end
+gone_over command settings is lawful subject has old new end ended = record {
   lawful = subst (λ c. (meaning c).breaks settings ≡ None) (sym is) lawful;
-  loop = goes_over command settings is units has old new end ended;
+  loop = goes_over command settings is subject has old new end ended;
 }
 
 -- and a command that has gone over its units has run
@@ -68,10 +71,11 @@ looped_by_words settings sized old new end gone = record {
 pub opened_over : (command : Command) (settings stated : Settings) (layout : Layout) → settings.command ≡ command
     → (old read output report : Seen) (new : Streams) (end : LoopEnd) → HasOpened settings old read stated layout
     → HaveGoneOn (streams old output report) (streams read output report)
-    → (units : Units) → ((P : Units → Type 0) → P units → (meaning command).OfUnits stated P)
-    → HasEnded (IsOutcome units) (streams read output report) new end → HasEnded (IsOpened GoesOver settings) (streams old output report) new end
-opened_over command settings stated layout is old read output report new end opened causes units has ended =
-    let over = goes_over command stated (ap (λ s. s.command) opened.header.states.all ∙ is) units has (streams read output report) new end ended in record {
+    → (subject : (meaning command).Subject) → (meaning command).IsSubject stated subject
+    → HasEnded (IsOutcome ((meaning command).units stated subject)) (streams read output report) new end
+    → HasEnded (IsOpened GoesOver settings) (streams old output report) new end
+opened_over command settings stated layout is old read output report new end opened causes subject has ended =
+    let over = goes_over command stated (ap (λ s. s.command) opened.header.states.all ∙ is) subject has (streams read output report) new end ended in record {
       comes = comes_after (GoesOver stated) (IsOpened GoesOver settings) (streams old output report) (streams read output report) new end opened.own [] []
           (record { reads = opened.reads; writes = Appends-none output.bytes; tells = Appends-none report.bytes })
           (λ left after holds. record {
@@ -133,15 +137,18 @@ pub looped_over : (command : Command) (settings stated : Settings) (layout : Lay
     → (broken_rule settings ≡ None → (meaning command).breaks settings ≡ None)
     → (old read output report : Seen) (new : Streams) (end : LoopEnd) → HasBegun settings old read stated layout
     → HaveGoneOn (streams old output report) (streams read output report)
-    → (units : Units) → ((P : Units → Type 0) → P units → (meaning command).OfUnits stated P)
-    → HasEnded (IsOutcome units) (streams read output report) new end → HasLooped settings (streams old output report) new end
-looped_over command settings stated layout is lawful old read output report new end (inl (sized, unbroken, same, unread)) causes units has ended =
+    → (subject : (meaning command).Subject) → (meaning command).IsSubject stated subject
+    → HasEnded (IsOutcome ((meaning command).units stated subject)) (streams read output report) new end
+    → HasLooped settings (streams old output report) new end
+looped_over command settings stated layout is lawful old read output report new end (inl (sized, unbroken, same, unread)) causes subject has ended =
+    let m = meaning command in
     looped_by_words settings sized (streams old output report) new end
-    (gone_over command settings is (lawful unbroken) units (λ P holds. subst (λ s. (meaning command).OfUnits s P) same (has P holds))
-    (streams old output report) new end (subst (λ seen. HasEnded (IsOutcome units) (streams seen output report) new end) unread ended))
-looped_over command settings stated layout is lawful old read output report new end (inr (listed, opened)) causes units has ended =
+    (gone_over command settings is (lawful unbroken) subject (subst (λ s. m.IsSubject s subject) same has) (streams old output report) new end
+    (subst (λ s. HasEnded (IsOutcome (m.units s subject)) (streams old output report) new end) same
+    (subst (λ seen. HasEnded (IsOutcome (m.units stated subject)) (streams seen output report) new end) unread ended)))
+looped_over command settings stated layout is lawful old read output report new end (inr (listed, opened)) causes subject has ended =
     looped_listed settings listed (streams old output report) new end
-    (opened_over command settings stated layout is old read output report new end opened causes units has ended)
+    (opened_over command settings stated layout is old read output report new end opened causes subject has ended)
 
 -- and so has one that ended in the header of its capture
 pub looped_no_further : (settings : Settings) (old read output report : Seen) (end : LoopEnd)

@@ -15,6 +15,7 @@ rule option = option_rule option.is_required option.name.now
 abbrev pub entry : CommandSpec → Entry
 entry row = record {
   name = row.name.now;
+  unit = row.unit;
   options = map rule row.options.now;
   takes_listed = row.takes_listed;
   sectors_or_listed = row.sectors_or_listed;

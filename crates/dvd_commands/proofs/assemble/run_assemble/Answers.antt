@@ -1,6 +1,5 @@
 -- The proof of `run_assemble` in src/assemble.rt.
 use Rattle.std.proofs.Common.{refl, arith}
-use Rattle.dvd_commands.specs.Assemble.{assemble_units}
 use Rattle.dvd_commands.proofs.assemble.Frames.{blocks_few}
 use Rattle.dvd_words.specs.declared.settings.Command.TheVariants.{Assemble}
 use Rattle.dvd_commands.proofs.opening.HeaderTaken.{gone_over}
@@ -10,7 +9,7 @@ pub returns-clause-performed : goal.returns-clause-performed
 returns-clause-performed g c =
     let settings = c.args.settings.now in
     let layout = c.in_ok-layout.layout in
-    gone_over Assemble settings c.requires.command (c.in_ok-layout.ensures.lawful refl) (assemble_units layout settings.form settings.frames) (λ P units. (layout, c.in_ok-layout.ensures.lengths, units))
+    gone_over Assemble settings c.requires.command (c.in_ok-layout.ensures.lawful refl) layout c.in_ok-layout.ensures.lengths
     _ _ c.assemble_loop.result c.assemble_loop.ensures.follows
 
 pub overflow_cast-blocks : goal.overflow_cast-blocks

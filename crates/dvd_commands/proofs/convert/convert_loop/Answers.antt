@@ -6,7 +6,7 @@ use Rattle.dvd_loop.specs.Machine.{IsOutcome}
 use Rattle.dvd_loop.proofs.LoopEnds.{never_told, plain_end}
 use Rattle.dvd_loop.proofs.Silent.{AreWrites, beside, one_write}
 use Rattle.dvd_loop.proofs.StreamLemmas.{ended_as}
-use Rattle.dvd_commands.specs.Convert.{OfConverted, convert_units}
+use Rattle.dvd_commands.specs.Convert.{Converts, convert_units}
 use Rattle.dvd_commands.proofs.convert.Blocks.{sized_part}
 use Rattle.dvd_commands.proofs.convert.convert_loop.Goals as goal
 
@@ -16,7 +16,7 @@ returns-clause-follows g c = λ report.
     let layout = c.args.layout.now in
     let opening = header_bytes c.header_of.result in
     let units = convert_units layout settings.zones settings.form opening in
-    ended_as (IsOutcome units) (λ bytes outcome. OfConverted settings layout (λ units. IsOutcome units bytes outcome)) _ _ c.follow.result
+    ended_as (IsOutcome units) (Converts settings layout) _ _ c.follow.result
     (λ bytes outcome runs. (opening, c.header_of.ensures settings c.requires.layout refl, runs))
     (beside units
     (record {

@@ -1,9 +1,9 @@
 -- The proof of `run_convert` in src/convert.rt.
 use Rattle.std.proofs.Common.{◌≡◌, None, refl, sym, subst}
-use Rattle.dvd_loop.specs.Machine.{IsOutcome}
 use Rattle.dvd_loop.proofs.StreamLemmas.{ended_as}
 use Rattle.dvd_commands.specs.Commands.{GoesOver, meaning}
-use Rattle.dvd_commands.specs.Convert.{OfConverted}
+use Rattle.dvd_commands.specs.Meaning.{GoesBy}
+use Rattle.dvd_commands.specs.Convert.{Converts}
 use Rattle.dvd_commands.proofs.convert.run_convert.Goals as goal
 
 pub returns-clause-performed : goal.returns-clause-performed
@@ -11,7 +11,9 @@ returns-clause-performed g c = λ report.
     let settings = c.args.settings.now in
     let layout = c.in_ok-layout.layout in record {
       lawful = subst (λ command. (meaning command).breaks settings ≡ None) (sym c.requires.command) (c.in_ok-layout.ensures.lawful refl);
-      loop = ended_as (λ bytes outcome. OfConverted settings layout (λ units. IsOutcome units bytes outcome)) (GoesOver settings) _ _ c.convert_loop.result
-          (λ bytes outcome runs. subst (λ command. (meaning command).OfUnits settings (λ units. IsOutcome units bytes outcome)) (sym c.requires.command) (layout, c.in_ok-layout.ensures.lengths, runs))
+      loop = ended_as (Converts settings layout) (GoesOver settings) _ _ c.convert_loop.result
+          (λ bytes outcome converts.
+          let (opening, header, runs) = converts in
+          subst (λ command. GoesBy (meaning command) settings bytes outcome) (sym c.requires.command) ((layout, opening), (c.in_ok-layout.ensures.lengths, header), runs))
           (c.convert_loop.ensures.follows report);
     }

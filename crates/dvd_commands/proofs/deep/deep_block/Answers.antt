@@ -17,7 +17,7 @@ use Rattle.dvd_commands.proofs.TwoSteps.{done_as}
 use Rattle.dvd_commands.proofs.deep.deep_block.Goals as goal
 
 pub returns-in-Zero : goal.returns-in-Zero
-returns-in-Zero g c = λ source. no_image _ c.args.entry.now.content c.in-Zero.is _
+returns-in-Zero g c = λ source. no_image _ c.args.block.now.entry.now.content c.in-Zero.is _
 
 pub returns-in_err-write_sectors-in-Ok : goal.returns-in_err-write_sectors-in-Ok
 returns-in_err-write_sectors-in-Ok g c = λ source.
@@ -26,7 +26,7 @@ returns-in_err-write_sectors-in-Ok g c = λ source.
     let new_output = g.K.Sink.seen c.write_sectors.new.out in
     let sectors = sectors_of c.read_block.new.work in
     an_image _ _ _ c.in-Image.is _ _ _
-    (write_begun _ _ _ (read_given c.args.layout.now c.args.k c.args.entry.now (rows_of work) (marks_of_work work) sectors (rows-height work.received) (marks-height work.marks) c.in-Ok.ensures.read)
+    (write_begun _ _ _ (read_given c.args.block.now.layout.now c.args.block.now.k c.args.block.now.entry.now (rows_of work) (marks_of_work work) sectors (rows-height work.received) (marks-height work.marks) c.in-Ok.ensures.read)
     source output new_output (g.E.Sink.seen c.args.report.now) c.from_residual.result (err_is c.from_residual.result WriteFault c.from_residual.ensures.1)
     (subst (λ n. AppendsPrefix output.bytes new_output.bytes (sectors_out n sectors)) c.image_sectors-count.ensures.value c.in_err-write_sectors-in-Ok.ensures.begun)
     c.in_err-write_sectors-in-Ok.ensures.cause.failed)
@@ -38,15 +38,15 @@ returns-in_ok-write_sectors-in-Ok g c = λ source.
     let new_output = g.K.Sink.seen c.write_sectors.new.out in
     let sectors = sectors_of c.read_block.new.work in
     an_image _ _ _ c.in-Image.is _ _ _
-    (write_done _ _ _ (read_given c.args.layout.now c.args.k c.args.entry.now (rows_of work) (marks_of_work work) sectors (rows-height work.received) (marks-height work.marks) c.in-Ok.ensures.read)
+    (write_done _ _ _ (read_given c.args.block.now.layout.now c.args.block.now.k c.args.block.now.entry.now (rows_of work) (marks_of_work work) sectors (rows-height work.received) (marks-height work.marks) c.in-Ok.ensures.read)
     source output new_output (g.E.Sink.seen c.args.report.now)
     (subst (λ n. Appends output.bytes new_output.bytes (sectors_out n sectors)) c.image_sectors-count.ensures.value c.in_ok-write_sectors-in-Ok.ensures.written)
     c.in_ok-write_sectors-in-Ok.ensures.cause.steady)
 
 pub returns-in-Ok-search_block : goal.returns-in-Ok-search_block
 returns-in-Ok-search_block g c = λ source.
-    let layout = c.args.layout.now in
-    let entry = c.args.entry.now in
+    let layout = c.args.block.now.layout.now in
+    let entry = c.args.block.now.entry.now in
     let work = c.args.work.now in
     let bytes : List ℕ = piece_bytes c.search_block.new.piece in
     let round = c.in-Ok-search_block.round in
@@ -54,15 +54,15 @@ returns-in-Ok-search_block g c = λ source.
     (c.in-Ok-search_block.ensures.found layout) in
     an_image _ _ _ c.in-Image.is _ _ _
     (done_as _ _
-    (found_given layout c.args.k entry (rows_of work) (marks_of_work work) bytes _ round found
+    (found_given layout c.args.block.now.k entry (rows_of work) (marks_of_work work) bytes _ round found
     (ap (take (2048 * c.image_sectors-count.result)) c.bytes.ensures.bytes ∙ ap (λ (n : ℕ). take (2048 * n) bytes) c.image_sectors-count.ensures.value))
     (streams source (g.K.Sink.seen c.args.out.now) (g.E.Sink.seen c.args.report.now))
     (streams source (g.K.Sink.seen c.give_back.new.out) (g.E.Sink.seen c.give_back.new.report)) c.give_back.result (c.give_back.ensures source))
 
 pub returns-in-Err-search_block : goal.returns-in-Err-search_block
 returns-in-Err-search_block g c = λ source.
-    let layout = c.args.layout.now in
-    let entry = c.args.entry.now in
+    let layout = c.args.block.now.layout.now in
+    let entry = c.args.block.now.entry.now in
     let work = c.args.work.now in
     let cause = c.in-Err-search_block.cause in
     let first = same_work (λ rows marks. deep_cause rows marks entry ≡ Some cause) work c.read_block.new.work c.read_block.ensures.received c.read_block.ensures.marks
@@ -70,7 +70,7 @@ returns-in-Err-search_block g c = λ source.
     an_image _ _ _ c.in-Image.is _ _ _
     (done_as _ _
     (λ steps turn is.
-    inr (refused layout c.args.k entry (rows_of work) (marks_of_work work) _ cause first steps turn
-    (same_work (λ rows marks. IsRefusedFor layout c.args.k entry rows marks cause steps turn) work c.read_block.new.work c.read_block.ensures.received c.read_block.ensures.marks is)))
+    inr (refused layout c.args.block.now.k entry (rows_of work) (marks_of_work work) _ cause first steps turn
+    (same_work (λ rows marks. IsRefusedFor layout c.args.block.now.k entry rows marks cause steps turn) work c.read_block.new.work c.read_block.ensures.received c.read_block.ensures.marks is)))
     (streams source (g.K.Sink.seen c.args.out.now) (g.E.Sink.seen c.args.report.now))
     (streams source (g.K.Sink.seen c.refuse_block.new.out) (g.E.Sink.seen c.refuse_block.new.report)) c.refuse_block.result (c.refuse_block.ensures source))

@@ -1,5 +1,4 @@
 -- The proof of `run_deep` in src/deep.rt.
-use Rattle.dvd_commands.specs.Deep.{deep_units}
 use Rattle.dvd_words.specs.declared.settings.Command.TheVariants.{Deep}
 use Rattle.dvd_commands.proofs.opening.HeaderTaken.{looped_no_further, looped_over}
 use Rattle.dvd_commands.proofs.deep.run_deep.Goals as goal
@@ -10,7 +9,7 @@ returns-in-Ok-clause-performed g c =
     let layout = c.in-Ok.stated.layout in
     let e = c.in-Ok.ensures in
     looped_over Deep c.args.settings.now stated layout c.requires (λ unbroken. unbroken) _ _ _ _ _ c.deep_loop.result e.begun (e.causes _ _)
-    (deep_units layout stated.zones stated.form) (λ P units. (layout, e.layout, units)) c.deep_loop.ensures.follows
+    layout e.layout c.deep_loop.ensures.follows
 
 pub returns-clause-performed : goal.returns-clause-performed
 returns-clause-performed g c = looped_no_further c.args.settings.now _ _ _ _ c.in-Err.end c.in-Err.ensures.ended (c.in-Err.ensures.causes _ _)

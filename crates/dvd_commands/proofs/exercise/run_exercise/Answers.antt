@@ -1,6 +1,5 @@
 -- The proof of `run_exercise` in src/exercise.rt.
 use Rattle.std.proofs.Common.{refl}
-use Rattle.dvd_commands.specs.Exercise.{exercise_units}
 use Rattle.dvd_words.specs.declared.settings.Command.TheVariants.{Exercise}
 use Rattle.dvd_commands.proofs.opening.HeaderTaken.{gone_over}
 use Rattle.dvd_commands.proofs.exercise.run_exercise.Goals as goal
@@ -8,5 +7,5 @@ use Rattle.dvd_commands.proofs.exercise.run_exercise.Goals as goal
 pub returns-clause-performed : goal.returns-clause-performed
 returns-clause-performed g c = λ report.
     let settings = c.args.settings.now in
-    gone_over Exercise settings c.requires.command refl (exercise_units settings.seed settings.blocks) (λ P units. units)
+    gone_over Exercise settings c.requires.command refl tt tt
     _ _ c.follow_trials.result (c.follow_trials.ensures.follows report)

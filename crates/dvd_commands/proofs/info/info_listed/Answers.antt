@@ -1,5 +1,4 @@
 -- The proof of `info_listed` in src/info.rt.
-use Rattle.dvd_commands.specs.Info.{info_units}
 use Rattle.dvd_commands.specs.Commands.{GoesOver}
 use Rattle.dvd_words.specs.declared.settings.Command.TheVariants.{Info}
 use Rattle.dvd_commands.proofs.opening.HeaderTaken.{opened_ended, opened_over}
@@ -11,7 +10,7 @@ returns-in-Ok g c = λ report.
     let layout = c.in-Ok.stated.layout in
     let e = c.in-Ok.ensures in
     opened_over Info c.args.settings.now stated layout c.requires _ _ _ _ _ _ e.opened (e.causes _ _)
-    (info_units stated.initial stated.form) (λ P units. units) (c.info_loop.ensures.follows report)
+    tt tt (c.info_loop.ensures.follows report)
 
 pub returns-in-Err : goal.returns-in-Err
 returns-in-Err g c = λ report. opened_ended GoesOver c.args.settings.now _ _ _ _ c.in-Err.end c.in-Err.ensures.ended (c.in-Err.ensures.causes _ _)

@@ -1,6 +1,5 @@
 -- The proof of `run_info` in src/info.rt.
 use Rattle.std.proofs.Common.{subst}
-use Rattle.dvd_commands.specs.Info.{info_units}
 use Rattle.dvd_commands.specs.Inner.Opened.{IsWordedInitial}
 use Rattle.dvd_words.specs.declared.settings.Command.TheVariants.{Info}
 use Rattle.dvd_commands.proofs.opening.HeaderTaken.{gone_over, looped_by_words, looped_listed}
@@ -11,7 +10,7 @@ returns-in-Some-clause-performed g c = λ report.
     let settings = c.args.settings.now in
     let worded = subst (IsWordedInitial settings) c.in-Some.is c.in_ok-worded.ensures.worded in
     looped_by_words settings worded.0 _ _ c.info_loop.result
-    (gone_over Info settings c.requires worded.2 (info_units settings.initial settings.form) (λ P units. units)
+    (gone_over Info settings c.requires worded.2 tt tt
     _ _ c.info_loop.result (c.info_loop.ensures.follows report))
 
 pub returns-clause-performed : goal.returns-clause-performed

@@ -1,6 +1,5 @@
 -- The proof of `run_master` in src/master.rt.
 use Rattle.std.proofs.Common.{refl}
-use Rattle.dvd_commands.specs.Master.{master_units}
 use Rattle.dvd_words.specs.declared.settings.Command.TheVariants.{Master}
 use Rattle.dvd_commands.proofs.opening.HeaderTaken.{gone_over}
 use Rattle.dvd_commands.proofs.master.run_master.Goals as goal
@@ -9,5 +8,5 @@ pub returns-clause-performed : goal.returns-clause-performed
 returns-clause-performed g c = λ report.
     let settings = c.args.settings.now in
     let layout = c.in_ok-layout.layout in
-    gone_over Master settings c.requires.command (c.in_ok-layout.ensures.lawful refl) (master_units layout settings.zones settings.cpr) (λ P units. (layout, c.in_ok-layout.ensures.lengths, units))
+    gone_over Master settings c.requires.command (c.in_ok-layout.ensures.lawful refl) layout c.in_ok-layout.ensures.lengths
     _ _ c.master_loop.result (c.master_loop.ensures.follows report)

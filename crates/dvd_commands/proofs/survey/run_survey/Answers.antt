@@ -1,5 +1,4 @@
 -- The proof of `run_survey` in src/survey.rt.
-use Rattle.dvd_commands.specs.Survey.{survey_units}
 use Rattle.dvd_words.specs.declared.settings.Command.TheVariants.{Survey}
 use Rattle.dvd_commands.proofs.opening.HeaderTaken.{looped_no_further, looped_over}
 use Rattle.dvd_commands.proofs.survey.run_survey.Goals as goal
@@ -10,7 +9,7 @@ returns-in-Ok-clause-performed g c = λ report.
     let layout = c.in-Ok.stated.layout in
     let e = c.in-Ok.ensures in
     looped_over Survey c.args.settings.now stated layout c.requires.command (λ unbroken. unbroken) _ _ _ _ _ c.survey_loop.result e.begun (e.causes _ _)
-    (survey_units layout stated.zones stated.form) (λ P units. (layout, e.layout, units)) (c.survey_loop.ensures.follows report)
+    layout e.layout (c.survey_loop.ensures.follows report)
 
 pub returns-clause-performed : goal.returns-clause-performed
 returns-clause-performed g c = λ report. looped_no_further c.args.settings.now _ _ _ _ c.in-Err.end c.in-Err.ensures.ended (c.in-Err.ensures.causes _ _)

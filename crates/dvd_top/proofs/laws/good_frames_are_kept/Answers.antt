@@ -1,5 +1,5 @@
 -- The proof of the law `good_frames_are_kept` in src/laws.rt.
-use Rattle.dvd_top.proofs.GoodFrames.{kept_good}
+use Rattle.dvd_top.proofs.BoundKept.{kept_good}
 use Rattle.dvd_top.proofs.laws.good_frames_are_kept.Goals as goal
 
 pub returns : goal.returns

@@ -13,19 +13,21 @@ use Rattle.dvd_layout.specs.declared.layout.Zones.{Zones}
 use Rattle.dvd_loop.specs.Laws.{IsFaultless}
 use Rattle.dvd_loop.specs.Machine.{IsOutcome, Outcome}
 use Rattle.dvd_loop.specs.Turns.{written}
-use Rattle.dvd_top.specs.Bound.{GivesGoodSectors, IsBeyond, KeepsGoodFrames, sector_part}
+use Rattle.dvd_commands.specs.Bound.{GivesGoodSectors, IsBeyond, KeepsGoodFrames, sector_part}
 use Rattle.dvd_commands.specs.Captured.{block_bytes}
 use Rattle.dvd_commands.specs.Commands.{GoesOver, meaning}
+use Rattle.dvd_commands.specs.Meaning.{GoesBy}
 use Rattle.dvd_commands.specs.Master.{image_bytes, image_part}
 use Rattle.dvd_commands.specs.Recover.{HasGoodRows, IsRecovered, recover_units}
-use Rattle.dvd_top.specs.Laws.{GoodFramesAreKept}
 use Rattle.dvd_words.specs.Settings.{IsLayoutOf}
+use Rattle.dvd_words.specs.declared.settings.Command.TheVariants.{Recover}
 use Rattle.dvd_words.specs.declared.settings.Settings.{Settings}
 use Rattle.dvd_commands.proofs.AnyEnd.{at_any_end, part-begun}
-use Rattle.dvd_commands.proofs.ForRuns.{given_good, recover_total, size_is}
+use Rattle.dvd_commands.proofs.master.Blocks.{size_is}
+use Rattle.dvd_commands.proofs.recover.Done.{recover_total}
+use Rattle.dvd_commands.proofs.recover.Rescues.{given_good}
 use Rattle.dvd_commands.proofs.BlockTurns.{has_turn, length-part}
 use Rattle.dvd_commands.proofs.CapturedBlocks.{block-whole}
-use Rattle.dvd_top.proofs.OpenedRuns.{after_header}
 use Rattle.dvd_commands.proofs.RecoveredWidths.{recovered-wide}
 
 -- a part of the front of a list
@@ -79,10 +81,9 @@ units_keep settings layout is_layout bytes loop runs =
           part-begun any 2048 (2048 * (image_from entry.content + f)) (sector_part entry f image) (any.gives cpr image k f entry g);
     }
 
--- the law: a loop of `recover` gives the good frames of each refused block
-pub kept_good : GoodFramesAreKept
-kept_good settings bytes outcome is runs =
-    after_header GoesOver KeepsGoodFrames outcome settings.form settings bytes
-    (λ stated left after same loops.
-    let (layout, is_layout, goes) = subst (λ command. (meaning command).OfUnits stated (λ units. IsOutcome units left after)) (same ∙ is) loops in
-    units_keep stated layout is_layout left after goes) runs
+-- and a loop of `recover` does
+pub loops_keep_good : (settings : Settings) (bytes : List ℕ) (loop : Outcome) → settings.command ≡ Recover → GoesOver settings bytes loop
+    → KeepsGoodFrames settings bytes loop
+loops_keep_good settings bytes loop is goes =
+    let (layout, is_layout, runs) = subst (λ command. GoesBy (meaning command) settings bytes loop) is goes in
+    units_keep settings layout is_layout bytes loop runs

@@ -1,5 +1,5 @@
 -- The bound of recovery: what a run gives back where the damage of a block is within the bound.
-use Rattle.std.specs.Prelude.{◌≡◌, ℕ, ◌+◌, ◌*◌, ◌<◌, ⊤, List, [], ◌∷◌, length, take, drop, Some, slice_get}
+use Rattle.std.specs.Prelude.{◌≡◌, ◌⊎◌, ℕ, ◌+◌, ◌*◌, ◌<◌, List, [], ◌∷◌, length, take, drop, Some, slice_get}
 use Rattle.coding.specs.Product.{IsBlockOf}
 use Rattle.dvd_capture.specs.Captured.{captured_marks, captured_rows}
 use Rattle.coding.specs.TwoPass.{answers_of}
@@ -30,9 +30,7 @@ use Rattle.dvd_words.specs.declared.settings.Settings.{Settings}
 
 -- the commands that write the image sectors of captured blocks
 abbrev pub Rescues : Command → Type 0
-Rescues Recover = ⊤
-Rescues Deep = ⊤
-Rescues other = ⊥
+Rescues command = (command ≡ Recover) ⊎ (command ≡ Deep)
 
 -- and what they do for block k of the plan
 abbrev pub IsRescued : Command → Layout → Zones → Form → ℕ → List ℕ → List Step → Turn → Type 0

@@ -1,20 +1,18 @@
--- The proof of `perform` in src/top.rt.
+-- The proof of `perform` in src/dispatch.rt.
 use Rattle.std.proofs.Common.{◌≡◌, ◌∙◌, Ok, Err, false, refl, subst, sym, true}
 use Rattle.std.specs.Prelude.{Result}
 use Rattle.dvd_capture.specs.Captured.{HasSize}
 use Rattle.dvd_loop.specs.Streams.{Streams}
 use Rattle.dvd_loop.specs.declared.ends.LoopEnd.{LoopEnd}
-use Rattle.dvd_commands.specs.CdMake.{cdmake_units}
-use Rattle.dvd_commands.specs.Frames.{frames_units}
 use Rattle.dvd_commands.specs.Performed.{IsPerformed, IsPerformedByWords}
 use Rattle.dvd_commands.specs.declared.refusal.Refusal.{Refusal}
 use Rattle.dvd_commands.specs.declared.refusal.Refusal.TheVariants.{NoMemory, Setting}
 use Rattle.dvd_words.specs.Reading.{IsLawful, takes_listed}
 use Rattle.dvd_words.specs.declared.settings.Command.{Command}
-use Rattle.dvd_words.specs.declared.settings.Command.TheVariants.{CdMake, Convert, Exercise, Frames, Master, Merge}
+use Rattle.dvd_words.specs.declared.settings.Command.TheVariants.{CdMake, CdRead, Convert, Exercise, Frames, Master, Merge}
 use Rattle.dvd_words.specs.declared.settings.Settings.{Settings}
-use Rattle.dvd_commands.proofs.ForRuns.{breaks_by_words, gone_over, looped_by_words}
-use Rattle.dvd_top.proofs.top.perform.Goals as goal
+use Rattle.dvd_commands.proofs.opening.HeaderTaken.{breaks_by_words, gone_over, looped_by_words}
+use Rattle.dvd_commands.proofs.dispatch.perform.Goals as goal
 
 -- a command that reads no listed captures is told no such form
 sized : (settings : Settings) (command : Command) → IsLawful settings → settings.command ≡ command → takes_listed command ≡ false → HasSize settings.form
@@ -33,15 +31,21 @@ pub returns-in-Frames-clause-performed : goal.returns-in-Frames-clause-performed
 returns-in-Frames-clause-performed g c =
     let settings = c.args.settings.now in
     looped_by_words settings (sized settings Frames c.requires c.in-Frames.is refl) _ _ c.frames_loop.result
-    (gone_over Frames settings c.in-Frames.is refl (frames_units settings.first settings.sectors) (λ P holds. holds) _ _ c.frames_loop.result
+    (gone_over Frames settings c.in-Frames.is refl tt tt _ _ c.frames_loop.result
     (c.frames_loop.ensures.follows (g.E.Sink.seen c.args.report.now)))
 
 pub returns-in-CdMake-clause-performed : goal.returns-in-CdMake-clause-performed
 returns-in-CdMake-clause-performed g c =
     let settings = c.args.settings.now in
     looped_by_words settings (sized settings CdMake c.requires c.in-CdMake.is refl) _ _ c.cdmake_loop.result
-    (gone_over CdMake settings c.in-CdMake.is refl (cdmake_units settings.address settings.sectors) (λ P holds. holds) _ _ c.cdmake_loop.result
+    (gone_over CdMake settings c.in-CdMake.is refl tt tt _ _ c.cdmake_loop.result
     (c.cdmake_loop.ensures.follows (g.E.Sink.seen c.args.report.now)))
+
+pub returns-in-CdRead-clause-performed : goal.returns-in-CdRead-clause-performed
+returns-in-CdRead-clause-performed g c =
+    let settings = c.args.settings.now in
+    looped_by_words settings (sized settings CdRead c.requires c.in-CdRead.is refl) _ _ c.cdread_loop.result
+    (gone_over CdRead settings c.in-CdRead.is refl tt tt _ _ c.cdread_loop.result c.cdread_loop.ensures.follows)
 
 pub returns-in-Master-clause-performed : goal.returns-in-Master-clause-performed
 returns-in-Master-clause-performed g c =

@@ -1,0 +1,29 @@
+-- What the laws of runs rest on of `assemble`.
+use Rattle.std.proofs.Common.{◌∙◌, [], refl, sym}
+use Rattle.dvd_assemble.specs.Frames.{frame_size}
+use Rattle.dvd_layout.specs.declared.layout.Layout.{Layout}
+use Rattle.dvd_commands.specs.Assemble.{assemble_units}
+use Rattle.dvd_commands.proofs.OneRun.{one_closing, one_run, once_by_layout}
+use Rattle.dvd_commands.proofs.OtherWorkers.{layout_with}
+use Rattle.dvd_commands.proofs.RunFacts.{RunFacts}
+use Rattle.dvd_commands.proofs.SomeRun.{runs_exist, some_by_layout}
+use Rattle.dvd_loop.specs.Machine.{Units}
+use Rattle.dvd_loop.specs.declared.ends.Turn.TheVariants.{Good}
+use Rattle.dvd_words.specs.declared.settings.Command.TheVariants.{Assemble}
+use Rattle.dvd_words.specs.declared.settings.Settings.{Settings}
+
+-- its units, by its settings and their layout
+abbrev frames : Settings → Layout → Units
+frames settings layout = assemble_units layout settings.form settings.frames
+
+pub facts : RunFacts Assemble
+facts = record {
+  once = λ settings bytes. once_by_layout frames settings bytes (λ layout.
+      one_run (frames settings layout) (λ k. frame_size settings.form) (λ k own. refl)
+      (λ before own steps others turn other x y. (x.0 ∙ sym y.0, x.1 ∙ sym y.1)) (λ before. one_closing) bytes);
+  some = λ settings bytes six are none addresses. some_by_layout frames settings bytes none (λ layout.
+      runs_exist (frames settings layout) (λ k. frame_size settings.form) (λ k own. refl)
+      (λ before own lt is. ([], Good, (refl, refl))) (λ before all. (_, refl)) bytes are);
+  alike = λ workers settings bytes outcome goes. (goes.0, layout_with workers settings goes.0 goes.1, goes.2);
+  lawful = λ settings none. none;
+}
