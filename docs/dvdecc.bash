@@ -1,10 +1,15 @@
 # Completions of dvdecc for bash, written by docs/tables. Sourced by bash_completion, or by hand.
 _dvdecc() {
-    local before=${COMP_WORDS[COMP_CWORD - 1]} command=${COMP_WORDS[1]} at=1 words=
-    [ "$command" != --progress ] || at=2 command=${COMP_WORDS[2]-}
-    if [ "$COMP_CWORD" = "$at" ]; then
+    local before=${COMP_WORDS[COMP_CWORD - 1]} command at=1 words=
+    [ "${COMP_WORDS[1]}" != --cpu ] || [ "$COMP_CWORD" = 1 ] || at=3
+    [ "${COMP_WORDS[at]-}" != --progress ] || [ "$COMP_CWORD" = "$at" ] || at=$((at + 1))
+    command=${COMP_WORDS[at]-}
+    if [ "$COMP_CWORD" -lt "$at" ]; then
+        words='x86-64-v2 x86-64-v3'
+    elif [ "$COMP_CWORD" = "$at" ]; then
         words='frames master recover deep survey info merge assemble convert cdmake cdread exercise help'
-        [ "$at" = 2 ] || words+=' --version --progress'
+        [ "$before" = --progress ] || words+=' --version --progress'
+        [ "$at" != 1 ] || words+=' --cpu'
     else
         case $command,$before in
             help,*) words='frames master recover deep survey info merge assemble convert cdmake cdread exercise' ;;
