@@ -1,0 +1,41 @@
+//! The bytes to add at the zeros of 32 locators, by Forney's formula: with the locator p(x) whose highest power stands first, and
+//! q(x) the powers of x from 0 on of its product with the sum of each syndrome times x^(-k-1), they are q / p' at the zeros.
+use crate::locators::{logs_of_all, sum_at};
+use crate::tower::{Logs, bytes, inverse, logs, pairs, product, squares};
+use std::simd::prelude::*;
+
+/// Sets the bytes at these points. Where a point is 0 and stands for none, it becomes 1 and its byte is 0, so that adding it
+/// changes nothing.
+pub fn put_amounts(
+    syndromes: &[u8x32; 10],
+    syndrome_logs: &[Logs; 10],
+    taps: &[u8x32; 5],
+    points: &mut [u8x32; 5],
+    amounts: &mut [u8x32; 5],
+) {
+    let zero = u8x32::splat(0);
+    let tap_logs = logs_of_all(taps);
+    let mut numerator = [zero; 5];
+    for at in 0..5 {
+        numerator[at] = sum_at(at, syndromes, syndrome_logs, &tap_logs);
+    }
+    for k in 0..5 {
+        let none = points[k].simd_eq(zero);
+        let amount = amount_at(pairs(points[k]), &numerator, &tap_logs[1], taps[3]);
+        amounts[k] = none.select(zero, bytes(amount));
+        points[k] = none.select(u8x32::splat(1), points[k]);
+    }
+}
+
+// The numerator at a point by the derivative there, x^4 + `quadratic` x^2 + `last`.
+#[inline(always)]
+fn amount_at(point: u8x32, numerator: &[u8x32; 5], quadratic: &Logs, last: u8x32) -> u8x32 {
+    let point_logs = logs(point);
+    let mut value = numerator[0];
+    for k in 1..5 {
+        value = product(&logs(value), &point_logs) ^ numerator[k];
+    }
+    let square = squares(point);
+    let derivative = squares(square) ^ product(quadratic, &logs(square)) ^ last;
+    product(&logs(value), &inverse(&logs(derivative)))
+}

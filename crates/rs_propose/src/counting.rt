@@ -1,0 +1,28 @@
+//! A byte added to a row, and how many places then differ from the received row.
+ghost use Rattle.std.specs.Prelude.{◌≡◌, ◌+◌, ◌<◌, ◌≤◌, false, replicate, slice_index, slice_set};
+ghost use Rattle.coding.specs.Field.{plus};
+ghost use Rattle.rs_decode.specs.Errors.{error_count};
+
+/// Adds a byte at a place, and answers how many places differ then, by how many did before. That it is a byte is told
+/// too.
+#[inline(always)]
+pub fn add_at(
+    received: &[u8; 182],
+    row: &mut [u8; 182],
+    place: usize,
+    byte: u8,
+    differing: u16,
+) -> u16
+    requires place { place < 182 }
+    requires few { differing < 5 }
+    requires counted { differing ≡ error_count received.now row.old (replicate 182 false) }
+    ensures added { row.new ≡ slice_set row.old place (plus (slice_index row.old place) byte) }
+    ensures counted { result ≡ error_count received.now row.new (replicate 182 false) }
+    ensures few { result ≤ differing + 1 }
+    ensures byte { byte < 256 }
+{
+    let before = u16::from(row[place] != received[place]);
+    row[place] ^= byte;
+    let after = u16::from(row[place] != received[place]);
+    differing + after - before
+}

@@ -1,0 +1,24 @@
+//! Errors of 32 rows at once: what to add to each row is proposed in the lanes of vectors, and each proposal is tested.
+//! Nothing is proved of how a proposal comes about but that it is safe, so a wrong one costs the time of decoding that row by
+//! itself, and no more. Contracts speak of [`Proposals::believe`] alone, which tests what it does.
+//!
+//! - [`proposals`]: what is proposed for 32 rows, and the test of it.
+//! - `counting`: a byte added to a row, and how many places then differ from the received row.
+//! - `locators`: the locators of the rows by the algorithm of Berlekamp and Massey, all at once.
+//! - `roots`: the zeros of 32 polynomials of degree 5.
+//! - `amounts`: the bytes at these zeros, by Forney's formula.
+//! - `tower`: products and inverses of lanes, in the field as pairs of nibbles.
+//! - `nibbles`: look-ups in tables of sixteen.
+#![tactic(auto)]
+
+mod amounts;
+mod counting;
+mod locators;
+mod nibbles;
+pub mod proposals;
+mod roots;
+#[cfg(test)]
+mod tests;
+mod tower;
+
+pub use proposals::Proposals;

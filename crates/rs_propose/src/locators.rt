@@ -1,0 +1,81 @@
+//! The locators of 32 rows, by their syndromes: the algorithm of Berlekamp and Massey in each lane, without a branch. The first
+//! coefficient is 1 and isn't written. A row with more than five errors has some locator too, and its proposal isn't believed.
+ghost use Rattle.std.specs.Prelude.{◌<◌};
+
+use crate::tower::{Logs, chosen, inverse, logs, logs_of_one, logs_of_zero, product};
+use std::simd::prelude::*;
+
+/// The coefficients of the locators behind the first one.
+pub fn locators(syndromes: &[u8x32; 10], syndrome_logs: &[Logs; 10]) -> [u8x32; 5] {
+    let mut taps = [u8x32::splat(0); 5];
+    // The register from before it last got longer, as many places up as it is syndromes ago, and the inverse of what it missed.
+    let mut earlier = [logs_of_zero(); 5];
+    earlier[0] = logs_of_one();
+    let mut divisor = logs_of_one();
+    let mut lengths = u8x32::splat(0);
+    for at in 0..10 {
+        let tap_logs = logs_of_all(&taps);
+        let missed = sum_at(at, syndromes, syndrome_logs, &tap_logs);
+        let missed_logs = logs(missed);
+        let factor = logs(product(&missed_logs, &divisor));
+        mend(&mut taps, &factor, &earlier);
+        let grows = grow_at(at, missed, lengths);
+        shift(&mut earlier, &tap_logs, grows);
+        divisor = chosen(grows, &inverse(&missed_logs), &divisor);
+        lengths = grows.select(u8x32::splat(at as u8 + 1) - lengths, lengths);
+    }
+    taps
+}
+
+/// The logarithms of all coefficients.
+#[inline(always)]
+pub fn logs_of_all(taps: &[u8x32; 5]) -> [Logs; 5] {
+    let mut all = [logs_of_zero(); 5];
+    for k in 0..5 {
+        all[k] = logs(taps[k]);
+    }
+    all
+}
+
+/// The sum of a syndrome and those before it, each times its coefficient.
+#[inline(always)]
+pub fn sum_at(
+    at: usize,
+    syndromes: &[u8x32; 10],
+    syndrome_logs: &[Logs; 10],
+    tap_logs: &[Logs; 5],
+) -> u8x32
+    requires { at < 10 }
+{
+    let mut sum = syndromes[at];
+    for k in 0..at.min(5) {
+        sum = sum ^ product(&tap_logs[k], &syndrome_logs[at - 1 - k]);
+    }
+    sum
+}
+
+// Whether a register gets longer: where it misses, and isn't longer than half of the syndromes so far.
+#[inline(always)]
+fn grow_at(at: usize, missed: u8x32, lengths: u8x32) -> mask8x32
+    requires { at < 10 }
+{
+    let reach = u8x32::splat(at as u8);
+    missed.simd_ne(u8x32::splat(0)) & (lengths + lengths).simd_le(reach)
+}
+
+// Adds the multiple of the earlier register with which a register misses no longer.
+#[inline(always)]
+fn mend(taps: &mut [u8x32; 5], factor: &Logs, earlier: &[Logs; 5]) {
+    for k in 0..5 {
+        taps[k] = taps[k] ^ product(factor, &earlier[k]);
+    }
+}
+
+// Moves the earlier register up by one place. Where a register gets longer, that one as it was takes its place.
+#[inline(always)]
+fn shift(earlier: &mut [Logs; 5], taps: &[Logs; 5], grows: mask8x32) {
+    for k in 0..4 {
+        earlier[4 - k] = chosen(grows, &taps[3 - k], &earlier[3 - k]);
+    }
+    earlier[0] = chosen(grows, &logs_of_one(), &logs_of_zero());
+}

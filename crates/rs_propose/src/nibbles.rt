@@ -1,0 +1,35 @@
+//! Look-ups in tables of sixteen bytes, in each lane.
+use std::simd::prelude::*;
+
+/// The table's entry at each lane, and 0 at lanes from 128 on. Those between 16 and 127 count by their low four bits.
+#[inline(always)]
+pub fn look_up(table: &[u8; 16], places: u8x32) -> u8x32 {
+    twice(table).swizzle_dyn_within::<16>(places & u8x32::splat(0x8F))
+}
+
+/// The table's entries at the low four bits of each lane.
+#[inline(always)]
+pub fn at_low_nibbles(table: &[u8; 16], lanes: u8x32) -> u8x32 {
+    twice(table).swizzle_dyn_within::<16>(lanes & u8x32::splat(15))
+}
+
+/// The table's entries at the high four bits of each lane.
+#[inline(always)]
+pub fn at_high_nibbles(table: &[u8; 16], lanes: u8x32) -> u8x32 {
+    twice(table).swizzle_dyn_within::<16>(lanes >> u8x32::splat(4))
+}
+
+/// A linear map of bytes in each lane, by what it makes of each low nibble and of each high one.
+#[inline(always)]
+pub fn mapped(tables: &[[u8; 16]; 2], lanes: u8x32) -> u8x32 {
+    at_low_nibbles(&tables[0], lanes) ^ at_high_nibbles(&tables[1], lanes)
+}
+
+// The table in both halves of a vector.
+#[inline(always)]
+fn twice(table: &[u8; 16]) -> u8x32 {
+    u8x16::from_slice(table).swizzle([
+        0, 1, 2, 3, 4, 5, 6, 7, 8, 9, 10, 11, 12, 13, 14, 15, 0, 1, 2, 3, 4, 5, 6, 7, 8, 9, 10, 11,
+        12, 13, 14, 15,
+    ])
+}

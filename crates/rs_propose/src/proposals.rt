@@ -1,0 +1,110 @@
+//! What is proposed for 32 rows, and the test of it.
+ghost use Rattle.std.specs.Prelude.{◌≡◌, ℕ, ◌-◌, ◌<◌, false, length, replicate, slice_index, IfSome};
+ghost use Rattle.coding.specs.Field.{alpha, plus, power, product};
+ghost use Rattle.coding.specs.Words.{IsNear};
+ghost use Rattle.coding.specs.Filling.{marked};
+ghost use Rattle.rs_code.specs.Syndromes.{syndromes_of};
+ghost use Rattle.rs_decode.specs.Errors.{error_count};
+
+use crate::amounts::put_amounts;
+use crate::counting::add_at;
+use crate::locators::locators;
+use crate::roots::roots;
+use crate::tower::{bytes, logs, logs_of_zero, pairs};
+use gf_field::log;
+use rs_decode::Fix;
+use rs_lanes::{powers, scaled};
+use std::simd::prelude::*;
+
+/// What is proposed for each of 32 rows of 182 bytes, of which ten are parity: up to five bytes to add, and the powers of alpha
+/// that their places stand at. A byte 0 at the point 1 stands for none.
+#[derive(Drop)]
+pub struct Proposals {
+    points: [[u8; 32]; 5],
+    bytes: [[u8; 32]; 5],
+}
+
+impl Proposals {
+    /// Nothing for any row.
+    pub fn none() -> Self {
+        Proposals {
+            points: [[1; 32]; 5],
+            bytes: [[0; 32]; 5],
+        }
+    }
+
+    /// Those for rows that have these values at alpha^0 to alpha^9: for row `n` those in the lanes `n`. They are right for rows
+    /// with at most five errors, which tests show and no contract says.
+    pub fn propose(&mut self, values: &[u8x32; 10]) {
+        let mut syndromes = [u8x32::splat(0); 10];
+        let mut syndrome_logs = [logs_of_zero(); 10];
+        for k in 0..10 {
+            syndromes[k] = pairs(values[k]);
+            syndrome_logs[k] = logs(syndromes[k]);
+        }
+        let taps = locators(&syndromes, &syndrome_logs);
+        let mut coefficients = [u8x32::splat(0); 5];
+        for k in 0..5 {
+            coefficients[k] = bytes(taps[k]);
+        }
+        let mut points = roots(&coefficients);
+        let mut amounts = [u8x32::splat(0); 5];
+        put_amounts(&syndromes, &syndrome_logs, &taps, &mut points, &mut amounts);
+        for k in 0..5 {
+            self.points[k] = points[k].to_array();
+            self.bytes[k] = amounts[k].to_array();
+        }
+    }
+
+    /// Sets `row` to the codeword near a received row without marks, by its syndromes and what is proposed for row `n`, if
+    /// that is right: if the bytes have the syndromes as their power sums, so that the row with them added is a codeword. It then
+    /// is the near one, since at most five places differ. Otherwise `row` may be anything.
+    pub fn believe(
+        &self,
+        n: usize,
+        syndromes: &[u8],
+        received: &[u8; 182],
+        row: &mut [u8; 182],
+    ) -> Option<Fix>
+        requires lane { n < 32 }
+        requires syndromes { syndromes.now ≡ syndromes_of 10 received.now }
+        ensures near { IfSome result (λ _. IsNear 182 10 received.now (replicate 182 false) row.new) }
+        ensures errors { IfSome result (λ fix. fix.errors ≡ error_count received.now row.new (replicate 182 false)) }
+        ensures erased { IfSome result (λ fix. fix.erased ≡ marked (replicate 182 false)) }
+    {
+        *row = *received;
+        let mut errors = 0;
+        let mut sums = u8x16::splat(0);
+        for k in 0..5 {
+            let place = place_of(self.points[k][n])?;
+            errors = add_at(received, row, place, self.bytes[k][n], errors);
+            sums = with_byte(sums, place, self.bytes[k][n]);
+        }
+        if sums.to_array()[..10] != syndromes[..] {
+            return None;
+        }
+        Some(Fix { errors, erased: 0 })
+    }
+}
+
+// The place in a row that stands at this power of alpha, if there is one.
+#[inline(always)]
+fn place_of(point: u8) -> Option<usize>
+    ensures { IfSome result (λ place. place < 182) }
+{
+    if point == 0 {
+        return None;
+    }
+    181usize.checked_sub(log(point) as usize)
+}
+
+// The power sums with a byte more, which stands at a place of a row.
+#[inline(always)]
+fn with_byte(sums: u8x16, place: usize, byte: u8) -> u8x16
+    requires { place < 182 }
+    ensures size { length result ≡ 16 }
+    ensures each { (k : ℕ) → k < 16
+        → slice_index result k ≡ plus (slice_index sums k) (product byte (power (power alpha k) (181 - place))) }
+{
+    sums ^ scaled(powers(181 - place), byte)
+}
