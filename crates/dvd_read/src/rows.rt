@@ -16,10 +16,14 @@ use dvd_capture::parts::{AnswerRow, Marks, Received};
 use rs_code::Pi;
 use rs_decode::{Erasures, Fix, decode_from};
 use rs_lanes::{any_of, row_values};
+use rs_propose::Proposals;
 use std::simd::prelude::*;
 
 // More failed rows than this leave no column an answer.
 pub(crate) const MOST_FAILED: u16 = 16;
+
+// For fewer rows than this, to decode each takes less time than to propose for 32.
+const FEWEST_PROPOSED: u16 = 4;
 
 // What is told of a codeword without marks.
 const UNCHANGED: Fix = Fix {
@@ -62,6 +66,10 @@ fn answer_group(
     let top = start.min(176);
     let values = row_values(received.rows(), top);
     let wrong = any_of(&values);
+    let mut proposals = Proposals::none();
+    if are_many(marks, wrong, start, top, piece.len()) {
+        proposals.propose(&values);
+    }
     let mut row_marks = [false; 182];
     for (k, answer) in piece.iter_mut().enumerate() {
         let i = start + k;
@@ -72,9 +80,26 @@ fn answer_group(
         } else if wrong[i - top] == 0 {
             answer_codeword(row, answer);
         } else {
-            answer_unmarked(code, row, lane_of(&values, i - top), answer);
+            let syndromes = lane_of(&values, i - top);
+            answer_unmarked(code, row, syndromes, &proposals, i - top, answer);
         }
     }
+}
+
+// Whether it pays to propose for all rows at once, by the lanes that aren't zero: where at least four rows that have no mark are
+// no codewords. The last 32 rows repeat some of the group before, which don't count.
+fn are_many(marks: &Marks, wrong: u8x32, start: usize, top: usize, count: usize) -> bool
+    requires top { top ≤ start }
+    requires lanes { start + count ≤ top + 32 }
+    requires rows { start + count ≤ 208 }
+{
+    let mut alone = 0;
+    for i in start..start + count {
+        if wrong[i - top] != 0 && marks.is_clear(i) {
+            alone += 1;
+        }
+    }
+    alone >= FEWEST_PROPOSED
 }
 
 // Answers one row without marks whose syndromes are zeros: a codeword is its own answer.
@@ -85,8 +110,27 @@ fn answer_codeword(row: &[u8; 182], answer: &mut AnswerRow)
     answer.set(row, Some(UNCHANGED));
 }
 
-// Answers one row without marks, by its syndromes.
-fn answer_unmarked(code: &Pi, row: &[u8; 182], syndromes: ArrayVec<u8, 32>, answer: &mut AnswerRow)
+// Answers one row without marks, by its syndromes: as is proposed for it in lane `n`, if that is right, and else by itself.
+fn answer_unmarked(
+    code: &Pi,
+    row: &[u8; 182],
+    syndromes: ArrayVec<u8, 32>,
+    proposals: &Proposals,
+    n: usize,
+    answer: &mut AnswerRow,
+)
+    requires lane { n < 32 }
+    requires syndromes { syndromes.items ≡ syndromes_of 10 row.now }
+    ensures { IsAnswer row.now (replicate 182 false) answer.new }
+{
+    match proposals.believe(n, &syndromes, row, &mut answer.bytes) {
+        Some(fix) => answer.fix = Some(fix),
+        None => answer_alone(code, row, syndromes, answer),
+    }
+}
+
+// The same where nothing right is proposed.
+fn answer_alone(code: &Pi, row: &[u8; 182], syndromes: ArrayVec<u8, 32>, answer: &mut AnswerRow)
     requires { syndromes.items ≡ syndromes_of 10 row.now }
     ensures { IsAnswer row.now (replicate 182 false) answer.new }
 {

@@ -1,7 +1,11 @@
 -- The proof of `answer_unmarked` in src/rows.rt.
-use Rattle.std.proofs.Common.{Bool, List, subst}
-use Rattle.dvd_capture.specs.Answers.{IsAnswer}
+use Rattle.std.proofs.Common.{false, replicate, arith}
+use Rattle.rs_decode.proofs.NearSearch.{near_of-some}
 use Rattle.dvd_read.proofs.rows.answer_unmarked.Goals as goal
 
-pub returns : goal.returns
-returns c = subst (λ (marks : List Bool). IsAnswer c.args.row.now marks c.answer_erased.new.answer) c.none.ensures c.answer_erased.ensures
+pub returns-in-Some : goal.returns-in-Some
+returns-in-Some c = (
+  near_of-some 182 10 c.args.row.now c.believe.new.row (replicate 182 false) (omega arith) c.in-Some.ensures.near,
+  c.in-Some.ensures.errors,
+  c.in-Some.ensures.erased,
+)
