@@ -18,7 +18,7 @@ pub fn locators(syndromes: &[u8x32; 10], syndrome_logs: &[Logs; 10]) -> [u8x32; 
         let missed = sum_at(at, syndromes, syndrome_logs, &tap_logs);
         let missed_logs = logs(missed);
         let factor = logs(product(&missed_logs, &divisor));
-        mend(&mut taps, &factor, &earlier);
+        add_multiples(&mut taps, &factor, &earlier);
         let grows = grow_at(at, missed, lengths);
         shift(&mut earlier, &tap_logs, grows);
         divisor = chosen(grows, &inverse(&missed_logs), &divisor);
@@ -65,7 +65,7 @@ fn grow_at(at: usize, missed: u8x32, lengths: u8x32) -> mask8x32
 
 // Adds the multiple of the earlier register with which a register misses no longer.
 #[inline(always)]
-fn mend(taps: &mut [u8x32; 5], factor: &Logs, earlier: &[Logs; 5]) {
+fn add_multiples(taps: &mut [u8x32; 5], factor: &Logs, earlier: &[Logs; 5]) {
     for k in 0..5 {
         taps[k] = taps[k] ^ product(factor, &earlier[k]);
     }

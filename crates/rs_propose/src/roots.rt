@@ -4,7 +4,7 @@
 //! and to that bit and each other that is set. In Gray's order each point has one bit changed, and no product is left.
 ghost use Rattle.std.specs.Prelude.{◌<◌};
 
-use rs_lanes::multiple;
+use rs_lanes::scaled;
 use std::simd::prelude::*;
 
 // The elements that have one bit.
@@ -45,25 +45,54 @@ static FIFTH_PAIRS: [[u8; 8]; 8] = [
 
 /// The zeros of each polynomial that aren't 0, in no order: the last five found. Where fewer are found, zeros stand for the others.
 pub fn roots(taps: &[u8x32; 5]) -> [u8x32; 5] {
-    let mut found = [u8x32::splat(0); 5];
-    let inner = inner_changes(taps);
-    let mut outer = [u8x32::splat(0); 4];
-    for bit in 0..4 {
-        outer[bit] = single(taps, 4 + bit);
+    let mut lower = [u8x16::splat(0); 5];
+    let mut upper = [u8x16::splat(0); 5];
+    for k in 0..5 {
+        lower[k] = taps[k].extract::<0, 16>();
+        upper[k] = taps[k].extract::<16, 16>();
     }
-    // What the upper bits that are set add to the changes by each lower bit.
-    let mut shared = [u8x32::splat(0); 4];
-    let mut value = taps[4];
-    let mut point = u8x32::splat(0);
-    walk(&mut found, value, point, &inner, &shared);
-    for step in 1..16u32 {
-        let bit = flipped(step);
-        value = value ^ outer[bit];
-        point = point ^ u8x32::splat(UNITS[4 + bit]);
-        turn(taps, bit, &mut outer, &mut shared);
-        walk(&mut found, value, point, &inner, &shared);
+    let lower = roots_of_half(&lower);
+    let upper = roots_of_half(&upper);
+    let mut found = [u8x32::splat(0); 5];
+    for k in 0..5 {
+        found[k] = joined(lower[k], upper[k]);
     }
     found
+}
+
+// The same of sixteen polynomials. What changes with each point then fits into sixteen registers of as many lanes.
+fn roots_of_half(taps: &[u8x16; 5]) -> [u8x16; 5] {
+    let mut found = [u8x16::splat(0); 5];
+    let pairs = pairs_of(taps[1]);
+    let mut changes = singles_of(taps);
+    let inner = inner_changes(&changes, &pairs);
+    // Of the lower bits only what they share with upper ones is wanted here.
+    for bit in 0..4 {
+        changes[bit] = u8x16::splat(0);
+    }
+    let mut value = taps[4];
+    let mut point = u8x16::splat(0);
+    walk(&mut found, value, point, &inner, &changes);
+    for step in 1..16u32 {
+        let bit = 4 + flipped(step);
+        value = value ^ changes[bit];
+        point = point ^ u8x16::splat(UNITS[bit]);
+        turn(&mut changes, &pairs[bit]);
+        walk(&mut found, value, point, &inner, &changes);
+    }
+    found
+}
+
+// Two halves of a vector.
+#[inline(always)]
+fn joined(lower: u8x16, upper: u8x16) -> u8x32 {
+    lower.shuffle(
+        upper,
+        [
+            0, 1, 2, 3, 4, 5, 6, 7, 8, 9, 10, 11, 12, 13, 14, 15, 16, 17, 18, 19, 20, 21, 22, 23,
+            24, 25, 26, 27, 28, 29, 30, 31,
+        ],
+    )
 }
 
 // The bit that changes with a step in Gray's order.
@@ -74,86 +103,102 @@ fn flipped(step: u32) -> usize
     step.trailing_zeros() as usize % 4
 }
 
+// What each bit that is set adds to the values by itself.
+#[inline(always)]
+fn singles_of(taps: &[u8x16; 5]) -> [u8x16; 8] {
+    let mut singles = [u8x16::splat(0); 8];
+    for bit in 0..8 {
+        singles[bit] = u8x16::splat(FIFTH_POWERS[bit])
+            ^ scaled(taps[0], FOURTH_POWERS[bit])
+            ^ scaled(taps[1], CUBES[bit])
+            ^ scaled(taps[2], SQUARES[bit])
+            ^ scaled(taps[3], UNITS[bit]);
+    }
+    singles
+}
+
+// What each two bits that are both set add besides, by the coefficients of x^3.
+#[inline(always)]
+fn pairs_of(cubic: u8x16) -> [[u8x16; 8]; 8] {
+    let mut pairs = [[u8x16::splat(0); 8]; 8];
+    for a in 0..8 {
+        for b in 0..a {
+            let pair = u8x16::splat(FIFTH_PAIRS[a][b]) ^ scaled(cubic, CUBE_PAIRS[a][b]);
+            pairs[a][b] = pair;
+            pairs[b][a] = pair;
+        }
+    }
+    pairs
+}
+
 // The changes of the values with each step over the lower four bits, where no upper one is set.
 #[inline(always)]
-fn inner_changes(taps: &[u8x32; 5]) -> [u8x32; 16] {
-    let mut by_bit = [u8x32::splat(0); 4];
-    for bit in 0..4 {
-        by_bit[bit] = single(taps, bit);
-    }
-    let mut changes = [u8x32::splat(0); 16];
+fn inner_changes(singles: &[u8x16; 8], pairs: &[[u8x16; 8]; 8]) -> [u8x16; 16] {
+    let mut changes = *singles;
+    let mut inner = [u8x16::splat(0); 16];
     for step in 1..16u32 {
         let bit = flipped(step);
-        changes[step as usize] = by_bit[bit];
-        for other in 0..4 {
-            if other != bit {
-                by_bit[other] = by_bit[other] ^ pair(taps[1], other, bit);
-            }
-        }
+        inner[step as usize] = changes[bit];
+        turn(&mut changes, &pairs[bit]);
     }
-    changes
+    inner
 }
 
-// Adds what an upper bit shares with each other bit, when it changes.
+// Adds to the changes what they share with a bit that changes.
 #[inline(always)]
-fn turn(taps: &[u8x32; 5], bit: usize, outer: &mut [u8x32; 4], shared: &mut [u8x32; 4])
-    requires { bit < 4 }
-{
-    for other in 0..4 {
-        if other != bit {
-            outer[other] = outer[other] ^ pair(taps[1], 4 + other, 4 + bit);
-        }
-        shared[other] = shared[other] ^ pair(taps[1], other, 4 + bit);
+fn turn(changes: &mut [u8x16; 8], pairs: &[u8x16; 8]) {
+    for bit in 0..8 {
+        changes[bit] = changes[bit] ^ pairs[bit];
     }
 }
 
-// Walks the sixteen points with the same upper bits.
+// Walks the sixteen points with the same upper bits: four times four, of which each changes bit 0, bit 1 and bit 0.
 #[inline(always)]
 fn walk(
-    found: &mut [u8x32; 5],
-    value: u8x32,
-    point: u8x32,
-    inner: &[u8x32; 16],
-    shared: &[u8x32; 4],
+    found: &mut [u8x16; 5],
+    value: u8x16,
+    point: u8x16,
+    inner: &[u8x16; 16],
+    changes: &[u8x16; 8],
 ) {
     let mut value = value;
     let mut point = point;
-    note(found, value, point);
-    for step in 1..16u32 {
-        let bit = flipped(step);
-        value = value ^ inner[step as usize] ^ shared[bit];
-        point = point ^ u8x32::splat(UNITS[bit]);
-        note(found, value, point);
+    walk_four(found, &mut value, &mut point, inner, changes, 0);
+    for four in 1..4u32 {
+        let bit = 2 + flipped(four) % 2;
+        value = value ^ inner[4 * four as usize] ^ changes[bit];
+        point = point ^ u8x16::splat(UNITS[bit]);
+        walk_four(found, &mut value, &mut point, inner, changes, four as usize);
+    }
+}
+
+// Walks four points with the same upper six bits.
+#[inline(always)]
+fn walk_four(
+    found: &mut [u8x16; 5],
+    value: &mut u8x16,
+    point: &mut u8x16,
+    inner: &[u8x16; 16],
+    changes: &[u8x16; 8],
+    four: usize,
+)
+    requires { four < 4 }
+{
+    note(found, *value, *point);
+    for step in 1..4 {
+        let bit = usize::from(step == 2);
+        *value = *value ^ inner[4 * four + step] ^ changes[bit];
+        *point = *point ^ u8x16::splat(UNITS[bit]);
+        note(found, *value, *point);
     }
 }
 
 // Puts a point in front of those found, in each lane where the value is 0.
 #[inline(always)]
-fn note(found: &mut [u8x32; 5], value: u8x32, point: u8x32) {
-    let here = value.simd_eq(u8x32::splat(0));
+fn note(found: &mut [u8x16; 5], value: u8x16, point: u8x16) {
+    let here = value.simd_eq(u8x16::splat(0));
     for k in 0..4 {
         found[4 - k] = here.select(found[3 - k], found[4 - k]);
     }
     found[0] = here.select(point, found[0]);
-}
-
-// What a bit that is set adds to the values by itself.
-#[inline(always)]
-fn single(taps: &[u8x32; 5], bit: usize) -> u8x32
-    requires { bit < 8 }
-{
-    u8x32::splat(FIFTH_POWERS[bit])
-        ^ multiple(taps[0], FOURTH_POWERS[bit])
-        ^ multiple(taps[1], CUBES[bit])
-        ^ multiple(taps[2], SQUARES[bit])
-        ^ multiple(taps[3], UNITS[bit])
-}
-
-// What two bits that are both set add besides, by the coefficient of x^3.
-#[inline(always)]
-fn pair(cubic: u8x32, a: usize, b: usize) -> u8x32
-    requires a { a < 8 }
-    requires b { b < 8 }
-{
-    u8x32::splat(FIFTH_PAIRS[a][b]) ^ multiple(cubic, CUBE_PAIRS[a][b])
 }

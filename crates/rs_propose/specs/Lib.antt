@@ -1,1 +1,0 @@
--- Nothing of its own: the contracts speak of words, of errors and of the codeword near a row.
