@@ -86,8 +86,8 @@ fn answer_group(
     }
 }
 
-// Whether it pays to propose for all rows at once, by the lanes that aren't zero: where at least four rows that have no mark are
-// no codewords. The last 32 rows repeat some of the group before, which don't count.
+// Whether it pays to propose for all rows at once, by the lanes that aren't zero: where at least four rows that have
+// no mark are no codewords. The last 32 rows repeat some of the group before, which don't count.
 fn are_many(marks: &Marks, wrong: u8x32, start: usize, top: usize, count: usize) -> bool
     requires top { top ≤ start }
     requires lanes { start + count ≤ top + 32 }
@@ -110,7 +110,8 @@ fn answer_codeword(row: &[u8; 182], answer: &mut AnswerRow)
     answer.set(row, Some(UNCHANGED));
 }
 
-// Answers one row without marks, by its syndromes: as is proposed for it in lane `n`, if that is right, and else by itself.
+// Answers one row without marks, by its syndromes: as is proposed for it in lane `n`, if that is right, and else by
+// itself.
 fn answer_unmarked(
     code: &Pi,
     row: &[u8; 182],

@@ -106,8 +106,8 @@ differ-some (suc n) (got ∷ received) (old ∷ row) zero size_r size inside = o
 differ-some (suc n) (got ∷ received) (old ∷ row) (suc place) size_r size inside =
     let rest = differ-some n received row place (omega arith) (omega arith) (omega arith) in omega (arith, rest)
 
--- A row of bytes that differs from the received one in at most five places is the codeword near it, if its values are those of the
--- received row plus sums that are the syndromes.
+-- A row of bytes that differs from the received one in at most five places is the codeword near it, if its values are
+-- those of the received row plus sums that are the syndromes.
 pub believed : (received row sums syndromes : List ℕ) (errors : ℕ) → length received ≡ 182 → length row ≡ 182 → All IsByte row
     → ((k : ℕ) → k < 16 → value row (power alpha k) ≡ plus (value received (power alpha k)) (get_or sums k 0))
     → syndromes ≡ syndromes_of 10 received → take 10 sums ≡ syndromes

@@ -1,5 +1,5 @@
--- Bytes of which only the highest bit and the low nibble are left: below sixteen, or 128 and more. At both kinds of places
--- something may be looked up, where what is found at the latter is 0.
+-- Bytes of which only the highest bit and the low nibble are left: below sixteen, or 128 and more. At both kinds of
+-- places something may be looked up, where what is found at the latter is 0.
 use Rattle.std.proofs.Common.{◌≡◌, ℕ, zero, suc, ◌<◌, Bool, true, false, ◌&&◌, ◌||◌, inl, inr, List, length, get_or, refl, ap, ◌∙◌, arith, bit_and, w8, replicate}
 use mir.Val.{zeroes}
 use lib.Dec.{T, ltb}

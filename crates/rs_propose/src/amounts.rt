@@ -1,11 +1,12 @@
-//! The bytes to add at the zeros of 32 locators, by Forney's formula: with the locator p(x) whose highest power stands first, and
-//! q(x) the powers of x from 0 on of its product with the sum of each syndrome times x^(-k-1), they are q / p' at the zeros.
+//! The bytes to add at the zeros of 32 locators, by Forney's formula: with the locator p(x) whose highest power
+//! stands first, and q(x) the powers of x from 0 on of its product with the sum of each syndrome times x^(-k-1), they
+//! are q / p' at the zeros.
 use crate::locators::{logs_of_all, sum_at};
 use crate::tower::{Logs, bytes, inverse, logs, pairs, product, squares};
 use std::simd::prelude::*;
 
-/// Sets the bytes at these points. Where a point is 0 and stands for none, it becomes 1 and its byte is 0, so that adding it
-/// changes nothing.
+/// Sets the bytes at these points. Where a point is 0 and stands for none, it becomes 1 and its byte is 0, so that
+/// adding it changes nothing.
 pub fn put_amounts(
     syndromes: &[u8x32; 10],
     syndrome_logs: &[Logs; 10],

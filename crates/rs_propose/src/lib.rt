@@ -1,6 +1,7 @@
-//! Errors of 32 rows at once: what to add to each row is proposed in the lanes of vectors, and each proposal is tested.
-//! Nothing is proved of how a proposal comes about but that it is safe, so a wrong one costs the time of decoding that row by
-//! itself, and no more. Contracts speak of [`Proposals::believe`] alone, which tests what it does.
+//! Errors of 32 rows at once: what to add to each row is proposed in the lanes of vectors, and each proposal is
+//! tested. Nothing is proved of how a proposal comes about but that it is safe, so a wrong one costs the time of
+//! decoding that row by itself, and no more. Contracts speak of [`Proposals::believe`] alone, which tests what it
+//! does.
 //!
 //! - [`proposals`]: what is proposed for 32 rows, and the test of it.
 //! - `counting`: a byte added to a row, and how many places then differ from the received row.

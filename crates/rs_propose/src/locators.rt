@@ -1,5 +1,6 @@
-//! The locators of 32 rows, by their syndromes: the algorithm of Berlekamp and Massey in each lane, without a branch. The first
-//! coefficient is 1 and isn't written. A row with more than five errors has some locator too, and its proposal isn't believed.
+//! The locators of 32 rows, by their syndromes: the algorithm of Berlekamp and Massey in each lane, without a branch.
+//! The first coefficient is 1 and isn't written. A row with more than five errors has some locator too, and its
+//! proposal isn't believed.
 ghost use Rattle.std.specs.Prelude.{◌<◌};
 
 use crate::tower::{Logs, chosen, inverse, logs, logs_of_one, logs_of_zero, product};
@@ -8,7 +9,8 @@ use std::simd::prelude::*;
 /// The coefficients of the locators behind the first one.
 pub fn locators(syndromes: &[u8x32; 10], syndrome_logs: &[Logs; 10]) -> [u8x32; 5] {
     let mut taps = [u8x32::splat(0); 5];
-    // The register from before it last got longer, as many places up as it is syndromes ago, and the inverse of what it missed.
+    // The register from before it last got longer, as many places up as it is syndromes ago, and the inverse of what
+    // it missed.
     let mut earlier = [logs_of_zero(); 5];
     earlier[0] = logs_of_one();
     let mut divisor = logs_of_one();

@@ -16,8 +16,8 @@ use rs_decode::Fix;
 use rs_lanes::{powers, scaled};
 use std::simd::prelude::*;
 
-/// What is proposed for each of 32 rows of 182 bytes, of which ten are parity: up to five bytes to add, and the powers of alpha
-/// that their places stand at. A byte 0 at the point 1 stands for none.
+/// What is proposed for each of 32 rows of 182 bytes, of which ten are parity: up to five bytes to add, and the
+/// powers of alpha that their places stand at. A byte 0 at the point 1 stands for none.
 #[derive(Drop)]
 pub struct Proposals {
     points: [[u8; 32]; 5],
@@ -33,8 +33,8 @@ impl Proposals {
         }
     }
 
-    /// Those for rows that have these values at alpha^0 to alpha^9: for row `n` those in the lanes `n`. They are right for rows
-    /// with at most five errors, which tests show and no contract says.
+    /// Those for rows that have these values at alpha^0 to alpha^9: for row `n` those in the lanes `n`. They are
+    /// right for rows with at most five errors, which tests show and no contract says.
     pub fn propose(&mut self, values: &[u8x32; 10]) {
         let mut syndromes = [u8x32::splat(0); 10];
         let mut syndrome_logs = [logs_of_zero(); 10];
@@ -56,9 +56,9 @@ impl Proposals {
         }
     }
 
-    /// Sets `row` to the codeword near a received row without marks, by its syndromes and what is proposed for row `n`, if
-    /// that is right: if the bytes have the syndromes as their power sums, so that the row with them added is a codeword. It then
-    /// is the near one, since at most five places differ. Otherwise `row` may be anything.
+    /// Sets `row` to the codeword near a received row without marks, by its syndromes and what is proposed for row
+    /// `n`, if that is right: if the bytes have the syndromes as their power sums, so that the row with them added is
+    /// a codeword. It then is the near one, since at most five places differ. Otherwise `row` may be anything.
     pub fn believe(
         &self,
         n: usize,

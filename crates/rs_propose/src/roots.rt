@@ -1,7 +1,8 @@
-//! The zeros of 32 polynomials of degree 5, x^5 and five coefficients each: all 256 points are walked.
-//! Squares and fourth powers are linear over the bits of a point, and its third and fifth powers are products of two such, so that
-//! the polynomial is a quadratic form of eight bits. Where one bit changes, its value changes by a sum of what belongs to that bit
-//! and to that bit and each other that is set. In Gray's order each point has one bit changed, and no product is left.
+//! The zeros of 32 polynomials of degree 5, x^5 and five coefficients each: all 256 points are walked. Squares and
+//! fourth powers are linear over the bits of a point, and its third and fifth powers are products of two such, so
+//! that the polynomial is a quadratic form of eight bits. Where one bit changes, its value changes by a sum of what
+//! belongs to that bit and to that bit and each other that is set. In Gray's order each point has one bit changed,
+//! and no product is left.
 ghost use Rattle.std.specs.Prelude.{◌<◌};
 
 use rs_lanes::scaled;
@@ -43,7 +44,8 @@ static FIFTH_PAIRS: [[u8; 8]; 8] = [
     [0x98, 0xD8, 0x46, 0x9A, 0x54, 0x2B, 0x8E, 0x00],
 ];
 
-/// The zeros of each polynomial that aren't 0, in no order: the last five found. Where fewer are found, zeros stand for the others.
+/// The zeros of each polynomial that aren't 0, in no order: the last five found. Where fewer are found, zeros stand
+/// for the others.
 pub fn roots(taps: &[u8x32; 5]) -> [u8x32; 5] {
     let mut lower = [u8x16::splat(0); 5];
     let mut upper = [u8x16::splat(0); 5];

@@ -1,5 +1,5 @@
-//! How often a row has to be decoded by itself. That what is proposed for a row with at most five errors is right is shown here
-//! alone: where it isn't, answers stay right and take longer.
+//! How often a row has to be decoded by itself. That what is proposed for a row with at most five errors is right is
+//! shown here alone: where it isn't, answers stay right and take longer.
 ghost use Rattle.std.specs.Prelude.{◌<◌, ◌≤◌};
 
 use crate::Proposals;

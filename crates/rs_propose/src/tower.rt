@@ -1,11 +1,11 @@
-//! The field as pairs of nibbles: a byte's high nibble counts times y, where nibbles are the field of sixteen elements by
-//! z^4 + z + 1, and y^2 = y + z^14. Vectors have no product of bytes. In this form one is three products of nibbles, and these
-//! are sums of logarithms to the base z, which sixteen lanes look up at once.
+//! The field as pairs of nibbles: a byte's high nibble counts times y, where nibbles are the field of sixteen
+//! elements by z^4 + z + 1, and y^2 = y + z^14. Vectors have no product of bytes. In this form one is three products
+//! of nibbles, and these are sums of logarithms to the base z, which sixteen lanes look up at once.
 use crate::nibbles::{at_high_nibbles, at_low_nibbles, look_up, mapped};
 use std::simd::prelude::*;
 
-/// The logarithms of a vector's high nibbles, of its low ones, and of the sums of both. That of 0 is 240: with another added
-/// to it, it is 128 or more still, and nothing is found there.
+/// The logarithms of a vector's high nibbles, of its low ones, and of the sums of both. That of 0 is 240: with
+/// another added to it, it is 128 or more still, and nothing is found there.
 pub type Logs = [u8x32; 3];
 
 /// What stands for the logarithm of 0.
