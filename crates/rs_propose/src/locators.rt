@@ -20,7 +20,7 @@ pub fn locators(syndromes: &[u8x32; 10], syndrome_logs: &[Logs; 10]) -> [u8x32; 
         let missed = sum_at(at, syndromes, syndrome_logs, &tap_logs);
         let missed_logs = logs(missed);
         let factor = logs(product(&missed_logs, &divisor));
-        add_multiples(&mut taps, &factor, &earlier);
+        add_multiples(&mut taps, &factor, &earlier, at + 1);
         let grows = grow_at(at, missed, lengths);
         shift(&mut earlier, &tap_logs, grows);
         divisor = chosen(grows, &inverse(&missed_logs), &divisor);
@@ -65,10 +65,11 @@ fn grow_at(at: usize, missed: u8x32, lengths: u8x32) -> mask8x32
     missed.simd_ne(u8x32::splat(0)) & (lengths + lengths).simd_le(reach)
 }
 
-// Adds the multiple of the earlier register with which a register misses no longer.
+// Adds the multiple of the earlier register with which a register misses no longer. Only so many of its coefficients
+// can be other than 0.
 #[inline(always)]
-fn add_multiples(taps: &mut [u8x32; 5], factor: &Logs, earlier: &[Logs; 5]) {
-    for k in 0..5 {
+fn add_multiples(taps: &mut [u8x32; 5], factor: &Logs, earlier: &[Logs; 5], count: usize) {
+    for k in 0..count.min(5) {
         taps[k] = taps[k] ^ product(factor, &earlier[k]);
     }
 }
