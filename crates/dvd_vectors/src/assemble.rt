@@ -1,49 +1,42 @@
 //! Scattered recording frames put in order: whatever their order, with repeats, gaps and strays.
-use crate::script::{Held, follow};
+use dvd_trial::{Held, hold};
 
 const SCATTERED: &str = "
 # Two blocks whose frames come in reverse order, and the first one again: what was mastered, without a mark.
-over; image 17; run 2*block master --sectors 17; reversed frame; again frame
-words assemble --sectors 17 --frames 33
-gives; image 17; run 2*block master --sectors 17; marked
-case
-ends Done 2*capture placed 33 strays 0/done/
-words recover --sectors 17 --form marked
-gives; image 17
-case; run 2*capture assemble --sectors 17 --frames 33
-ends Done 34816 done/
+given: image of 17 sectors | master --sectors 17 makes 2 blocks | frames reversed | again 1 frame
+run: assemble --sectors 17 --frames 33
+output: image of 17 sectors | master --sectors 17 makes 2 blocks | marked
+case: as given -> Done, 2 marked blocks: placed 33 strays 0/done
+run: recover --sectors 17 --form marked
+output: image of 17 sectors
+case: assemble --sectors 17 --frames 33 makes 2 marked blocks -> Done, 17 sectors: done
 
 # A block of each of two layers, whose frames come in reverse order after one of zeros.
-over; image 32; run 2*block master --sectors 16 --sectors1 16 --shape opposite
-reversed frame; bytes frame 00h; from 2*block
-words assemble --sectors 16 --sectors1 16 --shape opposite --frames 33
-gives; image 32; run 2*block master --sectors 16 --sectors1 16 --shape opposite; marked
-case
-ends Done 2*capture placed 32 strays 1/done/
-words recover --sectors 16 --sectors1 16 --shape opposite --form marked
-gives; image 32
-case; run 2*capture assemble --sectors 16 --sectors1 16 --shape opposite --frames 33
-ends Done 65536 done/
+given: image of 32 sectors | master --sectors 16 --sectors1 16 --shape opposite makes 2 blocks
+frames reversed | 1 frame of 00 | from 2 blocks
+run: assemble --sectors 16 --sectors1 16 --shape opposite --frames 33
+output: image of 32 sectors | master --sectors 16 --sectors1 16 --shape opposite makes 2 blocks | marked
+case: as given -> Done, 2 marked blocks: placed 32 strays 1/done
+run: recover --sectors 16 --sectors1 16 --shape opposite --form marked
+output: image of 32 sectors
+case: assemble --sectors 16 --sectors1 16 --shape opposite --frames 33 makes 2 marked blocks -> Done, 32 sectors: done
 
 # A frame of zeros is a stray: of the block nothing is known.
-over; bytes frame 00h
-words assemble --sectors 16 --frames 1
-gives; bytes block 00h; marked; lost 0 blockx1
-case
-ends Done capture placed 0 strays 1/done/
-case; bytes 1 00h
-ends Long capture placed 0 strays 1/long/
-case; cut 1
-ends Short 0 short: frame 0, 2365 bytes/
+given: 1 frame of 00
+run: assemble --sectors 16 --frames 1
+output: 1 block of 00 | marked | lost: block 0
+case: as given        -> Done, 1 marked block: placed 0 strays 1/done
+case: 1 byte of 00    -> Long, 1 marked block: placed 0 strays 1/long
+case: without 1 byte  -> Short, 0 bytes: short: frame 0, 2365 bytes
 
-over; bytes 2665 00h
-words assemble --sectors 16 --frames 1 --form marked
-gives; bytes block 00h; marked; lost 0 blockx1
-case
-ends Done capture placed 0 strays 1/done/
+# In the marked form a frame has 2665 bytes.
+given: 2665 bytes of 00
+run: assemble --sectors 16 --frames 1 --form marked
+output: 1 block of 00 | marked | lost: block 0
+case: as given        -> Done, 1 marked block: placed 0 strays 1/done
 ";
 
 #[test]
 fn scattered_frames_are_put_in_order(rt: HostRuntime) -> Held {
-    follow(&rt, SCATTERED)
+    hold(&rt, SCATTERED)
 }

@@ -1,91 +1,75 @@
 //! CD-ROM sectors that are made, and their user data, by whole runs.
-use crate::script::{Held, follow};
+use dvd_trial::{Held, hold};
 
 const MADE: &str = "
 # The first sector behind the pause of two seconds, of zeros and of counted bytes. It is what the sector library of the program
 # wodim makes (libedc of cdrkit 1.1.11), and a program that was made from the standard alone.
-words cdmake --address 150 --sectors 1
-over; bytes 2048 00h
-case
-ends Done 2352 done/
-digest B4F18AB66709C9B3FDEF2721CC323E031B6728F3CA6C57B7C435C96189222250
+run: cdmake --address 150 --sectors 1
+given: 1 sector of 00
+case: as given -> Done, 2352 bytes: done
+digest: B4F18AB66709C9B3FDEF2721CC323E031B6728F3CA6C57B7C435C96189222250
 # How it begins.
-holds 0 00FFFFFFFFFFFFFFFFFFFF0000020001
+at 0 bytes: 00FFFFFFFFFFFFFFFFFFFF0000020001
 
-over; counted
-case
-ends Done 2352 done/
-digest 535D2B4AE3C6B5DCF3BE1B3145BDBE0C678083982DFBC781C55BA14729896B47
+given: counted sector
+case: as given -> Done, 2352 bytes: done
+digest: 535D2B4AE3C6B5DCF3BE1B3145BDBE0C678083982DFBC781C55BA14729896B47
 # Its EDC, and parities.
-holds 2064 A2CA36EC
-holds 2076 D224CD3B
-holds 2248 59717CF6
+at 2064 bytes: A2CA36EC
+at 2076 bytes: D224CD3B
+at 2248 bytes: 59717CF6
 ";
 
 #[test]
 fn the_sectors_of_another_program(rt: HostRuntime) -> Held {
-    follow(&rt, MADE)
+    hold(&rt, MADE)
 }
 
 const ENDS: &str = "
 # Over so many zeros.
-over
-words cdmake --address 150 --sectors 1
-case; bytes 2047 00h
-ends Short 0 short: sector 0, 2047 bytes/
-case; bytes 2049 00h
-ends Long 2352 long/
-words cdmake --address 0 --sectors 450000
-case; bytes 2050 00h
-ends Short 2352 short: sector 1, 2 bytes/
-words cdmake --address 449999 --sectors 2
-case; bytes 2048 00h
-ends Usage 0 usage/
+given: nothing
+run: cdmake --address 150 --sectors 1
+case: 2047 bytes of 00  -> Short, 0 bytes: short: sector 0, 2047 bytes
+case: 2049 bytes of 00  -> Long, 2352 bytes: long
+run: cdmake --address 0 --sectors 450000
+case: 2050 bytes of 00  -> Short, 2352 bytes: short: sector 1, 2 bytes
+run: cdmake --address 449999 --sectors 2
+case: 2048 bytes of 00  -> Usage, 0 bytes: usage
 
-words cdread --address 150 --sectors 1
-gives; bytes 4096 00h
-case
-ends Short 0 short: sector 0, 0 bytes/
-case; bytes 2351 00h
-ends Short 0 short: sector 0, 2351 bytes/
-case; bytes 2352 00h
-ends Damaged 2048 sector 0: mode 0/damaged: 1 sectors/
-case; bytes 2353 00h
-ends Long 2048 sector 0: mode 0/long/
-words cdread --address 449998 --sectors 2
-case; bytes 4704 00h
-ends Damaged 4096 sector 0: mode 0/sector 1: mode 0/damaged: 2 sectors/
-words cdread --address 0 --sectors 450000
-case; bytes 2353 00h
-ends Short 2048 sector 0: mode 0/short: sector 1, 1 bytes/
-words cdread --address 449999 --sectors 2
-or cdread --address 150 --sectors 1 --form plain
-case; bytes 2352 00h
-ends Usage 0 usage/
+run: cdread --address 150 --sectors 1
+output: 4096 bytes of 00
+case: as given          -> Short, 0 bytes: short: sector 0, 0 bytes
+case: 2351 bytes of 00  -> Short, 0 bytes: short: sector 0, 2351 bytes
+case: 2352 bytes of 00  -> Damaged, 2048 bytes: sector 0: mode 0/damaged: 1 sectors
+case: 2353 bytes of 00  -> Long, 2048 bytes: sector 0: mode 0/long
+run: cdread --address 449998 --sectors 2
+case: 4704 bytes of 00  -> Damaged, 4096 bytes: sector 0: mode 0/sector 1: mode 0/damaged: 2 sectors
+run: cdread --address 0 --sectors 450000
+case: 2353 bytes of 00  -> Short, 2048 bytes: sector 0: mode 0/short: sector 1, 1 bytes
+run: cdread --address 449999 --sectors 2 | cdread --address 150 --sectors 1 --form plain
+case: 2352 bytes of 00  -> Usage, 0 bytes: usage
 
 # A sector of another address: of zeros, and of counted bytes.
-over; bytes 2048 00h; run 2352 cdmake --address 150 --sectors 1
-words cdread --address 151 --sectors 1
-gives; bytes 2048 00h
-case
-ends Damaged 2048 sector 0: address found 000200/damaged: 1 sectors/
-over; counted; run 2352 cdmake --address 150 --sectors 1
-words cdread --address 151 --sectors 1
-gives; bytes 2048 00h
-case
-ends Damaged 2048 sector 0: address found 000200/damaged: 1 sectors/
+given: 1 sector of 00 | cdmake --address 150 --sectors 1 makes 2352 bytes
+run: cdread --address 151 --sectors 1
+output: 1 sector of 00
+case: as given -> Damaged, 2048 bytes: sector 0: address found 000200/damaged: 1 sectors
+given: counted sector | cdmake --address 150 --sectors 1 makes 2352 bytes
+run: cdread --address 151 --sectors 1
+output: 1 sector of 00
+case: as given -> Damaged, 2048 bytes: sector 0: address found 000200/damaged: 1 sectors
 
 # Of the first sector all bytes of one P word in each half are wrong, of the second one a thousand bytes, of the third one the sync
 # and a byte of each half behind it. The second one is damaged among good ones.
-over; image 4; run 9408 cdmake --address 4498 --sectors 4
-wrong FFh 22 26x86; wrong 5Ah 97 26x86; wrong 55h 2352+1000 1000x1; wrong 33h 2*2352 14x1
-words cdread --address 4498 --sectors 4
-gives; image 4; zero 2048 2048x1
-case
-ends Damaged 8192 sector 1: parity 0/damaged: 1 sectors/
+given: image of 4 sectors | cdmake --address 4498 --sectors 4 makes 9408 bytes
+wrong by FF: cdsector 0, bytes 22 to 2172 step 86 | wrong by 5A: cdsector 0, bytes 97 to 2247 step 86
+wrong by 55: cdsector 1, bytes 1000 to 1999 | wrong by 33: cdsector 2, bytes 0 to 13
+run: cdread --address 4498 --sectors 4
+output: image of 4 sectors | zero: sector 1
+case: as given -> Damaged, 8192 bytes: sector 1: parity 0/damaged: 1 sectors
 ";
 
 #[test]
 fn each_run_ends_as_its_input_says(rt: HostRuntime) -> Held {
-    follow(&rt, ENDS)
+    hold(&rt, ENDS)
 }

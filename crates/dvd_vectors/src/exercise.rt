@@ -1,27 +1,26 @@
 //! The line of `exercise`, whose numbers another program computed from the standard; it reads nothing.
-use crate::script::{Held, follow};
+use dvd_trial::{Held, hold};
 
 const DRAWN: &str = "
-# The source fails at once.
-over; case
-words exercise --seed 1 --blocks 3
-or exercise --seed 1 --blocks 3 --workers 8
-gives; line exercise seed 1 blocks 3 whole 3 fixed 5242 failed 21
-case; source 1 0
-ends Done 54 done/
+# The input fails at once.
+given: nothing
+run: exercise --seed 1 --blocks 3 | exercise --seed 1 --blocks 3 --workers 8
+output: line exercise seed 1 blocks 3 whole 3 fixed 5242 failed 21
+case: as given
+reads: 1 byte a call, call 0 fails -> Done, 54 bytes: done
 
-words exercise --seed 0 --blocks 1
-gives; line exercise seed 0 blocks 1 whole 1 fixed 1397 failed 5
-case; source 1 0
-ends Done 53 done/
+run: exercise --seed 0 --blocks 1
+output: line exercise seed 0 blocks 1 whole 1 fixed 1397 failed 5
+case: as given
+reads: 1 byte a call, call 0 fails -> Done, 53 bytes: done
 
-words exercise --blocks 1 --seed 4294967295
-gives; line exercise seed 4294967295 blocks 1 whole 1 fixed 2677 failed 12
-case; source 1 0
-ends Done 63 done/
+run: exercise --blocks 1 --seed 4294967295
+output: line exercise seed 4294967295 blocks 1 whole 1 fixed 2677 failed 12
+case: as given
+reads: 1 byte a call, call 0 fails -> Done, 63 bytes: done
 ";
 
 #[test]
 fn drawn_blocks_are_read_back(rt: HostRuntime) -> Held {
-    follow(&rt, DRAWN)
+    hold(&rt, DRAWN)
 }

@@ -1,29 +1,33 @@
-//! Scripts that don't hold: what is misspelt isn't passed over, and each part of an end counts.
-use crate::script::{Held, follow};
+//! Texts that don't hold: what is misspelt isn't passed over, and each part of what comes counts.
+use dvd_trial::{Held, fails};
 
-static FAILING: [&str; 15] = [
-    "over; bytes 5 00h; zeros 0",
-    "over; bytes 5 00h; zero 0 2xblok",
-    "over; bytes 5 00h; zero 0 5",
-    "over; bytes 5 00h; wrong 55h",
-    "over; bytes 5",
-    "over; listed 0 0 16 0 0",
-    "over; listed 0 0 16 0 0 16 5",
-    "over; case\nends Usage 0 usage/",
-    "over; case; words x\nends Done 0 usage/",
-    "over; case; words x\nends Usage 1 usage/",
-    "over; case; words x\nends Usage 0 usage",
-    "over; bytes 5 00h; case; words master --sectors 16\nends Short 0 short: block 0, 5 bytes/\ntook 4",
-    "over; case; words x\nkeep; words cdread\nsame; digest 00",
-    "over; image 1; gives; image 2; case; words frames --first 030000 --sectors 1\nends Done 2064 done/",
-    "over; image 1; case; words frames --first 030000 --sectors 1\nends Done 2064 done/\nkeep; fails source 700 1 3",
+static FAILING: [&str; 17] = [
+    "given: 5 bytes of 00 | zeros: sector 0",
+    "given: 1 block of 00 | zero: blok 2",
+    "given: 1 block of 00 | zero: row 5 too 6",
+    "given: 1 block of 00 | wrong by 5X: row 5",
+    "given: 5 bytes of 00 | wrong by 55: row 5",
+    "given: 5 bytes",
+    "given: 5 bites of 00",
+    "given: 1 block of 00 | listed shape 0 zones 0 sectors 16 and 0 initial 0",
+    "given: 1 block of 00 | listed shape 0 zones 0 sectors 16 and 0 initial 0 tail 16 runs 5",
+    "given: nothing\ncase: as given -> Usage, 0 bytes: usage",
+    "given: nothing\ncase: as given\nrun: x -> Done, 0 bytes: usage",
+    "given: nothing\ncase: as given\nrun: x -> Usage, 1 byte: usage",
+    "given: nothing\ncase: as given\nrun: x -> Usage, 0 bytes: usage..",
+    "given: 5 bytes of 00\ncase: as given\nrun: master --sectors 16 -> Short, 0 bytes: short: block 0, 5 bytes\nread: 4 bytes",
+    "given: nothing\ncase: as given\nrun: x -> Usage, 0 bytes: usage\nrun: cdread\ndigest: 00",
+    "given: image of 1 sector\noutput: image of 2 sectors\ncase: as given\n\
+run: frames --first 030000 --sectors 1 -> Done, 2064 bytes: done",
+    "given: image of 1 sector\ncase: as given\nrun: frames --first 030000 --sectors 1 -> Done, 2064 bytes: done\n\
+each call fails: 3 reads of 700 bytes",
 ];
 
 #[test]
 fn what_does_not_hold_fails(rt: HostRuntime) -> Held {
-    for script in &FAILING {
-        if follow(&rt, script).is_ok() {
-            return Err(script);
+    for text in &FAILING {
+        if !fails(&rt, text) {
+            return Err(text);
         }
     }
     Ok(())

@@ -1,106 +1,83 @@
 //! How much exactly is left after a fault, and the lines.
-use crate::script::{Held, follow};
+use dvd_trial::{Held, hold};
 
 const FAULTS: &str = "
-# Reads of 700 bytes: three for a sector.
-over; bytes 4096 00h
-words frames --first 030000 --sectors 2
-becomes; run 4128 frames --first 030000 --sectors 2
-case; source 700 2
-ends ReadFault 0 read fault/
-source 700 3
-ends ReadFault 2064 read fault/
-source 700 6
-ends ReadFault 4128 read fault/
+# Three reads of 700 bytes make a sector.
+given: 4096 bytes of 00
+run: frames --first 030000 --sectors 2
+output: given | frames --first 030000 --sectors 2 makes 4128 bytes
+case: as given
+reads: 700 bytes a call, call 2 fails           -> ReadFault, 0 bytes: read fault
+reads: 700 bytes a call, call 3 fails           -> ReadFault, 2064 bytes: read fault
+reads: 700 bytes a call, call 6 fails           -> ReadFault, 4128 bytes: read fault
 # Outputs that have no room for both frames.
-output 999 never 0
-ends WriteFault 0 write fault/
-output 999 never 1
-ends WriteFault 1 write fault/
-output 999 never 2063
-ends WriteFault 2063 write fault/
-output 999 never 2064
-ends WriteFault 2064 write fault/
-output 999 never 4127
-ends WriteFault 4127 write fault/
-output 999 never 4128
-ends Done 4128 done/
+writes: 999 bytes a call, room for 0 bytes      -> WriteFault, 0 bytes: write fault
+writes: 999 bytes a call, room for 1 byte       -> WriteFault, 1 byte: write fault
+writes: 999 bytes a call, room for 2063 bytes   -> WriteFault, 2063 bytes: write fault
+writes: 999 bytes a call, room for 2064 bytes   -> WriteFault, 2064 bytes: write fault
+writes: 999 bytes a call, room for 4127 bytes   -> WriteFault, 4127 bytes: write fault
+writes: 999 bytes a call, room for 4128 bytes   -> Done, 4128 bytes: done
 # Reports that have no room for the closing line.
-report 9 never 5
-ends Done 4128 done/
-report 9 never 0
-ends ReportFault 4128
-report 9 never 1
-ends ReportFault 4128 d
-report 9 never 4
-ends ReportFault 4128 done
+reports: 9 bytes a call, room for 5 bytes       -> Done, 4128 bytes: done
+reports: 9 bytes a call, room for 0 bytes       -> ReportFault, 4128 bytes: ..
+reports: 9 bytes a call, room for 1 byte        -> ReportFault, 4128 bytes: d..
+reports: 9 bytes a call, room for 4 bytes       -> ReportFault, 4128 bytes: done..
 
-# Reads of a sector each: sixteen for a block.
-over; image 32
-words master --sectors 32
-becomes; run 2*block master --sectors 32
-case; source 2048 15
-ends ReadFault 0 read fault/
-source 2048 16
-ends ReadFault block read fault/
-source 2048 20
-ends ReadFault block read fault/
-source 2048 31
-ends ReadFault block read fault/
+# Sixteen reads of a sector each make a block.
+given: image of 32 sectors
+run: master --sectors 32
+output: given | master --sectors 32 makes 2 blocks
+case: as given
+reads: 1 sector a call, call 15 fails           -> ReadFault, 0 blocks: read fault
+reads: 1 sector a call, call 16 fails           -> ReadFault, 1 block: read fault
+reads: 1 sector a call, call 20 fails           -> ReadFault, 1 block: read fault
+reads: 1 sector a call, call 31 fails           -> ReadFault, 1 block: read fault
 
-over; image 16; run block master --sectors 16
-words recover --sectors 16
-gives; image 16
-case; source 1000 5
-ends ReadFault 0 read fault/
-output 1000 2 80000
-ends WriteFault 2000 write fault/
-output 1000 never 2500
-ends WriteFault 2500 write fault/
-report 9 0 80
-ends ReportFault 32768
+given: image of 16 sectors | master --sectors 16 makes 1 block
+run: recover --sectors 16
+output: image of 16 sectors
+case: as given
+reads: 1000 bytes a call, call 5 fails          -> ReadFault, 0 bytes: read fault
+writes: 1000 bytes a call, call 2 fails         -> WriteFault, 2000 bytes: write fault
+writes: 1000 bytes a call, room for 2500 bytes  -> WriteFault, 2500 bytes: write fault
+reports: 9 bytes a call, call 0 fails           -> ReportFault, 32768 bytes: ..
 
-# Reads of 182 bytes: 208 for a block.
-over; image 32; run 2*block master --sectors 32
-words recover --sectors 32
-gives; image 32
-case; source row 207
-ends ReadFault 0 read fault/
-source row 208
-ends ReadFault 32768 read fault/
-source row 300
-ends ReadFault 32768 read fault/
-source row 415
-ends ReadFault 32768 read fault/
+# 208 reads of a row make a block.
+given: image of 32 sectors | master --sectors 32 makes 2 blocks
+run: recover --sectors 32
+output: image of 32 sectors
+case: as given
+reads: 1 row a call, call 207 fails             -> ReadFault, 0 sectors: read fault
+reads: 1 row a call, call 208 fails             -> ReadFault, 16 sectors: read fault
+reads: 1 row a call, call 300 fails             -> ReadFault, 16 sectors: read fault
+reads: 1 row a call, call 415 fails             -> ReadFault, 16 sectors: read fault
 
 # The line of a refused block goes out before its sectors, which are zeros.
-over; bytes block 00h
-words recover --sectors 16
-gives; bytes 32768 00h
-case
-ends Damaged 32768 block 0 sector 030000 layer 0: address 0 found 00000000 saved 0/damaged: 1 blocks/
-output 2048 0 80000
-ends WriteFault 0 block 0 sector 030000 layer 0: address 0 found 00000000 saved 0/write fault/
-output 2048 5 80000
-ends WriteFault 10240 block 0 sector 030000 layer 0: address 0 found 00000000 saved 0/write fault/
-report 64 0 80
-ends ReportFault 0
-report 10 1 80
-ends ReportFault 0 block 0 se
-report 64 1 80
-ends ReportFault 32768 block 0 sector 030000 layer 0: address 0 found 00000000 saved 0/
+given: 1 block of 00
+run: recover --sectors 16
+output: 16 sectors of 00
+case: as given
+-> Damaged, 16 sectors: block 0 sector 030000 layer 0: address 0 found 00000000 saved 0/damaged: 1 blocks
+writes: 1 sector a call, call 0 fails
+-> WriteFault, 0 sectors: block 0 sector 030000 layer 0: address 0 found 00000000 saved 0/write fault
+writes: 1 sector a call, call 5 fails
+-> WriteFault, 5 sectors: block 0 sector 030000 layer 0: address 0 found 00000000 saved 0/write fault
+reports: 64 bytes a call, call 0 fails          -> ReportFault, 0 sectors: ..
+reports: 10 bytes a call, call 1 fails          -> ReportFault, 0 sectors: block 0 se..
+reports: 64 bytes a call, call 1 fails
+-> ReportFault, 16 sectors: block 0 sector 030000 layer 0: address 0 found 00000000 saved 0/..
 
 # A disk of two blocks, of which one is recorded.
-over; image 16; run block master --sectors 16; bytes block 00h
-words recover --sectors 32
-gives; image 16
-case; output 2048 16 80000
-ends WriteFault 32768 block 1 sector 030010 layer 0: address 0 found 00000000 saved 0/write fault/
-report 64 0 80
-ends ReportFault 32768
+given: image of 16 sectors | master --sectors 16 makes 1 block | 1 block of 00
+run: recover --sectors 32
+output: image of 16 sectors
+case: as given
+writes: 1 sector a call, call 16 fails
+-> WriteFault, 16 sectors: block 1 sector 030010 layer 0: address 0 found 00000000 saved 0/write fault
+reports: 64 bytes a call, call 0 fails          -> ReportFault, 16 sectors: ..
 ";
 
 #[test]
 fn a_fault_leaves_the_front_of_what_is_written(rt: HostRuntime) -> Held {
-    follow(&rt, FAULTS)
+    hold(&rt, FAULTS)
 }

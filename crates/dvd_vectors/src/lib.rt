@@ -16,11 +16,9 @@ mod disks; // disks of every shape, mastered and read back
 #[cfg(test)]
 mod exercise; // blocks drawn, damaged and read back
 #[cfg(test)]
-mod failing; // scripts that don't hold
+mod failing; // texts that don't hold
 #[cfg(test)]
 mod faults; // exactly what is left after a fault
-#[cfg(test)]
-mod fixture; // what the tests share
 #[cfg(test)]
 mod frames; // frames of a few sectors
 #[cfg(test)]
@@ -34,13 +32,9 @@ mod listed; // captures that state their layout
 #[cfg(test)]
 mod loops; // the loops of two commands by themselves
 #[cfg(test)]
-mod making; // how the bytes of a run are made
-#[cfg(test)]
 mod master; // recordings
 #[cfg(test)]
 mod merge; // captures of one disk joined
-#[cfg(test)]
-mod reading; // what is read otherwise of a stream
 #[cfg(test)]
 mod recover; // streams that aren't those that are asked for
 #[cfg(test)]
@@ -48,25 +42,8 @@ mod refused; // listed captures that break a rule
 #[cfg(test)]
 mod scratched; // a disk with a burst and scattered errors
 #[cfg(test)]
-mod script; // what the tests of whole runs are written in
-#[cfg(test)]
-mod stops; // no stream is asked again
-#[cfg(test)]
 mod survey; // surveys of streams
 #[cfg(test)]
 mod usage; // words that ask for nothing
 #[cfg(test)]
-mod values; // derived equality
-#[cfg(test)]
 mod workers; // several workers on one run
-
-use std::alloc::{AllocError, Global};
-
-/// Puts the words of a command line in the place of those that stand.
-pub fn put_words(alloc: Global, text: &str, words: &mut Vec<String>) -> Result<(), AllocError> {
-    words.clear();
-    for word in text.split_whitespace() {
-        words.push(String::from_str(alloc, word)?)?;
-    }
-    Ok(())
-}

@@ -1,72 +1,56 @@
 //! Streams that are cut off, followed by more, full of marks or of another place, and what is read back of them.
-use crate::script::{Held, follow};
+use dvd_trial::{Held, hold};
 
 const STREAMS: &str = "
-over; image 32; run 2*block master --sectors 32
-words recover --sectors 32
-gives; image 32
-case; front 0
-ends Short 0 short: block 0, 0 bytes/
-case; front 1
-ends Short 0 short: block 0, 1 bytes/
-case; front 37855
-ends Short 0 short: block 0, 37855 bytes/
-case; front 37856
-ends Short 32768 short: block 1, 0 bytes/
-case; front 37857
-ends Short 32768 short: block 1, 1 bytes/
-case; front 75711
-ends Short 32768 short: block 1, 37855 bytes/
-case; bytes 1 55h
-ends Long 65536 long/
-case; bytes 9 55h
-ends Long 65536 long/
-took 2*block+1
+given: image of 32 sectors | master --sectors 32 makes 2 blocks
+run: recover --sectors 32
+output: image of 32 sectors
+case: front 0 bytes             -> Short, 0 sectors: short: block 0, 0 bytes
+case: front 1 byte              -> Short, 0 sectors: short: block 0, 1 bytes
+case: front 37855 bytes         -> Short, 0 sectors: short: block 0, 37855 bytes
+case: front 37856 bytes         -> Short, 16 sectors: short: block 1, 0 bytes
+case: front 37857 bytes         -> Short, 16 sectors: short: block 1, 1 bytes
+case: front 75711 bytes         -> Short, 16 sectors: short: block 1, 37855 bytes
+case: 1 byte of 55              -> Long, 32 sectors: long
+case: 9 bytes of 55             -> Long, 32 sectors: long
+read: 2 blocks and 1 byte
 
-over; image 17; run 2*block master --sectors 17
-words recover --sectors 17
-or recover --form plain --sectors 17
-gives; image 17
-case
-ends Done 34816 done/
-nothing
-case; cut 1
-ends Short 32768 short: block 1, 37855 bytes/
-case; bytes 1 55h
-ends Long 34816 long/
+given: image of 17 sectors | master --sectors 17 makes 2 blocks
+run: recover --sectors 17 | recover --form plain --sectors 17
+output: image of 17 sectors
+case: as given                  -> Done, 17 sectors: done
+to nothing
+case: without 1 byte            -> Short, 16 sectors: short: block 1, 37855 bytes
+case: 1 byte of 55              -> Long, 17 sectors: long
 
 # Every byte is marked.
-over; bytes capture FFh
-words recover --sectors 16 --form marked
-gives; bytes 32768 00h
-case
-ends Damaged 32768 block 0 sector 030000 layer 0: rows 208 saved 0/damaged: 1 blocks/
+given: 1 marked block of FF
+run: recover --sectors 16 --form marked
+output: 16 sectors of 00
+case: as given
+-> Damaged, 16 sectors: block 0 sector 030000 layer 0: rows 208 saved 0/damaged: 1 blocks
 
 # A control block in the place of the first data block.
-over; image 16; run 273*block master --sectors 16 --zones all; from 224*block; front block
-words recover --sectors 16
-gives; bytes 32768 00h
-case
-ends Damaged 32768 block 0 sector 030000 layer 0: address 0 found 0402FE00 saved 0/damaged: 1 blocks/
+given: image of 16 sectors | master --sectors 16 --zones all makes 273 blocks | from 224 blocks | front 1 block
+run: recover --sectors 16
+output: 16 sectors of 00
+case: as given
+-> Damaged, 16 sectors: block 0 sector 030000 layer 0: address 0 found 0402FE00 saved 0/damaged: 1 blocks
 
 # Two more ways to write sixteen.
-over; image 16; run block master --sectors 16
-words recover --sectors=16
-or recover --sectors 0016
-gives; image 16
-case
-ends Done 32768 done/
-case; front 0
-ends Short 0 short: block 0, 0 bytes/
+given: image of 16 sectors | master --sectors 16 makes 1 block
+run: recover --sectors=16 | recover --sectors 0016
+output: image of 16 sectors
+case: as given                  -> Done, 16 sectors: done
+case: front 0 bytes             -> Short, 0 sectors: short: block 0, 0 bytes
 
 # The first of two layers, read as a disk of one: the bit of the number of layers plays no part.
-over; image 32; run 2*block master --sectors 16 --sectors1 16 --shape opposite; front block
-gives; image 16
-case
-ends Done 32768 done/
+given: image of 32 sectors | master --sectors 16 --sectors1 16 --shape opposite makes 2 blocks | front 1 block
+output: image of 16 sectors
+case: as given                  -> Done, 16 sectors: done
 ";
 
 #[test]
 fn what_stands_in_a_stream_comes_back(rt: HostRuntime) -> Held {
-    follow(&rt, STREAMS)
+    hold(&rt, STREAMS)
 }

@@ -1,45 +1,39 @@
 //! A disk of 528 blocks as a rescuer meets it: a burst over forty blocks, of which marked rows are lost, and wrong bytes in
 //! every eighth row of all others, which nothing marks. All of it is read back, and the survey counts what is there, by one worker and
 //! by eight.
-use crate::script::{Held, follow_over};
+use dvd_trial::{Held, hold_over};
 
+// The first three bytes of every eighth row are wrong before and after the burst, in which nothing could be read of the first twelve
+// rows of each block.
 const SCRATCHED: &[&str] = &[
-    "
-# The first three bytes of every eighth row are wrong before and after the burst, in which nothing could be read of the first twelve
-# rows of each block.
-over; image 4096; run 528*block master --sectors 4096 --zones all
-wrong FFh 0 300*26x8*row 3x1; wrong FFh 340*block 188*26x8*row 3x1
-marked; lost 300*block 40xblock 12*rowx1
-",
+    "given: image of 4096 sectors | master --sectors 4096 --zones all makes 528 blocks
+wrong by FF: blocks 0 to 299, rows 0 to 200 step 8, bytes 0 to 2; blocks 340 to 527, rows 0 to 200 step 8, bytes 0 to 2
+marked | lost: blocks 300 to 339, rows 0 to 11",
 ];
 
 const SURVEYED: &str = "
 # SHA-256 of the lines, which another program wrote from the numbers of the rows that were damaged. The last line has the totals.
-case
-words survey --sectors 4096 --zones all --form marked
-ends Done 33220 done/
-digest 21FC8EF85675D34802E960E8B3CAA70E8B715DCED28C83B94AEDEEB6A4623CEF
-last blocks 528 pi 13168 failed 480 damaged 0 peak 208 at 7 over 0
-words survey --sectors 4096 --zones all --form marked --workers 8
-ends Done 33220 done/
-digest 21FC8EF85675D34802E960E8B3CAA70E8B715DCED28C83B94AEDEEB6A4623CEF
-last blocks 528 pi 13168 failed 480 damaged 0 peak 208 at 7 over 0
+case: as given
+run: survey --sectors 4096 --zones all --form marked              -> Done, 33220 bytes: done
+digest: 21FC8EF85675D34802E960E8B3CAA70E8B715DCED28C83B94AEDEEB6A4623CEF
+last line: blocks 528 pi 13168 failed 480 damaged 0 peak 208 at 7 over 0
+run: survey --sectors 4096 --zones all --form marked --workers 8  -> Done, 33220 bytes: done
+digest: 21FC8EF85675D34802E960E8B3CAA70E8B715DCED28C83B94AEDEEB6A4623CEF
+last line: blocks 528 pi 13168 failed 480 damaged 0 peak 208 at 7 over 0
 ";
 
 #[test]
 fn a_scratched_disk_is_surveyed(rt: HostRuntime) -> Held {
-    follow_over(&rt, SCRATCHED, SURVEYED)
+    hold_over(&rt, SCRATCHED, SURVEYED)
 }
 
 const READ_BACK: &str = "
-words recover --sectors 4096 --zones all --form marked
-or recover --sectors 4096 --zones all --form marked --workers 8
-gives; image 4096
-case; output 40000 never 4096*2048
-ends Done 4096*2048 done/
+run: recover --sectors 4096 --zones all --form marked | recover --sectors 4096 --zones all --form marked --workers 8
+output: image of 4096 sectors
+case: as given -> Done, 4096 sectors: done
 ";
 
 #[test]
 fn a_scratched_disk_is_read_back(rt: HostRuntime) -> Held {
-    follow_over(&rt, SCRATCHED, READ_BACK)
+    hold_over(&rt, SCRATCHED, READ_BACK)
 }

@@ -1,66 +1,38 @@
 //! Words that ask for nothing.
-use crate::script::{Held, follow_over};
+use dvd_trial::{Held, hold_over};
 
 // Over sectors, and over nothing.
-const OVERS: &[&str] = &["over; bytes 34816 00h", "over"];
+const GIVEN: &[&str] = &["given: 17 sectors of 00", "given: nothing"];
 
 const USAGE: &str = "
-case
-words
-or Frames --first 030000 --sectors 1
-or --help
-or --version
-or frames
-or frames --first FFFFFF --sectors 2
-or frames --first 030000 --sectors 0
-or frames --first 030000 --sectors=
-or frames --first 030000 --sectors +1
-or frames --first 030000 --sectors 00000000001
-or frames --first 030000 --sectors 1 --sectors 1
-or frames --first 030000 --first 030000
-or frames --first 030000 --sectors 1 -- 1
-or frames --first 30000 --sectors 1
-or frames --first 03000g --sectors 1
-or master --sectors 17 --sectors 17
-or master --sectors 16 --cpr 00
-or recover
-or recover --sectors 16 --sectors 16
-or recover --sectors +16
-or recover --sectors 16 --workers 17
-or merge --sectors 16 --captures 1
-or merge --sectors 16 --captures 17
-or assemble --sectors 16385 --frames 1
-or assemble --sectors 16 --frames 0
-or recover --form listed --sectors 16
-or survey --form marked
-or convert --sectors 16 --form listed
-or merge --sectors 16 --captures 2 --form listed
-ends Usage 0 usage/
-source 1 never
-ends Usage 0 usage/
-source 7 never
-ends Usage 0 usage/
-report 9 never 7
-ends Usage 0 usage/
-report 9 never 6
-ends Usage 0 usage/
+case: as given
+run: no words | Frames --first 030000 --sectors 1 | --help | --version | frames
+or: frames --first FFFFFF --sectors 2 | frames --first 030000 --sectors 0 | frames --first 030000 --sectors=
+or: frames --first 030000 --sectors +1 | frames --first 030000 --sectors 00000000001
+or: frames --first 030000 --sectors 1 --sectors 1 | frames --first 030000 --first 030000
+or: frames --first 030000 --sectors 1 -- 1 | frames --first 30000 --sectors 1 | frames --first 03000g --sectors 1
+or: master --sectors 17 --sectors 17 | master --sectors 16 --cpr 00
+or: recover | recover --sectors 16 --sectors 16 | recover --sectors +16 | recover --sectors 16 --workers 17
+or: merge --sectors 16 --captures 1 | merge --sectors 16 --captures 17
+or: assemble --sectors 16385 --frames 1 | assemble --sectors 16 --frames 0
+or: recover --form listed --sectors 16 | survey --form marked
+or: convert --sectors 16 --form listed | merge --sectors 16 --captures 2 --form listed
+                                           -> Usage, 0 bytes: usage
+reads: 1 byte a call                       -> Usage, 0 bytes: usage
+reads: 7 bytes a call                      -> Usage, 0 bytes: usage
+reports: 9 bytes a call, room for 7 bytes  -> Usage, 0 bytes: usage
+reports: 9 bytes a call, room for 6 bytes  -> Usage, 0 bytes: usage
 
 # Where the report has no room for the line, the status tells it.
-report 9 never 5
-ends ReportFault 0 usage
-report 9 never 4
-ends ReportFault 0 usag
-report 9 never 3
-ends ReportFault 0 usa
-report 9 never 2
-ends ReportFault 0 us
-report 9 never 1
-ends ReportFault 0 u
-report 9 never 0
-ends ReportFault 0
+reports: 9 bytes a call, room for 5 bytes  -> ReportFault, 0 bytes: usage..
+reports: 9 bytes a call, room for 4 bytes  -> ReportFault, 0 bytes: usag..
+reports: 9 bytes a call, room for 3 bytes  -> ReportFault, 0 bytes: usa..
+reports: 9 bytes a call, room for 2 bytes  -> ReportFault, 0 bytes: us..
+reports: 9 bytes a call, room for 1 byte   -> ReportFault, 0 bytes: u..
+reports: 9 bytes a call, room for 0 bytes  -> ReportFault, 0 bytes: ..
 ";
 
 #[test]
 fn words_that_ask_for_nothing_are_usage(rt: HostRuntime) -> Held {
-    follow_over(&rt, OVERS, USAGE)
+    hold_over(&rt, GIVEN, USAGE)
 }

@@ -1,0 +1,94 @@
+//! What a test ends with, and what is told where something else came than has to.
+use crate::amounts::{MARKED_ROW, ROW};
+use crate::trial::{Trial, line_holds, name_of, new_trial};
+use std::thread::Threads;
+
+/// Everything holds, or the line that doesn't.
+pub type Held = Result<(), &'static str>;
+
+/// Whether what each line of the text says holds. Where one doesn't, it is told what was run and what came.
+pub fn hold<R: AllocGlobal + Threads + Sync + Eprint>(rt: &R, text: &'static str) -> Held {
+    hold_over(rt, &[""], text)
+}
+
+/// The same behind each of these lines.
+pub fn hold_over<R: AllocGlobal + Threads + Sync + Eprint>(
+    rt: &R,
+    givens: &[&'static str],
+    text: &'static str,
+) -> Held {
+    let mut trial = new_trial(rt.alloc());
+    for given in givens {
+        let mut held = lines_hold(rt, given, &mut trial);
+        if held.is_ok() {
+            held = lines_hold(rt, text, &mut trial);
+        }
+        if let Err(line) = held {
+            let _ = eprintln!(rt; "{given}\n{line}");
+            tell(rt, &trial);
+            return Err(line);
+        }
+    }
+    Ok(())
+}
+
+/// The same, and nothing is told.
+pub fn lines_hold<R: AllocGlobal + Threads + Sync>(
+    rt: &R,
+    text: &'static str,
+    trial: &mut Trial,
+) -> Held {
+    for line in text.lines() {
+        let (line, _) = line.split_once('#').unwrap_or((line, ""));
+        if !line_holds(rt, line, trial) {
+            return Err(line);
+        }
+    }
+    Ok(())
+}
+
+/// Whether a line of the text doesn't hold.
+pub fn fails<R: AllocGlobal + Threads + Sync>(rt: &R, text: &'static str) -> bool {
+    lines_hold(rt, text, &mut new_trial(rt.alloc())).is_err()
+}
+
+// The words that ran last, what came, and where the output differs first from the one that was wanted: in an image, or in a capture.
+fn tell<R: Eprint>(rt: &R, trial: &Trial) {
+    let words = trial.words.split(" | ").nth(trial.last).unwrap_or("");
+    let status = name_of(trial.left.status);
+    let length = trial.left.output.len();
+    let report = str::from_utf8(&trial.left.report).unwrap_or("bytes that are no text");
+    let _ = eprintln!(rt; "{words}\ncame: {status}, {length} bytes, and the report\n{report}");
+    let at = first_difference(&trial.output, &trial.left.output);
+    let wanted = trial.output.get(at);
+    let came = trial.left.output.get(at);
+    if let (Some(wanted), Some(came)) = (wanted, came) {
+        let (sector, byte) = (at / 2048, at % 2048);
+        let _ = eprintln!(rt; "byte {at} is {came} for {wanted}: sector {sector}, byte {byte}");
+        tell_place(rt, "plain", at / ROW, at % ROW);
+        tell_place(rt, "marked", at / MARKED_ROW, at % MARKED_ROW);
+    }
+}
+
+fn first_difference(one: &[u8], other: &[u8]) -> usize {
+    let mut at: usize = 0;
+    for (this, that) in one.iter().zip(other) {
+        if *this != *that {
+            break;
+        }
+        at = at.saturating_add(1);
+    }
+    at
+}
+
+// Which row of a block is recorded there.
+fn tell_place<R: Eprint>(rt: &R, form: &str, recorded: usize, byte: usize) {
+    let (block, recorded) = (recorded / 208, recorded % 208);
+    let frame = recorded / 13;
+    let row = if recorded % 13 == 12 {
+        frame.saturating_add(192)
+    } else {
+        recorded.saturating_sub(frame)
+    };
+    let _ = eprintln!(rt; "of a {form} capture: block {block}, row {row}, byte {byte}");
+}

@@ -1,0 +1,34 @@
+//! What tests of whole runs are written in: texts that say what is there, what is damaged, what is run and what must come.
+//! A table of cases in code would be a tree of values, through which the checker goes again for each function that names
+//! it. A text is one value, which a few small functions read while the test runs.
+//!
+//! ```text
+//! given: image of 17 sectors | master --sectors 17 makes 2 blocks
+//! run: recover --sectors 17 --form marked
+//! output: image of 17 sectors | zero: sectors 0 to 1
+//! case: marked | lost: block 0, rows 0 to 16 -> Damaged, 17 sectors: block 0 sector 030000 layer 0: rows 17 saved 14/..
+//! ```
+//!
+//! `given` are the bytes that cases have in common, and `case` is one of them, changed; `also` changes those in common.
+//! `output` is all that a run writes where nothing fails. Behind `run` stand the words of a run, and behind each `or` others,
+//! which leave the same. What must come stands behind `->`: status, length of the output, a front of the whole one, and
+//! the lines of the report, with `/` between them; one that ends in `..` is cut off there. A line that names nothing
+//! else goes on changing the bytes. Nothing behind `#` is read.
+//!
+//! Places are those of a block: rows 0 to 191 are its rows of data, rows 192 to 207 those of outer parity, each of 182
+//! bytes; rows, bytes or blocks that aren't named are all. Frame f has rows 12f to 12f + 11 and row 192 + f.
+#![tactic(auto)]
+
+mod amounts; // numbers, amounts and lists of numbers
+mod damage; // bytes that are lost, wrong or doubtful
+mod failure; // what is told where something else came
+mod made; // how bytes are made
+mod runs; // one run and what it leaves
+mod streams; // streams that fail or go in pieces, and see that nothing is tried again
+mod trial; // the lines of a text
+mod turns; // runs in which something fails in turn
+mod workers; // gates that see several workers
+
+pub use failure::{Held, fails, hold, hold_over};
+pub use runs::put_words;
+pub use trial::bytes_of;

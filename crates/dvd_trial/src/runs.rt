@@ -1,0 +1,153 @@
+//! One run and what it leaves.
+use crate::streams::{ALL_SOUND, Input, Output, Ports, Watch};
+use dvd_par::{Gate, OpenGate};
+use dvd_ports::{NullSink, Sink, StdSink, StdSource};
+use dvd_top::{Status, run};
+use std::alloc::{AllocError, Global};
+use std::thread::Threads;
+
+/// What a run leaves.
+#[derive(Drop)]
+pub struct Left {
+    pub status: Status,
+    pub output: Vec<u8>,
+    pub report: Vec<u8>,
+    /// How many bytes it has read.
+    pub read: usize,
+    /// Whether a call failed or met the end of the input, and whether nothing was tried again after it.
+    pub has_stopped: bool,
+    pub is_kept: bool,
+}
+
+pub fn nothing_left(alloc: Global) -> Left {
+    Left {
+        status: Status::NoMemory,
+        output: Vec::new(alloc),
+        report: Vec::new(alloc),
+        read: 0,
+        has_stopped: false,
+        is_kept: false,
+    }
+}
+
+/// Puts the words of a command line in the place of those that stand.
+pub fn put_words(alloc: Global, text: &str, words: &mut Vec<String>) -> Result<(), AllocError> {
+    words.clear();
+    let text = if text == "no words" { "" } else { text };
+    for word in text.split_whitespace() {
+        words.push(String::from_str(alloc, word)?)?;
+    }
+    Ok(())
+}
+
+/// Runs the words over these bytes, where the workers ask this gate. Answers whether nothing was tried again.
+pub fn run_over<R: AllocGlobal + Threads + Sync, G: Gate>(
+    rt: &R,
+    gate: &G,
+    text: &str,
+    bytes: &[u8],
+    ports: &Ports,
+    left: &mut Left,
+) -> bool {
+    let watch = Watch::new();
+    left.output.clear();
+    let output = Output {
+        watch: &watch,
+        port: ports.output,
+        held: &mut left.output,
+        is_report: false,
+        has_failed: false,
+        calls: 0,
+    };
+    let mut output = StdSink::new(output);
+    left.status = run_to(
+        rt,
+        gate,
+        text,
+        bytes,
+        ports,
+        &watch,
+        &mut output,
+        &mut left.report,
+    );
+    left.read = watch.read() as usize;
+    left.has_stopped = watch.has_stopped();
+    left.is_kept = watch.is_kept();
+    left.is_kept
+}
+
+/// The same over so many of them.
+pub fn run_front<R: AllocGlobal + Threads + Sync>(
+    rt: &R,
+    text: &str,
+    bytes: &[u8],
+    length: usize,
+    ports: &Ports,
+    left: &mut Left,
+) -> bool {
+    let front = bytes.get(..length).unwrap_or(&[]);
+    run_over(rt, &OpenGate, text, front, ports, left)
+}
+
+/// The same with an output that keeps nothing.
+pub fn run_to_nothing<R: AllocGlobal + Threads + Sync>(
+    rt: &R,
+    text: &str,
+    bytes: &[u8],
+    left: &mut Left,
+) -> bool {
+    let watch = Watch::new();
+    let mut output = NullSink::new();
+    left.status = run_to(
+        rt,
+        &OpenGate,
+        text,
+        bytes,
+        &ALL_SOUND,
+        &watch,
+        &mut output,
+        &mut left.report,
+    );
+    watch.is_kept()
+}
+
+fn run_to<R: AllocGlobal + Threads + Sync, G: Gate, K: Sink>(
+    rt: &R,
+    gate: &G,
+    text: &str,
+    bytes: &[u8],
+    ports: &Ports,
+    watch: &Watch,
+    output: &mut K,
+    held: &mut Vec<u8>,
+) -> Status {
+    let mut words = Vec::new(rt.alloc());
+    if put_words(rt.alloc(), text, &mut words).is_err() {
+        return Status::NoMemory;
+    }
+    held.clear();
+    let input = Input {
+        watch,
+        port: ports.input,
+        rest: bytes,
+        calls: 0,
+    };
+    let report = Output {
+        watch,
+        port: ports.report,
+        held,
+        is_report: true,
+        has_failed: false,
+        calls: 0,
+    };
+    let mut input = StdSource::new(input);
+    run(
+        rt,
+        rt.alloc(),
+        &words,
+        gate,
+        &mut input,
+        output,
+        &mut StdSink::new(report),
+    )
+}
