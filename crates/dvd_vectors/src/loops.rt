@@ -8,8 +8,8 @@ use dvd_layout::{Shape, Zones};
 use dvd_par::OpenGate;
 use dvd_ports::{MemSink, SliceSource};
 use dvd_top::{Command, LoopEnd, Settings, master_loop, recover_loop};
-use dvd_trial::bytes_of;
-use std::test::Fail;
+use dvd_trial::{Held, bytes_of};
+use std::thread::Threads;
 
 // Settings of a disk of 17 sectors.
 fn settings(command: Command) -> Settings
@@ -35,48 +35,56 @@ fn settings(command: Command) -> Settings
     }
 }
 
-#[test]
-fn the_loops_record_as_the_command_does_and_read_back(rt: HostRuntime) -> Result<(), Fail> {
+fn master<R: AllocGlobal + Threads + Sync>(
+    rt: &R,
+    image: &[u8],
+    output: &mut MemSink,
+) -> Option<LoopEnd> {
+    let settings = settings(Command::Master);
+    let layout = settings.layout().ok()?;
+    let mut block = Block::new(rt.alloc()).ok()?;
+    let mut piece = Piece::new(rt.alloc()).ok()?;
+    let source = &mut SliceSource::new(image);
+    let (block, piece) = (&mut block, &mut piece);
+    Some(master_loop(
+        rt, &settings, &layout, &OpenGate, block, piece, source, output,
+    ))
+}
+
+fn recover<R: AllocGlobal + Threads + Sync>(
+    rt: &R,
+    disk: &[u8],
+    output: &mut MemSink,
+    report: &mut MemSink,
+) -> Option<LoopEnd> {
+    let settings = settings(Command::Recover);
+    let layout = settings.layout().ok()?;
+    let mut work = Work::new(rt.alloc()).ok()?;
+    let source = &mut SliceSource::new(disk);
+    Some(recover_loop(
+        rt, &settings, &layout, &OpenGate, &mut work, source, output, report,
+    ))
+}
+
+fn both_hold<R: AllocGlobal + Threads + Sync>(rt: &R) -> Option<bool> {
     let alloc = rt.alloc();
-    let image = bytes_of(&rt, "image of 17 sectors").ok_or("no image")?;
+    let image = bytes_of(rt, "image of 17 sectors")?;
     let words = "image of 17 sectors | master --sectors 17 --zones all makes 274 blocks";
-    let disk = bytes_of(&rt, words).ok_or("no disk")?;
-    let mut output = MemSink::new(alloc, 274 * 37_856, 40_000, Vec::new(alloc))?;
-    let mut report = MemSink::new(alloc, 80, 80, Vec::new(alloc))?;
+    let disk = bytes_of(rt, words)?;
+    let mut recorded = MemSink::new(alloc, 274 * 37_856, 40_000, Vec::new(alloc)).ok()?;
+    let mut output = MemSink::new(alloc, 17 * 2048, 40_000, Vec::new(alloc)).ok()?;
+    let mut report = MemSink::new(alloc, 80, 80, Vec::new(alloc)).ok()?;
+    let are_done = master(rt, &image, &mut recorded)? == LoopEnd::Done
+        && recover(rt, &disk, &mut output, &mut report)? == LoopEnd::Done;
+    let are_right = recorded.held() == disk.as_slice() && output.held() == image.as_slice();
+    Some(are_done && are_right && report.held().is_empty())
+}
 
-    let settings0 = settings(Command::Master);
-    let layout = settings0.layout()?;
-    let (mut block, mut piece) = (Block::new(alloc)?, Piece::new(alloc)?);
-    let mut source = SliceSource::new(&image);
-    let end = master_loop(
-        &rt,
-        &settings0,
-        &layout,
-        &OpenGate,
-        &mut block,
-        &mut piece,
-        &mut source,
-        &mut output,
-    );
-    assert_eq!(rt; end, LoopEnd::Done);
-    assert!(rt; output.held() == disk.as_slice());
-
-    let settings1 = settings(Command::Recover);
-    let layout = settings1.layout()?;
-    let mut work = Work::new(alloc)?;
-    let mut source = SliceSource::new(&disk);
-    let mut output = MemSink::new(alloc, 17 * 2048, 40_000, Vec::new(alloc))?;
-    let end = recover_loop(
-        &rt,
-        &settings1,
-        &layout,
-        &OpenGate,
-        &mut work,
-        &mut source,
-        &mut output,
-        &mut report,
-    );
-    assert_eq!(rt; end, LoopEnd::Done);
-    assert!(rt; output.held() == image.as_slice() && report.held().is_empty());
-    Ok(())
+#[test]
+fn the_loops_record_as_the_command_does_and_read_back(rt: HostRuntime) -> Held {
+    match both_hold(&rt) {
+        Some(true) => Ok(()),
+        Some(false) => Err("a loop ends otherwise, or leaves other bytes"),
+        None => Err("no memory, or no such disk"),
+    }
 }
