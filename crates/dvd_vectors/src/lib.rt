@@ -14,6 +14,8 @@ mod deep; // blocks that rounds give back, and that they don't
 #[cfg(test)]
 mod disks; // disks of every shape, mastered and read back
 #[cfg(test)]
+mod distinct; // values that functions make
+#[cfg(test)]
 mod exercise; // blocks drawn, damaged and read back
 #[cfg(test)]
 mod failing; // texts that don't hold
