@@ -27,8 +27,8 @@ struct Places {
     sector: usize,
 }
 
-/// Does `verb: rest`, as `wrong by 55: block 1, rows 3 to 7, bytes 0 to 9; row 9`. Answers whether that is damage, and of bytes
-/// that have such places.
+/// Does `verb: rest`, as `wrong by 55: block 1, rows 3 to 7, bytes 0 to 9; row 9`. Answers whether that is damage,
+/// and of bytes that have such places.
 pub fn damage(verb: &str, rest: &str, bytes: &mut [u8]) -> bool {
     let (kind, value) = verb.split_once(" by ").unwrap_or((verb, "00"));
     let Ok(value) = u8::from_str_radix(value, 16) else {

@@ -52,7 +52,8 @@ pub fn fails<R: AllocGlobal + Threads + Sync>(rt: &R, text: &'static str) -> boo
     lines_hold(rt, text, &mut new_trial(rt.alloc())).is_err()
 }
 
-// The words that ran last, what came, and where the output differs first from the one that was wanted: in an image, or in a capture.
+// The words that ran last, what came, and where the output differs first from the one that was wanted: in an image,
+// or in a capture.
 fn tell<R: Eprint>(rt: &R, trial: &Trial) {
     let words = trial.words.split(" | ").nth(trial.last).unwrap_or("");
     let status = name_of(trial.left.status);

@@ -1,19 +1,35 @@
-//! What tests of whole runs are written in: texts that say what is there, what is damaged, what is run and what must come.
-//! A table of cases in code would be a tree of values, through which the checker goes again for each function that names
-//! it. A text is one value, which a few small functions read while the test runs.
+//! What tests of whole runs are written in: texts that say what is there, what is damaged, what is run and what must
+//! come. A table of cases in code would be a tree of values, through which the checker goes again for each function
+//! that names it. A text is one value, which a few small functions read while the test runs.
 //!
 //! ```text
 //! given: image of 17 sectors | master --sectors 17 makes 2 blocks
 //! run: recover --sectors 17 --form marked
 //! output: image of 17 sectors | zero: sectors 0 to 1
-//! case: marked | lost: block 0, rows 0 to 16 -> Damaged, 17 sectors: block 0 sector 030000 layer 0: rows 17 saved 14/..
+//! case: marked | lost: block 0, rows 0 to 16 -> Damaged, 17 sectors: block 0 sector 030000 layer 0: rows 17 saved
+//! 14/..
 //! ```
 //!
 //! `given` are the bytes that cases have in common, and `case` is one of them, changed; `also` changes those in common.
-//! `output` is all that a run writes where nothing fails. Behind `run` stand the words of a run, and behind each `or` others,
-//! which leave the same. What must come stands behind `->`: status, length of the output, a front of the whole one, and
-//! the lines of the report, with `/` between them; one that ends in `..` is cut off there. A line that names nothing
-//! else goes on changing the bytes. Nothing behind `#` is read.
+//! `output` is all that a run writes where nothing fails. Behind `run` stand the words of a run, and behind each `or`
+//! others, which leave the same. What must come stands behind `->`: status, length of the output, a front of the
+//! whole one, and the lines of the report, with `/` between them; one that ends in `..` is cut off there. A line that
+//! names nothing else goes on changing the bytes. Nothing behind `#` is read.
+//!
+//! ```text
+//! reads: 700 bytes a call, call 2 fails      the next run reads so; `writes`, `reports`; `room for 5 bytes` of an output
+//! digest: .., last line: .., read: 2 blocks  of the output that came last, and how much of the input was read
+//! at 2 blocks and 12 bytes: ACA6AD           these bytes stand there in it
+//! the same in pieces: 1 7 2047               it comes again where all streams move so many bytes a call
+//! each call fails: 9 reads of 5000 bytes, 4 reports of 7 bytes 2 apart
+//!                                            where one of so many calls fails, all that was done before it is left
+//! nothing is tried again: 7 calls of 700 bytes
+//!                                            where one of so many calls of a stream or of its flushes fails
+//! the same while these blocks become zeros: 32 to 223
+//! to nothing                                 it comes again with an output that keeps nothing
+//! twin: .., alike: A = B                     words A leave over the case what words B leave over the twin
+//! two workers meet: 2 times                  in so many passes; `pieces ask: 3 pieces, 2 times each`
+//! ```
 //!
 //! Places are those of a block: rows 0 to 191 are its rows of data, rows 192 to 207 those of outer parity, each of 182
 //! bytes; rows, bytes or blocks that aren't named are all. Frame f has rows 12f to 12f + 11 and row 192 + f.

@@ -5,10 +5,12 @@
 //! image of 17 sectors             bytes that are drawn; `counted sector`: byte i is 7i + i / 256
 //! 2 blocks of 5A, hex 49F1        bytes of this value; these bytes
 //! line blocks 1 pi 0              a line of text
-//! master --sectors 17 makes 2 blocks     they become what a run writes over them, 2 blocks
+//! master --sectors 17 makes 2 blocks
+//!                                 they become what a run writes over them, 2 blocks
 //! marked                          they become a capture in the marked form without a mark
-//! listed shape 0 zones 0 sectors 17 and 0 initial 0 tail 16 runs 0:2     they become a listed capture with this header, and behind
-//!                                 each block the runs of its marks, first place and length
+//! listed shape 0 zones 0 sectors 17 and 0 initial 0 tail 16 runs 0:2
+//!                                 they become a listed capture with this header, and behind each block the runs of its
+//!                                 marks, first place and length
 //! front 1 block, without 1 byte   the first of them alone; without the last ones
 //! from 2 blocks                   what is before that comes behind the rest; `again 1 frame`: the last ones once more
 //! frames reversed                 the frames in reverse order
@@ -16,8 +18,10 @@
 //! drawn from 2                    of a capture about a sixth of the rows are lost, and each other one has a wrong byte
 //! spare bits                      the two bits behind the marks of each row are set
 //! header byte 12 is 01            of a listed capture
-//! wrong by 55: block 1, rows 0 to 19, bytes 0 to 9 shifted 9; row 192     these bits are wrong, in each row nine bytes further
-//! wrong by 55: one byte of each 31     from the first on
+//! wrong by 55: block 1, rows 0 to 19, bytes 0 to 9 shifted 9; row 192
+//!                                 these bits are wrong, in each of the rows nine bytes further, and in all of row 192
+//! wrong by 55: one byte of each 31
+//!                                 from the first on
 //! lost: row 3, doubtful by 5A: .. a zero with a mark; these bits are wrong, and a mark tells it
 //! stands by 01: .., zero: ..      this byte stands there without a mark; zeros stand there
 //! zero: sectors 0 to 1            of an image; `cdsectors`: those of a CD-ROM

@@ -1,13 +1,14 @@
-//! Streams that fail at one call, go in pieces or have little room, and see that nothing is tried again: after a failed call, and after a
-//! read that met the end of the input, no stream is asked for anything more but the report, for the closing line; and
-//! after a fault of the report not even that.
+//! Streams that fail at one call, go in pieces or have little room, and see that nothing is tried again: after a
+//! failed call, and after a read that met the end of the input, no stream is asked for anything more but the report,
+//! for the closing line; and after a fault of the report not even that.
 use std::io::{self, Error, ErrorKind, Read, Write};
 use std::sync::atomic::{AtomicU64, Ordering};
 
 /// The number of no call.
 pub const NEVER: u64 = u64::MAX;
 
-/// A stream: the most bytes of one call, the number of the call that fails and of the one whose flush does, and its room.
+/// A stream: the most bytes of one call, the number of the call that fails and of the one whose flush does, and its
+/// room.
 #[derive(Clone, Copy)]
 pub struct Port {
     pub step: usize,

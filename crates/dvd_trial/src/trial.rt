@@ -151,7 +151,8 @@ fn step_is_done<R: AllocGlobal + Threads + Sync>(rt: &R, text: &str, trial: &mut
     }
 }
 
-/// Runs the words of this number over the bytes of the case. Answers whether there are some, and nothing was tried again.
+/// Runs the words of this number over the bytes of the case. Answers whether there are some, and nothing was tried
+/// again.
 pub fn go<R: AllocGlobal + Threads + Sync>(rt: &R, k: usize, trial: &mut Trial) -> bool {
     trial.last = k;
     match trial.words.split(" | ").nth(k) {

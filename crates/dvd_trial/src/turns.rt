@@ -1,5 +1,5 @@
-//! Runs in which something fails, is cut or is zero in turn: each leaves what the run leaves of which it was said what comes, or a front
-//! of it.
+//! Runs in which something fails, is cut or is zero in turn: each leaves what the run leaves of which it was said
+//! what comes, or a front of it.
 use crate::amounts::{BLOCK, NONE, Span, number, numbers};
 use crate::runs::{run_front, run_to_nothing};
 use crate::streams::{ALL_SOUND, NEVER, Port, Ports, SOUND};
@@ -44,8 +44,8 @@ pub fn answer_with_zeros<R: AllocGlobal + Threads + Sync>(
     are_same
 }
 
-/// `9 reads of 5000 bytes, 16 writes of 700 bytes 11 apart`: where one of so many calls of a stream fails, all that was done before it is
-/// left.
+/// `9 reads of 5000 bytes, 16 writes of 700 bytes 11 apart`: where one of so many calls of a stream fails, all that
+/// was done before it is left.
 pub fn fail_in_turn<R: AllocGlobal + Threads + Sync>(
     rt: &R,
     text: &str,
@@ -155,8 +155,8 @@ fn leaves_front_told(trial: &Trial) -> bool {
         & (!is_last_line(rest) | (kept.output.len() == left.output.len()))
 }
 
-/// `7 calls of 700 bytes`: nothing is tried again where one of the first so many calls of a stream or of its flushes fails, or the input
-/// ends before its last byte.
+/// `7 calls of 700 bytes`: nothing is tried again where one of the first so many calls of a stream or of its flushes
+/// fails, or the input ends before its last byte.
 pub fn stop_in_turn<R: AllocGlobal + Threads + Sync>(
     rt: &R,
     n: &[usize; 20],

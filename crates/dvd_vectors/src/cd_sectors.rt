@@ -2,8 +2,8 @@
 use dvd_trial::{Held, hold};
 
 const MADE: &str = "
-# The first sector behind the pause of two seconds, of zeros and of counted bytes. It is what the sector library of the program
-# wodim makes (libedc of cdrkit 1.1.11), and a program that was made from the standard alone.
+# The first sector behind the pause of two seconds, of zeros and of counted bytes. It is what the sector library of
+# the program wodim makes (libedc of cdrkit 1.1.11), and a program that was made from the standard alone.
 run: cdmake --address 150 --sectors 1
 given: 1 sector of 00
 case: as given -> Done, 2352 bytes: done
@@ -59,8 +59,8 @@ run: cdread --address 151 --sectors 1
 output: 1 sector of 00
 case: as given -> Damaged, 2048 bytes: sector 0: address found 000200/damaged: 1 sectors
 
-# Of the first sector all bytes of one P word in each half are wrong, of the second one a thousand bytes, of the third one the sync
-# and a byte of each half behind it. The second one is damaged among good ones.
+# Of the first sector all bytes of one P word in each half are wrong, of the second one a thousand bytes, of the third
+# one the sync and a byte of each half behind it. The second one is damaged among good ones.
 given: image of 4 sectors | cdmake --address 4498 --sectors 4 makes 9408 bytes
 wrong by FF: cdsector 0, bytes 22 to 2172 step 86 | wrong by 5A: cdsector 0, bytes 97 to 2247 step 86
 wrong by 55: cdsector 1, bytes 1000 to 1999 | wrong by 33: cdsector 2, bytes 0 to 13

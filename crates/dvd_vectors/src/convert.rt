@@ -15,13 +15,14 @@ output: given | listed shape 0 zones 0 sectors 16 and 0 initial 0 tail 16 runs 0
 case: marked | doubtful by 00: block 0 -> Done, 37894 bytes: done
 at 37888 bytes: 0001000093E0
 
-# Every 31st byte of a stream is wrong. Marked are, of each block, two places of row 0, all of the rows that are recorded as 3 to
-# 14, some behind them, of which some are of another row, and the last. What is converted is read the same.
+# Every 31st byte of a stream is wrong. Marked are, of each block, two places of row 0, all of the rows that are
+# recorded as 3 to 14, some behind them, of which some are of another row, and the last. What is converted is read the
+# same.
 given: image of 18 sectors | master --sectors 18 makes 2 blocks | wrong by 55: one byte of each 31
 run: convert --form marked --sectors 18
 output: given | listed shape 0 zones 0 sectors 18 and 0 initial 0 tail 16 runs 0:2 546:2184 2731:300 37855:1
-case: marked | doubtful by 00: row 0, bytes 0 to 1; rows 3 to 13; row 192; row 14, bytes 1 to 181; row 15, bytes 0 to 118; \
-row 207, byte 181 -> Done, 75780 bytes: done
+case: marked | doubtful by 00: row 0, bytes 0 to 1; rows 3 to 13; row 192; row 14, bytes 1 to 181; \
+row 15, bytes 0 to 118; row 207, byte 181 -> Done, 75780 bytes: done
 twin: listed shape 0 zones 0 sectors 18 and 0 initial 0 tail 16 runs 0:2 546:2184 2731:300 37855:1
 alike: recover --form marked --sectors 18 = recover --form listed
 
@@ -30,16 +31,16 @@ given: image of 33 sectors | master --sectors 16 --sectors1 17 --shape parallel 
 wrong by 55: one byte of each 31
 run: convert --form marked --sectors 16 --sectors1 17 --shape parallel --tail 0
 output: given | listed shape 1 zones 0 sectors 16 and 17 initial 0 tail 0 runs 0:2 546:2184 2731:300 37855:1
-case: marked | doubtful by 00: row 0, bytes 0 to 1; rows 3 to 13; row 192; row 14, bytes 1 to 181; row 15, bytes 0 to 118; \
-row 207, byte 181 -> Done, 113654 bytes: done
+case: marked | doubtful by 00: row 0, bytes 0 to 1; rows 3 to 13; row 192; row 14, bytes 1 to 181; \
+row 15, bytes 0 to 118; row 207, byte 181 -> Done, 113654 bytes: done
 twin: listed shape 1 zones 0 sectors 16 and 17 initial 0 tail 0 runs 0:2 546:2184 2731:300 37855:1
 alike: recover --form marked --sectors 16 --sectors1 17 --shape parallel --tail 0 = recover --form listed
 given: image of 49 sectors | master --sectors 32 --sectors1 17 --shape opposite --initial 12031 makes 4 blocks
 wrong by 55: one byte of each 31
 run: convert --form marked --sectors 32 --sectors1 17 --shape opposite --initial 12031
 output: given | listed shape 2 zones 0 sectors 32 and 17 initial 12031 tail 16 runs 0:2 546:2184 2731:300 37855:1
-case: marked | doubtful by 00: row 0, bytes 0 to 1; rows 3 to 13; row 192; row 14, bytes 1 to 181; row 15, bytes 0 to 118; \
-row 207, byte 181 -> Done, 151528 bytes: done
+case: marked | doubtful by 00: row 0, bytes 0 to 1; rows 3 to 13; row 192; row 14, bytes 1 to 181; \
+row 15, bytes 0 to 118; row 207, byte 181 -> Done, 151528 bytes: done
 twin: listed shape 2 zones 0 sectors 32 and 17 initial 12031 tail 16 runs 0:2 546:2184 2731:300 37855:1
 alike: recover --form marked --sectors 32 --sectors1 17 --shape opposite --initial 12031 = recover --form listed
 

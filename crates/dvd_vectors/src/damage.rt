@@ -1,10 +1,10 @@
-//! Damaged blocks with marks: up to the bound all comes back. A block beyond it is named, and its frames come back whose
-//! rows are all read.
+//! Damaged blocks with marks: up to the bound all comes back. A block beyond it is named, and its frames come back
+//! whose rows are all read.
 use dvd_trial::{Held, hold};
 
 const DAMAGED: &str = "
-# Each row of two blocks is damaged as far as its own parity bears: in every second one five bytes are wrong, 37 places apart, one
-# place further in each; in each other one ten are lost.
+# Each row of two blocks is damaged as far as its own parity bears: in every second one five bytes are wrong, 37
+# places apart, one place further in each; in each other one ten are lost.
 given: image of 17 sectors | master --sectors 17 makes 2 blocks
 wrong by 55: rows 0 to 206 step 2, bytes 0 to 148 step 37 shifted 1 | marked | lost: rows 1 to 207 step 2, bytes 0 to 9
 run: recover --sectors 17 --form marked

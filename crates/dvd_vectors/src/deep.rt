@@ -1,5 +1,5 @@
-//! Blocks that two passes refuse and rounds give back, and blocks that no round gives back. The rounds and the lines come from
-//! another program.
+//! Blocks that two passes refuse and rounds give back, and blocks that no round gives back. The rounds and the lines
+//! come from another program.
 use dvd_trial::{Held, hold};
 
 const DEEP: &str = "
@@ -11,7 +11,8 @@ run: deep --sectors 16
 output: image of 16 sectors
 case: as given -> Done, 16 sectors: done
 
-# Besides, bytes are wrong and marked. First eleven places side by side in each of rows 0 to 19, nine places further in each.
+# Besides, bytes are wrong and marked. First eleven places side by side in each of rows 0 to 19, nine places further
+# in each.
 also: marked
 run: deep --sectors 16 --form marked
 output: image of 16 sectors
@@ -29,8 +30,8 @@ run: recover --sectors 16 --form marked
 case: doubtful by 5A: rows 0 to 19, bytes 0 to 10 shifted 9
 -> Damaged, 16 sectors: block 0 sector 030000 layer 0: rows 20 saved 14/damaged: 1 blocks
 
-# Chains of seventeen rows, of which each needs the one before: ten places of each row are those of its chain, and one is a place of
-# the chain before.
+# Chains of seventeen rows, of which each needs the one before: ten places of each row are those of its chain, and one
+# is a place of the chain before.
 also: doubtful by 5A: rows 0 to 16, bytes 0 to 9; rows 0 to 16 step 2, byte 40; rows 1 to 15 step 2, byte 41
 doubtful by 5A: rows 17 to 33, bytes 10 to 19; rows 17 to 26, byte 0 shifted 1; rows 27 to 33, byte 0 shifted 1
 run: deep --sectors 16 --form marked

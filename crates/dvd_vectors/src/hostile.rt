@@ -1,5 +1,6 @@
-//! Every command over a small input: in pieces of every kind, and with each call of its input, its output and its report
-//! failing in turn. Each digest was computed by another program. These are the hostile streams and objects, and the module of each:
+//! Every command over a small input: in pieces of every kind, and with each call of its input, its output and its
+//! report failing in turn. Each digest was computed by another program. These are the hostile streams and objects,
+//! and the module of each:
 //!
 //! | What is hostile | Module |
 //! |---|---|
@@ -135,8 +136,8 @@ fn pieces_play_no_part_and_each_call_fails_in_turn(rt: HostRuntime) -> Held {
 }
 
 const STOPS: &str = "
-# After a failed call, and after a read that met the end of the input, no stream is asked for anything more but the report, for the
-# closing line; and after a fault of the report not even that.
+# After a failed call, and after a read that met the end of the input, no stream is asked for anything more but the
+# report, for the closing line; and after a fault of the report not even that.
 given: image of 2 sectors
 run: frames --first 030000 --sectors 2
 case: as given

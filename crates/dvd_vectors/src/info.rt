@@ -2,7 +2,8 @@
 use dvd_trial::{Held, hold};
 
 const DISKS: &str = "
-# A disk of one layer with all of its zones. Each of its 192 control blocks tells the format where those before it are destroyed.
+# A disk of one layer with all of its zones. Each of its 192 control blocks tells the format where those before it are
+# destroyed.
 given: image of 16 sectors | master --sectors 16 --zones all makes 273 blocks
 run: info
 output: line version 1 | line rate 2 | line layers 1 | line path parallel | line kind 1 | line density 0 | line pitch 0

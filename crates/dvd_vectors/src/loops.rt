@@ -1,5 +1,5 @@
-//! The loops of `master` and `recover` called by themselves, over a disk of one layer with all of its zones: they record what the
-//! command does, and read it back.
+//! The loops of `master` and `recover` called by themselves, over a disk of one layer with all of its zones: they
+//! record what the command does, and read it back.
 ghost use Rattle.std.specs.Prelude.{◌≤◌};
 
 use dvd_block::{Block, Piece};

@@ -1,5 +1,5 @@
-//! Recordings: of the Data Zone, against the digest that another program computed from the standard, of images that don't fit, and of
-//! what the options change.
+//! Recordings: of the Data Zone, against the digest that another program computed from the standard, of images that
+//! don't fit, and of what the options change.
 use dvd_trial::{Held, hold};
 
 const RECORDINGS: &str = "

@@ -15,20 +15,24 @@ case: stands by 01: block 1, row 0, byte 0                                 -> Do
 output: 1 block of 00 | marked
 case: lost: block 0, row 0, byte 0                                         -> Done, 1 marked block: done
 
-# Of capture c of sixteen there is one byte, c + 1, at place 11c of row 12c of the block. Else nothing is known. The two spare bits of
-# the marks are set too.
+# Of capture c of sixteen there is one byte, c + 1, at place 11c of row 12c of the block. Else nothing is known. The
+# two spare bits of the marks are set too.
 given: 16 blocks of 00 | marked | lost: blocks 0 to 15
 stands by 01: block 0, row 0, byte 0 | stands by 02: block 1, row 12, byte 11 | stands by 03: block 2, row 24, byte 22
 stands by 04: block 3, row 36, byte 33 | stands by 05: block 4, row 48, byte 44 | stands by 06: block 5, row 60, byte 55
 stands by 07: block 6, row 72, byte 66 | stands by 08: block 7, row 84, byte 77 | stands by 09: block 8, row 96, byte 88
-stands by 0A: block 9, row 108, byte 99 | stands by 0B: block 10, row 120, byte 110 | stands by 0C: block 11, row 132, byte 121
+stands by 0A: block 9, row 108, byte 99 | stands by 0B: block 10, row 120, byte 110
+stands by 0C: block 11, row 132, byte 121
 stands by 0D: block 12, row 144, byte 132 | stands by 0E: block 13, row 156, byte 143
 stands by 0F: block 14, row 168, byte 154 | stands by 10: block 15, row 180, byte 165 | spare bits
 run: merge --sectors 16 --captures 16 --form marked
 output: 1 block of 00 | marked | lost: block 0
-stands by 01: row 0, byte 0 | stands by 02: row 12, byte 11 | stands by 03: row 24, byte 22 | stands by 04: row 36, byte 33
-stands by 05: row 48, byte 44 | stands by 06: row 60, byte 55 | stands by 07: row 72, byte 66 | stands by 08: row 84, byte 77
-stands by 09: row 96, byte 88 | stands by 0A: row 108, byte 99 | stands by 0B: row 120, byte 110 | stands by 0C: row 132, byte 121
+stands by 01: row 0, byte 0 | stands by 02: row 12, byte 11 | stands by 03: row 24, byte 22
+stands by 04: row 36, byte 33
+stands by 05: row 48, byte 44 | stands by 06: row 60, byte 55 | stands by 07: row 72, byte 66
+stands by 08: row 84, byte 77
+stands by 09: row 96, byte 88 | stands by 0A: row 108, byte 99 | stands by 0B: row 120, byte 110
+stands by 0C: row 132, byte 121
 stands by 0D: row 144, byte 132 | stands by 0E: row 156, byte 143 | stands by 0F: row 168, byte 154
 stands by 10: row 180, byte 165
 case: as given        -> Done, 1 marked block: done
@@ -39,8 +43,8 @@ run: merge --sectors 17 --captures 16 --form marked
 run: merge --sectors 16 --captures 16 --form marked
 case: without 1 byte  -> Short, 0 bytes: short: block 0, 682239 bytes
 
-# Two captures of a recording of sixteen blocks, one behind the other. Each of them is refused; the lines were computed by another
-# program, which draws the same.
+# Two captures of a recording of sixteen blocks, one behind the other. Each of them is refused; the lines were
+# computed by another program, which draws the same.
 given: image of 256 sectors | master --sectors 256 makes 16 blocks | again 16 blocks | marked | drawn from 2
 run: recover --sectors 256 --form marked
 case: front 16 marked blocks -> Damaged, 256 sectors: block 0 sector 030000 layer 0: rows 33 saved 1/\

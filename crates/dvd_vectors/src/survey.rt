@@ -37,7 +37,8 @@ case: doubtful by 00: rows 0 to 139, byte 0  -> Done, 180 bytes: done
 
 # A burst over three blocks, of which 90, 208 and 45 rows have a wrong byte, is seen by eight blocks each.
 given: image of 192 sectors | master --sectors 192 makes 12 blocks
-wrong by FF: block 2, rows 0 to 89, byte 0 shifted 1; block 3, rows 0 to 207, byte 0 shifted 1; block 4, rows 0 to 44, byte 0 shifted 1
+wrong by FF: block 2, rows 0 to 89, byte 0 shifted 1; block 3, rows 0 to 207, byte 0 shifted 1; \
+block 4, rows 0 to 44, byte 0 shifted 1
 run: survey --sectors 192
 output: line block 0 sector 030000 layer 0 pi 0 failed 0 sum8 0: whole
 line block 1 sector 030010 layer 0 pi 0 failed 0 sum8 0: whole

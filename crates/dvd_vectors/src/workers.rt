@@ -1,5 +1,5 @@
-//! Several workers on one run: what comes out is that of one worker, two workers work at the same time, and each of three has its
-//! piece of each pass.
+//! Several workers on one run: what comes out is that of one worker, two workers work at the same time, and each of
+//! three has its piece of each pass.
 use dvd_trial::{Held, hold};
 
 const WORKERS: &str = "
@@ -35,8 +35,8 @@ case: as given
 run: exercise --seed 1 --blocks 1 --workers 3
 pieces ask: 3 pieces, 4 times each
 
-# Three blocks: five bytes of each row of the first are wrong, more than can be fixed of six rows of the second, and of twenty rows of
-# the third.
+# Three blocks: five bytes of each row of the first are wrong, more than can be fixed of six rows of the second, and
+# of twenty rows of the third.
 given: image of 33 sectors | master --sectors 33 makes 3 blocks
 wrong by 5A: block 0, bytes 0 to 164 step 41; block 1, rows 3 to 188 step 37, bytes 0 to 175 step 7
 wrong by 5A: block 2, rows 0 to 18, bytes 0 to 176 step 11; block 2, row 192, bytes 0 to 176 step 11
