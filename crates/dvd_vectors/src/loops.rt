@@ -53,16 +53,22 @@ fn master<R: AllocGlobal + Threads + Sync>(
 
 fn recover<R: AllocGlobal + Threads + Sync>(
     rt: &R,
+    work: &mut Work,
     disk: &[u8],
     output: &mut MemSink,
     report: &mut MemSink,
 ) -> Option<LoopEnd> {
     let settings = settings(Command::Recover);
     let layout = settings.layout().ok()?;
-    let mut work = Work::new(rt.alloc()).ok()?;
-    let source = &mut SliceSource::new(disk);
     Some(recover_loop(
-        rt, &settings, &layout, &OpenGate, &mut work, source, output, report,
+        rt,
+        &settings,
+        &layout,
+        &OpenGate,
+        work,
+        &mut SliceSource::new(disk),
+        output,
+        report,
     ))
 }
 
@@ -74,8 +80,9 @@ fn both_hold<R: AllocGlobal + Threads + Sync>(rt: &R) -> Option<bool> {
     let mut recorded = MemSink::new(alloc, 274 * 37_856, 40_000, Vec::new(alloc)).ok()?;
     let mut output = MemSink::new(alloc, 17 * 2048, 40_000, Vec::new(alloc)).ok()?;
     let mut report = MemSink::new(alloc, 80, 80, Vec::new(alloc)).ok()?;
+    let mut work = Work::new(alloc).ok()?;
     let are_done = master(rt, &image, &mut recorded)? == LoopEnd::Done
-        && recover(rt, &disk, &mut output, &mut report)? == LoopEnd::Done;
+        && recover(rt, &mut work, &disk, &mut output, &mut report)? == LoopEnd::Done;
     let are_right = recorded.held() == disk.as_slice() && output.held() == image.as_slice();
     Some(are_done && are_right && report.held().is_empty())
 }
