@@ -3,8 +3,8 @@ use Rattle.std.proofs.Common.{◌≡◌, ◌∙◌, inl, inr, ◌+◌, ◌-◌, 
 use Rattle.std.proofs.Math.Seq.{drop-append_seam, take-append_seam}
 use Rattle.std.proofs.lemmas.Bool.{cases_lt}
 use Rattle.dvd_loop.specs.Laws.{IsFaultless}
-use Rattle.dvd_loop.specs.Machine.{Does, EndsWithin, Goes, GoesOn, Outcome, sized, bad_of, stepping, taking, ended}
-use Rattle.dvd_loop.specs.Machine.Part.{Cut, Whole}
+use Rattle.dvd_loop.specs.Machine.{Performs, EndsWithin, Continues, ContinuesAfter, Outcome, sized, bad_of, stepping, taking, ended}
+use Rattle.dvd_loop.specs.Machine.Prefix.{Cut, Whole}
 use Rattle.dvd_loop.specs.Machine.Step.{Write}
 use Rattle.dvd_loop.proofs.Sizes.{sized_enough, sized_fewer, sized_whole}
 use Rattle.dvd_loop.specs.declared.ends.LoopEnd.{LoopEnd}
@@ -65,9 +65,9 @@ taken_done spans k own left after size done =
     }
 
 module _ (spans : List Span) where
-  goes_done : (n : ℕ) (before : List (List ℕ)) (bad : ℕ) (bytes : List ℕ) (o : Outcome) → length bytes < 2366 * n → Goes (mark_units spans) n before bad bytes o
+  goes_done : (n : ℕ) (before : List (List ℕ)) (bad : ℕ) (bytes : List ℕ) (o : Outcome) → length bytes < 2366 * n → Continues (mark_units spans) n before bad bytes o
       → IsFaultless o.end → IsDone spans (length before) bytes o
-  unfolding Goes
+  unfolding Continues
   goes_done zero before bad bytes o fewer goes sound = absurd (omega arith)
   goes_done (suc n) before bad bytes o fewer goes sound = elim goes [
     | inl w ↦
@@ -76,18 +76,18 @@ module _ (spans : List Span) where
         subst (λ b. IsDone spans (length before) b o) (sym is) (ended_done spans (length before) w.own o cut.0 cut.1 w.takes)
     | inr t ↦
         let size = whole_size t.own t.unit.whole in
-        let Next : Outcome → Type 0 = Goes (mark_units spans) n (before ++ t.own ∷ []) (bad + bad_of t.turn) t.left in
+        let Next : Outcome → Type 0 = Continues (mark_units spans) n (before ++ t.own ∷ []) (bad + bad_of t.kind) t.left in
         let frame = marked_frame spans (length before) t.own in
-        let does : Does (Write frame ∷ []) (GoesOn t.turn Next) t.after = subst (λ s. Does s (GoesOn t.turn Next) t.after) t.unit.does.writes t.does in
+        let does : Performs (Write frame ∷ []) (ContinuesAfter t.kind Next) t.after = subst (λ s. Performs s (ContinuesAfter t.kind Next) t.after) t.unit.does.writes t.does in
         elim does [
           | inl (front, left, whole, some, fails) ↦
               absurd (subst IsFaultless (ap (λ (x : Outcome). x.end) t.takes ∙ ap (λ (x : Outcome). x.end) fails) sound)
           | inr (next, goes_on, is) ↦
-              let goes : Next next = subst (λ turn. GoesOn turn Next next) t.unit.does.good goes_on in
+              let goes : Next next = subst (λ kind. ContinuesAfter kind Next next) t.unit.does.good goes_on in
               let same : o ≡ taking t.own (stepping (Write frame) next) = t.takes ∙ ap (taking t.own) is in
               let fewer_left : length t.left < 2366 * n = omega (arith, length-append t.own t.left, ap length t.front) in
               let number : length (before ++ t.own ∷ []) ≡ suc (length before) = length-append before (t.own ∷ []) ∙ omega arith in
-              let done = goes_done n (before ++ t.own ∷ []) (bad + bad_of t.turn) t.left next fewer_left goes (subst IsFaultless (ap (λ (x : Outcome). x.end) same) sound) in
+              let done = goes_done n (before ++ t.own ∷ []) (bad + bad_of t.kind) t.left next fewer_left goes (subst IsFaultless (ap (λ (x : Outcome). x.end) same) sound) in
               subst (λ b. IsDone spans (length before) b o) (sym t.front)
               (subst (IsDone spans (length before) (t.own ++ t.left)) (sym same)
               (taken_done spans (length before) t.own t.left next size (subst (λ k. IsDone spans k t.left next) number done)))

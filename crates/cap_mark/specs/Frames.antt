@@ -2,8 +2,8 @@
 use Rattle.std.specs.Prelude.{◌≡◌, ℕ, zero, suc, ◌+◌, ◌-◌, ◌*◌, ◌^◌, List, [], ◌∷◌, ◌++◌, slice_range}
 use Rattle.dvd_loop.specs.Machine.{Step, Units, plain_units}
 use Rattle.dvd_loop.specs.Machine.Step.{Write}
-use Rattle.dvd_loop.specs.declared.ends.Turn.{Turn}
-use Rattle.dvd_loop.specs.declared.ends.Turn.TheVariants.{Good}
+use Rattle.dvd_loop.specs.declared.ends.UnitKind.{UnitKind}
+use Rattle.dvd_loop.specs.declared.ends.UnitKind.TheVariants.{Good}
 use Rattle.cap_map.specs.declared.span.Span.{Span}
 use Rattle.cap_mark.specs.Marks.{marks_of_row}
 
@@ -21,9 +21,9 @@ abbrev pub marked_frame : List Span → ℕ → List ℕ → List ℕ
 marked_frame spans k bytes = marked_rows spans (2366 * k) bytes 13
 
 -- its rows are written with their marks
-pub record IsMarked (spans : List Span) (k : ℕ) (own : List ℕ) (steps : List Step) (turn : Turn) : Type 0 where
+pub record IsMarked (spans : List Span) (k : ℕ) (own : List ℕ) (steps : List Step) (kind : UnitKind) : Type 0 where
   pub writes : steps ≡ Write (marked_frame spans k own) ∷ []
-  pub good : turn ≡ Good
+  pub good : kind ≡ Good
 
 -- Unit k is recording frame k, 2,366 bytes. There are as many as a number of 32 bits counts, so that the loop ends within a
 -- frame, none of which may have come: that is the end of a capture.

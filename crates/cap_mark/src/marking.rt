@@ -6,14 +6,14 @@ ghost use Rattle.cap_mark.specs.Walk.{AgreeFrom};
 ghost use Rattle.dvd_loop.specs.Laws.{IsPlainEnd};
 ghost use Rattle.dvd_loop.specs.Machine.{IsOutcome};
 ghost use Rattle.dvd_loop.specs.Streams.{streams, HasEnded};
-ghost use Rattle.dvd_loop.specs.Turns.{AreDone};
+ghost use Rattle.dvd_loop.specs.UnitCommand.{AreDone};
 ghost use Rattle.dvd_ports.specs.Seen.{Seen};
 
 use crate::marks::put_rows;
 use crate::walk::spans_from;
 use arrayvec::ArrayVec;
 use cap_map::Span;
-use dvd_loop::{LoneTurns, LoopEnd, Turn, follow_owned, read_unit};
+use dvd_loop::{LoopEnd, PlainCommand, UnitKind, read_unit, run_owned};
 use dvd_ports::{NullSink, Sink, Source, write_whole};
 
 /// The spans of a map, and those of them that don't end before a place or at it: where the loop is in the map.
@@ -38,7 +38,7 @@ impl<'a> Marking<'a> {
     }
 }
 
-impl<'a> LoneTurns for Marking<'a> {
+impl<'a> PlainCommand for Marking<'a> {
     ghost Key = { List MapSpan };
 
     ghost key = { λ m. m.spans.now };
@@ -47,19 +47,19 @@ impl<'a> LoneTurns for Marking<'a> {
 
     ghost ready = { λ m. AgreeFrom m.place m.left.now m.spans.now };
 
-    ghost alone = { λ _. record { opens = refl; closes = λ _. refl; behind = refl } };
+    ghost alone = { λ _. record { opens = refl; closes = λ _. refl; after_last = refl } };
 
     fn count(&self) -> u32 {
         u32::MAX
     }
 
-    fn turn<S: Source, K: Sink, E: Sink>(
+    fn process<S: Source, K: Sink, E: Sink>(
         &mut self,
         k: u32,
         src: &mut S,
         out: &mut K,
         _report: &mut E,
-    ) -> Result<Turn, LoopEnd> {
+    ) -> Result<UnitKind, LoopEnd> {
         let mut frame = [0; 2366];
         read_unit(src, k, &mut frame)?;
         let start = 2366 * u64::from(k);
@@ -80,7 +80,7 @@ pub fn mark_loop<S: Source, K: Sink>(spans: &[Span], src: &mut S, out: &mut K) -
         left: spans,
         place: 0,
     };
-    follow_owned(marking, src, out, &mut NullSink::new())
+    run_owned(marking, src, out, &mut NullSink::new())
 }
 
 // Writes frame `k` with the marks of its rows.
@@ -89,12 +89,12 @@ fn write_frame<K: Sink>(
     k: u32,
     frame: &[u8; 2366],
     out: &mut K,
-) -> Result<Turn, LoopEnd>
+) -> Result<UnitKind, LoopEnd>
     ensures { (source report : Seen) → AreDone (IsMarked spans.now k frame.now)
         (streams source (K.seen out.old) report) (streams source (K.seen out.new) report) result }
 {
     let mut marked = ArrayVec::new();
     put_rows(spans, 2366 * u64::from(k), frame, &mut marked);
     write_whole(out, marked.as_slice())?;
-    Ok(Turn::Good)
+    Ok(UnitKind::Good)
 }

@@ -3,9 +3,9 @@ use Rattle.std.proofs.Common.{◌≡◌, ◌≢◌, ◌⊎◌, ◌-◌, ◌*◌,
 use Rattle.dvd_ports.specs.Causes.{HasGoneOn}
 use Rattle.dvd_ports.specs.Seen.{Seen}
 use Rattle.dvd_loop.specs.Laws.{IsFaultless}
-use Rattle.dvd_loop.specs.Machine.{Closes, Does, IsClosed, IsOutcome, Outcome, ended, stepping}
+use Rattle.dvd_loop.specs.Machine.{Closes, Performs, IsClosed, IsOutcome, Outcome, ended, stepping}
 use Rattle.dvd_loop.specs.Machine.Step.{Tell}
-use Rattle.dvd_loop.specs.Streams.{Comes, Counts, HasEnded, HaveMoved, IsTold, Streams, is_report_fault, streams}
+use Rattle.dvd_loop.specs.Streams.{HaveReached, Counts, HasEnded, HaveMoved, IsTold, Streams, is_report_fault, streams}
 use Rattle.dvd_loop.specs.declared.ends.LoopEnd.{LoopEnd}
 use Rattle.dvd_loop.specs.declared.ends.LoopEnd.TheVariants.{ReportFault}
 use Rattle.dvd_loop.proofs.ClosedLemmas.{causes_closed, closed, closes_takes}
@@ -33,7 +33,7 @@ line_written : (within : LoopEnd) (line : Outcome) → IsFaultless within → Cl
     → (line.taken ≡ []) × (line.out ≡ []) × (line.lines ≡ closing_line within)
 line_written within line sound closes whole = go within sound closes
   where
-    told : (w : LoopEnd) → Does (Tell (closing_line w) ∷ []) (λ after. after ≡ ended w) line → (line.taken ≡ []) × (line.out ≡ []) × (line.lines ≡ closing_line w)
+    told : (w : LoopEnd) → Performs (Tell (closing_line w) ∷ []) (λ after. after ≡ ended w) line → (line.taken ≡ []) × (line.out ≡ []) × (line.lines ≡ closing_line w)
     told w does = elim does [
       | inl (front, left, parts, some, fails) ↦ absurd (subst IsFaultless (ap (λ (o : Outcome). o.end) fails) whole)
       | inr (after, is, stepped) ↦
@@ -46,7 +46,7 @@ line_written within line sound closes whole = go within sound closes
     go w sound does = told w does
 
 -- so all of a capture is marked where nothing failed
-all_marked : (spans : List Span) (old new : Streams) (within end : LoopEnd) → Comes (λ bytes. IsClosed closing_line (IsOutcome (mark_units spans) bytes) within) old new end
+all_marked : (spans : List Span) (old new : Streams) (within end : LoopEnd) → HaveReached (λ bytes. IsClosed closing_line (IsOutcome (mark_units spans) bytes) within) old new end
     → (end ≢ ReportFault → end ≡ within) → MarksAll spans old new end
 all_marked spans old new within end comes same bytes told sound few =
     let is : end ≡ within = same_end end within sound same in
@@ -68,7 +68,7 @@ all_marked spans old new within end comes same bytes told sound few =
 
 module _ (spans : List Span) (old : Streams) (source output mid_report new_report : Seen) (within end : LoopEnd)
     (looped : HasEnded (IsOutcome (mark_units spans)) old (streams source output mid_report) within)
-    (line : Comes (λ bytes. Closes closing_line within) (streams source output mid_report) (streams source output new_report) end)
+    (line : HaveReached (λ bytes. Closes closing_line within) (streams source output mid_report) (streams source output new_report) end)
     (none : within ≡ ReportFault → new_report ≡ mid_report) (cause : within ≢ ReportFault → Counts (is_report_fault end) mid_report new_report) where
   -- a loop that the report failed in has no closing line, and its end is that of the run
   end_is : within ≡ ReportFault → end ≡ ReportFault

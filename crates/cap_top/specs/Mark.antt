@@ -14,7 +14,7 @@ use Rattle.cap_top.specs.declared.mark.opening.Refusal.{Refusal}
 use Rattle.cap_top.specs.declared.status.Status.{Status}
 use Rattle.dvd_loop.specs.Laws.{IsFaultless}
 use Rattle.dvd_loop.specs.Machine.{IsClosed, IsOutcome}
-use Rattle.dvd_loop.specs.Streams.{Comes, HaveCauses, HaveMoved, Streams}
+use Rattle.dvd_loop.specs.Streams.{HaveReached, HaveCauses, HaveMoved, Streams}
 use Rattle.dvd_loop.specs.declared.ends.LoopEnd.{LoopEnd}
 use Rattle.dvd_loop.specs.declared.ends.LoopEnd.TheVariants as ends
 use Rattle.dvd_ports.specs.Seen.{Seen}
@@ -35,7 +35,7 @@ MarksAll spans old new end = (bytes : List ℕ) → old.source.bytes ≡ Some by
 pub record HasMarked (spans : List Span) (old new : Streams) (result : Status) : Type 0 where
   pub within : LoopEnd
   pub end : LoopEnd
-  pub comes : Comes (λ bytes. IsClosed closing_line (IsOutcome (mark_units spans) bytes) within) old new end
+  pub comes : HaveReached (λ bytes. IsClosed closing_line (IsOutcome (mark_units spans) bytes) within) old new end
   pub same_end : end ≢ ends.ReportFault → end ≡ within
   pub causes : HaveCauses within end old new
   pub is_status : result ≡ status_of end

@@ -179,9 +179,9 @@ fn maps_that_give_no_spans(rt: HostRuntime) -> Result<(), Fail> {
 }
 
 // Two plain captures of so many sevens, a failing call of the second, and the status, the line and the bytes of their run.
-type Turns = (usize, usize, u64, Status, &'static [u8], usize);
+type UnitCommand = (usize, usize, u64, Status, &'static [u8], usize);
 
-static TURNS: [Turns; 6] = [
+static TURNS: [UnitCommand; 6] = [
     (37_856, 37_856, 9, Status::Done, b"done\n", 75_712),
     (0, 0, 9, Status::Done, b"done\n", 0),
     (
@@ -218,7 +218,7 @@ static TURNS: [Turns; 6] = [
     ),
 ];
 
-fn takes_turns(alloc: Global, case: &Turns) -> Result<(), Fail> {
+fn takes_units(alloc: Global, case: &UnitCommand) -> Result<(), Fail> {
     let mut captures = Vec::new(alloc);
     captures.push(MemSource::new(vec![in alloc; 7u8; case.0]?, 40_000, Vec::new(alloc)))?;
     captures.push(MemSource::new(
@@ -252,7 +252,7 @@ fn two_names<'a>() -> ArrayVec<&'a str, 16>
 #[test]
 fn blocks_take_turns_and_files_are_named(rt: HostRuntime) -> Result<(), Fail> {
     for case in &TURNS {
-        takes_turns(rt.alloc(), case)?;
+        takes_units(rt.alloc(), case)?;
     }
     Ok(())
 }

@@ -23,10 +23,10 @@ use Rattle.dvd_layout.specs.declared.layout.Zones.{Zones}
 use Rattle.dvd_deep.proofs.Readings.{deep-no_cause, deep-once, read-deep}
 use Rattle.dvd_layout.specs.Place.{image_sectors}
 use Rattle.dvd_loop.specs.Machine.{Step}
-use Rattle.dvd_loop.specs.Machine.Part.{Whole}
+use Rattle.dvd_loop.specs.Machine.Prefix.{Whole}
 use Rattle.dvd_loop.specs.Machine.Step.{Write}
-use Rattle.dvd_loop.specs.declared.ends.Turn.{Turn}
-use Rattle.dvd_loop.specs.declared.ends.Turn.TheVariants.{Good}
+use Rattle.dvd_loop.specs.declared.ends.UnitKind.{UnitKind}
+use Rattle.dvd_loop.specs.declared.ends.UnitKind.TheVariants.{Good}
 use Rattle.dvd_decoding.specs.Made.{IsReceived}
 use Rattle.dvd_decoding.specs.Causes.{two_pass_cause}
 use Rattle.dvd_decoding.specs.Reading.{block_cause, block_sectors}
@@ -89,12 +89,12 @@ captured-received form own whole = record {
     marks_height = length-map-range_with_len (row_marks_in form own) 0 208
 
 -- what is done for a block that holds image
-pub recovered_at : (layout : Layout) (zones : Zones) (form : Form) (k : ℕ) (entry : BlockPlan) (own : List ℕ) (steps : List Step) (turn : Turn)
-    → slice_get (plan_of layout zones) k ≡ Some entry → IsImage entry.content → IsRecovered layout zones form k own steps turn
-    → IsImageDone layout k entry (captured_rows form own) (captured_marks form own) steps turn
-recovered_at layout zones form k entry own steps turn stands is_image does =
-    of_image (IsImageDone layout k entry (captured_rows form own) (captured_marks form own)) entry.content is_image steps turn
-    (done_at (plan_of layout zones) (λ e. IsDone e.content layout k e) form k entry stands own steps turn does)
+pub recovered_at : (layout : Layout) (zones : Zones) (form : Form) (k : ℕ) (entry : BlockPlan) (own : List ℕ) (steps : List Step) (kind : UnitKind)
+    → slice_get (plan_of layout zones) k ≡ Some entry → IsImage entry.content → IsRecovered layout zones form k own steps kind
+    → IsImageDone layout k entry (captured_rows form own) (captured_marks form own) steps kind
+recovered_at layout zones form k entry own steps kind stands is_image does =
+    of_image (IsImageDone layout k entry (captured_rows form own) (captured_marks form own)) entry.content is_image steps kind
+    (done_at (plan_of layout zones) (λ e. IsDone e.content layout k e) form k entry stands own steps kind does)
 
 -- Of damage within the bound the block is read, and it is that which was mastered.
 within_is_read : (layout : Layout) (zones : Zones) (form : Form) (cpr : List ℕ) (k : ℕ) (entry : BlockPlan) (image own : List ℕ) (block : List (List ℕ))
@@ -111,12 +111,12 @@ within_is_read layout zones form cpr k entry image own block stands is_image cpr
 
 -- the law: of damage within the bound recovery gives back the image sectors of the block
 pub repaired : DamageWithinTheBoundIsRepaired
-repaired layout zones form cpr k entry image own block steps turn stands is_image cpr_size image_size is_block size within does =
+repaired layout zones form cpr k entry image own block steps kind stands is_image cpr_size image_size is_block size within does =
     let rows = captured_rows form own in
     let marks = captured_marks form own in
     let received = captured-received form own size in
     let read = within_is_read layout zones form cpr k entry image own block stands is_image cpr_size image_size is_block size within in
-    elim (recovered_at layout zones form k entry own steps turn stands is_image does) [
+    elim (recovered_at layout zones form k entry own steps kind stands is_image does) [
       | inr refused ↦ let first = refused.first in let none = read.0 in cc
       | inl given ↦
           let sectors : given.sectors ≡ sectors_list (filled_block image) = (read-determined rows marks entry given.sectors received.height received.marks_height given.read).1 ∙ read.1 in (
@@ -126,17 +126,17 @@ repaired layout zones form cpr k entry image own block steps turn stands is_imag
     ]
 
 -- what the law says of `recover`, of any command that does this for a block
-abbrev pub RepairsBy : (Layout → Zones → Form → ℕ → List ℕ → List Step → Turn → Type 0) → Type 0
-RepairsBy Does =
-    (layout : Layout) (zones : Zones) (form : Form) (cpr : List ℕ) (k : ℕ) (entry : BlockPlan) (image own : List ℕ) (block : List (List ℕ)) (steps : List Step) (turn : Turn)
+abbrev pub RepairsBy : (Layout → Zones → Form → ℕ → List ℕ → List Step → UnitKind → Type 0) → Type 0
+RepairsBy Performs =
+    (layout : Layout) (zones : Zones) (form : Form) (cpr : List ℕ) (k : ℕ) (entry : BlockPlan) (image own : List ℕ) (block : List (List ℕ)) (steps : List Step) (kind : UnitKind)
     → slice_get (plan_of layout zones) k ≡ Some entry → IsImage entry.content → length cpr ≡ 6 → length image ≡ image_bytes layout entry
     → IsBlockOf (frames_of layout entry cpr (filled_block image)) block
     → captured_part form own ≡ Whole (length own) → IsWithin block (captured_rows form own) (captured_marks form own)
-    → Does layout zones form k own steps turn → (steps ≡ Write image ∷ []) × (turn ≡ Good)
+    → Performs layout zones form k own steps kind → (steps ≡ Write image ∷ []) × (kind ≡ Good)
 
 -- it holds of `deep`
 pub repaired_deep : RepairsBy IsDeepened
-repaired_deep layout zones form cpr k entry image own block steps turn stands is_image cpr_size image_size is_block size within does =
+repaired_deep layout zones form cpr k entry image own block steps kind stands is_image cpr_size image_size is_block size within does =
     let rows = captured_rows form own in
     let marks = captured_marks form own in
     let received = captured-received form own size in
@@ -145,8 +145,8 @@ repaired_deep layout zones form cpr k entry image own block steps turn stands is
     let deep = read-deep rows marks entry (block_sectors rows marks entry) received.height received.marks_height read in
     let none : two_pass_cause (answers_of rows marks) ≡ None =
     agrees-no_cause (answers_of rows marks) read.block (length-answers_of rows marks 208 received.height received.marks_height) read.agrees in
-    let done = done_at (plan_of layout zones) (λ e. IsReadDeep e.content layout k e) form k entry stands own steps turn does in
-    elim (of_image (IsImageRead layout k entry rows marks) entry.content is_image steps turn done) [
+    let done = done_at (plan_of layout zones) (λ e. IsReadDeep e.content layout k e) form k entry stands own steps kind does in
+    elim (of_image (IsImageRead layout k entry rows marks) entry.content is_image steps kind done) [
       | inr lost ↦ let first = lost.first in let no = deep-no_cause rows marks entry 1 (block_sectors rows marks entry) deep in cc
       | inl given ↦
           let sectors : given.sectors ≡ sectors_list (filled_block image) = (deep-once rows marks entry given.round 1 given.sectors (block_sectors rows marks entry) given.read deep).1 ∙ within_read.1 in (

@@ -9,8 +9,8 @@ use Rattle.dvd_capture.specs.declared.form.Form.{Form}
 use Rattle.dvd_capture.proofs.Fetching.{sized-block}
 use Rattle.dvd_loop.specs.Laws.{AreDetermined, AreTotal}
 use Rattle.dvd_loop.specs.Machine.{Step, Units}
-use Rattle.dvd_loop.specs.Machine.Part.{Whole, Broken}
-use Rattle.dvd_loop.specs.declared.ends.Turn.{Turn}
+use Rattle.dvd_loop.specs.Machine.Prefix.{Whole, Broken}
+use Rattle.dvd_loop.specs.declared.ends.UnitKind.{UnitKind}
 use Rattle.dvd_commands.specs.Captured.{HasBlocks, block_bytes, block_start, captured_part, from_block}
 use Rattle.dvd_commands.proofs.CapturedParts.{begins_somehow, broken_stays, front_whole, whole_size, whole_stays}
 use Rattle.dvd_loop.proofs.Apart.{BeginWith}
@@ -68,22 +68,22 @@ blocks_break units form begins k at own more broken = begins k (own ++ more) ∙
 
 -- units that are captured blocks are determined where one thing alone may be done for each
 pub blocks_determined : (units : Units) (form : Form) → ((k : ℕ) (own : List ℕ) → units.begins k own ≡ captured_part form own)
-    → ((before : List (List ℕ)) (own : List ℕ) (steps others : List Step) (turn other : Turn)
-    → units.does (length before) before own steps turn → units.does (length before) before own others other
-    → (steps ≡ others) × (turn ≡ other))
+    → ((before : List (List ℕ)) (own : List ℕ) (steps others : List Step) (kind other : UnitKind)
+    → units.does (length before) before own steps kind → units.does (length before) before own others other
+    → (steps ≡ others) × (kind ≡ other))
     → ((before : List (List ℕ)) (steps others : List Step) → units.closes before steps → units.closes before others → steps ≡ others)
     → AreDetermined units
 blocks_determined units form begins one closing = record {
   whole = blocks_stay units form begins;
   broken = blocks_break units form begins;
-  does = λ before own steps others turn other p q. one before own steps others turn other p.does q.does;
+  does = λ before own steps others kind other p q. one before own steps others kind other p.does q.does;
   closes = closing;
 }
 
 -- and whatever bytes there are, they begin somehow: where something may be done for each whole block, it may for all
 pub blocks_total : (units : Units) (form : Form) → ((k : ℕ) (own : List ℕ) → units.begins k own ≡ captured_part form own)
     → ((before : List (List ℕ)) (own : List ℕ) → length before < units.count → captured_part form own ≡ Whole (length own)
-    → (steps : List Step) × (turn : Turn) × units.does (length before) before own steps turn)
+    → (steps : List Step) × (kind : UnitKind) × units.does (length before) before own steps kind)
     → ((before : List (List ℕ)) → length before ≡ units.count → (steps : List Step) × units.closes before steps)
     → AreTotal units
 blocks_total units form begins may closing = record {

@@ -8,7 +8,7 @@ use Rattle.dvd_capture.specs.declared.form.Form.{Form}
 use Rattle.dvd_capture.specs.declared.form.Form.TheVariants.{Plain, Marked, Listed}
 use Rattle.dvd_capture.proofs.ListedFields.{field_at-append}
 use Rattle.dvd_loop.specs.Machine.{sized}
-use Rattle.dvd_loop.specs.Machine.Part.{Whole, Cut, Broken}
+use Rattle.dvd_loop.specs.Machine.Prefix.{Whole, Cut, Broken}
 use Rattle.dvd_loop.proofs.Sizes.{sized_enough, sized_fewer, sized_never_broken}
 use Rattle.dvd_commands.specs.Captured.{broken_at, captured_part, listed_part}
 use Rattle.dvd_commands.proofs.BrokenFields.{broken_found}

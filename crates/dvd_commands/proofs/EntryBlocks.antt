@@ -8,10 +8,10 @@ use Rattle.dvd_layout.specs.declared.entry.Content.{Content}
 use Rattle.dvd_layout.specs.declared.entry.Content.TheVariants.{Control, Image, Reference, Zero}
 use Rattle.dvd_loop.specs.Machine.{Step}
 use Rattle.dvd_loop.specs.Streams.{Streams}
-use Rattle.dvd_loop.specs.Turns.{AreDone}
+use Rattle.dvd_loop.specs.UnitCommand.{AreDone}
 use Rattle.dvd_loop.specs.declared.ends.LoopEnd.{LoopEnd}
-use Rattle.dvd_loop.specs.declared.ends.Turn.{Turn}
-use Rattle.dvd_loop.specs.declared.ends.Turn.TheVariants.{Good}
+use Rattle.dvd_loop.specs.declared.ends.UnitKind.{UnitKind}
+use Rattle.dvd_loop.specs.declared.ends.UnitKind.TheVariants.{Good}
 use Rattle.dvd_commands.specs.Captured.{IfImage, IsDoneByEntry}
 use Rattle.dvd_commands.proofs.PlanEntries.{one_entry}
 use Rattle.dvd_commands.proofs.TwoSteps.{done_as, nothing_done}
@@ -19,49 +19,49 @@ use Rattle.std.proofs.lemmas.List.FromFn.{length-map-range_with_len}
 use Rattle.coding.specs.Recording.{record_at}
 
 -- where nothing may be done for what a block holds, it is passed over
-pub passed_over : (May : Content → List Step → Turn → Type 0) (content held : Content) → content ≡ held → May held [] Good → (old : Streams)
+pub passed_over : (May : Content → List Step → UnitKind → Type 0) (content held : Content) → content ≡ held → May held [] Good → (old : Streams)
     → AreDone (May content) old old (Ok Good)
 passed_over May content held is may = nothing_done (May content) Good (subst (λ c. May c [] Good) (sym is) may)
 
-module _ (Does : List Step → Turn → Type 0) where
+module _ (Performs : List Step → UnitKind → Type 0) where
   -- so it is where it holds no image
   pub no_image : (content : Content) → (content ≡ Zero) ⊎ ((content ≡ Reference) ⊎ (content ≡ Control)) → (old : Streams)
-      → AreDone (IfImage Does content) old old (Ok Good)
-  no_image content (inl is) = passed_over (IfImage Does) content Zero is (refl, refl)
-  no_image content (inr (inl is)) = passed_over (IfImage Does) content Reference is (refl, refl)
-  no_image content (inr (inr is)) = passed_over (IfImage Does) content Control is (refl, refl)
+      → AreDone (IfImage Performs content) old old (Ok Good)
+  no_image content (inl is) = passed_over (IfImage Performs) content Zero is (refl, refl)
+  no_image content (inr (inl is)) = passed_over (IfImage Performs) content Reference is (refl, refl)
+  no_image content (inr (inr is)) = passed_over (IfImage Performs) content Control is (refl, refl)
 
   -- where it holds image, what is done for that is done for it,
-  pub an_image : (content : Content) (sector : ℕ) → content ≡ Image sector → (old new : Streams) (answer : Result Turn LoopEnd) → AreDone Does old new answer
-      → AreDone (IfImage Does content) old new answer
-  an_image content sector is old new answer = subst (λ c. AreDone (IfImage Does c) old new answer) (sym is)
+  pub an_image : (content : Content) (sector : ℕ) → content ≡ Image sector → (old new : Streams) (answer : Result UnitKind LoopEnd) → AreDone Performs old new answer
+      → AreDone (IfImage Performs content) old new answer
+  an_image content sector is old new answer = subst (λ c. AreDone (IfImage Performs c) old new answer) (sym is)
 
   -- and nothing else is
-  pub of_image : (content : Content) → IsImage content → (steps : List Step) (turn : Turn) → IfImage Does content steps turn → Does steps turn
-  of_image (Image sector) is steps turn does = does
-  of_image Zero is steps turn does = absurd is
-  of_image Reference is steps turn does = absurd is
-  of_image Control is steps turn does = absurd is
+  pub of_image : (content : Content) → IsImage content → (steps : List Step) (kind : UnitKind) → IfImage Performs content steps kind → Performs steps kind
+  of_image (Image sector) is steps kind does = does
+  of_image Zero is steps kind does = absurd is
+  of_image Reference is steps kind does = absurd is
+  of_image Control is steps kind does = absurd is
 
-module _ (entries : List BlockPlan) (Does : BlockPlan → List (List ℕ) → List (List Bool) → List Step → Turn → Type 0) (form : Form) (k : ℕ) (entry : BlockPlan)
+module _ (entries : List BlockPlan) (Performs : BlockPlan → List (List ℕ) → List (List Bool) → List Step → UnitKind → Type 0) (form : Form) (k : ℕ) (entry : BlockPlan)
     (stands : slice_get entries k ≡ Some entry) (own : List ℕ) where
   -- what is done for the rows and marks of captured bytes is done for block k
   pub done_by_entry : (rows : List (List ℕ)) (marks : List (List Bool)) → rows ≡ captured_rows form own → marks ≡ captured_marks form own
-      → (old new : Streams) (answer : Result Turn LoopEnd) → AreDone (Does entry rows marks) old new answer
-      → AreDone (IsDoneByEntry entries Does form k own) old new answer
+      → (old new : Streams) (answer : Result UnitKind LoopEnd) → AreDone (Performs entry rows marks) old new answer
+      → AreDone (IsDoneByEntry entries Performs form k own) old new answer
   done_by_entry rows marks rows_are marks_are =
-      done_as (Does entry rows marks) (IsDoneByEntry entries Does form k own)
-      (λ steps turn does. record {
+      done_as (Performs entry rows marks) (IsDoneByEntry entries Performs form k own)
+      (λ steps kind does. record {
         entry = entry;
         stands = stands;
-        does = subst (λ m. Does entry (captured_rows form own) m steps turn) marks_are (subst (λ r. Does entry r marks steps turn) rows_are does);
+        does = subst (λ m. Performs entry (captured_rows form own) m steps kind) marks_are (subst (λ r. Performs entry r marks steps kind) rows_are does);
       })
 
   -- and what is done for block k is done for the entry that stands there
-  pub done_at : (steps : List Step) (turn : Turn) → IsDoneByEntry entries Does form k own steps turn
-      → Does entry (captured_rows form own) (captured_marks form own) steps turn
-  done_at steps turn does =
-      subst (λ e. Does e (captured_rows form own) (captured_marks form own) steps turn) (one_entry entries k does.entry entry does.stands stands) does.does
+  pub done_at : (steps : List Step) (kind : UnitKind) → IsDoneByEntry entries Performs form k own steps kind
+      → Performs entry (captured_rows form own) (captured_marks form own) steps kind
+  done_at steps kind does =
+      subst (λ e. Performs e (captured_rows form own) (captured_marks form own) steps kind) (one_entry entries k does.entry entry does.stands stands) does.does
 
 -- A captured block has 208 rows, with marks for each.
 pub length-captured_rows : (form : Form) (own : List ℕ) → length (captured_rows form own) ≡ 208

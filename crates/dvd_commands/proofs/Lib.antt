@@ -1,13 +1,13 @@
 -- Why the contracts hold: lemmas on what several commands share. Those of one command stand in the folder of its proofs.
 pub mod AnyEnd
 pub mod BlockFrames
-pub mod BlockTurns
+pub mod BlockUnits
 pub mod BorneBlocks
 pub mod BrokenFields
 pub mod CaptureEnds
 pub mod CapturedBlocks
 pub mod CapturedParts
-pub mod CapturedTurns
+pub mod CapturedUnits
 pub mod EachCommand
 pub mod EntryBlocks
 pub mod ForRuns

@@ -31,7 +31,7 @@ module _ (units : Units) (size : ℕ → ℕ) (begins : (k : ℕ) (own : List �
   are_determined = record {
     whole = whole_stays units size begins;
     broken = broken_stays units size begins;
-    does = λ before own steps others turn other p q. one before own steps others turn other p.does q.does;
+    does = λ before own steps others kind other p q. one before own steps others kind other p.does q.does;
     closes = closing;
   }
 

@@ -18,10 +18,10 @@ use Rattle.dvd_layout.specs.declared.layout.Zones.{Zones}
 use Rattle.dvd_loop.specs.Laws.{first}
 use Rattle.dvd_loop.specs.Machine.{IsOutcome, Outcome, Step, Units}
 use Rattle.dvd_loop.specs.Machine.Step.{Write}
-use Rattle.dvd_loop.specs.Turns.{written}
+use Rattle.dvd_loop.specs.UnitCommand.{written}
 use Rattle.dvd_loop.specs.declared.ends.LoopEnd.TheVariants.{Done}
-use Rattle.dvd_loop.specs.declared.ends.Turn.{Turn}
-use Rattle.dvd_loop.specs.declared.ends.Turn.TheVariants.{Good, Bad, Last}
+use Rattle.dvd_loop.specs.declared.ends.UnitKind.{UnitKind}
+use Rattle.dvd_loop.specs.declared.ends.UnitKind.TheVariants.{Good, Bad, Last}
 use Rattle.dvd_loop.proofs.Over.{start}
 use Rattle.dvd_deep.proofs.Products.{found_is_product}
 use Rattle.dvd_layout.specs.Plan.{plan_of}
@@ -85,8 +85,8 @@ length-out sectors (suc count) widths =
     ∙ omega (arith, length-out sectors count (λ f below. widths f (omega arith)), widths count (omega arith))
 
 -- so many bytes are written, and the block isn't the last
-abbrev pub IsWide : ℕ → List Step → Turn → Type 0
-IsWide count steps turn = (length (written steps) ≡ count) × (turn ≢ Last)
+abbrev pub IsWide : ℕ → List Step → UnitKind → Type 0
+IsWide count steps kind = (length (written steps) ≡ count) × (kind ≢ Last)
 
 -- what the line of a round leaves to be written
 written-behind : (cause : Option Cause) (k : ℕ) (entry : BlockPlan) (round : ℕ) (bytes : List ℕ) → written (round_told cause k entry round ++ Write bytes ∷ []) ≡ bytes ++ []
@@ -94,21 +94,21 @@ written-behind None k entry round bytes = refl
 written-behind (Some cause) k entry round bytes = refl
 
 -- for a block without image sectors none is written
-passed-wide : {count : ℕ} {steps : List Step} {turn : Turn} → count ≡ 0 → IsPassedOver steps turn → IsWide count steps turn
+passed-wide : {count : ℕ} {steps : List Step} {kind : UnitKind} → count ≡ 0 → IsPassedOver steps kind → IsWide count steps kind
 passed-wide none (nothing, good) = (ap (λ s. length (written s)) nothing ∙ sym none, λ last. let no : Good ≡ Last = sym good ∙ last in cc)
 
 -- where as many bytes are written for image as its sectors have, so it is whatever a block holds
-if_image-wide : (Does : List Step → Turn → Type 0) (layout : Layout) (held content : Content) (steps : List Step) (turn : Turn)
-    → (Does steps turn → IsWide (2048 * image_sectors layout held) steps turn)
-    → held ≡ content → IfImage Does content steps turn → IsWide (2048 * image_sectors layout held) steps turn
-if_image-wide Does layout held (Image sector) steps turn wide is done = wide done
-if_image-wide Does layout held Zero steps turn wide is done = passed-wide (ap (λ c. 2048 * image_sectors layout c) is) done
-if_image-wide Does layout held Reference steps turn wide is done = passed-wide (ap (λ c. 2048 * image_sectors layout c) is) done
-if_image-wide Does layout held Control steps turn wide is done = passed-wide (ap (λ c. 2048 * image_sectors layout c) is) done
+if_image-wide : (Performs : List Step → UnitKind → Type 0) (layout : Layout) (held content : Content) (steps : List Step) (kind : UnitKind)
+    → (Performs steps kind → IsWide (2048 * image_sectors layout held) steps kind)
+    → held ≡ content → IfImage Performs content steps kind → IsWide (2048 * image_sectors layout held) steps kind
+if_image-wide Performs layout held (Image sector) steps kind wide is done = wide done
+if_image-wide Performs layout held Zero steps kind wide is done = passed-wide (ap (λ c. 2048 * image_sectors layout c) is) done
+if_image-wide Performs layout held Reference steps kind wide is done = passed-wide (ap (λ c. 2048 * image_sectors layout c) is) done
+if_image-wide Performs layout held Control steps kind wide is done = passed-wide (ap (λ c. 2048 * image_sectors layout c) is) done
 
-module _ (layout : Layout) (k : ℕ) (entry : BlockPlan) (rows : List (List ℕ)) (marks : List (List Bool)) (size : length rows ≡ 208) (marks_size : length marks ≡ 208) (steps : List Step) (turn : Turn) where
+module _ (layout : Layout) (k : ℕ) (entry : BlockPlan) (rows : List (List ℕ)) (marks : List (List Bool)) (size : length rows ≡ 208) (marks_size : length marks ≡ 208) (steps : List Step) (kind : UnitKind) where
   -- for a block that is refused as many bytes are written as its image sectors have
-  refused-wide : (has : Option Cause) → IsRefused has layout k entry rows marks steps turn → IsWide (image_bytes layout entry) steps turn
+  refused-wide : (has : Option Cause) → IsRefused has layout k entry rows marks steps kind → IsWide (image_bytes layout entry) steps kind
   refused-wide has refused =
       let count = image_sectors layout entry.content in
       let saved = sectors_out count (block_out rows marks entry) in
@@ -120,7 +120,7 @@ module _ (layout : Layout) (k : ℕ) (entry : BlockPlan) (rows : List (List ℕ)
       )
 
   -- and so they are for one that two passes give
-  image-wide : IsImageDone layout k entry rows marks steps turn → IsWide (image_bytes layout entry) steps turn
+  image-wide : IsImageDone layout k entry rows marks steps kind → IsWide (image_bytes layout entry) steps kind
   image-wide (inl given) =
       let count = image_sectors layout entry.content in (
         ap (λ s. length (written s)) given.writes ∙ ap length (append-nil (sectors_out count given.sectors)) ∙ ap (λ l. length (sectors_out count l)) given.read.main
@@ -130,7 +130,7 @@ module _ (layout : Layout) (k : ℕ) (entry : BlockPlan) (rows : List (List ℕ)
   image-wide (inr refused) = refused-wide (block_cause rows marks entry) refused
 
   -- and for one that rounds give back
-  read-wide : IsImageRead layout k entry rows marks steps turn → IsWide (image_bytes layout entry) steps turn
+  read-wide : IsImageRead layout k entry rows marks steps kind → IsWide (image_bytes layout entry) steps kind
   read-wide (inl given) =
       let count = image_sectors layout entry.content in
       let sectors = sectors_out count given.sectors in (
@@ -143,36 +143,36 @@ module _ (layout : Layout) (k : ℕ) (entry : BlockPlan) (rows : List (List ℕ)
   read-wide (inr refused) = refused-wide (deep_cause rows marks entry) refused
 
 -- What is done for block k of the plan writes as many bytes as its image sectors have, where it does for each entry.
-entry-wide : (layout : Layout) (zones : Zones) (form : Form) (k : ℕ) (own : List ℕ) (steps : List Step) (turn : Turn)
-    (Does : BlockPlan → List (List ℕ) → List (List Bool) → List Step → Turn → Type 0)
-    → ((e : BlockPlan) (rows : List (List ℕ)) (marks : List (List Bool)) → length rows ≡ 208 → length marks ≡ 208 → Does e rows marks steps turn → IsWide (image_bytes layout e) steps turn)
-    → IsDoneByEntry (plan_of layout zones) (λ e rows marks. IfImage (Does e rows marks) e.content) form k own steps turn
-    → IsWide (bytes_of_block layout zones k) steps turn
-entry-wide layout zones form k own steps turn Does wide r =
+entry-wide : (layout : Layout) (zones : Zones) (form : Form) (k : ℕ) (own : List ℕ) (steps : List Step) (kind : UnitKind)
+    (Performs : BlockPlan → List (List ℕ) → List (List Bool) → List Step → UnitKind → Type 0)
+    → ((e : BlockPlan) (rows : List (List ℕ)) (marks : List (List Bool)) → length rows ≡ 208 → length marks ≡ 208 → Performs e rows marks steps kind → IsWide (image_bytes layout e) steps kind)
+    → IsDoneByEntry (plan_of layout zones) (λ e rows marks. IfImage (Performs e rows marks) e.content) form k own steps kind
+    → IsWide (bytes_of_block layout zones k) steps kind
+entry-wide layout zones form k own steps kind Performs wide r =
     let rows = captured_rows form own in
     let marks = captured_marks form own in
-    subst (λ n. IsWide n steps turn) (sym (size_is layout zones k r.entry r.stands))
-    (if_image-wide (Does r.entry rows marks) layout r.entry.content r.entry.content steps turn
+    subst (λ n. IsWide n steps kind) (sym (size_is layout zones k r.entry r.stands))
+    (if_image-wide (Performs r.entry rows marks) layout r.entry.content r.entry.content steps kind
     (wide r.entry rows marks (length-captured_rows form own) (length-captured_marks form own)) refl r.does)
 
 -- what `recover` writes for a block is as long as its image sectors
-pub recovered-wide : (layout : Layout) (zones : Zones) (form : Form) (k : ℕ) (own : List ℕ) (steps : List Step) (turn : Turn) → IsRecovered layout zones form k own steps turn
-    → IsWide (bytes_of_block layout zones k) steps turn
-recovered-wide layout zones form k own steps turn =
-    entry-wide layout zones form k own steps turn (λ e. IsImageDone layout k e) (λ e rows marks size marks_size. image-wide layout k e rows marks size marks_size steps turn)
+pub recovered-wide : (layout : Layout) (zones : Zones) (form : Form) (k : ℕ) (own : List ℕ) (steps : List Step) (kind : UnitKind) → IsRecovered layout zones form k own steps kind
+    → IsWide (bytes_of_block layout zones k) steps kind
+recovered-wide layout zones form k own steps kind =
+    entry-wide layout zones form k own steps kind (λ e. IsImageDone layout k e) (λ e rows marks size marks_size. image-wide layout k e rows marks size marks_size steps kind)
 
 -- and what `deep` writes is
-pub deepened-wide : (layout : Layout) (zones : Zones) (form : Form) (k : ℕ) (own : List ℕ) (steps : List Step) (turn : Turn) → IsDeepened layout zones form k own steps turn
-    → IsWide (bytes_of_block layout zones k) steps turn
-deepened-wide layout zones form k own steps turn =
-    entry-wide layout zones form k own steps turn (λ e. IsImageRead layout k e) (λ e rows marks size marks_size. read-wide layout k e rows marks size marks_size steps turn)
+pub deepened-wide : (layout : Layout) (zones : Zones) (form : Form) (k : ℕ) (own : List ℕ) (steps : List Step) (kind : UnitKind) → IsDeepened layout zones form k own steps kind
+    → IsWide (bytes_of_block layout zones k) steps kind
+deepened-wide layout zones form k own steps kind =
+    entry-wide layout zones form k own steps kind (λ e. IsImageRead layout k e) (λ e rows marks size marks_size. read-wide layout k e rows marks size marks_size steps kind)
 
 -- Units that are the captured blocks of a plan, and write the image bytes that stand in each.
-abbrev pub block_units : Layout → Zones → Form → (ℕ → List ℕ → List Step → Turn → Type 0) → Units
+abbrev pub block_units : Layout → Zones → Form → (ℕ → List ℕ → List Step → UnitKind → Type 0) → Units
 block_units layout zones form May = captured_units (length (plan_of layout zones)) form May
 
-module _ (layout : Layout) (zones : Zones) (form : Form) (May : ℕ → List ℕ → List Step → Turn → Type 0)
-    (wide : (k : ℕ) (own : List ℕ) (steps : List Step) (turn : Turn) → May k own steps turn → IsWide (bytes_of_block layout zones k) steps turn) where
+module _ (layout : Layout) (zones : Zones) (form : Form) (May : ℕ → List ℕ → List Step → UnitKind → Type 0)
+    (wide : (k : ℕ) (own : List ℕ) (steps : List Step) (kind : UnitKind) → May k own steps kind → IsWide (bytes_of_block layout zones k) steps kind) where
   -- no block is the last
   pub never_last : (k : ℕ) (before : List (List ℕ)) (own : List ℕ) (steps : List Step) → May k own steps Last → ⊥
   never_last k before own steps r = (wide k own steps Last r).1 refl
@@ -183,6 +183,6 @@ module _ (layout : Layout) (zones : Zones) (form : Form) (May : ℕ → List ℕ
   length-first k bytes a runs done =
       length-written (first k (block_units layout zones form May)) (bytes_of_block layout zones) (record {
         opens = refl;
-        does = λ before own steps turn unit. wide (length before) own steps turn unit.does;
+        does = λ before own steps kind unit. wide (length before) own steps kind unit.does;
         closes = λ before steps none. none;
       }) bytes a runs done

@@ -5,7 +5,7 @@ use Rattle.std.proofs.lemmas.List.{length-take-le}
 use Rattle.std.proofs.lemmas.List.Elements.{All-drop, All-take}
 use Rattle.dvd_capture.specs.declared.form.Form.{Form}
 use Rattle.dvd_layout.specs.declared.layout.Layout.{Layout}
-use Rattle.dvd_loop.specs.Machine.{Goes, IsOutcome, Step, Units, bad_of, sized}
+use Rattle.dvd_loop.specs.Machine.{Continues, IsOutcome, Step, Units, bad_of, sized}
 use Rattle.dvd_loop.proofs.Sizes.{sized_fewer, sized_whole}
 use Rattle.dvd_loop.proofs.Totality.{Exists, closed_exists, cut_exists, exists, one_fewer, steps_exist, taken_exists}
 use Rattle.dvd_commands.specs.Captured.{captured_part}
@@ -24,7 +24,7 @@ module _ (units : Units) (size : ℕ → ℕ) (begins : (k : ℕ) (own : List �
     (closing : (before : List (List ℕ)) → length before ≡ units.count → (steps : List Step) × units.closes before steps) where
   -- with n units to come an outcome without a fault exists: the input ends in the next, or it is taken
   goes_exist : (n : ℕ) (before : List (List ℕ)) (bad : ℕ) (bytes : List ℕ) → length before + n ≡ units.count → All IsByte bytes
-      → Exists (Goes units n before bad bytes)
+      → Exists (Continues units n before bad bytes)
   goes_exist zero before bad bytes all are = let closes = closing before (omega arith) in closed_exists units before bad bytes closes.0 closes.1
   goes_exist (suc n) before bad bytes all are = elim (cases_lt (length bytes) (size (length before))) [
     | inl fewer ↦ cut_exists units n before bad bytes (begins (length before) bytes ∙ sized_fewer (size (length before)) bytes fewer)
@@ -32,14 +32,14 @@ module _ (units : Units) (size : ℕ → ℕ) (begins : (k : ℕ) (own : List �
         let here = size (length before) in
         let own = take here bytes in
         let long = length-take-le here bytes le in
-        let (steps, turn, does) = may before own (omega arith) (record { size = long; bytes = All-take IsByte here bytes are }) in
-        taken_exists units n before bad bytes own (drop here bytes) (sym (take-append-drop here bytes)) (begins (length before) own ∙ (sized_whole here own).1 long) steps turn does
-        (goes_exist n (before ++ own ∷ []) (bad + bad_of turn) (drop here bytes) (one_fewer before own n units.count all) (All-drop IsByte here bytes are))
+        let (steps, kind, does) = may before own (omega arith) (record { size = long; bytes = All-take IsByte here bytes are }) in
+        taken_exists units n before bad bytes own (drop here bytes) (sym (take-append-drop here bytes)) (begins (length before) own ∙ (sized_whole here own).1 long) steps kind does
+        (goes_exist n (before ++ own ∷ []) (bad + bad_of kind) (drop here bytes) (one_fewer before own n units.count all) (All-drop IsByte here bytes are))
   ]
 
   -- so every input of bytes has an outcome without a fault
   pub runs_exist : (bytes : List ℕ) → All IsByte bytes → Exists (IsOutcome units bytes)
-  runs_exist bytes are = steps_exist units.opens (Goes units units.count [] 0 bytes) (goes_exist units.count [] 0 bytes (omega arith) are)
+  runs_exist bytes are = steps_exist units.opens (Continues units units.count [] 0 bytes) (goes_exist units.count [] 0 bytes (omega arith) are)
 
 -- Captured blocks: where something may be done for each block and behind all, every input has an outcome without a fault.
 pub captures_exist : (units : Units) (form : Form) → ((k : ℕ) (own : List ℕ) → units.begins k own ≡ captured_part form own)

@@ -10,20 +10,20 @@ use Rattle.dvd_layout.specs.declared.layout.Layout.{Layout}
 use Rattle.dvd_decoding.specs.declared.cause.Cause.{Cause}
 use Rattle.dvd_loop.specs.Machine.{Step}
 use Rattle.dvd_loop.specs.Machine.Step.{Write, Tell}
-use Rattle.dvd_loop.specs.declared.ends.Turn.{Turn}
+use Rattle.dvd_loop.specs.declared.ends.UnitKind.{UnitKind}
 use Rattle.dvd_decoding.specs.Salvage.{block_out, saved_in}
 use Rattle.dvd_report.specs.Lines.{damage_line}
 use Rattle.dvd_commands.specs.Recover.{IsRefused}
 use Rattle.dvd_commands.specs.Inner.Performing.{sectors_out}
 use Rattle.dvd_commands.specs.Captured.{IfImage, IsDoneByEntry, IsPassedOver}
-use Rattle.dvd_loop.specs.declared.ends.Turn.TheVariants.{Good, Bad}
+use Rattle.dvd_loop.specs.declared.ends.UnitKind.TheVariants.{Good, Bad}
 use Rattle.dvd_commands.proofs.EntryBlocks.{length-captured_marks, length-captured_rows}
 use Rattle.dvd_commands.proofs.FrameBytes.{HasBytes}
 use Rattle.dvd_commands.proofs.PlanEntries.{some_entry}
 
 -- something may be done
-abbrev pub MaySome : (List Step → Turn → Type 0) → Type 0
-MaySome May = (steps : List Step) × (turn : Turn) × May steps turn
+abbrev pub MaySome : (List Step → UnitKind → Type 0) → Type 0
+MaySome May = (steps : List Step) × (kind : UnitKind) × May steps kind
 
 -- nothing closes these
 pub no_closing : (steps : List Step) × (steps ≡ [])
@@ -34,22 +34,22 @@ pub passed_some : MaySome IsPassedOver
 passed_some = ([], Good, (refl, refl))
 
 -- where something may be done for image, something may whatever a block holds
-pub if_image_some : (Does : List Step → Turn → Type 0) → MaySome Does → (content : Content) → MaySome (IfImage Does content)
-if_image_some Does some (Image sector) = some
-if_image_some Does some content = passed_some
+pub if_image_some : (Performs : List Step → UnitKind → Type 0) → MaySome Performs → (content : Content) → MaySome (IfImage Performs content)
+if_image_some Performs some (Image sector) = some
+if_image_some Performs some content = passed_some
 
 -- something may be done for a block, where something may for each entry
-pub entry_some : (entries : List BlockPlan) (Does : BlockPlan → List (List ℕ) → List (List Bool) → List Step → Turn → Type 0)
-    → ((entry : BlockPlan) (rows : List (List ℕ)) (marks : List (List Bool)) → length rows ≡ 208 → length marks ≡ 208 → MaySome (Does entry rows marks))
-    → (form : Form) (k : ℕ) (own : List ℕ) → k < length entries → MaySome (IsDoneByEntry entries Does form k own)
-entry_some entries Does some form k own within =
+pub entry_some : (entries : List BlockPlan) (Performs : BlockPlan → List (List ℕ) → List (List Bool) → List Step → UnitKind → Type 0)
+    → ((entry : BlockPlan) (rows : List (List ℕ)) (marks : List (List Bool)) → length rows ≡ 208 → length marks ≡ 208 → MaySome (Performs entry rows marks))
+    → (form : Form) (k : ℕ) (own : List ℕ) → k < length entries → MaySome (IsDoneByEntry entries Performs form k own)
+entry_some entries Performs some form k own within =
     let at = some_entry entries k within in
     let done = some at.0 (captured_rows form own) (captured_marks form own) (length-captured_rows form own) (length-captured_marks form own) in
     (done.0, done.1, record { entry = at.0; stands = at.1; does = done.2 })
 
 -- a block may be refused for a cause that it has
 pub refused_some : (has : Option Cause) (cause : Cause) → has ≡ Some cause → (layout : Layout) (k : ℕ) (entry : BlockPlan) (rows : List (List ℕ)) (marks : List (List Bool))
-    → (steps : List Step) × (turn : Turn) × IsRefused has layout k entry rows marks steps turn
+    → (steps : List Step) × (kind : UnitKind) × IsRefused has layout k entry rows marks steps kind
 refused_some has cause first layout k entry rows marks = (
   Tell (damage_line k entry cause (saved_in rows marks entry)) ∷ Write (sectors_out (image_sectors layout entry.content) (block_out rows marks entry)) ∷ [],
   Bad,
@@ -57,5 +57,5 @@ refused_some has cause first layout k entry rows marks = (
 )
 
 -- something may be done for each of so many units of given sizes
-abbrev pub MayEach : ℕ → (ℕ → ℕ) → (ℕ → List ℕ → List Step → Turn → Type 0) → Type 0
+abbrev pub MayEach : ℕ → (ℕ → ℕ) → (ℕ → List ℕ → List Step → UnitKind → Type 0) → Type 0
 MayEach count size does = (k : ℕ) (own : List ℕ) → k < count → HasBytes (size k) own → MaySome (does k own)

@@ -1,6 +1,6 @@
--- Why the contracts of `exercise` hold: its blocks, what is counted of them, and its turns.
+-- Why the contracts of `exercise` hold: its blocks, what is counted of them, and its units.
 pub mod Blocks
 pub mod Facts
 pub mod Runs
 pub mod Trials
-pub mod Turns
+pub mod UnitCommand

@@ -12,10 +12,10 @@ use Rattle.dvd_layout.specs.declared.layout.Layout.{Layout}
 use Rattle.dvd_loop.specs.Laws.{IsPlainEnd}
 use Rattle.dvd_loop.specs.Machine.{Step, Units, sized}
 use Rattle.dvd_loop.specs.Machine.Step.{Tell, Write}
-use Rattle.dvd_loop.specs.declared.ends.Behind.TheVariants.{Asks}
+use Rattle.dvd_loop.specs.declared.ends.AfterLast.TheVariants.{EndOfInput}
 use Rattle.dvd_loop.specs.declared.ends.LoopEnd.{LoopEnd}
 use Rattle.dvd_loop.specs.declared.ends.LoopEnd.TheVariants.{ReportFault}
-use Rattle.dvd_loop.specs.declared.ends.Turn.TheVariants.{Good}
+use Rattle.dvd_loop.specs.declared.ends.UnitKind.TheVariants.{Good}
 use Rattle.dvd_merge.specs.Join.{Table}
 use Rattle.dvd_merge.specs.MarkedText.{marked_text}
 use Rattle.dvd_commands.specs.Meaning.{Meaning, by_layout}
@@ -48,9 +48,9 @@ assemble_units layout form frames = record {
   count = frames;
   begins = λ k. sized (frame_size form);
   opens = [];
-  does = λ k before own steps turn. (steps ≡ []) × (turn ≡ Good);
+  does = λ k before own steps kind. (steps ≡ []) × (kind ≡ Good);
   closes = λ before steps. steps ≡ assembled_steps layout (frames_in form before);
-  behind = Asks;
+  after_last = EndOfInput;
 }
 
 -- the meaning of `assemble`: its layout has to break no rule

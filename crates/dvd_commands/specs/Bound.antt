@@ -15,8 +15,8 @@ use Rattle.dvd_loop.specs.Laws.{IsFaultless, IsFrontOf}
 use Rattle.dvd_loop.specs.Machine.{Outcome, Step}
 use Rattle.dvd_loop.specs.Machine.Step.{Write}
 use Rattle.dvd_loop.specs.declared.ends.LoopEnd.TheVariants.{ReadFault}
-use Rattle.dvd_loop.specs.declared.ends.Turn.{Turn}
-use Rattle.dvd_loop.specs.declared.ends.Turn.TheVariants.{Good}
+use Rattle.dvd_loop.specs.declared.ends.UnitKind.{UnitKind}
+use Rattle.dvd_loop.specs.declared.ends.UnitKind.TheVariants.{Good}
 use Rattle.dvd_decoding.specs.Causes.{two_pass_cause}
 use Rattle.dvd_decoding.specs.declared.cause.Cause.{Cause}
 use Rattle.dvd_commands.specs.Captured.{HasBlocks, block_bytes}
@@ -33,7 +33,7 @@ abbrev pub Rescues : Command → Type 0
 Rescues command = (command ≡ Recover) ⊎ (command ≡ Deep)
 
 -- and what they do for block k of the plan
-abbrev pub IsRescued : Command → Layout → Zones → Form → ℕ → List ℕ → List Step → Turn → Type 0
+abbrev pub IsRescued : Command → Layout → Zones → Form → ℕ → List ℕ → List Step → UnitKind → Type 0
 IsRescued Deep = IsDeepened
 IsRescued other = IsRecovered
 
@@ -76,8 +76,8 @@ pub record KeepsBound (settings : Settings) (bytes : List ℕ) (outcome : Outcom
   pub begun : (cpr image : List ℕ) (k : ℕ) (entry : BlockPlan) → IsBorneBlock layout settings.zones settings.form bytes cpr image k entry
       → IsFrontOf (image_part layout entry outcome.out) (image_part layout entry image)
   pub alone : (cpr image : List ℕ) (k : ℕ) (entry : BlockPlan) → IsBorneBlock layout settings.zones settings.form bytes cpr image k entry
-      → (steps : List Step) (turn : Turn) → IsRescued settings.command layout settings.zones settings.form k (block_bytes settings.form bytes k) steps turn
-      → (steps ≡ Write (image_part layout entry image) ∷ []) × (turn ≡ Good)
+      → (steps : List Step) (kind : UnitKind) → IsRescued settings.command layout settings.zones settings.form k (block_bytes settings.form bytes k) steps kind
+      → (steps ≡ Write (image_part layout entry image) ∷ []) × (kind ≡ Good)
 
 -- sector f of a block's image sectors
 abbrev pub sector_part : BlockPlan → ℕ → List ℕ → List ℕ

@@ -8,14 +8,14 @@ use Rattle.dvd_capture.specs.declared.form.Form.TheVariants.{Plain, Marked, List
 use Rattle.dvd_layout.specs.declared.entry.BlockPlan.{BlockPlan}
 use Rattle.dvd_layout.specs.declared.entry.Content.{Content}
 use Rattle.dvd_layout.specs.declared.entry.Content.TheVariants.{Zero, Reference, Control, Image}
-use Rattle.dvd_loop.specs.Machine.{Part, Step, Units, sized}
-use Rattle.dvd_loop.specs.Machine.Part.{Whole, Broken}
-use Rattle.dvd_loop.specs.declared.ends.Behind.TheVariants.{Asks}
+use Rattle.dvd_loop.specs.Machine.{Prefix, Step, Units, sized}
+use Rattle.dvd_loop.specs.Machine.Prefix.{Whole, Broken}
+use Rattle.dvd_loop.specs.declared.ends.AfterLast.TheVariants.{EndOfInput}
 use Rattle.dvd_loop.specs.Laws.{IsDamageEnd, IsSearchEnd}
 use Rattle.dvd_loop.specs.declared.ends.LoopEnd.{LoopEnd}
 use Rattle.dvd_loop.specs.declared.ends.LoopEnd.TheVariants.{BadMarks}
-use Rattle.dvd_loop.specs.declared.ends.Turn.{Turn}
-use Rattle.dvd_loop.specs.declared.ends.Turn.TheVariants.{Good}
+use Rattle.dvd_loop.specs.declared.ends.UnitKind.{UnitKind}
+use Rattle.dvd_loop.specs.declared.ends.UnitKind.TheVariants.{Good}
 
 -- the first of two places, where there are such
 abbrev pub or_later : Option ℕ → Option ℕ → Option ℕ
@@ -40,26 +40,26 @@ abbrev pub broken_at : List ℕ → Option ℕ
 broken_at bytes = broken_among bytes (run_count bytes)
 
 -- how bytes begin, from the first of a captured block on
-abbrev pub listed_part : Option ℕ → List ℕ → Part
+abbrev pub listed_part : Option ℕ → List ℕ → Prefix
 listed_part (Some at) bytes = Broken at
 listed_part None bytes = sized (listed_size bytes) bytes
 
 -- so in each form: a whole block, too few bytes, or a rule that a listed block breaks
-abbrev pub captured_part : Form → List ℕ → Part
+abbrev pub captured_part : Form → List ℕ → Prefix
 captured_part Plain bytes = sized (block_size Plain) bytes
 captured_part Marked bytes = sized (block_size Marked) bytes
 captured_part Listed bytes = listed_part (broken_at bytes) bytes
 
 -- so many captured blocks, for each of which something may be done by its number and its bytes; nothing opens or closes them,
 -- and the input has to end behind the last
-abbrev pub captured_units : ℕ → Form → (ℕ → List ℕ → List Step → Turn → Type 0) → Units
+abbrev pub captured_units : ℕ → Form → (ℕ → List ℕ → List Step → UnitKind → Type 0) → Units
 captured_units count form does = record {
   count = count;
   begins = λ k. captured_part form;
   opens = [];
   does = λ k before. does k;
   closes = λ before steps. steps ≡ [];
-  behind = Asks;
+  after_last = EndOfInput;
 }
 
 -- where captured block k begins
@@ -91,18 +91,18 @@ IsSoughtEnd form count end = IsSearchEnd count end
 
 -- What is done for captured block k, whose bytes are its own: this, by the entry that stands there and by the rows and marks of
 -- the block.
-pub record IsDoneByEntry (entries : List BlockPlan) (Does : BlockPlan → List (List ℕ) → List (List Bool) → List Step → Turn → Type 0) (form : Form) (k : ℕ) (own : List ℕ) (steps : List Step) (turn : Turn) : Type 0 where
+pub record IsDoneByEntry (entries : List BlockPlan) (Performs : BlockPlan → List (List ℕ) → List (List Bool) → List Step → UnitKind → Type 0) (form : Form) (k : ℕ) (own : List ℕ) (steps : List Step) (kind : UnitKind) : Type 0 where
   pub entry : BlockPlan
   pub stands : slice_get entries k ≡ Some entry
-  pub does : Does entry (captured_rows form own) (captured_marks form own) steps turn
+  pub does : Performs entry (captured_rows form own) (captured_marks form own) steps kind
 
 -- nothing is done for a block that is passed over
-abbrev pub IsPassedOver : List Step → Turn → Type 0
-IsPassedOver steps turn = (steps ≡ []) × (turn ≡ Good)
+abbrev pub IsPassedOver : List Step → UnitKind → Type 0
+IsPassedOver steps kind = (steps ≡ []) × (kind ≡ Good)
 
 -- this is done for a block that holds image, and any other is passed over
-abbrev pub IfImage : (List Step → Turn → Type 0) → Content → List Step → Turn → Type 0
-IfImage Does (Image sector) steps turn = Does steps turn
-IfImage Does Zero steps turn = IsPassedOver steps turn
-IfImage Does Reference steps turn = IsPassedOver steps turn
-IfImage Does Control steps turn = IsPassedOver steps turn
+abbrev pub IfImage : (List Step → UnitKind → Type 0) → Content → List Step → UnitKind → Type 0
+IfImage Performs (Image sector) steps kind = Performs steps kind
+IfImage Performs Zero steps kind = IsPassedOver steps kind
+IfImage Performs Reference steps kind = IsPassedOver steps kind
+IfImage Performs Control steps kind = IsPassedOver steps kind

@@ -6,8 +6,8 @@ use Rattle.dvd_loop.specs.Laws.{IsFaultless, IsFrontOf}
 use Rattle.dvd_loop.specs.Machine.{Outcome, Step}
 use Rattle.dvd_loop.specs.Machine.Step.{Write}
 use Rattle.dvd_loop.specs.declared.ends.LoopEnd.TheVariants.{ReadFault}
-use Rattle.dvd_loop.specs.declared.ends.Turn.{Turn}
-use Rattle.dvd_loop.specs.declared.ends.Turn.TheVariants.{Good}
+use Rattle.dvd_loop.specs.declared.ends.UnitKind.{UnitKind}
+use Rattle.dvd_loop.specs.declared.ends.UnitKind.TheVariants.{Good}
 use Rattle.dvd_commands.specs.CdRead.{IsSectorRead}
 use Rattle.dvd_words.specs.declared.settings.Settings.{Settings}
 
@@ -38,5 +38,5 @@ pub record KeepsSectors (settings : Settings) (bytes : List ℕ) (outcome : Outc
   pub received : outcome.end ≡ ReadFault → GivesUserData settings outcome.taken outcome.out
   pub begun : (user : List ℕ) (k : ℕ) → IsBorneSector settings bytes user k → IsFrontOf (take 2048 (drop (2048 * k) outcome.out)) user
   pub alone : (user : List ℕ) (k : ℕ) → IsBorneSector settings bytes user k
-      → (steps : List Step) (turn : Turn) → IsSectorRead (settings.address + k) k (cd_sector_bytes bytes k) steps turn
-      → (steps ≡ Write user ∷ []) × (turn ≡ Good)
+      → (steps : List Step) (kind : UnitKind) → IsSectorRead (settings.address + k) k (cd_sector_bytes bytes k) steps kind
+      → (steps ≡ Write user ∷ []) × (kind ≡ Good)

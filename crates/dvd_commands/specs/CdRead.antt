@@ -6,8 +6,8 @@ use Rattle.cd_sector.specs.Repair.{repaired}
 use Rattle.cd_sector.specs.declared.checking.CdCause.{CdCause}
 use Rattle.dvd_loop.specs.Machine.{Step, Units, plain_units}
 use Rattle.dvd_loop.specs.Machine.Step.{Write, Tell}
-use Rattle.dvd_loop.specs.declared.ends.Turn.{Turn}
-use Rattle.dvd_loop.specs.declared.ends.Turn.TheVariants.{Good, Bad}
+use Rattle.dvd_loop.specs.declared.ends.UnitKind.{UnitKind}
+use Rattle.dvd_loop.specs.declared.ends.UnitKind.TheVariants.{Good, Bad}
 use Rattle.dvd_commands.specs.CdLines.{damaged_sector_line}
 use Rattle.dvd_commands.specs.Meaning.{Meaning, by_settings}
 
@@ -16,21 +16,21 @@ abbrev pub user_data : List ℕ → List ℕ
 user_data sector = take 2048 (drop 16 sector)
 
 -- Nothing is wrong with what the sector is repaired to: its user data are written.
-pub record IsSectorGiven (address : ℕ) (read : List ℕ) (steps : List Step) (turn : Turn) : Type 0 where
+pub record IsSectorGiven (address : ℕ) (read : List ℕ) (steps : List Step) (kind : UnitKind) : Type 0 where
   pub faultless : IsRightSector (repaired read) address
   pub writes : steps ≡ Write (user_data (repaired read)) ∷ []
-  pub good : turn ≡ Good
+  pub good : kind ≡ Good
 
 -- Or something is: a line tells the first cause, and then as many zeros are written.
-pub record IsSectorRefused (address k : ℕ) (read : List ℕ) (steps : List Step) (turn : Turn) : Type 0 where
+pub record IsSectorRefused (address k : ℕ) (read : List ℕ) (steps : List Step) (kind : UnitKind) : Type 0 where
   pub cause : CdCause
   pub is_cause : IsCause (repaired read) address cause
   pub tells : steps ≡ Tell (damaged_sector_line k cause) ∷ Write (replicate 2048 0) ∷ []
-  pub bad : turn ≡ Bad
+  pub bad : kind ≡ Bad
 
 -- what is done for sector k of the input, which has this address
-abbrev pub IsSectorRead : ℕ → ℕ → List ℕ → List Step → Turn → Type 0
-IsSectorRead address k read steps turn = IsSectorGiven address read steps turn ⊎ IsSectorRefused address k read steps turn
+abbrev pub IsSectorRead : ℕ → ℕ → List ℕ → List Step → UnitKind → Type 0
+IsSectorRead address k read steps kind = IsSectorGiven address read steps kind ⊎ IsSectorRefused address k read steps kind
 
 -- sector k has 2,352 bytes of the input, and the address first + k
 abbrev pub cdread_units : ℕ → ℕ → Units

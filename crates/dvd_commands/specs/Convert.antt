@@ -8,8 +8,8 @@ use Rattle.dvd_layout.specs.declared.layout.Layout.{Layout}
 use Rattle.dvd_layout.specs.declared.layout.Zones.{Zones}
 use Rattle.dvd_loop.specs.Machine.{IsOutcome, Outcome, Step, Units}
 use Rattle.dvd_loop.specs.Machine.Step.{Write}
-use Rattle.dvd_loop.specs.declared.ends.Turn.{Turn}
-use Rattle.dvd_loop.specs.declared.ends.Turn.TheVariants.{Good}
+use Rattle.dvd_loop.specs.declared.ends.UnitKind.{UnitKind}
+use Rattle.dvd_loop.specs.declared.ends.UnitKind.TheVariants.{Good}
 use Rattle.dvd_commands.specs.Captured.{captured_units}
 use Rattle.dvd_commands.specs.Meaning.{Meaning}
 use Rattle.dvd_commands.specs.Opening.{IsHeaderOf}
@@ -17,11 +17,11 @@ use Rattle.dvd_words.specs.Settings.{IsLayoutOf, broken_rule}
 use Rattle.dvd_words.specs.declared.settings.Settings.{Settings}
 
 -- the listed unit of the rows and marks of a captured block is written
-pub record IsConverted (form : Form) (own : List ℕ) (steps : List Step) (turn : Turn) : Type 0 where
+pub record IsConverted (form : Form) (own : List ℕ) (steps : List Step) (kind : UnitKind) : Type 0 where
   pub unit : List ℕ
   pub is_unit : IsUnitOf (captured_rows form own) (captured_marks form own) unit
   pub writes : steps ≡ Write unit ∷ []
-  pub good : turn ≡ Good
+  pub good : kind ≡ Good
 
 -- Unit k is a captured block, whatever the plan has there. Before the first of them these bytes are written.
 abbrev pub convert_units : Layout → Zones → Form → List ℕ → Units

@@ -15,8 +15,8 @@ use Rattle.dvd_layout.specs.declared.layout.Layout.{Layout}
 use Rattle.dvd_layout.specs.declared.layout.Zones.{Zones}
 use Rattle.dvd_loop.specs.Machine.{Step, Units}
 use Rattle.dvd_loop.specs.Machine.Step.{Write, Tell}
-use Rattle.dvd_loop.specs.declared.ends.Turn.{Turn}
-use Rattle.dvd_loop.specs.declared.ends.Turn.TheVariants.{Good}
+use Rattle.dvd_loop.specs.declared.ends.UnitKind.{UnitKind}
+use Rattle.dvd_loop.specs.declared.ends.UnitKind.TheVariants.{Good}
 use Rattle.dvd_decoding.specs.Causes.{two_pass_cause}
 use Rattle.dvd_decoding.specs.declared.cause.Cause.{Cause}
 use Rattle.dvd_report.specs.Lines.{round_line}
@@ -30,25 +30,25 @@ round_told None k entry round = []
 round_told (Some cause) k entry round = Tell (round_line k entry round) ∷ []
 
 -- A round gives the block back and its frames are right: its image sectors are written, behind the line of the round.
-pub record IsGivenBack (layout : Layout) (k : ℕ) (entry : BlockPlan) (rows : List (List ℕ)) (marks : List (List Bool)) (steps : List Step) (turn : Turn) : Type 0 where
+pub record IsGivenBack (layout : Layout) (k : ℕ) (entry : BlockPlan) (rows : List (List ℕ)) (marks : List (List Bool)) (steps : List Step) (kind : UnitKind) : Type 0 where
   pub round : ℕ
   pub sectors : List (List ℕ)
   pub read : IsDeep rows marks entry round sectors
   pub writes : steps ≡ round_told (two_pass_cause (answers_of rows marks)) k entry round
       ++ Write (flat_map (λ sector. sector) (take (image_sectors layout entry.content) sectors)) ∷ []
-  pub good : turn ≡ Good
+  pub good : kind ≡ Good
 
 -- what is done for a block that holds image: it is given back, or it is refused for its first cause, as in `recover`
-abbrev pub IsImageRead : Layout → ℕ → BlockPlan → List (List ℕ) → List (List Bool) → List Step → Turn → Type 0
-IsImageRead layout k entry rows marks steps turn =
-    IsGivenBack layout k entry rows marks steps turn ⊎ IsRefused (deep_cause rows marks entry) layout k entry rows marks steps turn
+abbrev pub IsImageRead : Layout → ℕ → BlockPlan → List (List ℕ) → List (List Bool) → List Step → UnitKind → Type 0
+IsImageRead layout k entry rows marks steps kind =
+    IsGivenBack layout k entry rows marks steps kind ⊎ IsRefused (deep_cause rows marks entry) layout k entry rows marks steps kind
 
 -- a block that holds none is passed over
-abbrev pub IsReadDeep : Content → Layout → ℕ → BlockPlan → List (List ℕ) → List (List Bool) → List Step → Turn → Type 0
+abbrev pub IsReadDeep : Content → Layout → ℕ → BlockPlan → List (List ℕ) → List (List Bool) → List Step → UnitKind → Type 0
 IsReadDeep content layout k entry rows marks = IfImage (IsImageRead layout k entry rows marks) content
 
 -- what is done for block k of the plan, whose captured bytes are its own
-abbrev pub IsDeepened : Layout → Zones → Form → ℕ → List ℕ → List Step → Turn → Type 0
+abbrev pub IsDeepened : Layout → Zones → Form → ℕ → List ℕ → List Step → UnitKind → Type 0
 IsDeepened layout zones form k = IsDoneByEntry (plan_of layout zones) (λ entry. IsReadDeep entry.content layout k entry) form k
 
 -- the units are the captured blocks of the plan

@@ -18,8 +18,8 @@ use Rattle.dvd_frame.specs.declared.scrambling.Rule.TheVariants.{Whole}
 use Rattle.dvd_layout.specs.Lengths.{data_first}
 use Rattle.dvd_loop.specs.Machine.{Step, Units, sized}
 use Rattle.dvd_loop.specs.Machine.Step.{Write}
-use Rattle.dvd_loop.specs.declared.ends.Behind.TheVariants.{Done}
-use Rattle.dvd_loop.specs.declared.ends.Turn.TheVariants.{Good}
+use Rattle.dvd_loop.specs.declared.ends.AfterLast.TheVariants.{Done}
+use Rattle.dvd_loop.specs.declared.ends.UnitKind.TheVariants.{Good}
 use Rattle.coding.specs.Found.{block_differences}
 use Rattle.dvd_commands.specs.Meaning.{Meaning, by_settings}
 
@@ -99,9 +99,9 @@ exercise_units seed blocks = record {
   count = blocks;
   begins = λ k. sized 0;
   opens = [];
-  does = λ k before own steps turn. (steps ≡ []) × (turn ≡ Good);
+  does = λ k before own steps kind. (steps ≡ []) × (kind ≡ Good);
   closes = λ before. IsExercised seed blocks;
-  behind = Done;
+  after_last = Done;
 }
 
 -- the meaning of `exercise`: it has no layout

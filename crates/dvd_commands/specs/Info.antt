@@ -13,9 +13,9 @@ use Rattle.dvd_layout.specs.declared.entry.Content.{Content}
 use Rattle.dvd_layout.specs.declared.entry.Content.TheVariants.{Zero, Reference, Control, Image}
 use Rattle.dvd_loop.specs.Machine.{Step, Units}
 use Rattle.dvd_loop.specs.Machine.Step.{Write}
-use Rattle.dvd_loop.specs.declared.ends.Behind.TheVariants.{NoControl}
-use Rattle.dvd_loop.specs.declared.ends.Turn.{Turn}
-use Rattle.dvd_loop.specs.declared.ends.Turn.TheVariants.{Good, Last}
+use Rattle.dvd_loop.specs.declared.ends.AfterLast.TheVariants.{NoControl}
+use Rattle.dvd_loop.specs.declared.ends.UnitKind.{UnitKind}
+use Rattle.dvd_loop.specs.declared.ends.UnitKind.TheVariants.{Good, Last}
 use Rattle.dvd_decoding.specs.Reading.{IsReadAs, block_cause}
 use Rattle.dvd_decoding.specs.declared.cause.Cause.{Cause}
 use Rattle.dvd_report.specs.Lines.{hexadecimal}
@@ -46,39 +46,39 @@ format_lines format =
     ++ number_line (codes "bca ") (if format.bca then 1 else 0)
 
 -- A block of control data answers: it is right, its first sector is a physical format, and the lines of that are written.
-pub record GivesFormat (entry : BlockPlan) (rows : List (List ℕ)) (marks : List (List Bool)) (steps : List Step) (turn : Turn) : Type 0 where
+pub record GivesFormat (entry : BlockPlan) (rows : List (List ℕ)) (marks : List (List Bool)) (steps : List Step) (kind : UnitKind) : Type 0 where
   pub sectors : List (List ℕ)
   pub read : IsReadAs rows marks entry sectors
   pub lawful : control_fault (line sectors 0) ≡ None
   pub writes : steps ≡ Write (format_lines (fields_in (line sectors 0))) ∷ []
-  pub last : turn ≡ Last
+  pub last : kind ≡ Last
 
 -- Or it answers nothing: it has a cause, or its first sector breaks a rule of physical formats.
-pub record GivesNoFormat (entry : BlockPlan) (rows : List (List ℕ)) (marks : List (List Bool)) (steps : List Step) (turn : Turn) : Type 0 where
+pub record GivesNoFormat (entry : BlockPlan) (rows : List (List ℕ)) (marks : List (List Bool)) (steps : List Step) (kind : UnitKind) : Type 0 where
   pub why : ((cause : Cause) × (block_cause rows marks entry ≡ Some cause))
       ⊎ ((sectors : List (List ℕ)) × (fault : ControlFault) × IsReadAs rows marks entry sectors × (control_fault (line sectors 0) ≡ Some fault))
   pub nothing : steps ≡ []
-  pub good : turn ≡ Good
+  pub good : kind ≡ Good
 
 -- what is done for a block of control data
-abbrev pub IsControlDone : BlockPlan → List (List ℕ) → List (List Bool) → List Step → Turn → Type 0
-IsControlDone entry rows marks steps turn = GivesFormat entry rows marks steps turn ⊎ GivesNoFormat entry rows marks steps turn
+abbrev pub IsControlDone : BlockPlan → List (List ℕ) → List (List Bool) → List Step → UnitKind → Type 0
+IsControlDone entry rows marks steps kind = GivesFormat entry rows marks steps kind ⊎ GivesNoFormat entry rows marks steps kind
 
 -- a block that holds none is passed over
-abbrev pub IsAsked : Content → BlockPlan → List (List ℕ) → List (List Bool) → List Step → Turn → Type 0
-IsAsked Control entry rows marks steps turn = IsControlDone entry rows marks steps turn
-IsAsked Zero entry rows marks steps turn = IsPassedOver steps turn
-IsAsked Reference entry rows marks steps turn = IsPassedOver steps turn
-IsAsked (Image sector) entry rows marks steps turn = IsPassedOver steps turn
+abbrev pub IsAsked : Content → BlockPlan → List (List ℕ) → List (List Bool) → List Step → UnitKind → Type 0
+IsAsked Control entry rows marks steps kind = IsControlDone entry rows marks steps kind
+IsAsked Zero entry rows marks steps kind = IsPassedOver steps kind
+IsAsked Reference entry rows marks steps kind = IsPassedOver steps kind
+IsAsked (Image sector) entry rows marks steps kind = IsPassedOver steps kind
 
 -- what is done for block k of the lead-in, whose captured bytes are its own
-abbrev pub IsSought : ℕ → Form → ℕ → List ℕ → List Step → Turn → Type 0
+abbrev pub IsSought : ℕ → Form → ℕ → List ℕ → List Step → UnitKind → Type 0
 IsSought initial = IsDoneByEntry (lead_in_blocks initial) (λ entry. IsAsked entry.content entry)
 
 -- The blocks up to the last of control data: the Initial Zone, 2 of reference code, 30 of a buffer zone, and 192. The first
 -- that answers is the last that is read, and behind all of them no control block has answered.
 abbrev pub info_units : ℕ → Form → Units
-info_units initial form = record (captured_units (initial + 224) form (IsSought initial form)) { behind = NoControl }
+info_units initial form = record (captured_units (initial + 224) form (IsSought initial form)) { after_last = NoControl }
 
 -- the meaning of `info`: of a layout it has the Initial Zone alone
 abbrev pub info_meaning : Meaning

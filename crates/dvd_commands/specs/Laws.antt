@@ -21,12 +21,12 @@ use Rattle.dvd_layout.specs.declared.layout.Zones.{Zones}
 use Rattle.dvd_layout.specs.declared.layout.Zones.TheVariants.{DataOnly}
 use Rattle.dvd_loop.specs.Laws.{IsFaultless, IsFrontOf, first}
 use Rattle.dvd_loop.specs.Machine.{IsOutcome, Outcome, Step}
-use Rattle.dvd_loop.specs.Machine.Part.{Whole, Cut, Broken}
+use Rattle.dvd_loop.specs.Machine.Prefix.{Whole, Cut, Broken}
 use Rattle.dvd_loop.specs.Machine.Step.{Write}
-use Rattle.dvd_loop.specs.Turns.{written}
+use Rattle.dvd_loop.specs.UnitCommand.{written}
 use Rattle.dvd_loop.specs.declared.ends.LoopEnd.TheVariants.{BadMarks, Done, NoControl, Short}
-use Rattle.dvd_loop.specs.declared.ends.Turn.{Turn}
-use Rattle.dvd_loop.specs.declared.ends.Turn.TheVariants.{Good, Last}
+use Rattle.dvd_loop.specs.declared.ends.UnitKind.{UnitKind}
+use Rattle.dvd_loop.specs.declared.ends.UnitKind.TheVariants.{Good, Last}
 use Rattle.dvd_merge.specs.Agreeing.{IsOf}
 use Rattle.dvd_merge.specs.Join.{unseen}
 use Rattle.dvd_decoding.specs.Causes.{two_pass_cause}
@@ -57,22 +57,22 @@ ImageIsTakenWhole =
 -- was mastered at that place, of any image and any CPR_MAI. Exactly its image sectors are written, and no line names it.
 abbrev pub DamageWithinTheBoundIsRepaired : Type 0
 DamageWithinTheBoundIsRepaired =
-    (layout : Layout) (zones : Zones) (form : Form) (cpr : List ℕ) (k : ℕ) (entry : BlockPlan) (image own : List ℕ) (block : List (List ℕ)) (steps : List Step) (turn : Turn)
+    (layout : Layout) (zones : Zones) (form : Form) (cpr : List ℕ) (k : ℕ) (entry : BlockPlan) (image own : List ℕ) (block : List (List ℕ)) (steps : List Step) (kind : UnitKind)
     → slice_get (plan_of layout zones) k ≡ Some entry → IsImage entry.content → length cpr ≡ 6 → length image ≡ image_bytes layout entry
     → IsBlockOf (frames_of layout entry cpr (filled_block image)) block
     → captured_part form own ≡ Whole (length own) → IsWithin block (captured_rows form own) (captured_marks form own)
-    → IsRecovered layout zones form k own steps turn → (steps ≡ Write image ∷ []) × (turn ≡ Good)
+    → IsRecovered layout zones form k own steps kind → (steps ≡ Write image ∷ []) × (kind ≡ Good)
 
 -- A data block that two passes refuse, and an image sector there whose twelve rows are good against the block that was mastered
 -- at that place, of any image and any CPR_MAI: what is written has the mastered sector at its place.
 abbrev pub GoodFramesOfARefusedBlockAreGiven : Type 0
 GoodFramesOfARefusedBlockAreGiven =
-    (layout : Layout) (zones : Zones) (form : Form) (cpr : List ℕ) (k f : ℕ) (entry : BlockPlan) (image own : List ℕ) (block : List (List ℕ)) (cause : Cause) (steps : List Step) (turn : Turn)
+    (layout : Layout) (zones : Zones) (form : Form) (cpr : List ℕ) (k f : ℕ) (entry : BlockPlan) (image own : List ℕ) (block : List (List ℕ)) (cause : Cause) (steps : List Step) (kind : UnitKind)
     → slice_get (plan_of layout zones) k ≡ Some entry → IsImage entry.content → length cpr ≡ 6 → length image ≡ image_bytes layout entry
     → IsBlockOf (frames_of layout entry cpr (filled_block image)) block → captured_part form own ≡ Whole (length own)
     → two_pass_cause (answers_of (captured_rows form own) (captured_marks form own)) ≡ Some cause
     → f < image_sectors layout entry.content → HasGoodRows block (captured_rows form own) (captured_marks form own) f
-    → IsRecovered layout zones form k own steps turn → take 2048 (drop (2048 * f) (written steps)) ≡ take 2048 (drop (2048 * f) image)
+    → IsRecovered layout zones form k own steps kind → take 2048 (drop (2048 * f) (written steps)) ≡ take 2048 (drop (2048 * f) image)
 
 -- The data frames of the blocks that `exercise` draws are those that `master` makes of the same sectors on a disk with one layer.
 abbrev pub DrawnFramesAreMastered : Type 0

@@ -2,15 +2,15 @@
 use Rattle.std.specs.Prelude.{◌≡◌, ◌+◌, ℕ, List, [], ◌∷◌}
 use Rattle.dvd_loop.specs.Machine.{Step, Units, plain_units}
 use Rattle.dvd_loop.specs.Machine.Step.{Write}
-use Rattle.dvd_loop.specs.declared.ends.Turn.{Turn}
-use Rattle.dvd_loop.specs.declared.ends.Turn.TheVariants.{Good}
+use Rattle.dvd_loop.specs.declared.ends.UnitKind.{UnitKind}
+use Rattle.dvd_loop.specs.declared.ends.UnitKind.TheVariants.{Good}
 
 -- bytes of which this holds are written
-pub record IsMade (Holds : List ℕ → Type 0) (steps : List Step) (turn : Turn) : Type 0 where
+pub record IsMade (Holds : List ℕ → Type 0) (steps : List Step) (kind : UnitKind) : Type 0 where
   pub made : List ℕ
   pub holds : Holds made
   pub writes : steps ≡ Write made ∷ []
-  pub good : turn ≡ Good
+  pub good : kind ≡ Good
 
 -- sector k has 2,048 bytes of the input and the number first + k; what is made of both is written
 abbrev pub sectors_made : (ℕ → List ℕ → List ℕ → Type 0) → ℕ → ℕ → Units

@@ -20,8 +20,8 @@ use Rattle.dvd_layout.specs.declared.layout.Zones.{Zones}
 use Rattle.dvd_control.specs.MainData.{main_bytes}
 use Rattle.dvd_loop.specs.Machine.{Step, Units, plain_units}
 use Rattle.dvd_loop.specs.Machine.Step.{Write}
-use Rattle.dvd_loop.specs.declared.ends.Turn.{Turn}
-use Rattle.dvd_loop.specs.declared.ends.Turn.TheVariants.{Good}
+use Rattle.dvd_loop.specs.declared.ends.UnitKind.{UnitKind}
+use Rattle.dvd_loop.specs.declared.ends.UnitKind.TheVariants.{Good}
 use Rattle.dvd_commands.specs.Meaning.{Meaning, by_layout}
 
 -- how many bytes of the image a block takes
@@ -61,13 +61,13 @@ unfoldable pub frames_of : Layout → BlockPlan → List ℕ → List ℕ → Li
 frames_of layout entry cpr sectors = map (frame_for layout entry cpr sectors) (range_with_len 0 16)
 
 -- What is done for block k of the plan: the recording of the one block of its sixteen frames is written.
-pub record IsMastered (layout : Layout) (zones : Zones) (cpr : List ℕ) (k : ℕ) (own : List ℕ) (steps : List Step) (turn : Turn) : Type 0 where
+pub record IsMastered (layout : Layout) (zones : Zones) (cpr : List ℕ) (k : ℕ) (own : List ℕ) (steps : List Step) (kind : UnitKind) : Type 0 where
   pub entry : BlockPlan
   pub stands : slice_get (plan_of layout zones) k ≡ Some entry
   pub block : List (List ℕ)
   pub is_block : IsBlockOf (frames_of layout entry cpr (filled_block own)) block
   pub writes : steps ≡ Write (recording block) ∷ []
-  pub good : turn ≡ Good
+  pub good : kind ≡ Good
 
 -- how many bytes of the image an entry of the plan takes, and none where there is no entry
 abbrev pub bytes_of_entry : Layout → Option BlockPlan → ℕ

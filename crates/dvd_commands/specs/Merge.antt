@@ -9,7 +9,7 @@ use Rattle.dvd_layout.specs.declared.layout.Layout.{Layout}
 use Rattle.dvd_layout.specs.declared.layout.Zones.{Zones}
 use Rattle.dvd_loop.specs.Machine.{Units, plain_units}
 use Rattle.dvd_loop.specs.Machine.Step.{Write}
-use Rattle.dvd_loop.specs.declared.ends.Turn.TheVariants.{Good}
+use Rattle.dvd_loop.specs.declared.ends.UnitKind.TheVariants.{Good}
 use Rattle.dvd_merge.specs.Join.{Table, joined, seen_table}
 use Rattle.dvd_merge.specs.MarkedText.{marked_text}
 use Rattle.dvd_commands.specs.Meaning.{Meaning, by_layout}
@@ -30,7 +30,7 @@ tables_in captures form own = map (λ c. table_in form (capture_in form own c)) 
 abbrev pub merge_units : Layout → Zones → Form → ℕ → Units
 merge_units layout zones form captures =
     plain_units (length (plan_of layout zones)) (λ k. captures * block_size form)
-    (λ k own steps turn. (steps ≡ Write (marked_text (joined (tables_in captures form own))) ∷ []) × (turn ≡ Good))
+    (λ k own steps kind. (steps ≡ Write (marked_text (joined (tables_in captures form own))) ∷ []) × (kind ≡ Good))
 
 -- the meaning of `merge`: its layout has to break no rule
 abbrev pub merge_meaning : Meaning

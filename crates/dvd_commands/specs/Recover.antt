@@ -13,8 +13,8 @@ use Rattle.dvd_layout.specs.declared.layout.Layout.{Layout}
 use Rattle.dvd_layout.specs.declared.layout.Zones.{Zones}
 use Rattle.dvd_loop.specs.Machine.{Step, Units}
 use Rattle.dvd_loop.specs.Machine.Step.{Write, Tell}
-use Rattle.dvd_loop.specs.declared.ends.Turn.{Turn}
-use Rattle.dvd_loop.specs.declared.ends.Turn.TheVariants.{Good, Bad}
+use Rattle.dvd_loop.specs.declared.ends.UnitKind.{UnitKind}
+use Rattle.dvd_loop.specs.declared.ends.UnitKind.TheVariants.{Good, Bad}
 use Rattle.dvd_decoding.specs.Reading.{IsReadAs, block_cause}
 use Rattle.dvd_decoding.specs.Salvage.{block_out, saved_in}
 use Rattle.dvd_decoding.specs.declared.cause.Cause.{Cause}
@@ -26,31 +26,31 @@ use Rattle.dvd_capture.specs.Answers.{marks_line}
 use Rattle.coding.specs.Within.{row_weight}
 
 -- The image sectors of the block that two passes determine are written, and its frames are right; padding sectors aren't.
-pub record IsGiven (layout : Layout) (entry : BlockPlan) (rows : List (List ℕ)) (marks : List (List Bool)) (steps : List Step) (turn : Turn) : Type 0 where
+pub record IsGiven (layout : Layout) (entry : BlockPlan) (rows : List (List ℕ)) (marks : List (List Bool)) (steps : List Step) (kind : UnitKind) : Type 0 where
   pub sectors : List (List ℕ)
   pub read : IsReadAs rows marks entry sectors
   pub writes : steps ≡ Write (flat_map (λ sector. sector) (take (image_sectors layout entry.content) sectors)) ∷ []
-  pub good : turn ≡ Good
+  pub good : kind ≡ Good
 
 -- Or the block is refused for the first cause that it has: its line is told with the number of frames that are rescued, and then
 -- its image sectors are written, zeros in the place of those that are lost.
-pub record IsRefused (has : Option Cause) (layout : Layout) (k : ℕ) (entry : BlockPlan) (rows : List (List ℕ)) (marks : List (List Bool)) (steps : List Step) (turn : Turn) : Type 0 where
+pub record IsRefused (has : Option Cause) (layout : Layout) (k : ℕ) (entry : BlockPlan) (rows : List (List ℕ)) (marks : List (List Bool)) (steps : List Step) (kind : UnitKind) : Type 0 where
   pub cause : Cause
   pub first : has ≡ Some cause
   pub tells : steps ≡ Tell (damage_line k entry cause (saved_in rows marks entry)) ∷ Write (flat_map (λ sector. sector) (take (image_sectors layout entry.content) (block_out rows marks entry))) ∷ []
-  pub bad : turn ≡ Bad
+  pub bad : kind ≡ Bad
 
 -- what is done for a block that holds image
-abbrev pub IsImageDone : Layout → ℕ → BlockPlan → List (List ℕ) → List (List Bool) → List Step → Turn → Type 0
-IsImageDone layout k entry rows marks steps turn =
-    IsGiven layout entry rows marks steps turn ⊎ IsRefused (block_cause rows marks entry) layout k entry rows marks steps turn
+abbrev pub IsImageDone : Layout → ℕ → BlockPlan → List (List ℕ) → List (List Bool) → List Step → UnitKind → Type 0
+IsImageDone layout k entry rows marks steps kind =
+    IsGiven layout entry rows marks steps kind ⊎ IsRefused (block_cause rows marks entry) layout k entry rows marks steps kind
 
 -- a block that holds none is passed over
-abbrev pub IsDone : Content → Layout → ℕ → BlockPlan → List (List ℕ) → List (List Bool) → List Step → Turn → Type 0
+abbrev pub IsDone : Content → Layout → ℕ → BlockPlan → List (List ℕ) → List (List Bool) → List Step → UnitKind → Type 0
 IsDone content layout k entry rows marks = IfImage (IsImageDone layout k entry rows marks) content
 
 -- what is done for block k of the plan, whose captured bytes are its own
-abbrev pub IsRecovered : Layout → Zones → Form → ℕ → List ℕ → List Step → Turn → Type 0
+abbrev pub IsRecovered : Layout → Zones → Form → ℕ → List ℕ → List Step → UnitKind → Type 0
 IsRecovered layout zones form k = IsDoneByEntry (plan_of layout zones) (λ entry. IsDone entry.content layout k entry) form k
 
 -- the units are the captured blocks of the plan

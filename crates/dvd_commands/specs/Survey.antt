@@ -9,9 +9,9 @@ use Rattle.dvd_layout.specs.declared.layout.Layout.{Layout}
 use Rattle.dvd_layout.specs.declared.layout.Zones.{Zones}
 use Rattle.dvd_loop.specs.Machine.{Step, Units}
 use Rattle.dvd_loop.specs.Machine.Step.{Write}
-use Rattle.dvd_loop.specs.declared.ends.Behind.TheVariants.{Asks}
-use Rattle.dvd_loop.specs.declared.ends.Turn.{Turn}
-use Rattle.dvd_loop.specs.declared.ends.Turn.TheVariants.{Good, Bad}
+use Rattle.dvd_loop.specs.declared.ends.AfterLast.TheVariants.{EndOfInput}
+use Rattle.dvd_loop.specs.declared.ends.UnitKind.{UnitKind}
+use Rattle.dvd_loop.specs.declared.ends.UnitKind.TheVariants.{Good, Bad}
 use Rattle.dvd_decoding.specs.Reading.{block_cause}
 use Rattle.dvd_decoding.specs.declared.cause.Cause.{Cause}
 use Rattle.dvd_report.specs.Survey.{survey_line, surveyed, totals_line}
@@ -28,16 +28,16 @@ unfoldable pub found_in : Layout → Zones → Form → List (List ℕ) → List
 found_in layout zones form blocks = map (found_of form) (zip blocks (plan_of layout zones))
 
 -- a block with a cause is bad
-abbrev pub turn_by : Option Cause → Turn
-turn_by None = Good
-turn_by (Some cause) = Bad
+abbrev pub kind_by : Option Cause → UnitKind
+kind_by None = Good
+kind_by (Some cause) = Bad
 
 -- What is done for block k of the plan, whatever it holds: its line is written, which looks back on the blocks before it.
-pub record IsSurveyed (layout : Layout) (zones : Zones) (form : Form) (k : ℕ) (before : List (List ℕ)) (own : List ℕ) (steps : List Step) (turn : Turn) : Type 0 where
+pub record IsSurveyed (layout : Layout) (zones : Zones) (form : Form) (k : ℕ) (before : List (List ℕ)) (own : List ℕ) (steps : List Step) (kind : UnitKind) : Type 0 where
   pub entry : BlockPlan
   pub stands : slice_get (plan_of layout zones) k ≡ Some entry
   pub writes : steps ≡ Write (survey_line k entry (found_in layout zones form (before ++ own ∷ []))) ∷ []
-  pub answers : turn ≡ turn_by (block_cause (captured_rows form own) (captured_marks form own) entry)
+  pub answers : kind ≡ kind_by (block_cause (captured_rows form own) (captured_marks form own) entry)
 
 -- Behind the last block, and before one byte more is asked for, the line of totals is written.
 abbrev pub survey_units : Layout → Zones → Form → Units
@@ -47,7 +47,7 @@ survey_units layout zones form = record {
   opens = [];
   does = IsSurveyed layout zones form;
   closes = λ before steps. steps ≡ Write (totals_line (found_in layout zones form before)) ∷ [];
-  behind = Asks;
+  after_last = EndOfInput;
 }
 
 -- the meaning of `survey`: its layout has to break no rule

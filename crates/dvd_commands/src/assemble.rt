@@ -13,7 +13,7 @@ ghost use Rattle.dvd_layout.specs.declared.layout.Layout.{Layout as DiskLayout};
 ghost use Rattle.dvd_layout.specs.declared.layout.Zones.TheVariants.{DataOnly};
 ghost use Rattle.dvd_loop.specs.Machine.{IsOutcome};
 ghost use Rattle.dvd_loop.specs.Streams.{streams, HasEnded};
-ghost use Rattle.dvd_loop.specs.Turns.{EndsShort, HasReadCause};
+ghost use Rattle.dvd_loop.specs.UnitCommand.{EndsShort, HasReadCause};
 ghost use Rattle.dvd_merge.specs.Join.{unseen};
 ghost use Rattle.dvd_ports.specs.Whole.{IsWritten};
 ghost use Rattle.dvd_commands.specs.Assemble.{IsAssembleEnd, IsShelfOf, assemble_units, placed_line, text_of};
@@ -24,7 +24,7 @@ use crate::refusal::Refusal;
 use dvd_assemble::{FrameWork, Shelf, fetch_frame};
 use dvd_capture::{FetchAnswer, Form};
 use dvd_layout::{Layout, Zones};
-use dvd_loop::{Behind, LoopEnd, Turn, Turns, follow};
+use dvd_loop::{AfterLast, LoopEnd, UnitCommand, UnitKind, run_units};
 use dvd_ports::{Sink, Source, WriteFault, write_whole};
 use dvd_report::Line;
 use dvd_words::{Command, Settings};
@@ -43,7 +43,7 @@ struct Assembling<'a> {
     ghost sized: { HasSize form },
 }
 
-impl<'a> Turns for Assembling<'a> {
+impl<'a> UnitCommand for Assembling<'a> {
     ghost Key = { DiskLayout × CaptureForm × ℕ };
 
     ghost key = { λ a. (a.layout, a.form, a.frames) };
@@ -58,24 +58,24 @@ impl<'a> Turns for Assembling<'a> {
         self.frames
     }
 
-    fn behind(&self) -> Behind {
-        Behind::Asks
+    fn after_last(&self) -> AfterLast {
+        AfterLast::EndOfInput
     }
 
     fn open<K: Sink, E: Sink>(&self, _out: &mut K, _report: &mut E) -> Result<(), LoopEnd> {
         Ok(())
     }
 
-    fn turn<S: Source, K: Sink, E: Sink>(
+    fn process<S: Source, K: Sink, E: Sink>(
         &mut self,
         k: u32,
         src: &mut S,
         _out: &mut K,
         _report: &mut E,
-    ) -> Result<Turn, LoopEnd> {
+    ) -> Result<UnitKind, LoopEnd> {
         read_frame(src, k, self.form, self.frame)?;
         self.placed += settle_frame(&self.layout, self.frame, self.shelf);
-        Ok(Turn::Good)
+        Ok(UnitKind::Good)
     }
 
     // Before one byte more is asked for: where the input is too long, the line is true of what was written.
@@ -116,7 +116,7 @@ pub fn assemble_loop<S: Source, K: Sink, E: Sink>(
         shelf,
         frame,
     };
-    follow(&mut assembling, src, out, report)
+    run_units(&mut assembling, src, out, report)
 }
 
 /// The command with its buffers, or why it doesn't begin.

@@ -5,14 +5,14 @@ ghost use Rattle.dvd_capture.specs.Rule.{HasAnswers, HasBlock};
 ghost use Rattle.dvd_capture.specs.Works.{rows_of, marks_of_work, sectors_of, stage_of};
 ghost use Rattle.dvd_loop.specs.Streams.{streams};
 ghost use Rattle.dvd_layout.specs.Place.{HasNumbers};
-ghost use Rattle.dvd_loop.specs.Turns.{AreDone, HasReadCause};
+ghost use Rattle.dvd_loop.specs.UnitCommand.{AreDone, HasReadCause};
 ghost use Rattle.dvd_ports.specs.Seen.{Seen};
 ghost use Rattle.dvd_ports.specs.Whole.{IsWritten};
 ghost use Rattle.dvd_commands.specs.Inner.Performing.{EndsCaptured, IsRefusedFor, sectors_out};
 
 use dvd_capture::{FetchAnswer, Form, Work, fetch};
 use dvd_layout::{BlockPlan, Layout};
-use dvd_loop::{LoopEnd, Turn};
+use dvd_loop::{LoopEnd, UnitKind};
 use dvd_ports::{Sink, Source, WriteFault, write_whole};
 use dvd_read::{Cause, salvage};
 use dvd_report::write_cause;
@@ -54,7 +54,7 @@ pub(crate) fn refuse_block<K: Sink, E: Sink>(
     work: &mut Work,
     out: &mut K,
     report: &mut E,
-) -> Result<Turn, LoopEnd>
+) -> Result<UnitKind, LoopEnd>
     requires numbers { HasNumbers block.now.entry.now }
     requires stage { HasAnswers (stage_of work.old) }
     ensures { (source : Seen) → AreDone (IsRefusedFor block.now.layout.now block.now.k block.now.entry.now (rows_of work.old) (marks_of_work work.old) cause.now)
@@ -65,7 +65,7 @@ pub(crate) fn refuse_block<K: Sink, E: Sink>(
         return Err(LoopEnd::ReportFault);
     }
     write_sectors(work, block.layout.image_sectors(block.entry.content), out)?;
-    Ok(Turn::Bad)
+    Ok(UnitKind::Bad)
 }
 
 /// Writes the first sectors, one after the other.

@@ -3,14 +3,14 @@ ghost use Rattle.std.specs.Prelude.{◌+◌, ◌<◌, ◌≤◌, ℕ, refl};
 ghost use Rattle.dvd_loop.specs.Laws.{IsDamageEnd};
 ghost use Rattle.dvd_loop.specs.Machine.{IsOutcome};
 ghost use Rattle.dvd_loop.specs.Streams.{streams, HasEnded};
-ghost use Rattle.dvd_loop.specs.Turns.{AreDone};
+ghost use Rattle.dvd_loop.specs.UnitCommand.{AreDone};
 ghost use Rattle.dvd_ports.specs.Seen.{Seen};
 ghost use Rattle.dvd_commands.specs.CdMake.{HasAddresses};
 ghost use Rattle.dvd_commands.specs.CdRead.{IsSectorRead, cdread_units};
 
 use crate::cd_line::damaged_sector_line;
 use cd_sector::repair;
-use dvd_loop::{LoneTurns, LoopEnd, Turn, follow_owned, read_unit};
+use dvd_loop::{LoopEnd, PlainCommand, UnitKind, read_unit, run_owned};
 use dvd_ports::{Sink, Source, WriteFault, write_whole};
 use dvd_words::Settings;
 
@@ -22,26 +22,26 @@ struct CdRead {
     ghost within: { address + sectors ≤ 450000 },
 }
 
-impl LoneTurns for CdRead {
+impl PlainCommand for CdRead {
     ghost Key = { ℕ × ℕ };
 
     ghost key = { λ r. (r.address, r.sectors) };
 
     ghost units = { λ key. cdread_units key.0 key.1 };
 
-    ghost alone = { λ _. record { opens = refl; closes = λ _. refl; behind = refl } };
+    ghost alone = { λ _. record { opens = refl; closes = λ _. refl; after_last = refl } };
 
     fn count(&self) -> u32 {
         self.sectors
     }
 
-    fn turn<S: Source, K: Sink, E: Sink>(
+    fn process<S: Source, K: Sink, E: Sink>(
         &mut self,
         k: u32,
         src: &mut S,
         out: &mut K,
         report: &mut E,
-    ) -> Result<Turn, LoopEnd> {
+    ) -> Result<UnitKind, LoopEnd> {
         let mut sector = [0; 2352];
         read_unit(src, k, &mut sector)?;
         give_sector(self.address + k, k, &mut sector, out, report)
@@ -66,7 +66,7 @@ pub fn cdread_loop<S: Source, K: Sink, E: Sink>(
         address: settings.address,
         sectors: settings.sectors,
     };
-    follow_owned(reading, src, out, report)
+    run_owned(reading, src, out, report)
 }
 
 // Repairs a sector and writes its user data; or tells what is wrong with it and writes zeros.
@@ -76,7 +76,7 @@ fn give_sector<K: Sink, E: Sink>(
     sector: &mut [u8; 2352],
     out: &mut K,
     report: &mut E,
-) -> Result<Turn, LoopEnd>
+) -> Result<UnitKind, LoopEnd>
     requires { address < 450000 }
     ensures { (source : Seen) → AreDone (IsSectorRead address k sector.old)
         (streams source (K.seen out.old) (E.seen report.old)) (streams source (K.seen out.new) (E.seen report.new)) result }
@@ -84,14 +84,14 @@ fn give_sector<K: Sink, E: Sink>(
     match repair(sector, address) {
         Ok(_) => {
             write_whole(out, &sector[16..2064])?;
-            Ok(Turn::Good)
+            Ok(UnitKind::Good)
         }
         Err(cause) => {
             if let Err(WriteFault) = write_whole(report, damaged_sector_line(k, cause).as_slice()) {
                 return Err(LoopEnd::ReportFault);
             }
             write_whole(out, &[0; 2048])?;
-            Ok(Turn::Bad)
+            Ok(UnitKind::Bad)
         }
     }
 }

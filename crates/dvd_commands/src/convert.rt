@@ -20,7 +20,7 @@ use crate::opening::header_of;
 use crate::refusal::Refusal;
 use dvd_capture::{Form, Header, Work, write_listed};
 use dvd_layout::{Layout, Zones};
-use dvd_loop::{Behind, LoopEnd, Turn, Turns, follow};
+use dvd_loop::{AfterLast, LoopEnd, UnitCommand, UnitKind, run_units};
 use dvd_ports::{NullSink, Sink, Source, write_whole};
 use dvd_words::{Command, Settings};
 use std::alloc::Global;
@@ -35,7 +35,7 @@ struct Converting<'a> {
     work: &'a mut Work,
 }
 
-impl<'a> Turns for Converting<'a> {
+impl<'a> UnitCommand for Converting<'a> {
     ghost Key = { DiskLayout × WhichZones × CaptureForm × CaptureHeader };
 
     ghost key = { λ c. (c.layout, c.zones, c.form, c.header) };
@@ -50,8 +50,8 @@ impl<'a> Turns for Converting<'a> {
         self.layout.blocks(self.zones) as u32
     }
 
-    fn behind(&self) -> Behind {
-        Behind::Asks
+    fn after_last(&self) -> AfterLast {
+        AfterLast::EndOfInput
     }
 
     fn open<K: Sink, E: Sink>(&self, out: &mut K, _report: &mut E) -> Result<(), LoopEnd> {
@@ -61,16 +61,16 @@ impl<'a> Turns for Converting<'a> {
         Ok(())
     }
 
-    fn turn<S: Source, K: Sink, E: Sink>(
+    fn process<S: Source, K: Sink, E: Sink>(
         &mut self,
         k: u32,
         src: &mut S,
         out: &mut K,
         _report: &mut E,
-    ) -> Result<Turn, LoopEnd> {
+    ) -> Result<UnitKind, LoopEnd> {
         fetch_block(src, k, self.form, self.work)?;
         write_listed(self.work, out)?;
-        Ok(Turn::Good)
+        Ok(UnitKind::Good)
     }
 
     fn close<K: Sink, E: Sink>(&self, _out: &mut K, _report: &mut E) -> Result<(), LoopEnd> {
@@ -99,7 +99,7 @@ pub fn convert_loop<S: Source, K: Sink>(
         header: header_of(layout, settings.zones),
         work,
     };
-    follow(&mut converting, src, out, &mut NullSink::new())
+    run_units(&mut converting, src, out, &mut NullSink::new())
 }
 
 /// The command with its buffers, or why it doesn't begin.

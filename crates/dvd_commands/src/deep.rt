@@ -12,8 +12,8 @@ ghost use Rattle.dvd_layout.specs.declared.layout.Layout.{Layout as DiskLayout};
 ghost use Rattle.dvd_layout.specs.declared.layout.Zones.{Zones as WhichZones};
 ghost use Rattle.dvd_loop.specs.Machine.{IsOutcome};
 ghost use Rattle.dvd_loop.specs.Streams.{streams, HasEnded};
-ghost use Rattle.dvd_loop.specs.Turns.{AreDone};
-ghost use Rattle.dvd_loop.specs.declared.ends.Turn.TheVariants.{Good};
+ghost use Rattle.dvd_loop.specs.UnitCommand.{AreDone};
+ghost use Rattle.dvd_loop.specs.declared.ends.UnitKind.TheVariants.{Good};
 ghost use Rattle.dvd_decoding.specs.Reading.{block_cause};
 ghost use Rattle.dvd_report.specs.Lines.{round_line};
 ghost use Rattle.dvd_commands.specs.Captured.{IsCaptureEnd};
@@ -23,13 +23,13 @@ ghost use Rattle.dvd_commands.specs.Inner.Performing.{IsFoundBy, TellsAndWrites}
 ghost use Rattle.dvd_words.specs.Settings.{IsLayoutOf};
 
 use crate::captured::{Planned, fetch_block, refuse_block, write_each, write_sectors};
-use crate::opening::{open_blocks, worded_layout};
+use crate::opening::{layout_from_arguments, open_blocks};
 use crate::refusal::Refusal;
 use dvd_block::Piece;
 use dvd_capture::{Form, Work};
 use dvd_deep::Deep;
 use dvd_layout::{BlockPlan, Content, Layout, Zones};
-use dvd_loop::{LoneTurns, LoopEnd, Turn, follow_owned};
+use dvd_loop::{LoopEnd, PlainCommand, UnitKind, run_owned};
 use dvd_ports::{Sink, Source, WriteFault};
 use dvd_read::{Cause, read_block};
 use dvd_report::write_round;
@@ -47,26 +47,26 @@ struct Deepening<'a> {
     work: &'a mut Work,
 }
 
-impl<'a> LoneTurns for Deepening<'a> {
+impl<'a> PlainCommand for Deepening<'a> {
     ghost Key = { DiskLayout × WhichZones × CaptureForm };
 
     ghost key = { λ r. (r.layout, r.zones, r.form) };
 
     ghost units = { λ key. deep_units key.0 key.1 key.2 };
 
-    ghost alone = { λ _. record { opens = refl; closes = λ _. refl; behind = refl } };
+    ghost alone = { λ _. record { opens = refl; closes = λ _. refl; after_last = refl } };
 
     fn count(&self) -> u32 {
         self.layout.blocks(self.zones) as u32
     }
 
-    fn turn<S: Source, K: Sink, E: Sink>(
+    fn process<S: Source, K: Sink, E: Sink>(
         &mut self,
         k: u32,
         src: &mut S,
         out: &mut K,
         report: &mut E,
-    ) -> Result<Turn, LoopEnd> {
+    ) -> Result<UnitKind, LoopEnd> {
         let entry = self.layout.plan(self.zones, u64::from(k));
         fetch_block(src, k, self.form, self.work)?;
         let block = Planned {
@@ -96,7 +96,7 @@ pub fn deep_loop<S: Source, K: Sink, E: Sink>(
         (streams (S.seen src.new) (K.seen out.new) (E.seen report.new)) result }
     ensures ends { IsCaptureEnd settings.now.form (length (plan_of layout.now settings.now.zones)) result }
 {
-    let turns = Deepening {
+    let deepening = Deepening {
         layout: *layout,
         zones: settings.zones,
         form: settings.form,
@@ -104,7 +104,7 @@ pub fn deep_loop<S: Source, K: Sink, E: Sink>(
         piece,
         work,
     };
-    follow_owned(turns, src, out, report)
+    run_owned(deepening, src, out, report)
 }
 
 /// The command with its buffers, or why it doesn't begin.
@@ -121,7 +121,7 @@ pub(crate) fn run_deep<S: Source, K: Sink, E: Sink>(
         (streams (S.seen src.new) (K.seen out.new) (E.seen report.new)) result }
     ensures untouched { IsErr result → (src.new ≡ src.old) × (out.new ≡ out.old) × (report.new ≡ report.old) }
 {
-    let worded = worded_layout(settings)?;
+    let worded = layout_from_arguments(settings)?;
     let mut deep = Deep::new(alloc)?;
     let mut piece = Piece::new(alloc)?;
     let mut work = Work::new(alloc)?;
@@ -149,7 +149,7 @@ fn deep_block<K: Sink, E: Sink>(
     work: &mut Work,
     out: &mut K,
     report: &mut E,
-) -> Result<Turn, LoopEnd>
+) -> Result<UnitKind, LoopEnd>
     requires numbers { HasNumbers block.now.entry.now }
     requires stage { HasBlock (stage_of work.old) }
     ensures { (source : Seen) → AreDone (IsReadDeep block.now.entry.now.content block.now.layout.now block.now.k block.now.entry.now (rows_of work.old) (marks_of_work work.old))
@@ -158,13 +158,13 @@ fn deep_block<K: Sink, E: Sink>(
     let entry = block.entry;
     match entry.content {
         Content::Image(_) => {}
-        Content::Zero | Content::Reference | Content::Control => return Ok(Turn::Good),
+        Content::Zero | Content::Reference | Content::Control => return Ok(UnitKind::Good),
     }
     let count = block.layout.image_sectors(entry.content);
     match read_block(work, entry) {
         Ok(_) => {
             write_sectors(work, count, out)?;
-            Ok(Turn::Good)
+            Ok(UnitKind::Good)
         }
         Err(cause) => match search_block(entry, cause, deep, work, piece) {
             Ok(round) => give_back(
@@ -212,7 +212,7 @@ fn give_back<K: Sink, E: Sink>(
     sectors: &[u8],
     out: &mut K,
     report: &mut E,
-) -> Result<Turn, LoopEnd>
+) -> Result<UnitKind, LoopEnd>
     requires { HasNumbers entry.now }
     ensures { (source : Seen) → AreDone (TellsAndWrites (round_line k entry.now round) sectors.now Good)
         (streams source (K.seen out.old) (E.seen report.old)) (streams source (K.seen out.new) (E.seen report.new)) result }
@@ -221,5 +221,5 @@ fn give_back<K: Sink, E: Sink>(
         return Err(LoopEnd::ReportFault);
     }
     write_each(sectors, out)?;
-    Ok(Turn::Good)
+    Ok(UnitKind::Good)
 }

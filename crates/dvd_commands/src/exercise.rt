@@ -30,7 +30,7 @@ use dvd_block::{Block, Piece};
 use dvd_capture::{Stage, Work};
 use dvd_exercise::{Rand, fill_piece, hurt};
 use dvd_layout::{BlockPlan, Layout, Shape, Zones};
-use dvd_loop::{Behind, LoopEnd, Turn, Turns, follow};
+use dvd_loop::{AfterLast, LoopEnd, UnitCommand, UnitKind, run_units};
 use dvd_par::{Gate, add_parity_par, read_block_par};
 use dvd_ports::{NullSink, Sink, SliceSource, Source, write_whole};
 use dvd_read::{Cause, Fixed};
@@ -88,7 +88,7 @@ struct Exercise<'a, 'r, A, F> {
     ghost sectors: { layout.sectors0 ≡ 16 * blocks },
 }
 
-impl<'a, 'r, A: Fn(&mut Block), F: Fn(&mut Work, &BlockPlan) -> Result<Fixed, Cause>> Turns
+impl<'a, 'r, A: Fn(&mut Block), F: Fn(&mut Work, &BlockPlan) -> Result<Fixed, Cause>> UnitCommand
     for Exercise<'a, 'r, A, F> {
     ghost Key = { ℕ × ℕ × ℕ };
 
@@ -106,21 +106,21 @@ impl<'a, 'r, A: Fn(&mut Block), F: Fn(&mut Work, &BlockPlan) -> Result<Fixed, Ca
         self.blocks
     }
 
-    fn behind(&self) -> Behind {
-        Behind::Done
+    fn after_last(&self) -> AfterLast {
+        AfterLast::Done
     }
 
     fn open<K: Sink, E: Sink>(&self, _out: &mut K, _report: &mut E) -> Result<(), LoopEnd> {
         Ok(())
     }
 
-    fn turn<S: Source, K: Sink, E: Sink>(
+    fn process<S: Source, K: Sink, E: Sink>(
         &mut self,
         k: u32,
         _src: &mut S,
         _out: &mut K,
         _report: &mut E,
-    ) -> Result<Turn, LoopEnd> {
+    ) -> Result<UnitKind, LoopEnd> {
         let entry = self.layout.plan(Zones::DataOnly, u64::from(k));
         draw_block(
             &self.layout,
@@ -138,7 +138,7 @@ impl<'a, 'r, A: Fn(&mut Block), F: Fn(&mut Work, &BlockPlan) -> Result<Fixed, Ca
             self.work,
             &mut self.counts,
         );
-        Ok(Turn::Good)
+        Ok(UnitKind::Good)
     }
 
     fn close<K: Sink, E: Sink>(&self, out: &mut K, _report: &mut E) -> Result<(), LoopEnd> {
@@ -255,7 +255,7 @@ fn follow_by<
         piece,
         work,
     };
-    follow(&mut exercise, src, out, &mut NullSink::new())
+    run_units(&mut exercise, src, out, &mut NullSink::new())
 }
 
 /// The command with its buffers, or why it doesn't begin.

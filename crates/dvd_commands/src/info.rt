@@ -8,7 +8,7 @@ ghost use Rattle.dvd_layout.specs.Lengths.{most_initial};
 ghost use Rattle.dvd_layout.specs.Place.{HasNumbers};
 ghost use Rattle.dvd_loop.specs.Machine.{IsOutcome};
 ghost use Rattle.dvd_loop.specs.Streams.{streams, HasEnded};
-ghost use Rattle.dvd_loop.specs.Turns.{AreDone};
+ghost use Rattle.dvd_loop.specs.UnitCommand.{AreDone};
 ghost use Rattle.dvd_ports.specs.Seen.{Seen};
 ghost use Rattle.dvd_commands.specs.Captured.{IsSoughtEnd};
 ghost use Rattle.dvd_commands.specs.Commands.{GoesOver};
@@ -24,7 +24,7 @@ use crate::refusal::Refusal;
 use dvd_capture::{Form, Work};
 use dvd_control::PhysicalFormat;
 use dvd_layout::{BlockPlan, Content, lead_in_block};
-use dvd_loop::{Behind, LoopEnd, Turn, Turns, follow};
+use dvd_loop::{AfterLast, LoopEnd, UnitCommand, UnitKind, run_units};
 use dvd_ports::{NullSink, Sink, Source, write_whole};
 use dvd_read::read_block;
 use dvd_words::{Command, Settings};
@@ -42,7 +42,7 @@ struct Info<'a> {
     ghost fits: { initial ≤ most_initial },
 }
 
-impl<'a> Turns for Info<'a> {
+impl<'a> UnitCommand for Info<'a> {
     ghost Key = { ℕ × CaptureForm };
 
     ghost key = { λ i. (i.initial, i.form) };
@@ -57,21 +57,21 @@ impl<'a> Turns for Info<'a> {
         self.initial + BLOCKS_BEHIND_INITIAL
     }
 
-    fn behind(&self) -> Behind {
-        Behind::NoControl
+    fn after_last(&self) -> AfterLast {
+        AfterLast::NoControl
     }
 
     fn open<K: Sink, E: Sink>(&self, _out: &mut K, _report: &mut E) -> Result<(), LoopEnd> {
         Ok(())
     }
 
-    fn turn<S: Source, K: Sink, E: Sink>(
+    fn process<S: Source, K: Sink, E: Sink>(
         &mut self,
         k: u32,
         src: &mut S,
         out: &mut K,
         _report: &mut E,
-    ) -> Result<Turn, LoopEnd> {
+    ) -> Result<UnitKind, LoopEnd> {
         let entry = lead_in_block(self.initial, k);
         fetch_block(src, k, self.form, self.work)?;
         ask_block(&entry, self.work, out)
@@ -99,7 +99,7 @@ pub fn info_loop<S: Source, K: Sink>(
         form: settings.form,
         work,
     };
-    follow(&mut info, src, out, &mut NullSink::new())
+    run_units(&mut info, src, out, &mut NullSink::new())
 }
 
 /// The command with its buffers, or why it doesn't begin.
@@ -140,7 +140,7 @@ fn info_listed<S: Source, K: Sink>(
 }
 
 // Asks a block of control data for the physical format. Any other block is passed over.
-fn ask_block<K: Sink>(entry: &BlockPlan, work: &mut Work, out: &mut K) -> Result<Turn, LoopEnd>
+fn ask_block<K: Sink>(entry: &BlockPlan, work: &mut Work, out: &mut K) -> Result<UnitKind, LoopEnd>
     requires numbers { HasNumbers entry.now }
     requires stage { HasBlock (stage_of work.old) }
     ensures { (source report : Seen) → AreDone (IsAsked entry.now.content entry.now (rows_of work.old) (marks_of_work work.old))
@@ -148,22 +148,26 @@ fn ask_block<K: Sink>(entry: &BlockPlan, work: &mut Work, out: &mut K) -> Result
 {
     match entry.content {
         Content::Control => ask_control(entry, work, out),
-        Content::Zero | Content::Reference | Content::Image(_) => Ok(Turn::Good),
+        Content::Zero | Content::Reference | Content::Image(_) => Ok(UnitKind::Good),
     }
 }
 
-fn ask_control<K: Sink>(entry: &BlockPlan, work: &mut Work, out: &mut K) -> Result<Turn, LoopEnd>
+fn ask_control<K: Sink>(
+    entry: &BlockPlan,
+    work: &mut Work,
+    out: &mut K,
+) -> Result<UnitKind, LoopEnd>
     requires numbers { HasNumbers entry.now }
     requires stage { HasBlock (stage_of work.old) }
     ensures { (source report : Seen) → AreDone (IsControlDone entry.now (rows_of work.old) (marks_of_work work.old))
         (streams source (K.seen out.old) report) (streams source (K.seen out.new) report) result }
 {
     let Some(format) = format_in(entry, work) else {
-        return Ok(Turn::Good);
+        return Ok(UnitKind::Good);
     };
     // One piece, so that the output has a front of these lines after a fault.
     write_whole(out, format_lines(&format).as_slice())?;
-    Ok(Turn::Last)
+    Ok(UnitKind::Last)
 }
 
 // The physical format in the first sector of a block, if the block is right and the sector is one.

@@ -23,7 +23,7 @@ mod opening; // the header that a listed capture opens with
 mod recover; // image sectors from a stream of captured blocks
 mod refusal; // why a command doesn't begin
 mod survey; // a line for each captured block, and a line of totals
-mod workers; // what makes the workers, and what they do for a turn of a command
+mod workers; // what makes the workers, and what they do for a unit of a command
 
 pub use assemble::assemble_loop;
 pub use cd_make::cdmake_loop;

@@ -3,7 +3,7 @@ ghost use Rattle.std.specs.Prelude.{◌+◌, ◌<◌, ◌≤◌, ◌^◌, ℕ, r
 ghost use Rattle.dvd_loop.specs.Laws.{IsPlainEnd};
 ghost use Rattle.dvd_loop.specs.Machine.{IsOutcome};
 ghost use Rattle.dvd_loop.specs.Streams.{streams, HasEnded};
-ghost use Rattle.dvd_loop.specs.Turns.{AreDone};
+ghost use Rattle.dvd_loop.specs.UnitCommand.{AreDone};
 ghost use Rattle.dvd_ports.specs.Seen.{Seen};
 ghost use Rattle.dvd_commands.specs.Frames.{IsSectorFrame};
 ghost use Rattle.dvd_commands.specs.Making.{IsMade, sectors_made};
@@ -11,7 +11,7 @@ ghost use Rattle.dvd_commands.specs.Inner.Making.{IsMadeAs, number_limit};
 
 use cd_sector::make;
 use dvd_frame::{Area, Id, Rule, make_frame};
-use dvd_loop::{LoneTurns, LoopEnd, Turn, follow_owned, read_unit};
+use dvd_loop::{LoopEnd, PlainCommand, UnitKind, read_unit, run_owned};
 use dvd_ports::{NullSink, Sink, Source, write_whole};
 
 /// What is made of a sector of 2,048 bytes.
@@ -32,7 +32,7 @@ struct Making {
     ghost within: { first + sectors ≤ number_limit made },
 }
 
-impl LoneTurns for Making {
+impl PlainCommand for Making {
     ghost use Rattle.dvd_commands.specs.declared.making.Made.{Made};
 
     ghost Key = { Made × ℕ × ℕ };
@@ -41,19 +41,19 @@ impl LoneTurns for Making {
 
     ghost units = { λ (made, first, sectors). sectors_made (IsMadeAs made) first sectors };
 
-    ghost alone = { λ _. record { opens = refl; closes = λ _. refl; behind = refl } };
+    ghost alone = { λ _. record { opens = refl; closes = λ _. refl; after_last = refl } };
 
     fn count(&self) -> u32 {
         self.sectors
     }
 
-    fn turn<S: Source, K: Sink, E: Sink>(
+    fn process<S: Source, K: Sink, E: Sink>(
         &mut self,
         k: u32,
         src: &mut S,
         out: &mut K,
         _report: &mut E,
-    ) -> Result<Turn, LoopEnd> {
+    ) -> Result<UnitKind, LoopEnd> {
         let mut sector = [0; 2048];
         read_unit(src, k, &mut sector)?;
         write_made(self.made, self.first + k, &sector, out)
@@ -78,7 +78,7 @@ pub(crate) fn make_each<S: Source, K: Sink>(
         first,
         sectors,
     };
-    follow_owned(making, src, out, &mut NullSink::new())
+    run_owned(making, src, out, &mut NullSink::new())
 }
 
 // Makes this of one sector and writes it.
@@ -87,7 +87,7 @@ fn write_made<K: Sink>(
     number: u32,
     sector: &[u8; 2048],
     out: &mut K,
-) -> Result<Turn, LoopEnd>
+) -> Result<UnitKind, LoopEnd>
     requires { number < number_limit made }
     ensures { (source report : Seen) → AreDone (IsMade (IsMadeAs made number sector.now))
         (streams source (K.seen out.old) report) (streams source (K.seen out.new) report) result }
@@ -104,7 +104,7 @@ fn write_made<K: Sink>(
             write_whole(out, &whole)?;
         }
     }
-    Ok(Turn::Good)
+    Ok(UnitKind::Good)
 }
 
 // The frame of a sector in the Data Zone of a disk with one layer.

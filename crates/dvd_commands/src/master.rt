@@ -11,7 +11,7 @@ ghost use Rattle.dvd_layout.specs.declared.layout.Zones.{Zones as WhichZones};
 ghost use Rattle.dvd_loop.specs.Laws.{IsPlainEnd};
 ghost use Rattle.dvd_loop.specs.Machine.{IsOutcome};
 ghost use Rattle.dvd_loop.specs.Streams.{streams, HasEnded};
-ghost use Rattle.dvd_loop.specs.Turns.{EndsShort, HasReadCause};
+ghost use Rattle.dvd_loop.specs.UnitCommand.{EndsShort, HasReadCause};
 ghost use Rattle.dvd_ports.specs.Seen.{Seen};
 ghost use Rattle.dvd_commands.specs.Master.{cpr_in, frame_for, frames_of, image_bytes, main_for, master_units};
 ghost use Rattle.dvd_commands.specs.Performed.{IsPerformedByWords};
@@ -24,7 +24,7 @@ use dvd_block::{Block, Piece};
 use dvd_control::main_of;
 use dvd_frame::{Area, Scrambler, make_frame_with};
 use dvd_layout::{BlockPlan, Content, Layout, Zones, id_of, rule_of};
-use dvd_loop::{LoneTurns, LoopEnd, Turn, follow_owned, read_unit};
+use dvd_loop::{LoopEnd, PlainCommand, UnitKind, read_unit, run_owned};
 use dvd_par::{Gate, add_parity_par};
 use dvd_ports::{NullSink, Sink, Source};
 use dvd_words::{Command, Settings};
@@ -42,7 +42,7 @@ struct Master<'a, 'r, F> {
     piece: &'a mut Piece,
 }
 
-impl<'a, 'r, F: Fn(&mut Block)> LoneTurns for Master<'a, 'r, F> {
+impl<'a, 'r, F: Fn(&mut Block)> PlainCommand for Master<'a, 'r, F> {
     ghost Key = { DiskLayout × WhichZones × List ℕ };
 
     ghost key = { λ m. (m.layout, m.zones, m.cpr) };
@@ -51,19 +51,19 @@ impl<'a, 'r, F: Fn(&mut Block)> LoneTurns for Master<'a, 'r, F> {
 
     ghost ready = { λ m. IsAdder F.Fn m.add.now };
 
-    ghost alone = { λ _. record { opens = refl; closes = λ _. refl; behind = refl } };
+    ghost alone = { λ _. record { opens = refl; closes = λ _. refl; after_last = refl } };
 
     fn count(&self) -> u32 {
         self.layout.blocks(self.zones) as u32
     }
 
-    fn turn<S: Source, K: Sink, E: Sink>(
+    fn process<S: Source, K: Sink, E: Sink>(
         &mut self,
         k: u32,
         src: &mut S,
         out: &mut K,
         _report: &mut E,
-    ) -> Result<Turn, LoopEnd> {
+    ) -> Result<UnitKind, LoopEnd> {
         let entry = self.layout.plan(self.zones, u64::from(k));
         let size = image_size(&self.layout, &entry);
         read_image(src, k, self.piece, size)?;
@@ -75,7 +75,7 @@ impl<'a, 'r, F: Fn(&mut Block)> LoneTurns for Master<'a, 'r, F> {
         };
         fill_block(&given, self.add, self.block);
         self.block.write_recording(out)?;
-        Ok(Turn::Good)
+        Ok(UnitKind::Good)
     }
 }
 
@@ -109,7 +109,7 @@ pub fn master_loop<R: Threads + Sync, S: Source, K: Sink, G: Gate>(
         block,
         piece,
     };
-    follow_owned(master, src, out, &mut NullSink::new())
+    run_owned(master, src, out, &mut NullSink::new())
 }
 
 /// The command with its buffers, or why it doesn't begin.

@@ -10,7 +10,7 @@ ghost use Rattle.dvd_layout.specs.declared.layout.Zones.{Zones as WhichZones};
 ghost use Rattle.dvd_loop.specs.Laws.{IsPlainEnd};
 ghost use Rattle.dvd_loop.specs.Machine.{IsOutcome};
 ghost use Rattle.dvd_loop.specs.Streams.{streams, HasEnded};
-ghost use Rattle.dvd_loop.specs.Turns.{EndsShort, HasReadCause};
+ghost use Rattle.dvd_loop.specs.UnitCommand.{EndsShort, HasReadCause};
 ghost use Rattle.dvd_merge.specs.Merges.{table_of};
 ghost use Rattle.dvd_ports.specs.Seen.{Seen};
 ghost use Rattle.dvd_commands.specs.Merge.{merge_units};
@@ -21,7 +21,7 @@ ghost use Rattle.dvd_words.specs.Settings.{IsLayoutOf};
 use crate::refusal::Refusal;
 use dvd_capture::{FetchAnswer, Form, Work, fetch};
 use dvd_layout::{Layout, Zones};
-use dvd_loop::{LoneTurns, LoopEnd, Turn, follow_owned};
+use dvd_loop::{LoopEnd, PlainCommand, UnitKind, run_owned};
 use dvd_merge::Merge;
 use dvd_ports::{NullSink, Sink, Source};
 use dvd_words::{Command, Settings};
@@ -41,29 +41,29 @@ struct Merging<'a> {
     ghost sized: { HasSize form },
 }
 
-impl<'a> LoneTurns for Merging<'a> {
+impl<'a> PlainCommand for Merging<'a> {
     ghost Key = { DiskLayout × WhichZones × CaptureForm × ℕ };
 
     ghost key = { λ m. (m.layout, m.zones, m.form, m.captures) };
 
     ghost units = { λ key. merge_units key.0 key.1 key.2 key.3 };
 
-    ghost alone = { λ _. record { opens = refl; closes = λ _. refl; behind = refl } };
+    ghost alone = { λ _. record { opens = refl; closes = λ _. refl; after_last = refl } };
 
     fn count(&self) -> u32 {
         self.layout.blocks(self.zones) as u32
     }
 
-    fn turn<S: Source, K: Sink, E: Sink>(
+    fn process<S: Source, K: Sink, E: Sink>(
         &mut self,
         k: u32,
         src: &mut S,
         out: &mut K,
         _report: &mut E,
-    ) -> Result<Turn, LoopEnd> {
+    ) -> Result<UnitKind, LoopEnd> {
         take_captures(src, k, self.form, self.captures, self.merge, self.work)?;
         self.merge.write_marked(out)?;
-        Ok(Turn::Good)
+        Ok(UnitKind::Good)
     }
 }
 
@@ -92,7 +92,7 @@ pub fn merge_loop<S: Source, K: Sink>(
         merge,
         work,
     };
-    follow_owned(merging, src, out, &mut NullSink::new())
+    run_owned(merging, src, out, &mut NullSink::new())
 }
 
 /// The command with its buffers, or why it doesn't begin.

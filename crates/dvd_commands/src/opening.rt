@@ -3,7 +3,7 @@
 ghost use Rattle.std.specs.Prelude.{◌≡◌, ◌<◌, ℕ, List, Some, IfOk, IfErr};
 ghost use Rattle.dvd_capture.specs.Header.{header_bytes};
 ghost use Rattle.dvd_layout.specs.Lengths.{initial_fault};
-ghost use Rattle.dvd_loop.specs.Turns.{HasReadCause};
+ghost use Rattle.dvd_loop.specs.UnitCommand.{HasReadCause};
 ghost use Rattle.dvd_commands.specs.HeaderEnds.{AnswersHeader, HeaderCounts, ReadsHeader};
 ghost use Rattle.dvd_commands.specs.Inner.Opened.{EndsInHeader, HasBegun, HasOpened, IsWorded, IsWordedInitial};
 ghost use Rattle.dvd_commands.specs.Opening.{IsHeaderOf, fault_byte, layer_byte, shape_number, zones_number};
@@ -157,7 +157,7 @@ fn layer_byte(layer: u8) -> u32
 }
 
 /// The layout that the words ask for, or the first rule that it breaks; none where a listed capture states its own.
-pub(crate) fn worded_layout(settings: &Settings) -> Result<Option<Layout>, LayoutFault>
+pub(crate) fn layout_from_arguments(settings: &Settings) -> Result<Option<Layout>, LayoutFault>
     ensures worded { IfOk result (IsWorded settings.now) }
     ensures refused { IfErr result (λ fault. HasSize settings.now.form × (broken_rule settings.now ≡ Some fault)) }
 {

@@ -11,7 +11,7 @@ ghost use Rattle.dvd_layout.specs.declared.layout.Layout.{Layout as DiskLayout};
 ghost use Rattle.dvd_layout.specs.declared.layout.Zones.{Zones as WhichZones};
 ghost use Rattle.dvd_loop.specs.Machine.{IsOutcome};
 ghost use Rattle.dvd_loop.specs.Streams.{streams, HasEnded};
-ghost use Rattle.dvd_loop.specs.Turns.{AreDone};
+ghost use Rattle.dvd_loop.specs.UnitCommand.{AreDone};
 ghost use Rattle.dvd_read.specs.Calls.{IsBlockRead};
 ghost use Rattle.dvd_commands.specs.Captured.{IsCaptureEnd};
 ghost use Rattle.dvd_commands.specs.Recover.{IsDone, recover_units};
@@ -20,12 +20,12 @@ ghost use Rattle.dvd_commands.specs.Inner.Workers.{IsReader};
 ghost use Rattle.dvd_words.specs.Settings.{IsLayoutOf};
 
 use crate::captured::{Planned, fetch_block, refuse_block, write_sectors};
-use crate::opening::{open_blocks, worded_layout};
+use crate::opening::{layout_from_arguments, open_blocks};
 use crate::refusal::Refusal;
 use crate::workers::{Workers, read_by};
 use dvd_capture::{Form, Work};
 use dvd_layout::{BlockPlan, Content, Layout, Zones};
-use dvd_loop::{LoneTurns, LoopEnd, Turn, follow_owned};
+use dvd_loop::{LoopEnd, PlainCommand, UnitKind, run_owned};
 use dvd_par::{Gate, read_block_par};
 use dvd_ports::{Sink, Source};
 use dvd_read::{Cause, Fixed};
@@ -43,7 +43,7 @@ struct Recover<'a, 'r, F> {
     work: &'a mut Work,
 }
 
-impl<'a, 'r, F: Fn(&mut Work, &BlockPlan) -> Result<Fixed, Cause>> LoneTurns
+impl<'a, 'r, F: Fn(&mut Work, &BlockPlan) -> Result<Fixed, Cause>> PlainCommand
     for Recover<'a, 'r, F> {
     ghost Key = { DiskLayout × WhichZones × CaptureForm };
 
@@ -53,19 +53,19 @@ impl<'a, 'r, F: Fn(&mut Work, &BlockPlan) -> Result<Fixed, Cause>> LoneTurns
 
     ghost ready = { λ r. IsReader F.Fn r.read.now };
 
-    ghost alone = { λ _. record { opens = refl; closes = λ _. refl; behind = refl } };
+    ghost alone = { λ _. record { opens = refl; closes = λ _. refl; after_last = refl } };
 
     fn count(&self) -> u32 {
         self.layout.blocks(self.zones) as u32
     }
 
-    fn turn<S: Source, K: Sink, E: Sink>(
+    fn process<S: Source, K: Sink, E: Sink>(
         &mut self,
         k: u32,
         src: &mut S,
         out: &mut K,
         report: &mut E,
-    ) -> Result<Turn, LoopEnd> {
+    ) -> Result<UnitKind, LoopEnd> {
         let entry = self.layout.plan(self.zones, u64::from(k));
         fetch_block(src, k, self.form, self.work)?;
         let block = Planned {
@@ -113,7 +113,7 @@ pub fn recover_loop<R: Threads + Sync, S: Source, K: Sink, E: Sink, G: Gate>(
         read: &read,
         work,
     };
-    follow_owned(recover, src, out, report)
+    run_owned(recover, src, out, report)
 }
 
 /// The command with its buffers, or why it doesn't begin.
@@ -132,7 +132,7 @@ pub(crate) fn run_recover<R: Threads + Sync, S: Source, K: Sink, E: Sink, G: Gat
         (streams (S.seen src.new) (K.seen out.new) (E.seen report.new)) result }
     ensures untouched { IsErr result → (src.new ≡ src.old) × (out.new ≡ out.old) × (report.new ≡ report.old) }
 {
-    let worded = worded_layout(settings)?;
+    let worded = layout_from_arguments(settings)?;
     let mut work = Work::new(alloc)?;
     match open_blocks(settings, worded, src) {
         Ok(stated) => Ok(recover_loop(
@@ -157,7 +157,7 @@ fn recover_block<F: Fn(&mut Work, &BlockPlan) -> Result<Fixed, Cause>, K: Sink, 
     work: &mut Work,
     out: &mut K,
     report: &mut E,
-) -> Result<Turn, LoopEnd>
+) -> Result<UnitKind, LoopEnd>
     requires reader { IsReader F.Fn read.now }
     requires numbers { HasNumbers block.now.entry.now }
     requires stage { HasBlock (stage_of work.old) }
@@ -166,13 +166,13 @@ fn recover_block<F: Fn(&mut Work, &BlockPlan) -> Result<Fixed, Cause>, K: Sink, 
 {
     match block.entry.content {
         Content::Image(_) => {}
-        Content::Zero | Content::Reference | Content::Control => return Ok(Turn::Good),
+        Content::Zero | Content::Reference | Content::Control => return Ok(UnitKind::Good),
     }
     let count = block.layout.image_sectors(block.entry.content);
     match read_by(read, work, block.entry) {
         Ok(_) => {
             write_sectors(work, count, out)?;
-            Ok(Turn::Good)
+            Ok(UnitKind::Good)
         }
         Err(cause) => refuse_block(block, &cause, work, out, report),
     }

@@ -11,25 +11,25 @@ ghost use Rattle.dvd_layout.specs.declared.layout.Layout.{Layout as DiskLayout};
 ghost use Rattle.dvd_layout.specs.declared.layout.Zones.{Zones as WhichZones};
 ghost use Rattle.dvd_loop.specs.Machine.{IsOutcome};
 ghost use Rattle.dvd_loop.specs.Streams.{streams, HasEnded};
-ghost use Rattle.dvd_loop.specs.Turns.{AreDone, HaveCausesFor};
+ghost use Rattle.dvd_loop.specs.UnitCommand.{AreDone, HaveCausesFor};
 ghost use Rattle.dvd_ports.specs.Seen.{Seen};
 ghost use Rattle.dvd_report.specs.Survey.{StandsFor, surveyed};
 ghost use Rattle.dvd_report.specs.declared.counts.Surveyed.{Surveyed};
 ghost use Rattle.dvd_read.specs.Calls.{IsBlockRead};
 ghost use Rattle.dvd_commands.specs.Captured.{IsCaptureEnd};
-ghost use Rattle.dvd_commands.specs.Survey.{found_in, survey_units, turn_by};
+ghost use Rattle.dvd_commands.specs.Survey.{found_in, survey_units, kind_by};
 ghost use Rattle.dvd_commands.specs.Performed.{IsPerformed};
 ghost use Rattle.dvd_commands.specs.Inner.Performing.{IsLineDone};
 ghost use Rattle.dvd_commands.specs.Inner.Workers.{IsReader};
 ghost use Rattle.dvd_words.specs.Settings.{IsLayoutOf};
 
 use crate::captured::fetch_block;
-use crate::opening::{open_blocks, worded_layout};
+use crate::opening::{layout_from_arguments, open_blocks};
 use crate::refusal::Refusal;
 use crate::workers::{Workers, read_by};
 use dvd_capture::{Form, Work};
 use dvd_layout::{BlockPlan, Layout, Zones};
-use dvd_loop::{Behind, LoopEnd, Turn, Turns, follow_owned};
+use dvd_loop::{AfterLast, LoopEnd, UnitCommand, UnitKind, run_owned};
 use dvd_par::{Gate, read_block_par};
 use dvd_ports::{NullSink, Sink, Source};
 use dvd_read::{Cause, Fixed};
@@ -49,7 +49,8 @@ struct Surveying<'a, 'r, F> {
     work: &'a mut Work,
 }
 
-impl<'a, 'r, F: Fn(&mut Work, &BlockPlan) -> Result<Fixed, Cause>> Turns for Surveying<'a, 'r, F> {
+impl<'a, 'r, F: Fn(&mut Work, &BlockPlan) -> Result<Fixed, Cause>> UnitCommand
+    for Surveying<'a, 'r, F> {
     ghost Key = { DiskLayout × WhichZones × CaptureForm };
 
     ghost key = { λ s. (s.layout, s.zones, s.form) };
@@ -64,21 +65,21 @@ impl<'a, 'r, F: Fn(&mut Work, &BlockPlan) -> Result<Fixed, Cause>> Turns for Sur
         self.layout.blocks(self.zones) as u32
     }
 
-    fn behind(&self) -> Behind {
-        Behind::Asks
+    fn after_last(&self) -> AfterLast {
+        AfterLast::EndOfInput
     }
 
     fn open<K: Sink, E: Sink>(&self, _out: &mut K, _report: &mut E) -> Result<(), LoopEnd> {
         Ok(())
     }
 
-    fn turn<S: Source, K: Sink, E: Sink>(
+    fn process<S: Source, K: Sink, E: Sink>(
         &mut self,
         k: u32,
         src: &mut S,
         out: &mut K,
         _report: &mut E,
-    ) -> Result<Turn, LoopEnd> {
+    ) -> Result<UnitKind, LoopEnd> {
         let entry = self.layout.plan(self.zones, u64::from(k));
         fetch_block(src, k, self.form, self.work)?;
         survey_block(&entry, self.read, self.survey, self.work, out)
@@ -129,7 +130,7 @@ pub fn survey_loop<R: Threads + Sync, S: Source, K: Sink, G: Gate>(
         survey,
         work,
     };
-    follow_owned(surveying, src, out, &mut NullSink::new())
+    run_owned(surveying, src, out, &mut NullSink::new())
 }
 
 /// The command with its buffers, or why it doesn't begin.
@@ -146,7 +147,7 @@ pub(crate) fn run_survey<R: Threads + Sync, S: Source, K: Sink, G: Gate>(
         (streams (S.seen src.old) (K.seen out.old) report) (streams (S.seen src.new) (K.seen out.new) report) result }
     ensures untouched { IsErr result → (src.new ≡ src.old) × (out.new ≡ out.old) }
 {
-    let worded = worded_layout(settings)?;
+    let worded = layout_from_arguments(settings)?;
     let mut survey = Survey::new(alloc)?;
     let mut work = Work::new(alloc)?;
     match open_blocks(settings, worded, src) {
@@ -171,7 +172,7 @@ fn survey_block<F: Fn(&mut Work, &BlockPlan) -> Result<Fixed, Cause>, K: Sink>(
     survey: &mut Survey,
     work: &mut Work,
     out: &mut K,
-) -> Result<Turn, LoopEnd>
+) -> Result<UnitKind, LoopEnd>
     requires reader { IsReader F.Fn read.now }
     requires numbers { HasNumbers entry.now }
     requires stage { HasBlock (stage_of work.old) }
@@ -187,15 +188,15 @@ fn survey_block<F: Fn(&mut Work, &BlockPlan) -> Result<Fixed, Cause>, K: Sink>(
     let answer = read_by(read, work, entry);
     survey.add(work, &answer);
     survey.write_line(entry, out)?;
-    Ok(turn_of(&answer))
+    Ok(kind_of(&answer))
 }
 
 // A block with a cause is bad.
-fn turn_of(answer: &Result<Fixed, Cause>) -> Turn
-    ensures { result ≡ turn_by (result_err answer.now) }
+fn kind_of(answer: &Result<Fixed, Cause>) -> UnitKind
+    ensures { result ≡ kind_by (result_err answer.now) }
 {
     match answer {
-        Ok(_) => Turn::Good,
-        Err(_) => Turn::Bad,
+        Ok(_) => UnitKind::Good,
+        Err(_) => UnitKind::Bad,
     }
 }

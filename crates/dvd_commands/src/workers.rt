@@ -1,5 +1,5 @@
-//! What the workers do for a turn of a command: a closure, which the loop made, holds them.
-//! A turn is a method of a trait. What it sent to a thread would rest on what its caller can't promise, that the runtime
+//! What the workers do for a unit of a command: a closure, which the loop made, holds them.
+//! Processing a unit is a method of a trait. What it sent to a thread would rest on what its caller can't promise, that the runtime
 //! and the gate may be shared. The function that makes the loop knows this, so it makes the closure.
 ghost use Rattle.dvd_block.specs.Buffers.{block_rows};
 ghost use Rattle.coding.specs.Product.{IsParityAdded};

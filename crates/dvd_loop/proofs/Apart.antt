@@ -3,12 +3,12 @@ use Rattle.std.proofs.Common.{◌≡◌, ◌≢◌, inl, inr, ℕ, zero, suc, �
 use Rattle.std.proofs.Math.Nat.{mul-le-mul_left, mul-suc, mul-zero}
 use Rattle.std.proofs.lemmas.List.{drop-drop, length-drop, length-take-le, take-append-drop}
 use Rattle.dvd_loop.specs.Laws.{IsFaultless, IsFrontOf, IsNever, first}
-use Rattle.dvd_loop.specs.Machine.{Does, Goes, GoesOn, IsOutcome, IsUnit, IsEndedWithin, Outcome, Step, Units, bad_of, ended, sized, taking}
-use Rattle.dvd_loop.specs.Machine.Part.{Whole, Cut, Broken}
-use Rattle.dvd_loop.specs.Turns.{told, written}
+use Rattle.dvd_loop.specs.Machine.{Performs, Continues, ContinuesAfter, IsOutcome, IsUnit, IsEndedWithin, Outcome, Step, Units, bad_of, ended, sized, taking}
+use Rattle.dvd_loop.specs.Machine.Prefix.{Whole, Cut, Broken}
+use Rattle.dvd_loop.specs.UnitCommand.{told, written}
 use Rattle.dvd_loop.specs.declared.ends.LoopEnd.TheVariants.{Done}
-use Rattle.dvd_loop.specs.declared.ends.Turn.{Turn}
-use Rattle.dvd_loop.specs.declared.ends.Turn.TheVariants.{Last}
+use Rattle.dvd_loop.specs.declared.ends.UnitKind.{UnitKind}
+use Rattle.dvd_loop.specs.declared.ends.UnitKind.TheVariants.{Last}
 use Rattle.dvd_loop.proofs.Faultless.{all_done, faultless_behind, short_or_broken}
 use Rattle.dvd_loop.proofs.Fronts.{same_front, same_left}
 use Rattle.dvd_loop.proofs.Reached.{goes_further, goes_on, taken_unit}
@@ -23,11 +23,11 @@ pub record BeginWith (units : Units) (own from : ℕ → List ℕ) (count : ℕ)
 
 -- A run over units with these bytes takes unit k, with those steps: they stand behind what the k units before it do alone, and
 -- together that is what the first k + 1 do.
-pub record TakesUnit (units : Units) (own : ℕ → List ℕ) (bytes : List ℕ) (a : Outcome) (k : ℕ) (steps : List Step) (turn : Turn) : Type 0 where
+pub record TakesUnit (units : Units) (own : ℕ → List ℕ) (bytes : List ℕ) (a : Outcome) (k : ℕ) (steps : List Step) (kind : UnitKind) : Type 0 where
   pub before : List (List ℕ)
   pub number : length before ≡ k
   pub each : (j : ℕ) → j < k → get_or before j [] ≡ own j
-  pub unit : IsUnit units before (own k) steps turn
+  pub unit : IsUnit units before (own k) steps kind
   pub alone : Outcome
   pub runs : IsOutcome (first k units) bytes alone
   pub ends : alone.end ≡ Done
@@ -66,10 +66,10 @@ module _ (units : Units) (never : IsNever units Last)
   -- The unit behind those, of these bytes, is taken and done without a fault, and then the units to come.
   record TakesOne (n : ℕ) (before : List (List ℕ)) (bad : ℕ) (own left : List ℕ) (outcome : Outcome) : Type 0 where
     steps : List Step
-    turn : Turn
-    unit : IsUnit units before own steps turn
+    kind : UnitKind
+    unit : IsUnit units before own steps kind
     after : Outcome
-    goes : Goes units n (before ++ own ∷ []) (bad + bad_of turn) left after
+    goes : Continues units n (before ++ own ∷ []) (bad + bad_of kind) left after
     is : outcome ≡ onto own (written steps) (told steps) after
     faultless : IsFaultless after.end
 
@@ -85,14 +85,14 @@ module _ (units : Units) (never : IsNever units Last)
       ]
 
   -- a unit that was taken is not the last
-  not_last : (before : List (List ℕ)) (own : List ℕ) (steps : List Step) (turn : Turn) → IsUnit units before own steps turn → turn ≢ Last
-  not_last before own steps turn unit is = never (length before) before own steps (subst (units.does (length before) before own steps) is unit.does)
+  not_last : (before : List (List ℕ)) (own : List ℕ) (steps : List Step) (kind : UnitKind) → IsUnit units before own steps kind → kind ≢ Last
+  not_last before own steps kind unit is = never (length before) before own steps (subst (units.does (length before) before own steps) is unit.does)
 
   -- so the unit is taken, and no other
   takes_one : (n : ℕ) (before : List (List ℕ)) (bad : ℕ) (own left : List ℕ) (a : Outcome)
       → units.begins (length before) own ≡ Whole (length own)
-      → Goes units (suc n) before bad (own ++ left) a → IsFaultless a.end → TakesOne n before bad own left a
-  unfolding Goes
+      → Continues units (suc n) before bad (own ++ left) a → IsFaultless a.end → TakesOne n before bad own left a
+  unfolding Continues
   takes_one n before bad own left a whole goes none = elim goes [
     | inl w ↦ absurd (not_within (length before) own left a whole w none)
     | inr t ↦
@@ -101,36 +101,36 @@ module _ (units : Units) (never : IsNever units Last)
         let size : length t.own ≡ length own = (let is : Whole (length t.own) ≡ Whole (length own) = sym so ∙ all in cc) in
         let same = same_front t.own own t.left left (sym t.front) size in
         let rest = same_left t.own own t.left left (sym t.front) same in
-        let unit : IsUnit units before own t.steps t.turn = subst (λ l. IsUnit units before l t.steps t.turn) same t.unit in
-        let Next : Outcome → Type 0 = Goes units n (before ++ own ∷ []) (bad + bad_of t.turn) left in
-        let does : Does t.steps (GoesOn t.turn Next) t.after =
-        subst (λ l. Does t.steps (GoesOn t.turn (Goes units n (before ++ own ∷ []) (bad + bad_of t.turn) l)) t.after) rest
-        (subst (λ l. Does t.steps (GoesOn t.turn (Goes units n (before ++ l ∷ []) (bad + bad_of t.turn) t.left)) t.after) same t.does) in
+        let unit : IsUnit units before own t.steps t.kind = subst (λ l. IsUnit units before l t.steps t.kind) same t.unit in
+        let Next : Outcome → Type 0 = Continues units n (before ++ own ∷ []) (bad + bad_of t.kind) left in
+        let does : Performs t.steps (ContinuesAfter t.kind Next) t.after =
+        subst (λ l. Performs t.steps (ContinuesAfter t.kind (Continues units n (before ++ own ∷ []) (bad + bad_of t.kind) l)) t.after) rest
+        (subst (λ l. Performs t.steps (ContinuesAfter t.kind (Continues units n (before ++ l ∷ []) (bad + bad_of t.kind) t.left)) t.after) same t.does) in
         let takes : a ≡ taking own t.after = t.takes ∙ ap (λ l. taking l t.after) same in
         let faultless : IsFaultless t.after.end = subst (λ (o : Outcome). IsFaultless o.end) takes none in
-        let done = all_done t.steps (GoesOn t.turn Next) t.after does faultless in
+        let done = all_done t.steps (ContinuesAfter t.kind Next) t.after does faultless in
         record {
           steps = t.steps;
-          turn = t.turn;
+          kind = t.kind;
           unit = unit;
           after = done.after;
-          goes = goes_further t.turn Next done.after (not_last before own t.steps t.turn unit) done.holds;
+          goes = goes_further t.kind Next done.after (not_last before own t.steps t.kind unit) done.holds;
           is = takes ∙ ap (taking own) done.is;
-          faultless = faultless_behind t.steps (GoesOn t.turn Next) t.after done faultless;
+          faultless = faultless_behind t.steps (ContinuesAfter t.kind Next) t.after done faultless;
         }
   ]
 
   -- a run of the first units alone goes through a unit that was taken
   through : (count n m : ℕ) (before : List (List ℕ)) (bad : ℕ) (own left : List ℕ) (a : Outcome) (t : TakesOne n before bad own left a) (after : Outcome)
-      → Goes (first count units) m (before ++ own ∷ []) (bad + bad_of t.turn) left after
-      → Goes (first count units) (suc m) before bad (own ++ left) (onto own (written t.steps) (told t.steps) after)
+      → Continues (first count units) m (before ++ own ∷ []) (bad + bad_of t.kind) left after
+      → Continues (first count units) (suc m) before bad (own ++ left) (onto own (written t.steps) (told t.steps) after)
   through count n m before bad own left a t after goes =
-      taken_unit (first count units) m before own left t.steps t.turn bad after (record { whole = t.unit.whole; does = t.unit.does })
-      (goes_on t.turn (Goes (first count units) m (before ++ own ∷ []) (bad + bad_of t.turn) left) after (not_last before own t.steps t.turn t.unit) goes)
+      taken_unit (first count units) m before own left t.steps t.kind bad after (record { whole = t.unit.whole; does = t.unit.does })
+      (goes_on t.kind (Continues (first count units) m (before ++ own ∷ []) (bad + bad_of t.kind) left) after (not_last before own t.steps t.kind t.unit) goes)
 
   -- behind the first units alone nothing comes
-  nothing_more : (count : ℕ) (before : List (List ℕ)) (bad : ℕ) (bytes : List ℕ) → Goes (first count units) 0 before bad bytes (ended Done)
-  unfolding Goes
+  nothing_more : (count : ℕ) (before : List (List ℕ)) (bad : ℕ) (bytes : List ℕ) → Continues (first count units) 0 before bad bytes (ended Done)
+  unfolding Continues
   nothing_more count before bad bytes = ([], refl, refl)
 
   -- the k-th of the units to come, behind those that were taken
@@ -139,12 +139,12 @@ module _ (units : Units) (never : IsNever units Last)
     number : length more ≡ k
     each : (j : ℕ) → j < k → get_or more j [] ≡ own j
     steps : List Step
-    turn : Turn
-    unit : IsUnit units (before ++ more) (own k) steps turn
+    kind : UnitKind
+    unit : IsUnit units (before ++ more) (own k) steps kind
     alone : Outcome
-    runs : (count : ℕ) → Goes (first count units) k before bad bytes alone
+    runs : (count : ℕ) → Continues (first count units) k before bad bytes alone
     ends : alone.end ≡ Done
-    runs_on : (count : ℕ) → Goes (first count units) (suc k) before bad bytes (and_unit (own k) steps alone)
+    runs_on : (count : ℕ) → Continues (first count units) (suc k) before bad bytes (and_unit (own k) steps alone)
     out : IsFrontOf (alone.out ++ written steps) a.out
     lines : IsFrontOf (alone.lines ++ told steps) a.lines
 
@@ -157,34 +157,34 @@ module _ (units : Units) (never : IsNever units Last)
     number = refl;
     each = λ j lt. absurd (omega arith);
     steps = t.steps;
-    turn = t.turn;
-    unit = subst (λ l. IsUnit units l (own 0) t.steps t.turn) (sym (append-nil before)) t.unit;
+    kind = t.kind;
+    unit = subst (λ l. IsUnit units l (own 0) t.steps t.kind) (sym (append-nil before)) t.unit;
     alone = ended Done;
     runs = λ count. nothing_more count before bad (own 0 ++ left);
     ends = refl;
     runs_on = λ count.
-        subst (Goes (first count units) 1 before bad (own 0 ++ left)) (onto_done (own 0) t.steps)
-        (through count n 0 before bad (own 0) left a t (ended Done) (nothing_more count (before ++ own 0 ∷ []) (bad + bad_of t.turn) left));
+        subst (Continues (first count units) 1 before bad (own 0 ++ left)) (onto_done (own 0) t.steps)
+        (through count n 0 before bad (own 0) left a t (ended Done) (nothing_more count (before ++ own 0 ∷ []) (bad + bad_of t.kind) left));
     out = (t.after.out, ap (λ (o : Outcome). o.out) t.is);
     lines = (t.after.lines, ap (λ (o : Outcome). o.lines) t.is);
   }
 
   -- a unit behind it
   reaches_later : (own : ℕ → List ℕ) (n k : ℕ) (before : List (List ℕ)) (bad : ℕ) (left : List ℕ) (a : Outcome) (t : TakesOne n before bad (own 0) left a)
-      → Reaches (λ j. own (suc j)) (before ++ own 0 ∷ []) (bad + bad_of t.turn) left t.after k
+      → Reaches (λ j. own (suc j)) (before ++ own 0 ∷ []) (bad + bad_of t.kind) left t.after k
       → Reaches own before bad (own 0 ++ left) a (suc k)
   reaches_later own n k before bad left a t r = record {
     more = own 0 ∷ r.more;
     number = ap suc r.number;
     each = each_later k (own 0) r.more own refl r.each;
     steps = r.steps;
-    turn = r.turn;
-    unit = subst (λ l. IsUnit units l (own (suc k)) r.steps r.turn) (append_assoc before (own 0 ∷ []) r.more) r.unit;
+    kind = r.kind;
+    unit = subst (λ l. IsUnit units l (own (suc k)) r.steps r.kind) (append_assoc before (own 0 ∷ []) r.more) r.unit;
     alone = onto (own 0) (written t.steps) (told t.steps) r.alone;
     runs = λ count. through count n k before bad (own 0) left a t r.alone (r.runs count);
     ends = r.ends;
     runs_on = λ count.
-        subst (Goes (first count units) (suc (suc k)) before bad (own 0 ++ left)) (onto_and (own 0) (written t.steps) (told t.steps) (own (suc k)) r.steps r.alone)
+        subst (Continues (first count units) (suc (suc k)) before bad (own 0 ++ left)) (onto_and (own 0) (written t.steps) (told t.steps) (own (suc k)) r.steps r.alone)
         (through count n (suc k) before bad (own 0) left a t (and_unit (own (suc k)) r.steps r.alone) (r.runs_on count));
     out = front_later (written t.steps) r.alone.out (written r.steps) t.after.out a.out (ap (λ (o : Outcome). o.out) t.is) r.out;
     lines = front_later (told t.steps) r.alone.lines (told r.steps) t.after.lines a.lines (ap (λ (o : Outcome). o.lines) t.is) r.lines;
@@ -197,11 +197,11 @@ module _ (units : Units) (never : IsNever units Last)
 
   -- the unit at hand is taken
   takes_first : (k n : ℕ) (own from : ℕ → List ℕ) (before : List (List ℕ)) (bad : ℕ) (a : Outcome) → ComeOn (length before) own from (suc k)
-      → Goes units (suc n) before bad (from 0) a → IsFaultless a.end → TakesOne n before bad (own 0) (from 1) a
+      → Continues units (suc n) before bad (from 0) a → IsFaultless a.end → TakesOne n before bad (own 0) (from 1) a
   takes_first k n own from before bad a come goes none =
       let here : length before + 0 ≡ length before = omega arith in
       takes_one n before bad (own 0) (from 1) a (subst (λ i. units.begins i (own 0) ≡ Whole (length (own 0))) here (come.whole 0 (omega arith)))
-      (subst (λ l. Goes units (suc n) before bad l a) (come.next 0 (omega arith)) goes) none
+      (subst (λ l. Continues units (suc n) before bad l a) (come.next 0 (omega arith)) goes) none
 
   -- and there are those behind it
   come_later : (k : ℕ) (own from : ℕ → List ℕ) (before : List (List ℕ)) → ComeOn (length before) own from (suc (suc k))
@@ -215,7 +215,7 @@ module _ (units : Units) (never : IsNever units Last)
 
   -- the k-th of the units to come is reached
   reaches : (k n : ℕ) (own from : ℕ → List ℕ) (before : List (List ℕ)) (bad : ℕ) (a : Outcome) → ComeOn (length before) own from (suc k)
-      → Goes units n before bad (from 0) a → IsFaultless a.end → k < n → Reaches own before bad (from 0) a k
+      → Continues units n before bad (from 0) a → IsFaultless a.end → k < n → Reaches own before bad (from 0) a k
   reaches k zero own from before bad a come goes none lt = absurd (omega arith)
   reaches zero (suc n) own from before bad a come goes none lt =
       subst (λ l. Reaches own before bad l a 0) (sym (come.next 0 (omega arith))) (reaches_one own n before bad (from 1) a (takes_first 0 n own from before bad a come goes none))
@@ -223,16 +223,16 @@ module _ (units : Units) (never : IsNever units Last)
       let t = takes_first (suc k) n own from before bad a come goes none in
       subst (λ l. Reaches own before bad l a (suc k)) (sym (come.next 0 (omega arith))) (
       reaches_later own n k before bad (from 1) a t
-      (reaches k n (λ j. own (suc j)) (λ j. from (suc j)) (before ++ own 0 ∷ []) (bad + bad_of t.turn) t.after (come_later k own from before come) t.goes t.faultless (omega (arith, lt)))
+      (reaches k n (λ j. own (suc j)) (λ j. from (suc j)) (before ++ own 0 ∷ []) (bad + bad_of t.kind) t.after (come_later k own from before come) t.goes t.faultless (omega (arith, lt)))
       )
 
   -- A run without a fault over bytes that begin with k + 1 whole units takes unit k.
   pub takes_unit : units.opens ≡ [] → (bytes : List ℕ) (a : Outcome) → IsOutcome units bytes a → IsFaultless a.end → (k : ℕ)
       → k < units.count
       → (own from : ℕ → List ℕ) → BeginWith units own from (k + 1) bytes
-      → (steps : List Step) × (turn : Turn) × TakesUnit units own bytes a k steps turn
+      → (steps : List Step) × (kind : UnitKind) × TakesUnit units own bytes a k steps kind
   takes_unit opens bytes a runs none k lt own from begin =
-      let goes : Goes units units.count [] 0 bytes a = subst (λ l. Does l (Goes units units.count [] 0 bytes) a) opens runs in
+      let goes : Continues units units.count [] 0 bytes a = subst (λ l. Performs l (Continues units units.count [] 0 bytes) a) opens runs in
       let come : ComeOn 0 own from (suc k) = record {
         next = λ j below. begin.next j (omega (arith, below));
         whole = λ j below.
@@ -240,19 +240,19 @@ module _ (units : Units) (never : IsNever units Last)
             subst (λ i. units.begins i (own j) ≡ Whole (length (own j))) at (begin.whole j (omega (arith, below)));
       } in
       let r = subst (λ l. Reaches own [] 0 l a k) begin.first
-      (reaches k units.count own from [] 0 a come (subst (λ l. Goes units units.count [] 0 l a) (sym begin.first) goes) none lt) in (
+      (reaches k units.count own from [] 0 a come (subst (λ l. Continues units units.count [] 0 l a) (sym begin.first) goes) none lt) in (
         r.steps,
-        r.turn,
+        r.kind,
         record {
           before = r.more;
           number = r.number;
           each = r.each;
           unit = r.unit;
           alone = r.alone;
-          runs = subst (λ l. Does l (Goes (first k units) k [] 0 bytes) r.alone) (sym opens) (r.runs k);
+          runs = subst (λ l. Performs l (Continues (first k units) k [] 0 bytes) r.alone) (sym opens) (r.runs k);
           ends = r.ends;
-          runs_on = subst (λ l. Does l (Goes (first (k + 1) units) (k + 1) [] 0 bytes) (and_unit (own k) r.steps r.alone)) (sym opens)
-              (subst (λ n. Goes (first (k + 1) units) n [] 0 bytes (and_unit (own k) r.steps r.alone)) (sym (add-one k)) (r.runs_on (k + 1)));
+          runs_on = subst (λ l. Performs l (Continues (first (k + 1) units) (k + 1) [] 0 bytes) (and_unit (own k) r.steps r.alone)) (sym opens)
+              (subst (λ n. Continues (first (k + 1) units) n [] 0 bytes (and_unit (own k) r.steps r.alone)) (sym (add-one k)) (r.runs_on (k + 1)));
           out = r.out;
           lines = r.lines;
         },
@@ -280,7 +280,7 @@ pub takes_sized : (units : Units) (size : ℕ) → ((k : ℕ) (bytes : List ℕ)
     → units.opens ≡ []
     → (bytes : List ℕ) (a : Outcome) → IsOutcome units bytes a → IsFaultless a.end → (k : ℕ) → k < units.count
     → size * (k + 1) ≤ length bytes
-    → (steps : List Step) × (turn : Turn) × TakesUnit units (λ j. take size (drop (size * j) bytes)) bytes a k steps turn
+    → (steps : List Step) × (kind : UnitKind) × TakesUnit units (λ j. take size (drop (size * j) bytes)) bytes a k steps kind
 takes_sized units size begins never opens bytes a runs none k lt long =
     takes_unit units never (whole_stays units (λ k. size) begins) (broken_stays units (λ k. size) begins) opens bytes a runs none k lt
     (λ j. take size (drop (size * j) bytes)) (λ j. drop (size * j) bytes) (begin_sized units size begins bytes k long)

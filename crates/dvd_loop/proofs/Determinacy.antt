@@ -1,14 +1,14 @@
 -- The same units and bytes come to one outcome, where no fault comes.
 use Rattle.std.proofs.Common.{◌≡◌, inl, inr, ◌⊎◌, ℕ, zero, suc, ◌+◌, List, [], ◌∷◌, ◌++◌, length, refl, ap, sym, subst, ◌∙◌}
 use Rattle.dvd_loop.specs.Laws.{AreDetermined, IsFaultless, IsNotBadMarks, OutcomesAgree}
-use Rattle.dvd_loop.specs.Machine.{Does, EndsBehind, Goes, GoesOn, IsTaken, IsUnit, IsEndedWithin, Outcome, Step, Units, bad_of, end_by, ended, taking}
-use Rattle.dvd_loop.specs.Machine.Part.{Whole, Cut, Broken}
-use Rattle.dvd_loop.specs.Turns.{told, written}
-use Rattle.dvd_loop.specs.declared.ends.Behind.{Behind}
-use Rattle.dvd_loop.specs.declared.ends.Behind.TheVariants as behind
+use Rattle.dvd_loop.specs.Machine.{Performs, EndsAfterLast, Continues, ContinuesAfter, IsTaken, IsUnit, IsEndedWithin, Outcome, Step, Units, bad_of, end_by, ended, taking}
+use Rattle.dvd_loop.specs.Machine.Prefix.{Whole, Cut, Broken}
+use Rattle.dvd_loop.specs.UnitCommand.{told, written}
+use Rattle.dvd_loop.specs.declared.ends.AfterLast.{AfterLast}
+use Rattle.dvd_loop.specs.declared.ends.AfterLast.TheVariants as after_last
 use Rattle.dvd_loop.specs.declared.ends.LoopEnd.TheVariants.{BadMarks, Long, ReadFault}
-use Rattle.dvd_loop.specs.declared.ends.Turn.{Turn}
-use Rattle.dvd_loop.specs.declared.ends.Turn.TheVariants.{Good, Bad, Last}
+use Rattle.dvd_loop.specs.declared.ends.UnitKind.{UnitKind}
+use Rattle.dvd_loop.specs.declared.ends.UnitKind.TheVariants.{Good, Bad, Last}
 use Rattle.dvd_loop.proofs.Faultless.{all_done, faultless_behind, not_by_fault, short_or_broken}
 use Rattle.dvd_loop.proofs.Fronts.{same_front, same_left}
 use Rattle.dvd_loop.proofs.StepLemmas.{onto}
@@ -47,17 +47,17 @@ agree_as : (a b x y : Outcome) → a ≡ x → b ≡ y → Agree x y → Agree a
 agree_as a b x y p q agree = subst (λ o. Agree o b) (sym p) (subst (Agree x) (sym q) agree)
 
 -- outcomes behind the same steps agree where those behind all steps do
-steps_agree : (steps : List Step) (A B : Outcome → Type 0) → AllAgree A B → AllAgree (Does steps A) (Does steps B)
+steps_agree : (steps : List Step) (A B : Outcome → Type 0) → AllAgree A B → AllAgree (Performs steps A) (Performs steps B)
 steps_agree steps A B agree a b does others p q =
     let x = all_done steps A a does p in
     let y = all_done steps B b others q in
     agree_as a b _ _ x.is y.is (onto_agree [] (written steps) (told steps) x.after y.after (agree x.after y.after x.holds y.holds (faultless_behind steps A a x p) (faultless_behind steps B b y q)))
 
 -- whether the unit was the last or not, outcomes behind it agree where those of the units to come do
-turns_agree : (turn : Turn) (A : Outcome → Type 0) → AllAgree A A → AllAgree (GoesOn turn A) (GoesOn turn A)
-turns_agree Good A agree = agree
-turns_agree Bad A agree = agree
-turns_agree Last A agree = λ a b p q none other. same_agree a b (p ∙ sym q)
+kinds_agree : (kind : UnitKind) (A : Outcome → Type 0) → AllAgree A A → AllAgree (ContinuesAfter kind A) (ContinuesAfter kind A)
+kinds_agree Good A agree = agree
+kinds_agree Bad A agree = agree
+kinds_agree Last A agree = λ a b p q none other. same_agree a b (p ∙ sym q)
 
 -- outcomes each of which is that one or a failed read agree where no fault ended them
 by_no_fault : (x a b : Outcome) → (a ≡ x) ⊎ (a ≡ ended ReadFault) → (b ≡ x) ⊎ (b ≡ ended ReadFault) → IsFaultless a.end → IsFaultless b.end
@@ -71,11 +71,11 @@ by_no_fault x a b p q none other = elim p [
 ]
 
 -- outcomes behind the last unit agree
-behind_agree : (stands : Behind) (bad : ℕ) (left : List ℕ) → AllAgree (EndsBehind stands bad left) (EndsBehind stands bad left)
-behind_agree behind.Done bad left a b p q none other = same_agree a b (p ∙ sym q)
-behind_agree behind.NoControl bad left a b p q none other = same_agree a b (p ∙ sym q)
-behind_agree behind.Asks bad [] a b p q none other = by_no_fault (ended (end_by bad)) a b p q none other
-behind_agree behind.Asks bad (byte ∷ left) a b p q none other = by_no_fault (taking (byte ∷ []) (ended Long)) a b p q none other
+behind_agree : (stands : AfterLast) (bad : ℕ) (left : List ℕ) → AllAgree (EndsAfterLast stands bad left) (EndsAfterLast stands bad left)
+behind_agree after_last.Done bad left a b p q none other = same_agree a b (p ∙ sym q)
+behind_agree after_last.NoControl bad left a b p q none other = same_agree a b (p ∙ sym q)
+behind_agree after_last.EndOfInput bad [] a b p q none other = by_no_fault (ended (end_by bad)) a b p q none other
+behind_agree after_last.EndOfInput bad (byte ∷ left) a b p q none other = by_no_fault (taking (byte ∷ []) (ended Long)) a b p q none other
 
 module _ (units : Units) (det : AreDetermined units) where
   -- bytes that break a rule in front break it in all
@@ -119,8 +119,8 @@ module _ (units : Units) (det : AreDetermined units) where
       ]
 
   -- one unit alone is taken, and one thing done for it
-  taken_agree : (before : List (List ℕ)) (After : List ℕ → List ℕ → Turn → Outcome → Type 0)
-      → ((own left : List ℕ) (turn : Turn) → AllAgree (After own left turn) (After own left turn))
+  taken_agree : (before : List (List ℕ)) (After : List ℕ → List ℕ → UnitKind → Outcome → Type 0)
+      → ((own left : List ℕ) (kind : UnitKind) → AllAgree (After own left kind) (After own left kind))
       → (bytes : List ℕ) → AllAgree (IsTaken units before After bytes) (IsTaken units before After bytes)
   taken_agree before After agree bytes a b t s none other =
       let whole = whole_unit (length before) bytes t.own t.left t.front t.unit.whole in
@@ -128,20 +128,20 @@ module _ (units : Units) (det : AreDetermined units) where
       let same : length t.own ≡ length s.own = (let is : Whole (length t.own) ≡ Whole (length s.own) = sym whole ∙ so in cc) in
       let own = same_front t.own s.own t.left s.left (sym t.front ∙ s.front) same in
       let left = same_left t.own s.own t.left s.left (sym t.front ∙ s.front) own in
-      let does = det.does before t.own t.steps s.steps t.turn s.turn t.unit (subst (λ l. IsUnit units before l s.steps s.turn) (sym own) s.unit) in
-      let others : Does t.steps (After t.own t.left t.turn) s.after =
-      subst (λ l. Does t.steps (After l t.left t.turn) s.after) (sym own) (subst (λ l. Does t.steps (After s.own l t.turn) s.after) (sym left)
-      (subst (λ u. Does t.steps (After s.own s.left u) s.after) (sym does.1) (subst (λ l. Does l (After s.own s.left s.turn) s.after) (sym does.0) s.does))) in
+      let does = det.does before t.own t.steps s.steps t.kind s.kind t.unit (subst (λ l. IsUnit units before l s.steps s.kind) (sym own) s.unit) in
+      let others : Performs t.steps (After t.own t.left t.kind) s.after =
+      subst (λ l. Performs t.steps (After l t.left t.kind) s.after) (sym own) (subst (λ l. Performs t.steps (After s.own l t.kind) s.after) (sym left)
+      (subst (λ u. Performs t.steps (After s.own s.left u) s.after) (sym does.1) (subst (λ l. Performs l (After s.own s.left s.kind) s.after) (sym does.0) s.does))) in
       agree_as a b _ _ t.takes (s.takes ∙ ap (λ l. taking l s.after) (sym own)) (onto_agree t.own [] [] t.after s.after
-      (steps_agree t.steps (After t.own t.left t.turn) (After t.own t.left t.turn) (agree t.own t.left t.turn) t.after s.after t.does others
+      (steps_agree t.steps (After t.own t.left t.kind) (After t.own t.left t.kind) (agree t.own t.left t.kind) t.after s.after t.does others
       (subst (λ (o : Outcome). IsFaultless o.end) t.takes none) (subst (λ (o : Outcome). IsFaultless o.end) s.takes other)))
 
   -- with n units to come, two outcomes over the same bytes agree
-  goes_agree : (n : ℕ) (before : List (List ℕ)) (bad : ℕ) (bytes : List ℕ) → AllAgree (Goes units n before bad bytes) (Goes units n before bad bytes)
-  unfolding Goes
+  goes_agree : (n : ℕ) (before : List (List ℕ)) (bad : ℕ) (bytes : List ℕ) → AllAgree (Continues units n before bad bytes) (Continues units n before bad bytes)
+  unfolding Continues
   goes_agree zero before bad bytes a b (steps, closes, does) (others, closing, rest) none other =
-      steps_agree steps (EndsBehind units.behind bad bytes) (EndsBehind units.behind bad bytes) (behind_agree units.behind bad bytes) a b does
-      (subst (λ l. Does l (EndsBehind units.behind bad bytes) b) (sym (det.closes before steps others closes closing)) rest) none other
+      steps_agree steps (EndsAfterLast units.after_last bad bytes) (EndsAfterLast units.after_last bad bytes) (behind_agree units.after_last bad bytes) a b does
+      (subst (λ l. Performs l (EndsAfterLast units.after_last bad bytes) b) (sym (det.closes before steps others closes closing)) rest) none other
   goes_agree (suc n) before bad bytes a b goes others none other = elim goes [
     | inl w ↦ elim others [
       | inl v ↦ within_agree (length before) bytes a b w v none other
@@ -149,13 +149,13 @@ module _ (units : Units) (det : AreDetermined units) where
     ]
     | inr t ↦ elim others [
       | inl v ↦ not_both (length before) bytes t.own t.left b v other t.front t.unit.whole
-      | inr s ↦ taken_agree before (λ own left turn. GoesOn turn (Goes units n (before ++ own ∷ []) (bad + bad_of turn) left))
-          (λ own left turn. turns_agree turn (Goes units n (before ++ own ∷ []) (bad + bad_of turn) left) (goes_agree n (before ++ own ∷ []) (bad + bad_of turn) left)) bytes a b t s none other
+      | inr s ↦ taken_agree before (λ own left kind. ContinuesAfter kind (Continues units n (before ++ own ∷ []) (bad + bad_of kind) left))
+          (λ own left kind. kinds_agree kind (Continues units n (before ++ own ∷ []) (bad + bad_of kind) left) (goes_agree n (before ++ own ∷ []) (bad + bad_of kind) left)) bytes a b t s none other
     ]
   ]
 
 -- the same units and bytes come to one outcome
 pub agrees : (units : Units) → OutcomesAgree units
 agrees units det bytes a b p q none other =
-    let same = steps_agree units.opens (Goes units units.count [] 0 bytes) (Goes units units.count [] 0 bytes) (goes_agree units det units.count [] 0 bytes) a b p q none other in
+    let same = steps_agree units.opens (Continues units units.count [] 0 bytes) (Continues units units.count [] 0 bytes) (goes_agree units det units.count [] 0 bytes) a b p q none other in
     (same.out, same.lines, same.end, same.taken)

@@ -5,11 +5,11 @@ use Rattle.std.proofs.Math.Seq.{take-append-add}
 use Rattle.std.proofs.lemmas.Bool.{cases_lt}
 use Rattle.std.proofs.lemmas.List.{take_all}
 use Rattle.dvd_loop.specs.Laws.{AreOfOneSize, EndsBySize, IsFaultless, IsOver, TellsLength}
-use Rattle.dvd_loop.specs.Machine.{EndsBehind, Goes, IsUnit, Outcome, Step, Units, bad_of, end_by, ended, taking}
-use Rattle.dvd_loop.specs.Turns.{told, written}
-use Rattle.dvd_loop.specs.declared.ends.Behind.TheVariants.{Asks}
+use Rattle.dvd_loop.specs.Machine.{EndsAfterLast, Continues, IsUnit, Outcome, Step, Units, bad_of, end_by, ended, taking}
+use Rattle.dvd_loop.specs.UnitCommand.{told, written}
+use Rattle.dvd_loop.specs.declared.ends.AfterLast.TheVariants.{EndOfInput}
 use Rattle.dvd_loop.specs.declared.ends.LoopEnd.TheVariants.{Long, Short}
-use Rattle.dvd_loop.specs.declared.ends.Turn.TheVariants.{Last}
+use Rattle.dvd_loop.specs.declared.ends.UnitKind.TheVariants.{Last}
 use Rattle.dvd_loop.proofs.Faultless.{all_done, faultless_behind, not_by_fault}
 use Rattle.dvd_loop.proofs.Sizes.{goes_one}
 use Rattle.dvd_loop.proofs.StepLemmas.{onto}
@@ -31,7 +31,7 @@ module _ (size before : ℕ) where
   ends_as n bytes a x is ends = subst (Ends n size before bytes) (sym is) ends
 
   -- behind the last unit the input is over, or has a byte more
-  ends_behind : (bad : ℕ) (bytes : List ℕ) (a : Outcome) → EndsBehind Asks bad bytes a → IsFaultless a.end → Ends 0 size before bytes a
+  ends_behind : (bad : ℕ) (bytes : List ℕ) (a : Outcome) → EndsAfterLast EndOfInput bad bytes a → IsFaultless a.end → Ends 0 size before bytes a
   ends_behind bad [] a ends none = elim ends [
     | inr fault ↦ absurd (not_by_fault a _ fault (λ f. f) none)
     | inl is ↦ ends_as 0 [] a _ is (record { taken = sym (take_all (0 * size + 1) [] (omega arith)); by = inr (inl (sym (zero-mul size), end_by_over bad)) })
@@ -72,13 +72,13 @@ module _ (size before : ℕ) where
 
 module _ (units : Units) (size : ℕ) (are : AreOfOneSize units size) where
   -- with n units to come, a run that no fault ended ends as the length of the bytes left tells
-  goes_end : (n : ℕ) (before : List (List ℕ)) (bad : ℕ) (bytes : List ℕ) (a : Outcome) → Goes units n before bad bytes a → IsFaultless a.end
+  goes_end : (n : ℕ) (before : List (List ℕ)) (bad : ℕ) (bytes : List ℕ) (a : Outcome) → Continues units n before bad bytes a → IsFaultless a.end
       → Ends n size (length before) bytes a
-  unfolding Goes
+  unfolding Continues
   goes_end zero before bad bytes a (steps, closes, does) none =
-      let done = all_done steps (EndsBehind units.behind bad bytes) a does none in
-      let holds = subst (λ b. EndsBehind b bad bytes done.after) are.asks done.holds in
-      let ends = ends_behind size (length before) bad bytes done.after holds (faultless_behind steps (EndsBehind units.behind bad bytes) a done none) in
+      let done = all_done steps (EndsAfterLast units.after_last bad bytes) a does none in
+      let holds = subst (λ b. EndsAfterLast b bad bytes done.after) are.asks done.holds in
+      let ends = ends_behind size (length before) bad bytes done.after holds (faultless_behind steps (EndsAfterLast units.after_last bad bytes) a done none) in
       ends_as size (length before) 0 bytes a _ done.is (record { taken = ends.taken; by = ends.by })
   goes_end (suc n) before bad bytes a goes none =
       let not_last = λ (own : List ℕ) (steps : List Step) (unit : IsUnit units before own steps Last). are.never_last (length before) before own steps unit.does in
@@ -88,7 +88,7 @@ module _ (units : Units) (size : ℕ) (are : AreOfOneSize units size) where
             let count : length (before ++ t.own ∷ []) ≡ length before + 1 = length-append before (t.own ∷ []) in
             subst (λ l. Ends (suc n) size (length before) l a) (sym t.front)
             (ends_later size (length before) n t.own t.left (written t.steps) (told t.steps) a t.after t.size_is t.is
-            (subst (λ k. Ends n size k t.left t.after) count (goes_end n (before ++ t.own ∷ []) (bad + bad_of t.turn) t.left t.after t.goes t.faultless)))
+            (subst (λ k. Ends n size k t.left t.after) count (goes_end n (before ++ t.own ∷ []) (bad + bad_of t.kind) t.left t.after t.goes t.faultless)))
       ]
 
 -- a part of an earlier unit ends before a later unit begins
@@ -163,6 +163,6 @@ tells count size bytes a ends =
 -- without a fault the end is by the length of the input
 pub ends_so : (units : Units) → EndsBySize units
 ends_so units size are bytes a runs none =
-    let done = all_done units.opens (Goes units units.count [] 0 bytes) a runs none in
-    let ends = goes_end units size are units.count [] 0 bytes done.after done.holds (faultless_behind units.opens (Goes units units.count [] 0 bytes) a done none) in
+    let done = all_done units.opens (Continues units units.count [] 0 bytes) a runs none in
+    let ends = goes_end units size are units.count [] 0 bytes done.after done.holds (faultless_behind units.opens (Continues units units.count [] 0 bytes) a done none) in
     tells units.count size bytes a (ends_as size 0 units.count bytes a _ done.is (record { taken = ends.taken; by = ends.by }))

@@ -1,10 +1,10 @@
 -- What is done where no fault comes: all of the steps, and then what stands behind them; and how a loop ends within a unit.
 use Rattle.std.proofs.Common.{◌≡◌, inl, inr, ◌⊎◌, ℕ, List, [], ◌∷◌, ◌++◌, length, refl, ap, sym, subst, ◌∙◌, append_assoc, append-nil}
 use Rattle.dvd_loop.specs.Laws.{IsFaultless}
-use Rattle.dvd_loop.specs.Machine.{Does, EndsWithin, Fails, IsEndedWithin, Outcome, Step, Units, ended, stepping, taking}
-use Rattle.dvd_loop.specs.Machine.Part.{Whole, Cut, Broken}
+use Rattle.dvd_loop.specs.Machine.{Performs, EndsWithin, Fails, IsEndedWithin, Outcome, Step, Units, ended, stepping, taking}
+use Rattle.dvd_loop.specs.Machine.Prefix.{Whole, Cut, Broken}
 use Rattle.dvd_loop.specs.Machine.Step.{Write, Tell}
-use Rattle.dvd_loop.specs.Turns.{told, written}
+use Rattle.dvd_loop.specs.UnitCommand.{told, written}
 use Rattle.dvd_loop.specs.declared.ends.LoopEnd.{LoopEnd}
 use Rattle.dvd_loop.specs.declared.ends.LoopEnd.TheVariants.{BadMarks, ReportFault, Short, WriteFault}
 use Rattle.dvd_loop.proofs.StepLemmas.{onto}
@@ -56,7 +56,7 @@ same_end (Write bytes) after = refl
 same_end (Tell line) after = refl
 
 -- where no step failed, all were taken
-pub all_done_but : (steps : List Step) (After : Outcome → Type 0) (outcome : Outcome) → Does steps After outcome → IsNoStepFault outcome.end
+pub all_done_but : (steps : List Step) (After : Outcome → Type 0) (outcome : Outcome) → Performs steps After outcome → IsNoStepFault outcome.end
     → AllDone steps After outcome
 all_done_but [] After outcome does none = record { after = outcome; holds = does; is = refl }
 all_done_but (step ∷ steps) After outcome does none = elim does [
@@ -65,7 +65,7 @@ all_done_but (step ∷ steps) After outcome does none = elim does [
 ]
 
 -- where there is no fault, all steps were taken
-pub all_done : (steps : List Step) (After : Outcome → Type 0) (outcome : Outcome) → Does steps After outcome → IsFaultless outcome.end
+pub all_done : (steps : List Step) (After : Outcome → Type 0) (outcome : Outcome) → Performs steps After outcome → IsFaultless outcome.end
     → AllDone steps After outcome
 all_done steps After outcome does none = all_done_but steps After outcome does (no_step_fault outcome.end none)
 

@@ -1,19 +1,19 @@
 -- What a fault leaves: after a failed read what the end of the input there would leave, and after any fault fronts.
 use Rattle.std.proofs.Common.{◌≡◌, inl, inr, ℕ, zero, suc, ◌+◌, List, [], ◌∷◌, ◌++◌, length, refl, ap, sym, subst, ◌∙◌, append_assoc, append-nil, arith}
 use Rattle.dvd_loop.specs.Laws.{AreTotal, FaultsLeaveFronts, IsFaultless, IsFrontOf, ReadFaultEndsInput}
-use Rattle.dvd_loop.specs.Machine.{Does, EndsBehind, EndsWithin, Fails, Goes, GoesOn, IsEndedWithin, Outcome, Part, Step, Units, bad_of, end_by, ended, stepping, taking}
-use Rattle.dvd_loop.specs.Machine.Part.{Whole, Cut, Broken}
+use Rattle.dvd_loop.specs.Machine.{Performs, EndsAfterLast, EndsWithin, Fails, Continues, ContinuesAfter, IsEndedWithin, Outcome, Prefix, Step, Units, bad_of, end_by, ended, stepping, taking}
+use Rattle.dvd_loop.specs.Machine.Prefix.{Whole, Cut, Broken}
 use Rattle.dvd_loop.specs.Machine.Step.{Write, Tell}
-use Rattle.dvd_loop.specs.Turns.{told, written}
-use Rattle.dvd_loop.specs.declared.ends.Behind.{Behind}
-use Rattle.dvd_loop.specs.declared.ends.Behind.TheVariants as behind
+use Rattle.dvd_loop.specs.UnitCommand.{told, written}
+use Rattle.dvd_loop.specs.declared.ends.AfterLast.{AfterLast}
+use Rattle.dvd_loop.specs.declared.ends.AfterLast.TheVariants as after_last
 use Rattle.dvd_loop.specs.declared.ends.LoopEnd.{LoopEnd}
 use Rattle.dvd_loop.specs.declared.ends.LoopEnd.TheVariants.{BadMarks, Done, Long, NoControl, ReadFault, ReportFault, Short, WriteFault}
-use Rattle.dvd_loop.specs.declared.ends.Turn.{Turn}
-use Rattle.dvd_loop.specs.declared.ends.Turn.TheVariants.{Good, Bad, Last}
+use Rattle.dvd_loop.specs.declared.ends.UnitKind.{UnitKind}
+use Rattle.dvd_loop.specs.declared.ends.UnitKind.TheVariants.{Good, Bad, Last}
 use Rattle.dvd_loop.proofs.Faultless.{IsNoStepFault, all_done_but}
 use Rattle.dvd_loop.proofs.StepLemmas.{does_all, onto, taken_then}
-use Rattle.dvd_loop.proofs.Totality.{Exists, all_exist, behind_exists, end_by_none, goes_exist, one_fewer, steps_exist, turns_exist}
+use Rattle.dvd_loop.proofs.Totality.{Exists, all_exist, behind_exists, end_by_none, goes_exist, one_fewer, steps_exist, kinds_exist}
 
 -- an outcome over the bytes that were taken, which no fault ends: it takes, writes and tells as much
 pub record EndsAsTaken (A : List ℕ → Outcome → Type 0) (a : Outcome) : Type 0 where
@@ -44,11 +44,11 @@ there_by A B a to there = record {
 }
 
 -- so it is with steps before it
-steps_there : (steps : List Step) (A : List ℕ → Outcome → Type 0) (bytes : List ℕ) → LeaveThat A bytes → LeaveThat (λ l. Does steps (A l)) bytes
+steps_there : (steps : List Step) (A : List ℕ → Outcome → Type 0) (bytes : List ℕ) → LeaveThat A bytes → LeaveThat (λ l. Performs steps (A l)) bytes
 steps_there steps A bytes leaves a does fault =
     let done = all_done_but steps (A bytes) a does (subst IsNoStepFault (sym fault) tt) in
     let there = leaves done.after done.holds (sym (ap (λ (o : Outcome). o.end) done.is) ∙ fault) in
-    there_as (λ l. Does steps (A l)) a (onto [] (written steps) (told steps) done.after) done.is (record {
+    there_as (λ l. Performs steps (A l)) a (onto [] (written steps) (told steps) done.after) done.is (record {
       outcome = onto [] (written steps) (told steps) there.outcome;
       holds = does_all steps (A done.after.taken) there.outcome there.holds;
       faultless = there.faultless;
@@ -58,13 +58,13 @@ steps_there steps A bytes leaves a does fault =
     })
 
 -- and with a unit before it, whether that was the last or not
-turns_there : (turn : Turn) (A : List ℕ → Outcome → Type 0) (bytes : List ℕ) → LeaveThat A bytes → LeaveThat (λ l. GoesOn turn (A l)) bytes
-turns_there Good A bytes leaves a goes fault = leaves a goes fault
-turns_there Bad A bytes leaves a goes fault = leaves a goes fault
-turns_there Last A bytes leaves a is fault = absurd (let no : Done ≡ ReadFault = sym (ap (λ (o : Outcome). o.end) is) ∙ fault in cc)
+kinds_there : (kind : UnitKind) (A : List ℕ → Outcome → Type 0) (bytes : List ℕ) → LeaveThat A bytes → LeaveThat (λ l. ContinuesAfter kind (A l)) bytes
+kinds_there Good A bytes leaves a goes fault = leaves a goes fault
+kinds_there Bad A bytes leaves a goes fault = leaves a goes fault
+kinds_there Last A bytes leaves a is fault = absurd (let no : Done ≡ ReadFault = sym (ap (λ (o : Outcome). o.end) is) ∙ fault in cc)
 
 -- the failed read of one byte more is as the end of the input there
-no_byte : (bad : ℕ) → EndsAsTaken (EndsBehind behind.Asks bad) (ended ReadFault)
+no_byte : (bad : ℕ) → EndsAsTaken (EndsAfterLast after_last.EndOfInput bad) (ended ReadFault)
 no_byte bad = record {
   outcome = ended (end_by bad);
   holds = inl refl;
@@ -80,16 +80,16 @@ end_by_not zero is = cc
 end_by_not (suc bad) is = cc
 
 -- so it is behind the last unit
-behind_there : (stands : Behind) (bad : ℕ) (bytes : List ℕ) → LeaveThat (EndsBehind stands bad) bytes
-behind_there behind.Done bad bytes a is fault = absurd (let no : Done ≡ ReadFault = sym (ap (λ (o : Outcome). o.end) is) ∙ fault in cc)
-behind_there behind.NoControl bad bytes a is fault = absurd (let no : NoControl ≡ ReadFault = sym (ap (λ (o : Outcome). o.end) is) ∙ fault in cc)
-behind_there behind.Asks bad [] a ends fault = elim ends [
+behind_there : (stands : AfterLast) (bad : ℕ) (bytes : List ℕ) → LeaveThat (EndsAfterLast stands bad) bytes
+behind_there after_last.Done bad bytes a is fault = absurd (let no : Done ≡ ReadFault = sym (ap (λ (o : Outcome). o.end) is) ∙ fault in cc)
+behind_there after_last.NoControl bad bytes a is fault = absurd (let no : NoControl ≡ ReadFault = sym (ap (λ (o : Outcome). o.end) is) ∙ fault in cc)
+behind_there after_last.EndOfInput bad [] a ends fault = elim ends [
   | inl is ↦ absurd (end_by_not bad (sym (ap (λ (o : Outcome). o.end) is) ∙ fault))
-  | inr is ↦ there_as (EndsBehind behind.Asks bad) a (ended ReadFault) is (no_byte bad)
+  | inr is ↦ there_as (EndsAfterLast after_last.EndOfInput bad) a (ended ReadFault) is (no_byte bad)
 ]
-behind_there behind.Asks bad (byte ∷ left) a ends fault = elim ends [
+behind_there after_last.EndOfInput bad (byte ∷ left) a ends fault = elim ends [
   | inl is ↦ absurd (let no : Long ≡ ReadFault = sym (ap (λ (o : Outcome). o.end) is) ∙ fault in cc)
-  | inr is ↦ there_as (EndsBehind behind.Asks bad) a (ended ReadFault) is (no_byte bad)
+  | inr is ↦ there_as (EndsAfterLast after_last.EndOfInput bad) a (ended ReadFault) is (no_byte bad)
 ]
 
 module _ (units : Units) where
@@ -106,7 +106,7 @@ module _ (units : Units) where
         out = refl;
         lines = refl;
       }) in
-      let Ends : Part → List ℕ → LoopEnd → Type 0 = λ part left end. EndsWithin part k (length w.own) left end in
+      let Ends : Prefix → List ℕ → LoopEnd → Type 0 = λ part left end. EndsWithin part k (length w.own) left end in
       elim (units.begins k w.own) as (λ part. Ends part w.left a.end → ((end : LoopEnd) → Ends part [] end → IsFaultless end → EndsAsTaken P a) → EndsAsTaken P a) [
         | Whole size ↦ λ ends by. absurd ends
         | Cut ↦ λ ends by. by (Short k (length w.own)) (inl (refl, refl)) tt
@@ -114,20 +114,20 @@ module _ (units : Units) where
       ] w.ends there
 
   -- with n units to come, a failed read leaves what the end of the input there would leave
-  goes_there : (n : ℕ) (before : List (List ℕ)) (bad : ℕ) (bytes : List ℕ) → LeaveThat (Goes units n before bad) bytes
-  unfolding Goes
+  goes_there : (n : ℕ) (before : List (List ℕ)) (bad : ℕ) (bytes : List ℕ) → LeaveThat (Continues units n before bad) bytes
+  unfolding Continues
   goes_there zero before bad bytes a (steps, closes, does) fault =
-      there_by (λ l. Does steps (EndsBehind units.behind bad l)) (Goes units zero before bad) a (λ o rest. (steps, closes, rest))
-      (steps_there steps (EndsBehind units.behind bad) bytes (behind_there units.behind bad bytes) a does fault)
+      there_by (λ l. Performs steps (EndsAfterLast units.after_last bad l)) (Continues units zero before bad) a (λ o rest. (steps, closes, rest))
+      (steps_there steps (EndsAfterLast units.after_last bad) bytes (behind_there units.after_last bad bytes) a does fault)
   goes_there (suc n) before bad bytes a goes fault = elim goes [
-    | inl w ↦ there_by (IsEndedWithin units (length before)) (Goes units (suc n) before bad) a (λ o within. inl within) (within_there (length before) bytes a w fault)
+    | inl w ↦ there_by (IsEndedWithin units (length before)) (Continues units (suc n) before bad) a (λ o within. inl within) (within_there (length before) bytes a w fault)
     | inr t ↦
-        let Next : List ℕ → Outcome → Type 0 = Goes units n (before ++ t.own ∷ []) (bad + bad_of t.turn) in
-        let there = steps_there t.steps (λ l. GoesOn t.turn (Next l)) t.left (turns_there t.turn Next t.left (goes_there n (before ++ t.own ∷ []) (bad + bad_of t.turn) t.left)) t.after t.does
+        let Next : List ℕ → Outcome → Type 0 = Continues units n (before ++ t.own ∷ []) (bad + bad_of t.kind) in
+        let there = steps_there t.steps (λ l. ContinuesAfter t.kind (Next l)) t.left (kinds_there t.kind Next t.left (goes_there n (before ++ t.own ∷ []) (bad + bad_of t.kind) t.left)) t.after t.does
         (sym (ap (λ (o : Outcome). o.end) t.takes) ∙ fault) in
-        there_as (Goes units (suc n) before bad) a (taking t.own t.after) t.takes (record {
+        there_as (Continues units (suc n) before bad) a (taking t.own t.after) t.takes (record {
           outcome = taking t.own there.outcome;
-          holds = inr (taken_then units before _ (t.own ++ t.after.taken) t.own t.after.taken t.steps t.turn _ there.outcome refl t.unit there.holds refl);
+          holds = inr (taken_then units before _ (t.own ++ t.after.taken) t.own t.after.taken t.steps t.kind _ there.outcome refl t.unit there.holds refl);
           faultless = there.faultless;
           taken = ap (λ l. t.own ++ l) there.taken;
           out = there.out;
@@ -138,7 +138,7 @@ module _ (units : Units) where
 -- after a fault of the source all is as if the input had ended there
 pub ends_there : (units : Units) → ReadFaultEndsInput units
 ends_there units bytes a runs fault =
-    let there = steps_there units.opens (Goes units units.count [] 0) bytes (goes_there units units.count [] 0 bytes) a runs fault in
+    let there = steps_there units.opens (Continues units units.count [] 0) bytes (goes_there units units.count [] 0 bytes) a runs fault in
     (there.outcome, there.holds, there.faultless, there.taken, there.out, there.lines)
 
 -- an outcome without a fault of which this one has fronts
@@ -220,30 +220,30 @@ beyond_by : (A B : Outcome → Type 0) (a : Outcome) → ((o : Outcome) → A o 
 beyond_by A B a to beyond = record { outcome = beyond.outcome; holds = to beyond.outcome beyond.holds; faultless = beyond.faultless; out = beyond.out; lines = beyond.lines }
 
 -- steps leave fronts where what comes behind them does
-steps_beyond : (steps : List Step) (A : Outcome → Type 0) → Exists A → LeaveFronts A → LeaveFronts (Does steps A)
+steps_beyond : (steps : List Step) (A : Outcome → Type 0) → Exists A → LeaveFronts A → LeaveFronts (Performs steps A)
 steps_beyond [] A exists leaves a does = leaves a does
 steps_beyond (step ∷ steps) A exists leaves a does = elim does [
-  | inl fails ↦ beyond_by _ (Does (step ∷ steps) A) a (λ o is. inr is) (failed_beyond step (Does steps A) a fails (steps_exist steps A exists))
+  | inl fails ↦ beyond_by _ (Performs (step ∷ steps) A) a (λ o is. inr is) (failed_beyond step (Performs steps A) a fails (steps_exist steps A exists))
   | inr (after, does, is) ↦
-      beyond_as (Does (step ∷ steps) A) a (stepping step after) is
-      (beyond_by _ (Does (step ∷ steps) A) (stepping step after) (λ o is. inr is) (stepped_beyond step (Does steps A) after (steps_beyond steps A exists leaves after does)))
+      beyond_as (Performs (step ∷ steps) A) a (stepping step after) is
+      (beyond_by _ (Performs (step ∷ steps) A) (stepping step after) (λ o is. inr is) (stepped_beyond step (Performs steps A) after (steps_beyond steps A exists leaves after does)))
 ]
 
 -- whether the unit was the last or not, fronts are left where the units to come leave them
-turns_beyond : (turn : Turn) (A : Outcome → Type 0) → LeaveFronts A → LeaveFronts (GoesOn turn A)
-turns_beyond Good A leaves a goes = leaves a goes
-turns_beyond Bad A leaves a goes = leaves a goes
-turns_beyond Last A leaves a is = beyond_as (GoesOn Last A) a (ended Done) is (record { outcome = ended Done; holds = refl; faultless = tt; out = ([], refl); lines = ([], refl) })
+kinds_beyond : (kind : UnitKind) (A : Outcome → Type 0) → LeaveFronts A → LeaveFronts (ContinuesAfter kind A)
+kinds_beyond Good A leaves a goes = leaves a goes
+kinds_beyond Bad A leaves a goes = leaves a goes
+kinds_beyond Last A leaves a is = beyond_as (ContinuesAfter Last A) a (ended Done) is (record { outcome = ended Done; holds = refl; faultless = tt; out = ([], refl); lines = ([], refl) })
 
 -- behind the last unit nothing is written or told
-pub nothing_behind : (stands : Behind) (bad : ℕ) (left : List ℕ) (a : Outcome) → EndsBehind stands bad left a → (a.out ≡ []) × (a.lines ≡ [])
-nothing_behind behind.Done bad left a is = (ap (λ (o : Outcome). o.out) is, ap (λ (o : Outcome). o.lines) is)
-nothing_behind behind.NoControl bad left a is = (ap (λ (o : Outcome). o.out) is, ap (λ (o : Outcome). o.lines) is)
-nothing_behind behind.Asks bad [] a ends = elim ends [
+pub nothing_behind : (stands : AfterLast) (bad : ℕ) (left : List ℕ) (a : Outcome) → EndsAfterLast stands bad left a → (a.out ≡ []) × (a.lines ≡ [])
+nothing_behind after_last.Done bad left a is = (ap (λ (o : Outcome). o.out) is, ap (λ (o : Outcome). o.lines) is)
+nothing_behind after_last.NoControl bad left a is = (ap (λ (o : Outcome). o.out) is, ap (λ (o : Outcome). o.lines) is)
+nothing_behind after_last.EndOfInput bad [] a ends = elim ends [
   | inl is ↦ (ap (λ (o : Outcome). o.out) is, ap (λ (o : Outcome). o.lines) is)
   | inr is ↦ (ap (λ (o : Outcome). o.out) is, ap (λ (o : Outcome). o.lines) is)
 ]
-nothing_behind behind.Asks bad (byte ∷ left) a ends = elim ends [
+nothing_behind after_last.EndOfInput bad (byte ∷ left) a ends = elim ends [
   | inl is ↦ (ap (λ (o : Outcome). o.out) is, ap (λ (o : Outcome). o.lines) is)
   | inr is ↦ (ap (λ (o : Outcome). o.out) is, ap (λ (o : Outcome). o.lines) is)
 ]
@@ -251,25 +251,25 @@ nothing_behind behind.Asks bad (byte ∷ left) a ends = elim ends [
 module _ (units : Units) (total : AreTotal units) where
   -- with n units to come, any outcome has fronts of one without a fault
   goes_beyond : (n : ℕ) (before : List (List ℕ)) (bad : ℕ) (bytes : List ℕ) → length before + n ≡ units.count
-      → LeaveFronts (Goes units n before bad bytes)
-  unfolding Goes
+      → LeaveFronts (Continues units n before bad bytes)
+  unfolding Continues
   goes_beyond zero before bad bytes all a (steps, closes, does) =
-      beyond_by (Does steps (EndsBehind units.behind bad bytes)) (Goes units zero before bad bytes) a (λ o rest. (steps, closes, rest))
-      (steps_beyond steps (EndsBehind units.behind bad bytes) (behind_exists units.behind bad bytes)
-      (λ o ends. let none = nothing_behind units.behind bad bytes o ends in beyond_none (EndsBehind units.behind bad bytes) o (behind_exists units.behind bad bytes) none.0 none.1)
+      beyond_by (Performs steps (EndsAfterLast units.after_last bad bytes)) (Continues units zero before bad bytes) a (λ o rest. (steps, closes, rest))
+      (steps_beyond steps (EndsAfterLast units.after_last bad bytes) (behind_exists units.after_last bad bytes)
+      (λ o ends. let none = nothing_behind units.after_last bad bytes o ends in beyond_none (EndsAfterLast units.after_last bad bytes) o (behind_exists units.after_last bad bytes) none.0 none.1)
       a does)
   goes_beyond (suc n) before bad bytes all a goes = elim goes [
     | inl w ↦
         let exists = goes_exist units total (suc n) before bad bytes all in
-        beyond_none (Goes units (suc n) before bad bytes) a exists (ap (λ (o : Outcome). o.out) w.takes) (ap (λ (o : Outcome). o.lines) w.takes)
+        beyond_none (Continues units (suc n) before bad bytes) a exists (ap (λ (o : Outcome). o.out) w.takes) (ap (λ (o : Outcome). o.lines) w.takes)
     | inr t ↦
-        let Next = Goes units n (before ++ t.own ∷ []) (bad + bad_of t.turn) t.left in
+        let Next = Continues units n (before ++ t.own ∷ []) (bad + bad_of t.kind) t.left in
         let fewer = one_fewer before t.own n units.count all in
-        let beyond = steps_beyond t.steps (GoesOn t.turn Next) (turns_exist t.turn Next (goes_exist units total n (before ++ t.own ∷ []) (bad + bad_of t.turn) t.left fewer))
-        (turns_beyond t.turn Next (goes_beyond n (before ++ t.own ∷ []) (bad + bad_of t.turn) t.left fewer)) t.after t.does in
-        beyond_as (Goes units (suc n) before bad bytes) a (taking t.own t.after) t.takes (record {
+        let beyond = steps_beyond t.steps (ContinuesAfter t.kind Next) (kinds_exist t.kind Next (goes_exist units total n (before ++ t.own ∷ []) (bad + bad_of t.kind) t.left fewer))
+        (kinds_beyond t.kind Next (goes_beyond n (before ++ t.own ∷ []) (bad + bad_of t.kind) t.left fewer)) t.after t.does in
+        beyond_as (Continues units (suc n) before bad bytes) a (taking t.own t.after) t.takes (record {
           outcome = taking t.own beyond.outcome;
-          holds = inr (taken_then units before _ bytes t.own t.left t.steps t.turn _ beyond.outcome t.front t.unit beyond.holds refl);
+          holds = inr (taken_then units before _ bytes t.own t.left t.steps t.kind _ beyond.outcome t.front t.unit beyond.holds refl);
           faultless = beyond.faultless;
           out = beyond.out;
           lines = beyond.lines;
@@ -279,5 +279,5 @@ module _ (units : Units) (total : AreTotal units) where
 -- after any fault output and report have fronts of what they would have without one
 pub leave_fronts : (units : Units) → FaultsLeaveFronts units
 leave_fronts units total bytes a runs =
-    let beyond = steps_beyond units.opens (Goes units units.count [] 0 bytes) (all_exist units total bytes) (goes_beyond units total units.count [] 0 bytes (omega arith)) a runs in
+    let beyond = steps_beyond units.opens (Continues units units.count [] 0 bytes) (all_exist units total bytes) (goes_beyond units total units.count [] 0 bytes (omega arith)) a runs in
     (beyond.outcome, beyond.holds, beyond.faultless, beyond.out, beyond.lines)

@@ -17,4 +17,4 @@ pub mod StepLemmas
 pub mod StreamLemmas
 pub mod Taken
 pub mod Totality
-pub mod TurnLemmas
+pub mod UnitLemmas

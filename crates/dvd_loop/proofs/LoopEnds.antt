@@ -3,17 +3,17 @@ use Rattle.std.proofs.Common.{◌≡◌, ◌≢◌, ℕ, List, refl, sym, subst,
 use Rattle.dvd_loop.specs.Streams.{Counts, is_report_fault, no_stream}
 use Rattle.dvd_loop.specs.Laws.{IsDamageEnd, IsNever, IsPlainEnd, IsSearchEnd}
 use Rattle.dvd_loop.specs.Machine.{IsOutcome, Outcome, Units, sized}
-use Rattle.dvd_loop.specs.declared.ends.Behind.TheVariants.{Asks, NoControl as StopsNoControl}
+use Rattle.dvd_loop.specs.declared.ends.AfterLast.TheVariants.{EndOfInput, NoControl as StopsNoControl}
 use Rattle.dvd_loop.specs.declared.ends.LoopEnd.{LoopEnd}
 use Rattle.dvd_loop.specs.declared.ends.LoopEnd.TheVariants.{BadHeader, BadMarks, Damaged, Done, Long, NoControl, ReadFault, ReportFault, Short, ShortHeader, WriteFault}
-use Rattle.dvd_loop.specs.declared.ends.Turn.TheVariants.{Bad}
+use Rattle.dvd_loop.specs.declared.ends.UnitKind.TheVariants.{Bad}
 use Rattle.dvd_loop.proofs.PlainEnds.{damaged_at_most, never_bad_header, never_bad_marks, never_damaged, never_long, never_no_control, never_short_header, short_below}
 use Rattle.dvd_loop.proofs.Sizes.{sized_never_broken}
 
-module _ (units : Units) (size : ℕ → ℕ) (begins : (k : ℕ) (own : List ℕ) → units.begins k own ≡ sized (size k) own) (asks : units.behind ≡ Asks) (bytes : List ℕ) (outcome : Outcome) (runs : IsOutcome units bytes outcome) where
+module _ (units : Units) (size : ℕ → ℕ) (begins : (k : ℕ) (own : List ℕ) → units.begins k own ≡ sized (size k) own) (asks : units.after_last ≡ EndOfInput) (bytes : List ℕ) (outcome : Outcome) (runs : IsOutcome units bytes outcome) where
   -- units behind which one byte more is asked for don't end for want of control data
   no_control : outcome.end ≢ NoControl
-  no_control = never_no_control units bytes outcome runs (λ stands. let no : Asks ≡ StopsNoControl = sym asks ∙ stands in cc)
+  no_control = never_no_control units bytes outcome runs (λ stands. let no : EndOfInput ≡ StopsNoControl = sym asks ∙ stands in cc)
 
   -- units of given sizes never end in bad marks, as no bytes of theirs break a rule
   no_marks : (k at : ℕ) → outcome.end ≢ BadMarks k at
@@ -48,7 +48,7 @@ module _ (units : Units) (size : ℕ → ℕ) (begins : (k : ℕ) (own : List �
   damage_end (BadHeader at) is = absurd (never_bad_header units bytes outcome runs at is)
 
 -- where no unit is bad, and behind the last NoControl stands in place of one byte more
-pub search_end : (units : Units) (size : ℕ → ℕ) → ((k : ℕ) (own : List ℕ) → units.begins k own ≡ sized (size k) own) → units.behind ≡ StopsNoControl
+pub search_end : (units : Units) (size : ℕ → ℕ) → ((k : ℕ) (own : List ℕ) → units.begins k own ≡ sized (size k) own) → units.after_last ≡ StopsNoControl
     → IsNever units Bad
     → (bytes : List ℕ) (outcome : Outcome) → IsOutcome units bytes outcome → (end : LoopEnd) → outcome.end ≡ end → end ≢ ReportFault
     → IsSearchEnd units.count end
@@ -58,7 +58,7 @@ search_end units size begins stands never bytes outcome runs WriteFault is told 
 search_end units size begins stands never bytes outcome runs ReportFault is told = absurd (told refl)
 search_end units size begins stands never bytes outcome runs (Short k held) is told = short_below units bytes outcome runs k held is
 search_end units size begins stands never bytes outcome runs Long is told =
-    absurd (never_long units bytes outcome runs (λ asks. let no : StopsNoControl ≡ Asks = sym stands ∙ asks in cc) is)
+    absurd (never_long units bytes outcome runs (λ asks. let no : StopsNoControl ≡ EndOfInput = sym stands ∙ asks in cc) is)
 search_end units size begins stands never bytes outcome runs (Damaged bad) is told = absurd (never_damaged units bytes outcome runs never bad is)
 search_end units size begins stands never bytes outcome runs NoControl is told = tt
 search_end units size begins stands never bytes outcome runs (BadMarks k at) is told =

@@ -4,12 +4,12 @@ use Rattle.std.specs.List.{flat_map, range_with_len}
 use Rattle.std.proofs.Math.Seq.{drop-append_seam, take-append_seam}
 use Rattle.std.proofs.lemmas.Bool.{cases_lt, eq-eqb, ne_eqb}
 use Rattle.dvd_loop.specs.Laws.{IsFaultless}
-use Rattle.dvd_loop.specs.Machine.{Does, EndsBehind, Goes, IsOutcome, IsUnit, Outcome, Step, Units, bad_of, sized}
-use Rattle.dvd_loop.specs.Turns.{told, written}
-use Rattle.dvd_loop.specs.declared.ends.Behind.TheVariants.{Asks}
+use Rattle.dvd_loop.specs.Machine.{Performs, EndsAfterLast, Continues, IsOutcome, IsUnit, Outcome, Step, Units, bad_of, sized}
+use Rattle.dvd_loop.specs.UnitCommand.{told, written}
+use Rattle.dvd_loop.specs.declared.ends.AfterLast.TheVariants.{EndOfInput}
 use Rattle.dvd_loop.specs.declared.ends.LoopEnd.TheVariants.{Done}
-use Rattle.dvd_loop.specs.declared.ends.Turn.{Turn}
-use Rattle.dvd_loop.specs.declared.ends.Turn.TheVariants.{Good, Last}
+use Rattle.dvd_loop.specs.declared.ends.UnitKind.{UnitKind}
+use Rattle.dvd_loop.specs.declared.ends.UnitKind.TheVariants.{Good, Last}
 use Rattle.dvd_loop.proofs.EndLemmas.{empty}
 use Rattle.dvd_loop.proofs.Faultless.{not_by_fault}
 use Rattle.dvd_loop.proofs.Sizes.{goes_one}
@@ -68,11 +68,11 @@ first_piece k piece others n all is =
 pub record AreGood (units : Units) (size : ℕ → ℕ) (P : ℕ → List ℕ → List ℕ → List ℕ → Type 0) : Type 0 where
   pub begins : (k : ℕ) (bytes : List ℕ) → units.begins k bytes ≡ sized (size k) bytes
   pub opens : units.opens ≡ []
-  pub does : (before : List (List ℕ)) (own : List ℕ) (steps : List Step) (turn : Turn) → length before < units.count
-      → IsUnit units before own steps turn
-      → (turn ≡ Good) × P (length before) own (written steps) (told steps)
+  pub does : (before : List (List ℕ)) (own : List ℕ) (steps : List Step) (kind : UnitKind) → length before < units.count
+      → IsUnit units before own steps kind
+      → (kind ≡ Good) × P (length before) own (written steps) (told steps)
   pub closes : (before : List (List ℕ)) (steps : List Step) → units.closes before steps → steps ≡ []
-  pub asks : units.behind ≡ Asks
+  pub asks : units.after_last ≡ EndOfInput
 
 -- What n units from unit k on write and tell, piece by piece: these are the bytes of all units, and those left from unit k on.
 pub record InPieces (size : ℕ → ℕ) (P : ℕ → List ℕ → List ℕ → List ℕ → Type 0) (k n : ℕ) (all left : List ℕ) (outcome : Outcome) : Type 0 where
@@ -90,7 +90,7 @@ module _ (units : Units) (size : ℕ → ℕ) (P : ℕ → List ℕ → List ℕ
   pieces_as k n all left a x is pieces = subst (InPieces size P k n all left) (sym is) pieces
 
   -- with no units to come and no bytes left, there are no pieces, and the run is done
-  no_more : (k : ℕ) (all : List ℕ) (a : Outcome) → EndsBehind Asks 0 [] a → IsFaultless a.end → InPieces size P k 0 all [] a
+  no_more : (k : ℕ) (all : List ℕ) (a : Outcome) → EndsAfterLast EndOfInput 0 [] a → IsFaultless a.end → InPieces size P k 0 all [] a
   no_more k all a ends none = elim ends [
     | inr fault ↦ absurd (not_by_fault a _ fault (λ f. f) none)
     | inl is ↦ pieces_as k 0 all [] a _ is (record {
@@ -138,13 +138,13 @@ module _ (units : Units) (size : ℕ → ℕ) (P : ℕ → List ℕ → List ℕ
   -- with n units to come and their bytes left, each writes and tells its piece, and the run is done
   goes_over : (n : ℕ) (before : List (List ℕ)) (all front left : List ℕ) (a : Outcome) → all ≡ front ++ left
       → length front ≡ start size (length before) → length before + n ≡ units.count
-      → length all ≡ start size units.count → Goes units n before 0 left a → IsFaultless a.end → InPieces size P (length before) n all left a
-  unfolding Goes
+      → length all ≡ start size units.count → Continues units n before 0 left a → IsFaultless a.end → InPieces size P (length before) n all left a
+  unfolding Continues
   goes_over zero before all front left a is at count whole (steps, closes, does) none =
       let here : length before ≡ units.count = omega arith in
       let nothing : left ≡ [] = empty left (omega (arith, ap length is, length-append front left, ap (start size) here)) in
-      let ends = subst (λ b. EndsBehind b 0 left a) are.asks (subst (λ l. Does l (EndsBehind units.behind 0 left) a) (are.closes before steps closes) does) in
-      subst (λ l. InPieces size P (length before) 0 all l a) (sym nothing) (no_more (length before) all a (subst (λ l. EndsBehind Asks 0 l a) nothing ends) none)
+      let ends = subst (λ b. EndsAfterLast b 0 left a) are.asks (subst (λ l. Performs l (EndsAfterLast units.after_last 0 left) a) (are.closes before steps closes) does) in
+      subst (λ l. InPieces size P (length before) 0 all l a) (sym nothing) (no_more (length before) all a (subst (λ l. EndsAfterLast EndOfInput 0 l a) nothing ends) none)
   goes_over (suc n) before all front left a is at count whole goes none =
       let lt : length before < units.count = omega arith in
       let next : suc (length before) + n ≡ units.count = omega arith in
@@ -153,14 +153,14 @@ module _ (units : Units) (size : ℕ → ℕ) (P : ℕ → List ℕ → List ℕ
       elim (goes_one units size are.begins n before (λ own steps unit. let no : Last ≡ Good = (are.does before own steps Last lt unit).0 in cc) 0 left a goes none) [
         | inl short ↦ absurd (omega (arith, short.fewer, ap length is, length-append front left))
         | inr t ↦
-            let does = are.does before t.own t.steps t.turn lt t.unit in
-            let good : 0 + bad_of t.turn ≡ 0 = ap (λ u. 0 + bad_of u) does.0 in
+            let does = are.does before t.own t.steps t.kind lt t.unit in
+            let good : 0 + bad_of t.kind ≡ 0 = ap (λ u. 0 + bad_of u) does.0 in
             let one : length (before ++ t.own ∷ []) ≡ length before + 1 = length-append before (t.own ∷ []) in
             let parts : all ≡ front ++ (t.own ++ t.left) = is ∙ ap (λ l. front ++ l) t.front in
             let further : length (front ++ t.own) ≡ start size (length (before ++ t.own ∷ [])) =
             length-append front t.own ∙ omega (arith, at, t.size_is, start-suc size (length before)) ∙ ap (start size) (sym (one ∙ add-one (length before))) in
             let r = goes_over n (before ++ t.own ∷ []) all (front ++ t.own) t.left t.after (parts ∙ sym (append_assoc front t.own t.left)) further (omega arith) whole
-            (subst (λ b. Goes units n (before ++ t.own ∷ []) b t.left t.after) good t.goes) t.faultless in
+            (subst (λ b. Continues units n (before ++ t.own ∷ []) b t.left t.after) good t.goes) t.faultless in
             let mine = own_bytes (length before) all front t.own t.left parts at t.size_is in
             pieces_as (length before) (suc n) all left a _ t.is (subst (λ l. InPieces size P (length before) (suc n) all l (onto t.own (written t.steps) (told t.steps) t.after)) (sym t.front)
             (one_more (length before) n all t.own t.left (written t.steps) (told t.steps) t.after (subst (λ l. P (length before) l (written t.steps) (told t.steps)) mine does.1)
@@ -172,7 +172,7 @@ module _ (units : Units) (size : ℕ → ℕ) (P : ℕ → List ℕ → List ℕ
       → InPieces size P 0 units.count bytes bytes a
   over bytes a runs none whole =
       goes_over units.count [] bytes [] bytes a refl (sym (start-zero size)) (omega arith) whole
-      (subst (λ l. Does l (Goes units units.count [] 0 bytes) a) are.opens runs) none
+      (subst (λ l. Performs l (Continues units units.count [] 0 bytes) a) are.opens runs) none
 
 -- The same where each unit's bytes and lines are known by its own bytes.
 pub over_is : (units : Units) (size : ℕ → ℕ) (f g : ℕ → List ℕ → List ℕ) → AreGood units size (λ k own out lines. (out ≡ f k own) × (lines ≡ g k own))

@@ -1,12 +1,12 @@
 -- What the loop has reached before a unit: whatever may come of the units to come is, behind what was done, an outcome of all.
 use Rattle.std.proofs.Common.{◌≡◌, ◌≢◌, inl, inr, ℕ, zero, suc, ◌+◌, ◌<◌, List, [], ◌∷◌, ◌++◌, length, refl, ap, sym, subst, append_assoc, append-nil, length-append, arith}
-use Rattle.dvd_loop.specs.Machine.{Does, EndsBehind, Goes, GoesOn, IsOutcome, IsUnit, Outcome, Step, Units, bad_of, ended, taking}
-use Rattle.dvd_loop.specs.Streams.{Comes, HaveMoved, Streams}
-use Rattle.dvd_loop.specs.Turns.{EndsAt, IsTurnDone, Nothing, told, written}
+use Rattle.dvd_loop.specs.Machine.{Performs, EndsAfterLast, Continues, ContinuesAfter, IsOutcome, IsUnit, Outcome, Step, Units, bad_of, ended, taking}
+use Rattle.dvd_loop.specs.Streams.{HaveReached, HaveMoved, Streams}
+use Rattle.dvd_loop.specs.UnitCommand.{EndsAt, IsUnitDone, Nothing, told, written}
 use Rattle.dvd_loop.specs.declared.ends.LoopEnd.{LoopEnd}
 use Rattle.dvd_loop.specs.declared.ends.LoopEnd.TheVariants.{Done}
-use Rattle.dvd_loop.specs.declared.ends.Turn.{Turn}
-use Rattle.dvd_loop.specs.declared.ends.Turn.TheVariants.{Good, Bad, Last}
+use Rattle.dvd_loop.specs.declared.ends.UnitKind.{UnitKind}
+use Rattle.dvd_loop.specs.declared.ends.UnitKind.TheVariants.{Good, Bad, Last}
 use Rattle.dvd_loop.proofs.StepLemmas.{does_all, does_as, onto, taken_then}
 use Rattle.dvd_loop.proofs.StreamLemmas.{comes_after, left_of, moves_on, stays}
 
@@ -19,7 +19,7 @@ pub record Reached (units : Units) (k : ℕ) (before : List (List ℕ)) (old now
   pub out : List ℕ
   pub lines : List ℕ
   pub moved : HaveMoved old now taken out lines
-  pub reaches : (left : List ℕ) (after : Outcome) → Goes units to_come before bad left after
+  pub reaches : (left : List ℕ) (after : Outcome) → Continues units to_come before bad left after
       → IsOutcome units (taken ++ left) (onto taken out lines after)
 
 -- the steps of a unit, behind what was done before it
@@ -28,16 +28,16 @@ onto_unit : (taken out lines own w t : List ℕ) (after : Outcome)
 onto_unit taken out lines own w t after = simp append_assoc
 
 -- a unit that isn't the last is followed by those to come
-pub goes_on : (turn : Turn) (Goes : Outcome → Type 0) (outcome : Outcome) → turn ≢ Last → Goes outcome → GoesOn turn Goes outcome
-goes_on Good Goes outcome not goes = goes
-goes_on Bad Goes outcome not goes = goes
-goes_on Last Goes outcome not goes = absurd (not refl)
+pub goes_on : (kind : UnitKind) (Continues : Outcome → Type 0) (outcome : Outcome) → kind ≢ Last → Continues outcome → ContinuesAfter kind Continues outcome
+goes_on Good Continues outcome not goes = goes
+goes_on Bad Continues outcome not goes = goes
+goes_on Last Continues outcome not goes = absurd (not refl)
 
 -- and what comes behind it is that
-pub goes_further : (turn : Turn) (Goes : Outcome → Type 0) (outcome : Outcome) → turn ≢ Last → GoesOn turn Goes outcome → Goes outcome
-goes_further Good Goes outcome not goes = goes
-goes_further Bad Goes outcome not goes = goes
-goes_further Last Goes outcome not goes = absurd (not refl)
+pub goes_further : (kind : UnitKind) (Continues : Outcome → Type 0) (outcome : Outcome) → kind ≢ Last → ContinuesAfter kind Continues outcome → Continues outcome
+goes_further Good Continues outcome not goes = goes
+goes_further Bad Continues outcome not goes = goes
+goes_further Last Continues outcome not goes = absurd (not refl)
 
 module _ (units : Units) where
   -- the opening was done
@@ -50,39 +50,39 @@ module _ (units : Units) where
     out = written units.opens;
     lines = told units.opens;
     moved = moved;
-    reaches = λ left after goes. does_all units.opens (Goes units units.count [] 0 left) after goes;
+    reaches = λ left after goes. does_all units.opens (Continues units units.count [] 0 left) after goes;
   }
 
   -- the opening ended the loop
-  pub opening_ends : (old new : Streams) (end : LoopEnd) → Comes (λ bytes. Does units.opens Nothing) old new end → Comes (IsOutcome units) old new end
+  pub opening_ends : (old new : Streams) (end : LoopEnd) → HaveReached (λ bytes. Performs units.opens Nothing) old new end → HaveReached (IsOutcome units) old new end
   opening_ends old new end comes = record {
     bytes = comes.bytes;
     told = comes.told;
     outcome = comes.outcome;
-    holds = does_as units.opens Nothing (Goes units units.count [] 0 comes.bytes) (λ after none. absurd none) comes.outcome comes.holds;
+    holds = does_as units.opens Nothing (Continues units units.count [] 0 comes.bytes) (λ after none. absurd none) comes.outcome comes.holds;
     ends = comes.ends;
     moved = comes.moved;
   }
 
   -- what may come of a unit that was taken and done
-  pub taken_unit : (n : ℕ) (before : List (List ℕ)) (own left : List ℕ) (steps : List Step) (turn : Turn) (bad : ℕ) (after : Outcome)
-      → IsUnit units before own steps turn
-      → GoesOn turn (Goes units n (before ++ own ∷ []) (bad + bad_of turn) left) after
-      → Goes units (suc n) before bad (own ++ left) (taking own (onto [] (written steps) (told steps) after))
-  unfolding Goes
-  taken_unit n before own left steps turn bad after unit goes =
-      inr (taken_then units before _ (own ++ left) own left steps turn _ (onto [] (written steps) (told steps) after) refl unit
-      (does_all steps (GoesOn turn (Goes units n (before ++ own ∷ []) (bad + bad_of turn) left)) after goes) refl)
+  pub taken_unit : (n : ℕ) (before : List (List ℕ)) (own left : List ℕ) (steps : List Step) (kind : UnitKind) (bad : ℕ) (after : Outcome)
+      → IsUnit units before own steps kind
+      → ContinuesAfter kind (Continues units n (before ++ own ∷ []) (bad + bad_of kind) left) after
+      → Continues units (suc n) before bad (own ++ left) (taking own (onto [] (written steps) (told steps) after))
+  unfolding Continues
+  taken_unit n before own left steps kind bad after unit goes =
+      inr (taken_then units before _ (own ++ left) own left steps kind _ (onto [] (written steps) (told steps) after) refl unit
+      (does_all steps (ContinuesAfter kind (Continues units n (before ++ own ∷ []) (bad + bad_of kind) left)) after goes) refl)
 
   -- a loop that ends within a unit or its steps
   ends_at : (n : ℕ) (before : List (List ℕ)) (bad : ℕ) (bytes : List ℕ) (outcome : Outcome) → EndsAt units before bytes outcome
-      → Goes units (suc n) before bad bytes outcome
-  unfolding Goes
+      → Continues units (suc n) before bad bytes outcome
+  unfolding Continues
   ends_at n before bad bytes outcome at = elim at [
     | inl within ↦ inl within
     | inr t ↦
-        inr (taken_then units before _ bytes t.own t.left t.steps t.turn outcome t.after t.front t.unit
-        (does_as t.steps Nothing (GoesOn t.turn (Goes units n (before ++ t.own ∷ []) (bad + bad_of t.turn) t.left)) (λ after none. absurd none) t.after t.does) t.takes)
+        inr (taken_then units before _ bytes t.own t.left t.steps t.kind outcome t.after t.front t.unit
+        (does_as t.steps Nothing (ContinuesAfter t.kind (Continues units n (before ++ t.own ∷ []) (bad + bad_of t.kind) t.left)) (λ after none. absurd none) t.after t.does) t.takes)
   ]
 
   module _ (k : ℕ) (before : List (List ℕ)) (old now : Streams) (bad : ℕ) (r : Reached units k before old now bad) where
@@ -94,27 +94,27 @@ module _ (units : Units) where
     ] r.all
 
     -- the outcome of all where the loop goes on with that unit
-    reaches_next : (n : ℕ) → r.to_come ≡ suc n → (left : List ℕ) (after : Outcome) → Goes units (suc n) before bad left after
+    reaches_next : (n : ℕ) → r.to_come ≡ suc n → (left : List ℕ) (after : Outcome) → Continues units (suc n) before bad left after
         → IsOutcome units (r.taken ++ left) (onto r.taken r.out r.lines after)
-    reaches_next n is left after goes = r.reaches left after (subst (λ m. Goes units m before bad left after) (sym is) goes)
+    reaches_next n is left after goes = r.reaches left after (subst (λ m. Continues units m before bad left after) (sym is) goes)
 
     -- the outcome of all where that unit was taken and done
-    reaches_taken : (n : ℕ) → r.to_come ≡ suc n → (own left : List ℕ) (steps : List Step) (turn : Turn) (after : Outcome)
-        → IsUnit units before own steps turn
-        → GoesOn turn (Goes units n (before ++ own ∷ []) (bad + bad_of turn) left) after
+    reaches_taken : (n : ℕ) → r.to_come ≡ suc n → (own left : List ℕ) (steps : List Step) (kind : UnitKind) (after : Outcome)
+        → IsUnit units before own steps kind
+        → ContinuesAfter kind (Continues units n (before ++ own ∷ []) (bad + bad_of kind) left) after
         → IsOutcome units ((r.taken ++ own) ++ left) (onto (r.taken ++ own) (r.out ++ written steps) (r.lines ++ told steps) after)
-    reaches_taken n is own left steps turn after unit goes =
+    reaches_taken n is own left steps kind after unit goes =
         subst (λ l. IsOutcome units l (onto (r.taken ++ own) (r.out ++ written steps) (r.lines ++ told steps) after)) (sym (append_assoc r.taken own left))
         (subst (IsOutcome units (r.taken ++ (own ++ left))) (onto_unit r.taken r.out r.lines own (written steps) (told steps) after)
-        (reaches_next n is (own ++ left) (taking own (onto [] (written steps) (told steps) after)) (taken_unit n before own left steps turn bad after unit goes)))
+        (reaches_next n is (own ++ left) (taking own (onto [] (written steps) (told steps) after)) (taken_unit n before own left steps kind bad after unit goes)))
 
-    module _ (ready : List (List ℕ) → Type 0) (new : Streams) (turn : Turn) (t : IsTurnDone units before ready now new turn) (lt : k < units.count) where
+    module _ (ready : List (List ℕ) → Type 0) (new : Streams) (kind : UnitKind) (t : IsUnitDone units before ready now new kind) (lt : k < units.count) where
       -- what was taken, written and told up to behind this unit: that before it, and then its own
       moved_next : HaveMoved old new (r.taken ++ t.own) (r.out ++ written t.steps) (r.lines ++ told t.steps)
       moved_next = moves_on old now new r.taken r.out r.lines t.own (written t.steps) (told t.steps) r.moved t.moved
 
       -- the unit was taken and done, and more may come
-      pub reached_next : turn ≢ Last → (more_bad : ℕ) → more_bad ≡ bad + bad_of turn → Reached units (k + 1) (before ++ t.own ∷ []) old new more_bad
+      pub reached_next : kind ≢ Last → (more_bad : ℕ) → more_bad ≡ bad + bad_of kind → Reached units (k + 1) (before ++ t.own ∷ []) old new more_bad
       reached_next not more_bad is_bad =
           let n = more lt in record {
             to_come = n.0;
@@ -125,23 +125,23 @@ module _ (units : Units) where
             lines = r.lines ++ told t.steps;
             moved = moved_next;
             reaches = λ left after goes.
-                reaches_taken n.0 n.1 t.own left t.steps turn after t.unit
-                (goes_on turn (Goes units n.0 (before ++ t.own ∷ []) (bad + bad_of turn) left) after not (subst (λ b. Goes units n.0 (before ++ t.own ∷ []) b left after) is_bad goes));
+                reaches_taken n.0 n.1 t.own left t.steps kind after t.unit
+                (goes_on kind (Continues units n.0 (before ++ t.own ∷ []) (bad + bad_of kind) left) after not (subst (λ b. Continues units n.0 (before ++ t.own ∷ []) b left after) is_bad goes));
           }
 
       -- the unit was the last
-      pub last_ends : turn ≡ Last → Comes (IsOutcome units) old new Done
+      pub last_ends : kind ≡ Last → HaveReached (IsOutcome units) old new Done
       last_ends is_last =
           let n = more lt in
           let left = left_of new.source.bytes in
-          let goes : GoesOn turn (Goes units n.0 (before ++ t.own ∷ []) (bad + bad_of turn) left.0) (ended Done) =
-          subst (λ u. GoesOn u (Goes units n.0 (before ++ t.own ∷ []) (bad + bad_of turn) left.0) (ended Done)) (sym is_last) refl in
+          let goes : ContinuesAfter kind (Continues units n.0 (before ++ t.own ∷ []) (bad + bad_of kind) left.0) (ended Done) =
+          subst (λ u. ContinuesAfter u (Continues units n.0 (before ++ t.own ∷ []) (bad + bad_of kind) left.0) (ended Done)) (sym is_last) refl in
           comes_after (λ bytes outcome. (bytes ≡ left.0) × (outcome ≡ ended Done)) (IsOutcome units) old new new Done
           (r.taken ++ t.own) (r.out ++ written t.steps) (r.lines ++ told t.steps) moved_next
           (λ bytes after is.
           subst (λ l. IsOutcome units ((r.taken ++ t.own) ++ l) (onto (r.taken ++ t.own) (r.out ++ written t.steps) (r.lines ++ told t.steps) after)) (sym is.0)
           (subst (λ o. IsOutcome units ((r.taken ++ t.own) ++ left.0) (onto (r.taken ++ t.own) (r.out ++ written t.steps) (r.lines ++ told t.steps) o)) (sym is.1)
-          (reaches_taken n.0 n.1 t.own left.0 t.steps turn (ended Done) t.unit goes)))
+          (reaches_taken n.0 n.1 t.own left.0 t.steps kind (ended Done) t.unit goes)))
           (record {
             bytes = left.0;
             told = left.1;
@@ -152,35 +152,35 @@ module _ (units : Units) where
           })
 
     -- the unit ended the loop
-    pub turn_ends : (new : Streams) (end : LoopEnd) → k < units.count → Comes (EndsAt units before) now new end → Comes (IsOutcome units) old new end
-    turn_ends new end lt comes =
+    pub unit_ends : (new : Streams) (end : LoopEnd) → k < units.count → HaveReached (EndsAt units before) now new end → HaveReached (IsOutcome units) old new end
+    unit_ends new end lt comes =
         let n = more lt in
         comes_after (EndsAt units before) (IsOutcome units) old now new end r.taken r.out r.lines r.moved
         (λ left after at. reaches_next n.0 n.1 left after (ends_at n.0 before bad left after at)) comes
 
     module _ (all : k ≡ units.count) (steps : List Step) (closes : units.closes before steps) where
       -- behind all units and the closing steps, what comes of the bytes left is an outcome of all
-      reaches_closed : (left : List ℕ) (after : Outcome) → Does steps (EndsBehind units.behind bad left) after
+      reaches_closed : (left : List ℕ) (after : Outcome) → Performs steps (EndsAfterLast units.after_last bad left) after
           → IsOutcome units (r.taken ++ left) (onto r.taken r.out r.lines after)
-      unfolding Goes
+      unfolding Continues
       reaches_closed left after does =
           let none : r.to_come ≡ 0 = omega (arith, r.all) in
-          r.reaches left after (subst (λ m. Goes units m before bad left after) (sym none) (steps, closes, does))
+          r.reaches left after (subst (λ m. Continues units m before bad left after) (sym none) (steps, closes, does))
 
       -- the closing ended the loop
-      pub closing_ends : (new : Streams) (end : LoopEnd) → Comes (λ bytes. Does steps Nothing) now new end → Comes (IsOutcome units) old new end
+      pub closing_ends : (new : Streams) (end : LoopEnd) → HaveReached (λ bytes. Performs steps Nothing) now new end → HaveReached (IsOutcome units) old new end
       closing_ends new end comes =
-          comes_after (λ bytes. Does steps Nothing) (IsOutcome units) old now new end r.taken r.out r.lines r.moved
-          (λ left after does. reaches_closed left after (does_as steps Nothing (EndsBehind units.behind bad left) (λ o none. absurd none) after does)) comes
+          comes_after (λ bytes. Performs steps Nothing) (IsOutcome units) old now new end r.taken r.out r.lines r.moved
+          (λ left after does. reaches_closed left after (does_as steps Nothing (EndsAfterLast units.after_last bad left) (λ o none. absurd none) after does)) comes
 
       -- what stands behind the closing ended it
       pub behind_ends : (mid new : Streams) (end : LoopEnd) → HaveMoved now mid [] (written steps) (told steps)
-          → Comes (EndsBehind units.behind bad) mid new end → Comes (IsOutcome units) old new end
+          → HaveReached (EndsAfterLast units.after_last bad) mid new end → HaveReached (IsOutcome units) old new end
       behind_ends mid new end moved comes =
-          comes_after (EndsBehind units.behind bad) (IsOutcome units) old mid new end (r.taken ++ []) (r.out ++ written steps) (r.lines ++ told steps)
+          comes_after (EndsAfterLast units.after_last bad) (IsOutcome units) old mid new end (r.taken ++ []) (r.out ++ written steps) (r.lines ++ told steps)
           (moves_on old now mid r.taken r.out r.lines [] (written steps) (told steps) r.moved moved)
           (λ left after holds.
           subst (λ l. IsOutcome units l (onto (r.taken ++ []) (r.out ++ written steps) (r.lines ++ told steps) after)) (ap (λ l. l ++ left) (sym (append-nil r.taken)))
           (subst (IsOutcome units (r.taken ++ left)) (onto_unit r.taken r.out r.lines [] (written steps) (told steps) after)
-          (reaches_closed left (onto [] (written steps) (told steps) after) (does_all steps (EndsBehind units.behind bad left) after holds))))
+          (reaches_closed left (onto [] (written steps) (told steps) after) (does_all steps (EndsAfterLast units.after_last bad left) after holds))))
           comes

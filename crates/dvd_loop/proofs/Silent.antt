@@ -4,14 +4,14 @@ use Rattle.std.specs.Io.KnownBytes.{Appends}
 use Rattle.dvd_ports.proofs.StopLemmas.{unmoved}
 use Rattle.dvd_ports.specs.Seen.{Seen}
 use Rattle.dvd_ports.proofs.KnownLemmas.{Appends-none}
-use Rattle.dvd_loop.specs.Machine.{Does, EndsBehind, Goes, GoesOn, IsOutcome, Outcome, Step, Units, bad_of, plain_units}
+use Rattle.dvd_loop.specs.Machine.{Performs, EndsAfterLast, Continues, ContinuesAfter, IsOutcome, Outcome, Step, Units, bad_of, plain_units}
 use Rattle.dvd_loop.specs.Machine.Step.{Write, Tell}
 use Rattle.dvd_loop.specs.Streams.{Counts, HasEnded, is_report_fault, no_stream, streams}
-use Rattle.dvd_loop.specs.declared.ends.Behind.{Behind}
-use Rattle.dvd_loop.specs.declared.ends.Behind.TheVariants as behind
+use Rattle.dvd_loop.specs.declared.ends.AfterLast.{AfterLast}
+use Rattle.dvd_loop.specs.declared.ends.AfterLast.TheVariants as after_last
 use Rattle.dvd_loop.specs.declared.ends.LoopEnd.{LoopEnd}
-use Rattle.dvd_loop.specs.declared.ends.Turn.{Turn}
-use Rattle.dvd_loop.specs.declared.ends.Turn.TheVariants.{Good, Bad, Last}
+use Rattle.dvd_loop.specs.declared.ends.UnitKind.{UnitKind}
+use Rattle.dvd_loop.specs.declared.ends.UnitKind.TheVariants.{Good, Bad, Last}
 
 -- all of these steps write
 abbrev pub AreWrites : List Step → Type 0
@@ -22,7 +22,7 @@ AreWrites (Tell line ∷ steps) = ⊥
 -- no step of these units tells a line
 pub record AreSilent (units : Units) : Type 0 where
   pub opens : AreWrites units.opens
-  pub does : (k : ℕ) (before : List (List ℕ)) (own : List ℕ) (steps : List Step) (turn : Turn) → units.does k before own steps turn → AreWrites steps
+  pub does : (k : ℕ) (before : List (List ℕ)) (own : List ℕ) (steps : List Step) (kind : UnitKind) → units.does k before own steps kind → AreWrites steps
   pub closes : (before : List (List ℕ)) (steps : List Step) → units.closes before steps → AreWrites steps
 
 -- a write alone
@@ -30,11 +30,11 @@ pub one_write : (steps : List Step) (bytes : List ℕ) → steps ≡ Write bytes
 one_write steps bytes is = subst AreWrites (sym is) tt
 
 -- units that nothing opens or closes, and for each of which there are only writes
-pub plain_silent : (count : ℕ) (size : ℕ → ℕ) (does : ℕ → List ℕ → List Step → Turn → Type 0)
-    → ((k : ℕ) (own : List ℕ) (steps : List Step) (turn : Turn) → does k own steps turn → AreWrites steps) → AreSilent (plain_units count size does)
+pub plain_silent : (count : ℕ) (size : ℕ → ℕ) (does : ℕ → List ℕ → List Step → UnitKind → Type 0)
+    → ((k : ℕ) (own : List ℕ) (steps : List Step) (kind : UnitKind) → does k own steps kind → AreWrites steps) → AreSilent (plain_units count size does)
 plain_silent count size does write = record {
   opens = tt;
-  does = λ k before own steps turn done. write k own steps turn done;
+  does = λ k before own steps kind done. write k own steps kind done;
   closes = λ before steps is. subst AreWrites (sym is) tt;
 }
 
@@ -47,7 +47,7 @@ no_lines : (a b : Outcome) → a ≡ b → b.lines ≡ [] → a.lines ≡ []
 no_lines a b is none = ap (λ (o : Outcome). o.lines) is ∙ none
 
 -- behind steps that write, and where one of them fails
-steps_silent : (steps : List Step) → AreWrites steps → (A : Outcome → Type 0) → HaveNoLines A → HaveNoLines (Does steps A)
+steps_silent : (steps : List Step) → AreWrites steps → (A : Outcome → Type 0) → HaveNoLines A → HaveNoLines (Performs steps A)
 steps_silent [] are A none a does = none a does
 steps_silent (Write bytes ∷ steps) are A none a does = elim does [
   | inl (front, left, whole, some, fails) ↦ no_lines a _ fails refl
@@ -56,23 +56,23 @@ steps_silent (Write bytes ∷ steps) are A none a does = elim does [
 steps_silent (Tell line ∷ steps) are A none a does = absurd are
 
 -- behind the last unit
-behind_silent : (stands : Behind) (bad : ℕ) (left : List ℕ) → HaveNoLines (EndsBehind stands bad left)
-behind_silent behind.Done bad left a is = no_lines a _ is refl
-behind_silent behind.NoControl bad left a is = no_lines a _ is refl
-behind_silent behind.Asks bad [] a ends = elim ends [
+behind_silent : (stands : AfterLast) (bad : ℕ) (left : List ℕ) → HaveNoLines (EndsAfterLast stands bad left)
+behind_silent after_last.Done bad left a is = no_lines a _ is refl
+behind_silent after_last.NoControl bad left a is = no_lines a _ is refl
+behind_silent after_last.EndOfInput bad [] a ends = elim ends [
   | inl is ↦ no_lines a _ is refl
   | inr is ↦ no_lines a _ is refl
 ]
-behind_silent behind.Asks bad (byte ∷ left) a ends = elim ends [
+behind_silent after_last.EndOfInput bad (byte ∷ left) a ends = elim ends [
   | inl is ↦ no_lines a _ is refl
   | inr is ↦ no_lines a _ is refl
 ]
 
 -- behind a unit
-turn_silent : (turn : Turn) (A : Outcome → Type 0) → HaveNoLines A → HaveNoLines (GoesOn turn A)
-turn_silent Good A none a goes = none a goes
-turn_silent Bad A none a goes = none a goes
-turn_silent Last A none a is = no_lines a _ is refl
+kind_silent : (kind : UnitKind) (A : Outcome → Type 0) → HaveNoLines A → HaveNoLines (ContinuesAfter kind A)
+kind_silent Good A none a goes = none a goes
+kind_silent Bad A none a goes = none a goes
+kind_silent Last A none a is = no_lines a _ is refl
 
 -- a stream that is not there never failed, and so one that nobody touched hasn't
 none_failed : (fails : Bool) (s : Seen) → Counts fails no_stream no_stream → Counts fails s s
@@ -81,16 +81,16 @@ none_failed true s failed = absurd (omega (arith, failed.faults))
 
 module _ (units : Units) (are : AreSilent units) where
   -- from a unit on
-  goes_silent : (n : ℕ) (before : List (List ℕ)) (bad : ℕ) (bytes : List ℕ) → HaveNoLines (Goes units n before bad bytes)
-  unfolding Goes
+  goes_silent : (n : ℕ) (before : List (List ℕ)) (bad : ℕ) (bytes : List ℕ) → HaveNoLines (Continues units n before bad bytes)
+  unfolding Continues
   goes_silent zero before bad bytes a (steps, closes, does) =
-      steps_silent steps (are.closes before steps closes) (EndsBehind units.behind bad bytes) (behind_silent units.behind bad bytes) a does
+      steps_silent steps (are.closes before steps closes) (EndsAfterLast units.after_last bad bytes) (behind_silent units.after_last bad bytes) a does
   goes_silent (suc n) before bad bytes a goes = elim goes [
     | inl w ↦ no_lines a _ w.takes refl
     | inr t ↦
-        let Next = Goes units n (before ++ t.own ∷ []) (bad + bad_of t.turn) t.left in
-        no_lines a _ t.takes (steps_silent t.steps (are.does (length before) before t.own t.steps t.turn t.unit.does) (GoesOn t.turn Next)
-        (turn_silent t.turn Next (goes_silent n (before ++ t.own ∷ []) (bad + bad_of t.turn) t.left)) t.after t.does)
+        let Next = Continues units n (before ++ t.own ∷ []) (bad + bad_of t.kind) t.left in
+        no_lines a _ t.takes (steps_silent t.steps (are.does (length before) before t.own t.steps t.kind t.unit.does) (ContinuesAfter t.kind Next)
+        (kind_silent t.kind Next (goes_silent n (before ++ t.own ∷ []) (bad + bad_of t.kind) t.left)) t.after t.does)
   ]
 
   -- a run without a report is one beside any
@@ -99,7 +99,7 @@ module _ (units : Units) (are : AreSilent units) where
       → HasEnded (IsOutcome units) (streams source output report) (streams new_source new_output report) end
   beside source new_source output new_output report end ended =
       let comes = ended.comes in
-      let none = steps_silent units.opens are.opens (Goes units units.count [] 0 comes.bytes) (goes_silent units.count [] 0 comes.bytes) comes.outcome comes.holds in
+      let none = steps_silent units.opens are.opens (Continues units units.count [] 0 comes.bytes) (goes_silent units.count [] 0 comes.bytes) comes.outcome comes.holds in
       record {
         comes = record {
           bytes = comes.bytes;

@@ -4,12 +4,12 @@ use Rattle.std.specs.Prelude.{◌↔◌}
 use Rattle.std.proofs.lemmas.Bool.{cases_lt, le-leb, lt-leb}
 use Rattle.std.proofs.lemmas.List.{length-take-le, take-append-drop}
 use Rattle.dvd_loop.specs.Laws.{IsFaultless}
-use Rattle.dvd_loop.specs.Machine.{Goes, GoesOn, IsUnit, IsEndedWithin, Outcome, Step, Units, bad_of, ended, taking, sized}
-use Rattle.dvd_loop.specs.Machine.Part.{Whole, Cut, Broken}
-use Rattle.dvd_loop.specs.Turns.{told, written}
+use Rattle.dvd_loop.specs.Machine.{Continues, ContinuesAfter, IsUnit, IsEndedWithin, Outcome, Step, Units, bad_of, ended, taking, sized}
+use Rattle.dvd_loop.specs.Machine.Prefix.{Whole, Cut, Broken}
+use Rattle.dvd_loop.specs.UnitCommand.{told, written}
 use Rattle.dvd_loop.specs.declared.ends.LoopEnd.TheVariants.{Short}
-use Rattle.dvd_loop.specs.declared.ends.Turn.{Turn}
-use Rattle.dvd_loop.specs.declared.ends.Turn.TheVariants.{Last}
+use Rattle.dvd_loop.specs.declared.ends.UnitKind.{UnitKind}
+use Rattle.dvd_loop.specs.declared.ends.UnitKind.TheVariants.{Last}
 use Rattle.dvd_loop.proofs.Faultless.{all_done, faultless_behind, short_or_broken}
 use Rattle.dvd_loop.proofs.Reached.{goes_further}
 use Rattle.dvd_loop.proofs.StepLemmas.{onto}
@@ -92,37 +92,37 @@ module _ (units : Units) (size : ℕ → ℕ) (begins : (k : ℕ) (bytes : List 
     pub own : List ℕ
     pub left : List ℕ
     pub steps : List Step
-    pub turn : Turn
+    pub kind : UnitKind
     pub front : bytes ≡ own ++ left
     pub size_is : length own ≡ size (length before)
-    pub unit : IsUnit units before own steps turn
+    pub unit : IsUnit units before own steps kind
     pub after : Outcome
-    pub goes : Goes units n (before ++ own ∷ []) (bad + bad_of turn) left after
+    pub goes : Continues units n (before ++ own ∷ []) (bad + bad_of kind) left after
     pub is : outcome ≡ onto own (written steps) (told steps) after
     pub faultless : IsFaultless after.end
 
   -- one unit of a run without a fault: too few bytes are left for it, or it is taken and done
   pub goes_one : (n : ℕ) (before : List (List ℕ)) → ((own : List ℕ) (steps : List Step) → IsUnit units before own steps Last → ⊥)
-      → (bad : ℕ) (bytes : List ℕ) (outcome : Outcome) → Goes units (suc n) before bad bytes outcome → IsFaultless outcome.end
+      → (bad : ℕ) (bytes : List ℕ) (outcome : Outcome) → Continues units (suc n) before bad bytes outcome → IsFaultless outcome.end
       → IsShort (length before) bytes outcome ⊎ TakesOne n before bad bytes outcome
-  unfolding Goes
+  unfolding Continues
   goes_one n before never bad bytes outcome goes none = elim goes [
     | inl w ↦ inl (within_short (length before) bytes outcome w none)
     | inr t ↦
-        let Next = Goes units n (before ++ t.own ∷ []) (bad + bad_of t.turn) t.left in
+        let Next = Continues units n (before ++ t.own ∷ []) (bad + bad_of t.kind) t.left in
         let faultless = subst (λ (o : Outcome). IsFaultless o.end) t.takes none in
-        let done = all_done t.steps (GoesOn t.turn Next) t.after t.does faultless in
+        let done = all_done t.steps (ContinuesAfter t.kind Next) t.after t.does faultless in
         inr (record {
           own = t.own;
           left = t.left;
           steps = t.steps;
-          turn = t.turn;
+          kind = t.kind;
           front = t.front;
           size_is = unit_size (length before) t.own t.unit.whole;
           unit = t.unit;
           after = done.after;
-          goes = goes_further t.turn Next done.after (λ is. never t.own t.steps (subst (IsUnit units before t.own t.steps) is t.unit)) done.holds;
+          goes = goes_further t.kind Next done.after (λ is. never t.own t.steps (subst (IsUnit units before t.own t.steps) is t.unit)) done.holds;
           is = t.takes ∙ ap (taking t.own) done.is;
-          faultless = faultless_behind t.steps (GoesOn t.turn Next) t.after done faultless;
+          faultless = faultless_behind t.steps (ContinuesAfter t.kind Next) t.after done faultless;
         })
   ]

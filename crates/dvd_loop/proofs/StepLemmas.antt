@@ -1,9 +1,9 @@
 -- Steps that are taken: all of them, some of them, and with other things behind them.
 use Rattle.std.proofs.Common.{◌≡◌, inl, inr, List, [], ◌∷◌, ◌++◌, ℕ, ap, append_assoc}
-use Rattle.dvd_loop.specs.Machine.{Does, IsTaken, IsUnit, Outcome, Step, Units, taking}
+use Rattle.dvd_loop.specs.Machine.{Performs, IsTaken, IsUnit, Outcome, Step, Units, taking}
 use Rattle.dvd_loop.specs.Machine.Step.{Write, Tell}
-use Rattle.dvd_loop.specs.Turns.{told, written}
-use Rattle.dvd_loop.specs.declared.ends.Turn.{Turn}
+use Rattle.dvd_loop.specs.UnitCommand.{told, written}
+use Rattle.dvd_loop.specs.declared.ends.UnitKind.{UnitKind}
 
 -- so much was taken, written and told, and then what came after
 abbrev pub onto : List ℕ → List ℕ → List ℕ → Outcome → Outcome
@@ -15,7 +15,7 @@ and_then loop line = record { taken = loop.taken ++ line.taken; out = loop.out +
 
 -- all steps were taken, and then came what After says
 pub does_all : (steps : List Step) (After : Outcome → Type 0) (after : Outcome) → After after
-    → Does steps After (onto [] (written steps) (told steps) after)
+    → Performs steps After (onto [] (written steps) (told steps) after)
 does_all [] After after holds = holds
 does_all (Write bytes ∷ steps) After after holds = inr (
   onto [] (written steps) (told steps) after,
@@ -29,8 +29,8 @@ does_all (Tell line ∷ steps) After after holds = inr (
 )
 
 -- what holds of what comes behind steps may be said otherwise
-pub does_as : (steps : List Step) (A B : Outcome → Type 0) → ((after : Outcome) → A after → B after) → (outcome : Outcome) → Does steps A outcome
-    → Does steps B outcome
+pub does_as : (steps : List Step) (A B : Outcome → Type 0) → ((after : Outcome) → A after → B after) → (outcome : Outcome) → Performs steps A outcome
+    → Performs steps B outcome
 does_as [] A B to outcome does = to outcome does
 does_as (step ∷ steps) A B to outcome does = elim does [
   | inl fails ↦ inl fails
@@ -38,8 +38,8 @@ does_as (step ∷ steps) A B to outcome does = elim does [
 ]
 
 -- behind the steps of one list stand those of another
-pub does_then : (steps more : List Step) (After : Outcome → Type 0) (outcome : Outcome) → Does steps (Does more After) outcome
-    → Does (steps ++ more) After outcome
+pub does_then : (steps more : List Step) (After : Outcome → Type 0) (outcome : Outcome) → Performs steps (Performs more After) outcome
+    → Performs (steps ++ more) After outcome
 does_then [] more After outcome does = does
 does_then (step ∷ steps) more After outcome does = elim does [
   | inl fails ↦ inl fails
@@ -47,8 +47,8 @@ does_then (step ∷ steps) more After outcome does = elim does [
 ]
 
 -- a unit whose bytes stand in front is taken with its steps, and then comes what After says
-pub taken_then : (units : Units) (before : List (List ℕ)) (After : List ℕ → List ℕ → Turn → Outcome → Type 0) (bytes own left : List ℕ) (steps : List Step) (turn : Turn) (outcome after : Outcome)
-    → bytes ≡ own ++ left → IsUnit units before own steps turn → Does steps (After own left turn) after → outcome ≡ taking own after
+pub taken_then : (units : Units) (before : List (List ℕ)) (After : List ℕ → List ℕ → UnitKind → Outcome → Type 0) (bytes own left : List ℕ) (steps : List Step) (kind : UnitKind) (outcome after : Outcome)
+    → bytes ≡ own ++ left → IsUnit units before own steps kind → Performs steps (After own left kind) after → outcome ≡ taking own after
     → IsTaken units before After bytes outcome
-taken_then units before After bytes own left steps turn outcome after front unit does takes =
-    record { own = own; left = left; steps = steps; turn = turn; front = front; unit = unit; after = after; does = does; takes = takes }
+taken_then units before After bytes own left steps kind outcome after front unit does takes =
+    record { own = own; left = left; steps = steps; kind = kind; front = front; unit = unit; after = after; does = does; takes = takes }

@@ -6,7 +6,7 @@ use Rattle.dvd_ports.proofs.StopLemmas.{ends_after, fails_after, goes_on, unmove
 use Rattle.dvd_ports.specs.Causes.{HasGoneOn}
 use Rattle.dvd_ports.specs.Seen.{Seen}
 use Rattle.dvd_loop.specs.Machine.{Outcome}
-use Rattle.dvd_loop.specs.Streams.{Comes, Counts, HasEnded, HaveCauses, HaveGoneOn, HaveMoved, IsTold, SourceCounts, Streams, is_report_fault, is_write_fault, streams}
+use Rattle.dvd_loop.specs.Streams.{HaveReached, Counts, HasEnded, HaveCauses, HaveGoneOn, HaveMoved, IsTold, SourceCounts, Streams, is_report_fault, is_write_fault, streams}
 use Rattle.dvd_loop.specs.declared.ends.LoopEnd.{LoopEnd}
 use Rattle.dvd_loop.specs.declared.ends.LoopEnd.TheVariants.{Damaged, Done, ReadFault, Short, ShortHeader}
 use Rattle.dvd_loop.proofs.StepLemmas.{and_then, onto}
@@ -47,14 +47,14 @@ none_left (Some bytes) end = end
 
 -- An outcome that rests on no bytes of the source.
 pub comes_of_none : (P : Outcome → Type 0) (old new : Streams) (outcome : Outcome) → P outcome → HaveMoved old new outcome.taken outcome.out outcome.lines
-    → Comes (λ bytes. P) old new outcome.end
+    → HaveReached (λ bytes. P) old new outcome.end
 comes_of_none P old new outcome holds moved =
     let left = left_of old.source.bytes in record { bytes = left.0; told = left.1; outcome = outcome; holds = holds; ends = refl; moved = moved }
 
 -- What a loop has come to, where the streams had moved before.
 pub comes_after : (P Q : List ℕ → Outcome → Type 0) (old now new : Streams) (end : LoopEnd) (taken out lines : List ℕ)
     → HaveMoved old now taken out lines
-    → ((left : List ℕ) (after : Outcome) → P left after → Q (taken ++ left) (onto taken out lines after)) → Comes P now new end → Comes Q old new end
+    → ((left : List ℕ) (after : Outcome) → P left after → Q (taken ++ left) (onto taken out lines after)) → HaveReached P now new end → HaveReached Q old new end
 comes_after P Q old now new end taken out lines moved reaches comes = record {
   bytes = taken ++ comes.bytes;
   told = told_before _ _ taken comes.bytes moved.reads comes.told;
@@ -138,7 +138,7 @@ ended_as P Q old new end to ended =
 -- A loop and then its closing line: what both have come to.
 pub comes_then : (P : List ℕ → Outcome → Type 0) (Q : Outcome → Type 0) (R : List ℕ → Outcome → Type 0) (old mid new : Streams) (within end : LoopEnd)
     → ((bytes : List ℕ) (loop line : Outcome) → P bytes loop → loop.end ≡ within → Q line → line.taken ≡ [] → R bytes (and_then loop line))
-    → ((line : Outcome) → Q line → line.taken ≡ []) → Comes P old mid within → Comes (λ bytes. Q) mid new end → Comes R old new end
+    → ((line : Outcome) → Q line → line.taken ≡ []) → HaveReached P old mid within → HaveReached (λ bytes. Q) mid new end → HaveReached R old new end
 comes_then P Q R old mid new within end to takes loop line =
     let none = takes line.outcome line.holds in record {
       bytes = loop.bytes;

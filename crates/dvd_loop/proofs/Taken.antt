@@ -1,46 +1,46 @@
 -- What a run that ends as done has taken: the bytes of all units.
 use Rattle.std.proofs.Common.{◌≡◌, inl, inr, ℕ, zero, suc, ◌+◌, List, [], ◌∷◌, ◌++◌, length, length-append, refl, ap, sym, subst, ◌∙◌, add-one, arith}
 use Rattle.dvd_loop.specs.Laws.{IsFaultless, IsNever}
-use Rattle.dvd_loop.specs.Machine.{Does, EndsBehind, Goes, IsOutcome, Outcome, Units, bad_of, sized}
-use Rattle.dvd_loop.specs.Turns.{told, written}
-use Rattle.dvd_loop.specs.declared.ends.Behind.{Behind}
-use Rattle.dvd_loop.specs.declared.ends.Behind.TheVariants as behind
+use Rattle.dvd_loop.specs.Machine.{Performs, EndsAfterLast, Continues, IsOutcome, Outcome, Units, bad_of, sized}
+use Rattle.dvd_loop.specs.UnitCommand.{told, written}
+use Rattle.dvd_loop.specs.declared.ends.AfterLast.{AfterLast}
+use Rattle.dvd_loop.specs.declared.ends.AfterLast.TheVariants as after_last
 use Rattle.dvd_loop.specs.declared.ends.LoopEnd.TheVariants.{Done, Long, NoControl, ReadFault, Short}
-use Rattle.dvd_loop.specs.declared.ends.Turn.TheVariants.{Last}
+use Rattle.dvd_loop.specs.declared.ends.UnitKind.TheVariants.{Last}
 use Rattle.dvd_loop.proofs.Faultless.{all_done}
 use Rattle.dvd_loop.proofs.Over.{start, start-suc, start-zero}
 use Rattle.dvd_loop.proofs.Sizes.{goes_one}
 use Rattle.dvd_loop.proofs.StepLemmas.{onto}
 
 -- So many bytes are taken, and all of them where one more is asked for behind the last unit.
-record TakesAll (stands : Behind) (count : ℕ) (bytes : List ℕ) (a : Outcome) : Type 0 where
+record TakesAll (stands : AfterLast) (count : ℕ) (bytes : List ℕ) (a : Outcome) : Type 0 where
   number : length a.taken ≡ count
-  all : stands ≡ behind.Asks → a.taken ≡ bytes
+  all : stands ≡ after_last.EndOfInput → a.taken ≡ bytes
 
 -- an outcome equal to one that ends as done ends so too
 end_is : (a b : Outcome) → a ≡ b → a.end ≡ Done → b.end ≡ Done
 end_is a b is done = subst (λ (o : Outcome). o.end ≡ Done) is done
 
 -- what takes nothing has taken the bytes of no units, and all there is where one byte more is asked for
-none_taken : (stands : Behind) (bytes : List ℕ) (a x : Outcome) → a ≡ x → x.taken ≡ [] → (stands ≡ behind.Asks → x.taken ≡ bytes)
+none_taken : (stands : AfterLast) (bytes : List ℕ) (a x : Outcome) → a ≡ x → x.taken ≡ [] → (stands ≡ after_last.EndOfInput → x.taken ≡ bytes)
     → TakesAll stands 0 bytes a
 none_taken stands bytes a x is none all = subst (TakesAll stands 0 bytes) (sym is) (record { number = ap length none; all = all })
 
 -- a run that is done takes nothing behind the last unit, and none is left where one byte more is asked for
-behind_takes : (stands : Behind) (bad : ℕ) (bytes : List ℕ) (a : Outcome) → EndsBehind stands bad bytes a → a.end ≡ Done → TakesAll stands 0 bytes a
-behind_takes behind.Done bad bytes a is done = none_taken behind.Done bytes a _ is refl (λ no. absurd cc)
-behind_takes behind.NoControl bad bytes a is done = absurd (let no : NoControl ≡ Done = end_is a _ is done in cc)
-behind_takes behind.Asks bad [] a ends done = elim ends [
-  | inl is ↦ none_taken behind.Asks [] a _ is refl (λ asks. refl)
+behind_takes : (stands : AfterLast) (bad : ℕ) (bytes : List ℕ) (a : Outcome) → EndsAfterLast stands bad bytes a → a.end ≡ Done → TakesAll stands 0 bytes a
+behind_takes after_last.Done bad bytes a is done = none_taken after_last.Done bytes a _ is refl (λ no. absurd cc)
+behind_takes after_last.NoControl bad bytes a is done = absurd (let no : NoControl ≡ Done = end_is a _ is done in cc)
+behind_takes after_last.EndOfInput bad [] a ends done = elim ends [
+  | inl is ↦ none_taken after_last.EndOfInput [] a _ is refl (λ asks. refl)
   | inr is ↦ absurd (let no : ReadFault ≡ Done = end_is a _ is done in cc)
 ]
-behind_takes behind.Asks bad (byte ∷ left) a ends done = elim ends [
+behind_takes after_last.EndOfInput bad (byte ∷ left) a ends done = elim ends [
   | inl is ↦ absurd (let no : Long ≡ Done = end_is a _ is done in cc)
   | inr is ↦ absurd (let no : ReadFault ≡ Done = end_is a _ is done in cc)
 ]
 
 -- a unit before it adds its own bytes to both
-takes_more : (stands : Behind) (own left w t : List ℕ) (count : ℕ) (after : Outcome) → TakesAll stands count left after
+takes_more : (stands : AfterLast) (own left w t : List ℕ) (count : ℕ) (after : Outcome) → TakesAll stands count left after
     → TakesAll stands (length own + count) (own ++ left) (onto own w t after)
 takes_more stands own left w t count after takes = record {
   number = length-append own after.taken ∙ ap (λ n. length own + n) takes.number;
@@ -52,7 +52,7 @@ module _ (units : Units) (size : ℕ → ℕ) (begins : (k : ℕ) (bytes : List 
   record TakesRest (before : ℕ) (bytes : List ℕ) (a : Outcome) : Type 0 where
     count : ℕ
     further : start size before + count ≡ start size units.count
-    takes : TakesAll units.behind count bytes a
+    takes : TakesAll units.after_last count bytes a
 
   -- an outcome that equals another takes the same rest
   rest_as : (before : ℕ) (bytes : List ℕ) (a x : Outcome) → a ≡ x → TakesRest before bytes x → TakesRest before bytes a
@@ -60,13 +60,13 @@ module _ (units : Units) (size : ℕ → ℕ) (begins : (k : ℕ) (bytes : List 
 
   -- with n units to come, a run that ends as done takes the bytes of these
   goes_take : (n : ℕ) (before : List (List ℕ)) (bad : ℕ) (bytes : List ℕ) (a : Outcome) → length before + n ≡ units.count
-      → Goes units n before bad bytes a → IsFaultless a.end → a.end ≡ Done → TakesRest (length before) bytes a
-  unfolding Goes
+      → Continues units n before bad bytes a → IsFaultless a.end → a.end ≡ Done → TakesRest (length before) bytes a
+  unfolding Continues
   goes_take zero before bad bytes a all (steps, closes, does) none done =
-      let behind = all_done steps (EndsBehind units.behind bad bytes) a does none in
+      let after_last = all_done steps (EndsAfterLast units.after_last bad bytes) a does none in
       let here : length before ≡ units.count = omega arith in
-      let takes = behind_takes units.behind bad bytes behind.after behind.holds (end_is a _ behind.is done) in
-      rest_as (length before) bytes a _ behind.is (record {
+      let takes = behind_takes units.after_last bad bytes after_last.after after_last.holds (end_is a _ after_last.is done) in
+      rest_as (length before) bytes a _ after_last.is (record {
         count = 0;
         further = omega (arith, ap (start size) here);
         takes = record { number = takes.number; all = takes.all };
@@ -77,19 +77,19 @@ module _ (units : Units) (size : ℕ → ℕ) (begins : (k : ℕ) (bytes : List 
         let one : length (before ++ t.own ∷ []) ≡ length before + 1 = length-append before (t.own ∷ []) in
         let later : start size (length (before ++ t.own ∷ [])) ≡ start size (length before) + length t.own =
         ap (start size) (one ∙ add-one (length before)) ∙ start-suc size (length before) ∙ ap (λ m. start size (length before) + m) (sym t.size_is) in
-        let rest = goes_take n (before ++ t.own ∷ []) (bad + bad_of t.turn) t.left t.after (omega arith) t.goes t.faultless (end_is a _ t.is done) in
+        let rest = goes_take n (before ++ t.own ∷ []) (bad + bad_of t.kind) t.left t.after (omega arith) t.goes t.faultless (end_is a _ t.is done) in
         rest_as (length before) bytes a _ t.is (record {
           count = length t.own + rest.count;
           further = omega (arith, later, rest.further);
-          takes = subst (λ l. TakesAll units.behind (length t.own + rest.count) l (onto t.own (written t.steps) (told t.steps) t.after)) (sym t.front)
-              (takes_more units.behind t.own t.left (written t.steps) (told t.steps) rest.count t.after rest.takes);
+          takes = subst (λ l. TakesAll units.after_last (length t.own + rest.count) l (onto t.own (written t.steps) (told t.steps) t.after)) (sym t.front)
+              (takes_more units.after_last t.own t.left (written t.steps) (told t.steps) rest.count t.after rest.takes);
         })
   ]
 
   -- from the first unit on, a run that ends as done takes the bytes of all
   takes_rest : (bytes : List ℕ) (a : Outcome) → units.opens ≡ [] → IsOutcome units bytes a → a.end ≡ Done → TakesRest 0 bytes a
   takes_rest bytes a opens runs done =
-      goes_take units.count [] 0 bytes a (omega arith) (subst (λ l. Does l (Goes units units.count [] 0 bytes) a) opens runs) (subst IsFaultless (sym done) tt) done
+      goes_take units.count [] 0 bytes a (omega arith) (subst (λ l. Performs l (Continues units units.count [] 0 bytes) a) opens runs) (subst IsFaultless (sym done) tt) done
 
   -- A run that ends as done has taken the bytes of all units.
   pub taken_number : (bytes : List ℕ) (a : Outcome) → units.opens ≡ [] → IsOutcome units bytes a → a.end ≡ Done
@@ -99,6 +99,6 @@ module _ (units : Units) (size : ℕ → ℕ) (begins : (k : ℕ) (bytes : List 
       omega (arith, rest.takes.number, rest.further, start-zero size)
 
   -- They are the whole input, where one byte more is asked for behind them.
-  pub taken_all : (bytes : List ℕ) (a : Outcome) → units.opens ≡ [] → units.behind ≡ behind.Asks → IsOutcome units bytes a → a.end ≡ Done
+  pub taken_all : (bytes : List ℕ) (a : Outcome) → units.opens ≡ [] → units.after_last ≡ after_last.EndOfInput → IsOutcome units bytes a → a.end ≡ Done
       → a.taken ≡ bytes
   taken_all bytes a opens asks runs done = (takes_rest bytes a opens runs done).takes.all asks

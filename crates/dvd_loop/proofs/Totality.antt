@@ -1,15 +1,15 @@
 -- Every input has an outcome without a fault.
 use Rattle.std.proofs.Common.{◌≡◌, inl, inr, ℕ, zero, suc, ◌+◌, List, [], ◌∷◌, ◌++◌, length, length-append, refl, sym, subst, append-nil, arith}
 use Rattle.dvd_loop.specs.Laws.{AreTotal, IsFaultless, OutcomeExists}
-use Rattle.dvd_loop.specs.Machine.{Does, EndsBehind, EndsWithin, Goes, GoesOn, Outcome, Step, Units, bad_of, end_by, ended, taking}
-use Rattle.dvd_loop.specs.Machine.Part.{Whole, Cut}
-use Rattle.dvd_loop.specs.Turns.{told, written}
-use Rattle.dvd_loop.specs.declared.ends.Behind.{Behind}
-use Rattle.dvd_loop.specs.declared.ends.Behind.TheVariants as behind
+use Rattle.dvd_loop.specs.Machine.{Performs, EndsAfterLast, EndsWithin, Continues, ContinuesAfter, Outcome, Step, Units, bad_of, end_by, ended, taking}
+use Rattle.dvd_loop.specs.Machine.Prefix.{Whole, Cut}
+use Rattle.dvd_loop.specs.UnitCommand.{told, written}
+use Rattle.dvd_loop.specs.declared.ends.AfterLast.{AfterLast}
+use Rattle.dvd_loop.specs.declared.ends.AfterLast.TheVariants as after_last
 use Rattle.dvd_loop.specs.declared.ends.LoopEnd.{LoopEnd}
 use Rattle.dvd_loop.specs.declared.ends.LoopEnd.TheVariants.{BadMarks, Done, Long, NoControl, Short}
-use Rattle.dvd_loop.specs.declared.ends.Turn.{Turn}
-use Rattle.dvd_loop.specs.declared.ends.Turn.TheVariants.{Good, Bad, Last}
+use Rattle.dvd_loop.specs.declared.ends.UnitKind.{UnitKind}
+use Rattle.dvd_loop.specs.declared.ends.UnitKind.TheVariants.{Good, Bad, Last}
 use Rattle.dvd_loop.proofs.StepLemmas.{does_all, onto, taken_then}
 
 -- some outcome without a fault is there
@@ -17,14 +17,14 @@ abbrev pub Exists : (Outcome → Type 0) → Type 0
 Exists A = (outcome : Outcome) × A outcome × IsFaultless outcome.end
 
 -- steps have an outcome without a fault where what comes behind them does
-pub steps_exist : (steps : List Step) (A : Outcome → Type 0) → Exists A → Exists (Does steps A)
+pub steps_exist : (steps : List Step) (A : Outcome → Type 0) → Exists A → Exists (Performs steps A)
 steps_exist steps A (after, holds, none) = (onto [] (written steps) (told steps) after, does_all steps A after holds, none)
 
 -- whether the unit is the last or not, there is one where there is one of the units to come
-pub turns_exist : (turn : Turn) (A : Outcome → Type 0) → Exists A → Exists (GoesOn turn A)
-turns_exist Good A exists = exists
-turns_exist Bad A exists = exists
-turns_exist Last A exists = (ended Done, refl, tt)
+pub kinds_exist : (kind : UnitKind) (A : Outcome → Type 0) → Exists A → Exists (ContinuesAfter kind A)
+kinds_exist Good A exists = exists
+kinds_exist Bad A exists = exists
+kinds_exist Last A exists = (ended Done, refl, tt)
 
 -- the end of an input is no fault
 pub end_by_none : (bad : ℕ) → IsFaultless (end_by bad)
@@ -32,11 +32,11 @@ end_by_none zero = tt
 end_by_none (suc bad) = tt
 
 -- behind the last unit there is an outcome without a fault
-pub behind_exists : (stands : Behind) (bad : ℕ) (left : List ℕ) → Exists (EndsBehind stands bad left)
-behind_exists behind.Done bad left = (ended Done, refl, tt)
-behind_exists behind.NoControl bad left = (ended NoControl, refl, tt)
-behind_exists behind.Asks bad [] = (ended (end_by bad), inl refl, end_by_none bad)
-behind_exists behind.Asks bad (byte ∷ left) = (taking (byte ∷ []) (ended Long), inl refl, tt)
+pub behind_exists : (stands : AfterLast) (bad : ℕ) (left : List ℕ) → Exists (EndsAfterLast stands bad left)
+behind_exists after_last.Done bad left = (ended Done, refl, tt)
+behind_exists after_last.NoControl bad left = (ended NoControl, refl, tt)
+behind_exists after_last.EndOfInput bad [] = (ended (end_by bad), inl refl, end_by_none bad)
+behind_exists after_last.EndOfInput bad (byte ∷ left) = (taking (byte ∷ []) (ended Long), inl refl, tt)
 
 -- one unit fewer is to come
 pub one_fewer : (before : List (List ℕ)) (own : List ℕ) (n count : ℕ) → length before + suc n ≡ count → length (before ++ own ∷ []) + n ≡ count
@@ -45,8 +45,8 @@ one_fewer before own n count all = omega (arith, length-append before (own ∷ [
 module _ (units : Units) where
   -- the input ends within the unit behind those
   pub cut_exists : (n : ℕ) (before : List (List ℕ)) (bad : ℕ) (bytes : List ℕ) → units.begins (length before) bytes ≡ Cut
-      → Exists (Goes units (suc n) before bad bytes)
-  unfolding Goes
+      → Exists (Continues units (suc n) before bad bytes)
+  unfolding Continues
   cut_exists n before bad bytes cut =
       let short : LoopEnd = Short (length before) (length bytes) in (
         taking bytes (ended short),
@@ -63,30 +63,30 @@ module _ (units : Units) where
   -- the unit is taken, and there is an outcome of the units to come
   pub taken_exists : (n : ℕ) (before : List (List ℕ)) (bad : ℕ) (bytes own left : List ℕ) → bytes ≡ own ++ left
       → units.begins (length before) own ≡ Whole (length own)
-      → (steps : List Step) (turn : Turn) → units.does (length before) before own steps turn
-      → Exists (Goes units n (before ++ own ∷ []) (bad + bad_of turn) left) → Exists (Goes units (suc n) before bad bytes)
-  unfolding Goes
-  taken_exists n before bad bytes own left front whole steps turn does later =
-      let Next = Goes units n (before ++ own ∷ []) (bad + bad_of turn) left in
-      let exists = steps_exist steps (GoesOn turn Next) (turns_exist turn Next later) in (
+      → (steps : List Step) (kind : UnitKind) → units.does (length before) before own steps kind
+      → Exists (Continues units n (before ++ own ∷ []) (bad + bad_of kind) left) → Exists (Continues units (suc n) before bad bytes)
+  unfolding Continues
+  taken_exists n before bad bytes own left front whole steps kind does later =
+      let Next = Continues units n (before ++ own ∷ []) (bad + bad_of kind) left in
+      let exists = steps_exist steps (ContinuesAfter kind Next) (kinds_exist kind Next later) in (
         taking own exists.0,
-        inr (taken_then units before _ bytes own left steps turn _ exists.0 front (record { whole = whole; does = does }) exists.1 refl),
+        inr (taken_then units before _ bytes own left steps kind _ exists.0 front (record { whole = whole; does = does }) exists.1 refl),
         exists.2,
       )
 
   -- behind the last unit these steps close them
   pub closed_exists : (before : List (List ℕ)) (bad : ℕ) (bytes : List ℕ) (steps : List Step) → units.closes before steps
-      → Exists (Goes units 0 before bad bytes)
-  unfolding Goes
+      → Exists (Continues units 0 before bad bytes)
+  unfolding Continues
   closed_exists before bad bytes steps closes =
-      let exists = steps_exist steps (EndsBehind units.behind bad bytes) (behind_exists units.behind bad bytes) in
+      let exists = steps_exist steps (EndsAfterLast units.after_last bad bytes) (behind_exists units.after_last bad bytes) in
       (exists.0, (steps, closes, exists.1), exists.2)
 
 module _ (units : Units) (total : AreTotal units) where
   -- with n units to come there is an outcome without a fault for any bytes
   pub goes_exist : (n : ℕ) (before : List (List ℕ)) (bad : ℕ) (bytes : List ℕ) → length before + n ≡ units.count
-      → Exists (Goes units n before bad bytes)
-  unfolding Goes
+      → Exists (Continues units n before bad bytes)
+  unfolding Continues
   goes_exist zero before bad bytes all =
       let closing = total.closes before (omega arith) in
       closed_exists units before bad bytes closing.0 closing.1
@@ -110,9 +110,9 @@ module _ (units : Units) (total : AreTotal units) where
   ]
 
   -- so there is one with all units to come
-  pub all_exist : (bytes : List ℕ) → Exists (Goes units units.count [] 0 bytes)
+  pub all_exist : (bytes : List ℕ) → Exists (Continues units units.count [] 0 bytes)
   all_exist bytes = goes_exist units.count [] 0 bytes (omega arith)
 
 -- every input has an outcome without a fault
 pub exists : (units : Units) → OutcomeExists units
-exists units total bytes = steps_exist units.opens (Goes units units.count [] 0 bytes) (all_exist units total bytes)
+exists units total bytes = steps_exist units.opens (Continues units units.count [] 0 bytes) (all_exist units total bytes)

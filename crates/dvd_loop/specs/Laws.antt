@@ -2,12 +2,12 @@
 -- sizes of its units.
 use Rattle.std.specs.Prelude.{◌≡◌, ◌⊎◌, ◌↔◌, ℕ, ◌+◌, ◌*◌, ◌<◌, ◌≤◌, List, [], ◌++◌, length, take}
 use Rattle.dvd_loop.specs.Machine.{IsOutcome, IsUnit, Outcome, Step, Units, sized}
-use Rattle.dvd_loop.specs.Machine.Part.{Whole, Cut, Broken}
-use Rattle.dvd_loop.specs.declared.ends.Behind.TheVariants.{Asks, Done as StopsDone}
+use Rattle.dvd_loop.specs.Machine.Prefix.{Whole, Cut, Broken}
+use Rattle.dvd_loop.specs.declared.ends.AfterLast.TheVariants.{EndOfInput, Done as StopsDone}
 use Rattle.dvd_loop.specs.declared.ends.LoopEnd.{LoopEnd}
 use Rattle.dvd_loop.specs.declared.ends.LoopEnd.TheVariants.{BadMarks, Damaged, Done, Long, NoControl, ReadFault, ReportFault, Short, WriteFault}
-use Rattle.dvd_loop.specs.declared.ends.Turn.{Turn}
-use Rattle.dvd_loop.specs.declared.ends.Turn.TheVariants.{Last}
+use Rattle.dvd_loop.specs.declared.ends.UnitKind.{UnitKind}
+use Rattle.dvd_loop.specs.declared.ends.UnitKind.TheVariants.{Last}
 
 -- no fault ended it
 abbrev pub IsFaultless : LoopEnd → Type 0
@@ -25,8 +25,8 @@ IsNotBadMarks end = Unit {0}
 pub record AreDetermined (units : Units) : Type 0 where
   pub whole : (k : ℕ) (own more : List ℕ) → units.begins k own ≡ Whole (length own) → units.begins k (own ++ more) ≡ Whole (length own)
   pub broken : (k at : ℕ) (own more : List ℕ) → units.begins k own ≡ Broken at → units.begins k (own ++ more) ≡ Broken at
-  pub does : (before : List (List ℕ)) (own : List ℕ) (steps others : List Step) (turn other : Turn)
-      → IsUnit units before own steps turn → IsUnit units before own others other → (steps ≡ others) × (turn ≡ other)
+  pub does : (before : List (List ℕ)) (own : List ℕ) (steps others : List Step) (kind other : UnitKind)
+      → IsUnit units before own steps kind → IsUnit units before own others other → (steps ≡ others) × (kind ≡ other)
   pub closes : (before : List (List ℕ)) (steps others : List Step) → units.closes before steps → units.closes before others → steps ≡ others
 
 -- The same units and bytes come to one outcome: what is written and told, the end, and what is taken but for a broken unit.
@@ -41,7 +41,7 @@ pub record AreTotal (units : Units) : Type 0 where
       → ((own left : List ℕ) × (bytes ≡ own ++ left) × (units.begins k own ≡ Whole (length own))) ⊎ (units.begins k bytes ≡ Cut)
       ⊎ ((own left : List ℕ) × (at : ℕ) × (bytes ≡ own ++ left) × (units.begins k own ≡ Broken at))
   pub does : (before : List (List ℕ)) (own : List ℕ) → length before < units.count → units.begins (length before) own ≡ Whole (length own)
-      → (steps : List Step) × (turn : Turn) × units.does (length before) before own steps turn
+      → (steps : List Step) × (kind : UnitKind) × units.does (length before) before own steps kind
   pub closes : (before : List (List ℕ)) → length before ≡ units.count → (steps : List Step) × units.closes before steps
 
 -- every input has an outcome without a fault
@@ -66,7 +66,7 @@ FaultsLeaveFronts units =
 
 -- The first k of the units alone, and nothing behind them.
 abbrev pub first : ℕ → Units → Units
-first k units = record units { count = k; closes = λ before steps. steps ≡ []; behind = StopsDone }
+first k units = record units { count = k; closes = λ before steps. steps ≡ []; after_last = StopsDone }
 
 -- the ends of a loop of so many units that tells nothing, and to which no unit is bad or the last: a Short names one of them
 abbrev pub IsPlainEnd : ℕ → LoopEnd → Type 0
@@ -94,14 +94,14 @@ IsSearchEnd count NoControl = Unit {0}
 IsSearchEnd count end = ⊥
 
 -- no unit turns out to be this
-abbrev pub IsNever : Units → Turn → Type 0
-IsNever units turn = (k : ℕ) (before : List (List ℕ)) (own : List ℕ) (steps : List Step) → units.does k before own steps turn → ⊥
+abbrev pub IsNever : Units → UnitKind → Type 0
+IsNever units kind = (k : ℕ) (before : List (List ℕ)) (own : List ℕ) (steps : List Step) → units.does k before own steps kind → ⊥
 
 -- They have one size, none of them is the last, and one byte more is asked for behind them.
 pub record AreOfOneSize (units : Units) (size : ℕ) : Type 0 where
   pub begins : (k : ℕ) (bytes : List ℕ) → units.begins k bytes ≡ sized size bytes
   pub never_last : IsNever units Last
-  pub asks : units.behind ≡ Asks
+  pub asks : units.after_last ≡ EndOfInput
 
 -- the input ended behind the last unit
 abbrev pub IsOver : LoopEnd → Type 0

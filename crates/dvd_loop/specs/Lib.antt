@@ -2,4 +2,4 @@
 pub mod Laws
 pub mod Machine
 pub mod Streams
-pub mod Turns
+pub mod UnitCommand

@@ -3,17 +3,17 @@
 use Rattle.std.specs.Prelude.{◌≡◌, ◌≢◌, ◌⊎◌, ℕ, zero, suc, ◌+◌, List, [], ◌∷◌, ◌++◌, length, nat_le, if◌then◌else◌}
 use Rattle.dvd_loop.specs.declared.ends.LoopEnd.{LoopEnd}
 use Rattle.dvd_loop.specs.declared.ends.LoopEnd.TheVariants.{Done, ReadFault, WriteFault, ReportFault, Short, Long, Damaged, NoControl, BadMarks}
-use Rattle.dvd_loop.specs.declared.ends.Turn.{Turn}
-use Rattle.dvd_loop.specs.declared.ends.Turn.TheVariants.{Good, Bad, Last}
-use Rattle.dvd_loop.specs.declared.ends.Behind.{Behind}
-use Rattle.dvd_loop.specs.declared.ends.Behind.TheVariants as behind
+use Rattle.dvd_loop.specs.declared.ends.UnitKind.{UnitKind}
+use Rattle.dvd_loop.specs.declared.ends.UnitKind.TheVariants.{Good, Bad, Last}
+use Rattle.dvd_loop.specs.declared.ends.AfterLast.{AfterLast}
+use Rattle.dvd_loop.specs.declared.ends.AfterLast.TheVariants as after_last
 
 -- How bytes begin, from the first of a unit on: with the whole unit, which has so many of them; with a part of it, which is
 -- all that there is; or with one that breaks a rule at that place.
-pub data Part : Type 0 where
-  Whole : ℕ → Part
-  Cut : Part
-  Broken : ℕ → Part
+pub data Prefix : Type 0 where
+  Whole : ℕ → Prefix
+  Cut : Prefix
+  Broken : ℕ → Prefix
 
 -- One piece of what is done: bytes are written to the output, or a line is told to the report.
 pub data Step : Type 0 where
@@ -27,11 +27,11 @@ pub data Step : Type 0 where
 -- one block of sixteen frames. That there is one alone is a law.
 pub record Units : Type 1 where
   pub count : ℕ
-  pub begins : ℕ → List ℕ → Part
+  pub begins : ℕ → List ℕ → Prefix
   pub opens : List Step
-  pub does : ℕ → List (List ℕ) → List ℕ → List Step → Turn → Type 0
+  pub does : ℕ → List (List ℕ) → List ℕ → List Step → UnitKind → Type 0
   pub closes : List (List ℕ) → List Step → Type 0
-  pub behind : Behind
+  pub after_last : AfterLast
 
 -- What was taken of the input, written to the output and told to the report, and how it ended.
 pub record Outcome : Type 0 where
@@ -59,13 +59,13 @@ Fails (Write bytes) outcome = (front left : List ℕ) × (bytes ≡ front ++ lef
 Fails (Tell line) outcome = (front left : List ℕ) × (line ≡ front ++ left) × (left ≢ []) × (outcome ≡ stepping (Tell front) (ended ReportFault))
 
 -- The steps are taken one after the other, and After holds of what comes then; or one of them fails, and nothing comes.
-abbrev pub Does : List Step → (Outcome → Type 0) → Outcome → Type 0
-Does [] After outcome = After outcome
-Does (step ∷ steps) After outcome = Fails step outcome ⊎ ((after : Outcome) × Does steps After after × (outcome ≡ stepping step after))
+abbrev pub Performs : List Step → (Outcome → Type 0) → Outcome → Type 0
+Performs [] After outcome = After outcome
+Performs (step ∷ steps) After outcome = Fails step outcome ⊎ ((after : Outcome) × Performs steps After after × (outcome ≡ stepping step after))
 
 -- How it ends within unit k, so many bytes of which were taken, these being left: the input has ended, or a rule is broken
 -- in what was taken; or a read failed.
-abbrev pub EndsWithin : Part → ℕ → ℕ → List ℕ → LoopEnd → Type 0
+abbrev pub EndsWithin : Prefix → ℕ → ℕ → List ℕ → LoopEnd → Type 0
 EndsWithin (Whole size) k held left end = ⊥
 EndsWithin Cut k held left end = ((end ≡ Short k held) × (left ≡ [])) ⊎ (end ≡ ReadFault)
 EndsWithin (Broken at) k held left end = (end ≡ BadMarks k at) ⊎ (end ≡ ReadFault)
@@ -79,33 +79,33 @@ pub record IsEndedWithin (units : Units) (k : ℕ) (bytes : List ℕ) (outcome :
   pub takes : outcome ≡ taking own (ended outcome.end)
 
 -- These may be the bytes of the unit behind those, and this may be done for it.
-pub record IsUnit (units : Units) (before : List (List ℕ)) (own : List ℕ) (steps : List Step) (turn : Turn) : Type 0 where
+pub record IsUnit (units : Units) (before : List (List ℕ)) (own : List ℕ) (steps : List Step) (kind : UnitKind) : Type 0 where
   pub whole : units.begins (length before) own ≡ Whole (length own)
-  pub does : units.does (length before) before own steps turn
+  pub does : units.does (length before) before own steps kind
 
 -- The unit behind those is taken and done, and After holds of what comes then, by its bytes, those left and what it is.
-pub record IsTaken (units : Units) (before : List (List ℕ)) (After : List ℕ → List ℕ → Turn → Outcome → Type 0) (bytes : List ℕ) (outcome : Outcome) : Type 0 where
+pub record IsTaken (units : Units) (before : List (List ℕ)) (After : List ℕ → List ℕ → UnitKind → Outcome → Type 0) (bytes : List ℕ) (outcome : Outcome) : Type 0 where
   pub own : List ℕ
   pub left : List ℕ
   pub steps : List Step
-  pub turn : Turn
+  pub kind : UnitKind
   pub front : bytes ≡ own ++ left
-  pub unit : IsUnit units before own steps turn
+  pub unit : IsUnit units before own steps kind
   pub after : Outcome
-  pub does : Does steps (After own left turn) after
+  pub does : Performs steps (After own left kind) after
   pub takes : outcome ≡ taking own after
 
 -- how many bad units it is
-abbrev pub bad_of : Turn → ℕ
+abbrev pub bad_of : UnitKind → ℕ
 bad_of Good = 0
 bad_of Bad = 1
 bad_of Last = 0
 
 -- the last unit ends the run
-abbrev pub GoesOn : Turn → (Outcome → Type 0) → Outcome → Type 0
-GoesOn Last Goes outcome = outcome ≡ ended Done
-GoesOn Good Goes outcome = Goes outcome
-GoesOn Bad Goes outcome = Goes outcome
+abbrev pub ContinuesAfter : UnitKind → (Outcome → Type 0) → Outcome → Type 0
+ContinuesAfter Last Continues outcome = outcome ≡ ended Done
+ContinuesAfter Good Continues outcome = Continues outcome
+ContinuesAfter Bad Continues outcome = Continues outcome
 
 -- the end of an input that ended behind the last unit, so many being bad
 abbrev pub end_by : ℕ → LoopEnd
@@ -114,27 +114,27 @@ end_by (suc bad) = Damaged (suc bad)
 
 -- One byte more is asked for behind the last unit, and there is none, or it is one too many, or the read fails; or nothing
 -- is asked for.
-abbrev pub EndsBehind : Behind → ℕ → List ℕ → Outcome → Type 0
-EndsBehind behind.Done bad left outcome = outcome ≡ ended Done
-EndsBehind behind.NoControl bad left outcome = outcome ≡ ended NoControl
-EndsBehind behind.Asks bad [] outcome = (outcome ≡ ended (end_by bad)) ⊎ (outcome ≡ ended ReadFault)
-EndsBehind behind.Asks bad (byte ∷ left) outcome = (outcome ≡ taking (byte ∷ []) (ended Long)) ⊎ (outcome ≡ ended ReadFault)
+abbrev pub EndsAfterLast : AfterLast → ℕ → List ℕ → Outcome → Type 0
+EndsAfterLast after_last.Done bad left outcome = outcome ≡ ended Done
+EndsAfterLast after_last.NoControl bad left outcome = outcome ≡ ended NoControl
+EndsAfterLast after_last.EndOfInput bad [] outcome = (outcome ≡ ended (end_by bad)) ⊎ (outcome ≡ ended ReadFault)
+EndsAfterLast after_last.EndOfInput bad (byte ∷ left) outcome = (outcome ≡ taking (byte ∷ []) (ended Long)) ⊎ (outcome ≡ ended ReadFault)
 
 -- what comes behind those units, so many of them bad, where so many are to come
-unfoldable pub Goes : Units → ℕ → List (List ℕ) → ℕ → List ℕ → Outcome → Type 0
-Goes units zero before bad left outcome = (steps : List Step) × units.closes before steps × Does steps (EndsBehind units.behind bad left) outcome
-Goes units (suc n) before bad bytes outcome =
+unfoldable pub Continues : Units → ℕ → List (List ℕ) → ℕ → List ℕ → Outcome → Type 0
+Continues units zero before bad left outcome = (steps : List Step) × units.closes before steps × Performs steps (EndsAfterLast units.after_last bad left) outcome
+Continues units (suc n) before bad bytes outcome =
     IsEndedWithin units (length before) bytes outcome
-    ⊎ IsTaken units before (λ own left turn. GoesOn turn (Goes units n (before ++ own ∷ []) (bad + bad_of turn) left)) bytes outcome
+    ⊎ IsTaken units before (λ own left kind. ContinuesAfter kind (Continues units n (before ++ own ∷ []) (bad + bad_of kind) left)) bytes outcome
 
 -- A run of these units over these bytes.
 abbrev pub IsOutcome : Units → List ℕ → Outcome → Type 0
-IsOutcome units bytes outcome = Does units.opens (Goes units units.count [] 0 bytes) outcome
+IsOutcome units bytes outcome = Performs units.opens (Continues units units.count [] 0 bytes) outcome
 
 -- Behind a loop that ended so stands its closing line. There is none after a fault of the report, and a fault at it ends the run.
 abbrev pub Closes : (LoopEnd → List ℕ) → LoopEnd → Outcome → Type 0
 Closes closing ReportFault outcome = outcome ≡ ended ReportFault
-Closes closing end outcome = Does (Tell (closing end) ∷ []) (λ after. after ≡ ended end) outcome
+Closes closing end outcome = Performs (Tell (closing end) ∷ []) (λ after. after ≡ ended end) outcome
 
 -- A loop, of those that may be, that ended so, and its closing line.
 pub record IsClosed (closing : LoopEnd → List ℕ) (May : Outcome → Type 0) (within : LoopEnd) (outcome : Outcome) : Type 0 where
@@ -146,17 +146,17 @@ pub record IsClosed (closing : LoopEnd → List ℕ) (May : Outcome → Type 0) 
   pub all : outcome ≡ record { taken = loop.taken ++ line.taken; out = loop.out ++ line.out; lines = loop.lines ++ line.lines; end = line.end }
 
 -- bytes that begin with a unit of that size, whatever they are
-abbrev pub sized : ℕ → List ℕ → Part
+abbrev pub sized : ℕ → List ℕ → Prefix
 sized size bytes = if nat_le size (length bytes) then Whole size else Cut
 
 -- Units of these sizes, for each of which something may be done by its number and its bytes; nothing opens or closes them,
 -- and the input has to end behind the last.
-abbrev pub plain_units : ℕ → (ℕ → ℕ) → (ℕ → List ℕ → List Step → Turn → Type 0) → Units
+abbrev pub plain_units : ℕ → (ℕ → ℕ) → (ℕ → List ℕ → List Step → UnitKind → Type 0) → Units
 plain_units count size does = record {
   count = count;
   begins = λ k. sized (size k);
   opens = [];
   does = λ k before. does k;
   closes = λ before steps. steps ≡ [];
-  behind = behind.Asks;
+  after_last = after_last.EndOfInput;
 }

@@ -34,7 +34,7 @@ pub record HaveMoved (old new : Streams) (taken out lines : List ℕ) : Type 0 w
 
 -- There are bytes, those of the source where it tells them, with an outcome of P over them that ends so, and to that the
 -- streams have come.
-pub record Comes (P : List ℕ → Outcome → Type 0) (old new : Streams) (end : LoopEnd) : Type 0 where
+pub record HaveReached (P : List ℕ → Outcome → Type 0) (old new : Streams) (end : LoopEnd) : Type 0 where
   pub bytes : List ℕ
   pub told : IsTold old.source.bytes bytes
   pub outcome : Outcome
@@ -83,5 +83,5 @@ pub record HaveCauses (within end : LoopEnd) (old new : Streams) : Type 0 where
 -- A loop has ended so: with an outcome of P, to which the streams have come, and after a fault or the end of the input its
 -- stream was asked for nothing more.
 pub record HasEnded (P : List ℕ → Outcome → Type 0) (old new : Streams) (end : LoopEnd) : Type 0 where
-  pub comes : Comes P old new end
+  pub comes : HaveReached P old new end
   pub causes : HaveCauses end end old new

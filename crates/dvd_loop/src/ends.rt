@@ -1,7 +1,7 @@
 //! How a loop ends, what a unit turns out to be, and what stands behind the last one.
 ghost use Rattle.std.specs.Prelude.{◌≡◌, ◌≢◌, true, false};
 ghost use Rattle.dvd_loop.specs.declared.ends.LoopEnd.TheVariants.{ReadFault as read_fault, WriteFault as write_fault};
-ghost use Rattle.dvd_loop.specs.declared.ends.Turn.TheVariants.{Last as last};
+ghost use Rattle.dvd_loop.specs.declared.ends.UnitKind.TheVariants.{Last as last};
 ghost use Rattle.dvd_loop.specs.Machine.{bad_of};
 
 use dvd_ports::{Failed, WriteFault};
@@ -54,7 +54,7 @@ impl From<WriteFault> for LoopEnd {
 
 /// What a unit that was read and done is.
 #[derive(Clone, Copy, Debug, PartialEq, Eq)]
-pub enum Turn {
+pub enum UnitKind {
     /// Nothing of it is damaged, and the loop goes on.
     Good,
     /// It counts among the damaged units.
@@ -63,13 +63,13 @@ pub enum Turn {
     Last,
 }
 
-impl Turn {
+impl UnitKind {
     /// Whether the loop ends behind it.
     pub fn is_last(self) -> bool
         ensures yes { result ≡ true → self ≡ last }
         ensures no { result ≡ false → self ≢ last }
     {
-        matches!(self, Turn::Last)
+        matches!(self, UnitKind::Last)
     }
 
     /// How many bad units it is.
@@ -77,17 +77,17 @@ impl Turn {
         ensures { result ≡ bad_of self }
     {
         match self {
-            Turn::Bad => 1,
-            Turn::Good | Turn::Last => 0,
+            UnitKind::Bad => 1,
+            UnitKind::Good | UnitKind::Last => 0,
         }
     }
 }
 
 /// What stands behind the last unit.
 #[derive(Clone, Copy, Debug, PartialEq, Eq)]
-pub enum Behind {
+pub enum AfterLast {
     /// The end of the input: one byte more is asked for.
-    Asks,
+    EndOfInput,
     /// The end of the loop, which takes nothing more.
     Done,
     /// The same, where a unit was to answer and none did.

@@ -4,12 +4,12 @@
 mod ends; // how a loop ends, and what a unit is
 pub mod laws; // what holds of every run
 mod loops; // the loop over units, and the line that closes it
-mod lone; // a command whose units stand alone
+mod plain_command; // a command that neither opens nor closes
 mod reading; // the bytes of one unit
-mod turns; // a command, seen from the loop
+mod unit_command; // a command, seen from the loop
 
-pub use ends::{Behind, LoopEnd, Turn};
-pub use lone::LoneTurns;
-pub use loops::{close, follow, follow_owned};
+pub use ends::{AfterLast, LoopEnd, UnitKind};
+pub use loops::{close, run_owned, run_units};
+pub use plain_command::PlainCommand;
 pub use reading::read_unit;
-pub use turns::Turns;
+pub use unit_command::UnitCommand;

@@ -1,16 +1,16 @@
 //! The loop over units that all commands share, and the line that closes it.
 ghost use Rattle.std.specs.Prelude.{◌≡◌, ◌≢◌, ℕ, List, [], true, false};
 ghost use Rattle.dvd_ports.specs.Seen.{Seen};
-ghost use Rattle.dvd_loop.specs.Machine.{Closes, EndsBehind, IsOutcome};
-ghost use Rattle.dvd_loop.specs.Streams.{streams, Comes, Counts, HasEnded, HaveCauses, is_report_fault};
+ghost use Rattle.dvd_loop.specs.Machine.{Closes, EndsAfterLast, IsOutcome};
+ghost use Rattle.dvd_loop.specs.Streams.{streams, HaveReached, Counts, HasEnded, HaveCauses, is_report_fault};
 ghost use Rattle.dvd_loop.specs.declared.ends.LoopEnd.{LoopEnd as HowItEnds};
 
-use crate::{Behind, LoopEnd, Turns};
+use crate::{AfterLast, LoopEnd, UnitCommand};
 use dvd_ports::{Failed, Sink, Source, WriteFault, read_whole, write_whole};
 
 /// Opens a command, goes over its units, closes it, and looks at what stands behind the last unit. Nothing is tried again:
 /// a failed call, and a read that met the end of the input, is the last of its stream.
-pub fn follow<C: Turns, S: Source, K: Sink, E: Sink>(
+pub fn run_units<C: UnitCommand, S: Source, K: Sink, E: Sink>(
     command: &mut C,
     src: &mut S,
     out: &mut K,
@@ -28,20 +28,20 @@ pub fn follow<C: Turns, S: Source, K: Sink, E: Sink>(
     }
     let mut bad = 0;
     for k in 0..command.count() {
-        match command.turn(k, src, out, report) {
-            Ok(turn) if turn.is_last() => return LoopEnd::Done,
-            Ok(turn) => bad += turn.bad(),
+        match command.process(k, src, out, report) {
+            Ok(kind) if kind.is_last() => return LoopEnd::Done,
+            Ok(kind) => bad += kind.bad(),
             Err(end) => return end,
         }
     }
     match command.close(out, report) {
-        Ok(()) => seek_end(command.behind(), bad, src),
+        Ok(()) => expect_end(command.after_last(), bad, src),
         Err(end) => end,
     }
 }
 
 /// The same of a command that is handed over, where nobody asks what it leaves.
-pub fn follow_owned<C: Turns + Drop, S: Source, K: Sink, E: Sink>(
+pub fn run_owned<C: UnitCommand + Drop, S: Source, K: Sink, E: Sink>(
     command: C,
     src: &mut S,
     out: &mut K,
@@ -53,20 +53,20 @@ pub fn follow_owned<C: Turns + Drop, S: Source, K: Sink, E: Sink>(
         (streams (S.seen src.new) (K.seen out.new) (E.seen report.new)) result }
 {
     let mut command = command;
-    follow(&mut command, src, out, report)
+    run_units(&mut command, src, out, report)
 }
 
 // Asks for one byte more, where one is to be asked for.
-fn seek_end<S: Source>(behind: Behind, bad: u32, src: &mut S) -> LoopEnd
-    ensures comes { (output report : Seen) → Comes (EndsBehind behind bad)
+fn expect_end<S: Source>(after_last: AfterLast, bad: u32, src: &mut S) -> LoopEnd
+    ensures comes { (output report : Seen) → HaveReached (EndsAfterLast after_last bad)
         (streams (S.seen src.old) output report) (streams (S.seen src.new) output report) result }
     ensures causes { (output report : Seen) → HaveCauses result result
         (streams (S.seen src.old) output report) (streams (S.seen src.new) output report) }
 {
-    match behind {
-        Behind::Done => LoopEnd::Done,
-        Behind::NoControl => LoopEnd::NoControl,
-        Behind::Asks => match read_whole(src, &mut [0; 1]) {
+    match after_last {
+        AfterLast::Done => LoopEnd::Done,
+        AfterLast::NoControl => LoopEnd::NoControl,
+        AfterLast::EndOfInput => match read_whole(src, &mut [0; 1]) {
             Ok(0) if bad == 0 => LoopEnd::Done,
             Ok(0) => LoopEnd::Damaged { blocks: bad },
             Ok(_) => LoopEnd::Long,
@@ -78,7 +78,7 @@ fn seek_end<S: Source>(behind: Behind, bad: u32, src: &mut S) -> LoopEnd
 /// Tells the closing line of a loop that ended so. After a fault of the report none is tried; where the line can't be told
 /// the end is that fault, in place of the other.
 pub fn close<E: Sink>(end: LoopEnd, line: &[u8], report: &mut E) -> LoopEnd
-    ensures closes { (closing : HowItEnds → List ℕ) (source output : Seen) → closing end ≡ line.now → Comes (λ bytes. Closes closing end)
+    ensures closes { (closing : HowItEnds → List ℕ) (source output : Seen) → closing end ≡ line.now → HaveReached (λ bytes. Closes closing end)
         (streams source output (E.seen report.old)) (streams source output (E.seen report.new)) result }
     ensures same { result ≢ LoopEnd.ReportFault → result ≡ end }
     ensures cause { end ≢ LoopEnd.ReportFault → Counts (is_report_fault result) (E.seen report.old) (E.seen report.new) }

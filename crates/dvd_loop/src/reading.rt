@@ -1,7 +1,7 @@
 //! The bytes of one unit.
 ghost use Rattle.std.specs.Prelude.{◌<◌, ◌^◌, length, IfErr, OnOk};
 ghost use Rattle.std.specs.Io.KnownBytes.{Consumes};
-ghost use Rattle.dvd_loop.specs.Turns.{EndsShort, HasReadCause};
+ghost use Rattle.dvd_loop.specs.UnitCommand.{EndsShort, HasReadCause};
 
 use crate::LoopEnd;
 use dvd_ports::{Source, read_whole};

@@ -8,9 +8,9 @@ use Rattle.dvd_layout.specs.declared.layout.Zones.{Zones}
 use Rattle.dvd_loop.specs.Laws.{AreTotal, IsFaultless, IsFrontOf}
 use Rattle.dvd_loop.specs.Machine.{IsOutcome, Outcome, Step}
 use Rattle.dvd_loop.specs.Machine.Step.{Write}
-use Rattle.dvd_loop.specs.Turns.{written}
-use Rattle.dvd_loop.specs.declared.ends.Turn.{Turn}
-use Rattle.dvd_loop.specs.declared.ends.Turn.TheVariants.{Good}
+use Rattle.dvd_loop.specs.UnitCommand.{written}
+use Rattle.dvd_loop.specs.declared.ends.UnitKind.{UnitKind}
+use Rattle.dvd_loop.specs.declared.ends.UnitKind.TheVariants.{Good}
 use Rattle.dvd_commands.specs.Bound.{GivesBack, IsBorneBlock, IsRescued, KeepsBound, KeepsGoodFrames, Rescues}
 use Rattle.dvd_commands.specs.Captured.{block_bytes}
 use Rattle.dvd_commands.specs.Commands.{GoesOver, meaning}
@@ -29,42 +29,42 @@ use Rattle.dvd_commands.proofs.RecoveredWidths.{IsWide, block_units, deepened-wi
 use Rattle.dvd_commands.proofs.AnyEnd.{at_any_end, part-begun}
 use Rattle.dvd_commands.proofs.BorneBlocks.{RepairsBy, repaired, repaired_deep}
 use Rattle.dvd_commands.proofs.ForRuns.{deep_total, loops_keep_good, recover_total}
-use Rattle.dvd_commands.proofs.BlockTurns.{has_turn, length-part, part_there}
+use Rattle.dvd_commands.proofs.BlockUnits.{has_unit, length-part, part_there}
 
 -- what may be done for a block that is borne, where damage within the bound is repaired
-alone : (Does : Layout → Zones → Form → ℕ → List ℕ → List Step → Turn → Type 0) → RepairsBy Does
+alone : (Performs : Layout → Zones → Form → ℕ → List ℕ → List Step → UnitKind → Type 0) → RepairsBy Performs
     → (layout : Layout) (zones : Zones) (form : Form) (bytes cpr image : List ℕ) (k : ℕ) (entry : BlockPlan)
     → IsBorneBlock layout zones form bytes cpr image k entry
-    → (steps : List Step) (turn : Turn) → Does layout zones form k (block_bytes form bytes k) steps turn
-    → (steps ≡ Write (image_part layout entry image) ∷ []) × (turn ≡ Good)
-alone Does repairs layout zones form bytes cpr image k entry b steps turn does =
+    → (steps : List Step) (kind : UnitKind) → Performs layout zones form k (block_bytes form bytes k) steps kind
+    → (steps ≡ Write (image_part layout entry image) ∷ []) × (kind ≡ Good)
+alone Performs repairs layout zones form bytes cpr image k entry b steps kind does =
     let m = b.mastered in
-    repairs layout zones form cpr k entry (image_part layout entry image) (block_bytes form bytes k) m.block steps turn m.stands m.is_image m.cpr_size
+    repairs layout zones form cpr k entry (image_part layout entry image) (block_bytes form bytes k) m.block steps kind m.stands m.is_image m.cpr_size
     (length-part layout entry.content image m.image_size) m.is_block (block-whole form bytes (k + 1) m.whole k (omega arith)) b.within does
 
 -- Units that are the captured blocks of a plan, and write the image bytes that stand in each.
-module _ (layout : Layout) (zones : Zones) (form : Form) (May : ℕ → List ℕ → List Step → Turn → Type 0)
-    (wide : (k : ℕ) (own : List ℕ) (steps : List Step) (turn : Turn) → May k own steps turn → IsWide (bytes_of_block layout zones k) steps turn) where
+module _ (layout : Layout) (zones : Zones) (form : Form) (May : ℕ → List ℕ → List Step → UnitKind → Type 0)
+    (wide : (k : ℕ) (own : List ℕ) (steps : List Step) (kind : UnitKind) → May k own steps kind → IsWide (bytes_of_block layout zones k) steps kind) where
   -- Where its image sectors alone may be written of a block that is borne, they stand at their place.
   module _ (cpr image : List ℕ) (bytes : List ℕ) (k : ℕ) (entry : BlockPlan) (b : IsBorneBlock layout zones form bytes cpr image k entry)
-      (alone : (steps : List Step) (turn : Turn) → May k (block_bytes form bytes k) steps turn → (steps ≡ Write (image_part layout entry image) ∷ []) × (turn ≡ Good)) where
+      (alone : (steps : List Step) (kind : UnitKind) → May k (block_bytes form bytes k) steps kind → (steps ≡ Write (image_part layout entry image) ∷ []) × (kind ≡ Good)) where
     -- in a run that no fault ended, the image sectors of the block are written where they stand in the image
     at_place : (a : Outcome) → IsOutcome (block_units layout zones form May) bytes a → IsFaultless a.end
         → take (image_bytes layout entry) (drop (2048 * image_from entry.content) a.out) ≡ image_part layout entry image
     at_place a runs none =
         let m = b.mastered in
-        let t = has_turn layout zones form May wide bytes a runs none k entry m.stands m.is_image m.whole in
-        let back = alone t.steps t.turn t.does in
+        let t = has_unit layout zones form May wide bytes a runs none k entry m.stands m.is_image m.whole in
+        let back = alone t.steps t.kind t.does in
         part_there (2048 * image_from entry.content) (image_bytes layout entry) t.before (image_part layout entry image) a.out t.size
         (length-part layout entry.content image m.image_size) (subst (λ s. IsFrontOf (t.before ++ written s) a.out) back.0 t.out)
 
 -- The bound is kept by units that write, of a block that is borne, its image sectors alone.
 units_keep : (settings : Settings) (command : Command) (layout : Layout) → IsLayoutOf settings layout
-    → ((k : ℕ) (own : List ℕ) (steps : List Step) (turn : Turn) → IsRescued command layout settings.zones settings.form k own steps turn → IsWide (bytes_of_block layout settings.zones k) steps turn)
+    → ((k : ℕ) (own : List ℕ) (steps : List Step) (kind : UnitKind) → IsRescued command layout settings.zones settings.form k own steps kind → IsWide (bytes_of_block layout settings.zones k) steps kind)
     → AreTotal (block_units layout settings.zones settings.form (IsRescued command layout settings.zones settings.form))
     → ((bytes cpr image : List ℕ) (k : ℕ) (entry : BlockPlan) → IsBorneBlock layout settings.zones settings.form bytes cpr image k entry
-    → (steps : List Step) (turn : Turn) → IsRescued command layout settings.zones settings.form k (block_bytes settings.form bytes k) steps turn
-    → (steps ≡ Write (image_part layout entry image) ∷ []) × (turn ≡ Good))
+    → (steps : List Step) (kind : UnitKind) → IsRescued command layout settings.zones settings.form k (block_bytes settings.form bytes k) steps kind
+    → (steps ≡ Write (image_part layout entry image) ∷ []) × (kind ≡ Good))
     → settings.command ≡ command
     → (bytes : List ℕ) (loop : Outcome)
     → IsOutcome (block_units layout settings.zones settings.form (IsRescued command layout settings.zones settings.form)) bytes loop
@@ -81,8 +81,8 @@ units_keep settings command layout is_layout wide total alone is bytes loop runs
       received = any.received;
       begun = λ cpr image k entry b.
           part-begun any (image_bytes layout entry) (2048 * image_from entry.content) (image_part layout entry image) (any.gives cpr image k entry b);
-      alone = λ cpr image k entry b steps turn does.
-          alone bytes cpr image k entry b steps turn (subst (λ word. IsRescued word layout settings.zones settings.form k (block_bytes settings.form bytes k) steps turn) is does);
+      alone = λ cpr image k entry b steps kind does.
+          alone bytes cpr image k entry b steps kind (subst (λ word. IsRescued word layout settings.zones settings.form k (block_bytes settings.form bytes k) steps kind) is does);
     }
 
 -- so both commands that rescue keep the bound

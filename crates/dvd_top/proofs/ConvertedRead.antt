@@ -11,12 +11,12 @@ use Rattle.dvd_layout.specs.declared.layout.Layout.{Layout}
 use Rattle.dvd_layout.specs.declared.layout.Zones.{Zones}
 use Rattle.dvd_layout.proofs.SameLengths.{same_lengths-same}
 use Rattle.dvd_loop.specs.Laws.{IsFaultless}
-use Rattle.dvd_loop.specs.Machine.{Does, EndsBehind, Goes, GoesOn, IsOutcome, IsUnit, Outcome, Step, Units, bad_of, taking}
+use Rattle.dvd_loop.specs.Machine.{Performs, EndsAfterLast, Continues, ContinuesAfter, IsOutcome, IsUnit, Outcome, Step, Units, bad_of, taking}
 use Rattle.dvd_loop.specs.Machine.Step.{Write}
-use Rattle.dvd_loop.specs.Turns.{told, written}
-use Rattle.dvd_loop.specs.declared.ends.Behind.TheVariants.{Asks}
+use Rattle.dvd_loop.specs.UnitCommand.{told, written}
+use Rattle.dvd_loop.specs.declared.ends.AfterLast.TheVariants.{EndOfInput}
 use Rattle.dvd_loop.specs.declared.ends.LoopEnd.TheVariants.{Done, Long, ReadFault, Short}
-use Rattle.dvd_loop.specs.declared.ends.Turn.TheVariants.{Good, Bad, Last}
+use Rattle.dvd_loop.specs.declared.ends.UnitKind.TheVariants.{Good, Bad, Last}
 use Rattle.dvd_loop.proofs.Faultless.{all_done}
 use Rattle.dvd_loop.proofs.Fronts.{same_front, same_left as left_same}
 use Rattle.dvd_loop.proofs.Reached.{goes_on}
@@ -28,7 +28,7 @@ use Rattle.dvd_commands.specs.Convert.{convert_units}
 use Rattle.dvd_commands.specs.Recover.{IsDone, IsRecovered, recover_units}
 use Rattle.dvd_top.specs.Laws.{ConvertedIsRead}
 use Rattle.dvd_commands.specs.Opening.{IsHeaderOf, IsOpened, Opens}
-use Rattle.dvd_commands.proofs.CapturedTurns.{captured_whole}
+use Rattle.dvd_commands.proofs.CapturedUnits.{captured_whole}
 use Rattle.dvd_commands.proofs.ForRuns.{breaks_by_words, header-size, sized_part, words_of}
 use Rattle.dvd_words.specs.Settings.{IsLayoutOf, broken_rule}
 use Rattle.dvd_words.specs.declared.settings.Command.TheVariants.{Recover}
@@ -46,8 +46,8 @@ done_not_last Reference layout k entry rows marks steps does = let no : Last ≡
 done_not_last Control layout k entry rows marks steps does = let no : Last ≡ Good = does.1 in cc
 
 -- where a conversion is done nothing is left of the input
-behind_both : (bad others : ℕ) (left : List ℕ) (c a : Outcome) → EndsBehind Asks others left c → c.end ≡ Done → EndsBehind Asks bad left a
-    → (c.out ≡ []) × EndsBehind Asks bad [] a
+behind_both : (bad others : ℕ) (left : List ℕ) (c a : Outcome) → EndsAfterLast EndOfInput others left c → c.end ≡ Done → EndsAfterLast EndOfInput bad left a
+    → (c.out ≡ []) × EndsAfterLast EndOfInput bad [] a
 behind_both bad others [] c a ends done rest = elim ends [
   | inl is ↦ (ap (λ (o : Outcome). o.out) is, rest)
   | inr is ↦ (ap (λ (o : Outcome). o.out) is, rest)
@@ -60,7 +60,7 @@ behind_both bad others (byte ∷ left) c a ends done rest = elim ends [
 -- units of these bytes go so again, but for what is taken
 pub record GoesAgain (units : Units) (n : ℕ) (before : List (List ℕ)) (bad : ℕ) (bytes : List ℕ) (a : Outcome) : Type 0 where
   pub again : Outcome
-  pub goes : Goes units n before bad bytes again
+  pub goes : Continues units n before bad bytes again
   pub out : again.out ≡ a.out
   pub lines : again.lines ≡ a.lines
   pub ends : again.end ≡ a.end
@@ -110,7 +110,7 @@ module _ (layout : Layout) (zones : Zones) (form : Form) (has : HasSize form) (o
         ap (λ (x : Outcome). x.out) t.is ∙ ap (λ s. written s ++ t.after.out) t.unit.does.writes ∙ ap (λ l. l ++ t.after.out) (append-nil t.unit.does.unit)
 
     -- what is done for the captured block is done for its listed unit
-    listed_does : IsRecovered layout zones Listed (length lb) unit o.steps o.turn
+    listed_does : IsRecovered layout zones Listed (length lb) unit o.steps o.kind
     unfolding unit
     listed_does =
         let is = t.unit.does.is_unit in
@@ -119,24 +119,24 @@ module _ (layout : Layout) (zones : Zones) (form : Form) (has : HasSize form) (o
         let entry = o.unit.does.entry in record {
           entry = entry;
           stands = subst (λ k. slice_get (plan_of layout zones) k ≡ Some entry) same o.unit.does.stands;
-          does = subst (λ k. IsDone entry.content layout k entry (captured_rows Listed t.unit.does.unit) (captured_marks Listed t.unit.does.unit) o.steps o.turn) same
-              (subst (λ m. IsDone entry.content layout (length rb) entry (captured_rows Listed t.unit.does.unit) m o.steps o.turn) marks
-              (subst (λ r. IsDone entry.content layout (length rb) entry r (captured_marks form o.own) o.steps o.turn) rows o.unit.does.does));
+          does = subst (λ k. IsDone entry.content layout k entry (captured_rows Listed t.unit.does.unit) (captured_marks Listed t.unit.does.unit) o.steps o.kind) same
+              (subst (λ m. IsDone entry.content layout (length rb) entry (captured_rows Listed t.unit.does.unit) m o.steps o.kind) marks
+              (subst (λ r. IsDone entry.content layout (length rb) entry r (captured_marks form o.own) o.steps o.kind) rows o.unit.does.does));
         }
 
     -- so where the blocks to come are read again, this one is too
-    one_more : GoesAgain listing n (lb ++ unit ∷ []) (bad + bad_of o.turn) t.after.out o.after → GoesAgain listing (suc n) lb bad c.out a
-    unfolding Goes unit
+    one_more : GoesAgain listing n (lb ++ unit ∷ []) (bad + bad_of o.kind) t.after.out o.after → GoesAgain listing (suc n) lb bad c.out a
+    unfolding Continues unit
     one_more r =
         let is = t.unit.does.is_unit in
-        let Next = Goes listing n (lb ++ unit ∷ []) (bad + bad_of o.turn) t.after.out in
-        let behind = onto [] (written o.steps) (told o.steps) r.again in record {
-          again = taking unit behind;
-          goes = subst (λ l. Goes listing (suc n) lb bad l (taking unit behind)) (sym out_is)
-              (inr (taken_then listing lb _ (unit ++ t.after.out) unit t.after.out o.steps o.turn _ behind refl
+        let Next = Continues listing n (lb ++ unit ∷ []) (bad + bad_of o.kind) t.after.out in
+        let after_last = onto [] (written o.steps) (told o.steps) r.again in record {
+          again = taking unit after_last;
+          goes = subst (λ l. Continues listing (suc n) lb bad l (taking unit after_last)) (sym out_is)
+              (inr (taken_then listing lb _ (unit ++ t.after.out) unit t.after.out o.steps o.kind _ after_last refl
               (record { whole = captured_whole Listed unit is.size is.lawful; does = listed_does })
-              (does_all o.steps (GoesOn o.turn Next) r.again
-              (goes_on o.turn Next r.again (λ last. recover_last rb o.own o.steps (subst (IsUnit reading rb o.own o.steps) last o.unit)) r.goes)) refl));
+              (does_all o.steps (ContinuesAfter o.kind Next) r.again
+              (goes_on o.kind Next r.again (λ last. recover_last rb o.own o.steps (subst (IsUnit reading rb o.own o.steps) last o.unit)) r.goes)) refl));
           out = ap (λ l. written o.steps ++ l) r.out ∙ sym (ap (λ (x : Outcome). x.out) o.is);
           lines = ap (λ l. told o.steps ++ l) r.lines ∙ sym (ap (λ (x : Outcome). x.lines) o.is);
           ends = r.ends ∙ sym (ap (λ (x : Outcome). x.end) o.is);
@@ -148,14 +148,14 @@ module _ (layout : Layout) (zones : Zones) (form : Form) (has : HasSize form) (o
 
   -- the units to come
   goes_again : (n : ℕ) (cb rb lb : List (List ℕ)) (bad others : ℕ) (left : List ℕ) (c a : Outcome) → length rb ≡ length lb
-      → Goes converting n cb others left c → c.end ≡ Done → Goes reading n rb bad left a → IsFaultless a.end → GoesAgain listing n lb bad c.out a
-  unfolding Goes unit
+      → Continues converting n cb others left c → c.end ≡ Done → Continues reading n rb bad left a → IsFaultless a.end → GoesAgain listing n lb bad c.out a
+  unfolding Continues unit
   goes_again zero cb rb lb bad others left c a same (csteps, cnone, cdoes) done (rsteps, rnone, rdoes) none =
-      let ends : EndsBehind Asks others left c = subst (λ s. Does s (EndsBehind Asks others left) c) cnone cdoes in
-      let rest : EndsBehind Asks bad left a = subst (λ s. Does s (EndsBehind Asks bad left) a) rnone rdoes in
+      let ends : EndsAfterLast EndOfInput others left c = subst (λ s. Performs s (EndsAfterLast EndOfInput others left) c) cnone cdoes in
+      let rest : EndsAfterLast EndOfInput bad left a = subst (λ s. Performs s (EndsAfterLast EndOfInput bad left) a) rnone rdoes in
       let both = behind_both bad others left c a ends done rest in record {
         again = a;
-        goes = ([], refl, subst (λ l. EndsBehind Asks bad l a) (sym both.0) both.1);
+        goes = ([], refl, subst (λ l. EndsAfterLast EndOfInput bad l a) (sym both.0) both.1);
         out = refl;
         lines = refl;
         ends = refl;
@@ -167,9 +167,9 @@ module _ (layout : Layout) (zones : Zones) (form : Form) (has : HasSize form) (o
           | inl short ↦ absurd (let all = ap length t.front in let sum = length-append t.own t.left in let fewer = short.fewer in omega (arith, all, sum, fewer, t.size_is))
           | inr o ↦
               one_more n cb rb lb bad others left c a same t o
-              (goes_again n (cb ++ t.own ∷ []) (rb ++ o.own ∷ []) (lb ++ t.unit.does.unit ∷ []) (bad + bad_of o.turn) (others + bad_of t.turn) t.left t.after o.after
+              (goes_again n (cb ++ t.own ∷ []) (rb ++ o.own ∷ []) (lb ++ t.unit.does.unit ∷ []) (bad + bad_of o.kind) (others + bad_of t.kind) t.left t.after o.after
               (longer rb lb o.own t.unit.does.unit same) t.goes (sym (ap (λ (x : Outcome). x.end) t.is) ∙ done)
-              (subst (λ l. Goes reading n (rb ++ o.own ∷ []) (bad + bad_of o.turn) l o.after) (same_left n cb rb lb bad others left c a same t o) o.goes) o.faultless)
+              (subst (λ l. Continues reading n (rb ++ o.own ∷ []) (bad + bad_of o.kind) l o.after) (same_left n cb rb lb bad others left c a same t o) o.goes) o.faultless)
         ]
       ]
 
@@ -185,7 +185,7 @@ converted_read settings words bytes c a is_convert is_recover listed has lawful 
     let same : other ≡ layout =
     same_lengths-same other layout (so.shape ∙ sym is.shape) (so.sectors0 ∙ sym is.sectors0) (so.sectors1 ∙ sym is.sectors1) (so.initial ∙ sym is.initial) (so.tail ∙ sym is.tail) in
     let count = length (plan_of layout settings.zones) in
-    let opened = all_done (Write opening ∷ []) (Goes (convert_units layout settings.zones form opening) count [] 0 bytes) c runs (subst IsFaultless (sym done) tt) in
+    let opened = all_done (Write opening ∷ []) (Continues (convert_units layout settings.zones form opening) count [] 0 bytes) c runs (subst IsFaultless (sym done) tt) in
     let front : c.out ≡ opening ++ opened.after.out = ap (λ (x : Outcome). x.out) opened.is ∙ ap (λ l. l ++ opened.after.out) (append-nil opening) in
     let r = goes_again layout settings.zones form has opening count [] [] [] 0 0 bytes opened.after a refl opened.holds (sym (ap (λ (x : Outcome). x.end) opened.is) ∙ done)
     (subst (λ l. IsOutcome (recover_units l settings.zones form) bytes a) same read) none in

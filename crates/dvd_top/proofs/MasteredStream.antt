@@ -21,11 +21,11 @@ use Rattle.dvd_layout.specs.declared.layout.Zones.{Zones}
 use Rattle.dvd_layout.proofs.InOrder.{plan_of-in_order}
 use Rattle.dvd_loop.specs.Laws.{IsFaultless}
 use Rattle.dvd_loop.specs.Machine.{IsOutcome, Outcome, Step}
-use Rattle.dvd_loop.specs.Turns.{told, written}
+use Rattle.dvd_loop.specs.UnitCommand.{told, written}
 use Rattle.dvd_loop.specs.declared.ends.LoopEnd.{LoopEnd}
 use Rattle.dvd_loop.specs.declared.ends.LoopEnd.TheVariants.{Done}
-use Rattle.dvd_loop.specs.declared.ends.Turn.{Turn}
-use Rattle.dvd_loop.specs.declared.ends.Turn.TheVariants.{Good}
+use Rattle.dvd_loop.specs.declared.ends.UnitKind.{UnitKind}
+use Rattle.dvd_loop.specs.declared.ends.UnitKind.TheVariants.{Good}
 use Rattle.dvd_loop.proofs.Sizes.{sized_whole}
 use Rattle.dvd_loop.proofs.Over.{AreGood, InPieces, over, over_is, same_pieces, start}
 use Rattle.dvd_commands.specs.Master.{IsMastered, bytes_of_block, filled_block, frames_of, image_bytes, image_part, master_units}
@@ -35,7 +35,7 @@ use Rattle.dvd_top.specs.Laws.{ImageIsMastered, MasteredStreamIsRecovered}
 use Rattle.dvd_top.specs.Promises.{IsStreamOf}
 use Rattle.dvd_commands.proofs.ForRuns.{size_is}
 use Rattle.dvd_top.proofs.OnlyThese.{only_these, runs_only}
-use Rattle.dvd_commands.proofs.BlockTurns.{length-part}
+use Rattle.dvd_commands.proofs.BlockUnits.{length-part}
 use Rattle.dvd_commands.proofs.Pieces.{length-pieces, piece-at, pieces-front, start-same}
 use Rattle.dvd_commands.proofs.PlanBytes.{start-all, start-blocks}
 use Rattle.dvd_commands.proofs.PlanEntries.{some_entry}
@@ -57,43 +57,43 @@ recording-within block is =
     subst (λ rows. IsWithin block rows (captured_marks Plain (recording block))) (sym (recording_captured block is.height (widths-of block is))) (undamaged_within block (recording block))
 
 -- A block gives these image bytes back, and no line names it.
-record IsBack (image : List ℕ) (steps : List Step) (turn : Turn) : Type 0 where
-  good : turn ≡ Good
+record IsBack (image : List ℕ) (steps : List Step) (kind : UnitKind) : Type 0 where
+  good : kind ≡ Good
   writes : written steps ≡ image
   silent : told steps ≡ []
 
 -- one without image sectors gives none
-none_back : (layout : Layout) (content : Content) (image : List ℕ) (steps : List Step) (turn : Turn) → image_sectors layout content ≡ 0
+none_back : (layout : Layout) (content : Content) (image : List ℕ) (steps : List Step) (kind : UnitKind) → image_sectors layout content ≡ 0
     → length image ≡ 2048 * image_sectors layout content
-    → IsPassedOver steps turn → IsBack image steps turn
-none_back layout content image steps turn none size (nothing, good) = record {
+    → IsPassedOver steps kind → IsBack image steps kind
+none_back layout content image steps kind none size (nothing, good) = record {
   good = good;
   writes = ap written nothing ∙ sym (nil_from_length image (omega arith));
   silent = ap told nothing;
 }
 
 -- a block is passed over, or holds image sectors
-passed_back : (layout : Layout) (content : Content) (k : ℕ) (entry : BlockPlan) (rows : List (List ℕ)) (marks : List (List Bool)) (image : List ℕ) (steps : List Step) (turn : Turn)
-    → length image ≡ 2048 * image_sectors layout content → IsDone content layout k entry rows marks steps turn
-    → IsImage content ⊎ IsBack image steps turn
-passed_back layout (Image sector) k entry rows marks image steps turn size done = inl tt
-passed_back layout Zero k entry rows marks image steps turn size done = inr (none_back layout Zero image steps turn refl size done)
-passed_back layout Reference k entry rows marks image steps turn size done = inr (none_back layout Reference image steps turn refl size done)
-passed_back layout Control k entry rows marks image steps turn size done = inr (none_back layout Control image steps turn refl size done)
+passed_back : (layout : Layout) (content : Content) (k : ℕ) (entry : BlockPlan) (rows : List (List ℕ)) (marks : List (List Bool)) (image : List ℕ) (steps : List Step) (kind : UnitKind)
+    → length image ≡ 2048 * image_sectors layout content → IsDone content layout k entry rows marks steps kind
+    → IsImage content ⊎ IsBack image steps kind
+passed_back layout (Image sector) k entry rows marks image steps kind size done = inl tt
+passed_back layout Zero k entry rows marks image steps kind size done = inr (none_back layout Zero image steps kind refl size done)
+passed_back layout Reference k entry rows marks image steps kind size done = inr (none_back layout Reference image steps kind refl size done)
+passed_back layout Control k entry rows marks image steps kind size done = inr (none_back layout Control image steps kind refl size done)
 
 -- What recovery does for a mastered block: the image bytes are written that it was mastered from.
-block_back : (layout : Layout) (zones : Zones) (cpr : List ℕ) (k : ℕ) (entry : BlockPlan) (image : List ℕ) (block : List (List ℕ)) (steps : List Step) (turn : Turn)
+block_back : (layout : Layout) (zones : Zones) (cpr : List ℕ) (k : ℕ) (entry : BlockPlan) (image : List ℕ) (block : List (List ℕ)) (steps : List Step) (kind : UnitKind)
     → slice_get (plan_of layout zones) k ≡ Some entry → length cpr ≡ 6 → length image ≡ image_bytes layout entry
     → IsBlockOf (frames_of layout entry cpr (filled_block image)) block
-    → IsRecovered layout zones Plain k (recording block) steps turn → IsBack image steps turn
-block_back layout zones cpr k entry image block steps turn stands cpr_size size is does =
+    → IsRecovered layout zones Plain k (recording block) steps kind → IsBack image steps kind
+block_back layout zones cpr k entry image block steps kind stands cpr_size size is does =
     let rows = captured_rows Plain (recording block) in
     let marks = captured_marks Plain (recording block) in
-    let done = done_at (plan_of layout zones) (λ e. IsDone e.content layout k e) Plain k entry stands (recording block) steps turn does in
-    elim (passed_back layout entry.content k entry rows marks image steps turn size done) [
+    let done = done_at (plan_of layout zones) (λ e. IsDone e.content layout k e) Plain k entry stands (recording block) steps kind does in
+    elim (passed_back layout entry.content k entry rows marks image steps kind size done) [
       | inr back ↦ back
       | inl is_image ↦
-          let back = repaired layout zones Plain cpr k entry image (recording block) block steps turn stands is_image cpr_size size is
+          let back = repaired layout zones Plain cpr k entry image (recording block) block steps kind stands is_image cpr_size size is
           ((sized_whole 37_856 (recording block)).1 (recording-size block is.product)) (recording-within block is.product) does in
           record { good = back.1; writes = ap written back.0 ∙ append-nil image; silent = ap told back.0 }
     ]
@@ -107,10 +107,10 @@ record IsRecorded (layout : Layout) (zones : Zones) (cpr : List ℕ) (k : ℕ) (
   writes : out ≡ recording block
 
 -- what mastering does for a block records it, and tells nothing
-recorded : (layout : Layout) (zones : Zones) (cpr : List ℕ) (k : ℕ) (own : List ℕ) (steps : List Step) (turn : Turn)
-    → IsMastered layout zones cpr k own steps turn
+recorded : (layout : Layout) (zones : Zones) (cpr : List ℕ) (k : ℕ) (own : List ℕ) (steps : List Step) (kind : UnitKind)
+    → IsMastered layout zones cpr k own steps kind
     → IsRecorded layout zones cpr k own (written steps) × (told steps ≡ [])
-recorded layout zones cpr k own steps turn m = (
+recorded layout zones cpr k own steps kind m = (
   record {
     entry = m.entry;
     stands = m.stands;
@@ -127,7 +127,7 @@ masters_good : (layout : Layout) (zones : Zones) (cpr : List ℕ)
 masters_good layout zones cpr = record {
   begins = λ k bytes. refl;
   opens = refl;
-  does = λ before own steps turn lt unit. (unit.does.good, recorded layout zones cpr (length before) own steps turn unit.does);
+  does = λ before own steps kind lt unit. (unit.does.good, recorded layout zones cpr (length before) own steps kind unit.does);
   closes = λ before steps none. none;
   asks = refl;
 }
@@ -229,23 +229,23 @@ module _ (layout : Layout) (zones : Zones) (cpr image : List ℕ) (image_size : 
     stream-size = is.size ∙ sym (start-same 37_856 count)
 
     -- what is recovered of block k of it is the part of the image that it was mastered from
-    back-at : (k : ℕ) (own : List ℕ) (steps : List Step) (turn : Turn) → k < count → own ≡ take 37_856 (drop (start (λ j. 37_856) k) stream)
-        → IsRecovered layout zones Plain k own steps turn → IsBack (part k) steps turn
-    back-at k own steps turn lt own_is does =
+    back-at : (k : ℕ) (own : List ℕ) (steps : List Step) (kind : UnitKind) → k < count → own ≡ take 37_856 (drop (start (λ j. 37_856) k) stream)
+        → IsRecovered layout zones Plain k own steps kind → IsBack (part k) steps kind
+    back-at k own steps kind lt own_is does =
         let (entry, stands) = some_entry (plan_of layout zones) k lt in
         let (block, is_block, recorded) = is.each k entry stands in
         let captured : own ≡ recording block = own_is ∙ ap (λ n. take 37_856 (drop n stream)) (start-same 37_856 k) ∙ recorded in
-        subst (λ l. IsBack l steps turn) (sym (part_of entry.content k entry stands refl))
-        (block_back layout zones cpr k entry (image_part layout entry image) block steps turn stands cpr_size (length-part layout entry.content image image_size) is_block
-        (subst (λ l. IsRecovered layout zones Plain k l steps turn) captured does))
+        subst (λ l. IsBack l steps kind) (sym (part_of entry.content k entry stands refl))
+        (block_back layout zones cpr k entry (image_part layout entry image) block steps kind stands cpr_size (length-part layout entry.content image image_size) is_block
+        (subst (λ l. IsRecovered layout zones Plain k l steps kind) captured does))
 
     -- the units of recovery over the stream are good ones, and give the parts of the image back
     recovers_good : AreGood (only_these (recover_units layout zones Plain) (λ k. 37_856) (λ k bytes. refl) stream) (λ k. 37_856) (λ k own out lines. (out ≡ part k) × (lines ≡ []))
     recovers_good = record {
       begins = λ k bytes. refl;
       opens = refl;
-      does = λ before own steps turn lt unit.
-          let back = back-at (length before) own steps turn lt unit.does.1 unit.does.0 in (back.good, (back.writes, back.silent));
+      does = λ before own steps kind lt unit.
+          let back = back-at (length before) own steps kind lt unit.does.1 unit.does.0 in (back.good, (back.writes, back.silent));
       closes = λ before steps none. none;
       asks = refl;
     }

@@ -1,16 +1,16 @@
 -- A run over known bytes is one of units that may have no others.
 use Rattle.std.proofs.Common.{◌≡◌, ◌∙◌, inl, inr, ℕ, zero, suc, ◌+◌, List, [], ◌∷◌, ◌++◌, length, length-append, take, drop, ap, sym, append_assoc, add-one, refl, arith}
 use Rattle.dvd_capture.proofs.Fetching.{part-append, part-behind}
-use Rattle.dvd_loop.specs.Machine.{Goes, GoesOn, IsOutcome, Outcome, Units, bad_of, sized}
-use Rattle.dvd_loop.specs.declared.ends.Turn.{Turn}
-use Rattle.dvd_loop.specs.declared.ends.Turn.TheVariants.{Good, Bad, Last}
+use Rattle.dvd_loop.specs.Machine.{Continues, ContinuesAfter, IsOutcome, Outcome, Units, bad_of, sized}
+use Rattle.dvd_loop.specs.declared.ends.UnitKind.{UnitKind}
+use Rattle.dvd_loop.specs.declared.ends.UnitKind.TheVariants.{Good, Bad, Last}
 use Rattle.dvd_loop.proofs.Over.{start, start-suc, start-zero}
 use Rattle.dvd_loop.proofs.Sizes.{unit_size}
 use Rattle.dvd_loop.proofs.StepLemmas.{does_as, taken_then}
 
--- what follows from a thing that holds behind a turn holds there too
-goes_on_as : (turn : Turn) (A B : Outcome → Type 0) → ((after : Outcome) → A after → B after) → (after : Outcome) → GoesOn turn A after
-    → GoesOn turn B after
+-- what follows from a thing that holds after a unit holds there too
+goes_on_as : (kind : UnitKind) (A B : Outcome → Type 0) → ((after : Outcome) → A after → B after) → (after : Outcome) → ContinuesAfter kind A after
+    → ContinuesAfter kind B after
 goes_on_as Good A B to after goes = to after goes
 goes_on_as Bad A B to after goes = to after goes
 goes_on_as Last A B to after goes = goes
@@ -25,13 +25,13 @@ own_is all front own left a n is at size =
 module _ (units : Units) (size : ℕ → ℕ) (begins : (k : ℕ) (bytes : List ℕ) → units.begins k bytes ≡ sized (size k) bytes) (all : List ℕ) where
   -- the units, whose bytes are those that stand at their places
   abbrev pub only_these : Units
-  only_these = record units { does = λ k before own steps turn. units.does k before own steps turn × (own ≡ take (size k) (drop (start size k) all)) }
+  only_these = record units { does = λ k before own steps kind. units.does k before own steps kind × (own ≡ take (size k) (drop (start size k) all)) }
 
   -- a run behind some of the units, over what is left of the bytes, is one of units that may have no others
   goes_only : (n : ℕ) (before : List (List ℕ)) (bad : ℕ) (front left : List ℕ) (a : Outcome) → all ≡ front ++ left
       → length front ≡ start size (length before)
-      → Goes units n before bad left a → Goes only_these n before bad left a
-  unfolding Goes
+      → Continues units n before bad left a → Continues only_these n before bad left a
+  unfolding Continues
   goes_only zero before bad front left a is at goes = goes
   goes_only (suc n) before bad front left a is at (inl w) = inl (record { own = w.own; left = w.left; front = w.front; ends = w.ends; takes = w.takes })
   goes_only (suc n) before bad front left a is at (inr t) =
@@ -40,15 +40,15 @@ module _ (units : Units) (size : ℕ → ℕ) (begins : (k : ℕ) (bytes : List 
       let one = length-append before (t.own ∷ []) in
       let further : length (front ++ t.own) ≡ start size (length (before ++ t.own ∷ [])) =
       length-append front t.own ∙ omega (arith, at, own_size, start-suc size (length before)) ∙ ap (start size) (sym (one ∙ add-one (length before))) in
-      let A : Outcome → Type 0 = Goes units n (before ++ t.own ∷ []) (bad + bad_of t.turn) t.left in
-      let B : Outcome → Type 0 = Goes only_these n (before ++ t.own ∷ []) (bad + bad_of t.turn) t.left in
-      inr (taken_then only_these before _ left t.own t.left t.steps t.turn a t.after t.front
+      let A : Outcome → Type 0 = Continues units n (before ++ t.own ∷ []) (bad + bad_of t.kind) t.left in
+      let B : Outcome → Type 0 = Continues only_these n (before ++ t.own ∷ []) (bad + bad_of t.kind) t.left in
+      inr (taken_then only_these before _ left t.own t.left t.steps t.kind a t.after t.front
       (record { whole = t.unit.whole; does = (t.unit.does, own_is all front t.own t.left (start size (length before)) (size (length before)) parts at own_size) })
-      (does_as t.steps (GoesOn t.turn A) (GoesOn t.turn B)
-      (goes_on_as t.turn A B (λ after goes. goes_only n (before ++ t.own ∷ []) (bad + bad_of t.turn) (front ++ t.own) t.left after parts further goes)) t.after t.does) t.takes)
+      (does_as t.steps (ContinuesAfter t.kind A) (ContinuesAfter t.kind B)
+      (goes_on_as t.kind A B (λ after goes. goes_only n (before ++ t.own ∷ []) (bad + bad_of t.kind) (front ++ t.own) t.left after parts further goes)) t.after t.does) t.takes)
 
   -- and so is a whole run
   pub runs_only : (a : Outcome) → IsOutcome units all a → IsOutcome only_these all a
   runs_only a runs =
-      does_as units.opens (Goes units units.count [] 0 all) (Goes only_these units.count [] 0 all)
+      does_as units.opens (Continues units units.count [] 0 all) (Continues only_these units.count [] 0 all)
       (λ after goes. goes_only units.count [] 0 [] all after refl (sym (start-zero size)) goes) a runs

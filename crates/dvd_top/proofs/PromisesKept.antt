@@ -105,7 +105,7 @@ capture_recovered layout zones form capture a one rows runs none =
     let over = ends.over.1 size in
     let all = length-over units (bytes_of_block layout zones) (record {
       opens = refl;
-      does = λ before own steps turn unit. wide (length before) own steps turn unit.does;
+      does = λ before own steps kind unit. wide (length before) own steps kind unit.does;
       closes = λ before steps nothing. nothing;
     }) capture a runs none over in (
       record {

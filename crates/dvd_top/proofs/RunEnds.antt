@@ -6,7 +6,7 @@ use Rattle.dvd_ports.proofs.StopLemmas.{rose}
 use Rattle.dvd_capture.specs.declared.form.Form.{Form}
 use Rattle.dvd_capture.specs.declared.form.Form.TheVariants.{Plain, Marked, Listed}
 use Rattle.dvd_loop.specs.Laws.{IsFaultless}
-use Rattle.dvd_loop.specs.Machine.{Closes, Does, Outcome, ended}
+use Rattle.dvd_loop.specs.Machine.{Closes, Performs, Outcome, ended}
 use Rattle.dvd_loop.specs.Machine.Step.{Tell}
 use Rattle.dvd_loop.specs.Streams.{Counts, HaveCauses, SourceCounts, Streams, is_report_fault}
 use Rattle.dvd_loop.specs.declared.ends.LoopEnd.{LoopEnd}
@@ -25,7 +25,7 @@ use Rattle.dvd_top.proofs.MasteredStream.{outcome_is}
 use Rattle.dvd_top.proofs.OpenedRuns.{IsAsEnded, opens_there}
 
 -- a closing line behind which the end isn't a fault of the report was told whole
-line_is : (closing : LoopEnd → List ℕ) (end : LoopEnd) (line : Outcome) → Does (Tell (closing end) ∷ []) (λ after. after ≡ ended end) line
+line_is : (closing : LoopEnd → List ℕ) (end : LoopEnd) (line : Outcome) → Performs (Tell (closing end) ∷ []) (λ after. after ≡ ended end) line
     → line.end ≢ ReportFault
     → line ≡ record { taken = []; out = []; lines = closing end; end = end }
 line_is closing end line does sound = elim does [

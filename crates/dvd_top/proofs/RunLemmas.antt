@@ -6,7 +6,7 @@ use Rattle.dvd_ports.specs.Seen.{Seen}
 use Rattle.dvd_ports.proofs.KnownLemmas.{Appends-then}
 use Rattle.dvd_loop.specs.Laws.{IsFaultless}
 use Rattle.dvd_loop.specs.Machine.{Closes, Outcome}
-use Rattle.dvd_loop.specs.Streams.{Comes, Counts, HaveCauses, HaveMoved, Streams, is_report_fault, streams}
+use Rattle.dvd_loop.specs.Streams.{HaveReached, Counts, HaveCauses, HaveMoved, Streams, is_report_fault, streams}
 use Rattle.dvd_loop.specs.declared.ends.LoopEnd.{LoopEnd}
 use Rattle.dvd_loop.specs.declared.ends.LoopEnd.TheVariants.{ReportFault}
 use Rattle.dvd_loop.proofs.ClosedLemmas.{causes_closed}
@@ -33,7 +33,7 @@ report_or_not ReportFault = inl refl
 report_or_not end = inr (λ is. cc, λ old new on. on)
 
 module _ (settings : Settings) (old : Streams) (source output mid_report new_report : Seen) (within end : LoopEnd) (looped : HasLooped settings old (streams source output mid_report) within)
-    (line : Comes (λ bytes. Closes (closing_line settings.command) within) (streams source output mid_report) (streams source output new_report) end)
+    (line : HaveReached (λ bytes. Closes (closing_line settings.command) within) (streams source output mid_report) (streams source output new_report) end)
     (none : within ≡ ReportFault → new_report ≡ mid_report) (cause : within ≢ ReportFault
     → Counts (is_report_fault end) mid_report new_report) where
   -- a loop that the report failed in has no closing line, and its end is that of the run

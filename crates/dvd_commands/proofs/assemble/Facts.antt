@@ -8,7 +8,7 @@ use Rattle.dvd_commands.proofs.OtherWorkers.{layout_with}
 use Rattle.dvd_commands.proofs.RunFacts.{RunFacts}
 use Rattle.dvd_commands.proofs.SomeRun.{runs_exist, some_by_layout}
 use Rattle.dvd_loop.specs.Machine.{Units}
-use Rattle.dvd_loop.specs.declared.ends.Turn.TheVariants.{Good}
+use Rattle.dvd_loop.specs.declared.ends.UnitKind.TheVariants.{Good}
 use Rattle.dvd_words.specs.declared.settings.Command.TheVariants.{Assemble}
 use Rattle.dvd_words.specs.declared.settings.Settings.{Settings}
 
@@ -20,7 +20,7 @@ pub facts : RunFacts Assemble
 facts = record {
   once = λ settings bytes. once_by_layout frames settings bytes (λ layout.
       one_run (frames settings layout) (λ k. frame_size settings.form) (λ k own. refl)
-      (λ before own steps others turn other x y. (x.0 ∙ sym y.0, x.1 ∙ sym y.1)) (λ before. one_closing) bytes);
+      (λ before own steps others kind other x y. (x.0 ∙ sym y.0, x.1 ∙ sym y.1)) (λ before. one_closing) bytes);
   some = λ settings bytes six are none addresses. some_by_layout frames settings bytes none (λ layout.
       runs_exist (frames settings layout) (λ k. frame_size settings.form) (λ k own. refl)
       (λ before own lt is. ([], Good, (refl, refl))) (λ before all. (_, refl)) bytes are);

@@ -135,10 +135,10 @@ module _ (old mid new : Option (List ℕ)) (tables : List Table) (k : ℕ) (with
   pub block_begun : AppendsPrefix mid new (marked_text (get_or tables k unseen)) → AppendsPrefix old new (text_of tables)
   block_begun begun =
       let next : List ℕ = marked_text (get_or tables k unseen) in
-      let behind : List ℕ = text_of (drop (k + 1) tables) in
-      let is : text_of (take k tables) ++ (next ++ behind) ≡ text_of tables =
-      sym (append_assoc (text_of (take k tables)) next behind) ∙ ap (λ (l : List ℕ). l ++ behind) (sym (text-more tables k within)) ∙ sym (text-split tables (k + 1)) in
-      subst (AppendsPrefix old new) is (prefix-behind old mid new (text_of (take k tables)) next behind before begun)
+      let after_last : List ℕ = text_of (drop (k + 1) tables) in
+      let is : text_of (take k tables) ++ (next ++ after_last) ≡ text_of tables =
+      sym (append_assoc (text_of (take k tables)) next after_last) ∙ ap (λ (l : List ℕ). l ++ after_last) (sym (text-more tables k within)) ∙ sym (text-split tables (k + 1)) in
+      subst (AppendsPrefix old new) is (prefix-behind old mid new (text_of (take k tables)) next after_last before begun)
 
 -- the closing of a shelf
 abbrev pub closing_of : List Table → ℕ → ℕ → List Step

@@ -14,10 +14,10 @@ use Rattle.cd_sector.proofs.Passes.{length-with_p_words, length-with_q_words}
 use Rattle.dvd_loop.specs.Laws.{AreTotal, IsFaultless, IsFrontOf, first}
 use Rattle.dvd_loop.specs.Machine.{IsOutcome, IsUnit, Outcome, Step}
 use Rattle.dvd_loop.specs.Machine.Step.{Write}
-use Rattle.dvd_loop.specs.Turns.{written}
+use Rattle.dvd_loop.specs.UnitCommand.{written}
 use Rattle.dvd_loop.specs.declared.ends.LoopEnd.TheVariants.{Done}
-use Rattle.dvd_loop.specs.declared.ends.Turn.{Turn}
-use Rattle.dvd_loop.specs.declared.ends.Turn.TheVariants.{Bad, Good, Last}
+use Rattle.dvd_loop.specs.declared.ends.UnitKind.{UnitKind}
+use Rattle.dvd_loop.specs.declared.ends.UnitKind.TheVariants.{Bad, Good, Last}
 use Rattle.dvd_loop.proofs.Apart.{takes_sized}
 use Rattle.dvd_loop.proofs.Sizes.{begins_somehow, sized_whole}
 use Rattle.dvd_commands.specs.CdBound.{GivesUserData, IsBorneSector, cd_sector_bytes}
@@ -26,7 +26,7 @@ use Rattle.dvd_commands.specs.Meaning.{GoesBy}
 use Rattle.dvd_commands.specs.CdRead.{IsSectorRead, cdread_units, user_data}
 use Rattle.dvd_commands.specs.Laws.{BorneSectorsAreKept}
 use Rattle.dvd_words.specs.declared.settings.Settings.{Settings}
-use Rattle.dvd_commands.proofs.BlockTurns.{part_there}
+use Rattle.dvd_commands.proofs.BlockUnits.{part_there}
 use Rattle.dvd_commands.proofs.cd_read.Sectors.{read_some}
 use Rattle.dvd_commands.proofs.AnyEnd.{at_any_end, part-begun}
 use Rattle.dvd_commands.proofs.Pieces.{start-same}
@@ -44,9 +44,9 @@ made_data address user sector size made =
     ap user_data (made_whole address user sector made) ∙ data_of address user rest size
 
 -- ONE SECTOR. Damage that is borne is repaired, and what was made has no cause.
-pub borne_given : (address k : ℕ) (user sector read : List ℕ) (steps : List Step) (turn : Turn) → length user ≡ 2048 → IsSector address user sector
-    → length read ≡ 2352 → IsBorne 0 sector read → IsBorne 1 sector read → IsSectorRead address k read steps turn → (steps ≡ Write user ∷ []) × (turn ≡ Good)
-borne_given address k user sector read steps turn user_size made size low high does =
+pub borne_given : (address k : ℕ) (user sector read : List ℕ) (steps : List Step) (kind : UnitKind) → length user ≡ 2048 → IsSector address user sector
+    → length read ≡ 2352 → IsBorne 0 sector read → IsBorne 1 sector read → IsSectorRead address k read steps kind → (steps ≡ Write user ∷ []) × (kind ≡ Good)
+borne_given address k user sector read steps kind user_size made size low high does =
     let back : repaired read ≡ sector = given_back address user sector read made size low high in
     elim does [
       | inl given ↦ (given.writes ∙ ap (λ l. Write l ∷ []) (ap user_data back ∙ made_data address user sector user_size made), given.good)
@@ -59,10 +59,10 @@ length-own k bytes there = length-take-le 2352 (drop (2352 * k) bytes) (omega (a
 
 -- for a sector whose damage is borne its user data are written, and nothing else
 alone : (settings : Settings) (bytes user : List ℕ) (k : ℕ) → IsBorneSector settings bytes user k
-    → (steps : List Step) (turn : Turn) → IsSectorRead (settings.address + k) k (cd_sector_bytes bytes k) steps turn
-    → (steps ≡ Write user ∷ []) × (turn ≡ Good)
-alone settings bytes user k b steps turn does =
-    borne_given (settings.address + k) k user b.sector (cd_sector_bytes bytes k) steps turn b.user_size b.is_sector (length-own k bytes b.whole) b.low b.high does
+    → (steps : List Step) (kind : UnitKind) → IsSectorRead (settings.address + k) k (cd_sector_bytes bytes k) steps kind
+    → (steps ≡ Write user ∷ []) × (kind ≡ Good)
+alone settings bytes user k b steps kind does =
+    borne_given (settings.address + k) k user b.sector (cd_sector_bytes bytes k) steps kind b.user_size b.is_sector (length-own k bytes b.whole) b.low b.high does
 
 -- ALL SECTORS. Each writes 2,048 bytes.
 length-repaired : (read : List ℕ) → length read ≡ 2352 → length (repaired read) ≡ 2352
@@ -85,9 +85,9 @@ write-wide : (bytes : List ℕ) (steps : List Step) → steps ≡ Write bytes �
 write-wide bytes steps is = ap (λ s. length (written s)) is ∙ ap length (append-nil bytes)
 
 -- a sector writes 2,048 bytes, whether it is given or refused, and isn't the last
-read-wide : (address k : ℕ) (read : List ℕ) (steps : List Step) (turn : Turn) → length read ≡ 2352 → IsSectorRead address k read steps turn
-    → (length (written steps) ≡ 2048) × (turn ≢ Last)
-read-wide address k read steps turn size does = elim does [
+read-wide : (address k : ℕ) (read : List ℕ) (steps : List Step) (kind : UnitKind) → length read ≡ 2352 → IsSectorRead address k read steps kind
+    → (length (written steps) ≡ 2048) × (kind ≢ Last)
+read-wide address k read steps kind size does = elim does [
   | inl given ↦ (
     write-wide (user_data (repaired read)) steps given.writes ∙ length-user read size,
     λ last. let no : Good ≡ Last = sym given.good ∙ last in cc,
@@ -108,9 +108,9 @@ module _ (address sectors : ℕ) where
   ]
 
   -- nor is a unit of `cdread` the last, and it writes 2,048 bytes
-  unit-wide : (count : ℕ) (before : List (List ℕ)) (own : List ℕ) (steps : List Step) (turn : Turn) → IsUnit (first count (cdread_units address sectors)) before own steps turn
-      → (length (written steps) ≡ 2048) × (turn ≢ Last)
-  unit-wide count before own steps turn unit = read-wide (address + length before) (length before) own steps turn ((sized_whole 2352 own).0 unit.whole) unit.does
+  unit-wide : (count : ℕ) (before : List (List ℕ)) (own : List ℕ) (steps : List Step) (kind : UnitKind) → IsUnit (first count (cdread_units address sectors)) before own steps kind
+      → (length (written steps) ≡ 2048) × (kind ≢ Last)
+  unit-wide count before own steps kind unit = read-wide (address + length before) (length before) own steps kind ((sized_whole 2352 own).0 unit.whole) unit.does
 
   -- what the first k sectors write
   length-first : (k : ℕ) (bytes : List ℕ) (a : Outcome) → IsOutcome (first k (cdread_units address sectors)) bytes a → a.end ≡ Done
@@ -129,9 +129,9 @@ at_place : (settings : Settings) (bytes : List ℕ) (a : Outcome) → IsOutcome 
     → (user : List ℕ) (k : ℕ) → IsBorneSector settings bytes user k → take 2048 (drop (2048 * k) a.out) ≡ user
 at_place settings bytes a runs none user k b =
     let units = cdread_units settings.address settings.sectors in
-    let (steps, turn, t) = takes_sized units 2352 (λ j l. refl) (never_last settings.address settings.sectors) refl bytes a runs none k b.asked b.whole in
-    let does = subst (λ j. IsSectorRead (settings.address + j) j (cd_sector_bytes bytes k) steps turn) t.number t.unit.does in
-    let back = alone settings bytes user k b steps turn does in
+    let (steps, kind, t) = takes_sized units 2352 (λ j l. refl) (never_last settings.address settings.sectors) refl bytes a runs none k b.asked b.whole in
+    let does = subst (λ j. IsSectorRead (settings.address + j) j (cd_sector_bytes bytes k) steps kind) t.number t.unit.does in
+    let back = alone settings bytes user k b steps kind does in
     part_there (2048 * k) 2048 t.alone.out user a.out (length-first settings.address settings.sectors k bytes t.alone t.runs t.ends)
     b.user_size (subst (λ s. IsFrontOf (t.alone.out ++ written s) a.out) back.0 t.out)
 

@@ -16,8 +16,8 @@ use Rattle.cd_sector.proofs.OneSector.{no_cause}
 use Rattle.cd_sector.proofs.Places.{length-sector_word}
 use Rattle.dvd_loop.specs.Machine.{Step}
 use Rattle.dvd_loop.specs.Machine.Step.{Tell, Write}
-use Rattle.dvd_loop.specs.declared.ends.Turn.{Turn}
-use Rattle.dvd_loop.specs.declared.ends.Turn.TheVariants.{Bad, Good}
+use Rattle.dvd_loop.specs.declared.ends.UnitKind.{UnitKind}
+use Rattle.dvd_loop.specs.declared.ends.UnitKind.TheVariants.{Bad, Good}
 use Rattle.dvd_commands.specs.CdLines.{damaged_sector_line}
 use Rattle.dvd_commands.specs.CdRead.{IsSectorRead, user_data}
 
@@ -51,9 +51,9 @@ one_cause sector address Edc (Address found) p q = absurd (q.3 p.2)
 one_cause sector address Edc Edc p q = refl
 
 -- what is done for a sector that is read is one thing
-pub read_is_one : (address k : ℕ) (read : List ℕ) (steps others : List Step) (turn other : Turn) → IsSectorRead address k read steps turn
-    → IsSectorRead address k read others other → (steps ≡ others) × (turn ≡ other)
-read_is_one address k read steps others turn other p q = elim p [
+pub read_is_one : (address k : ℕ) (read : List ℕ) (steps others : List Step) (kind other : UnitKind) → IsSectorRead address k read steps kind
+    → IsSectorRead address k read others other → (steps ≡ others) × (kind ≡ other)
+read_is_one address k read steps others kind other p q = elim p [
   | inl given ↦ elim q [
     | inl same ↦ (given.writes ∙ sym same.writes, given.good ∙ sym same.good)
     | inr refused ↦ absurd (no_cause (repaired read) address refused.cause given.faultless refused.is_cause)
@@ -147,7 +147,7 @@ faultless_or_cause sector address = elim (least_wrong sector 138) [
 ]
 
 -- something is done for every sector that is read
-pub read_some : (address k : ℕ) (read : List ℕ) → (steps : List Step) × (turn : Turn) × IsSectorRead address k read steps turn
+pub read_some : (address k : ℕ) (read : List ℕ) → (steps : List Step) × (kind : UnitKind) × IsSectorRead address k read steps kind
 read_some address k read = elim (faultless_or_cause (repaired read) address) [
   | inl right ↦ (Write (user_data (repaired read)) ∷ [], Good, inl (record { faultless = right; writes = refl; good = refl }))
   | inr (cause, is) ↦ (Tell (damaged_sector_line k cause) ∷ Write (replicate 2048 0) ∷ [], Bad, inr (record { cause = cause; is_cause = is; tells = refl; bad = refl }))

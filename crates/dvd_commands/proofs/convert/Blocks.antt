@@ -13,15 +13,15 @@ use Rattle.dvd_layout.specs.declared.layout.Zones.{Zones}
 use Rattle.dvd_layout.specs.declared.layout.Zones.TheVariants.{DataOnly, All as AllZones}
 use Rattle.dvd_loop.specs.Machine.{Step, sized}
 use Rattle.dvd_loop.specs.Machine.Step.{Write}
-use Rattle.dvd_loop.specs.declared.ends.Turn.{Turn}
-use Rattle.dvd_loop.specs.declared.ends.Turn.TheVariants.{Good}
+use Rattle.dvd_loop.specs.declared.ends.UnitKind.{UnitKind}
+use Rattle.dvd_loop.specs.declared.ends.UnitKind.TheVariants.{Good}
 use Rattle.dvd_commands.specs.Captured.{captured_part}
 use Rattle.dvd_commands.specs.Convert.{IsConverted}
 use Rattle.dvd_commands.specs.Opening.{IsHeaderOf, shape_number, zones_number}
 use Rattle.dvd_commands.proofs.Layouts.{layout_for}
 use Rattle.dvd_words.specs.Settings.{broken_rule}
 use Rattle.dvd_words.specs.declared.settings.Settings.{Settings}
-use Rattle.dvd_loop.specs.Machine.Part.{Whole}
+use Rattle.dvd_loop.specs.Machine.Prefix.{Whole}
 use Rattle.dvd_commands.proofs.BorneBlocks.{captured-received}
 use Rattle.dvd_capture.proofs.ListedWritten.{some_spelling}
 use Rattle.dvd_commands.proofs.SomeThing.{MaySome}
@@ -43,9 +43,9 @@ sized_part Marked has own = refl
 sized_part Listed has own = absurd (has refl)
 
 -- DETERMINED. Rows and marks have one unit.
-pub converted_is_one : (form : Form) (own : List ℕ) (steps others : List Step) (turn other : Turn) → IsConverted form own steps turn → IsConverted form own others other
-    → (steps ≡ others) × (turn ≡ other)
-converted_is_one form own steps others turn other p q =
+pub converted_is_one : (form : Form) (own : List ℕ) (steps others : List Step) (kind other : UnitKind) → IsConverted form own steps kind → IsConverted form own others other
+    → (steps ≡ others) × (kind ≡ other)
+converted_is_one form own steps others kind other p q =
     let unit : p.unit ≡ q.unit = one_spelling (captured_rows form own) (captured_marks form own) p.unit q.unit p.is_unit q.is_unit in
     (p.writes ∙ ap (λ u. Write u ∷ []) unit ∙ sym q.writes, p.good ∙ sym q.good)
 

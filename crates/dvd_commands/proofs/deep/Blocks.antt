@@ -15,8 +15,8 @@ use Rattle.dvd_layout.specs.declared.entry.BlockPlan.{BlockPlan}
 use Rattle.dvd_layout.specs.declared.layout.Layout.{Layout}
 use Rattle.dvd_loop.specs.Machine.{Step}
 use Rattle.dvd_loop.specs.Machine.Step.{Tell, Write}
-use Rattle.dvd_loop.specs.declared.ends.Turn.{Turn}
-use Rattle.dvd_loop.specs.declared.ends.Turn.TheVariants.{Good}
+use Rattle.dvd_loop.specs.declared.ends.UnitKind.{UnitKind}
+use Rattle.dvd_loop.specs.declared.ends.UnitKind.TheVariants.{Good}
 use Rattle.dvd_decoding.specs.Causes.{two_pass_cause}
 use Rattle.dvd_decoding.specs.Frames.{frames_cause, main_at, main_data}
 use Rattle.dvd_decoding.specs.Reading.{IsReadAs, block_cause}
@@ -55,9 +55,9 @@ module _ (layout : Layout) (k : ℕ) (entry : BlockPlan) (rows : List (List ℕ)
 
   -- what a round gives back of a block that they refuse, with its line
   pub found_given : (bytes sectors : List ℕ) (round : ℕ) → IsFoundBy layout entry rows marks bytes round
-      → sectors ≡ take (2048 * image_sectors layout entry.content) bytes → (steps : List Step) (turn : Turn)
-      → TellsAndWrites (round_line k entry round) sectors Good steps turn → IsImageRead layout k entry rows marks steps turn
-  found_given bytes sectors round found is steps turn done = inl (record {
+      → sectors ≡ take (2048 * image_sectors layout entry.content) bytes → (steps : List Step) (kind : UnitKind)
+      → TellsAndWrites (round_line k entry round) sectors Good steps kind → IsImageRead layout k entry rows marks steps kind
+  found_given bytes sectors round found is steps kind done = inl (record {
     round = round;
     sectors = found.sectors;
     read = found.read;

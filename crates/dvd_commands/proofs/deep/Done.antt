@@ -15,7 +15,7 @@ use Rattle.dvd_decoding.specs.Causes.{two_pass_cause}
 use Rattle.dvd_commands.specs.Deep.{IsDeepened, IsGivenBack, IsImageRead, IsReadDeep, deep_units, round_told}
 use Rattle.dvd_commands.specs.Inner.Performing.{sectors_out}
 use Rattle.dvd_loop.specs.Laws.{AreTotal}
-use Rattle.dvd_loop.specs.declared.ends.Turn.TheVariants.{Good}
+use Rattle.dvd_loop.specs.declared.ends.UnitKind.TheVariants.{Good}
 use Rattle.dvd_commands.proofs.CapturedBlocks.{blocks_total}
 use Rattle.dvd_commands.proofs.OneThing.{MayOne, either_is_one, if_image_is_one, entry_is_one, refused_is_one}
 use Rattle.dvd_commands.proofs.SomeThing.{MaySome, if_image_some, entry_some, refused_some, no_closing}
@@ -24,7 +24,7 @@ use Rattle.dvd_commands.proofs.SomeThing.{MaySome, if_image_some, entry_some, re
 module _ (layout : Layout) (k : ℕ) (entry : BlockPlan) (rows : List (List ℕ)) (marks : List (List Bool)) where
   -- what rounds give back of a block is one set of sectors, and the round whose line is told is one
   given_back_is_one : MayOne (IsGivenBack layout k entry rows marks)
-  given_back_is_one steps others turn other p q =
+  given_back_is_one steps others kind other p q =
       let same = deep-once rows marks entry p.round q.round p.sectors q.sectors p.read q.read in (
         p.writes
             ∙ ap (λ (t : ℕ). round_told (two_pass_cause (answers_of rows marks)) k entry t ++ Write (sectors_out (image_sectors layout entry.content) p.sectors) ∷ []) same.0
@@ -37,7 +37,7 @@ module _ (layout : Layout) (k : ℕ) (entry : BlockPlan) (rows : List (List ℕ)
   image_read_is_one : MayOne (IsImageRead layout k entry rows marks)
   image_read_is_one =
       either_is_one given_back_is_one (refused_is_one (deep_cause rows marks entry) layout k entry rows marks)
-      (λ steps others turn other p q. let no : None ≡ Some q.cause = sym (deep-no_cause rows marks entry p.round p.sectors p.read) ∙ q.first in cc)
+      (λ steps others kind other p q. let no : None ≡ Some q.cause = sym (deep-no_cause rows marks entry p.round p.sectors p.read) ∙ q.first in cc)
 
 -- so what `deep` does for a block is one thing
 pub deepened_is_one : (layout : Layout) (zones : Zones) (form : Form) (k : ℕ) (own : List ℕ) → MayOne (IsDeepened layout zones form k own)

@@ -1,7 +1,7 @@
 -- What the laws of runs rest on of `exercise`.
 use Rattle.std.proofs.Common.{◌∙◌, [], refl, sym}
 use Rattle.dvd_loop.specs.Machine.{Units}
-use Rattle.dvd_loop.specs.declared.ends.Turn.TheVariants.{Good}
+use Rattle.dvd_loop.specs.declared.ends.UnitKind.TheVariants.{Good}
 use Rattle.dvd_commands.specs.Exercise.{exercise_units}
 use Rattle.dvd_commands.proofs.OneRun.{one_run}
 use Rattle.dvd_commands.proofs.RunFacts.{RunFacts}
@@ -17,7 +17,7 @@ blocks settings = exercise_units settings.seed settings.blocks
 pub facts : RunFacts Exercise
 facts = record {
   once = λ settings bytes a b goes others.
-      one_run (blocks settings) (λ k. 0) (λ k own. refl) (λ before own steps others turn other x y. (x.0 ∙ sym y.0, x.1 ∙ sym y.1))
+      one_run (blocks settings) (λ k. 0) (λ k own. refl) (λ before own steps others kind other x y. (x.0 ∙ sym y.0, x.1 ∙ sym y.1))
       (λ before. exercised_is_one settings.seed settings.blocks) bytes a b goes.2 others.2;
   some = λ settings bytes six are none addresses.
       let exists = runs_exist (blocks settings) (λ k. 0) (λ k own. refl) (λ before own lt is. ([], Good, (refl, refl)))

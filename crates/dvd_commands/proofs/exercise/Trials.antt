@@ -109,19 +109,19 @@ module _ (seed n : ℕ) (old_state new_state : ℕ) (old new : Counts) (old_work
 -- behind the last block the line is written
 pub exercised : (seed blocks n state : ℕ) (counts : Counts) (work : Work) (line : List ℕ) → n ≡ blocks → IsBehind seed n state counts work
     → line ≡ exercise_line seed blocks counts.whole counts.fixed counts.failed → IsExercised seed blocks (Write line ∷ [])
-exercised seed blocks n state counts work line all behind is = record {
-  trials = behind.trials;
-  count = behind.count ∙ all;
-  are = behind.are;
+exercised seed blocks n state counts work line all after_last is = record {
+  trials = after_last.trials;
+  count = after_last.count ∙ all;
+  are = after_last.are;
   writes =
       ap (λ l. Write l ∷ [])
       (is
-      ∙ ap (λ whole. exercise_line seed blocks whole counts.fixed counts.failed) (behind.whole ∙ all)
-      ∙ ap (λ fixed. exercise_line seed blocks blocks fixed counts.failed) behind.fixed
-      ∙ ap (exercise_line seed blocks blocks (fixed_in behind.trials)) behind.failed);
+      ∙ ap (λ whole. exercise_line seed blocks whole counts.fixed counts.failed) (after_last.whole ∙ all)
+      ∙ ap (λ fixed. exercise_line seed blocks blocks fixed counts.failed) after_last.fixed
+      ∙ ap (exercise_line seed blocks blocks (fixed_in after_last.trials)) after_last.failed);
 }
 
 -- and the work holds what it left
 pub last_left : (seed blocks n state : ℕ) (counts : Counts) (work : Work) → 1 ≤ blocks → n ≡ blocks → IsBehind seed n state counts work
     → IsLeft seed (blocks - 1) work
-last_left seed blocks n state counts work some all behind = behind.left (blocks - 1) (omega (arith, some, all))
+last_left seed blocks n state counts work some all after_last = after_last.left (blocks - 1) (omega (arith, some, all))

@@ -11,9 +11,9 @@ use Rattle.dvd_loop.specs.Laws.{IsNever}
 use Rattle.dvd_loop.specs.Machine.{Step}
 use Rattle.dvd_loop.specs.Machine.Step.{Write}
 use Rattle.dvd_loop.specs.Streams.{Streams}
-use Rattle.dvd_loop.specs.Turns.{AreDone}
-use Rattle.dvd_loop.specs.declared.ends.Turn.{Turn}
-use Rattle.dvd_loop.specs.declared.ends.Turn.TheVariants.{Bad, Good, Last}
+use Rattle.dvd_loop.specs.UnitCommand.{AreDone}
+use Rattle.dvd_loop.specs.declared.ends.UnitKind.{UnitKind}
+use Rattle.dvd_loop.specs.declared.ends.UnitKind.TheVariants.{Bad, Good, Last}
 use Rattle.dvd_loop.proofs.Silent.{AreWrites, one_write}
 use Rattle.dvd_commands.specs.Info.{IsAsked, IsControlDone, format_lines, info_units}
 use Rattle.dvd_commands.specs.Inner.Performing.{AnswersNothing, Tells}
@@ -67,12 +67,12 @@ never_bad initial form k before own steps does =
     asked_never_bad does.entry.content does.entry (captured_rows form own) (captured_marks form own) steps does.does
 
 -- no line is told for a block
-pub asked_silent : (content : Content) (entry : BlockPlan) (rows : List (List ℕ)) (marks : List (List Bool)) (steps : List Step) (turn : Turn)
-    → IsAsked content entry rows marks steps turn → AreWrites steps
-asked_silent Control entry rows marks steps turn does = elim does [
+pub asked_silent : (content : Content) (entry : BlockPlan) (rows : List (List ℕ)) (marks : List (List Bool)) (steps : List Step) (kind : UnitKind)
+    → IsAsked content entry rows marks steps kind → AreWrites steps
+asked_silent Control entry rows marks steps kind does = elim does [
   | inl answer ↦ one_write steps _ answer.writes
   | inr none ↦ subst AreWrites (sym none.nothing) tt
 ]
-asked_silent Zero entry rows marks steps turn does = subst AreWrites (sym does.0) tt
-asked_silent Reference entry rows marks steps turn does = subst AreWrites (sym does.0) tt
-asked_silent (Image sector) entry rows marks steps turn does = subst AreWrites (sym does.0) tt
+asked_silent Zero entry rows marks steps kind does = subst AreWrites (sym does.0) tt
+asked_silent Reference entry rows marks steps kind does = subst AreWrites (sym does.0) tt
+asked_silent (Image sector) entry rows marks steps kind does = subst AreWrites (sym does.0) tt

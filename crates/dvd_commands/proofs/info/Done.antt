@@ -10,13 +10,13 @@ use Rattle.dvd_layout.specs.declared.entry.Content.TheVariants.{Control}
 use Rattle.dvd_decoding.specs.declared.cause.Cause.{Cause}
 use Rattle.dvd_loop.specs.Machine.{Step}
 use Rattle.dvd_loop.specs.Machine.Step.{Write}
-use Rattle.dvd_loop.specs.declared.ends.Turn.{Turn}
+use Rattle.dvd_loop.specs.declared.ends.UnitKind.{UnitKind}
 use Rattle.dvd_read.proofs.BlockRead.{read-determined, no_cause-read}
 use Rattle.dvd_decoding.specs.Reading.{block_cause, block_sectors}
 use Rattle.dvd_commands.specs.Info.{GivesFormat, IsAsked, IsControlDone, GivesNoFormat, IsSought, format_lines}
 use Rattle.dvd_control.specs.declared.format.ControlFault.{ControlFault}
 use Rattle.dvd_layout.proofs.LeadIn.{length-lead_in_blocks}
-use Rattle.dvd_loop.specs.declared.ends.Turn.TheVariants.{Good, Last}
+use Rattle.dvd_loop.specs.declared.ends.UnitKind.TheVariants.{Good, Last}
 use Rattle.dvd_commands.proofs.OneThing.{MayOne, either_is_one, passed_is_one, entry_is_one}
 use Rattle.dvd_commands.proofs.SomeThing.{MaySome, passed_some, entry_some}
 
@@ -24,14 +24,14 @@ use Rattle.dvd_commands.proofs.SomeThing.{MaySome, passed_some, entry_some}
 module _ (entry : BlockPlan) (rows : List (List ℕ)) (marks : List (List Bool)) (size : length rows ≡ 208) (marks_size : length marks ≡ 208) where
   -- the format that a block of control data answers with is one
   answer_is_one : MayOne (GivesFormat entry rows marks)
-  answer_is_one steps others turn other p q =
+  answer_is_one steps others kind other p q =
       let sectors : p.sectors ≡ q.sectors =
       (read-determined rows marks entry p.sectors size marks_size p.read).1 ∙ sym (read-determined rows marks entry q.sectors size marks_size q.read).1 in
       (p.writes ∙ ap (λ s. Write (format_lines (fields_in (line s 0))) ∷ []) sectors ∙ sym q.writes, p.last ∙ sym q.last)
 
   -- a block that answers has neither a cause nor a broken format, so that it isn't one without an answer
-  not_answered : (steps others : List Step) (turn other : Turn) → GivesFormat entry rows marks steps turn → GivesNoFormat entry rows marks others other → ⊥
-  not_answered steps others turn other p q = elim q.why [
+  not_answered : (steps others : List Step) (kind other : UnitKind) → GivesFormat entry rows marks steps kind → GivesNoFormat entry rows marks others other → ⊥
+  not_answered steps others kind other p q = elim q.why [
     | inl (cause, first) ↦ (let no : None ≡ Some cause = sym (read-determined rows marks entry p.sectors size marks_size p.read).0 ∙ first in cc)
     | inr (sectors, fault, read, broken) ↦
         let same : p.sectors ≡ sectors =
@@ -43,7 +43,7 @@ module _ (entry : BlockPlan) (rows : List (List ℕ)) (marks : List (List Bool))
   -- so a block of control data answers in one way, or not at all
   control_is_one : MayOne (IsControlDone entry rows marks)
   control_is_one =
-      either_is_one answer_is_one (λ steps others turn other p q. (p.nothing ∙ sym q.nothing, p.good ∙ sym q.good)) not_answered
+      either_is_one answer_is_one (λ steps others kind other p q. (p.nothing ∙ sym q.nothing, p.good ∙ sym q.good)) not_answered
 
   -- whatever a block holds, one thing alone is done when it is asked for its format
   asked_is_one : (content : Content) → MayOne (IsAsked content entry rows marks)

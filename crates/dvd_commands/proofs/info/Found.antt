@@ -9,14 +9,14 @@ use Rattle.dvd_layout.specs.declared.entry.BlockPlan.{BlockPlan}
 use Rattle.dvd_layout.specs.declared.entry.Content.{Content}
 use Rattle.dvd_layout.specs.declared.entry.Content.TheVariants.{Control, Image, Reference, Zero}
 use Rattle.dvd_loop.specs.Laws.{IsFaultless}
-use Rattle.dvd_loop.specs.Machine.{Does, EndsBehind, Goes, GoesOn, IsEndedWithin, Outcome, Step, bad_of, ended, taking}
-use Rattle.dvd_loop.specs.Machine.Part.{Whole, Cut, Broken}
+use Rattle.dvd_loop.specs.Machine.{Performs, EndsAfterLast, Continues, ContinuesAfter, IsEndedWithin, Outcome, Step, bad_of, ended, taking}
+use Rattle.dvd_loop.specs.Machine.Prefix.{Whole, Cut, Broken}
 use Rattle.dvd_loop.specs.Machine.Step.{Write}
-use Rattle.dvd_loop.specs.declared.ends.Behind.TheVariants as behind
+use Rattle.dvd_loop.specs.declared.ends.AfterLast.TheVariants as after_last
 use Rattle.dvd_loop.specs.declared.ends.LoopEnd.{LoopEnd}
 use Rattle.dvd_loop.specs.declared.ends.LoopEnd.TheVariants.{BadMarks, Done, NoControl, Short}
-use Rattle.dvd_loop.specs.declared.ends.Turn.{Turn}
-use Rattle.dvd_loop.specs.declared.ends.Turn.TheVariants.{Good, Last}
+use Rattle.dvd_loop.specs.declared.ends.UnitKind.{UnitKind}
+use Rattle.dvd_loop.specs.declared.ends.UnitKind.TheVariants.{Good, Last}
 use Rattle.dvd_loop.proofs.Faultless.{all_done, short_or_broken}
 use Rattle.dvd_loop.proofs.StepLemmas.{onto}
 use Rattle.dvd_commands.specs.Captured.{HasBlocks, block_bytes, block_start, captured_part, from_block}
@@ -26,19 +26,19 @@ use Rattle.dvd_commands.proofs.CapturedBlocks.{IsPast, from-is, front-is, own-is
 use Rattle.dvd_commands.proofs.CapturedParts.{broken_stays}
 
 -- a block is passed over, or it is the last and the lines of its format are written
-abbrev TellsOrPasses : List Step → Turn → Type 0
-TellsOrPasses steps turn = ((steps ≡ []) × (turn ≡ Good)) ⊎ ((format : Fields) × (steps ≡ Write (format_lines format) ∷ []) × (turn ≡ Last))
+abbrev TellsOrPasses : List Step → UnitKind → Type 0
+TellsOrPasses steps kind = ((steps ≡ []) × (kind ≡ Good)) ⊎ ((format : Fields) × (steps ≡ Write (format_lines format) ∷ []) × (kind ≡ Last))
 
 -- one of the two is done for each block that is asked
-tells_or_passes : (content : Content) (entry : BlockPlan) (rows : List (List ℕ)) (marks : List (List Bool)) (steps : List Step) (turn : Turn)
-    → IsAsked content entry rows marks steps turn → TellsOrPasses steps turn
-tells_or_passes Control entry rows marks steps turn does = elim does [
+tells_or_passes : (content : Content) (entry : BlockPlan) (rows : List (List ℕ)) (marks : List (List Bool)) (steps : List Step) (kind : UnitKind)
+    → IsAsked content entry rows marks steps kind → TellsOrPasses steps kind
+tells_or_passes Control entry rows marks steps kind does = elim does [
   | inl answer ↦ inr (fields_in (line answer.sectors 0), answer.writes, answer.last)
   | inr none ↦ inl (none.nothing, none.good)
 ]
-tells_or_passes Zero entry rows marks steps turn does = inl does
-tells_or_passes Reference entry rows marks steps turn does = inl does
-tells_or_passes (Image sector) entry rows marks steps turn does = inl does
+tells_or_passes Zero entry rows marks steps kind does = inl does
+tells_or_passes Reference entry rows marks steps kind does = inl does
+tells_or_passes (Image sector) entry rows marks steps kind does = inl does
 
 -- it ends with so much taken and written, and nothing told
 abbrev ends_with : List ℕ → List ℕ → LoopEnd → Outcome
@@ -130,7 +130,7 @@ module _ (initial : ℕ) (form : Form) (all : List ℕ) where
     -- block k answers
     answered : (own more : List ℕ) (format : Fields) (after : Outcome) → IsPast form all (suc k) (front ++ own) more
         → IsSought initial form k (block_bytes form all k) (Write (format_lines format) ∷ []) Last
-        → a ≡ taking own after → Does (Write (format_lines format) ∷ []) (λ o. o ≡ ended Done) after → IsFaultless after.end
+        → a ≡ taking own after → Performs (Write (format_lines format) ∷ []) (λ o. o ≡ ended Done) after → IsFaultless after.end
         → Finds (onto front [] [] a)
     answered own more format after behind_it answers takes does none =
         let lines = format_lines format in
@@ -152,10 +152,10 @@ module _ (initial : ℕ) (form : Form) (all : List ℕ) where
   -- what n blocks more find, behind a front of the input with blocks that answer nothing
   finds : (n : ℕ) (before : List (List ℕ)) (bad : ℕ) (front left : List ℕ) (a : Outcome) → IsPast form all (length before) front left
       → length before + n ≡ initial + 224 → AreSilent (length before)
-      → Goes (info_units initial form) n before bad left a → IsFaultless a.end → Finds (onto front [] [] a)
-  unfolding Goes
+      → Continues (info_units initial form) n before bad left a → IsFaultless a.end → Finds (onto front [] [] a)
+  unfolding Continues
   finds zero before bad front left a past count silent (steps, closes, does) none =
-      let now : a ≡ ended NoControl = subst (λ s. Does s (EndsBehind behind.NoControl bad left) a) closes does in
+      let now : a ≡ ended NoControl = subst (λ s. Performs s (EndsAfterLast after_last.NoControl bad left) a) closes does in
       let number : length before ≡ initial + 224 = omega (arith, count) in
       behind_all front left a (subst (λ k. IsPast form all k front left) number past) (subst AreSilent number silent) now
   finds (suc n) before bad front left a past count silent (inl w) none =
@@ -164,21 +164,21 @@ module _ (initial : ℕ) (form : Form) (all : List ℕ) where
       let k = length before in
       let behind_it = past_next form all k front left past t.own t.left t.front t.unit.whole in
       let own : t.own ≡ block_bytes form all k = sym (own-is form all k front left past t.own t.left t.front t.unit.whole) in
-      let does : IsSought initial form k (block_bytes form all k) t.steps t.turn = subst (λ l. IsSought initial form k l t.steps t.turn) own t.unit.does in
+      let does : IsSought initial form k (block_bytes form all k) t.steps t.kind = subst (λ l. IsSought initial form k l t.steps t.kind) own t.unit.does in
       let faultless : IsFaultless t.after.end = subst (λ (o : Outcome). IsFaultless o.end) t.takes none in
-      let Next : Outcome → Type 0 = Goes (info_units initial form) n (before ++ t.own ∷ []) (bad + bad_of t.turn) t.left in
-      elim (tells_or_passes does.entry.content does.entry (captured_rows form (block_bytes form all k)) (captured_marks form (block_bytes form all k)) t.steps t.turn does.does) [
+      let Next : Outcome → Type 0 = Continues (info_units initial form) n (before ++ t.own ∷ []) (bad + bad_of t.kind) t.left in
+      elim (tells_or_passes does.entry.content does.entry (captured_rows form (block_bytes form all k)) (captured_marks form (block_bytes form all k)) t.steps t.kind does.does) [
         | inl (nothing, good) ↦
             let one : length (before ++ t.own ∷ []) ≡ suc k = length-append before (t.own ∷ []) ∙ add-one k in
-            let goes : Next t.after = subst (λ v. GoesOn v Next t.after) good (subst (λ s. Does s (GoesOn t.turn Next) t.after) nothing t.does) in
-            let more = one_more_silent k silent (subst (λ v. IsSought initial form k (block_bytes form all k) [] v) good (subst (λ s. IsSought initial form k (block_bytes form all k) s t.turn) nothing does)) in
+            let goes : Next t.after = subst (λ v. ContinuesAfter v Next t.after) good (subst (λ s. Performs s (ContinuesAfter t.kind Next) t.after) nothing t.does) in
+            let more = one_more_silent k silent (subst (λ v. IsSought initial form k (block_bytes form all k) [] v) good (subst (λ s. IsSought initial form k (block_bytes form all k) s t.kind) nothing does)) in
             subst Finds (ap (λ l. record t.after { taken = l }) (append_assoc front t.own t.after.taken) ∙ ap (onto front [] []) (sym t.takes)) (
-            finds n (before ++ t.own ∷ []) (bad + bad_of t.turn) (front ++ t.own) t.left t.after (subst (λ j. IsPast form all j (front ++ t.own) t.left) (sym one) behind_it)
+            finds n (before ++ t.own ∷ []) (bad + bad_of t.kind) (front ++ t.own) t.left t.after (subst (λ j. IsPast form all j (front ++ t.own) t.left) (sym one) behind_it)
             (omega (arith, one, count)) (subst AreSilent (sym one) more) goes faultless
             )
         | inr (format, writes, last) ↦
-            let answers = subst (λ v. IsSought initial form k (block_bytes form all k) (Write (format_lines format) ∷ []) v) last (subst (λ s. IsSought initial form k (block_bytes form all k) s t.turn) writes does) in
-            let ends = subst (λ v. Does (Write (format_lines format) ∷ []) (GoesOn v Next) t.after) last (subst (λ s. Does s (GoesOn t.turn Next) t.after) writes t.does) in
+            let answers = subst (λ v. IsSought initial form k (block_bytes form all k) (Write (format_lines format) ∷ []) v) last (subst (λ s. IsSought initial form k (block_bytes form all k) s t.kind) writes does) in
+            let ends = subst (λ v. Performs (Write (format_lines format) ∷ []) (ContinuesAfter v Next) t.after) last (subst (λ s. Performs s (ContinuesAfter t.kind Next) t.after) writes t.does) in
             answered k front left a past (omega (arith, count)) silent t.own t.left format t.after behind_it answers t.takes ends faultless
       ]
 

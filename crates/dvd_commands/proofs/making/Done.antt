@@ -4,14 +4,14 @@ use Rattle.dvd_loop.specs.Machine.Step.{Write}
 use Rattle.dvd_commands.specs.Making.{IsMade}
 use Rattle.cd_sector.specs.Sector.{IsSector}
 use Rattle.cd_sector.proofs.SomeSector.{some_sector}
-use Rattle.dvd_loop.specs.declared.ends.Turn.TheVariants.{Good}
+use Rattle.dvd_loop.specs.declared.ends.UnitKind.TheVariants.{Good}
 use Rattle.dvd_commands.proofs.FrameBytes.{HasBytes}
 use Rattle.dvd_commands.proofs.OneThing.{MayOne}
 use Rattle.dvd_commands.proofs.SomeThing.{MaySome}
 
 -- Where one list of bytes is made of a sector, one thing is done for it.
 pub made_is_one : (Holds : List ℕ → Type 0) → ((a b : List ℕ) → Holds a → Holds b → a ≡ b) → MayOne (IsMade Holds)
-made_is_one Holds one steps others turn other p q =
+made_is_one Holds one steps others kind other p q =
     (p.writes ∙ ap (λ l. Write l ∷ []) (one p.made q.made p.holds q.holds) ∙ sym q.writes, p.good ∙ sym q.good)
 
 -- Every address below the last has a sector.

@@ -3,7 +3,7 @@ use Rattle.std.proofs.Common.{◌∙◌, ◌+◌, [], ◌∷◌, arith, length, 
 use Rattle.cd_sector.proofs.OneSector.{one_sector}
 use Rattle.dvd_loop.specs.Machine.{Units}
 use Rattle.dvd_loop.specs.Machine.Step.{Write}
-use Rattle.dvd_loop.specs.declared.ends.Turn.TheVariants.{Good}
+use Rattle.dvd_loop.specs.declared.ends.UnitKind.TheVariants.{Good}
 use Rattle.dvd_commands.specs.CdMake.{cdmake_units}
 use Rattle.dvd_commands.specs.Frames.{frames_units}
 use Rattle.dvd_commands.proofs.OneRun.{one_closing, one_run}

@@ -9,7 +9,7 @@ use Rattle.dvd_layout.specs.declared.layout.Zones.{Zones}
 use Rattle.dvd_commands.proofs.PlanEntries.{one_entry, some_entry}
 use Rattle.dvd_loop.specs.Machine.Step.{Write}
 use Rattle.dvd_commands.specs.Master.{IsMastered, filled_block, frames_of, bytes_of_block, bytes_of_entry, cpr_in, main_for}
-use Rattle.dvd_loop.specs.declared.ends.Turn.TheVariants.{Good}
+use Rattle.dvd_loop.specs.declared.ends.UnitKind.TheVariants.{Good}
 use Rattle.dvd_commands.proofs.BlockFrames.{line-frames_of}
 use Rattle.dvd_commands.proofs.master.FormatBytes.{bytes-cpr, bytes-filled_block, bytes-main_for}
 use Rattle.dvd_commands.proofs.FrameBytes.{HasBytes, bytes-frame}
@@ -18,7 +18,7 @@ use Rattle.dvd_commands.proofs.SomeThing.{MayEach}
 
 -- The sixteen frames of a block have one block at most.
 pub mastered_is_one : (layout : Layout) (zones : Zones) (cpr : List ℕ) (k : ℕ) (own : List ℕ) → MayOne (IsMastered layout zones cpr k own)
-mastered_is_one layout zones cpr k own steps others turn other p q =
+mastered_is_one layout zones cpr k own steps others kind other p q =
     let entry : p.entry ≡ q.entry = one_entry (plan_of layout zones) k p.entry q.entry p.stands q.stands in
     let block : p.block ≡ q.block =
     one_block_at_most (frames_of layout q.entry cpr (filled_block own)) p.block q.block (subst (λ e. IsBlockOf (frames_of layout e cpr (filled_block own)) p.block) entry p.is_block) q.is_block in

@@ -11,7 +11,7 @@ use Rattle.dvd_layout.proofs.InOrder.{plan_of-in_order}
 use Rattle.dvd_loop.specs.Laws.{IsFaultless, first}
 use Rattle.dvd_loop.specs.Machine.{IsOutcome, Outcome, Step}
 use Rattle.dvd_loop.specs.declared.ends.LoopEnd.TheVariants.{Done}
-use Rattle.dvd_loop.specs.declared.ends.Turn.TheVariants.{Good, Last}
+use Rattle.dvd_loop.specs.declared.ends.UnitKind.TheVariants.{Good, Last}
 use Rattle.dvd_loop.proofs.Over.{AreGood, over}
 use Rattle.dvd_loop.proofs.Taken.{taken_all, taken_number}
 use Rattle.dvd_commands.specs.Master.{IsMastered, bytes_of_block, master_units}
@@ -36,7 +36,7 @@ module _ (layout : Layout) (zones : Zones) (cpr image : List ℕ) where
   all_good = record {
     begins = λ k bytes. refl;
     opens = refl;
-    does = λ before own steps turn lt unit. (unit.does.good, tt);
+    does = λ before own steps kind lt unit. (unit.does.good, tt);
     closes = λ before steps none. none;
     asks = refl;
   }

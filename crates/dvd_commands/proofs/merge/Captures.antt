@@ -10,7 +10,7 @@ use Rattle.dvd_capture.specs.Captured.{Captures, EndsAfter, FailsWithin, HasSize
 use Rattle.dvd_capture.specs.declared.form.Form.{Form}
 use Rattle.dvd_capture.specs.declared.form.Form.TheVariants.{Listed, Plain, Marked}
 use Rattle.dvd_capture.proofs.Fetching.{part-append, part-behind, sized-block}
-use Rattle.dvd_loop.specs.Turns.{EndsShort}
+use Rattle.dvd_loop.specs.UnitCommand.{EndsShort}
 use Rattle.dvd_loop.specs.declared.ends.LoopEnd.{LoopEnd}
 use Rattle.dvd_loop.specs.declared.ends.LoopEnd.TheVariants.{ReadFault, Short}
 use Rattle.dvd_loop.proofs.StreamLemmas.{Consumes-none}
@@ -99,17 +99,17 @@ capture_taken form sized n old mid new table next rows marks before own is =
 -- the loop ends within one of the captures
 pub captures_short : (form : Form) (n captures k : ℕ) (old : Seen) (mid new : Seen) (table : Table) (end : LoopEnd) → n < captures
     → AreTaken n form old.bytes mid.bytes table → EndsInCapture k (n * block_size form) (block_size form) mid new end → EndsShort k (captures * block_size form) old new end
-captures_short form n captures k old mid new table end lt before behind =
+captures_short form n captures k old mid new table end lt before after_last =
     let size = block_size form in
-    let all : length (before.bytes ++ behind.own) ≡ n * size + length behind.own = length-append before.bytes behind.own ∙ ap (λ l. l + length behind.own) before.size in
+    let all : length (before.bytes ++ after_last.own) ≡ n * size + length after_last.own = length-append before.bytes after_last.own ∙ ap (λ l. l + length after_last.own) before.size in
     record {
-      own = before.bytes ++ behind.own;
-      reads = Consumes-then old.bytes mid.bytes new.bytes before.bytes behind.own before.taken behind.reads;
+      own = before.bytes ++ after_last.own;
+      reads = Consumes-then old.bytes mid.bytes new.bytes before.bytes after_last.own before.taken after_last.reads;
       fewer =
           let most = parts-le size n captures lt in
           let turned : size * n ≡ n * size = grind arith in
-          omega (arith, all, most, turned, behind.fewer);
-      ends = elim behind.ends [
+          omega (arith, all, most, turned, after_last.fewer);
+      ends = elim after_last.ends [
         | inl input ↦ inl (input.0 ∙ ap (λ l. Short k l) (sym all), input.1)
         | inr failed ↦ inr failed
       ];

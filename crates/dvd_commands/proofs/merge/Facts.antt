@@ -12,7 +12,7 @@ use Rattle.dvd_commands.proofs.SomeRun.{runs_exist, some_by_layout}
 use Rattle.dvd_commands.proofs.SomeThing.{no_closing}
 use Rattle.dvd_loop.specs.Machine.{Units}
 use Rattle.dvd_loop.specs.Machine.Step.{Write}
-use Rattle.dvd_loop.specs.declared.ends.Turn.TheVariants.{Good}
+use Rattle.dvd_loop.specs.declared.ends.UnitKind.TheVariants.{Good}
 use Rattle.dvd_words.specs.declared.settings.Command.TheVariants.{Merge}
 use Rattle.dvd_words.specs.declared.settings.Settings.{Settings}
 
@@ -24,7 +24,7 @@ pub facts : RunFacts Merge
 facts = record {
   once = λ settings bytes. once_by_layout blocks settings bytes (λ layout.
       one_run (blocks settings layout) (λ k. settings.captures * block_size settings.form) (λ k own. refl)
-      (λ before own steps others turn other x y. (x.0 ∙ sym y.0, x.1 ∙ sym y.1)) (λ before. one_closing) bytes);
+      (λ before own steps others kind other x y. (x.0 ∙ sym y.0, x.1 ∙ sym y.1)) (λ before. one_closing) bytes);
   some = λ settings bytes six are none addresses. some_by_layout blocks settings bytes none (λ layout.
       runs_exist (blocks settings layout) (λ k. settings.captures * block_size settings.form) (λ k own. refl)
       (λ before own lt is. (Write (marked_text (joined (tables_in settings.captures settings.form own))) ∷ [], Good, (refl, refl)))

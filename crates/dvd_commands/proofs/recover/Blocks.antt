@@ -9,8 +9,8 @@ use Rattle.dvd_layout.specs.declared.entry.BlockPlan.{BlockPlan}
 use Rattle.dvd_layout.specs.declared.layout.Layout.{Layout}
 use Rattle.dvd_loop.specs.Machine.{Step}
 use Rattle.dvd_loop.specs.Machine.Step.{Write}
-use Rattle.dvd_loop.specs.declared.ends.Turn.{Turn}
-use Rattle.dvd_loop.specs.declared.ends.Turn.TheVariants.{Good}
+use Rattle.dvd_loop.specs.declared.ends.UnitKind.{UnitKind}
+use Rattle.dvd_loop.specs.declared.ends.UnitKind.TheVariants.{Good}
 use Rattle.dvd_decoding.specs.Reading.{IsReadAs}
 use Rattle.dvd_decoding.specs.Salvage.{saved_in}
 use Rattle.dvd_decoding.specs.declared.cause.Cause.{Cause}
@@ -40,12 +40,12 @@ few_saved work entry =
     (sixteen-sectors (rows_of work) (marks_of_work work) (rows-height work.received) (marks-height work.marks) entry).2
 
 module _ (layout : Layout) (k : ℕ) (entry : BlockPlan) (rows : List (List ℕ)) (marks : List (List Bool)) where
-  -- a block of which sectors are read: they are written, and the turn is good
+  -- a block of which sectors are read: they are written, and the unit is good
   pub given : (sectors : List (List ℕ)) → IsReadAs rows marks entry sectors
       → IsImageDone layout k entry rows marks (Write (sectors_out (image_sectors layout entry.content) sectors) ∷ []) Good
   given sectors read = inl (record { sectors = sectors; read = read; writes = refl; good = refl })
 
   -- a block that is refused for its cause
-  pub refused : (has : Option Cause) (cause : Cause) → has ≡ Some cause → (steps : List Step) (turn : Turn) → IsRefusedFor layout k entry rows marks cause steps turn
-      → IsRefused has layout k entry rows marks steps turn
-  refused has cause first steps turn is = record { cause = cause; first = first; tells = is.0; bad = is.1 }
+  pub refused : (has : Option Cause) (cause : Cause) → has ≡ Some cause → (steps : List Step) (kind : UnitKind) → IsRefusedFor layout k entry rows marks cause steps kind
+      → IsRefused has layout k entry rows marks steps kind
+  refused has cause first steps kind is = record { cause = cause; first = first; tells = is.0; bad = is.1 }

@@ -20,9 +20,9 @@ use Rattle.dvd_layout.specs.declared.layout.Layout.{Layout}
 use Rattle.dvd_layout.specs.declared.layout.Zones.{Zones}
 use Rattle.dvd_loop.specs.Laws.{IsFaultless, IsFrontOf}
 use Rattle.dvd_loop.specs.Machine.{IsOutcome, Outcome, Step, sized}
-use Rattle.dvd_loop.specs.Machine.Part.{Whole}
-use Rattle.dvd_loop.specs.Turns.{written}
-use Rattle.dvd_loop.specs.declared.ends.Turn.{Turn}
+use Rattle.dvd_loop.specs.Machine.Prefix.{Whole}
+use Rattle.dvd_loop.specs.UnitCommand.{written}
+use Rattle.dvd_loop.specs.declared.ends.UnitKind.{UnitKind}
 use Rattle.dvd_loop.proofs.Sizes.{sized_enough}
 use Rattle.dvd_read.proofs.BlockRead.{read-determined}
 use Rattle.dvd_read.proofs.SavedLaws.{wholly-saved}
@@ -31,7 +31,7 @@ use Rattle.dvd_commands.specs.Master.{image_bytes, image_part}
 use Rattle.dvd_commands.specs.Recover.{IsImageDone, IsRecovered, recover_units}
 use Rattle.dvd_commands.specs.Inner.Performing.{sectors_out}
 use Rattle.dvd_commands.proofs.BorneBlocks.{captured-received, recovered_at}
-use Rattle.dvd_commands.proofs.BlockTurns.{has_turn, part_there}
+use Rattle.dvd_commands.proofs.BlockUnits.{has_unit, part_there}
 use Rattle.dvd_commands.proofs.CapturedBlocks.{block-whole, start-sized}
 use Rattle.dvd_commands.proofs.master.Blocks.{size_is}
 use Rattle.dvd_commands.proofs.RecoveredWidths.{recovered-wide}
@@ -71,10 +71,10 @@ unfolding block_sectors
 block_sectors-are rows marks entry is = ap (λ cause. cond (is_none cause) (main_data (block_in rows marks) entry) (replicate 16 (replicate 2048 0))) is
 
 -- What is written for a block of image sectors is what is salvaged of it: of a block that is given back that is all of them.
-written_is : (layout : Layout) (form : Form) (k : ℕ) (entry : BlockPlan) (own : List ℕ) (steps : List Step) (turn : Turn) → captured_part form own ≡ Whole (length own)
-    → IsImageDone layout k entry (captured_rows form own) (captured_marks form own) steps turn
+written_is : (layout : Layout) (form : Form) (k : ℕ) (entry : BlockPlan) (own : List ℕ) (steps : List Step) (kind : UnitKind) → captured_part form own ≡ Whole (length own)
+    → IsImageDone layout k entry (captured_rows form own) (captured_marks form own) steps kind
     → written steps ≡ sectors_out (image_sectors layout entry.content) (block_out (captured_rows form own) (captured_marks form own) entry)
-written_is layout form k entry own steps turn whole done =
+written_is layout form k entry own steps kind whole done =
     let rows = captured_rows form own in
     let marks = captured_marks form own in
     let count = image_sectors layout entry.content in
@@ -101,12 +101,12 @@ module _ (layout : Layout) (zones : Zones) (form : Form) (capture : List ℕ) (a
       let whole = has_blocks form one capture (k + 1) enough in
       let wide = recovered-wide layout zones form in
       let own = block_bytes form capture k in
-      let t = has_turn layout zones form (IsRecovered layout zones form) wide capture a runs none k entry stands is_image whole in
-      let bytes : length (written t.steps) ≡ image_bytes layout entry = (wide k own t.steps t.turn t.does).0 ∙ size_is layout zones k entry stands in
+      let t = has_unit layout zones form (IsRecovered layout zones form) wide capture a runs none k entry stands is_image whole in
+      let bytes : length (written t.steps) ≡ image_bytes layout entry = (wide k own t.steps t.kind t.does).0 ∙ size_is layout zones k entry stands in
       part_there (2048 * image_from entry.content) (image_bytes layout entry) t.before (written t.steps) a.out t.size bytes
       (subst (λ l. IsFrontOf (t.before ++ l) a.out) (sym (append-nil (written t.steps))) t.out)
-      ∙ written_is layout form k entry own t.steps t.turn (block-whole form capture (k + 1) whole k (omega arith))
-      (recovered_at layout zones form k entry own t.steps t.turn stands is_image t.does)
+      ∙ written_is layout form k entry own t.steps t.kind (block-whole form capture (k + 1) whole k (omega arith))
+      (recovered_at layout zones form k entry own t.steps t.kind stands is_image t.does)
 
   -- a block without image sectors gives none
   nothing_there : (entry : BlockPlan) (own : List ℕ) (content : Content) → entry.content ≡ content → image_sectors layout content ≡ 0

@@ -13,7 +13,7 @@ use Rattle.dvd_decoding.specs.Reading.{block_cause, block_sectors}
 use Rattle.dvd_commands.specs.Recover.{IsDone, IsGiven, IsImageDone, IsRecovered, recover_units}
 use Rattle.dvd_commands.specs.Inner.Performing.{sectors_out}
 use Rattle.dvd_loop.specs.Laws.{AreTotal}
-use Rattle.dvd_loop.specs.declared.ends.Turn.TheVariants.{Good}
+use Rattle.dvd_loop.specs.declared.ends.UnitKind.TheVariants.{Good}
 use Rattle.dvd_commands.proofs.CapturedBlocks.{blocks_total}
 use Rattle.dvd_commands.proofs.OneThing.{MayOne, either_is_one, if_image_is_one, entry_is_one, refused_is_one}
 use Rattle.dvd_commands.proofs.SomeThing.{MaySome, if_image_some, entry_some, refused_some, no_closing}
@@ -22,7 +22,7 @@ use Rattle.dvd_commands.proofs.SomeThing.{MaySome, if_image_some, entry_some, re
 module _ (layout : Layout) (k : ℕ) (entry : BlockPlan) (rows : List (List ℕ)) (marks : List (List Bool)) (size : length rows ≡ 208) (marks_size : length marks ≡ 208) where
   -- what two passes give of a block is one set of sectors, so what is written of it is one thing
   given_is_one : MayOne (IsGiven layout entry rows marks)
-  given_is_one steps others turn other p q =
+  given_is_one steps others kind other p q =
       let sectors : p.sectors ≡ q.sectors =
       (read-determined rows marks entry p.sectors size marks_size p.read).1 ∙ sym (read-determined rows marks entry q.sectors size marks_size q.read).1 in
       (p.writes ∙ ap (λ s. Write (sectors_out (image_sectors layout entry.content) s) ∷ []) sectors ∙ sym q.writes, p.good ∙ sym q.good)
@@ -31,7 +31,7 @@ module _ (layout : Layout) (k : ℕ) (entry : BlockPlan) (rows : List (List ℕ)
   image_is_one : MayOne (IsImageDone layout k entry rows marks)
   image_is_one =
       either_is_one given_is_one (refused_is_one (block_cause rows marks entry) layout k entry rows marks)
-      (λ steps others turn other p q. let no : None ≡ Some q.cause = sym (read-determined rows marks entry p.sectors size marks_size p.read).0 ∙ q.first in cc)
+      (λ steps others kind other p q. let no : None ≡ Some q.cause = sym (read-determined rows marks entry p.sectors size marks_size p.read).0 ∙ q.first in cc)
 
 -- so what `recover` does for a block is one thing
 pub recovered_is_one : (layout : Layout) (zones : Zones) (form : Form) (k : ℕ) (own : List ℕ) → MayOne (IsRecovered layout zones form k own)

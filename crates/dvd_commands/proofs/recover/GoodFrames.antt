@@ -12,7 +12,7 @@ use Rattle.dvd_layout.specs.declared.layout.Layout.{Layout}
 use Rattle.dvd_layout.specs.declared.layout.Zones.{Zones}
 use Rattle.dvd_loop.specs.Laws.{IsFaultless}
 use Rattle.dvd_loop.specs.Machine.{IsOutcome, Outcome}
-use Rattle.dvd_loop.specs.Turns.{written}
+use Rattle.dvd_loop.specs.UnitCommand.{written}
 use Rattle.dvd_commands.specs.Bound.{GivesGoodSectors, IsBeyond, KeepsGoodFrames, sector_part}
 use Rattle.dvd_commands.specs.Captured.{block_bytes}
 use Rattle.dvd_commands.specs.Commands.{GoesOver, meaning}
@@ -26,7 +26,7 @@ use Rattle.dvd_commands.proofs.AnyEnd.{at_any_end, part-begun}
 use Rattle.dvd_commands.proofs.master.Blocks.{size_is}
 use Rattle.dvd_commands.proofs.recover.Done.{recover_total}
 use Rattle.dvd_commands.proofs.recover.Rescues.{given_good}
-use Rattle.dvd_commands.proofs.BlockTurns.{has_turn, length-part}
+use Rattle.dvd_commands.proofs.BlockUnits.{has_unit, length-part}
 use Rattle.dvd_commands.proofs.CapturedBlocks.{block-whole}
 use Rattle.dvd_commands.proofs.RecoveredWidths.{recovered-wide}
 
@@ -54,12 +54,12 @@ at_place layout zones form bytes a runs none cpr image k f entry b below good =
     let own = block_bytes form bytes k in
     let part = image_part layout entry image in
     let size = length-part layout entry.content image m.image_size in
-    let t = has_turn layout zones form (IsRecovered layout zones form) (recovered-wide layout zones form) bytes a runs none k entry m.stands m.is_image m.whole in
-    let wide : length (written t.steps) ≡ image_bytes layout entry = (recovered-wide layout zones form k own t.steps t.turn t.does).0 ∙ size_is layout zones k entry m.stands in
+    let t = has_unit layout zones form (IsRecovered layout zones form) (recovered-wide layout zones form) bytes a runs none k entry m.stands m.is_image m.whole in
+    let wide : length (written t.steps) ≡ image_bytes layout entry = (recovered-wide layout zones form k own t.steps t.kind t.does).0 ∙ size_is layout zones k entry m.stands in
     let at : 2048 * (from + f) ≡ 2048 * from + 2048 * f = omega arith in
     ap (λ n. take 2048 (drop n a.out)) at
     ∙ part-further t.before (written t.steps) t.out.0 a.out (2048 * from) (2048 * f) 2048 t.size (omega (arith, wide)) t.out.1
-    ∙ given_good layout zones form cpr k f entry part own m.block b.cause t.steps t.turn m.stands m.is_image m.cpr_size size m.is_block
+    ∙ given_good layout zones form cpr k f entry part own m.block b.cause t.steps t.kind m.stands m.is_image m.cpr_size size m.is_block
     (block-whole form bytes (k + 1) m.whole k (omega arith)) b.refused below good t.does
     ∙ part-front (drop (2048 * from) image) (image_bytes layout entry) (2048 * f) 2048 (omega (arith, size))
     ∙ ap (take 2048) (drop-drop (2048 * f) (2048 * from) image)

@@ -12,8 +12,8 @@ use Rattle.dvd_layout.specs.Place.{image_sectors}
 use Rattle.dvd_layout.specs.declared.layout.Layout.{Layout}
 use Rattle.dvd_layout.specs.declared.entry.BlockPlan.{BlockPlan}
 use Rattle.dvd_loop.specs.Machine.{Step}
-use Rattle.dvd_loop.specs.Turns.{written}
-use Rattle.dvd_loop.specs.declared.ends.Turn.{Turn}
+use Rattle.dvd_loop.specs.UnitCommand.{written}
+use Rattle.dvd_loop.specs.declared.ends.UnitKind.{UnitKind}
 use Rattle.dvd_decoding.specs.Salvage.{block_out}
 use Rattle.dvd_read.proofs.Outcomes.{agrees-no_cause}
 use Rattle.dvd_read.proofs.SavedLaws.{good_rows-saved, sixteen-sectors}
@@ -63,14 +63,14 @@ sector-filled_block : (image : List ℕ) (f : ℕ) → 2048 * f + 2048 ≤ lengt
 sector-filled_block image f inside = part-append image (replicate (32768 - length image) 0) (2048 * f) 2048 inside
 
 -- what is written of a refused block
-refused-written : (layout : Layout) (k : ℕ) (entry : BlockPlan) (rows : List (List ℕ)) (marks : List (List Bool)) (steps : List Step) (turn : Turn)
-    → IsRefused (block_cause rows marks entry) layout k entry rows marks steps turn → written steps ≡ sectors_out (image_sectors layout entry.content) (block_out rows marks entry)
-refused-written layout k entry rows marks steps turn refused =
+refused-written : (layout : Layout) (k : ℕ) (entry : BlockPlan) (rows : List (List ℕ)) (marks : List (List Bool)) (steps : List Step) (kind : UnitKind)
+    → IsRefused (block_cause rows marks entry) layout k entry rows marks steps kind → written steps ≡ sectors_out (image_sectors layout entry.content) (block_out rows marks entry)
+refused-written layout k entry rows marks steps kind refused =
     ap written refused.tells ∙ append-nil (sectors_out (image_sectors layout entry.content) (block_out rows marks entry))
 
 -- the law: each good frame of a refused block is given with the image sector that it was mastered from
 pub given_good : GoodFramesOfARefusedBlockAreGiven
-given_good layout zones form cpr k f entry image own block cause steps turn stands is_image cpr_size image_size is_block size first below good does =
+given_good layout zones form cpr k f entry image own block cause steps kind stands is_image cpr_size image_size is_block size first below good does =
     let rows = captured_rows form own in
     let marks = captured_marks form own in
     let count = image_sectors layout entry.content in
@@ -80,12 +80,12 @@ given_good layout zones form cpr k f entry image own block cause steps turn stan
     let saved = good_rows-saved entry (has_two_layers layout.shape) (cpr_in entry.area cpr) (sector (filled_block image)) (frames_of layout entry cpr (filled_block image)) block rows marks cause f
     (has_numbers layout zones k entry stands) made is_block received first (omega arith) (λ q lt. weightless _ _ (good q lt)) in
     let widths = (sixteen-sectors rows marks received.height received.marks_height entry).1 in
-    elim (recovered_at layout zones form k entry own steps turn stands is_image does) [
+    elim (recovered_at layout zones form k entry own steps kind stands is_image does) [
       | inl given ↦
           let none = agrees-no_cause (answers_of rows marks) given.read.block (length-answers_of rows marks 208 received.height received.marks_height) given.read.agrees in
           cc
       | inr refused ↦
-          ap (λ l. take 2048 (drop (2048 * f) l)) (refused-written layout k entry rows marks steps turn refused)
+          ap (λ l. take 2048 (drop (2048 * f) l)) (refused-written layout k entry rows marks steps kind refused)
           ∙ sector-at (block_out rows marks entry) count f below (λ g lt. widths g (omega arith))
           ∙ saved
           ∙ sector-filled_block image f (omega (arith, image_size))

@@ -14,13 +14,13 @@ use Rattle.dvd_capture.specs.Works.{marks_of_work, rows_of}
 use Rattle.dvd_capture.specs.declared.work.Work.{Work}
 use Rattle.dvd_loop.specs.Machine.{Step}
 use Rattle.dvd_loop.specs.Machine.Step.{Write}
-use Rattle.dvd_loop.specs.declared.ends.Turn.{Turn}
+use Rattle.dvd_loop.specs.declared.ends.UnitKind.{UnitKind}
 use Rattle.dvd_decoding.specs.Reading.{block_cause}
 use Rattle.dvd_decoding.specs.declared.cause.Cause.{Cause}
 use Rattle.dvd_read.specs.declared.fixed.Fixed.{Fixed}
 use Rattle.dvd_report.specs.Survey.{StandsFor, SurveyState, survey_line, surveyed, surveyed_with}
 use Rattle.dvd_report.specs.declared.counts.Surveyed.{Surveyed}
-use Rattle.dvd_commands.specs.Survey.{IsSurveyed, found_in, found_of, turn_by}
+use Rattle.dvd_commands.specs.Survey.{IsSurveyed, found_in, found_of, kind_by}
 use Rattle.dvd_commands.specs.Inner.Performing.{IsLineDone}
 
 -- one more beside the one that stands at its place
@@ -94,14 +94,14 @@ module _ (layout : Layout) (zones : Zones) (form : Form) (k : ℕ) (before : Lis
   next_stands after is = subst (StandsFor after) (sym found_with) is
 
   -- and its line, with what it answers, is what is done for block k
-  pub line_done : k < length (plan_of layout zones) → (steps : List Step) (turn : Turn)
-      → IsLineDone entry (found_in layout zones form before) rows marks steps turn → IsSurveyed layout zones form k before own steps turn
-  line_done within steps turn does =
+  pub line_done : k < length (plan_of layout zones) → (steps : List Step) (kind : UnitKind)
+      → IsLineDone entry (found_in layout zones form before) rows marks steps kind → IsSurveyed layout zones form k before own steps kind
+  line_done within steps kind does =
       let size : length (found_in layout zones form before) ≡ k = length-found layout zones form before (omega (arith, number, within)) ∙ number in record {
         entry = entry;
         stands = stands;
         writes = does.writes
             ∙ ap (λ n. Write (survey_line n entry (found_in layout zones form before ++ surveyed rows marks entry ∷ [])) ∷ []) size
             ∙ ap (λ blocks. Write (survey_line k entry blocks) ∷ []) (sym found_with);
-        answers = does.answers ∙ ap (λ r. turn_by (block_cause r marks entry)) rows_are ∙ ap (λ m. turn_by (block_cause (captured_rows form own) m entry)) marks_are;
+        answers = does.answers ∙ ap (λ r. kind_by (block_cause r marks entry)) rows_are ∙ ap (λ m. kind_by (block_cause (captured_rows form own) m entry)) marks_are;
       }

@@ -9,17 +9,17 @@ use Rattle.dvd_commands.proofs.PlanEntries.{one_entry, some_entry}
 use Rattle.dvd_loop.specs.Machine.Step.{Write}
 use Rattle.dvd_decoding.specs.Reading.{block_cause}
 use Rattle.dvd_report.specs.Survey.{survey_line}
-use Rattle.dvd_commands.specs.Survey.{IsSurveyed, found_in, turn_by}
+use Rattle.dvd_commands.specs.Survey.{IsSurveyed, found_in, kind_by}
 use Rattle.dvd_commands.proofs.OneThing.{MayOne}
 use Rattle.dvd_commands.proofs.SomeThing.{MaySome}
 
 -- The line of each block is one.
 pub surveyed_is_one : (layout : Layout) (zones : Zones) (form : Form) (k : ℕ) (before : List (List ℕ)) (own : List ℕ) → MayOne (IsSurveyed layout zones form k before own)
-surveyed_is_one layout zones form k before own steps others turn other p q =
+surveyed_is_one layout zones form k before own steps others kind other p q =
     let entry : p.entry ≡ q.entry = one_entry (plan_of layout zones) k p.entry q.entry p.stands q.stands in
     let found = found_in layout zones form (before ++ own ∷ []) in (
       p.writes ∙ ap (λ e. Write (survey_line k e found) ∷ []) entry ∙ sym q.writes,
-      p.answers ∙ ap (λ e. turn_by (block_cause (captured_rows form own) (captured_marks form own) e)) entry ∙ sym q.answers,
+      p.answers ∙ ap (λ e. kind_by (block_cause (captured_rows form own) (captured_marks form own) e)) entry ∙ sym q.answers,
     )
 
 -- Every block has a line.

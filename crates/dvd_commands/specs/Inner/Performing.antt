@@ -10,8 +10,8 @@ use Rattle.dvd_layout.specs.declared.entry.BlockPlan.{BlockPlan}
 use Rattle.dvd_layout.specs.declared.layout.Layout.{Layout}
 use Rattle.dvd_loop.specs.Machine.{EndsWithin, Step}
 use Rattle.dvd_loop.specs.Machine.Step.{Tell, Write}
-use Rattle.dvd_loop.specs.declared.ends.Turn.{Turn}
-use Rattle.dvd_loop.specs.declared.ends.Turn.TheVariants.{Bad, Good}
+use Rattle.dvd_loop.specs.declared.ends.UnitKind.{UnitKind}
+use Rattle.dvd_loop.specs.declared.ends.UnitKind.TheVariants.{Bad, Good}
 use Rattle.dvd_commands.specs.Info.{GivesNoFormat}
 use Rattle.dvd_loop.specs.Streams.{IsTold}
 use Rattle.dvd_loop.specs.declared.ends.LoopEnd.{LoopEnd}
@@ -29,7 +29,7 @@ use Rattle.dvd_decoding.specs.Causes.{two_pass_cause}
 use Rattle.dvd_decoding.specs.Salvage.{block_out, saved_in}
 use Rattle.dvd_decoding.specs.declared.cause.Cause.{Cause}
 use Rattle.dvd_report.specs.Lines.{damage_line}
-use Rattle.dvd_commands.specs.Survey.{turn_by}
+use Rattle.dvd_commands.specs.Survey.{kind_by}
 use Rattle.dvd_commands.specs.Captured.{captured_part}
 
 -- A source gave a part of captured block k, and the loop ends so; these are left, where the source tells them.
@@ -45,11 +45,11 @@ abbrev pub sectors_out : ℕ → List (List ℕ) → List ℕ
 sectors_out count sectors = flat_map (λ sector. sector) (take count sectors)
 
 -- a line is told, these bytes are written, and the unit is this
-abbrev pub TellsAndWrites : List ℕ → List ℕ → Turn → List Step → Turn → Type 0
-TellsAndWrites line bytes is steps turn = (steps ≡ Tell line ∷ Write bytes ∷ []) × (turn ≡ is)
+abbrev pub TellsAndWrites : List ℕ → List ℕ → UnitKind → List Step → UnitKind → Type 0
+TellsAndWrites line bytes is steps kind = (steps ≡ Tell line ∷ Write bytes ∷ []) × (kind ≡ is)
 
 -- what is done for a block that is refused for this cause
-abbrev pub IsRefusedFor : Layout → ℕ → BlockPlan → List (List ℕ) → List (List Bool) → Cause → List Step → Turn → Type 0
+abbrev pub IsRefusedFor : Layout → ℕ → BlockPlan → List (List ℕ) → List (List Bool) → Cause → List Step → UnitKind → Type 0
 IsRefusedFor layout k entry rows marks cause =
     TellsAndWrites (damage_line k entry cause (saved_in rows marks entry)) (sectors_out (image_sectors layout entry.content) (block_out rows marks entry)) Bad
 
@@ -72,9 +72,9 @@ abbrev pub AnswersNothing : BlockPlan → List (List ℕ) → List (List Bool) �
 AnswersNothing entry rows marks = GivesNoFormat entry rows marks [] Good
 
 -- what is done for a block that is surveyed behind those
-pub record IsLineDone (entry : BlockPlan) (blocks : List Surveyed) (rows : List (List ℕ)) (marks : List (List Bool)) (steps : List Step) (turn : Turn) : Type 0 where
+pub record IsLineDone (entry : BlockPlan) (blocks : List Surveyed) (rows : List (List ℕ)) (marks : List (List Bool)) (steps : List Step) (kind : UnitKind) : Type 0 where
   pub writes : steps ≡ Write (survey_line (length blocks) entry (blocks ++ surveyed rows marks entry ∷ [])) ∷ []
-  pub answers : turn ≡ turn_by (block_cause rows marks entry)
+  pub answers : kind ≡ kind_by (block_cause rows marks entry)
 
 -- A source gave so many captures of a block, and this is the join of what they know of it.
 pub record AreTaken (captures : ℕ) (form : Form) (old new : Option (List ℕ)) (table : Table) : Type 0 where

@@ -7,12 +7,12 @@ use Rattle.cap_mark.proofs.marking.mark_loop.Goals as goal
 
 pub returns-clause-follows : goal.returns-clause-follows
 returns-clause-follows g c = λ report.
-    beside (mark_units c.args.spans.now) (plain_silent _ _ _ (λ k own steps turn done. one_write steps _ done.writes))
-    _ _ _ _ report c.follow_owned.result c.follow_owned.ensures
+    beside (mark_units c.args.spans.now) (plain_silent _ _ _ (λ k own steps kind done. one_write steps _ done.writes))
+    _ _ _ _ report c.run_owned.result c.run_owned.ensures
 
 pub returns-clause-ends : goal.returns-clause-ends
 returns-clause-ends g c =
-    let f = c.follow_owned.ensures.comes in
+    let f = c.run_owned.ensures.comes in
     plain_end (mark_units c.args.spans.now) (λ k. 2366) (λ k own. refl) refl f.bytes f.outcome f.holds
-    (λ k before own steps does. let no = does.good in cc) c.follow_owned.result f.ends
-    (never_told c.follow_owned.result c.follow_owned.ensures.causes.report)
+    (λ k before own steps does. let no = does.good in cc) c.run_owned.result f.ends
+    (never_told c.run_owned.result c.run_owned.ensures.causes.report)

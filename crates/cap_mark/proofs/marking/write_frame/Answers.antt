@@ -1,7 +1,7 @@
 -- The proof of `write_frame` in src/marking.rt.
 use Rattle.std.proofs.Common.{◌∙◌, ◌*◌, ap}
-use Rattle.dvd_loop.specs.declared.ends.Turn.TheVariants.{Good}
-use Rattle.dvd_loop.proofs.TurnLemmas.{err_is, write_begun, write_done}
+use Rattle.dvd_loop.specs.declared.ends.UnitKind.TheVariants.{Good}
+use Rattle.dvd_loop.proofs.UnitLemmas.{err_is, write_begun, write_done}
 use Rattle.cap_mark.specs.Frames.{marked_rows}
 use Rattle.cap_mark.proofs.FrameLemmas.{marked}
 use Rattle.cap_mark.proofs.marking.write_frame.Goals as goal

@@ -3,7 +3,7 @@ use Rattle.std.proofs.Common.{refl}
 use Rattle.dvd_loop.specs.declared.ends.LoopEnd.TheVariants.{BadMarks, ReadFault, Short}
 use Rattle.dvd_loop.proofs.StreamLemmas.{reads_end, reads_on}
 use Rattle.dvd_commands.proofs.SourceCounts.{counts_of}
-use Rattle.dvd_commands.proofs.CapturedTurns.{ends_after, ends_broken, ends_failed}
+use Rattle.dvd_commands.proofs.CapturedUnits.{ends_after, ends_broken, ends_failed}
 use Rattle.dvd_commands.proofs.captured.fetch_block.Goals as goal
 
 pub returns-in-End-clause-ended : goal.returns-in-End-clause-ended

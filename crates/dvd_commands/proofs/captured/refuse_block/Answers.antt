@@ -1,7 +1,7 @@
 -- The proof of `refuse_block` in src/captured.rt.
 use Rattle.std.proofs.Common.{◌≤◌, Err, refl, sym, subst}
 use Rattle.dvd_loop.specs.declared.ends.LoopEnd.TheVariants.{ReportFault}
-use Rattle.dvd_loop.proofs.TurnLemmas.{err_is}
+use Rattle.dvd_loop.proofs.UnitLemmas.{err_is}
 use Rattle.dvd_commands.proofs.recover.Blocks.{few_saved, line_same, sectors_same}
 use Rattle.dvd_commands.proofs.TwoSteps.{both_done, bytes_fail, line_fails}
 use Rattle.dvd_commands.proofs.captured.refuse_block.Goals as goal

@@ -4,8 +4,8 @@ use Rattle.std.specs.Prelude.{replicate}
 use Rattle.std.specs.Io.KnownBytes.{Appends}
 use Rattle.dvd_ports.specs.Whole.{AppendsPrefix}
 use Rattle.dvd_loop.specs.declared.ends.LoopEnd.TheVariants.{ReportFault, WriteFault}
-use Rattle.dvd_loop.specs.declared.ends.Turn.TheVariants.{Bad, Good}
-use Rattle.dvd_loop.proofs.TurnLemmas.{err_is, write_begun, write_done}
+use Rattle.dvd_loop.specs.declared.ends.UnitKind.TheVariants.{Bad, Good}
+use Rattle.dvd_loop.proofs.UnitLemmas.{err_is, write_begun, write_done}
 use Rattle.dvd_commands.specs.CdLines.{damaged_sector_line}
 use Rattle.dvd_commands.specs.CdRead.{IsSectorRead, user_data}
 use Rattle.dvd_commands.proofs.cd_read.Sectors.{given, refused}

@@ -16,19 +16,19 @@ returns-clause-follows g c = λ report.
     let layout = c.args.layout.now in
     let opening = header_bytes c.header_of.result in
     let units = convert_units layout settings.zones settings.form opening in
-    ended_as (IsOutcome units) (Converts settings layout) _ _ c.follow.result
+    ended_as (IsOutcome units) (Converts settings layout) _ _ c.run_units.result
     (λ bytes outcome runs. (opening, c.header_of.ensures settings c.requires.layout refl, runs))
     (beside units
     (record {
       opens = tt;
-      does = λ k before own steps turn done. one_write steps _ done.writes;
+      does = λ k before own steps kind done. one_write steps _ done.writes;
       closes = λ before steps none. subst AreWrites (sym none) tt;
     })
-    _ _ _ _ report c.follow.result c.follow.ensures.follows)
+    _ _ _ _ report c.run_units.result c.run_units.ensures.follows)
 
 pub returns-clause-ends : goal.returns-clause-ends
 returns-clause-ends g c =
-    let f = c.follow.ensures.follows.comes in
+    let f = c.run_units.ensures.follows.comes in
     let settings = c.args.settings.now in
     plain_end (convert_units c.args.layout.now settings.zones settings.form (header_bytes c.header_of.result)) (λ k. block_size settings.form) (λ k own. sized_part settings.form c.requires.form own) refl
-    f.bytes f.outcome f.holds (λ k before own steps does. let no = does.good in cc) c.follow.result f.ends (never_told c.follow.result c.follow.ensures.follows.causes.report)
+    f.bytes f.outcome f.holds (λ k before own steps does. let no = does.good in cc) c.run_units.result f.ends (never_told c.run_units.result c.run_units.ensures.follows.causes.report)

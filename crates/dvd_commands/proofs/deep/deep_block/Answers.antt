@@ -7,7 +7,7 @@ use Rattle.dvd_capture.specs.Works.{marks_of_work, rows_of, sectors_of}
 use Rattle.dvd_deep.specs.Reading.{deep_cause}
 use Rattle.dvd_loop.specs.Streams.{streams}
 use Rattle.dvd_loop.specs.declared.ends.LoopEnd.TheVariants.{WriteFault}
-use Rattle.dvd_loop.proofs.TurnLemmas.{err_is, write_begun, write_done}
+use Rattle.dvd_loop.proofs.UnitLemmas.{err_is, write_begun, write_done}
 use Rattle.dvd_ports.specs.Whole.{AppendsPrefix}
 use Rattle.dvd_commands.specs.Inner.Performing.{IsFoundBy, IsRefusedFor, sectors_out}
 use Rattle.dvd_commands.proofs.deep.Blocks.{found_given, read_given}
@@ -69,8 +69,8 @@ returns-in-Err-search_block g c = λ source.
     c.in-Err-search_block.ensures.refused in
     an_image _ _ _ c.in-Image.is _ _ _
     (done_as _ _
-    (λ steps turn is.
-    inr (refused layout c.args.block.now.k entry (rows_of work) (marks_of_work work) _ cause first steps turn
-    (same_work (λ rows marks. IsRefusedFor layout c.args.block.now.k entry rows marks cause steps turn) work c.read_block.new.work c.read_block.ensures.received c.read_block.ensures.marks is)))
+    (λ steps kind is.
+    inr (refused layout c.args.block.now.k entry (rows_of work) (marks_of_work work) _ cause first steps kind
+    (same_work (λ rows marks. IsRefusedFor layout c.args.block.now.k entry rows marks cause steps kind) work c.read_block.new.work c.read_block.ensures.received c.read_block.ensures.marks is)))
     (streams source (g.K.Sink.seen c.args.out.now) (g.E.Sink.seen c.args.report.now))
     (streams source (g.K.Sink.seen c.refuse_block.new.out) (g.E.Sink.seen c.refuse_block.new.report)) c.refuse_block.result (c.refuse_block.ensures source))

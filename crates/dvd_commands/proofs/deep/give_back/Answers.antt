@@ -3,7 +3,7 @@ use Rattle.std.proofs.Common.{Err, refl, ap, subst}
 use Rattle.std.specs.Io.KnownBytes.{Appends}
 use Rattle.dvd_ports.specs.Whole.{AppendsPrefix}
 use Rattle.dvd_loop.specs.declared.ends.LoopEnd.TheVariants.{ReportFault, WriteFault}
-use Rattle.dvd_loop.proofs.TurnLemmas.{err_is}
+use Rattle.dvd_loop.proofs.UnitLemmas.{err_is}
 use Rattle.dvd_report.specs.Lines.{round_line}
 use Rattle.dvd_commands.proofs.TwoSteps.{both_done, bytes_fail, line_fails}
 use Rattle.dvd_commands.proofs.deep.give_back.Goals as goal

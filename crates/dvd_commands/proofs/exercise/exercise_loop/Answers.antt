@@ -1,7 +1,7 @@
 -- The proof of `exercise_loop` in src/exercise.rt.
 use Rattle.dvd_loop.specs.Streams.{no_stream}
 use Rattle.dvd_loop.proofs.LoopEnds.{never_told}
-use Rattle.dvd_commands.proofs.exercise.Turns.{never_read, no_source, unread, write_end}
+use Rattle.dvd_commands.proofs.exercise.UnitCommand.{never_read, no_source, unread, write_end}
 use Rattle.dvd_commands.proofs.exercise.exercise_loop.Goals as goal
 
 pub returns-clause-ends : goal.returns-clause-ends

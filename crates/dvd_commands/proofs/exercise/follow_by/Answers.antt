@@ -5,8 +5,8 @@ use Rattle.dvd_commands.specs.Exercise.{IsLeft, exercise_units}
 use Rattle.dvd_commands.proofs.exercise.Trials.{none_behind}
 use Rattle.dvd_commands.proofs.exercise.follow_by.Goals as goal
 
-pub follow-requires : goal.follow-requires
-follow-requires g c = (none_behind _ _ _ _ c.rand_of.ensures refl refl refl, c.requires.adder, c.requires.reader)
+pub run_units-requires : goal.run_units-requires
+run_units-requires g c = (none_behind _ _ _ _ c.rand_of.ensures refl refl refl, c.requires.adder, c.requires.reader)
 
 pub returns-clause-follows : goal.returns-clause-follows
 returns-clause-follows g c = λ report.
@@ -14,16 +14,16 @@ returns-clause-follows g c = λ report.
     beside (exercise_units settings.seed settings.blocks)
     (record {
       opens = tt;
-      does = λ k before own steps turn done. subst AreWrites (sym done.0) tt;
+      does = λ k before own steps kind done. subst AreWrites (sym done.0) tt;
       closes = λ before steps told. one_write steps _ told.writes;
     })
-    _ _ _ _ report c.follow.result c.follow.ensures.follows
+    _ _ _ _ report c.run_units.result c.run_units.ensures.follows
 
 pub returns-clause-left : goal.returns-clause-left
 returns-clause-left g c =
-    let command = c.follow.new.command in
-    let seed : command.seed ≡ c.args.settings.now.seed = ap (λ key. key.0) c.follow.ensures.same in
-    let blocks : command.blocks ≡ c.args.settings.now.blocks = ap (λ key. key.1) c.follow.ensures.same in
+    let command = c.run_units.new.command in
+    let seed : command.seed ≡ c.args.settings.now.seed = ap (λ key. key.0) c.run_units.ensures.same in
+    let blocks : command.blocks ≡ c.args.settings.now.blocks = ap (λ key. key.1) c.run_units.ensures.same in
     subst (IsLeft c.args.settings.now.seed (c.args.settings.now.blocks - 1)) (search rules)
     (subst (λ n. IsLeft c.args.settings.now.seed (n - 1) command.work.now) blocks
-    (subst (λ s. IsLeft s (command.blocks - 1) command.work.now) seed c.follow.ensures.left))
+    (subst (λ s. IsLeft s (command.blocks - 1) command.work.now) seed c.run_units.ensures.left))

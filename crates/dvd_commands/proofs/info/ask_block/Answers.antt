@@ -2,7 +2,7 @@
 use Rattle.std.proofs.Common.{sym, subst}
 use Rattle.dvd_capture.specs.Works.{marks_of_work, rows_of}
 use Rattle.dvd_loop.specs.Streams.{streams}
-use Rattle.dvd_loop.specs.Turns.{AreDone}
+use Rattle.dvd_loop.specs.UnitCommand.{AreDone}
 use Rattle.dvd_commands.specs.Info.{IsAsked}
 use Rattle.dvd_commands.proofs.info.Blocks.{passed}
 use Rattle.dvd_commands.proofs.info.ask_block.Goals as goal

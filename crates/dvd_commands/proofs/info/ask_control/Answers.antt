@@ -6,8 +6,8 @@ use Rattle.dvd_capture.specs.Works.{marks_of_work, rows_of}
 use Rattle.dvd_control.specs.Format.{fields_of}
 use Rattle.dvd_loop.specs.Streams.{streams}
 use Rattle.dvd_loop.specs.declared.ends.LoopEnd.TheVariants.{WriteFault}
-use Rattle.dvd_loop.specs.declared.ends.Turn.TheVariants.{Last}
-use Rattle.dvd_loop.proofs.TurnLemmas.{err_is, write_begun, write_done}
+use Rattle.dvd_loop.specs.declared.ends.UnitKind.TheVariants.{Last}
+use Rattle.dvd_loop.proofs.UnitLemmas.{err_is, write_begun, write_done}
 use Rattle.dvd_commands.specs.Info.{format_lines}
 use Rattle.dvd_commands.proofs.info.Blocks.{answers, silent}
 use Rattle.dvd_commands.proofs.info.ask_control.Goals as goal

@@ -13,14 +13,14 @@ returns-clause-follows g c = λ report.
     beside (info_units settings.initial settings.form)
     (record {
       opens = tt;
-      does = λ k before own steps turn done. asked_silent done.entry.content done.entry _ _ steps turn done.does;
+      does = λ k before own steps kind done. asked_silent done.entry.content done.entry _ _ steps kind done.does;
       closes = λ before steps none. subst AreWrites (sym none) tt;
     })
-    _ _ _ _ report c.follow.result c.follow.ensures.follows
+    _ _ _ _ report c.run_units.result c.run_units.ensures.follows
 
 pub returns-clause-ends : goal.returns-clause-ends
 returns-clause-ends g c =
-    let f = c.follow.ensures.follows.comes in
+    let f = c.run_units.ensures.follows.comes in
     let settings = c.args.settings.now in
     sought_end settings.form (info_units settings.initial settings.form) (λ k own. refl) refl (never_bad settings.initial settings.form)
-    f.bytes f.outcome f.holds c.follow.result f.ends (never_told c.follow.result c.follow.ensures.follows.causes.report)
+    f.bytes f.outcome f.holds c.run_units.result f.ends (never_told c.run_units.result c.run_units.ensures.follows.causes.report)

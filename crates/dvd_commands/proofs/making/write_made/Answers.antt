@@ -1,8 +1,8 @@
 -- The proof of `write_made` in src/making.rt.
 use Rattle.std.proofs.Common.{◌≡◌, [], ◌∷◌, ℕ, List, refl, subst, sym}
 use Rattle.dvd_loop.specs.Machine.Step.{Write}
-use Rattle.dvd_loop.specs.declared.ends.Turn.TheVariants.{Good}
-use Rattle.dvd_loop.proofs.TurnLemmas.{err_is, write_begun, write_done}
+use Rattle.dvd_loop.specs.declared.ends.UnitKind.TheVariants.{Good}
+use Rattle.dvd_loop.proofs.UnitLemmas.{err_is, write_begun, write_done}
 use Rattle.dvd_commands.specs.Making.{IsMade}
 use Rattle.dvd_commands.specs.Inner.Making.{IsMadeAs}
 use Rattle.dvd_commands.specs.declared.making.Made.{Made}

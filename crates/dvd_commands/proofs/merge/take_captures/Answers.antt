@@ -2,9 +2,9 @@
 use Rattle.std.proofs.Common.{sym, subst}
 use Rattle.dvd_ports.proofs.StopLemmas.{goes_on, unmoved}
 use Rattle.dvd_loop.specs.Streams.{no_stream}
-use Rattle.dvd_loop.specs.Turns.{HasReadCause}
+use Rattle.dvd_loop.specs.UnitCommand.{HasReadCause}
 use Rattle.dvd_loop.proofs.StreamLemmas.{causes_first, reads_on}
-use Rattle.dvd_loop.proofs.TurnLemmas.{err_is}
+use Rattle.dvd_loop.proofs.UnitLemmas.{err_is}
 use Rattle.dvd_commands.proofs.merge.Captures.{capture_taken, captures_short, none_taken, on_err_is}
 use Rattle.dvd_commands.proofs.merge.take_captures.Goals as goal
 

@@ -5,7 +5,7 @@ use Rattle.dvd_ports.specs.Whole.{AppendsPrefix}
 use Rattle.dvd_capture.specs.Works.{marks_of_work, rows_of, sectors_of}
 use Rattle.dvd_loop.specs.Streams.{streams}
 use Rattle.dvd_loop.specs.declared.ends.LoopEnd.TheVariants.{WriteFault}
-use Rattle.dvd_loop.proofs.TurnLemmas.{err_is, write_begun, write_done}
+use Rattle.dvd_loop.proofs.UnitLemmas.{err_is, write_begun, write_done}
 use Rattle.dvd_commands.specs.Inner.Performing.{IsRefusedFor, sectors_out}
 use Rattle.dvd_commands.proofs.EntryBlocks.{an_image, no_image}
 use Rattle.dvd_commands.proofs.recover.Blocks.{given, refused, same_work}
@@ -44,8 +44,8 @@ returns-in-Err g c = λ source.
     let work = c.args.work.now in
     an_image _ _ _ c.in-Image.is _ _ _
     (done_as _ _
-    (λ steps turn is.
-    inr (refused layout c.args.block.now.k entry (rows_of work) (marks_of_work work) _ c.in-Err.cause c.in-Err.ensures.refused steps turn
-    (same_work (λ rows marks. IsRefusedFor layout c.args.block.now.k entry rows marks c.in-Err.cause steps turn) work c.read_by.new.work c.read_by.ensures.received c.read_by.ensures.marks is)))
+    (λ steps kind is.
+    inr (refused layout c.args.block.now.k entry (rows_of work) (marks_of_work work) _ c.in-Err.cause c.in-Err.ensures.refused steps kind
+    (same_work (λ rows marks. IsRefusedFor layout c.args.block.now.k entry rows marks c.in-Err.cause steps kind) work c.read_by.new.work c.read_by.ensures.received c.read_by.ensures.marks is)))
     (streams source (g.K.Sink.seen c.args.out.now) (g.E.Sink.seen c.args.report.now))
     (streams source (g.K.Sink.seen c.refuse_block.new.out) (g.E.Sink.seen c.refuse_block.new.report)) c.refuse_block.result (c.refuse_block.ensures source))

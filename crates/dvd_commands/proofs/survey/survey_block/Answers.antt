@@ -1,11 +1,11 @@
 -- The proof of `survey_block` in src/survey.rt.
 use Rattle.std.proofs.Common.{◌≡◌, ◌∙◌, ◌-◌, List, [], ◌∷◌, ◌++◌, length, length-append, refl, ap, arith}
 use Rattle.dvd_capture.specs.Works.{marks_of_work, rows_of}
-use Rattle.dvd_loop.proofs.TurnLemmas.{err_is, write_begun, write_done}
+use Rattle.dvd_loop.proofs.UnitLemmas.{err_is, write_begun, write_done}
 use Rattle.dvd_decoding.specs.Reading.{block_cause}
 use Rattle.dvd_report.specs.Survey.{surveyed}
 use Rattle.dvd_report.specs.declared.counts.Surveyed.{Surveyed}
-use Rattle.dvd_commands.specs.Survey.{turn_by}
+use Rattle.dvd_commands.specs.Survey.{kind_by}
 use Rattle.dvd_commands.proofs.survey.Blocks.{cause_is, stands_more}
 use Rattle.dvd_commands.proofs.survey.survey_block.Goals as goal
 
@@ -37,7 +37,7 @@ returns-clause-done g c = λ source report blocks stands.
     let marks = marks_of_work c.args.work.now in
     let block = surveyed rows marks c.args.entry.now in
     let r = c.read_by-answer in
-    let answers = c.turn_of.ensures ∙ ap turn_by (cause_is r.result (block_cause rows marks c.args.entry.now) r.ensures.right r.ensures.refused) in
+    let answers = c.kind_of.ensures ∙ ap kind_by (cause_is r.result (block_cause rows marks c.args.entry.now) r.ensures.right r.ensures.refused) in
     let written = c.in_ok-write_line.ensures.written (blocks ++ block ∷ [])
     (stands_more _ c.args.work.now r.new.work c.args.entry.now _ blocks (c.add.ensures.added blocks stands) r.ensures.received r.ensures.marks r.ensures.right r.ensures.refused) in
     write_done _ _ _ (record { writes = refl; answers = answers }) _ _ _ _ (rw (last_is blocks block) at written) c.in_ok-write_line.ensures.cause.steady

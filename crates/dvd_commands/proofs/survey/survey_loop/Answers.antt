@@ -12,16 +12,16 @@ returns-clause-follows g c = λ report.
     beside (survey_units c.args.layout.now settings.zones settings.form)
     (record {
       opens = tt;
-      does = λ k before own steps turn done. one_write steps _ done.writes;
+      does = λ k before own steps kind done. one_write steps _ done.writes;
       closes = λ before steps closes. one_write steps _ closes;
     })
-    _ _ _ _ report c.follow_owned.result c.follow_owned.ensures
+    _ _ _ _ report c.run_owned.result c.run_owned.ensures
 
 pub returns-clause-ends : goal.returns-clause-ends
 returns-clause-ends g c =
-    let f = c.follow_owned.ensures.comes in
+    let f = c.run_owned.ensures.comes in
     let settings = c.args.settings.now in
-    capture_end settings.form (survey_units c.args.layout.now settings.zones settings.form) (λ k own. refl) refl f.bytes f.outcome f.holds c.follow_owned.result f.ends
+    capture_end settings.form (survey_units c.args.layout.now settings.zones settings.form) (λ k own. refl) refl f.bytes f.outcome f.holds c.run_owned.result f.ends
 
 pub returns-clause-no_report : goal.returns-clause-no_report
-returns-clause-no_report g c = never_told c.follow_owned.result c.follow_owned.ensures.causes.report
+returns-clause-no_report g c = never_told c.run_owned.result c.run_owned.ensures.causes.report

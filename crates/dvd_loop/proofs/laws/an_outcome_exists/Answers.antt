@@ -3,4 +3,4 @@ use Rattle.dvd_loop.proofs.Totality.{exists}
 use Rattle.dvd_loop.proofs.laws.an_outcome_exists.Goals as goal
 
 pub returns : goal.returns
-returns g c = λ key. exists (g.C.Turns.units key)
+returns g c = λ key. exists (g.C.UnitCommand.units key)

@@ -3,4 +3,4 @@ use Rattle.dvd_loop.proofs.Faults.{leave_fronts}
 use Rattle.dvd_loop.proofs.laws.faults_leave_fronts.Goals as goal
 
 pub returns : goal.returns
-returns g c = λ key. leave_fronts (g.C.Turns.units key)
+returns g c = λ key. leave_fronts (g.C.UnitCommand.units key)

@@ -3,13 +3,13 @@ use Rattle.std.proofs.Common.{refl, sym, subst}
 use Rattle.std.specs.Io.KnownBytes.{Appends}
 use Rattle.dvd_ports.specs.Whole.{AppendsPrefix}
 use Rattle.dvd_loop.specs.Machine.{Closes}
-use Rattle.dvd_loop.specs.Streams.{Comes, streams}
+use Rattle.dvd_loop.specs.Streams.{HaveReached, streams}
 use Rattle.dvd_loop.proofs.EndLemmas.{closed_none, closed_line, closed_fault, not_report}
 use Rattle.dvd_loop.proofs.loops.close.Goals as goal
 
 pub returns-in-ReportFault-clause-closes : goal.returns-in-ReportFault-clause-closes
 returns-in-ReportFault-clause-closes g c = λ closing source output line.
-    subst (λ end. Comes (λ bytes. Closes closing end) (streams source output (g.E.Sink.seen c.args.report.now)) (streams source output (g.E.Sink.seen c.args.report.now)) end) (sym c.in-ReportFault.is)
+    subst (λ end. HaveReached (λ bytes. Closes closing end) (streams source output (g.E.Sink.seen c.args.report.now)) (streams source output (g.E.Sink.seen c.args.report.now)) end) (sym c.in-ReportFault.is)
     (closed_none closing (streams source output (g.E.Sink.seen c.args.report.now)))
 
 pub returns-in-Ok : goal.returns-in-Ok

@@ -1,0 +1,72 @@
+//! A command, seen from the loop.
+ghost use Rattle.std.specs.Prelude.{◌≡◌, ◌<◌, ℕ, List, length, Ok, IfErr};
+ghost use Rattle.dvd_ports.specs.Seen.{Seen};
+ghost use Rattle.dvd_loop.specs.Machine.{Units};
+ghost use Rattle.dvd_loop.specs.Streams.{streams};
+ghost use Rattle.dvd_loop.specs.UnitCommand.{AreSteps, HaveCausesFor, IsReadyFor, ClosesUnits, Processes};
+ghost use Rattle.dvd_loop.specs.declared.ends.LoopEnd.{LoopEnd as HowItEnds};
+
+use crate::{AfterLast, LoopEnd, UnitKind};
+use dvd_ports::{Sink, Source};
+
+/// A command that goes over its input unit by unit.
+pub trait UnitCommand {
+    /// What its units depend on, and the names of what it borrows. No unit changes it.
+    /// Units are too large a thing for a clause to compare before and after a call.
+    ghost Key: { Type 0 };
+
+    /// The key of this command.
+    ghost key: { Self → Key };
+
+    /// Its units.
+    ghost units: { Key → Units };
+
+    /// It is ready for the unit behind these.
+    ghost ready: { Self → List (List ℕ) → Type 0 };
+
+    /// What it leaves where the loop ends so.
+    ghost left: { Self → HowItEnds → Type 0 };
+
+    /// How many units there are.
+    fn count(&self) -> u32
+        ensures { result ≡ (units (key self.now)).count };
+
+    /// What stands behind the last of them.
+    fn after_last(&self) -> AfterLast
+        ensures { result ≡ (units (key self.now)).after_last };
+
+    /// Writes and tells what stands before the first unit.
+    /// It has no body of its own: that would be proved for all units, and most commands open with nothing.
+    fn open<K: Sink, E: Sink>(&self, out: &mut K, report: &mut E) -> Result<(), LoopEnd>
+        ensures opens { (source : Seen) → AreSteps (units (key self.now)).opens
+            (streams source (K.seen out.old) (E.seen report.old)) (streams source (K.seen out.new) (E.seen report.new)) result }
+        ensures causes { (source : Seen) → HaveCausesFor result
+            (streams source (K.seen out.old) (E.seen report.old)) (streams source (K.seen out.new) (E.seen report.new)) }
+        ensures left { IfErr result (left self.now) };
+
+    /// Reads unit `k`, takes its steps in their order, and answers what the unit is.
+    fn process<S: Source, K: Sink, E: Sink>(
+        &mut self,
+        k: u32,
+        src: &mut S,
+        out: &mut K,
+        report: &mut E,
+    ) -> Result<UnitKind, LoopEnd>
+        requires unit { k < (units (key self.old)).count }
+        requires ready { IsReadyFor k (ready self.old) }
+        ensures same { key self.new ≡ key self.old }
+        ensures processed { Processes (units (key self.old)) k (ready self.old) (ready self.new)
+            (streams (S.seen src.old) (K.seen out.old) (E.seen report.old))
+            (streams (S.seen src.new) (K.seen out.new) (E.seen report.new)) result }
+        ensures left { IfErr result (left self.new) }
+        ensures last { result ≡ Ok UnitKind.Last → left self.new LoopEnd.Done };
+
+    /// Writes and tells what stands behind the last unit, before one byte more is asked for.
+    fn close<K: Sink, E: Sink>(&self, out: &mut K, report: &mut E) -> Result<(), LoopEnd>
+        ensures closes { (source : Seen) → ClosesUnits (units (key self.now)) (ready self.now)
+            (streams source (K.seen out.old) (E.seen report.old)) (streams source (K.seen out.new) (E.seen report.new)) result }
+        ensures causes { (source : Seen) → HaveCausesFor result
+            (streams source (K.seen out.old) (E.seen report.old)) (streams source (K.seen out.new) (E.seen report.new)) }
+        ensures left { (before : List (List ℕ)) → length before ≡ (units (key self.now)).count
+            → ready self.now before → (end : HowItEnds) → left self.now end };
+}
