@@ -44,7 +44,7 @@ layer_mark cells width =
     let first = before_first is_on_layer_1 cells in
     if nat_lt first (length cells) then layer_at (place_of first (length cells) width) else []
 
--- the tick of a block, with its number
+-- the tick at a block, with its number
 abbrev pub tick_at : ℕ → ℕ → List ℕ
 tick_at x block =
     codes "<path class='k' d='M" ++ decimal x ++ codes " 540v6'/><text x='" ++ decimal x ++ codes "' y='562' text-anchor='middle'>" ++ decimal block
@@ -53,7 +53,7 @@ tick_at x block =
 abbrev pub block_tick : ℕ → ℕ → ℕ → List ℕ
 block_tick blocks width block = tick_at (place_of block blocks width) block
 
--- those at the ends of five parts, or of each block where there are fewer
+-- the ticks at the ends of five parts, or of each block where there are fewer
 abbrev pub block_ticks : ℕ → ℕ → List ℕ
 block_ticks blocks width = texts (λ i. block_tick blocks width (share i blocks (min blocks 5))) (min blocks 5 + 1)
 
@@ -74,6 +74,6 @@ marks_frame plot =
     codes "</g></svg>\n<path class='k' d='M64 644h" ++ decimal plot.width ++ codes "M64 592v52'/><text x='54' y='603' text-anchor='end'>208</text>"
     ++ codes "<text x='54' y='648' text-anchor='end'>0</text>\n<g class='o' transform='translate(64 656)'>\n"
 
--- what closes that
+-- what closes the band of refused blocks
 abbrev pub marks_line : Plot → List ℕ
 marks_line plot = codes "</g>\n<path class='k' d='M64 672h" ++ decimal plot.width ++ codes "'/>\n"

@@ -5,7 +5,7 @@ use Rattle.cap_draw.specs.Columns.{column_of}
 use Rattle.cap_draw.specs.declared.column.Column.{Column}
 use Rattle.cap_draw.specs.declared.plot.Plot.{Plot}
 
--- so many texts, one after the other
+-- the texts of the numbers below n, one after the other
 unfoldable pub texts : (ℕ → List ℕ) → ℕ → List ℕ
 texts text zero = []
 texts text (suc n) = texts text n ++ text n
@@ -32,7 +32,7 @@ bar rows column =
     codes "<rect" ++ over_class column.sum8 ++ codes " x='" ++ decimal column.x ++ codes "' width='" ++ decimal column.width ++ codes "' height='" ++ decimal column.sum8
     ++ title column ++ codes "sum8 " ++ decimal column.sum8 ++ codes "</title></rect>\n" ++ over_mark rows column
 
--- The bar of a column in which a block has failed rows, as high as the most of a block, and a mark below it.
+-- The bar of a column in which a block has failed rows, as high as the most in one block, and a mark below it.
 abbrev pub failed_rows : Column → List ℕ
 failed_rows column =
     codes "<rect x='" ++ decimal column.x ++ codes "' width='" ++ decimal column.width ++ codes "' height='" ++ decimal column.failed
@@ -55,7 +55,7 @@ triangle column =
 abbrev pub refused_mark : Column → List ℕ
 refused_mark column = if nat_lt 0 column.refused then triangle column else []
 
--- those of the first so many columns
+-- the bars of the first columns
 abbrev pub bars : List Cell → Plot → ℕ → List ℕ
 bars cells plot = texts (λ c. bar plot.rows (column_of cells plot c))
 

@@ -10,8 +10,8 @@ use Rattle.cap_draw.specs.declared.plot.Plot.{Plot}
 abbrev pub blocks_of : List Cell → Plot → ℕ → List Cell
 blocks_of cells plot c = slice_range cells (share c (length cells) plot.columns) (share (c + 1) (length cells) plot.columns)
 
--- Column c: blocks and width are shared among the columns as evenly as whole numbers allow. It shows the greatest sum of
--- eight and the greatest number of failed rows of its blocks, and how many of them are refused.
+-- Column c: blocks and width are shared among the columns as evenly as whole numbers allow. It shows the greatest sum
+-- of eight and the greatest number of failed rows of its blocks, and how many of them are refused.
 abbrev pub column_of : List Cell → Plot → ℕ → Column
 column_of cells plot c = record {
   first = share c (length cells) plot.columns;

@@ -1,4 +1,4 @@
--- A survey that is read, and its picture that is written.
+-- The reading of a survey, and the writing of its picture.
 use Rattle.std.specs.Prelude.{◌≡◌, ℕ, true, false, List, Ok, Err}
 use Rattle.std.specs.Io.KnownBytes.{Appends, Consumes, IsAtEnd}
 use Rattle.cap_survey.specs.Survey.{Ended, next_line, survey_of}
@@ -10,7 +10,7 @@ use Rattle.dvd_ports.specs.Causes.{HasFailed, HasGoneOn, HasMetEnd}
 use Rattle.dvd_ports.specs.Seen.{Seen}
 use Rattle.dvd_ports.specs.Whole.{AppendsPrefix}
 
--- These are the bytes of a source to its end, where it knows its bytes, and they say this. No read failed, and none came
+-- These are all bytes of a source, where they are known, and the survey in them is this. No read failed, and none came
 -- after the end.
 pub record HasRead (old new : Seen) (ended : Ended) : Type 0 where
   pub text : List ℕ
@@ -19,7 +19,7 @@ pub record HasRead (old new : Seen) (ended : Ended) : Type 0 where
   pub met : HasMetEnd old new
   pub says : survey_of text ≡ Ok ended
 
--- the bytes that were read break a rule
+-- what was read of the survey breaks a rule
 pub record Breaks (old new : Seen) (fault : Fault) : Type 0 where
   pub text : List ℕ
   pub reads : Consumes old.bytes new.bytes text
@@ -31,7 +31,7 @@ IsStop old new ReadFault = HasFailed old new
 IsStop old new (Rule fault) = Breaks old new fault
 IsStop old new other = ⊥
 
--- the picture is written whole
+-- the picture is written as a whole
 pub record HasAll (most : ℕ) (ended : Ended) (old new : Seen) : Type 0 where
   pub written : Appends old.bytes new.bytes (picture ended.read.cells ended.read.closed most)
   pub on : HasGoneOn old new

@@ -1,4 +1,4 @@
--- What the contracts speak of: the picture of a survey, and a run that draws it.
+-- What the contracts are about: the picture of a survey, and a run that draws it.
 pub mod Axes
 pub mod Bars
 pub mod Columns

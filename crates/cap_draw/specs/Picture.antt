@@ -18,6 +18,6 @@ unfoldable pub lower_part : List Cell → Plot → List ℕ
 lower_part cells plot =
     lower_frame plot ++ failed_bars cells plot plot.columns ++ marks_frame plot ++ refused_marks cells plot plot.columns ++ marks_line plot ++ legend
 
--- The picture of some blocks in at most so many columns. Where the line of totals is missing, the survey is cut.
+-- The picture of some blocks in at most `most` columns. Where the line of totals is missing, the survey is cut.
 unfoldable pub picture : List Cell → Bool → ℕ → List ℕ
 picture cells closed most = upper_part cells closed (plot_of cells most) ++ lower_part cells (plot_of cells most)

@@ -6,7 +6,7 @@ ghost use Rattle.cap_draw.specs.Plot.{share};
 use crate::plot::{Plot, share};
 use cap_survey::{Cell, count_refused, greatest_failed, greatest_sum8};
 
-/// A column: its blocks, its place, and what is drawn of it.
+/// A column: its blocks, its position and width, and what is drawn of it.
 #[derive(Clone, Copy, Debug, PartialEq, Eq, Drop)]
 pub struct Column {
     /// The first of its blocks, and how many there are.

@@ -1,4 +1,4 @@
-//! A survey is read, and its picture written.
+//! Reads a survey, and writes its picture.
 ghost use Rattle.std.specs.Prelude.{◌≡◌, ◌<◌, ◌≤◌, [], IfOk, IfErr};
 ghost use Rattle.cap_draw.specs.Drawn.{HasDrawn, HasRead, HasWritten, IsStop};
 ghost use Rattle.cap_survey.specs.Survey.{nothing};
@@ -14,7 +14,8 @@ use std::alloc::Global;
 pub enum DrawEnd {
     /// The survey and its picture are whole.
     Done,
-    /// The survey ended within this line, counted from 1, after so many bytes of it. The picture is written, and says so.
+    /// The survey ended within this line, counted from 1, after this number of its bytes. The picture is written, and
+    /// says so.
     Short { line: u64, bytes: u64 },
     /// A read of the survey failed. Nothing was written.
     ReadFault,
@@ -26,8 +27,8 @@ pub enum DrawEnd {
     NoMemory,
 }
 
-/// Reads a survey to its end, and writes its picture in at most so many columns as one piece. All memory is taken before
-/// the first byte is read: some 15 MB.
+/// Reads a survey to its end, and writes its picture in at most `most` columns, in one write. All memory, some 15 MB,
+/// is allocated before the first byte is read.
 pub fn draw<S: Source, K: Sink>(alloc: Global, most: u16, src: &mut S, out: &mut K) -> DrawEnd
     requires some { 0 < most }
     requires most { most ≤ 4000 }
@@ -66,7 +67,6 @@ fn read_survey<S: Source>(reading: &mut Reading, src: &mut S) -> Result<usize, D
     }
 }
 
-// Writes the picture of what was read.
 fn write_picture<K: Sink>(
     reading: &Reading,
     left: usize,

@@ -5,7 +5,7 @@ use itoa::Buffer;
 use std::alloc::{AllocError, Global};
 use std::marker::Model;
 
-// The greatest picture has fewer bytes.
+// No picture is greater.
 const ROOM: usize = 2_000_000;
 
 /// The bytes of a picture as far as it was made: at most 2,000,000. Contracts see it as their list.
@@ -28,7 +28,7 @@ impl Model for Page {
 }
 
 impl Page {
-    /// A page without a byte. The memory for all bytes is taken here.
+    /// A page without a byte. The memory for all bytes is allocated here.
     pub fn new(alloc: Global) -> Result<Page, AllocError>
         ensures { IfOk result (λ page. page ≡ []) }
     {

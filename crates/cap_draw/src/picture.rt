@@ -12,7 +12,7 @@ use crate::plot::{Plot, plot_of};
 use crate::words::{put_head, put_legend, put_totals};
 use cap_survey::Cell;
 
-/// Puts the picture of these blocks in at most so many columns; a survey that isn't closed is cut. It has at most
+/// Puts the picture of these blocks in at most `most` columns; a survey that isn't closed is cut. It has at most
 /// 2,000,000 bytes.
 pub fn put_picture(page: &mut Page, cells: &[Cell], closed: bool, most: u16)
     requires empty { page.old ≡ [] }

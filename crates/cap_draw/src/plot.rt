@@ -13,7 +13,7 @@ pub struct Plot {
     pub columns: u16,
 }
 
-/// The plot of some blocks that has at most so many columns.
+/// The plot of some blocks with at most `most` columns.
 pub fn plot_of(cells: &[Cell], most: u16) -> Plot
     requires some { 0 < most }
     requires most { most ≤ 4000 }
@@ -30,7 +30,7 @@ pub fn plot_of(cells: &[Cell], most: u16) -> Plot
     }
 }
 
-// So many columns of whole units, together at least 1,000 wide.
+// A whole number of units for each column, together at least 1,000.
 fn plot_width(most: u16) -> u16
     requires some { 0 < most }
     requires most { most ≤ 4000 }
@@ -53,7 +53,7 @@ fn rows_by(peak: u16) -> u16
     }
 }
 
-/// Where part `k` begins, if a whole is shared among so many parts.
+/// Where part `k` begins, if a whole is shared among `parts` parts.
 pub fn share(k: u32, whole: u32, parts: u32) -> u32
     requires some { 0 < parts }
     requires within { k ≤ parts }

@@ -8,7 +8,7 @@ static SURVEY: &[u8] = b"block 0 sector 030000 layer 0 pi 30 failed 30 sum8 30: 
     block 1 sector 030010 layer 0 pi 15 failed 15 sum8 45: whole\n\
     blocks 2 pi 45 failed 45 damaged 1 peak 45 at 1 over 0\n";
 
-// A drawing of the first bytes of the survey, of which each read gives at most 50, and a write to so much room.
+// A drawing of the first bytes of the survey. Each read gives at most 50 of them, and the output has room for `room`.
 struct Case {
     survey: usize,
     broken_read: u64,

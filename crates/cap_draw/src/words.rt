@@ -30,7 +30,7 @@ pub fn put_head(page: &mut Page, width: u16)
     page.put(b"PI error rows of eight blocks (sum8) over a disk</text>\n");
 }
 
-/// Puts the totals in words, and that the survey is cut where it is.
+/// Puts the totals in words. They say that the survey is cut, where it is.
 pub fn put_totals(page: &mut Page, cells: &[Cell], columns: u16, closed: bool)
     requires room { length page.old ≤ 1000 }
     requires few { length cells.now ≤ 2097152 }

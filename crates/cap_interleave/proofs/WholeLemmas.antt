@@ -1,4 +1,4 @@
--- Captures of so many blocks each, without a fault.
+-- Captures of the same number of blocks each, without a fault.
 use Rattle.std.proofs.Common.{◌≡◌, ◌∙◌, inl, inr, ◌+◌, ◌-◌, ◌*◌, ◌^◌, ◌<◌, ◌≤◌, ℕ, suc, List, [], ◌++◌, length, slice_index_or, refl, ap, sym, subst, arith, append-nil, length-append, Option, Some, None}
 use Rattle.std.proofs.Math.Nat.{mul-le-mul_left, mul-suc}
 use Rattle.std.proofs.lemmas.Bool.{cases_lt}

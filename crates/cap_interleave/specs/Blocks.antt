@@ -1,4 +1,4 @@
--- Ours: blocks of several captures in turn, as `dvdecc merge` takes them. A capture is known by its number, from 0.
+-- Ours: blocks of several captures in turn, as `dvdecc merge` reads them. A capture is known by its number, from 0.
 use Rattle.std.specs.Prelude.{ℕ, zero, suc, ◌*◌, Bool, true, false, List, [], ◌∷◌, ◌++◌, length, take, drop, replicate}
 
 -- how many bytes a block has, whether blocks are filled, and how many captures there are
@@ -19,7 +19,7 @@ block_of size k capture = take size (drop (size * k) capture)
 abbrev pub lost_row : List ℕ
 lost_row = replicate 182 0 ++ (replicate 22 255 ++ 252 ∷ [])
 
--- so many of them
+-- a number of lost rows
 unfoldable pub lost_rows : ℕ → List ℕ
 lost_rows zero = []
 lost_rows (suc n) = lost_rows n ++ lost_row
@@ -28,7 +28,7 @@ lost_rows (suc n) = lost_rows n ++ lost_row
 abbrev pub lost_block : List ℕ
 lost_block = lost_rows 208
 
--- What is written for a block of which these bytes came. Where blocks are filled, those that didn't come are as in a block
+-- What is written for a block of which these bytes came. Where blocks are filled, the missing bytes are as in a block
 -- that is marked whole.
 abbrev pub filled : Bool → List ℕ → List ℕ
 filled true own = own ++ drop (length own) lost_block
@@ -39,7 +39,7 @@ unfoldable pub unit_of : Task → Captures → ℕ → ℕ → List ℕ
 unit_of task captures k zero = []
 unit_of task captures k (suc c) = unit_of task captures k c ++ filled task.fill (block_of task.size k (captures c))
 
--- block 0 of all captures, then block 1 of all, as far as that of the first so many
+-- block 0 of all captures, then block 1 of all, and so on, for that many blocks
 unfoldable pub units_of : Task → Captures → ℕ → List ℕ
 units_of task captures zero = []
 units_of task captures (suc k) = units_of task captures k ++ unit_of task captures k task.count

@@ -1,5 +1,5 @@
--- What only the private functions of this crate promise. No public contract but that of the buffers cites this page, and no
--- law.
+-- What only the private functions of this crate promise. Of public contracts, only those of the buffers cite this page,
+-- and no law does.
 use Rattle.std.specs.Prelude.{◌≡◌, ◌⊎◌, ℕ, zero, suc, ◌+◌, ◌*◌, ◌<◌, ◌≤◌, Bool, false, List, [], ◌++◌, length, replicate, slice_index, slice_index_or, slice_set, Result, Ok, Err}
 use Rattle.std.specs.Io.KnownBytes.{Appends, Consumes, IsAtEnd}
 use Rattle.cap_interleave.specs.Blocks.{Captures, Task, filled}
@@ -9,14 +9,15 @@ use Rattle.dvd_ports.specs.Causes.{HasFailed, HasGoneOn, HasMetEnd}
 use Rattle.dvd_ports.specs.Seen.{Seen}
 use Rattle.dvd_ports.specs.Whole.{AppendsPrefix}
 
--- the size of a block, whether blocks are filled, how many bytes came of the last block of each capture, and the unit so far
+-- The size of a block, whether blocks are filled, how many bytes there were in the last block of each capture, and the
+-- unit so far.
 pub record BuffersState : Type 0 where
   pub size : ℕ
   pub fill : Bool
   pub held : List ℕ
   pub unit : List ℕ
 
--- Buffers for a task, before anything is read: a whole block is said of each capture, so that it is asked for its first.
+-- Buffers for a task, before anything is read. A whole block is recorded for each capture, so that its first is read.
 abbrev pub fresh : Task → BuffersState
 fresh task = record { size = task.size; fill = task.fill; held = replicate task.count task.size; unit = [] }
 
@@ -24,7 +25,7 @@ fresh task = record { size = task.size; fill = task.fill; held = replicate task.
 abbrev pub task_of : BuffersState → Task
 task_of buffers = record { size = buffers.size; fill = buffers.fill; count = length buffers.held }
 
--- These bytes of a block came. A source that had fewer of the block before than a whole one isn't asked again.
+-- These bytes of a block came. A source that had only a part of the block before isn't read again.
 pub record GivesBlock (size before : ℕ) (own : List ℕ) (old new : Seen) : Type 0 where
   pub ended : before < size → (own ≡ []) × (new ≡ old)
   pub reads : size ≤ before → Consumes old.bytes new.bytes own
@@ -40,7 +41,7 @@ pub record BreaksBlock (size before : ℕ) (own : List ℕ) (old new : Seen) : T
 abbrev pub Breaks : ℕ → ℕ → Seen → Seen → Type 0
 Breaks size before old new = (own : List ℕ) × BreaksBlock size before own old new
 
--- A block of capture c was read and stands at the end of the unit.
+-- A block of capture c was read, and added at the end of the unit.
 pub record IsReadInto (c : ℕ) (old new : BuffersState) (before after : Seen) : Type 0 where
   pub own : List ℕ
   pub gives : GivesBlock old.size (slice_index old.held c) own before after
@@ -52,7 +53,7 @@ unfoldable pub filled_blocks : Bool → Captures → ℕ → List ℕ
 filled_blocks fill owns zero = []
 filled_blocks fill owns (suc c) = filled_blocks fill owns c ++ filled fill (owns c)
 
--- A block of each of the first so many captures was read into the unit; the others are as they were.
+-- A block of each of the first n captures was read into the unit; the others are as they were.
 pub record AreReadTo {S : Type 0} (seen : S → Seen) (n : ℕ) (old new : BuffersState) (olds news : List S) : Type 0 where
   pub owns : Captures
   pub gives : (c : ℕ) (d : S) → c < n → GivesBlock old.size (slice_index old.held c) (owns c) (seen (slice_index_or olds c d)) (seen (slice_index_or news c d))
@@ -76,16 +77,16 @@ pub record IsBrokenAt {S : Type 0} (seen : S → Seen) (b : ℕ) (old : BuffersS
   pub none : (c : ℕ) → b < c → owns c ≡ []
   pub others : (c : ℕ) (d : S) → b < c → slice_index_or news c d ≡ slice_index_or olds c d
 
--- a unit isn't read, and the loop ends so
+-- a unit isn't read, and the loop ends there
 abbrev pub EndsBroken : {S : Type 0} → (S → Seen) → BuffersState → List S → List S → InterleaveEnd → Type 0
 EndsBroken seen old olds news (ReadFault b) = IsBrokenAt seen b old olds news
 EndsBroken seen old olds news end = ⊥
 
--- a byte came of some block
+-- a byte of some block was read
 abbrev pub SomeCame : BuffersState → Type 0
 SomeCame buffers = (c : ℕ) × (c < length buffers.held) × (0 < slice_index buffers.held c)
 
--- The blocks of a unit are written, or the loop ends so.
+-- The blocks of a unit are to be written, or the loop ends there.
 abbrev pub ChecksTo : BuffersState → ℕ → Result (Unit {0}) InterleaveEnd → Type 0
 ChecksTo buffers k (Ok value) = SomeCame buffers × (buffers.fill ≡ false → (c : ℕ) → c < length buffers.held → buffers.size ≤ slice_index buffers.held c)
 ChecksTo buffers k (Err Done) = (c : ℕ) → c < length buffers.held → slice_index buffers.held c ≡ 0
@@ -94,7 +95,7 @@ ChecksTo buffers k (Err (Short c block bytes)) =
     × (slice_index buffers.held c ≡ bytes) × (bytes < buffers.size)
 ChecksTo buffers k (Err end) = ⊥
 
--- Block k of each capture is read and written, or the loop ends so.
+-- Block k of each capture is read and written, or the loop ends there.
 abbrev pub IsTurn : {S : Type 0} → (S → Seen) → ℕ → BuffersState → BuffersState → List S → List S → Seen → Seen → Result (Unit {0}) InterleaveEnd → Type 0
 IsTurn seen k old new olds news before after (Ok value) =
     AreReadTo seen (length olds) old new olds news × ChecksTo new k (Ok value) × Appends before.bytes after.bytes new.unit × HasGoneOn before after

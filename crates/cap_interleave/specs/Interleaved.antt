@@ -20,7 +20,8 @@ pub record AreDue (task : Task) (captures : Captures) (k : ℕ) : Type 0 where
   pub some : HaveSome task captures k
   pub whole : task.fill ≡ false → HaveWhole task captures k
 
--- Capture c is the first that doesn't have block k whole, but so many bytes of it; one of the captures has a byte of it.
+-- Capture c is the first that doesn't have block k whole: it has `bytes` bytes of it, and one of the captures has a
+-- byte of it.
 pub record IsFirstShort (task : Task) (captures : Captures) (k c bytes : ℕ) : Type 0 where
   pub not_filled : task.fill ≡ false
   pub some : HaveSome task captures k
@@ -29,7 +30,7 @@ pub record IsFirstShort (task : Task) (captures : Captures) (k c bytes : ℕ) : 
   pub held : length (captures c) ≡ task.size * k + bytes
   pub fewer : bytes < task.size
 
--- how a loop ends that has written so many blocks of each capture, where no stream failed
+-- how a loop ends that has written `units` blocks of each capture, where no stream failed
 abbrev pub EndsAfter : Task → Captures → ℕ → InterleaveEnd → Type 0
 EndsAfter task captures units Done = (c : ℕ) → c < task.count → length (captures c) ≤ task.size * units
 EndsAfter task captures units (Short c k bytes) = (k ≡ units) × IsFirstShort task captures units c bytes
@@ -37,27 +38,28 @@ EndsAfter task captures units WriteFault = AreDue task captures units
 EndsAfter task captures units (ReadFault c) = c < task.count
 EndsAfter task captures units Long = units ≡ 2 ^ 32 - 1
 
--- A source was asked for so many blocks, and these bytes came: all, or fewer, and then its end was met, by the last call.
+-- A source was asked for n blocks, and these bytes came: all, or fewer, and then the last call met its end.
 pub record HasGiven (size n : ℕ) (came : List ℕ) (old new : Seen) : Type 0 where
   pub reads : Consumes old.bytes new.bytes came
   pub answers : ((length came ≡ size * n) × HasGoneOn old new) ⊎ ((length came < size * n) × IsAtEnd new.bytes × HasMetEnd old new)
 
--- After so many blocks a read failed within the next one, the last call.
+-- After n blocks a read failed within the next one, and was the last call.
 pub record HasBroken (size n : ℕ) (came : List ℕ) (old new : Seen) : Type 0 where
   pub reads : Consumes old.bytes new.bytes came
   pub whole : size * n ≤ length came
   pub fewer : length came < size * suc n
   pub failed : HasFailed old new
 
--- What came of capture c: the block after those that were written was asked for too, but for the captures after one whose
--- read failed, and at the end of the numbers.
+-- What came of capture c: the blocks that were written, and what there is of the next one. The next wasn't read of
+-- captures after one whose read failed, or once 2 ^ 32 - 1 blocks were written.
 abbrev pub Gives : ℕ → ℕ → InterleaveEnd → ℕ → List ℕ → Seen → Seen → Type 0
 Gives size units (ReadFault broken) c came old new =
     (c < broken → HasGiven size (suc units) came old new) × (c ≡ broken → HasBroken size units came old new) × (broken < c → HasGiven size units came old new)
 Gives size units Long c came old new = HasGiven size units came old new
 Gives size units end c came old new = HasGiven size (suc units) came old new
 
--- A write failed within the bytes of a unit, after those of the units before: a front was taken, and something was left.
+-- A write failed within the bytes of a unit, after those of the units before: a prefix was written, and something was
+-- left.
 pub record IsCutWithin (before unit : List ℕ) (old new : Seen) : Type 0 where
   pub front : List ℕ
   pub left : List ℕ
@@ -71,8 +73,8 @@ abbrev pub Writes : Task → Captures → ℕ → InterleaveEnd → Seen → See
 Writes task captures units WriteFault old new = IsCutWithin (units_of task captures units) (unit_of task captures units task.count) old new
 Writes task captures units end old new = Appends old.bytes new.bytes (units_of task captures units) × HasGoneOn old new
 
--- The loop has written so many blocks of each capture, by the bytes that came of each, and ended so. Each fault is one
--- failed call of its stream, and its last; no other stream failed, and none was asked for more after its end.
+-- The loop has written `units` blocks of each capture, by the bytes that came of each, and ended there. Each fault is
+-- one failed call of its stream, and its last; no other stream failed, and none was asked for more after its end.
 pub record IsInterleaved {S : Type 0} (seen : S → Seen) (task : Task) (olds news : List S) (old new : Seen) (end : InterleaveEnd) : Type 0 where
   pub came : Captures
   pub units : ℕ

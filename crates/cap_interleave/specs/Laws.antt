@@ -9,11 +9,11 @@ use Rattle.dvd_capture.specs.Captured.{captured_marks}
 use Rattle.dvd_capture.specs.declared.form.Form.TheVariants.{Marked}
 use Rattle.dvd_ports.specs.Seen.{Seen}
 
--- A block that is marked whole has a mark at each place of its 208 rows.
+-- A block that is marked whole has a mark at each byte of its 208 rows.
 abbrev pub LostBlockIsMarkedWhole : Type 0
 LostBlockIsMarkedWhole = captured_marks Marked lost_block ≡ replicate 208 (replicate 182 true)
 
--- Where each capture has so many blocks, the bytes are in the order in which `dvdecc merge` takes them: the output is cut
+-- Where each capture has n blocks, the bytes are in the order in which `dvdecc merge` reads them: the output is cut
 -- into units of one block of each capture, and place c of unit k is block k of capture c.
 abbrev pub BlocksAreInMergeOrder : Type 0
 BlocksAreInMergeOrder =
@@ -27,7 +27,7 @@ IsFaultless (ReadFault c) = ⊥
 IsFaultless WriteFault = ⊥
 IsFaultless end = Unit {0}
 
--- Captures of so many blocks each, and of no byte more, are written whole where no stream failed.
+-- Captures of the same number of whole blocks, fewer than 2 ^ 32 - 1, are written whole where no stream failed.
 abbrev pub WholeCapturesComeWhole : {S : Type 0} → (S → Seen) → Type 0
 WholeCapturesComeWhole {S} seen =
     (task : Task) (olds news : List S) (old new : Seen) (end : InterleaveEnd) (captures : Captures) (n : ℕ)

@@ -1,4 +1,4 @@
--- What the contracts speak of: blocks of captures in turn, and what a loop over them does to its streams.
+-- What the contracts are about: blocks of captures in turn, and what a loop over them does to its streams.
 pub mod Blocks
 pub mod Inner
 pub mod Laws

@@ -16,8 +16,8 @@ use std::marker::Model;
 // The bytes of a unit at most: sixteen blocks in the marked form.
 const MOST_BYTES: usize = 16 * 42_640;
 
-/// A unit, a block, and how many bytes came of the last block of each capture. Where blocks are filled, it has one that is
-/// marked whole too.
+/// A unit, a block, and how many bytes there were in the last block of each capture. Where blocks are filled, there is
+/// also a block that is marked whole.
 #[derive(Drop)]
 pub struct Buffers {
     unit: Vec<u8>,
@@ -40,7 +40,7 @@ impl Model for Buffers {
 }
 
 impl Buffers {
-    /// Buffers for so many captures, of which nothing was read. All memory is taken here.
+    /// Buffers for this number of captures, of which nothing was read. All memory is allocated here.
     pub fn new(alloc: Global, form: Form, fill: bool, captures: usize) -> Result<Buffers, NoMemory>
         requires form { HasSize form }
         requires fill { fill ≡ true → form ≡ marked }
@@ -64,7 +64,7 @@ impl Buffers {
         self.unit.clear();
     }
 
-    /// Reads a block of capture `c` and puts it at the end of the unit. A capture that has ended isn't asked again.
+    /// Reads a block of capture `c` and adds it to the unit. A capture that has ended isn't read again.
     pub(crate) fn read<S: Source>(&mut self, c: usize, src: &mut S) -> Result<(), Failed>
         requires capture { c < length self.old.held }
         requires room { length self.old.unit ≤ 42_640 * c }
@@ -105,14 +105,12 @@ impl Buffers {
     }
 }
 
-// Whether no byte came of any block.
 fn are_empty(held: &[usize]) -> bool
     ensures { result ≡ list_all (λ h. h == 0) held.now }
 {
     held.iter().all(|held| *held == 0)
 }
 
-// The first capture of which fewer bytes came than a block has.
 fn first_short(held: &[usize], size: usize) -> Option<usize>
     ensures { result ≡ position (λ h. nat_lt h size) held.now }
 {
@@ -132,7 +130,7 @@ fn fetch<S: Source>(block: &mut [u8], before: usize, src: &mut S) -> Result<usiz
     read_whole(src, block)
 }
 
-// Puts a block of which these bytes came at the end of a unit, and the rest of one that is marked whole, if there is one.
+// Adds a block to the unit: these bytes, and, where there is a lost block, the rest of that.
 fn put_block(unit: &mut Vec<u8>, own: &[u8], lost: &Option<Vec<u8>>)
     requires room { vec_len unit.old + 42_640 ≤ vec_capacity unit.old }
     requires own { length own.now ≤ 42_640 }
@@ -147,7 +145,7 @@ fn put_block(unit: &mut Vec<u8>, own: &[u8], lost: &Option<Vec<u8>>)
     }
 }
 
-// Puts bytes at the end, for which there is room.
+// Adds bytes, for which there is room.
 fn put(unit: &mut Vec<u8>, bytes: &[u8])
     requires { vec_len unit.old + length bytes.now ≤ vec_capacity unit.old }
     ensures items { unit.new.items ≡ unit.old.items ++ bytes.now }
@@ -160,7 +158,6 @@ fn put(unit: &mut Vec<u8>, bytes: &[u8])
     }
 }
 
-// A block in the marked form that is marked whole.
 #[tactic(auto, using(crate::proofs::BlockLemmas::rows_none, crate::proofs::BlockLemmas::rows_more))]
 fn lost_block(alloc: Global) -> Result<Vec<u8>, NoMemory>
     ensures block { IfOk result (λ block. block.items ≡ lost_block) }

@@ -11,12 +11,12 @@ pub enum InterleaveEnd {
     },
     /// A write failed.
     WriteFault,
-    /// This capture is the first that doesn't have this block whole, but so many bytes of it.
+    /// This capture is the first that doesn't have this block whole: it has this number of its bytes.
     Short {
         capture: u32,
         block: u32,
         bytes: u32,
     },
-    /// The captures have more blocks than 32 bits count.
+    /// 2^32 - 1 blocks of each capture were written. What comes after them wasn't read.
     Long,
 }

@@ -7,8 +7,8 @@ use crate::buffers::Buffers;
 use crate::ends::InterleaveEnd;
 use dvd_ports::{Failed, Sink, Source, WriteFault};
 
-/// Writes block 0 of each capture, then block 1 of each, and so on. Nothing is tried again: a failed call, and a read that
-/// met the end of a capture, is the last of its stream.
+/// Writes block 0 of each capture, then block 1 of each, and so on. Nothing is tried again: a failed call, and a read
+/// that met the end of a capture, is the last of its stream.
 pub fn interleave_loop<S: Source, K: Sink>(
     buffers: &mut Buffers,
     captures: &mut [S],
@@ -46,7 +46,6 @@ fn turn<S: Source, K: Sink>(
     }
 }
 
-// Reads a block of each capture.
 fn read_unit<S: Source>(buffers: &mut Buffers, captures: &mut [S]) -> Result<(), InterleaveEnd>
     requires count { length captures.old ≡ length buffers.old.held }
     requires few { length captures.old ≤ 16 }

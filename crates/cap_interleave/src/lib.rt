@@ -1,4 +1,4 @@
-//! Blocks of several captures in turn, as `dvdecc merge` takes them: block 0 of each capture, then block 1 of each, ..
+//! Blocks of several captures in turn, as `dvdecc merge` reads them: block 0 of each capture, then block 1 of each, ..
 //!
 //! One block of each capture is read before any of them is written, so that the output has a block of each or of none.
 #![tactic(auto)]

@@ -5,7 +5,7 @@ use dvd_ports::{MemSink, MemSource, Source};
 use std::alloc::Global;
 use std::test::Fail;
 
-// So many bytes, each of which is that of its number in this capture.
+// This number of bytes, each of which depends on its number and on that of the capture.
 fn capture(alloc: Global, number: u8, count: usize) -> Result<Vec<u8>, Fail> {
     let mut bytes = Vec::new(alloc);
     for k in 0..count {
@@ -14,7 +14,7 @@ fn capture(alloc: Global, number: u8, count: usize) -> Result<Vec<u8>, Fail> {
     Ok(bytes)
 }
 
-// A run over three captures of these lengths, of which the second fails at a call, and to an output with so much room.
+// A run over three captures of these lengths. The second fails at a call, and the output has room for `room` bytes.
 struct Case {
     form: Form,
     fill: bool,
@@ -221,7 +221,7 @@ fn size_of(form: Form) -> usize {
     }
 }
 
-// The first so many blocks of each, one after the other.
+// The first `blocks` blocks of each capture, in turn.
 fn wanted(alloc: Global, case: &Case, captures: &[Vec<u8>]) -> Result<Vec<u8>, Fail> {
     let size = size_of(case.form);
     let mut bytes = Vec::new(alloc);

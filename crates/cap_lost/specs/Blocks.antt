@@ -1,4 +1,4 @@
--- What the lines say that `recover` and `deep` write of blocks.
+-- What the lines that `recover` and `deep` write of blocks say.
 use Rattle.std.specs.Prelude.{ℕ, ◌+◌, ◌++◌, ◌||◌, ◌==◌, Bool, false, if◌then◌else◌, List, codes, length, bytes_eq, Option, Some, None, option_and_then, Result, Ok, Err, slice_get}
 use Rattle.dvd_layout.specs.Content.{image_from}
 use Rattle.dvd_layout.specs.Place.{image_sectors}
@@ -15,7 +15,7 @@ use Rattle.cap_lost.specs.declared.extent.Extent.{Extent}
 use Rattle.cap_lost.specs.declared.fault.Cause.{Cause}
 use Rattle.cap_lost.specs.declared.fault.Cause.TheVariants.{Line, Block, Place, NoImage}
 
--- a text is this one
+-- a text is equal to another
 abbrev pub is_text : List ℕ → List ℕ → Bool
 is_text other text = bytes_eq text other
 
@@ -54,11 +54,11 @@ extent_of layout content = record { from = image_from content; to = image_from c
 abbrev pub what_said : Extent → List ℕ → Result Said Cause
 what_said extent what = if is_refusal what then Ok (Refused extent) else (if is_round what then Ok (GivenBack extent) else Err Line)
 
--- the front of each line of block k
+-- what each line of block k begins with
 abbrev pub front_of : ℕ → BlockPlan → List ℕ
 front_of k entry = block_text k entry ++ codes ": "
 
--- what a line of block k says after that front
+-- what a line of block k says after that beginning
 abbrev pub after_front : Layout → BlockPlan → Option (List ℕ) → Result Said Cause
 after_front layout entry None = Err Place
 after_front layout entry (Some what) =
@@ -69,7 +69,7 @@ abbrev pub entry_said : Layout → ℕ → List ℕ → Option BlockPlan → Res
 entry_said layout k line None = Err Block
 entry_said layout k line (Some entry) = after_front layout entry (after (front_of k entry) line)
 
--- The block that a line names, of which the text after its first word is given.
+-- the block that a line names, by the number and the text after the first word
 abbrev pub number_said : Layout → Zones → List ℕ → Option (ℕ × List ℕ) → Result Said Cause
 number_said layout zones line None = Err Line
 number_said layout zones line (Some found) = entry_said layout found.0 line (slice_get (plan_of layout zones) found.0)

@@ -1,4 +1,4 @@
--- What the line says that closes the report of an image.
+-- What the closing line of the report of an image says.
 use Rattle.std.specs.Prelude.{ℕ, ◌||◌, nat_lt, Bool, if◌then◌else◌, List, codes, length, take, Option, Some, None, option_and_then, Result, Ok, Err}
 use Rattle.dvd_layout.specs.Place.{image_before, total_sectors}
 use Rattle.dvd_layout.specs.Plan.{plan_of}
@@ -21,7 +21,7 @@ counted_in line =
     if is_text (codes "done") line then Some 0
     else option_and_then (λ found. if is_text (codes " blocks") found.1 then Some found.0 else None) (option_and_then number_first (after (codes "damaged: ") line))
 
--- a number, if after it come this text, a further number, and this text as the last
+-- a number that is followed by this text, by a further number, and by this text as the last
 abbrev pub number_between : List ℕ → List ℕ → ℕ × List ℕ → Option ℕ
 number_between middle last found =
     option_and_then (λ more. if is_text last more.1 then Some found.0 else None) (option_and_then number_first (after middle found.1))
@@ -57,7 +57,8 @@ abbrev pub count_said : Layout → Option ℕ → Result Said Cause → Result S
 count_said layout None other = other
 count_said layout (Some refused) other = Ok (Ended (Some refused) (total_sectors layout))
 
--- What a line says that names no block. After `long` the image is whole, but the blocks that were refused aren't counted.
+-- What a line says that names no block. After `long` the image is whole, but the blocks that were refused aren't
+-- counted.
 abbrev pub closing_said : Layout → Zones → List ℕ → Result Said Cause
 closing_said layout zones line =
     if is_fault line then Err Fault

@@ -5,7 +5,7 @@ use Rattle.std.specs.List.{list_all}
 use Rattle.cap_map.specs.Fields.{run_of}
 use Rattle.cap_map.specs.Numbers.{digits_in}
 
--- a text without this front, if it has it
+-- what comes after this prefix of a text, if the text has it
 abbrev pub after : List ℕ → List ℕ → Option (List ℕ)
 after front text = if bytes_eq (take (length front) text) front then Some (drop (length front) text) else None
 
@@ -13,7 +13,7 @@ after front text = if bytes_eq (take (length front) text) front then Some (drop 
 abbrev pub digits_of : List ℕ → ℕ
 digits_of = run_of (λ c. is_digit c 10)
 
--- The number whose text in decimal these digits are, and what comes after them. No number is written with a zero before it.
+-- The number that these digits write in decimal, and what comes after them. No number is written with a zero before it.
 abbrev pub number_first : List ℕ → Option (ℕ × List ℕ)
 number_first text =
     option_and_then (λ n. if bytes_eq (decimal n) (take (digits_of text) text) then Some (n, drop (digits_of text) text) else None)

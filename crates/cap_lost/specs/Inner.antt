@@ -21,7 +21,7 @@ use Rattle.cap_lost.specs.declared.reader.Reader.{Reader}
 abbrev pub sayings_of : Draft → Sayings
 sayings_of draft = record { extents = draft.extents.items; next = draft.next; refused = draft.refused; written = draft.written }
 
--- a line isn't taken for this rule, or there is no memory
+-- a line isn't accepted because it breaks this rule, or there is no memory
 abbrev pub IsStopOf : {A : Type 0} → Result A Cause → Stop → Type 0
 IsStopOf read stop.NoMemory = Unit {0}
 IsStopOf read (stop.Rule cause) = read ≡ Err cause
@@ -32,7 +32,7 @@ NamesSectors (said.Refused extent) = extent.from < extent.to
 NamesSectors (said.GivenBack extent) = extent.from < extent.to
 NamesSectors (said.Ended refused written) = Unit {0}
 
--- what a report says that goes on so after what a reader has of it
+-- what a report says that has these bytes after what a reader has read
 abbrev pub goes_on : Reader → List ℕ → Result Losses ReportFault
 goes_on reader rest = lines_read reader.layout reader.zones (sayings_of reader.draft) reader.number (lines_of (reader.line.items ++ rest))
 
@@ -42,35 +42,35 @@ StopsAs says faults.NoMemory = Unit {0}
 StopsAs says faults.ReadFault = ⊥
 StopsAs says (faults.Rule line cause) = (rest : List ℕ) → says rest ≡ Err (faults.Rule line cause)
 
--- one line more, where the end was said
+-- 1 where the closing line came, else 0: the number of such lines
 abbrev pub ended : Option ℕ → ℕ
 ended None = 0
 ended (Some written) = 1
 
--- Each damage line names a sector at least, and a sector is a number of 32 bits.
+-- Each damage line names at least one sector, and a sector number has 32 bits.
 pub record IsCounted (draft : Draft) : Type 0 where
   pub refused : draft.refused ≤ draft.next
   pub below : draft.next < 2 ^ 32
 
--- Each line but the closing one names a sector at least, and of the next line, which isn't too long, no byte ends it.
+-- Each line except the closing one names at least one sector. The next line isn't too long, and no byte of it ends it.
 pub record IsSound (reader : Reader) : Type 0 where
   pub number : reader.number ≤ reader.draft.next + ended reader.draft.written + 1
   pub counted : IsCounted reader.draft
   pub within : line_length reader.line.items ≡ length reader.line.items
   pub short : length reader.line.items ≤ 128
 
--- a reader has come so many bytes further at least, each line being 129 of them
+-- a reader has read at least this number of bytes more, where each line counts as 129
 abbrev pub HasMoved : ℕ → Reader → Reader → Type 0
 HasMoved bytes old new = 129 * old.number + length old.line.items + bytes ≤ 129 * new.number + length new.line.items
 
--- Of a text this is left to be written; what comes before it was written, and no write failed.
+-- The rest of a text is left to be written. What comes before it was written, and no write failed.
 pub record IsLeft (whole rest : List ℕ) (old now : Seen) : Type 0 where
   pub front : List ℕ
   pub grows : Appends old.bytes now.bytes front
   pub splits : front ++ rest ≡ whole
   pub steady : HasGoneOn old now
 
--- what a reader has of a report that has come so far
+-- what a reader has of a report, after what was read of it
 pub record HasCome (layout : Layout) (zones : Zones) (old now : Seen) (reader : Reader) : Type 0 where
   pub text : List ℕ
   pub taken : Consumes old.bytes now.bytes text

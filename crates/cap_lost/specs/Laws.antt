@@ -33,12 +33,13 @@ LostAreThoseOfRefusedBlocks =
     (layout : Layout) (zones : Zones) (text : List ℕ) (losses : Losses) (sector : ℕ) → losses_of layout zones text ≡ Ok losses
     → IsLost losses.extents sector ↔ OneRefusesBlockOf layout zones sector (lines_of text)
 
--- Each has a sector at least. The first begins at this sector or after it, and each other one after the end of the one before.
+-- Each has at least one sector. The first begins at this sector or after it, and each other one after the end of the
+-- one before.
 abbrev pub AreApart : ℕ → List Extent → Type 0
 AreApart from [] = Unit {0}
 AreApart from (extent ∷ extents) = (from ≤ extent.from) × (extent.from < extent.to) × AreApart (extent.to + 1) extents
 
--- The extents come in order and don't touch, what was written ends after them, and the image has as many sectors at least.
+-- The extents are in order and don't touch. They end within what was written, and that within the image.
 abbrev pub LossesAreInOrder : Type 0
 LossesAreInOrder =
     (layout : Layout) (zones : Zones) (text : List ℕ) (losses : Losses) → losses_of layout zones text ≡ Ok losses

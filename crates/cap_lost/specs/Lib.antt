@@ -1,4 +1,4 @@
--- What the contracts speak of: the lines of a report, what they say of the image together, and its map.
+-- What the contracts are about: the lines of a report, what they say of the image together, and its map.
 pub mod Blocks
 pub mod Closings
 pub mod Fronts

@@ -2,6 +2,6 @@
 use Rattle.cap_lost.specs.Report.{Losses}
 use Rattle.cap_lost.specs.declared.draft.Lost.{Lost}
 
--- the losses, without the place where they are kept
+-- the losses, as values alone
 abbrev pub losses_in : Lost → Losses
 losses_in lost = record { extents = lost.extents.items; written = lost.written }

@@ -8,7 +8,8 @@ use Rattle.cap_lost.specs.declared.map.TheConstants.{HEAD}
 abbrev pub number_text : ℕ → List ℕ
 number_text n = codes "0x" ++ hexadecimal (if nat_lt n (2 ^ 32) then 8 else 9) n
 
--- the line of the bytes of these sectors, from one to the one before an end, and of their status; none where there are none
+-- the line of the bytes of these sectors, from one to the one before an end, and of their status; none where there are
+-- none
 abbrev pub sectors_line : ℕ → ℕ → ℕ → List ℕ
 sectors_line from to status =
     if nat_lt from to then number_text (2048 * from) ++ codes "  " ++ number_text (2048 * (to - from)) ++ codes "  " ++ status ∷ 10 ∷ [] else []
@@ -31,7 +32,7 @@ last_lines at written total = sectors_line at written 43 ++ sectors_line written
 abbrev pub lines_from : ℕ → List Extent → ℕ → ℕ → List ℕ
 lines_from at extents written total = extent_lines at extents ++ last_lines (end_of at extents) written total
 
--- The map of an image of so many sectors: those of these extents are bad, those from `written` on weren't tried, and all
--- others are rescued.
+-- The map of an image of `total` sectors: those of these extents are bad, those from `written` on weren't tried, and
+-- all others are rescued.
 abbrev pub map_text : List Extent → ℕ → ℕ → List ℕ
 map_text extents written total = HEAD.now ++ lines_from 0 extents written total

@@ -1,4 +1,4 @@
--- What a report says that is read from a source.
+-- What a report that is read from a source says.
 use Rattle.std.specs.Prelude.{◌≡◌, ◌⊎◌, ℕ, ◌++◌, List, Ok, Err}
 use Rattle.std.specs.Io.KnownBytes.{Consumes, IsAtEnd}
 use Rattle.dvd_layout.specs.declared.layout.Layout.{Layout}
@@ -10,7 +10,7 @@ use Rattle.cap_lost.specs.declared.fault.Cause.{Cause}
 use Rattle.cap_lost.specs.declared.fault.ReportFault.{ReportFault}
 use Rattle.cap_lost.specs.declared.fault.ReportFault.TheVariants.{NoMemory, ReadFault, Rule}
 
--- The report was read to its end, and says this. Its bytes are those of the source, where it knows its bytes.
+-- The report was read to its end, and says this. Its bytes are those of the source, where these are known.
 pub record Reads (layout : Layout) (zones : Zones) (old new : Seen) (losses : Losses) : Type 0 where
   pub text : List ℕ
   pub taken : Consumes old.bytes new.bytes text
@@ -18,7 +18,7 @@ pub record Reads (layout : Layout) (zones : Zones) (old new : Seen) (losses : Lo
   pub met : HasMetEnd old new
   pub says : losses_of layout zones text ≡ Ok losses
 
--- A line of what was read of it breaks a rule, however the report goes on; and nothing more was read of it.
+-- A line of what was read breaks a rule, however the report goes on, and no more of the report was read.
 pub record Breaks (layout : Layout) (zones : Zones) (old new : Seen) (line : ℕ) (cause : Cause) : Type 0 where
   pub text : List ℕ
   pub taken : Consumes old.bytes new.bytes text

@@ -14,8 +14,8 @@ use Rattle.cap_lost.specs.declared.fault.Cause.TheVariants as causes
 use Rattle.cap_lost.specs.declared.fault.ReportFault.{ReportFault}
 use Rattle.cap_lost.specs.declared.fault.ReportFault.TheVariants.{NoMemory, ReadFault, Rule}
 
--- what was said so far: the sectors of refused blocks, the sector after those of the last block that was named, how many blocks
--- were refused, and how many sectors were written, once that is said
+-- What was said so far: the sectors of refused blocks, and the sector after those of the last block that was named. How
+-- many blocks were refused, and, once that is said, how many sectors were written.
 pub record Sayings : Type 0 where
   pub extents : List Extent
   pub next : ℕ
@@ -39,12 +39,12 @@ abbrev pub is_end : Option Extent → ℕ → Bool
 is_end None sector = false
 is_end (Some last) sector = last.to == sector
 
--- the last of these with another end
+-- these, with another end of the last
 abbrev pub with_end : List Extent → Option Extent → ℕ → List Extent
 with_end extents None to = extents
 with_end extents (Some last) to = slice_set extents (length extents - 1) (record { from = last.from; to = to })
 
--- an extent more, by which the last one grows where it ends at its first sector
+-- one more extent: the last one grows by it, where it ends at its first sector
 abbrev pub with_extent : List Extent → Extent → List Extent
 with_extent extents extent =
     if is_end (last_of extents) extent.from then with_end extents (last_of extents) extent.to else extents ++ extent ∷ []
@@ -82,7 +82,7 @@ line_read layout zones said line =
     if nat_lt 128 (length line) then Err causes.Line
     else (if is_some said.written then Err causes.AfterEnd else with_result said (line_said layout zones line))
 
--- what comes after a line that was read so, the line having this number
+-- what comes after a line with this result and this number
 abbrev pub after_line : ℕ → Result Sayings Cause → (Sayings → Result Losses ReportFault) → Result Losses ReportFault
 after_line number (Ok said) rest = rest said
 after_line number (Err cause) rest = Err (Rule number cause)
@@ -101,7 +101,7 @@ lines_read layout zones said number (line ∷ lines) =
 abbrev pub losses_of : Layout → Zones → List ℕ → Result Losses ReportFault
 losses_of layout zones text = lines_read layout zones nothing 1 (lines_of text)
 
--- A fault is that of the report; there being no memory says nothing of it, nor does a failed read.
+-- A fault is that of the report. Where there is no memory, or a read failed, nothing is claimed of the report.
 abbrev pub IsFaultOf : Result Losses ReportFault → ReportFault → Type 0
 IsFaultOf read NoMemory = Unit {0}
 IsFaultOf read ReadFault = ⊥

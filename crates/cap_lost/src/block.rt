@@ -43,7 +43,7 @@ fn place_said(layout: &Layout, k: u64, plan: &BlockPlan, line: &[u8]) -> Result<
     what_said(extent, what)
 }
 
-// The front of each line of block `k`: its number, its first sector number and its layer.
+// What each line of block `k` begins with: its number, its first sector number and its layer.
 #[tactic(auto, unfolding(dvd_report::specs::Lines::block_text))]
 fn front_of(k: u64, plan: &BlockPlan) -> Line
     requires { HasNumbers plan.now }
@@ -60,7 +60,6 @@ fn front_of(k: u64, plan: &BlockPlan) -> Line
     line
 }
 
-// The image sectors of a block with this content.
 fn extent_of(layout: &Layout, content: Content) -> Extent
     ensures { result ≡ extent_of layout.now content }
 {
@@ -73,7 +72,6 @@ fn extent_of(layout: &Layout, content: Content) -> Extent
     }
 }
 
-// What is said of a block with these image sectors.
 fn what_said(extent: Extent, what: &[u8]) -> Result<Said, Cause>
     requires { extent.from < extent.to }
     ensures said { result ≡ what_said extent what.now }

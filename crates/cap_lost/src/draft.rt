@@ -14,11 +14,12 @@ pub enum Said {
     Refused(Extent),
     /// The block with these image sectors was given back by a round.
     GivenBack(Extent),
-    /// The run ended: so many blocks were refused, where it says that, and so many image sectors were written.
+    /// The run ended. This number of blocks was refused, where the line says so, and this number of image sectors was
+    /// written.
     Ended { refused: Option<u64>, written: u32 },
 }
 
-/// Why a line isn't taken.
+/// Why a line isn't accepted.
 #[derive(Clone, Copy, Debug, PartialEq, Eq)]
 pub enum Stop {
     /// It breaks a rule.
@@ -36,8 +37,8 @@ pub struct Lost {
     pub written: u32,
 }
 
-/// What was said so far: the sectors of refused blocks, the sector after those of the last block that was named, how many
-/// blocks were refused, and how many sectors were written, once that is said.
+/// What was said so far: the sectors of refused blocks, and the sector after those of the last block that was named.
+/// How many blocks were refused, and, once that is said, how many sectors were written.
 #[derive(Drop)]
 pub struct Draft {
     pub extents: Vec<Extent>,
@@ -59,7 +60,7 @@ impl Draft {
         }
     }
 
-    /// Adds what one more line says.
+    /// Adds what one more line says. At `Err` nothing is promised of the draft.
     pub fn add(&mut self, said: Said) -> Result<(), Stop>
         requires counted { IsCounted self.old }
         requires some { NamesSectors said }
@@ -147,7 +148,7 @@ impl Draft {
         }
     }
 
-    // Ends with so many sectors that were written.
+    // Ends with this number of written sectors.
     fn end(&mut self, refused: Option<u64>, written: u32) -> Result<(), Stop>
         ensures added { OnOk result (with_said (sayings_of self.old) (Said.Ended refused written) ≡ Ok (sayings_of self.new)) }
         ensures rule { IfErr result (IsStopOf (with_said (sayings_of self.old) (Said.Ended refused written))) }
@@ -163,7 +164,7 @@ impl Draft {
         Ok(())
     }
 
-    // Whether a closing line that counts so many refused blocks, or none, is right.
+    // Whether a closing line that counts this number of refused blocks, or none, is right.
     fn counts(&self, refused: Option<u64>) -> bool
         ensures { result ≡ is_count self.now.refused refused }
     {

@@ -43,8 +43,8 @@ pub enum ReportFault {
     /// A read of the report failed.
     #[error("read fault")]
     ReadFault,
-    /// This line, counted from 1, is the first that breaks a rule. It is the one after the last where the closing line is
-    /// missing.
+    /// This line, counted from 1, is the first that breaks a rule. It is the one after the last where the closing line
+    /// is missing.
     #[error("line {line}: {cause}")]
     Rule { line: u64, cause: Cause },
 }

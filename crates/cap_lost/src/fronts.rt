@@ -1,4 +1,4 @@
-//! Texts and numbers at the front of a text.
+//! Texts and numbers at the beginning of a text.
 ghost use Rattle.std.specs.Prelude.{◌≡◌, ◌≤◌, length, bytes_eq, option_map};
 ghost use Rattle.std.specs.List.{list_all};
 ghost use Rattle.cap_lost.specs.Fronts.{after, after_number, after_word, digits_of, is_capital_digit, number_first};
@@ -13,7 +13,7 @@ pub fn is_text(text: &[u8], other: &[u8]) -> bool
     text == other
 }
 
-/// What comes after this front of a text, if the text has it.
+/// What comes after this prefix of a text, if the text has it.
 pub fn after<'a>(text: &'a [u8], front: &[u8]) -> Option<&'a [u8]>
     ensures { option_map (λ rest. rest.now) result ≡ after front.now text.now }
 {

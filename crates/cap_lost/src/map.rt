@@ -13,16 +13,17 @@ use crate::extent::Extent;
 use arrayvec::ArrayVec;
 use dvd_ports::{Sink, WriteFault, write_whole};
 
-// How many extents are written as one piece.
+// How many extents are written together.
 const TOGETHER: usize = 64;
 
-// The lines of so many extents: two for each, of at most 28 bytes.
+// The lines of that many extents: two for each, of at most 28 bytes.
 type Lines = ArrayVec<u8, 3584>;
 
 static HEAD: &[u8] =
     b"# Mapfile. Created by dvdcap\n# current_pos  current_status  current_pass\n0x00000000     +               1\n#      pos        size  status\n";
 
-/// Writes the map of an image of so many sectors, in pieces of some thousand bytes. After a fault a front of it was written.
+/// Writes the map of an image of `total` sectors, some thousand bytes at once. After a fault a prefix of it was
+/// written.
 pub fn write_map<K: Sink>(lost: &Lost, total: u32, out: &mut K) -> Result<(), WriteFault>
     ensures { IsWritten (map_text lost.now.extents.items lost.now.written total) (K.seen out.old) (K.seen out.new) result }
 {
@@ -108,7 +109,7 @@ fn put_number(lines: &mut Lines, number: u64)
     put_digits(lines, number, if number < 1 << 32 { 8 } else { 9 });
 }
 
-// Puts the last so many hexadecimal digits of a number, the highest first.
+// Puts the last `width` hexadecimal digits of a number, the highest first.
 fn put_digits(lines: &mut Lines, number: u64, width: u32)
     requires digits { width ≤ 9 }
     requires room { array_vec_len lines.old + width ≤ 3584 }
@@ -120,7 +121,6 @@ fn put_digits(lines: &mut Lines, number: u64, width: u32)
     }
 }
 
-// The hexadecimal digit, in capitals.
 fn hexadecimal_digit(value: u64) -> u8
     requires { value < 16 }
     ensures { result ≡ digit_glyph true value }
@@ -128,7 +128,6 @@ fn hexadecimal_digit(value: u64) -> u8
     b"0123456789ABCDEF"[value as usize]
 }
 
-// Puts bytes at the end.
 fn put(lines: &mut Lines, bytes: &[u8])
     requires room { array_vec_len lines.old + length bytes.now ≤ 3584 }
     ensures items { lines.new.items ≡ lines.old.items ++ bytes.now }

@@ -17,7 +17,7 @@ use std::alloc::Global;
 // No line that is read has more bytes.
 const LONGEST: usize = 128;
 
-/// A report of this layout, as far as it came: what its whole lines say, the number of the next, and the bytes of it.
+/// A report of this layout, as far as it came: what its whole lines say, and the number and the bytes of the next line.
 #[derive(Drop)]
 pub struct Reader {
     layout: Layout,
@@ -42,7 +42,7 @@ impl Reader {
         }
     }
 
-    /// Reads one more piece of it.
+    /// Reads one more piece of the report.
     pub fn take(&mut self, piece: &[u8]) -> Result<(), ReportFault>
         requires sound { IsSound self.old }
         ensures read { OnOk result ((rest : List ℕ) → goes_on self.old (piece.now ++ rest) ≡ goes_on self.new rest) }
@@ -73,7 +73,7 @@ impl Reader {
         Ok(())
     }
 
-    // Reads the line that came, as one that ends here.
+    // Reads the line that came, as one that a line feed ends.
     fn end_line(&mut self) -> Result<(), ReportFault>
         requires sound { IsSound self.old }
         ensures read { OnOk result ((rest : List ℕ) → goes_on self.old (10 ∷ rest) ≡ goes_on self.new rest) }
@@ -110,7 +110,7 @@ impl Reader {
         }
     }
 
-    /// What the report says that ends here.
+    /// What the report says, if it ends here.
     pub fn finish(mut self) -> Result<Lost, ReportFault>
         requires sound { IsSound self }
         ensures read { IfOk result (λ lost. goes_on self [] ≡ Ok (losses_in lost)) }
@@ -140,7 +140,6 @@ impl Reader {
     }
 }
 
-// Reads a whole line.
 fn read_line(layout: &Layout, zones: Zones, draft: &mut Draft, line: &[u8]) -> Result<(), Stop>
     requires short { length line.now ≤ 128 }
     requires counted { IsCounted draft.old }
@@ -158,7 +157,6 @@ fn read_line(layout: &Layout, zones: Zones, draft: &mut Draft, line: &[u8]) -> R
     }
 }
 
-// What a line says.
 fn said_by(layout: &Layout, zones: Zones, line: &[u8]) -> Result<Said, Cause>
     ensures said { result ≡ word_said layout.now zones line.now (after (codes "block ") line.now) }
     ensures some { IfOk result NamesSectors }

@@ -10,8 +10,8 @@ use dvd_layout::{Layout, Zones};
 use dvd_ports::{Failed, Source};
 use std::alloc::Global;
 
-/// Reads a report of this layout and these zones to its end, or to the first line that breaks a rule. It takes memory for
-/// the extents, two numbers for each, and `NoMemory` comes only where there is none.
+/// Reads a report of this layout and these zones to its end, or to the first line that breaks a rule. It allocates
+/// memory for the extents, two numbers for each, and `NoMemory` comes only where there is none.
 pub fn read_report<S: Source>(
     alloc: Global,
     layout: Layout,

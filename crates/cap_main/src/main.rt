@@ -1,4 +1,4 @@
-//! The program dvdcap: it makes the real words, files and streams, and ends with the status of the run.
+//! The program dvdcap: it makes the real arguments, files and streams, and ends with the status of the run.
 #![tactic(auto)]
 
 ghost use Rattle.std.specs.Prelude.{◌≡◌, ◌≤◌, length, vec_len, IfOk};
@@ -28,7 +28,6 @@ fn main(rt: HostRuntime) -> ExitCode {
     ExitCode::from(status.number())
 }
 
-// The run of a command.
 fn run<E: Sink>(rt: &HostRuntime, settings: &Settings<'_>, report: &mut E) -> Status
     requires { AreLawful settings.now }
 {
@@ -61,7 +60,7 @@ fn interleave<E: Sink>(
     run_interleave(rt.alloc(), settings, &mut captures, &mut out, report)
 }
 
-// The files of these names, in their order.
+// Opens the files of these names, in order.
 fn open_all(rt: &HostRuntime, names: &[&str]) -> Result<Vec<StdSource<Opened>>, NoMemory>
     ensures { IfOk result (λ files. vec_len files ≡ length names.now) }
 {
@@ -111,7 +110,7 @@ impl Read for Opened {
     }
 }
 
-// The words after the program's own name; none where one of them isn't UTF-8, which is no command.
+// The arguments after the program's own name; none where one of them isn't UTF-8, which makes a usage error.
 fn words<R: Env + AllocGlobal>(rt: &R) -> Result<Vec<String>, NoMemory> {
     match env::args(rt) {
         Ok(args) => args.skip(1).collect(rt.alloc()).map_err(|_| NoMemory),

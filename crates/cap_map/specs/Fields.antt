@@ -25,7 +25,7 @@ field_length = run_of (λ c. not (is_blank c))
 abbrev pub first_field : List ℕ → List ℕ
 first_field line = let text = drop (blanks_of line) line in take (field_length text) text
 
--- what comes after it
+-- what comes after the first field
 abbrev pub after_field : List ℕ → List ℕ
 after_field line = let text = drop (blanks_of line) line in drop (field_length text) text
 
@@ -37,7 +37,7 @@ without_comment line = take (run_of (λ c. not (c == 35)) line) line
 abbrev pub line_length : List ℕ → ℕ
 line_length = run_of (λ c. not (c == 10))
 
--- a byte at the front of the first of these lines, or of one that it begins
+-- a byte put before the first of these lines, or before none as a line of its own
 abbrev pub onto_first : ℕ → List (List ℕ) → List (List ℕ)
 onto_first c [] = (c ∷ []) ∷ []
 onto_first c (line ∷ lines) = (c ∷ line) ∷ lines

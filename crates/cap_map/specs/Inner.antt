@@ -12,11 +12,11 @@ use Rattle.cap_map.specs.declared.fields.FieldsOf.{FieldsOf}
 abbrev pub read_of : Draft → Read
 read_of draft = record { opened = draft.opened; spans = draft.spans.items }
 
--- fields that are lent, as their bytes
+-- borrowed fields, as their bytes
 abbrev pub bytes_of : FieldsOf → Fields4
 bytes_of fields = record { first = fields.first.now; second = fields.second.now; third = fields.third.now; fourth = fields.fourth.now }
 
--- a line isn't read for this rule, or there is no memory
+-- a line isn't accepted because it breaks this rule, or there is no memory
 abbrev pub IsStopOf : {A : Type 0} → Result A Cause → Stop → Type 0
 IsStopOf read stop.NoMemory = Unit {0}
 IsStopOf read (stop.Rule cause) = read ≡ Err cause

@@ -1,4 +1,4 @@
--- What the contracts speak of: the rules of a map, and what it says of each byte.
+-- What the contracts are about: the rules of a map, and what it says of each byte.
 pub mod Fields
 pub mod Inner
 pub mod Lines

@@ -46,7 +46,7 @@ sized_block position size status =
     if size == 0 then Err Empty
     else (if nat_le (2 ^ 63) (position + size) then Err TooLong else Ok (record { position = position; end = position + size; status = status }))
 
--- the same by what its fields are read as
+-- likewise by the numbers in its fields, where they are numbers
 abbrev pub numbered_block : Option ℕ → Option ℕ → List ℕ → Result Block Cause
 numbered_block None size status = Err Number
 numbered_block (Some position) None status = Err Number

@@ -52,7 +52,7 @@ line_read good read fields =
     else (if read.opened then with_result good read.spans (block_of fields)
     else (if is_state fields then Ok (record { opened = true; spans = read.spans }) else Err State))
 
--- what comes after a line that was read so, the line having this number
+-- what comes after a line with this result and this number
 abbrev pub after_line : ℕ → Result Read Cause → (Read → Result (List Span) MapFault) → Result (List Span) MapFault
 after_line number (Ok read) rest = rest read
 after_line number (Err cause) rest = Err (Rule number cause)
@@ -66,7 +66,7 @@ lines_read good read number (line ∷ lines) =
 abbrev pub map_of : List ℕ → List ℕ → Result (List Span) MapFault
 map_of good text = lines_read good (record { opened = false; spans = [] }) 1 (lines_of text)
 
--- A fault is that of the map; there being no memory says nothing of it.
+-- A fault is that of the map. Where there is no memory, nothing is claimed of the map.
 abbrev pub IsFaultOf : Result (List Span) MapFault → MapFault → Type 0
 IsFaultOf read NoMemory = Unit {0}
 IsFaultOf read (Rule line cause) = read ≡ Err (Rule line cause)

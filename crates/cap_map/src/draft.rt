@@ -9,7 +9,7 @@ use crate::fields::fields_of;
 use crate::line::{Block, block_of, is_among, is_state};
 use crate::span::Span;
 
-/// Why a line isn't read.
+/// Why a line isn't accepted.
 #[derive(Clone, Copy, Debug, PartialEq, Eq)]
 pub enum Stop {
     /// It breaks a rule.
@@ -18,7 +18,7 @@ pub enum Stop {
     NoMemory,
 }
 
-/// Whether the state has come, and the spans of the blocks that came.
+/// Whether the line of the state has come, and the spans of the blocks that came.
 #[derive(Drop)]
 pub struct Draft {
     pub opened: bool,
@@ -48,7 +48,7 @@ impl Draft {
         Ok(())
     }
 
-    // Adds the span of a block, and before the first block one of which the map says nothing.
+    // Adds the span of a block; before that of the first block, one for the bytes of which the map says nothing.
     fn add(&mut self, block: &Block, good: &[u8]) -> Result<(), Stop>
         ensures read { OnOk result (with_block good.now self.old.spans.items block.now ≡ Ok self.new.spans.items) }
         ensures same { OnOk result (self.new.opened ≡ self.old.opened) }
@@ -67,7 +67,6 @@ impl Draft {
         self.push(block.end, is_among(good, block.status))
     }
 
-    // Adds a span.
     fn push(&mut self, end: u64, rescued: bool) -> Result<(), Stop>
         ensures read { OnOk result (self.new.spans.items ≡ self.old.spans.items ++ record { end = end; rescued = rescued } ∷ []) }
         ensures same { OnOk result (self.new.opened ≡ self.old.opened) }

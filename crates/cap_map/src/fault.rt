@@ -37,7 +37,8 @@ pub enum MapFault {
     /// There is no memory for the spans.
     #[error("no memory")]
     NoMemory,
-    /// This line, counted from 1, is the first that breaks a rule. It is the one after the last where the state is missing.
+    /// This line, counted from 1, is the first that breaks a rule. It is the one after the last where the state is
+    /// missing.
     #[error("line {line}: {cause}")]
     Rule { line: u64, cause: Cause },
 }

@@ -1,7 +1,8 @@
 //! The map of GNU ddrescue: which bytes of a capture are rescued. No file is read here; the text of a map is a slice.
 //!
-//! A map has comments, a line with the state of the run that wrote it, and lines with a position, a size and a status. Each
-//! rule of these lines is a definition in `specs/`, and `read_map` gives what they say or names the line that breaks one.
+//! A map has comments, a line with the state of the run that wrote it, and lines with a position, a size and a status.
+//! Each rule of these lines is a definition in `specs/`, and `read_map` gives what they say or names the line that
+//! breaks one.
 #![tactic(auto)]
 
 mod draft; // what a map says, as far as it was read

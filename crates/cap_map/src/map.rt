@@ -8,8 +8,8 @@ use crate::fields::line_length;
 use crate::span::Span;
 use std::alloc::Global;
 
-/// The spans of a map in which these statuses are trusted, or the first line that breaks a rule. It takes memory for the
-/// spans, two numbers for each block, and `NoMemory` comes only where there is none.
+/// The spans of a map in which these statuses are trusted, or the first line that breaks a rule. It allocates memory
+/// for the spans, two numbers for each block, and `NoMemory` comes only where there is none.
 pub fn read_map(alloc: Global, text: &[u8], good: &[u8]) -> Result<Vec<Span>, MapFault>
     ensures read { IfOk result (λ spans. map_of good.now text.now ≡ Ok spans.items) }
     ensures rule { IfErr result (IsFaultOf (map_of good.now text.now)) }

@@ -2,7 +2,7 @@
 ghost use Rattle.std.specs.Prelude.{◌≡◌, ◌<◌, ◌≤◌, ◌^◌, IfSome};
 ghost use Rattle.cap_map.specs.Numbers.{digits_in, is_hexadecimal, number_of, with_digit};
 
-/// The number that a text is. There is none from 2^63 on: that is the greatest length of a file, and one more.
+/// The number that a text is. There is none from 2^63 on: no file is longer than 2^63 - 1 bytes.
 pub fn number_of(text: &[u8]) -> Option<u64>
     ensures value { result ≡ number_of text.now }
     ensures below { IfSome result (λ n. n < 2 ^ 63) }

@@ -6,7 +6,7 @@ use Rattle.dvd_loop.specs.Laws.{IsFaultless}
 use Rattle.dvd_loop.specs.Machine.{IsOutcome, Outcome}
 use Rattle.dvd_loop.specs.declared.ends.LoopEnd.TheVariants.{Short}
 
--- so many recording frames with their marks, of bytes that begin with frame k
+-- a number of recording frames with their marks, of bytes that begin with frame k
 unfoldable pub marked_frames : List Span → ℕ → ℕ → List ℕ → List ℕ
 marked_frames spans k zero bytes = []
 marked_frames spans k (suc n) bytes = marked_frame spans k (take 2366 bytes) ++ marked_frames spans (suc k) n (drop 2366 bytes)
@@ -15,8 +15,8 @@ marked_frames spans k (suc n) bytes = marked_frame spans k (take 2366 bytes) ++ 
 abbrev pub marked_capture : List Span → List ℕ → List ℕ
 marked_capture spans bytes = marked_frames spans 0 (length bytes / 2366) bytes
 
--- What comes of a capture, where no stream fails: its whole frames are written with their marks, it is read to its end, no
--- line is told, and the end names what is left in a last frame that is cut.
+-- The result for a capture where no stream fails. Its whole frames are written with their marks, it is read to its end,
+-- and no line is reported. The end names what is left in a last frame that is cut.
 pub record IsMarkedWhole (spans : List Span) (bytes : List ℕ) (outcome : Outcome) : Type 0 where
   pub writes : outcome.out ≡ marked_capture spans bytes
   pub tells : outcome.lines ≡ []

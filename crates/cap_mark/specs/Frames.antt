@@ -11,7 +11,7 @@ use Rattle.cap_mark.specs.Marks.{marks_of_row}
 abbrev pub marked_row : List Span → ℕ → List ℕ → ℕ → List ℕ
 marked_row spans start bytes n = slice_range bytes (182 * n) (182 * n + 182) ++ marks_of_row spans (start + 182 * n)
 
--- the first so many rows, each with its marks
+-- the first n rows, each with its marks
 unfoldable pub marked_rows : List Span → ℕ → List ℕ → ℕ → List ℕ
 marked_rows spans start bytes zero = []
 marked_rows spans start bytes (suc n) = marked_rows spans start bytes n ++ marked_row spans start bytes n
@@ -25,7 +25,7 @@ pub record IsMarked (spans : List Span) (k : ℕ) (own : List ℕ) (steps : List
   pub writes : steps ≡ Write (marked_frame spans k own) ∷ []
   pub good : kind ≡ Good
 
--- Unit k is recording frame k, 2,366 bytes. There are as many as a number of 32 bits counts, so that the loop ends within a
--- frame, none of which may have come: that is the end of a capture.
+-- Unit k is recording frame k, 2,366 bytes. There are 2 ^ 32 - 1 units, so that the loop ends within a frame, none of
+-- whose bytes may have come: that is the end of a capture.
 abbrev pub mark_units : List Span → Units
 mark_units spans = plain_units (2 ^ 32 - 1) (λ k. 2366) (IsMarked spans)

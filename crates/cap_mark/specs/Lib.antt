@@ -1,4 +1,4 @@
--- What the contracts speak of: marks of the bytes that aren't rescued.
+-- What the contracts are about: marks of the bytes that aren't rescued.
 pub mod Capture
 pub mod Frames
 pub mod Marks

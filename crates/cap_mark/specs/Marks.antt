@@ -1,5 +1,5 @@
--- The marks of one recorded row of a capture, as bits: 23 bytes, of which each has eight marks, the most significant bit
--- first. The last two bits of the last byte are spare, and 0.
+-- The marks of one recorded row of a capture, as bits: 23 bytes, of which each has eight marks, the most significant
+-- bit first. The last two bits of the last byte are spare, and 0.
 use Rattle.std.specs.Prelude.{ℕ, zero, suc, ◌+◌, ◌-◌, ◌*◌, ◌/◌, ◌%◌, ◌&&◌, ◌==◌, nat_lt, Bool, true, false, not, List, [], ◌∷◌, ◌++◌, slice_index}
 use Rattle.std.specs.Int.{bit_at}
 use Rattle.cap_map.specs.Spans.{is_rescued}
@@ -14,12 +14,12 @@ abbrev pub bit_of : Bool → ℕ
 bit_of true = 1
 bit_of false = 0
 
--- so many marks from a place on, as a number whose most significant bit is the first of them
+-- a number of marks, from `place` on, as a number whose most significant bit is the first of them
 unfoldable pub bits_of : (ℕ → Bool) → ℕ → ℕ → ℕ
 bits_of marks place zero = 0
 bits_of marks place (suc n) = 2 * bits_of marks place n + bit_of (marks (place + n))
 
--- the first so many mark bytes
+-- the first n mark bytes
 unfoldable pub mark_bytes : (ℕ → Bool) → ℕ → List ℕ
 mark_bytes marks zero = []
 mark_bytes marks (suc n) = mark_bytes marks n ++ bits_of marks (8 * n) 8 ∷ []

@@ -16,7 +16,7 @@ use cap_map::Span;
 use dvd_loop::{LoopEnd, PlainCommand, UnitKind, read_unit, run_owned};
 use dvd_ports::{NullSink, Sink, Source, write_whole};
 
-/// The spans of a map, and those of them that don't end before a place or at it: where the loop is in the map.
+/// The spans of a map, and those of them that end after byte `place`: where the loop is in the map.
 #[derive(Drop)]
 struct Marking<'a> {
     spans: &'a [Span],
@@ -25,7 +25,7 @@ struct Marking<'a> {
 }
 
 impl<'a> Marking<'a> {
-    // Spans that serve from this byte on: those where the loop is, which it never leaves but for a later byte.
+    // Spans that are right from this byte on: those where the loop is, or all of them where that is past this byte.
     fn passed(&self, start: u64) -> &'a [Span]
         requires { AgreeFrom self.now.place self.now.left.now self.now.spans.now }
         ensures { AgreeFrom start result.now self.now.spans.now }

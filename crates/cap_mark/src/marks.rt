@@ -32,7 +32,6 @@ pub fn put_rows(spans: &[Span], start: u64, frame: &[u8; 2366], out: &mut Marked
     }
 }
 
-// Puts bytes at the end.
 fn put(out: &mut MarkedFrame, bytes: &[u8])
     requires { array_vec_len out.old + length bytes.now ≤ 2665 }
     ensures items { out.new.items ≡ out.old.items ++ bytes.now }
@@ -55,7 +54,7 @@ fn put_marks(spans: &[Span], start: u64, out: &mut MarkedFrame)
     }
 }
 
-// Puts the mark bytes of a row one by one.
+// Puts the mark bytes of a row of both kinds, one by one.
 fn put_mixed(spans: &[Span], start: u64, out: &mut MarkedFrame)
     requires room { array_vec_len out.old + 23 ≤ 2665 }
     requires start { start + 182 < 2 ^ 64 }

@@ -1,11 +1,11 @@
-//! The spans of a map from a place on, so that no span is passed twice.
+//! The spans of a map from a byte on, so that the loop doesn't go over a span twice.
 ghost use Rattle.std.specs.Prelude.{◌≡◌, ◌<◌, ◌≤◌, ◌+◌, ◌^◌, ℕ, IfSome};
 ghost use Rattle.cap_map.specs.Spans.{is_rescued};
 ghost use Rattle.cap_mark.specs.Walk.{AgreeFrom};
 
 use cap_map::Span;
 
-/// The spans but for those that end before a place or at it.
+/// The spans without those before them that end at or before byte `place`. They say the same from that byte on.
 pub fn spans_from<'a>(spans: &'a [Span], place: u64) -> &'a [Span]
     ensures { AgreeFrom place result.now spans.now }
 {
@@ -16,7 +16,7 @@ pub fn spans_from<'a>(spans: &'a [Span], place: u64) -> &'a [Span]
     left
 }
 
-/// What a map says of all bytes of a row, if it says one thing of them.
+/// What a map says of all bytes of a row, if it is one thing and the first of these spans shows it.
 pub fn whole_row(spans: &[Span], start: u64) -> Option<bool>
     requires { start + 182 < 2 ^ 64 }
     ensures { IfSome result (λ rescued. (j : ℕ) → j < 182 → is_rescued spans.now (start + j) ≡ rescued) }

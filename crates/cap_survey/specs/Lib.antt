@@ -1,4 +1,4 @@
--- What the contracts speak of: the lines of a survey, and what comes of all of them.
+-- What the contracts are about: the lines of a survey, and the result of all of them.
 pub mod Lines
 pub mod Numbers
 pub mod Survey

@@ -1,11 +1,11 @@
--- Texts and numbers at the front of a text.
+-- Texts and numbers at the beginning of a text.
 use Rattle.std.specs.Prelude.{ℕ, ◌+◌, ◌*◌, ◌^◌, ◌&&◌, ◌||◌, ◌==◌, nat_le, nat_lt, Bool, if◌then◌else◌, List, [], ◌∷◌, length, take, drop, slice_index, Option, Some, None, option_and_then, option_map}
 use Rattle.std.specs.Char.{digit_value, is_ascii_digit, is_digit}
 use Rattle.std.specs.List.{list_all}
 use Rattle.std.specs.Str.{bytes_eq}
 use Rattle.cap_survey.specs.declared.number.Number.{Number}
 
--- what comes after this text at the front of another
+-- what comes after this text at the beginning of another
 abbrev pub after_text : List ℕ → List ℕ → Option (List ℕ)
 after_text name text = if bytes_eq (take (length name) text) name then Some (drop (length name) text) else None
 
@@ -14,12 +14,12 @@ abbrev pub digit_count : List ℕ → ℕ
 digit_count [] = 0
 digit_count (c ∷ cs) = if is_ascii_digit c then digit_count cs + 1 else 0
 
--- a number with one decimal digit more at its end, if it stays below 10 ^ 18
+-- a number with one more decimal digit at its end, if it stays below 10 ^ 18
 abbrev pub with_digit : ℕ → ℕ → Option ℕ
 with_digit value c =
     if is_digit c 10 && nat_lt (10 * value + digit_value c) (10 ^ 18) then Some (10 * value + digit_value c) else None
 
--- a number with all of these digits more
+-- a number with all of these digits at its end
 abbrev pub with_digits : ℕ → List ℕ → Option ℕ
 with_digits value [] = Some value
 with_digits value (c ∷ cs) = option_and_then (λ next. with_digits next cs) (with_digit value c)
@@ -33,13 +33,13 @@ pub record NumberAt : Type 0 where
 abbrev pub number_of : Number → NumberAt
 number_of n = record { value = n.value; rest = n.rest.now }
 
--- The number in decimal at the front of a text: below 10 ^ 18, and without a zero before other digits.
+-- The number in decimal at the beginning of a text: below 10 ^ 18, and without a zero before other digits.
 abbrev pub number_at : List ℕ → Option NumberAt
 number_at text =
     if digit_count text == 0 || (nat_lt 1 (digit_count text) && slice_index text 0 == 48) then None
     else option_map (λ value. record { value = value; rest = drop (digit_count text) text }) (with_digits 0 (take (digit_count text) text))
 
--- the number after this text at the front of another
+-- the number after this text at the beginning of another
 abbrev pub number_after : List ℕ → List ℕ → Option NumberAt
 number_after name text = option_and_then number_at (after_text name text)
 

@@ -1,4 +1,4 @@
--- What comes of the lines of a survey: the counts of its blocks, or the first line that breaks a rule.
+-- The result of the lines of a survey: the counts of its blocks, or the first line that breaks a rule.
 use Rattle.std.specs.Prelude.{ℕ, ◌+◌, ◌-◌, ◌*◌, ◌&&◌, ◌||◌, ◌==◌, nat_lt, Bool, true, false, not, if◌then◌else◌, List, [], ◌∷◌, ◌++◌, length, drop, sum_by, Option, Some, None, Result, Ok, Err}
 use Rattle.cap_survey.specs.Lines.{block_of, totals_in}
 use Rattle.cap_survey.specs.Totals.{pi_of, totals_of}
@@ -22,8 +22,8 @@ next_line read = length read.cells + (if read.closed then 2 else 1)
 abbrev pub last_seven : List Cell → List Cell
 last_seven cells = drop (length cells - 7) cells
 
--- Blocks come in their order from 0. A block has 208 rows, and each failed row has a PI error. `sum8` is the sum of `pi`
--- over the block and the seven before it.
+-- Blocks come in their order from 0. A block has 208 rows, and each failed row has a PI error. `sum8` is the sum of
+-- `pi` over the block and the seven before it.
 abbrev pub cell_of : List Cell → BlockLine → Result Cell Cause
 cell_of cells block =
     if not (block.block == length cells) then Err Order
@@ -36,7 +36,7 @@ abbrev pub with_cell : Read → Result Cell Cause → Result Read Cause
 with_cell read (Ok cell) = Ok (record { cells = read.cells ++ cell ∷ []; closed = read.closed })
 with_cell read (Err cause) = Err cause
 
--- a block more
+-- one more block
 abbrev pub with_block : Read → BlockLine → Result Read Cause
 with_block read block = with_cell read (cell_of read.cells block)
 
@@ -56,15 +56,15 @@ block_or_totals read (Some block) totals = with_block read block
 block_or_totals read None (Some totals) = with_totals read totals
 block_or_totals read None None = Err Form
 
--- What comes of one line: it is that of the next block or that of the totals, and nothing is after these. It has at most
--- 255 bytes.
+-- The result of one line: it is that of the next block or that of the totals, and nothing comes after the totals. It
+-- has at most 255 bytes.
 abbrev pub line_read : Read → List ℕ → Result Read Cause
 line_read read line =
     if nat_lt 255 (length line) then Err Form
     else (if read.closed then Err After
     else block_or_totals read (block_of line) (totals_in line))
 
--- What a whole survey says, or one that is cut: the last line of it may be cut too, after so many bytes.
+-- What a whole survey says, or one that is cut. The last line of it may be cut too, after a number of bytes.
 pub record Ended : Type 0 where
   pub read : Read
   pub left : ℕ
@@ -73,14 +73,14 @@ pub record Ended : Type 0 where
 abbrev pub fault_at : Read → Cause → Fault
 fault_at read cause = record { line = next_line read; cause = cause }
 
--- what comes of bytes after the last line feed
+-- the result of the bytes after the last line feed
 abbrev pub rest_read : Read → List ℕ → Result Ended Fault
 rest_read read rest =
     if nat_lt 255 (length rest) then Err (fault_at read Form)
     else (if read.closed && not (length rest == 0) then Err (fault_at read After)
     else Ok (record { read = read; left = length rest }))
 
--- what comes after a line that was read so
+-- what comes after a line with this result
 abbrev pub after_line : Read → Result Read Cause → (Read → Result Ended Fault) → Result Ended Fault
 after_line read (Ok next) rest = rest next
 after_line read (Err cause) rest = Err (fault_at read cause)
@@ -112,12 +112,12 @@ nothing = record { cells = []; closed = false }
 abbrev pub survey_of : List ℕ → Result Ended Fault
 survey_of text = let pieces = pieces_of text in pieces_read nothing pieces.first pieces.others
 
--- what was read, and the bytes that came of a line
+-- what was read, and the bytes of the line that has begun
 pub record Begun : Type 0 where
   pub read : Read
   pub line : List ℕ
 
--- what comes of a text that was begun so, with these bytes more
+-- the result of a text of which this was read, with these further bytes
 abbrev pub reading : Begun → List ℕ → Result Ended Fault
 reading begun more = let pieces = pieces_of more in pieces_read begun.read (begun.line ++ pieces.first) pieces.others
 

@@ -30,7 +30,7 @@ before_first passes (cell ∷ cells) = if passes cell then 0 else before_first p
 abbrev pub greatest_of : (Cell → ℕ) → List Cell → ℕ
 greatest_of count cells = fold (λ most cell. max (count cell) most) 0 cells
 
--- The totals. The peak is the greatest sum of eight, at the first block that has it; over counts the sums above 280.
+-- The totals. The peak is the greatest sum of eight, at the first block that has it; `over` counts the sums above 280.
 abbrev pub totals_of : List Cell → Totals
 totals_of cells = record {
   blocks = length cells;

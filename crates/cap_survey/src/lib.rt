@@ -1,7 +1,7 @@
-//! The lines of a survey of a disk, as `dvdecc survey` writes them, and the counts that they say. No file is read here.
+//! The lines of a survey of a disk, as `dvdecc survey` writes them, and the counts in them. No file is read here.
 //!
-//! A survey has a line for each block and a line of totals. What a line says and which rule it breaks are definitions in
-//! `specs/`, and so is what comes of all lines. The bytes come in pieces of any length.
+//! A survey has a line for each block and a line of totals. What a line says and which rule it breaks are definitions
+//! in `specs/`, and so is the result of all lines. The bytes come in pieces of any length.
 #![tactic(auto)]
 
 mod block; // the line of a block

@@ -1,4 +1,4 @@
-//! Texts and numbers at the front of a text.
+//! Texts and numbers at the beginning of a text.
 ghost use Rattle.std.specs.Prelude.{◌≡◌, ◌<◌, ◌≤◌, ◌^◌, length, option_map, IfSome};
 ghost use Rattle.std.specs.List.{list_all};
 ghost use Rattle.cap_survey.specs.Numbers.{after_text, are_hexadecimal, digit_count, is_hexadecimal, number_after, number_at, number_of, with_digit, with_digits};
@@ -10,21 +10,21 @@ pub struct Number<'a> {
     pub rest: &'a [u8],
 }
 
-/// What comes after this text at the front of another.
+/// What comes after this text at the beginning of another.
 pub fn after_text<'a>(text: &'a [u8], name: &[u8]) -> Option<&'a [u8]>
     ensures { option_map (λ s. s.now) result ≡ after_text name.now text.now }
 {
     text.strip_prefix(name)
 }
 
-/// The number in decimal after this text at the front of another.
+/// The number in decimal after this text at the beginning of another.
 pub fn number_after<'a>(text: &'a [u8], name: &[u8]) -> Option<Number<'a>>
     ensures { option_map number_of result ≡ number_after name.now text.now }
 {
     number_at(after_text(text, name)?)
 }
 
-// The number in decimal at the front of a text: below 10^18, and without a zero before other digits.
+// The number in decimal at the beginning of a text: below 10^18, and without a zero before other digits.
 fn number_at<'a>(text: &'a [u8]) -> Option<Number<'a>>
     ensures { option_map number_of result ≡ number_at text.now }
 {

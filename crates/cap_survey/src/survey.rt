@@ -10,7 +10,7 @@ use crate::totals::{Totals, sum_pi, totals_in, totals_of};
 use std::alloc::{AllocError, Global};
 use std::marker::Model;
 
-// A survey has at most so many blocks: more than twice those of the greatest disk.
+// The most blocks of a survey: more than twice those of the greatest disk.
 const ROOM: usize = 2_097_152;
 
 // No line of a survey is longer.
@@ -35,7 +35,7 @@ impl Model for Survey {
 }
 
 impl Survey {
-    /// A survey of which nothing was read. The memory for all of its blocks is taken here.
+    /// A survey of which nothing was read. The memory for all of its blocks is allocated here.
     pub fn new(alloc: Global) -> Result<Survey, AllocError>
         ensures { IfOk result (λ survey. survey ≡ record { cells = []; closed = false }) }
     {
@@ -45,7 +45,8 @@ impl Survey {
         })
     }
 
-    /// Reads one more line, which is given without its line feed. A line that breaks a rule leaves the survey as it was.
+    /// Reads one more line, which is given without its line feed. A line that breaks a rule leaves the survey as it
+    /// was.
     pub fn add(&mut self, line: &[u8]) -> Result<(), Cause>
         ensures read { OnOk result (line_read self.old line.now ≡ Ok self.new) }
         ensures rule { IfErr result (λ cause. line_read self.old line.now ≡ Err cause) }

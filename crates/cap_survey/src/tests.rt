@@ -34,7 +34,7 @@ static CELLS: [Cell; 3] = [
     },
 ];
 
-// What comes of a text that is read in pieces of so many bytes: how many bytes are left of its last line.
+// The result of a text that is read in pieces of `step` bytes: how many bytes are left of its last line.
 fn read(reading: &mut Reading, text: &str, step: usize) -> Result<usize, Fault>
     requires { 0 < step }
 {

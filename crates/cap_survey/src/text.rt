@@ -8,7 +8,7 @@ use arrayvec::ArrayVec;
 use std::alloc::{AllocError, Global};
 use std::marker::Model;
 
-/// A survey of which some bytes were read: its whole lines, and the bytes of a line that were begun. Contracts see it as
+/// A survey of which some bytes were read: its whole lines, and the bytes of a line that has begun. Contracts see it as
 /// these two.
 #[derive(Drop)]
 pub struct Reading {
@@ -28,7 +28,7 @@ impl Model for Reading {
 }
 
 impl Reading {
-    /// A survey of which nothing was read. All of its memory is taken here.
+    /// A survey of which nothing was read. All of its memory is allocated here.
     pub fn new(alloc: Global) -> Result<Reading, AllocError>
         ensures { IfOk result (λ reading. reading ≡ record { read = nothing; line = [] }) }
     {
@@ -51,7 +51,6 @@ impl Reading {
         Ok(())
     }
 
-    // Reads one byte more.
     fn put(&mut self, byte: u8) -> Result<(), Fault>
         ensures read { OnOk result ((more : List ℕ) → reading self.old (byte ∷ more) ≡ reading self.new more) }
         ensures rule { IfErr result (λ fault. (more : List ℕ) → reading self.old (byte ∷ more) ≡ Err fault) }
@@ -68,7 +67,7 @@ impl Reading {
         Ok(())
     }
 
-    // Reads the line that was begun.
+    // Reads the line that has begun.
     fn end_line(&mut self) -> Result<(), Fault>
         ensures read { OnOk result ((more : List ℕ) → reading self.old (10 ∷ more) ≡ reading self.new more) }
         ensures rule { IfErr result (λ fault. (more : List ℕ) → reading self.old (10 ∷ more) ≡ Err fault) }

@@ -9,17 +9,17 @@ use Rattle.dvd_ports.specs.Causes.{HasFailed, HasGoneOn}
 use Rattle.dvd_ports.specs.Seen.{Seen}
 use Rattle.dvd_ports.specs.Whole.{AppendsPrefix}
 
--- the line is written and the status is this one, or the report failed within the line
+-- the line is written and the status is the one wanted, or the report failed within the line
 abbrev pub EndsWith : Status → List ℕ → Seen → Seen → Status → Type 0
 EndsWith wanted line old new result =
     ((result ≡ wanted) × Appends old.bytes new.bytes line × HasGoneOn old new) ⊎ ((result ≡ status.ReportFault) × AppendsPrefix old.bytes new.bytes line × HasFailed old new)
 
--- the line of words that aren't read
+-- the line of arguments that aren't read
 abbrev pub words_line : WordsFault → List ℕ
 words_line words.Usage = codes "usage\n"
 words_line words.NoMemory = codes "no memory\n"
 
--- and their status
+-- their status
 abbrev pub words_status : WordsFault → Status
 words_status words.Usage = status.Usage
 words_status words.NoMemory = status.NoMemory

@@ -29,7 +29,7 @@ draw_line WriteFault = codes "write fault\n"
 draw_line (Rule fault) = codes "survey: line " ++ decimal fault.line ++ codes ": " ++ rule_text fault.cause ++ codes "\n"
 draw_line NoMemory = codes "no memory\n"
 
--- and the status
+-- the status
 abbrev pub draw_status : DrawEnd → Status
 draw_status Done = status.Done
 draw_status (Short line bytes) = status.Short
@@ -38,7 +38,7 @@ draw_status WriteFault = status.WriteFault
 draw_status (Rule fault) = status.BadInput
 draw_status NoMemory = status.NoMemory
 
--- The survey is drawn in at most so many columns, and the run ends with the line and the status of that.
+-- The survey is drawn in at most `most` columns, and the run ends with the line and the status of that.
 pub record Runs (most : ℕ) (source new_source out new_out : Seen) (SourceSame OutSame : Type 0) (report new_report : Seen) (result : Status) : Type 0 where
   pub end : DrawEnd
   pub draws : HasDrawn most source new_source out new_out SourceSame OutSame end

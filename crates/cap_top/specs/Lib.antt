@@ -1,4 +1,4 @@
--- What the contracts speak of: a run of each command, and how it ends.
+-- What the contracts are about: a run of each command, and how it ends.
 pub mod Closing
 pub mod Draw
 pub mod Interleave

@@ -1,5 +1,5 @@
--- The headline of `lost`: what a run does, for its settings, for the bytes of the report that it reads and for faults of its
--- streams.
+-- The headline of `lost`: what a run does, for its settings, for the bytes of the report that it reads and for faults
+-- of its streams.
 pub mod Lines
 use Rattle.std.specs.Prelude.{◌≡◌, ◌⊎◌, Some, List, ℕ, Result, Ok, Err, codes}
 use Rattle.cap_lost.specs.Map.{map_text}
@@ -36,8 +36,8 @@ abbrev pub line_by : Result (Unit {0}) WriteFault → List ℕ
 line_by (Ok done) = codes "done\n"
 line_by (Err fault) = codes "write fault\n"
 
--- The report was read to its end, and the map of what it says is written: of the sectors that it loses, of those that weren't
--- written, and of all sectors of the layout.
+-- The report was read to its end, and the map of what it says is written: of the sectors that it loses, of those that
+-- weren't written, and of all sectors of the layout.
 pub record HasMapped (layout : Layout) (zones : Zones) (old new : Streams) (result : Status) : Type 0 where
   pub losses : Losses
   pub reads : Reads layout zones old.source new.source losses

@@ -19,19 +19,20 @@ use Rattle.dvd_loop.specs.declared.ends.LoopEnd.{LoopEnd}
 use Rattle.dvd_loop.specs.declared.ends.LoopEnd.TheVariants as ends
 use Rattle.dvd_ports.specs.Seen.{Seen}
 
--- how the loop ends over so many bytes: within a frame, none of which may have come
+-- how the loop over these bytes ends: within a frame, none of whose bytes may have come
 abbrev pub end_of_bytes : List ℕ → LoopEnd
 end_of_bytes bytes = ends.Short (length bytes / 2366) (length bytes % 2366)
 
--- Where the source knows its bytes, and no stream failed, all whole frames of the capture were written with their marks, it
--- was read to its end, and line and status are those of what was left in a last frame that is cut, or of none.
+-- Where the bytes of the source are known and no stream failed: all whole frames of the capture were written with their
+-- marks, and it was read to its end. Line and status are those of what was left in a last frame that is cut, or of
+-- none.
 abbrev pub MarksAll : List Span → Streams → Streams → LoopEnd → Type 0
 MarksAll spans old new end = (bytes : List ℕ) → old.source.bytes ≡ Some bytes → IsFaultless end → length bytes < 2366 * (2 ^ 32 - 1)
     → (end ≡ end_of_bytes bytes) × HaveMoved old new bytes (marked_capture spans bytes) (closing_line (end_of_bytes bytes))
 
--- The streams have come to a run by these spans over some bytes, those of the source where it knows them: each recording
--- frame that came is written with the marks of its rows, and then the closing line. `within` is how the loop ended, `end`
--- the same, or ReportFault where that line failed. A fault is one failed call of its stream, and its last.
+-- The streams have reached a run by these spans over some bytes, those of the source where they are known. Each
+-- recording frame that came is written with the marks of its rows, and then the closing line. `within` is how the loop
+-- ended, `end` the same, or ReportFault where that line failed. A fault is one failed call of its stream, and its last.
 pub record HasMarked (spans : List Span) (old new : Streams) (result : Status) : Type 0 where
   pub within : LoopEnd
   pub end : LoopEnd
@@ -42,7 +43,7 @@ pub record HasMarked (spans : List Span) (old new : Streams) (result : Status) :
   -- this follows
   pub all : MarksAll spans old new end
 
--- No spans come of the map, and the streams but for the report are as they were.
+-- The map gives no spans, and the streams except the report are as they were.
 pub record HasRefused (good : List ℕ) (old_map new_map : Seen) (Untouched : Type 0) (old new : Seen) (result : Status) : Type 0 where
   pub refusal : Refusal
   pub is_refused : IsRefused good old_map new_map refusal

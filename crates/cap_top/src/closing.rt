@@ -6,7 +6,7 @@ use crate::status::Status;
 use cap_words::WordsFault;
 use dvd_ports::{Sink, WriteFault, write_whole};
 
-/// Writes the closing line, and answers the status of the run, or ReportFault where the line can't be written.
+/// Writes the closing line, and answers the status of the run, or `ReportFault` where the line can't be written.
 pub fn end_with<E: Sink>(status: Status, line: &[u8], report: &mut E) -> Status
     ensures { EndsWith status line.now (E.seen report.old) (E.seen report.new) result }
 {
@@ -16,7 +16,7 @@ pub fn end_with<E: Sink>(status: Status, line: &[u8], report: &mut E) -> Status
     }
 }
 
-/// Says on the report why words aren't read.
+/// Reports why arguments aren't read.
 pub fn refuse_words<E: Sink>(fault: WordsFault, report: &mut E) -> Status
     ensures { EndsWith (words_status fault) (words_line fault) (E.seen report.old) (E.seen report.new) result }
 {

@@ -12,8 +12,8 @@ use dvd_ports::{Sink, Source};
 use lines::draw_line;
 use std::alloc::Global;
 
-/// Reads a survey from `src` to its end, and writes its picture to `out`. The report gets one line, which says how the run
-/// ended. All memory is taken before the first byte of the survey is read.
+/// Reads a survey from `src` to its end, and writes its picture to `out`. The report gets one line, which says how the
+/// run ended. All memory is allocated before the first byte of the survey is read.
 pub fn run_draw<S: Source, K: Sink, E: Sink>(
     alloc: Global,
     settings: &DrawSettings,
@@ -30,7 +30,6 @@ pub fn run_draw<S: Source, K: Sink, E: Sink>(
     end_with(draw_status(end), draw_line(end).as_slice(), report)
 }
 
-// The exit status of a drawing that ended so.
 fn draw_status(end: DrawEnd) -> Status
     ensures { result ≡ draw_status end }
 {

@@ -13,8 +13,8 @@ use dvd_ports::{NoMemory, Sink, Source};
 use lines::close_line;
 use std::alloc::Global;
 
-/// Writes the blocks of captures in turn to `out`. The report gets one line, which says how the run ended. Memory is taken
-/// for one block of each capture, before the first byte is read.
+/// Writes the blocks of captures in turn to `out`. The report gets one line, which says how the run ended. Memory is
+/// allocated for one block of each capture, before the first byte is read.
 pub fn run_interleave<S: Source, K: Sink, E: Sink>(
     alloc: Global,
     settings: &InterleaveSettings<'_>,
@@ -36,7 +36,6 @@ pub fn run_interleave<S: Source, K: Sink, E: Sink>(
     }
 }
 
-// The exit status of a run that ended so.
 fn status_of(end: InterleaveEnd) -> Status
     ensures { result ≡ status_of end }
 {

@@ -14,9 +14,9 @@ use dvd_ports::{Sink, Source, WriteFault};
 use lines::{refused_line, setting_line};
 use std::alloc::Global;
 
-/// Reads the report of a run of `dvdecc` from `src`, line by line, and then writes the map of its image to `out`. The report
-/// of this run gets one line, which says how it ended. Memory is taken for the extents of lost sectors alone, and nothing is
-/// written before the last line was read.
+/// Reads the report of a run of `dvdecc` from `src`, line by line, and then writes the map of its image to `out`. The
+/// report of this run gets one line, which says how it ended. Memory is allocated for the extents of lost sectors
+/// alone, and nothing is written before the last line was read.
 pub fn run_lost<S: Source, K: Sink, E: Sink>(
     alloc: Global,
     settings: &LostSettings,
@@ -34,7 +34,7 @@ pub fn run_lost<S: Source, K: Sink, E: Sink>(
     }
 }
 
-// The same for a layout that breaks no rule.
+// Likewise for a layout that breaks no rule.
 fn map_image<S: Source, K: Sink, E: Sink>(
     alloc: Global,
     layout: Layout,
@@ -60,7 +60,6 @@ fn map_image<S: Source, K: Sink, E: Sink>(
     }
 }
 
-// The exit status of a run whose report isn't read.
 fn refusal_status(fault: ReportFault) -> Status
     ensures { result ≡ refusal_status fault }
 {

@@ -17,8 +17,8 @@ use lines::{close_line, refused_line};
 use opening::{Refusal, open_map};
 use std::alloc::Global;
 
-/// Reads the map whole, then the capture from `src`, and writes it to `out` in the marked form. The report gets one line,
-/// which says how the run ended. Memory is taken for the map alone, before the first byte of the capture.
+/// Reads the map whole, then the capture from `src`, and writes it to `out` in the marked form. The report gets one
+/// line, which says how the run ended. Memory is allocated for the map alone, before the first byte of the capture.
 pub fn run_mark<M: Source, S: Source, K: Sink, E: Sink>(
     alloc: Global,
     settings: &MarkSettings<'_>,
@@ -44,7 +44,6 @@ pub fn run_mark<M: Source, S: Source, K: Sink, E: Sink>(
     }
 }
 
-// The exit status of a run that ended so.
 fn status_of(end: LoopEnd) -> Status
     ensures { result ≡ status_of end }
 {
@@ -58,7 +57,6 @@ fn status_of(end: LoopEnd) -> Status
     }
 }
 
-// The exit status of a run that doesn't begin.
 fn refusal_status(refusal: Refusal) -> Status
     ensures { result ≡ refusal_status refusal }
 {

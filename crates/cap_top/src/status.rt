@@ -4,9 +4,9 @@ ghost use Rattle.std.specs.Prelude.{◌≡◌};
 /// The exit statuses of the program, with the numbers that `dvdecc` has for them.
 #[derive(Clone, Copy, Debug, PartialEq, Eq)]
 pub enum Status {
-    /// The command was done to its end.
+    /// The command ran to its end.
     Done = 0,
-    /// The words ask for nothing.
+    /// The arguments are invalid.
     Usage = 1,
     /// A line of the map, the report or the survey breaks a rule, or the layout does.
     BadInput = 2,
@@ -16,9 +16,9 @@ pub enum Status {
     WriteFault = 4,
     /// The capture ended within a unit.
     Short = 5,
-    /// The capture has more units than 32 bits count.
+    /// The capture has more units than 32 bits count. `interleave` ends at that number, and reads no further.
     Long = 6,
-    /// There is no memory for the words or for the command.
+    /// There is no memory for the arguments or for the command.
     NoMemory = 8,
     /// A line of the report couldn't be written.
     ReportFault = 9,

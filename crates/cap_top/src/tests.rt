@@ -1,4 +1,4 @@
-//! Runs over memory: what is written and said, and how a fault of each stream ends.
+//! Runs over memory: what is written and reported, and how a fault of each stream ends.
 ghost use Rattle.std.specs.Prelude.{◌≡◌};
 ghost use Rattle.arrayvec.specs.ArrayVec.{array_vec_len};
 
@@ -12,7 +12,8 @@ use std::test::Fail;
 
 static MAP: &[u8] = b"0 +\n0 183 +\n183 1 -\n184 2182 +\n2366 182 /\n2548 0x1000 +\n";
 
-// Two recording frames of sevens with their marks: place 1 of row 1 is marked, and the first row of the second frame whole.
+// Two recording frames of sevens with their marks: place 1 of row 1 is marked, and the first row of the second frame
+// whole.
 fn wanted(alloc: Global) -> Result<Vec<u8>, Fail> {
     let mut bytes = Vec::new(alloc);
     for row in 0..26 {
@@ -28,7 +29,8 @@ fn wanted(alloc: Global) -> Result<Vec<u8>, Fail> {
     Ok(bytes)
 }
 
-// A run over a capture of so many sevens, of which each read gives at most a hundred, and a write to so much room.
+// A run over a capture of `capture` sevens. Each read gives at most a hundred, and the output has room for `room`
+// bytes.
 struct Case {
     capture: usize,
     broken_read: u64,
@@ -137,7 +139,7 @@ fn frames_are_marked_and_faults_are_named(rt: HostRuntime) -> Result<(), Fail> {
     Ok(())
 }
 
-// A run whose map gives no spans: nothing is read of the capture, and nothing written.
+// A run whose map gives no spans: nothing is read of the capture, and nothing is written.
 fn is_refused<M: Source>(
     alloc: Global,
     map: &mut M,
@@ -178,7 +180,8 @@ fn maps_that_give_no_spans(rt: HostRuntime) -> Result<(), Fail> {
     is_refused(alloc, &mut broken, Status::ReadFault, b"map: read fault\n")
 }
 
-// Two plain captures of so many sevens, a failing call of the second, and the status, the line and the bytes of their run.
+// The lengths of two plain captures of sevens, the failing call of the second, and the status, the line and the length
+// of the output.
 type UnitCommand = (usize, usize, u64, Status, &'static [u8], usize);
 
 static TURNS: [UnitCommand; 6] = [

@@ -14,26 +14,26 @@ option_rule required name = record (new_rule name) { long = Some name; action = 
 abbrev pub flag_rule : Text → Rule
 flag_rule name = record (new_rule name) { long = Some name; action = Some SetTrue }
 
--- the words that are no option and no value of one: a file at least
+-- the arguments that are neither options nor values of options: at least one file
 abbrev pub file_rule : Rule
 file_rule = record (new_rule (codes "file")) { action = Some Append; required = true }
 
--- a command with these and nothing else, no flag for help either
+-- a command with these and nothing else, without a flag for help
 abbrev pub app_with : Text → List Rule → App
 app_with name rules = record { top = record (new_shape name) { rules = rules; disable_help_flag = true }; subs = [] }
 
 abbrev pub bare_app : Text → App
 bare_app name = app_with name []
 
--- a command with these options more, none of which it needs
+-- a command with these options added, none of which is required
 abbrev pub with_options : App → List Text → App
 with_options app names = record app { top = record app.top { rules = app.top.rules ++ map (option_rule false) names } }
 
--- the lengths of a disk but for its first layer, its shape, and which of its zones were captured
+-- the lengths of a disk, except that of its first layer, its shape, and which of its zones were captured
 abbrev pub layout_options : List Text
 layout_options = codes "sectors1" ∷ codes "shape" ∷ codes "zones" ∷ codes "initial" ∷ codes "tail" ∷ []
 
--- the options that each command needs, and those that it may have
+-- the options that each command requires, and those that may be given
 abbrev pub app_for : Command → App
 app_for Mark = app_with (codes "mark") (option_rule true (codes "map") ∷ option_rule false (codes "good") ∷ [])
 app_for Interleave = app_with (codes "interleave") (option_rule true (codes "form") ∷ flag_rule (codes "fill") ∷ file_rule ∷ [])

@@ -1,4 +1,4 @@
--- What the words of `draw` ask for.
+-- What the arguments of `draw` ask for.
 use Rattle.std.specs.Prelude.{List, codes, Option, Some}
 use Rattle.clap.specs.Words.{Row, first_of}
 use Rattle.dvd_words.specs.Reading.{◌>>=◌, value_or}

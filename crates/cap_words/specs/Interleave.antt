@@ -1,4 +1,4 @@
--- What the words of `interleave` ask for.
+-- What the arguments of `interleave` ask for.
 use Rattle.std.specs.Prelude.{◌≡◌, ◌≢◌, ◌≤◌, ◌&&◌, nat_le, Bool, true, false, not, if◌then◌else◌, List, codes, length, map, Option, Some, None, option_and_then}
 use Rattle.std.specs.Str.{bytes_eq}
 use Rattle.std.specs.Option.{option_map_or}
@@ -18,7 +18,7 @@ pub record InterleaveAsked : Type 0 where
 abbrev pub interleave_asked : InterleaveSettings → InterleaveAsked
 interleave_asked settings = record { form = settings.form; fill = settings.fill; files = map (λ file. file.now) settings.files.items }
 
--- a form of which each block has as many bytes as any other
+-- a form whose blocks all have the same number of bytes
 abbrev pub sized : Form → Option Form
 sized Listed = None
 sized form = Some form
@@ -30,7 +30,7 @@ form_in text = option_and_then sized (value_or Plain form_of text)
 abbrev pub is_set : Text → List Row → Bool
 is_set name rows = option_map_or (λ text. bytes_eq text (codes "true")) (first_of name rows) false
 
--- no byte of the plain form says that it is lost
+-- only the marked form can say that a byte is lost: the plain one has no marks
 abbrev pub may_fill : Form → Bool → Bool
 may_fill Marked fill = true
 may_fill form fill = not fill

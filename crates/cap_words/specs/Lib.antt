@@ -1,4 +1,4 @@
--- What the contracts speak of: the words of a command line, and the settings that they ask for.
+-- What the contracts are about: the arguments of the command line, and the settings that they ask for.
 pub mod Apps
 pub mod Draw
 pub mod Interleave

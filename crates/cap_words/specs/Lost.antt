@@ -1,4 +1,4 @@
--- What the words of `lost` ask for.
+-- What the arguments of `lost` ask for.
 use Rattle.std.specs.Prelude.{◌≡◌, List, codes, Option, Some}
 use Rattle.clap.specs.Words.{Row, first_of}
 use Rattle.dvd_layout.specs.Lengths.{first_fault}

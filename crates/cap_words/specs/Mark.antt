@@ -1,4 +1,4 @@
--- What the words of `mark` ask for.
+-- What the arguments of `mark` ask for.
 use Rattle.std.specs.Prelude.{ℕ, ◌&&◌, ◌||◌, ◌==◌, Bool, not, if◌then◌else◌, List, codes, length, Option, Some, None}
 use Rattle.std.specs.List.{list_all}
 use Rattle.clap.specs.Words.{Row, Text, first_of}
@@ -17,11 +17,11 @@ mark_asked settings = record { map = settings.map.now; good = settings.good.now 
 abbrev pub is_good_status : ℕ → Bool
 is_good_status c = c == 63 || (c == 42 || (c == 47 || (c == 45 || c == 43)))
 
--- some of these statuses, one at least
+-- at least one of these statuses, and nothing else
 abbrev pub is_good : Text → Bool
 is_good text = not (length text == 0) && list_all is_good_status text
 
--- those that are given; rescued alone where none are
+-- the statuses that are given, or `+` alone where none are
 abbrev pub good_in : Option Text → Option Text
 good_in None = Some (codes "+")
 good_in (Some text) = if is_good text then Some text else None

@@ -1,4 +1,4 @@
--- What the words of a command line ask for.
+-- What the arguments of a command line ask for.
 use Rattle.std.specs.Prelude.{◌≡◌, ◌≤◌, if◌then◌else◌, List, [], ◌∷◌, codes, Option, Some, None, option_map}
 use Rattle.std.specs.Str.{bytes_eq}
 use Rattle.clap.specs.Words.{Row, Text, fault_of, matches_of}
@@ -16,7 +16,7 @@ use Rattle.cap_words.specs.declared.settings.LostSettings.{LostSettings}
 use Rattle.cap_words.specs.declared.settings.Settings.{Settings}
 use Rattle.cap_words.specs.declared.settings.Settings.TheVariants as settings
 
--- what is asked for, with the texts of the words themselves
+-- what is asked for, with the texts of the arguments themselves
 pub data Asked : Type 0 where
   AsksMark : MarkAsked → Asked
   AsksInterleave : InterleaveAsked → Asked
@@ -29,7 +29,7 @@ asked_by (settings.Interleave interleaving) = AsksInterleave (interleave_asked i
 asked_by (settings.Lost losing) = AsksLost losing
 asked_by (settings.Draw drawing) = AsksDraw drawing
 
--- the command that a word names
+-- the command that an argument names
 abbrev pub command_of : Text → Option Command
 command_of word =
     if bytes_eq word (codes "mark") then Some Mark
@@ -37,7 +37,7 @@ command_of word =
     else (if bytes_eq word (codes "lost") then Some Lost
     else (if bytes_eq word (codes "draw") then Some Draw else None)))
 
--- the options, the files and their values, where clap finds no fault in the words
+-- the options, the files and their values, where clap finds no fault in the arguments
 abbrev pub rows_for : Command → List Text → Option (List Row)
 rows_for command words = if is_empty (fault_of (app_for command) words) then Some (matches_of (app_for command) words) else None
 
@@ -48,7 +48,7 @@ settings_of Interleave rows = option_map AsksInterleave (interleave_of rows)
 settings_of Lost rows = option_map AsksLost (lost_of rows)
 settings_of Draw rows = option_map AsksDraw (draw_of rows)
 
--- the first word names the command, and clap reads those after it
+-- the first argument names the command, and clap reads those after it
 unfoldable pub reading : List Text → Option Asked
 reading [] = None
 reading (word ∷ words) = do
@@ -56,11 +56,11 @@ reading (word ∷ words) = do
   rows ← rows_for command (word ∷ words)
   settings_of command rows
 
--- these words ask for these settings
+-- these arguments ask for these settings
 abbrev pub Asks : List Text → Settings → Type 0
 Asks words settings = reading words ≡ Some (asked_by settings)
 
--- what holds of all settings that words ask for
+-- what holds of all settings that arguments ask for
 abbrev pub AreLawful : Settings → Type 0
 AreLawful (settings.Mark marking) = Unit {0}
 AreLawful (settings.Interleave interleaving) = IsLawful interleaving

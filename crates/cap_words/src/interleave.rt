@@ -25,7 +25,7 @@ pub fn interleave_settings<'a>(matches: &ArgMatches<'a>) -> Option<InterleaveSet
     }
 }
 
-// The form that is named, of which each block has as many bytes as any other.
+// The form that is named, whose blocks all have the same number of bytes.
 fn form_in(text: Option<&str>) -> Option<Form>
     ensures { result ≡ form_in (option_map (λ s. s.now) text.entry) }
 {
@@ -35,7 +35,7 @@ fn form_in(text: Option<&str>) -> Option<Form>
     }
 }
 
-// No byte of the plain form says that it is lost.
+// A plain capture has no marks, so a missing block can't be filled in it.
 fn may_fill(form: Form, fill: bool) -> bool
     ensures { result ≡ may_fill form fill }
 {

@@ -1,14 +1,14 @@
-//! The words of the command line of `dvdcap`: each command by its own `clap` command, and each option by its form.
+//! The arguments of `dvdcap`: each command by its own `clap` command, and each option by its form.
 #![tactic(auto)]
 
 mod draw; // the values of `draw`
-mod fault; // why words give no settings
+mod fault; // why arguments give no settings
 mod interleave; // the values of `interleave`
 mod lost; // the values of `lost`
 mod mark; // the values of `mark`
 mod parser; // the clap command of each command
-mod settings; // what the words ask for
-mod words; // reads the words
+mod settings; // what the arguments ask for
+mod words; // reads the arguments
 
 pub use fault::WordsFault;
 pub use settings::{

@@ -10,7 +10,7 @@ use clap::error::ErrorKind;
 use clap::{Arg, ArgAction, ArgMatches};
 use std::alloc::{AllocError, Global};
 
-/// The options and the files in the words of a command, with their values.
+/// The options and the files in the arguments of a command, with their values.
 pub fn parse<'a>(
     alloc: Global,
     command: Command,
@@ -27,7 +27,7 @@ pub fn parse<'a>(
     }
 }
 
-/// The value of an option, if it is given. A flag has one all the same, which says whether it is.
+/// The value of an option, if it is given. A flag always has a value, which says whether it is given.
 pub fn given<'a>(matches: &ArgMatches<'a>, name: &str) -> Option<&'a str>
     ensures { option_map (λ s. s.now) result ≡ first_of name.now (rows_of (found_of matches.now)) }
 {
@@ -55,14 +55,14 @@ fn parser_for<'a>(alloc: Global, command: Command) -> Result<clap::Command<'a>, 
     }
 }
 
-// A command with no options, no flag for help either.
+// A command without options, and without a flag for help.
 fn bare_parser<'a>(alloc: Global, name: &'a str) -> clap::Command<'a>
     ensures { app_of result ≡ bare_app name.now }
 {
     clap::Command::new(alloc, name).disable_help_flag(true)
 }
 
-// The command with one more option, which takes one value.
+// The command with one more option, which has one value.
 fn with_option<'a>(
     alloc: Global,
     parser: clap::Command<'a>,
@@ -78,7 +78,7 @@ fn with_option<'a>(
     parser.arg(option)
 }
 
-// The command with these options more, none of which it needs.
+// The command with these options added, none of which is required.
 fn with_options<'a>(
     alloc: Global,
     parser: clap::Command<'a>,
@@ -93,7 +93,7 @@ fn with_options<'a>(
     Ok(parser)
 }
 
-// The command with one more option, which takes no value.
+// The command with one more option, which has no value.
 fn with_flag<'a>(
     alloc: Global,
     parser: clap::Command<'a>,
@@ -105,7 +105,7 @@ fn with_flag<'a>(
     parser.arg(flag)
 }
 
-// The command with files, one at least. Each word that is no option and no value of one names a file.
+// The command with at least one file: each argument that is neither an option nor the value of one.
 fn with_files<'a>(alloc: Global, parser: clap::Command<'a>) -> Result<clap::Command<'a>, AllocError>
     ensures { IfOk result (λ r. app_of r ≡ with_rule (app_of parser.entry) file_rule) }
 {

@@ -1,4 +1,4 @@
-//! What the words of a command line ask for.
+//! What the arguments of a command line ask for.
 
 use arrayvec::ArrayVec;
 use dvd_capture::Form;
@@ -44,7 +44,8 @@ pub struct MarkSettings<'a> {
 pub struct InterleaveSettings<'a> {
     /// The form of all captures, plain or marked.
     pub form: Form,
-    /// Whether blocks that are marked whole stand for those that a capture doesn't have. Only the marked form has them.
+    /// Whether blocks that are marked whole replace those that a capture doesn't have. Only the marked form has such
+    /// blocks.
     pub fill: bool,
     /// The names of the files with the captures, from 2 to 16.
     pub files: ArrayVec<&'a str, 16>,

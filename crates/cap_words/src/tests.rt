@@ -1,4 +1,4 @@
-//! Worked words, each with what it asks for.
+//! Worked arguments, each list with what it asks for.
 use crate::{DrawSettings, LostSettings, Settings, WordsFault, read};
 use dvd_capture::Form;
 use dvd_layout::{Shape, Zones};
@@ -13,7 +13,7 @@ fn words(alloc: Global, text: &str) -> Result<Vec<String>, AllocError> {
     Ok(words)
 }
 
-// Words that ask for nothing.
+// Arguments that are invalid.
 static USAGE: [&str; 54] = [
     "",
     "Mark --map a",
@@ -82,7 +82,7 @@ fn words_that_ask_for_nothing(rt: HostRuntime) -> Result<(), Fail> {
     Ok(())
 }
 
-// Words, and the map and the statuses that they ask for.
+// Arguments, and the map and the statuses that they ask for.
 static MARKS: [(&str, &str, &str); 5] = [
     ("mark --map a", "a", "+"),
     ("mark --map=rescue.map", "rescue.map", "+"),
@@ -107,7 +107,7 @@ fn words_that_ask_for_marks(rt: HostRuntime) -> Result<(), Fail> {
     Ok(())
 }
 
-// Words, and the form, the filling and the files that they ask for.
+// Arguments, and the form, the filling and the files that they ask for.
 static BLOCKS: [(&str, Form, bool, &str); 7] = [
     ("interleave --form plain a b", Form::Plain, false, "a b"),
     ("interleave b a --form=plain", Form::Plain, false, "b a"),

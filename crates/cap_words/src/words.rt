@@ -1,4 +1,4 @@
-//! Reads the words of the command line.
+//! Reads the arguments of the command line.
 ghost use Rattle.std.specs.Prelude.{◌≡◌, None, IfOk, IfSome, map, option_map, string_bytes};
 ghost use Rattle.clap.specs.Words.{found_of, rows_of};
 ghost use Rattle.cap_words.specs.Reading.{Asks, AreLawful, asked_by, command_of, reading, settings_of};
@@ -13,7 +13,7 @@ use crate::settings::{Command, Settings};
 use clap::ArgMatches;
 use std::alloc::Global;
 
-/// The settings that the words ask for. `NoMemory` comes only where there is no memory to read them with.
+/// The settings that the arguments ask for. `NoMemory` comes only where there is no memory to read them with.
 #[tactic(auto, unfolding(crate::specs::Reading::reading))]
 pub fn read<'a>(alloc: Global, words: &'a [String]) -> Result<Settings<'a>, WordsFault>
     ensures read { IfOk result (Asks (map string_bytes words.now)) }

@@ -1,4 +1,4 @@
--- Lists of bits: what they stand for, and how they add.
+-- Lists of bits: what they represent, and how they add.
 use Rattle.std.proofs.Common.{◌≡◌, ℕ, zero, suc, ◌/◌, ◌%◌, ◌^◌, ◌<◌, List, [], ◌∷◌, length, refl, sym, ◌∙◌, ap, ap₂, arith}
 use Rattle.std.specs.Prelude.{bit_xor, replicate}
 use Rattle.std.specs.Int.Bits.{xor_zero_l, xor_zero_r}

@@ -1,4 +1,4 @@
--- Places where two words differ, counted from the front.
+-- Places where two words differ, counted from the first place.
 use Rattle.std.proofs.Common.{◌≡◌, ◌≢◌, ℕ, ◌+◌, ◌<◌, ◌≤◌, List, length, get_or, drop, cond, eqb, sym, ◌∙◌, ap, ap₂, add-one, arith}
 use Rattle.std.proofs.lemmas.Bool.Decides.{nat_tests}
 use Rattle.std.proofs.Math.Seq.{drop-cons}

@@ -1,5 +1,5 @@
--- Columns as codewords by their values at 1 and at alpha: what their bytes tell (codeword_by_values, zero_values), and the two
--- bytes that make them codewords (with_parity).
+-- Columns as codewords by their values at 1 and at alpha: what their bytes give (codeword_by_values, zero_values), and
+-- the two bytes that make them codewords (with_parity).
 use Rattle.std.proofs.Common.{◌≡◌, ℕ, zero, suc, ◌+◌, ◌<◌, List, [], ◌∷◌, ◌++◌, length, get_or, take, All, refl, sym, ◌∙◌, ap, ap₂, length-append, append_assoc, subst, arith}
 use Rattle.std.proofs.lemmas.List.Elements.{All-append, All-from_get_or}
 use Rattle.coding.specs.Field.{alpha, shift, shifted, partial_product, plus, product, power}

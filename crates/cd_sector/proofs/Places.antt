@@ -1,4 +1,4 @@
--- Where the bytes of words stand, and the words of a sector that was written into.
+-- Where the bytes of words are, and the words of a sector that was written into.
 use Rattle.std.proofs.Common.{◌≡◌, ℕ, ◌+◌, ◌-◌, ◌*◌, ◌/◌, ◌%◌, ◌<◌, ◌≤◌, List, length, get_or, sym, ◌∙◌, subst, zero-add, arith}
 use Rattle.std.specs.List.{range_with_len}
 use Rattle.std.proofs.lemmas.Bool.Decides.{nat_tests}

@@ -1,6 +1,7 @@
--- The words of a sector as columns of rows: where the bytes of chunks stand (chunk_place), the words that columns are
--- (column_word), right words as columns that are codewords (column_right), and the rows of diagonals (twice_place, pair_set,
--- diagonal_place, own_place, last_rows). A part that was put (put_below, put_at), and words whose last two bytes were (encoded_word).
+-- The words of a sector as columns of rows: where the bytes of chunks are (chunk_place), the words that columns are
+-- (column_word), right words as columns that are codewords (column_right), and the rows of diagonals (twice_place,
+-- pair_set, diagonal_place, own_place, last_rows). A part that was put (put_below, put_at), and words whose last two
+-- bytes were (encoded_word).
 use Rattle.std.proofs.Common.{◌≡◌, ◌↔◌, ℕ, zero, suc, ◌+◌, ◌-◌, ◌*◌, ◌/◌, ◌%◌, ◌<◌, ◌≤◌, List, [], ◌∷◌, length, get_or, set, take, drop, ◌++◌, inl, inr, sym, ◌∙◌, ap, get_or-take, length-append, arith}
 use Rattle.std.specs.Simd.{first_chunks}
 use Rattle.std.proofs.lemmas.Bool.{cases_lt}

@@ -11,7 +11,7 @@ unfoldable pub rising_bits_of : List ℕ → List ℕ
 rising_bits_of [] = []
 rising_bits_of (byte ∷ bytes) = rising_bits 8 byte ++ rising_bits_of bytes
 
--- the number that bits stand for
+-- the number that the bits represent
 unfoldable pub rising_number : List ℕ → ℕ
 rising_number [] = 0
 rising_number (bit ∷ rest) = bit + 2 * rising_number rest

@@ -14,15 +14,15 @@ AreRightBelow end sector = (word : ℕ) → word < end → IsRight sector word
 abbrev pub found_header : List ℕ → List ℕ
 found_header sector = take 3 (drop 12 sector)
 
--- the same as one number, the minute highest
+-- these three as one number, the minute highest
 abbrev pub found_number : List ℕ → ℕ
 found_number sector = 65536 * slice_index sector 12 + 256 * slice_index sector 13 + slice_index sector 14
 
--- the EDC is right; whatever the first twelve bytes are, they count as the sync
+-- the EDC is right, with the sync in place of the first twelve bytes
 abbrev pub HasRightEdc : List ℕ → Type 0
 HasRightEdc sector = take 4 (drop 2064 sector) ≡ cd_edc_of (sync ++ take 2052 (drop 12 sector))
 
--- nothing is wrong; the sync isn't looked at
+-- nothing is wrong; the sync isn't checked
 pub record IsRightSector (sector : List ℕ) (address : ℕ) : Type 0 where
   pub words : AreRightBelow 138 sector
   pub mode : slice_index sector 15 ≡ 1

@@ -10,6 +10,7 @@ use Rattle.cd_sector.specs.Bits.{rising_bits, rising_bits_of, rising_number}
 abbrev pub cd_divisor : List ℕ
 cd_divisor = reverse (rising_bits 32 0x8001801B)
 
--- The EDC of a list of bytes: of their bits and 32 zeros the last 32 are left, and are put into four bytes.
+-- The EDC of a list of bytes: their bits and 32 zeros are divided, and the 32 bits that are left are put into four
+-- bytes.
 unfoldable pub cd_edc_of : List ℕ → List ℕ
 cd_edc_of bytes = to_le_bytes w32 (rising_number (remainder_by cd_divisor (8 * length bytes) (rising_bits_of bytes ++ replicate 32 0)))

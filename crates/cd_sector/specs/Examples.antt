@@ -6,12 +6,12 @@ use Rattle.cd_sector.specs.Edc.{cd_edc_of}
 use Rattle.cd_sector.specs.Sector.{header}
 use Rattle.cd_sector.specs.Words.{sector_place}
 
--- the check bytes of one byte 80, the least significant first
+-- the EDC of one byte 80, the least significant byte first
 edc-80 : cd_edc_of (0x80 ∷ []) ≡ 0x01 ∷ 0x80 ∷ 0x01 ∷ 0xD8 ∷ []
 unfolding cd_edc_of remainder_by plus_front rising_bits_of rising_bits rising_number
 edc-80 = refl
 
--- the first sector behind the pause of two seconds: minute 0, second 2, frame 0
+-- the first sector after the pause of two seconds: minute 0, second 2, frame 0
 header-150 : header 150 ≡ 0x00 ∷ 0x02 ∷ 0x00 ∷ []
 header-150 = refl
 

@@ -8,7 +8,7 @@ use Rattle.cd_sector.specs.Repair.{repaired}
 use Rattle.cd_sector.specs.Sector.{IsSector}
 use Rattle.cd_sector.specs.Words.{sector_place, sector_word}
 
--- a word of one half of a sector, that of the low bytes, 0, or that of the high ones, 1
+-- a word of one half of a sector: half 0 is the low bytes, half 1 the high ones
 abbrev pub IsOfHalf : ℕ → ℕ → Type 0
 IsOfHalf half word = word % 2 ≡ half
 
@@ -25,7 +25,8 @@ pub record IsScattered (half : ℕ) (sector read : List ℕ) : Type 0 where
   pub p_words : (word : ℕ) → word < 86 → IsOfHalf half word → HasAtMostOneWrong sector read word
   pub q_words : (word : ℕ) → 86 ≤ word → word < 138 → IsOfHalf half word → HasRightByte sector read word 43 ⊎ HasRightByte sector read word 44
 
--- In one half one P word may be all wrong, each other has at most one wrong byte, and each Q word's last two bytes are right.
+-- In one half one P word may be all wrong, each other has at most one wrong byte, and the last two bytes of each Q word
+-- are right.
 pub record IsBurst (half bad : ℕ) (sector read : List ℕ) : Type 0 where
   pub p_words : (word : ℕ) → word < 86 → IsOfHalf half word → word ≢ bad → HasAtMostOneWrong sector read word
   pub first_own : (word : ℕ) → 86 ≤ word → word < 138 → IsOfHalf half word → HasRightByte sector read word 43

@@ -12,14 +12,14 @@ p_pair n m = 43 * m + n
 abbrev pub q_pair : ℕ → ℕ → ℕ
 q_pair n m = if nat_lt m 43 then (44 * m + 43 * n) % 1118 else 1118 + 26 * (m - 43) + n
 
--- Where the m-th byte of a word stands. P codeword n has the numbers 2n for its low bytes and 2n + 1 for its high ones,
--- Q codeword n the numbers 86 + 2n and 87 + 2n.
+-- The place in the sector of the m-th byte of a word. P codeword n has the word numbers 2n for its low bytes and 2n + 1
+-- for its high ones. Q codeword n has the numbers 86 + 2n and 87 + 2n.
 unfoldable pub sector_place : ℕ → ℕ → ℕ
 sector_place word m =
     if nat_lt word 86 then 12 + 2 * p_pair (word / 2) m + word % 2
     else 12 + 2 * q_pair ((word - 86) / 2) m + (word - 86) % 2
 
--- how many bytes a word has, its two parity bytes with them
+-- the number of bytes of a word, with its two parity bytes
 unfoldable pub word_size : ℕ → ℕ
 word_size word = if nat_lt word 86 then 26 else 45
 

@@ -13,7 +13,8 @@ use thiserror::Error;
 /// Why a sector isn't right.
 #[derive(Clone, Copy, Debug, PartialEq, Eq, Error)]
 pub enum CdCause {
-    /// Words aren't codewords, of which this has the least number: P words are 0 to 85, Q words 86 to 137.
+    /// Not all words are codewords, and `word` is the least number of one that isn't: P words are 0 to 85, Q words 86
+    /// to 137.
     #[error("parity {word}")]
     Parity { word: u16 },
     /// Another mode than 1.
@@ -27,8 +28,9 @@ pub enum CdCause {
     Edc,
 }
 
-/// Whether all words of a sector are codewords, its mode is 1, its address is this, and its EDC is right; the first of
-/// these that it lacks is answered. The sync is passed over, and the EDC is tried as if the right one stood there.
+/// Checks that all words of a sector are codewords, its mode is 1, its address is `address`, and its EDC is right.
+/// Returns the first of these that fails as the cause. The sync isn't checked, and the EDC is tested as if the right
+/// sync were there.
 pub fn check(sector: &[u8; 2352], address: u32) -> Result<(), CdCause>
     requires { address < 450000 }
     ensures right { OnOk result (IsRightSector sector.now address) }
@@ -40,7 +42,7 @@ pub fn check(sector: &[u8; 2352], address: u32) -> Result<(), CdCause>
     check_contents(sector, address)
 }
 
-/// The same of a sector whose words are all codewords.
+/// Likewise for a sector whose words are all codewords.
 pub(crate) fn check_contents(sector: &[u8; 2352], address: u32) -> Result<(), CdCause>
     requires address { address < 450000 }
     requires words { AreRightBelow 138 sector.now }
@@ -94,7 +96,7 @@ fn has_header(sector: &[u8; 2352], address: u32) -> bool
     sector[12..15] == header(address)[..]
 }
 
-// Whether the EDC is right, whatever stands in place of the sync.
+// Whether the EDC is right, with the right sync in place of the first twelve bytes.
 fn has_right_edc(sector: &[u8; 2352]) -> bool
     ensures { IsTrue result ↔ HasRightEdc sector.now }
 {

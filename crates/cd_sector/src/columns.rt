@@ -23,7 +23,7 @@ pub(crate) fn faults<const W: usize>(rows: &[[u8; W]]) -> [u8; W]
     faults
 }
 
-/// Two rows that make each column a codeword when they stand behind the others.
+/// Two rows that make each column a codeword when they follow the others.
 pub(crate) fn parity<const W: usize>(rows: &[[u8; W]]) -> [[u8; W]; 2]
     requires { 32 ≤ W }
     ensures codewords { (j : ℕ) → j < W
@@ -70,14 +70,14 @@ fn put_parity<const W: usize>(
     ensures second_below { (j : ℕ) → j < at → slice_index second.new j ≡ slice_index second.old j }
 {
     let [sum, value] = values_at(rows, at);
-    // The sum of both bytes is the sum of the column, and thrice the first is this and four times the value at alpha: 0xF4 is
-    // the third of 1, and 0xF7 that of 4.
+    // The two parity bytes add up to the sum of the column, and 3 times the first is this sum plus 4 times the value at
+    // alpha. In the field 1/3 is 0xF4, and 4/3 is 0xF7.
     let lanes = with_multiple(multiple(sum, 0xF4), value, 0xF7);
     store(lanes, first, at);
     store(lanes ^ sum, second, at);
 }
 
-// The values of the 32 columns from `at` on at 1 and at alpha. That the columns are bytes is told too.
+// The values at 1 and at alpha of the 32 columns from `at` on. Also ensures that the columns are bytes.
 #[inline(always)]
 fn values_at<const W: usize>(rows: &[[u8; W]], at: usize) -> [u8x32; 2]
     requires { at + 32 ≤ W }
@@ -93,7 +93,7 @@ fn values_at<const W: usize>(rows: &[[u8; W]], at: usize) -> [u8x32; 2]
     [sum, value]
 }
 
-// A step of Horner's rule at 1 and at alpha. That the next lanes are bytes is told too.
+// A step of Horner's rule at 1 and at alpha. Also ensures that the lanes of `row` are bytes.
 #[inline(always)]
 fn with_row(sum: u8x32, value: u8x32, row: u8x32) -> [u8x32; 2]
     ensures bytes { (j : ℕ) → j < 32 → slice_index row j < 256 }

@@ -16,14 +16,14 @@ pub fn cd_edc(bytes: &[u8]) -> [u8; 4]
     edc_of_parts(&[], bytes)
 }
 
-/// The EDC of two lists of bytes, as if the second stood behind the first.
+/// The EDC of two lists of bytes, as if the second followed the first.
 pub(crate) fn edc_of_parts(front: &[u8], back: &[u8]) -> [u8; 4]
     ensures { result ≡ cd_edc_of (front.now ++ back.now) }
 {
     with_bytes(with_bytes(0, front), back).to_le_bytes()
 }
 
-// The register with these bytes more.
+// The register after these bytes are read.
 fn with_bytes(register: u32, bytes: &[u8]) -> u32
     ensures { result ≡ after_reading bytes.now register }
 {
@@ -35,7 +35,7 @@ fn with_bytes(register: u32, bytes: &[u8]) -> u32
     next
 }
 
-// The register with these chunks of sixteen bytes more.
+// The register after these chunks of sixteen bytes are read.
 fn with_chunks(register: u32, chunks: &[[u8; 16]]) -> u32
     ensures { result ≡ after_reading (concat chunks.now) register }
 {
@@ -46,7 +46,7 @@ fn with_chunks(register: u32, chunks: &[[u8; 16]]) -> u32
     next
 }
 
-// Sixteen bytes more at once: the whole register leaves with the first four, and nothing of it is left for the others.
+// Reads sixteen bytes at once: the whole register is added to the first four, and nothing of it is left for the others.
 fn with_chunk(register: u32, chunk: [u8; 16]) -> u32
     ensures { result ≡ after_reading chunk register }
 {
@@ -62,7 +62,8 @@ fn with_chunk(register: u32, chunk: [u8; 16]) -> u32
     front ^ back
 }
 
-// One byte more: its sum with the eight bits that leave the register is divided, and what this leaves is added.
+// Reads one byte: its sum with the lowest eight bits of the register is divided, and what the division leaves is added
+// to the other bits.
 fn with_byte(register: u32, byte: u8) -> u32
     ensures { result ≡ after_steps 8 (bit_xor register byte) }
 {

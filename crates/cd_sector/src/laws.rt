@@ -6,7 +6,7 @@ pub fn sector_is_only_one()
     ensures { SectorIsOnlyOne }
 {}
 
-/// And they have one, where the address is below 450,000 and the user data are 2,048 bytes.
+/// An address below 450,000 and 2,048 bytes of user data have a sector.
 pub fn some_sector()
     ensures { SomeSector }
 {}
@@ -21,9 +21,10 @@ pub fn faultless_has_no_cause()
     ensures { FaultlessHasNoCause }
 {}
 
-/// A sector is repaired to what it was, if in each half, that of the low and that of the high bytes, either each P word
-/// has at most one wrong byte and each Q word at most one among its last two; or one P word is wrong in any way, each
-/// other has at most one wrong byte, and the last two bytes of each Q word are right.
+/// A sector is repaired to what it was if each half of it, the low bytes and the high bytes, is damaged in one of two
+/// ways. In the first, each P word has at most one wrong byte, and each Q word at most one among its last two. In the
+/// second, one P word is wrong in any way and each other P word has at most one wrong byte; the last two bytes of each
+/// Q word are right.
 pub fn borne_damage_is_repaired()
     ensures { BorneDamageIsRepaired }
 {}

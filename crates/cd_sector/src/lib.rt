@@ -9,7 +9,7 @@ pub mod laws; // what holds of every sector
 mod repairing; // a sector that was read, repaired
 mod rows; // the words of a sector as columns of rows
 mod sector; // a whole sector
-mod table; // what each byte leaves, for the EDC
+mod table; // the remainders of bytes, for the EDC
 mod words; // the words that correct errors
 
 pub use checking::{CdCause, check};

@@ -13,9 +13,10 @@ use crate::words::{P_WORDS, PWord, QWord, WORDS, place, read_word};
 use rs_code::Code;
 use rs_decode::decode;
 
-/// Repairs a sector that was read: each P word becomes the codeword near it, if there is one, and then each Q word, whose
-/// bytes in P words without one count as lost; the sync is set. Where nothing is wrong then, it answers how many bytes
-/// behind the sync changed. Else it answers what is still wrong, and the sector is unchanged.
+/// Repairs a sector that was read. Each P word becomes the codeword near it, if there is one. Then each Q word does,
+/// with marks for its bytes in P words that have none. Then the sync is set.
+/// Where nothing is wrong then, it returns the number of bytes after the sync that changed. Else it returns what is
+/// still wrong, and the sector is unchanged.
 pub fn repair(sector: &mut [u8; 2352], address: u32) -> Result<u16, CdCause>
     requires { address < 450000 }
     ensures repaired { OnOk result (sector.new ≡ repaired sector.old) }
@@ -35,7 +36,7 @@ pub fn repair(sector: &mut [u8; 2352], address: u32) -> Result<u16, CdCause>
     Ok(changes)
 }
 
-// Repairs all words, unless all are right, and tells the least that still isn't.
+// Repairs all words, unless all are right, and returns the number of the first that still isn't a codeword.
 fn repair_words(sector: &mut [u8; 2352]) -> Option<u16>
     ensures words { sector.new ≡ with_q_words sector.old (with_p_words sector.old 86) 52 }
     ensures size { length sector.new ≡ 2352 }
@@ -50,7 +51,7 @@ fn repair_words(sector: &mut [u8; 2352]) -> Option<u16>
     first_wrong_word(sector)
 }
 
-// Repairs the P words, and tells which are lost.
+// Repairs the P words, and returns which of them are lost: those with no codeword near them.
 fn repair_p_words(sector: &mut [u8; 2352]) -> [bool; 86]
     ensures words { sector.new ≡ with_p_words sector.old 86 }
     ensures size { length sector.new ≡ 2352 }
@@ -82,7 +83,7 @@ fn repair_q_words(lost: &[bool; 86], sector: &mut [u8; 2352])
     }
 }
 
-// The places of a Q word in P words that are lost.
+// The marks of a Q word: its bytes in lost P words.
 fn marks(lost: &[bool; 86], word: usize) -> [bool; 45]
     requires q_word { 86 ≤ word }
     requires word { word < 138 }
@@ -95,7 +96,7 @@ fn marks(lost: &[bool; 86], word: usize) -> [bool; 45]
     marks
 }
 
-// Sets a word to the codeword near it, and tells whether there is none.
+// Sets a word to the codeword near it. Returns whether there is none.
 fn repair_word<const N: usize>(
     code: &Code<N, 2>,
     word: usize,
@@ -117,7 +118,6 @@ fn repair_word<const N: usize>(
     false
 }
 
-// Sets the bytes of a word.
 fn write_word(bytes: &[u8], word: usize, sector: &mut [u8; 2352])
     requires word { word < 138 }
     requires bytes { length bytes.now ≡ word_size word }
@@ -129,7 +129,7 @@ fn write_word(bytes: &[u8], word: usize, sector: &mut [u8; 2352])
     }
 }
 
-// How many bytes behind the sync differ.
+// The number of bytes after the sync that differ.
 fn count_changes(old: &[u8; 2352], new: &[u8; 2352]) -> u16
     ensures { result ≡ distance (drop 12 old.now) (drop 12 new.now) }
 {

@@ -14,7 +14,7 @@ pub(crate) fn p_faults(sector: &[u8; 2352]) -> [u8; 86]
     faults(p_rows(sector))
 }
 
-/// The same of each Q word.
+/// Likewise for each Q word.
 pub(crate) fn q_faults(sector: &[u8; 2352]) -> [u8; 52]
     ensures size { length result ≡ 52 }
     ensures right { (n : ℕ) → n < 52 → (slice_index result n ≡ 0) ↔ IsRight sector.now (86 + n) }
@@ -22,7 +22,7 @@ pub(crate) fn q_faults(sector: &[u8; 2352]) -> [u8; 52]
     faults(&q_rows(sector))
 }
 
-/// The rows of P words, as they stand in a sector.
+/// The rows of P words, as they are in a sector.
 pub(crate) fn p_rows(sector: &[u8; 2352]) -> &[[u8; 86]]
     ensures size { length result.now ≡ 26 }
     ensures bytes { (m j : ℕ) → m < 26 → j < 86 → place result.now m j ≡ slice_index sector.now (sector_place j m) }
@@ -45,7 +45,8 @@ pub(crate) fn q_rows(sector: &[u8; 2352]) -> [[u8; 52]; 45]
     rows
 }
 
-// What the Q words cover, and the same once more, where the diagonals go on that leave it below.
+// The bytes that the Q words cover, twice one after the other, so that a diagonal that leaves the first copy at its end
+// goes on in the second.
 #[inline(always)]
 fn covered_twice(sector: &[u8; 2352]) -> [u8; 4472]
     ensures { (at : ℕ) → at < 4472 → slice_index result at ≡ slice_index sector.now (12 + at % 2236) }
@@ -56,7 +57,7 @@ fn covered_twice(sector: &[u8; 2352]) -> [u8; 4472]
     covered
 }
 
-// One pair of each diagonal, the first of which stands at `from`, and each other 86 bytes behind the one before.
+// Sets one pair of each diagonal: the first is at `from`, and each other 86 bytes after the one before.
 #[inline(always)]
 fn put_diagonals(covered: &[u8; 4472], from: usize, row: &mut [u8; 52])
     requires { from < 2236 }
@@ -64,7 +65,7 @@ fn put_diagonals(covered: &[u8; 4472], from: usize, row: &mut [u8; 52])
 {
     for n in 0..26 {
         let at = from + 86 * n;
-        // Both are read before one is written: so they are copied at once.
+        // Both are read before one is written, so that they are copied at once.
         let [low, high] = [covered[at], covered[at + 1]];
         row[2 * n] = low;
         row[2 * n + 1] = high;

@@ -12,8 +12,9 @@ pub(crate) const SYNC: [u8; 12] = [
     0x00, 0xFF, 0xFF, 0xFF, 0xFF, 0xFF, 0xFF, 0xFF, 0xFF, 0xFF, 0xFF, 0x00,
 ];
 
-/// Writes the sector of an address: sync, header, mode, user data, EDC and eight zeros, and the P and Q parity of all but the
-/// sync. An address counts frames: its minute, second and frame are `address / 4500`, `address / 75 % 60` and `address % 75`.
+/// Writes the sector of an address: sync, header, mode, user data, EDC and eight zeros, then the P and Q parity of all
+/// but the sync. An address counts frames: its minute, second and frame are `address / 4500`, `address / 75 % 60` and
+/// `address % 75`.
 pub fn make(address: u32, user: &[u8; 2048], out: &mut [u8; 2352])
     requires { address < 450000 }
     ensures { IsSector address user.now out.new }
@@ -44,7 +45,7 @@ fn digits(number: u32) -> u8
     (16 * (number / 10) + number % 10) as u8
 }
 
-// Writes all that stands before the parity.
+// Writes all that comes before the parity.
 fn set_data(address: u32, user: &[u8; 2048], out: &mut [u8; 2352])
     requires { address < 450000 }
     ensures front { take 2076 out.new ≡ data_part address user.now }
@@ -59,7 +60,7 @@ fn set_data(address: u32, user: &[u8; 2048], out: &mut [u8; 2352])
     put(out, 2068, &[0; 8]);
 }
 
-/// Writes a part behind what stands before it.
+/// Writes a part after the first `at` bytes, which stay.
 pub(crate) fn put(out: &mut [u8], at: usize, part: &[u8])
     requires { at + length part.now ≤ length out.old }
     ensures { take (at + length part.now) out.new ≡ take at out.old ++ part.now }

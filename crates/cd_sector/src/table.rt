@@ -11,8 +11,8 @@ macro_rules! sums {
     };
 }
 
-/// What 8, 16, 24 and 32 steps of the division leave of each byte in a register of zeros. Of a sum of bytes they leave the
-/// sum of what they leave of each.
+/// What 8, 16, 24 and 32 steps of the division leave of each byte in a register of zeros. The steps are linear: what
+/// they leave of a sum of bytes is the sum of what they leave of each.
 static NEAR: [[u32; 256]; 4] = [
     sums!([0] 0x90910101 0x91210201 0x92410401 0x94810801 0x99011001 0x82012001 0xB4014001 0xD8018001),
     sums!([0] 0x90019000 0x90002003 0x90034005 0x90058009 0x90080011 0x90130021 0x90250041 0x90490081),
@@ -20,7 +20,7 @@ static NEAR: [[u32; 256]; 4] = [
     sums!([0] 0x41000001 0x82000002 0xB4030007 0xD805000D 0x00090019 0x00120032 0x00240064 0x004800C8),
 ];
 
-// The same of 40 to 64 steps, of 72 to 96, and of 104 to 128.
+// Likewise for 40 to 64 steps (`THIRD`), 72 to 96 (`SECOND`) and 104 to 128 (`FIRST`).
 static THIRD: [[u32; 256]; 4] = [
     sums!([0] 0x90D00101 0x91A30201 0x93450401 0x96890801 0x9D111001 0x8A212001 0xA4414001 0xF8818001),
     sums!([0] 0x9001D100 0x9000A203 0x90024405 0x90078809 0x900C1011 0x901B2021 0x90354041 0x90698081),
@@ -49,7 +49,7 @@ pub(crate) fn remainder_of(byte: u8) -> u32
     entry(&NEAR[0], byte)
 }
 
-/// What is left of the last four of sixteen bytes: 32 steps of the first, and eight less of each one behind it.
+/// What is left of bytes 12 to 15 of sixteen: after 32 steps for the first, and eight fewer for each one after it.
 pub(crate) fn remainder_of_fourth(word: [u8; 4]) -> u32
     ensures { result ≡ after_word 8 word }
 {
@@ -58,7 +58,7 @@ pub(crate) fn remainder_of_fourth(word: [u8; 4]) -> u32
     front ^ back
 }
 
-/// The same of the four before these: 32 steps more.
+/// Likewise for bytes 8 to 11, with 32 more steps.
 pub(crate) fn remainder_of_third(word: [u8; 4]) -> u32
     ensures { result ≡ after_word 40 word }
 {
@@ -67,7 +67,7 @@ pub(crate) fn remainder_of_third(word: [u8; 4]) -> u32
     front ^ back
 }
 
-/// The same of the four before these.
+/// Likewise for bytes 4 to 7, with 64 more steps.
 pub(crate) fn remainder_of_second(word: [u8; 4]) -> u32
     ensures { result ≡ after_word 72 word }
 {
@@ -76,7 +76,7 @@ pub(crate) fn remainder_of_second(word: [u8; 4]) -> u32
     front ^ back
 }
 
-/// The same of the first four.
+/// Likewise for bytes 0 to 3, with 96 more steps.
 pub(crate) fn remainder_of_first(word: [u8; 4]) -> u32
     ensures { result ≡ after_word 104 word }
 {
@@ -85,7 +85,7 @@ pub(crate) fn remainder_of_first(word: [u8; 4]) -> u32
     front ^ back
 }
 
-// An entry of a table of what so many steps leave of each byte.
+// An entry of a table of what a fixed number of steps leave of each byte.
 fn entry(table: &[u32; 256], byte: u8) -> u32
     ensures { (n : ℕ) → table.now ≡ map (after_steps n) (range_with_len 0 256) → result ≡ after_steps n byte }
 {

@@ -8,7 +8,7 @@ use rs_code::Code;
 /// P words are numbered before Q words.
 pub(crate) const P_WORDS: usize = 86;
 
-/// How many words there are: 86 P words and 52 Q words.
+/// The number of words: 86 P words and 52 Q words.
 pub(crate) const WORDS: usize = 138;
 
 /// The code of a P word.
@@ -17,7 +17,7 @@ pub(crate) type PWord = Code<26, 2>;
 /// The code of a Q word.
 pub(crate) type QWord = Code<45, 2>;
 
-/// Copies the front of a word.
+/// Fills `bytes` with the first bytes of a word.
 pub(crate) fn read_word(sector: &[u8; 2352], word: usize, bytes: &mut [u8])
     requires word { word < 138 }
     requires size { length bytes.old ≤ word_size word }
@@ -28,7 +28,7 @@ pub(crate) fn read_word(sector: &[u8; 2352], word: usize, bytes: &mut [u8])
     }
 }
 
-/// Where a byte of a word stands.
+/// The place in the sector of byte `m` of a word.
 pub(crate) fn place(word: usize, m: usize) -> usize
     requires word { word < 138 }
     requires byte { m < word_size word }

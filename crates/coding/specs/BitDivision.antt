@@ -3,14 +3,14 @@
 -- It is below the crates of both, so that one definition of division serves them.
 use Rattle.std.specs.Prelude.{ℕ, zero, suc, ◌==◌, bit_xor, if◌then◌else◌, List, [], ◌∷◌}
 
--- adds a list of bits to the front of another
+-- adds the second list of bits to the first bits of the first list
 unfoldable pub plus_front : List ℕ → List ℕ → List ℕ
 plus_front xs [] = xs
 plus_front [] (y ∷ ys) = []
 plus_front (x ∷ xs) (y ∷ ys) = bit_xor x y ∷ plus_front xs ys
 
--- Division in n steps by a divisor, which stands without its leading term: each step drops the leading bit, and where it
--- was 1 takes the divisor away behind it.
+-- Division in n steps by a divisor, which is given without its leading term: each step drops the leading bit and, where
+-- it was 1, subtracts the divisor from the bits after it.
 unfoldable pub remainder_by : List ℕ → ℕ → List ℕ → List ℕ
 remainder_by divisor zero rest = rest
 remainder_by divisor (suc n) [] = []

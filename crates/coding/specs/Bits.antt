@@ -12,6 +12,6 @@ unfoldable pub bits_of : List ℕ → List ℕ
 bits_of [] = []
 bits_of (byte ∷ bytes) = bits 8 byte ++ bits_of bytes
 
--- the number that bits stand for
+-- the number that the bits represent
 abbrev pub number_of : List ℕ → ℕ
 number_of bs = fold (λ number bit. 2 * number + bit) 0 bs

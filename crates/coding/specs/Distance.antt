@@ -1,4 +1,4 @@
--- How many bytes of a word aren't 0, and in how many places two words differ.
+-- How many bytes of a word aren't 0, and at how many places two words differ.
 use Rattle.std.specs.Prelude.{ℕ, ◌+◌, List, [], ◌∷◌, ◌==◌, if◌then◌else◌}
 
 -- the number of bytes that aren't 0

@@ -1,7 +1,9 @@
--- The field of 256 elements over which the codes of a DVD are defined
--- (ECMA-267, clauses 16.2 and 18: the primitive polynomial x^8 + x^4 + x^3 + x^2 + 1).
--- An element is a byte: its bit k is the coefficient of x^k. A product is a sum of shifts here, and the code adds logarithms.
--- A law that doesn't say that its numbers are bytes holds of all, since a product reads the lowest eight bits of its factors alone.
+-- The field of 256 elements over which the codes of a DVD are defined (ECMA-267, clauses 16.2 and 18: the primitive
+-- polynomial x^8 + x^4 + x^3 + x^2 + 1).
+-- An element is a byte: its bit k is the coefficient of x^k. A product is a sum of shifts here; the code adds
+-- logarithms.
+-- A law that doesn't say that its numbers are bytes holds for all numbers, since a product depends on the lowest eight
+-- bits of its factors alone.
 use Rattle.std.specs.Prelude.{ℕ, zero, suc, ◌-◌, ◌*◌, ◌%◌, bit_xor, if◌then◌else◌, nat_lt}
 use Rattle.std.specs.Int.{bit_at}
 
@@ -13,7 +15,7 @@ alpha = 2
 abbrev pub plus : ℕ → ℕ → ℕ
 plus a b = bit_xor a b
 
--- a byte times x: an x^8 that comes up is x^4 + x^3 + x^2 + 1
+-- a byte times x: a term x^8 is replaced by x^4 + x^3 + x^2 + 1
 unfoldable pub shift : ℕ → ℕ
 shift a = if nat_lt a 128 then 2 * a else bit_xor (2 * a - 256) 0x1D
 

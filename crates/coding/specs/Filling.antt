@@ -12,8 +12,8 @@ abbrev pub AgreeUnmarked : List Bool → List ℕ → List ℕ → Type 0
 AgreeUnmarked marks received word =
     (k : ℕ) → k < length marks → slice_index_or marks k false ≡ false → slice_index word k ≡ slice_index received k
 
--- A codeword that agrees with a received word at all places that aren't marked, of which at most r are.
--- The code finds the bytes at the marked places from the syndromes; none stands here.
+-- A codeword that agrees with a received word at all places that aren't marked; at most r places are marked. The code
+-- finds the bytes at the marked places from the syndromes; this definition needs none.
 pub record IsFilling (n r : ℕ) (received : List ℕ) (marks : List Bool) (word : List ℕ) : Type 0 where
   pub codeword : IsCodeword n r word
   pub agrees : AgreeUnmarked marks received word

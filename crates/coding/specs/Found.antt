@@ -13,7 +13,7 @@ columns_of answers = map (column_answer answers) (range_with_len 0 182)
 unfoldable pub block_found : List (Option (List ℕ)) → List (List ℕ)
 block_found answers = from_columns (map (λ column. unwrap_or column []) (columns_of answers))
 
--- in how many places two blocks differ: those of all rows together
+-- the number of places where two blocks differ, over all rows
 unfoldable pub block_differences : List (List ℕ) → List (List ℕ) → ℕ
 block_differences (row ∷ rows) (other ∷ others) = distance row other + block_differences rows others
 block_differences rows others = 0

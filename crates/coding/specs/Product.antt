@@ -3,14 +3,14 @@ use Rattle.std.specs.Prelude.{◌≡◌, ℕ, ◌+◌, ◌*◌, ◌<◌, List, l
 use Rattle.coding.specs.Words.{IsCodeword}
 pub use Rattle.coding.specs.Rows.{line, place, column}
 
--- Each row is a codeword with ten bytes of inner parity (PI), and each column one with sixteen of outer parity (PO),
--- the columns of PI bytes and the rows of PO bytes too. The code sets one after the other.
+-- Each row is a codeword with ten bytes of inner parity (PI), and each column one with sixteen of outer parity (PO).
+-- The columns of PI bytes and the rows of PO bytes are codewords too. The code sets one parity after the other.
 pub record IsProduct (block : List (List ℕ)) : Type 0 where
   pub height : length block ≡ 208
   pub rows : All (IsCodeword 182 10) block
   pub columns : (j : ℕ) → j < 182 → IsCodeword 208 16 (column block j)
 
--- a block was given its parity, and its frames are as they were
+-- the new block is a product codeword, and its frames are those of the old block
 pub record IsParityAdded (old new : List (List ℕ)) : Type 0 where
   pub product : IsProduct new
   pub kept : (i j : ℕ) → i < 192 → j < 172 → place new i j ≡ place old i j

@@ -7,12 +7,13 @@ use Rattle.coding.specs.Field.{alpha, plus, product, power}
 abbrev pub IsByte : ℕ → Type 0
 IsByte b = b < 256
 
--- the polynomial's value at x: the sum of each byte times the power of x that it is the coefficient of
+-- the polynomial's value at x: the sum of each byte times the power of x whose coefficient it is
 unfoldable pub value : List ℕ → ℕ → ℕ
 value [] x = 0
 value (byte ∷ rest) x = plus (product byte (power x (length rest))) (value rest x)
 
--- a codeword of n bytes with r parity bytes vanishes at alpha^0 to alpha^(r-1); no generator is named
+-- a codeword of n bytes with r parity bytes: its values at alpha^0 to alpha^(r-1) are 0; no generator polynomial is
+-- named
 pub record IsCodeword (n r : ℕ) (word : List ℕ) : Type 0 where
   pub size : length word ≡ n
   pub bytes : All IsByte word
@@ -23,14 +24,14 @@ pub record IsEncoded (n r : ℕ) (message word : List ℕ) : Type 0 where
   pub codeword : IsCodeword n r word
   pub begins : take (n - r) word ≡ message
 
--- What a word costs against a received one: two for each place that isn't marked and differs,
--- one for each marked place, whose byte doesn't count.
+-- What a word costs against a received one: two for each place that isn't marked and differs, and one for each marked
+-- place, whose byte doesn't count.
 unfoldable pub cost : List ℕ → List ℕ → List Bool → ℕ
 cost (byte ∷ word) (got ∷ received) (mark ∷ marks) =
     (if mark then 1 else if byte == got then 0 else 2) + cost word received marks
 cost word received marks = 0
 
--- A codeword within the bound of a received word with marks. The decoder has syndromes and a locator; none stands here.
+-- A codeword near a received word with marks. The decoder uses syndromes and a locator; this definition needs neither.
 pub record IsNear (n r : ℕ) (received : List ℕ) (marks : List Bool) (word : List ℕ) : Type 0 where
   pub codeword : IsCodeword n r word
   pub received_size : length received ≡ n

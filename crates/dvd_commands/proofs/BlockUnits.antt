@@ -1,4 +1,4 @@
--- The units of captured blocks that hold image: what each writes stands at its place.
+-- The units of captured blocks that hold image: what each writes is at its place in the image.
 use Rattle.std.proofs.Common.{◌≡◌, ◌∙◌, min, ℕ, ◌+◌, ◌-◌, ◌*◌, List, [], ◌++◌, length, length-append, take, drop, slice_get, Some, refl, ap, subst, append-nil, arith}
 use Rattle.std.proofs.lemmas.List.{length-drop, length-take-le}
 use Rattle.std.proofs.lemmas.Option.{slice_get_within}

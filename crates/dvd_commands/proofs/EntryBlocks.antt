@@ -1,4 +1,4 @@
--- Captured blocks by the entries that they stand for: what is done for one, whatever that is.
+-- Captured blocks by their entries of the plan: what is done for one, whatever that is.
 use Rattle.std.proofs.Common.{◌≡◌, ◌⊎◌, inl, inr, ℕ, Bool, List, [], slice_get, Some, Result, Ok, refl, sym, subst, length, take}
 use Rattle.dvd_capture.specs.Captured.{captured_marks, captured_rows, record_marks, record_of}
 use Rattle.dvd_capture.specs.declared.form.Form.{Form}

@@ -1,4 +1,4 @@
--- Why the contracts hold: lemmas on what several commands share. Those of one command stand in the folder of its proofs.
+-- Why the contracts hold: lemmas on what several commands share. Those of one command are in the folder of its proofs.
 pub mod AnyEnd
 pub mod BlockFrames
 pub mod BlockUnits

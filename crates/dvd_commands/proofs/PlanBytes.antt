@@ -1,4 +1,4 @@
--- Where the bytes of the image stand that the blocks of a plan hold.
+-- Where the bytes of the image are that the blocks of a plan hold.
 use Rattle.std.proofs.Common.{◌≡◌, ◌∙◌, ℕ, zero, suc, ◌*◌, ◌≤◌, List, [], ◌∷◌, length, get_or, take, slice_get, ap, sym, add-one, arith}
 use Rattle.std.proofs.lemmas.List.{take_all}
 use Rattle.std.proofs.lemmas.List.Sums.{sum_by_more}

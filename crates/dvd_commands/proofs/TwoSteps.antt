@@ -1,4 +1,4 @@
--- A unit for which nothing is done, and one for which a line is told and then bytes are written.
+-- A unit for which nothing is done, and one for which a line is reported and then bytes are written.
 use Rattle.std.proofs.Common.{◌≡◌, List, [], ◌∷◌, ℕ, Result, Ok, Err, sym, subst}
 use Rattle.std.specs.Io.KnownBytes.{Appends}
 use Rattle.dvd_ports.specs.Causes.{HasFailed, HasGoneOn}

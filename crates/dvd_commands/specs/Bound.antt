@@ -32,7 +32,7 @@ use Rattle.dvd_words.specs.declared.settings.Settings.{Settings}
 abbrev pub Rescues : Command → Type 0
 Rescues command = (command ≡ Recover) ⊎ (command ≡ Deep)
 
--- and what they do for block k of the plan
+-- what they do for block k of the plan
 abbrev pub IsRescued : Command → Layout → Zones → Form → ℕ → List ℕ → List Step → UnitKind → Type 0
 IsRescued Deep = IsDeepened
 IsRescued other = IsRecovered
@@ -47,27 +47,27 @@ pub record WasMastered (layout : Layout) (zones : Zones) (form : Form) (bytes cp
   pub block : List (List ℕ)
   pub is_block : IsBlockOf (frames_of layout entry cpr (filled_block (image_part layout entry image))) block
 
--- It was mastered so, and its damage is within the bound: twice the bad rows plus the lost rows is at most 16.
+-- It was mastered, and its damage is within the bound: twice the bad rows plus the lost rows is at most 16.
 pub record IsBorneBlock (layout : Layout) (zones : Zones) (form : Form) (bytes cpr image : List ℕ) (k : ℕ) (entry : BlockPlan) : Type 0 where
   pub mastered : WasMastered layout zones form bytes cpr image k entry
   pub within : IsWithin mastered.block (captured_rows form (block_bytes form bytes k)) (captured_marks form (block_bytes form bytes k))
 
--- It was mastered so, and two passes refuse it.
+-- It was mastered, and two passes refuse it.
 pub record IsBeyond (layout : Layout) (zones : Zones) (form : Form) (bytes cpr image : List ℕ) (k : ℕ) (entry : BlockPlan) : Type 0 where
   pub mastered : WasMastered layout zones form bytes cpr image k entry
   pub cause : Cause
   pub refused : two_pass_cause (answers_of (captured_rows form (block_bytes form bytes k)) (captured_marks form (block_bytes form bytes k))) ≡ Some cause
 
--- Of every image and every CPR_MAI: each of these blocks that is within the bound has given exactly its image sectors, at
+-- For every image and every CPR_MAI: of each of these blocks that is within the bound, exactly the image sectors are at
 -- their place in the output.
 abbrev pub GivesBack : Layout → Settings → List ℕ → List ℕ → Type 0
 GivesBack layout settings bytes out =
     (cpr image : List ℕ) (k : ℕ) (entry : BlockPlan) → IsBorneBlock layout settings.zones settings.form bytes cpr image k entry
     → image_part layout entry out ≡ image_part layout entry image
 
--- The bound, whatever ended the run. Of the blocks of the input where no fault ended it, and of those that came before a read
--- failed: each that is within the bound is given back. After any other fault what was written of it is as it was mastered.
--- And nothing else may be done for it, so that no line names it.
+-- The bound, whatever ended the run, for each block within it: without a fault those of the input are given back, and
+-- after a failed read those that came before it. After any other fault, what was written of one is a prefix of what was
+-- mastered. Nothing else may be done for such a block, so that no line names it.
 pub record KeepsBound (settings : Settings) (bytes : List ℕ) (outcome : Outcome) : Type 0 where
   pub layout : Layout
   pub is_layout : IsLayoutOf settings layout
@@ -79,7 +79,7 @@ pub record KeepsBound (settings : Settings) (bytes : List ℕ) (outcome : Outcom
       → (steps : List Step) (kind : UnitKind) → IsRescued settings.command layout settings.zones settings.form k (block_bytes settings.form bytes k) steps kind
       → (steps ≡ Write (image_part layout entry image) ∷ []) × (kind ≡ Good)
 
--- sector f of a block's image sectors
+-- image sector f of a block
 abbrev pub sector_part : BlockPlan → ℕ → List ℕ → List ℕ
 sector_part entry f image = take 2048 (drop (2048 * (image_from entry.content + f)) image)
 
@@ -89,13 +89,13 @@ pub record IsGoodSector (layout : Layout) (settings : Settings) (bytes cpr image
   pub is_image : f < image_sectors layout entry.content
   pub good : HasGoodRows beyond.mastered.block (captured_rows settings.form (block_bytes settings.form bytes k)) (captured_marks settings.form (block_bytes settings.form bytes k)) f
 
--- Of every image and every CPR_MAI: each such sector of these blocks is in the output as it is in the image.
+-- For every image and every CPR_MAI: each such sector of these blocks is in the output as it is in the image.
 abbrev pub GivesGoodSectors : Layout → Settings → List ℕ → List ℕ → Type 0
 GivesGoodSectors layout settings bytes out =
     (cpr image : List ℕ) (k f : ℕ) (entry : BlockPlan) → IsGoodSector layout settings bytes cpr image k f entry
     → sector_part entry f out ≡ sector_part entry f image
 
--- The same of the good sectors of blocks that two passes refuse, whatever ended the run.
+-- Likewise for the good sectors of blocks that two passes refuse, whatever ended the run.
 pub record KeepsGoodFrames (settings : Settings) (bytes : List ℕ) (outcome : Outcome) : Type 0 where
   pub layout : Layout
   pub is_layout : IsLayoutOf settings layout

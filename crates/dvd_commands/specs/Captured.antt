@@ -1,5 +1,5 @@
--- Ours: captured blocks in a stream, as units of a command: how the bytes of one begin, where each stands, and what is done for
--- one by the entry that it stands for.
+-- Ours: captured blocks in a stream, as units of a command: how the bytes of one begin, where each is, and what is done
+-- for one by its entry of the plan.
 use Rattle.std.specs.Prelude.{◌≡◌, ℕ, zero, suc, ◌+◌, ◌*◌, ◌-◌, ◌<◌, nat_le, nat_lt, ◌==◌, ◌&&◌, ◌||◌, if◌then◌else◌, Bool, List, [], length, take, drop, slice_get, Option, Some, None}
 use Rattle.dvd_capture.specs.Captured.{block_size, captured_marks, captured_rows, unit_size}
 use Rattle.dvd_capture.specs.Listed.{end_of, length_of, listed_size, run_count, start_of}
@@ -17,12 +17,12 @@ use Rattle.dvd_loop.specs.declared.ends.LoopEnd.TheVariants.{BadMarks}
 use Rattle.dvd_loop.specs.declared.ends.UnitKind.{UnitKind}
 use Rattle.dvd_loop.specs.declared.ends.UnitKind.TheVariants.{Good}
 
--- the first of two places, where there are such
+-- the first of two offsets, where there are such
 abbrev pub or_later : Option ℕ → Option ℕ → Option ℕ
 or_later (Some at) later = Some at
 or_later None later = later
 
--- the field of run i that stands wholly in these bytes and breaks a rule: its start, or else its length
+-- the field of run i that is wholly in these bytes and breaks a rule: its start, or else its length
 abbrev pub broken_in_run : List ℕ → ℕ → Option ℕ
 broken_in_run bytes i =
     if nat_le (37_860 + 4 * i) (length bytes) && (nat_le 37_856 (start_of bytes i) || (nat_lt 0 i && nat_le (start_of bytes i) (end_of bytes (i - 1))))
@@ -34,24 +34,24 @@ unfoldable pub broken_among : List ℕ → ℕ → Option ℕ
 broken_among bytes zero = if nat_le 37_858 (length bytes) && nat_lt 18_928 (run_count bytes) then Some 37_856 else None
 broken_among bytes (suc n) = or_later (broken_among bytes n) (broken_in_run bytes n)
 
--- The offset at which the bytes of a listed block break a rule. By a law it is that of `IsBrokenAt`, the least, and there is none
--- exactly where they are `IsUnbroken`.
+-- The offset at which the bytes of a listed block break a rule. By a law it is that of `IsBrokenAt`, the least, and
+-- there is none exactly where they are `IsUnbroken`.
 abbrev pub broken_at : List ℕ → Option ℕ
 broken_at bytes = broken_among bytes (run_count bytes)
 
--- how bytes begin, from the first of a captured block on
+-- how the bytes of a listed block begin, by where they break a rule
 abbrev pub listed_part : Option ℕ → List ℕ → Prefix
 listed_part (Some at) bytes = Broken at
 listed_part None bytes = sized (listed_size bytes) bytes
 
--- so in each form: a whole block, too few bytes, or a rule that a listed block breaks
+-- how the bytes of a captured block begin: a whole block, too few bytes, or a rule that a listed block breaks
 abbrev pub captured_part : Form → List ℕ → Prefix
 captured_part Plain bytes = sized (block_size Plain) bytes
 captured_part Marked bytes = sized (block_size Marked) bytes
 captured_part Listed bytes = listed_part (broken_at bytes) bytes
 
--- so many captured blocks, for each of which something may be done by its number and its bytes; nothing opens or closes them,
--- and the input has to end behind the last
+-- a number of captured blocks; what may be done for each depends on its number and its bytes; nothing opens or closes
+-- them, and the input has to end after the last
 abbrev pub captured_units : ℕ → Form → (ℕ → List ℕ → List Step → UnitKind → Type 0) → Units
 captured_units count form does = record {
   count = count;
@@ -67,7 +67,7 @@ unfoldable pub block_start : Form → List ℕ → ℕ → ℕ
 block_start form bytes zero = 0
 block_start form bytes (suc k) = block_start form bytes k + unit_size form (drop (block_start form bytes k) bytes)
 
--- all bytes from there on
+-- all bytes from the first of captured block k on
 abbrev pub from_block : Form → List ℕ → ℕ → List ℕ
 from_block form bytes k = drop (block_start form bytes k) bytes
 
@@ -79,7 +79,7 @@ block_bytes form bytes k = take (unit_size form (from_block form bytes k)) (from
 abbrev pub HasBlocks : Form → List ℕ → ℕ → Type 0
 HasBlocks form bytes n = (j : ℕ) → j < n → captured_part form (from_block form bytes j) ≡ Whole (unit_size form (from_block form bytes j))
 
--- the ends of a loop over so many captured blocks of this form: a listed block may break a rule
+-- the ends of a loop over a number of captured blocks of this form: a listed block may break a rule
 abbrev pub IsCaptureEnd : Form → ℕ → LoopEnd → Type 0
 IsCaptureEnd Listed count (BadMarks block at) = block < count
 IsCaptureEnd form count end = IsDamageEnd count end
@@ -89,8 +89,8 @@ abbrev pub IsSoughtEnd : Form → ℕ → LoopEnd → Type 0
 IsSoughtEnd Listed count (BadMarks block at) = block < count
 IsSoughtEnd form count end = IsSearchEnd count end
 
--- What is done for captured block k, whose bytes are its own: this, by the entry that stands there and by the rows and marks of
--- the block.
+-- What is done for captured block k, whose bytes are its own: what this relation says, by its entry and by the rows and
+-- marks of the block.
 pub record IsDoneByEntry (entries : List BlockPlan) (Performs : BlockPlan → List (List ℕ) → List (List Bool) → List Step → UnitKind → Type 0) (form : Form) (k : ℕ) (own : List ℕ) (steps : List Step) (kind : UnitKind) : Type 0 where
   pub entry : BlockPlan
   pub stands : slice_get entries k ≡ Some entry
@@ -100,7 +100,7 @@ pub record IsDoneByEntry (entries : List BlockPlan) (Performs : BlockPlan → Li
 abbrev pub IsPassedOver : List Step → UnitKind → Type 0
 IsPassedOver steps kind = (steps ≡ []) × (kind ≡ Good)
 
--- this is done for a block that holds image, and any other is passed over
+-- this is done for a block that holds image; any other is passed over
 abbrev pub IfImage : (List Step → UnitKind → Type 0) → Content → List Step → UnitKind → Type 0
 IfImage Performs (Image sector) steps kind = Performs steps kind
 IfImage Performs Zero steps kind = IsPassedOver steps kind

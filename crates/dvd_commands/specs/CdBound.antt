@@ -1,4 +1,4 @@
--- The bound of `cdread`: what a run gives back of CD-ROM sectors whose damage the words of a sector bear (ours).
+-- The bound of `cdread` (ours): what a run gives back of CD-ROM sectors whose damage their codewords can correct.
 use Rattle.std.specs.Prelude.{◌≡◌, ℕ, ◌+◌, ◌*◌, ◌<◌, ◌≤◌, List, [], ◌∷◌, length, take, drop}
 use Rattle.cd_sector.specs.Laws.{IsBorne}
 use Rattle.cd_sector.specs.Sector.{IsSector}
@@ -15,8 +15,8 @@ use Rattle.dvd_words.specs.declared.settings.Settings.{Settings}
 abbrev pub cd_sector_bytes : List ℕ → ℕ → List ℕ
 cd_sector_bytes bytes k = take 2352 (drop (2352 * k) bytes)
 
--- Sector k is whole in the input, it was made of these user data for its address, and in each half, that of the low and that of
--- the high bytes, its damage is one that the words bear.
+-- Sector k is whole in the input, and it was made of these user data for its address. In each half, that of the low and
+-- that of the high bytes, its damage is within what the codewords can correct.
 pub record IsBorneSector (settings : Settings) (bytes user : List ℕ) (k : ℕ) : Type 0 where
   pub asked : k < settings.sectors
   pub whole : 2352 * (k + 1) ≤ length bytes
@@ -26,13 +26,14 @@ pub record IsBorneSector (settings : Settings) (bytes user : List ℕ) (k : ℕ)
   pub low : IsBorne 0 sector (cd_sector_bytes bytes k)
   pub high : IsBorne 1 sector (cd_sector_bytes bytes k)
 
--- Of all user data: each of these sectors that is borne has given exactly these, at their place in the output.
+-- For all user data: each of these sectors whose damage is within the bound has given exactly them, at its place in the
+-- output.
 abbrev pub GivesUserData : Settings → List ℕ → List ℕ → Type 0
 GivesUserData settings bytes out = (user : List ℕ) (k : ℕ) → IsBorneSector settings bytes user k → take 2048 (drop (2048 * k) out) ≡ user
 
--- The bound of `cdread`, whatever ended the run: of the sectors of the input where no fault ended it, and of those that came
--- before a read failed. After any other fault what was written of a sector that is borne is its user data. And nothing else may
--- be done for it, so that no line names it.
+-- The bound of `cdread`, whatever ended the run, for each sector within it: without a fault those of the input are
+-- given back, and after a failed read those that came before it. After any other fault, what was written of one is a
+-- prefix of its user data. Nothing else may be done for such a sector, so that no line names it.
 pub record KeepsSectors (settings : Settings) (bytes : List ℕ) (outcome : Outcome) : Type 0 where
   pub at_place : IsFaultless outcome.end → GivesUserData settings bytes outcome.out
   pub received : outcome.end ≡ ReadFault → GivesUserData settings outcome.taken outcome.out

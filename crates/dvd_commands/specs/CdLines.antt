@@ -4,13 +4,13 @@ use Rattle.cd_sector.specs.declared.checking.CdCause.{CdCause}
 use Rattle.cd_sector.specs.declared.checking.CdCause.TheVariants.{Parity, Mode, Address, Edc}
 use Rattle.dvd_report.specs.Lines.{hexadecimal}
 
--- what is wrong first; an address in six hexadecimal digits: minute, second and frame as they were read
+-- the first cause; an address has six hexadecimal digits: minute, second and frame as they were read
 unfoldable pub cd_cause_text : CdCause → List ℕ
 cd_cause_text (Parity word) = codes "parity " ++ decimal word
 cd_cause_text (Mode byte) = codes "mode " ++ decimal byte
 cd_cause_text (Address found) = codes "address found " ++ hexadecimal 6 found
 cd_cause_text Edc = codes "edc"
 
--- sector k of the input, and what is wrong with it
+-- sector k of the input, and its first cause
 unfoldable pub damaged_sector_line : ℕ → CdCause → List ℕ
 damaged_sector_line k cause = codes "sector " ++ decimal k ++ codes ": " ++ cd_cause_text cause ++ codes "\n"

@@ -6,11 +6,11 @@ use Rattle.dvd_commands.specs.Making.{sectors_made}
 use Rattle.dvd_commands.specs.Meaning.{Meaning, by_settings}
 use Rattle.dvd_words.specs.declared.settings.Settings.{Settings}
 
--- the CD-ROM sector of its address is made of each
+-- sector k is made for the address first + k
 abbrev pub cdmake_units : ℕ → ℕ → Units
 cdmake_units = sectors_made IsSector
 
--- what holds of `cdmake` and `cdread` by their words: each of their sectors has an address
+-- what the arguments of `cdmake` and `cdread` ensure: each of their sectors has an address
 abbrev pub HasAddresses : Settings → Type 0
 HasAddresses settings = settings.address + settings.sectors ≤ 450000
 

@@ -1,5 +1,6 @@
--- The command `cdread`: sector k is a CD-ROM sector of Mode 1 (ECMA-130, 14). If it has nothing wrong after its repair, its
--- user data are written. Otherwise a line is reported with the sector and the first cause, and then 2,048 zeros are written.
+-- The command `cdread`: sector k is a CD-ROM sector of Mode 1 (ECMA-130, 14). If it has nothing wrong after its repair,
+-- its user data are written. Otherwise a line is reported with the sector and the first cause, and then 2,048 zeros are
+-- written.
 use Rattle.std.specs.Prelude.{◌≡◌, ◌⊎◌, ℕ, ◌+◌, List, [], ◌∷◌, take, drop, replicate}
 use Rattle.cd_sector.specs.Causes.{IsCause, IsRightSector}
 use Rattle.cd_sector.specs.Repair.{repaired}
@@ -15,13 +16,13 @@ use Rattle.dvd_commands.specs.Meaning.{Meaning, by_settings}
 abbrev pub user_data : List ℕ → List ℕ
 user_data sector = take 2048 (drop 16 sector)
 
--- Nothing is wrong with what the sector is repaired to: its user data are written.
+-- Nothing is wrong with the sector after its repair: its user data are written.
 pub record IsSectorGiven (address : ℕ) (read : List ℕ) (steps : List Step) (kind : UnitKind) : Type 0 where
   pub faultless : IsRightSector (repaired read) address
   pub writes : steps ≡ Write (user_data (repaired read)) ∷ []
   pub good : kind ≡ Good
 
--- Or something is: a line tells the first cause, and then as many zeros are written.
+-- Or something is: a line reports the first cause, and then 2,048 zeros are written.
 pub record IsSectorRefused (address k : ℕ) (read : List ℕ) (steps : List Step) (kind : UnitKind) : Type 0 where
   pub cause : CdCause
   pub is_cause : IsCause (repaired read) address cause

@@ -1,4 +1,4 @@
--- The commands of the program, each by its meaning, and what settings ask for by their command.
+-- The commands of the program, each by its meaning, and what settings ask for.
 use Rattle.std.specs.Prelude.{ℕ, List, Option, None}
 use Rattle.dvd_capture.specs.declared.form.Form.{Form}
 use Rattle.dvd_capture.specs.declared.form.Form.TheVariants.{Listed}
@@ -41,7 +41,7 @@ abbrev pub breaks_in : Form → Settings → Option LayoutFault
 breaks_in Listed settings = None
 breaks_in form settings = (meaning settings.command).breaks settings
 
--- those of the form that the settings name
+-- the first rule that the settings break, by their form
 abbrev pub breaks : Settings → Option LayoutFault
 breaks settings = breaks_in settings.form settings
 

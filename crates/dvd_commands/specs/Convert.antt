@@ -1,5 +1,5 @@
--- The command `convert` (ours): block k is a captured block in the plain or the marked form. A header with the layout is
--- written before the first, and then the listed unit of each.
+-- The command `convert` (ours): block k is a captured block in the plain or the marked form. A header with the layout
+-- is written before the first, and then the listed unit of each.
 use Rattle.std.specs.Prelude.{◌≡◌, ℕ, List, [], ◌∷◌, length}
 use Rattle.dvd_capture.specs.Captured.{IsUnitOf, captured_rows, captured_marks}
 use Rattle.dvd_capture.specs.declared.form.Form.{Form}
@@ -23,7 +23,7 @@ pub record IsConverted (form : Form) (own : List ℕ) (steps : List Step) (kind 
   pub writes : steps ≡ Write unit ∷ []
   pub good : kind ≡ Good
 
--- Unit k is a captured block, whatever the plan has there. Before the first of them these bytes are written.
+-- Unit k is a captured block, whatever the plan has there. Before the first of them this header is written.
 abbrev pub convert_units : Layout → Zones → Form → List ℕ → Units
 convert_units layout zones form opening =
     record (captured_units (length (plan_of layout zones)) form (λ k. IsConverted form)) { opens = Write opening ∷ [] }
@@ -34,7 +34,8 @@ Converts settings layout bytes outcome =
     (opening : List ℕ) × IsHeaderOf settings settings opening
     × IsOutcome (convert_units layout settings.zones settings.form opening) bytes outcome
 
--- the meaning of `convert`: its layout has to break no rule, and its units open with the header that states the settings
+-- the meaning of `convert`: its layout has to break no rule, and its units open with the header that states the
+-- settings
 abbrev pub convert_meaning : Meaning
 convert_meaning = record {
   breaks = broken_rule;

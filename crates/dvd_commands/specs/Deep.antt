@@ -1,6 +1,6 @@
--- The command `deep` (ours): as `recover`, but a block that two passes refuse is read by up to four rounds. Where a round
--- gives it back and its frames are right, a line is reported with the block and the round. After it its image sectors are
--- written.
+-- The command `deep` (ours): as `recover`, but a block that two passes refuse is read by up to four rounds. Where a
+-- round gives it back and its frames are right, a line is reported with the block and the round. After it its image
+-- sectors are written.
 use Rattle.std.specs.Prelude.{◌≡◌, ◌⊎◌, ℕ, Bool, None, Some, List, [], ◌∷◌, ◌++◌, length, take}
 use Rattle.std.specs.List.{flat_map}
 use Rattle.std.specs.declared.option.Option.{Option}
@@ -29,7 +29,7 @@ abbrev pub round_told : Option Cause → ℕ → BlockPlan → ℕ → List Step
 round_told None k entry round = []
 round_told (Some cause) k entry round = Tell (round_line k entry round) ∷ []
 
--- A round gives the block back and its frames are right: its image sectors are written, behind the line of the round.
+-- A round gives the block back and its frames are right: its image sectors are written, after the line of the round.
 pub record IsGivenBack (layout : Layout) (k : ℕ) (entry : BlockPlan) (rows : List (List ℕ)) (marks : List (List Bool)) (steps : List Step) (kind : UnitKind) : Type 0 where
   pub round : ℕ
   pub sectors : List (List ℕ)

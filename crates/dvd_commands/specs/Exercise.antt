@@ -1,6 +1,6 @@
--- The command `exercise` (ours): nothing is read. Blocks are drawn from a number, damaged within the bound and read back,
--- and one line is written to the output: how many there were, how many came back whole, how many of their bytes were
--- corrected, and how many of their rows failed. By this definition all come back whole.
+-- The command `exercise` (ours): nothing is read. Blocks are drawn from a number, damaged within the bound and read
+-- back, and one line is written to the output: how many there were, how many came back whole, how many of their bytes
+-- were corrected, and how many of their rows failed. By this definition all come back whole.
 use Rattle.std.specs.Prelude.{◌≡◌, ℕ, zero, suc, ◌+◌, ◌*◌, ◌%◌, ◌^◌, ◌<◌, Bool, false, List, [], ◌∷◌, ◌++◌, codes, decimal, length, map, replicate, take, drop, slice_index_or}
 use Rattle.std.specs.List.{range_with_len, sum_by}
 use Rattle.coding.specs.Filling.{marked}
@@ -39,44 +39,44 @@ drawn_frame k image f = data_frame (id_word DataZone 0 false (data_first + 16 * 
 unfoldable pub drawn_frames : ℕ → List ℕ → List (List ℕ)
 drawn_frames k image = map (drawn_frame k image) (range_with_len 0 16)
 
--- the marks of a block none of whose places is marked
+-- the marks of a block without erasures
 abbrev pub no_marks : List (List Bool)
 no_marks = replicate 208 (replicate 182 false)
 
--- Block k as it was made, and as it is then hurt: its sixteen sectors are the bytes that are drawn first, from state x on.
+-- Block k as it was made, and as it is received after damage. The bytes drawn first, from state x on, are its sectors.
 pub record IsHurtBlock (k x : ℕ) (block rows : List (List ℕ)) (marks : List (List Bool)) : Type 0 where
   pub made : IsBlockOf (drawn_frames k (bytes_from x 32768)) block
   pub hurt : IsHurt (state_after x 32768) block no_marks rows marks
 
--- The state from which block k is drawn, a number of 64 bits. The first is the seed and 1, and each other is what the damage of
--- the block before leaves.
+-- The state from which block k is drawn, a number of 64 bits. The first is the seed plus 1, and each other is what the
+-- damage of the block before leaves.
 unfoldable pub state_at : ℕ → ℕ → ℕ
 state_at seed zero = (seed + 1) % 2 ^ 64
 state_at seed (suc k) = hurt_state (state_after (state_at seed k) 32768)
 
--- a block as it was made, and the rows and marks that are received of it
+-- a block as it was made, and the rows and marks that are received
 pub record Trial : Type 0 where
   pub block : List (List ℕ)
   pub rows : List (List ℕ)
   pub marks : List (List Bool)
 
--- it is block k of those that are drawn from a seed
+-- it is block k of those drawn from a seed
 abbrev pub IsTrial : ℕ → ℕ → Trial → Type 0
 IsTrial seed k trial = IsHurtBlock k (state_at seed k) trial.block trial.rows trial.marks
 
--- and these are the first of them
+-- they are the first blocks drawn from a seed
 abbrev pub AreTrials : ℕ → List Trial → Type 0
 AreTrials seed trials = (k : ℕ) (default : Trial) → k < length trials → IsTrial seed k (slice_index_or trials k default)
 
--- in how many places of all of them what was received differs from what was made
+-- the number of bytes, in all of them, in which what was received differs from what was made
 abbrev pub fixed_in : List Trial → ℕ
 fixed_in trials = sum_by (λ trial. block_differences trial.rows trial.block) trials
 
--- and how many received rows have no codeword near
+-- the number of received rows that are uncorrectable
 abbrev pub failed_in : List Trial → ℕ
 failed_in trials = sum_by (λ trial. marked (failed_of (answers_of trial.rows trial.marks))) trials
 
--- the line, which also tells how many of the blocks were read back whole
+-- the line, which also says how many of the blocks were read back whole
 unfoldable pub exercise_line : ℕ → ℕ → ℕ → ℕ → ℕ → List ℕ
 exercise_line seed blocks whole fixed failed =
     codes "exercise seed " ++ decimal seed
@@ -86,7 +86,7 @@ exercise_line seed blocks whole fixed failed =
     ++ codes " failed " ++ decimal failed
     ++ codes "\n"
 
--- Behind the last block the line is written. Every block was read back whole, since its damage is within the bound.
+-- After the last block the line is written. Every block was read back whole, since its damage is within the bound.
 pub record IsExercised (seed blocks : ℕ) (steps : List Step) : Type 0 where
   pub trials : List Trial
   pub count : length trials ≡ blocks
@@ -108,7 +108,8 @@ exercise_units seed blocks = record {
 abbrev pub exercise_meaning : Meaning
 exercise_meaning = by_settings (λ settings. exercise_units settings.seed settings.blocks)
 
--- What block k leaves in the memory of a captured block: its received rows and marks, and its sectors as they were drawn.
+-- What block k leaves in the memory of a captured block: its received rows and marks, and its sectors as they were
+-- drawn.
 pub record IsLeft (seed k : ℕ) (work : Work) : Type 0 where
   pub stage : stage_of work ≡ Fixed
   pub block : List (List ℕ)

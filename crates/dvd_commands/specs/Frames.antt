@@ -13,7 +13,7 @@ use Rattle.dvd_words.specs.declared.settings.Settings.{Settings}
 abbrev pub IsSectorFrame : ℕ → List ℕ → List ℕ → Type 0
 IsSectorFrame number sector frame = frame ≡ data_frame (id_word DataZone 0 false number) (replicate 6 0) Whole sector
 
--- the frame of its number is made of each
+-- the data frame of sector k has the number first + k
 abbrev pub frames_units : ℕ → ℕ → Units
 frames_units = sectors_made IsSectorFrame
 
@@ -21,6 +21,6 @@ frames_units = sectors_made IsSectorFrame
 abbrev pub frames_meaning : Meaning
 frames_meaning = by_settings (λ settings. frames_units settings.first settings.sectors)
 
--- what holds of `frames` by its words: there is a sector, and the numbers have 24 bits
+-- what the arguments of `frames` ensure: there is a sector, and the numbers have 24 bits
 abbrev pub HasSectors : Settings → Type 0
 HasSectors settings = (1 ≤ settings.sectors) × (settings.first + settings.sectors ≤ 2 ^ 24)

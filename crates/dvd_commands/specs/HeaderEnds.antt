@@ -1,4 +1,4 @@
--- Ours: what is answered of the header of a listed capture.
+-- Ours: what reading the header of a listed capture answers.
 use Rattle.std.specs.Prelude.{◌≡◌, ◌<◌, ℕ, List, [], length, None}
 use Rattle.std.specs.Io.KnownBytes.{Consumes}
 use Rattle.dvd_layout.specs.declared.layout.Layout.{Layout}
@@ -12,8 +12,7 @@ use Rattle.dvd_commands.specs.declared.opening.HeaderEnd.TheVariants as header
 use Rattle.dvd_words.specs.Settings.{broken_rule}
 use Rattle.dvd_words.specs.declared.settings.Settings.{Settings}
 
--- the counts of the source by what is answered of its header: the one read that failed, or that met the end of the input,
--- was its last
+-- the counts of the source by this answer: the one read that failed, or that met the end of the input, was its last
 abbrev pub HeaderCounts : HeaderEnd → Seen → Seen → Type 0
 HeaderCounts (header.Found layout zones) old new = HasGoneOn old new
 HeaderCounts (header.BadHeader at) old new = HasGoneOn old new
@@ -31,8 +30,9 @@ with_layout settings layout zones = record settings {
   tail = layout.tail;
 }
 
--- What is answered of the bytes that were taken for a header, these being left: the layout and the zones that it states, whatever
--- the other settings are, or the place at which it breaks a rule. Or there are fewer bytes: the input ended, or a read failed.
+-- What is answered of the bytes read as a header, by what is left: the layout and the zones that it states, whatever
+-- the other settings are, or the offset at which it breaks a rule. Or there are fewer bytes: the input ended, or a read
+-- failed.
 abbrev pub AnswersHeader : HeaderEnd → List ℕ → List ℕ → Type 0
 AnswersHeader (header.Found layout zones) own left =
     (length own ≡ 32) × ((settings : Settings) → IsHeaderOf settings (with_layout settings layout zones) own × (broken_rule (with_layout settings layout zones) ≡ None))
@@ -40,7 +40,7 @@ AnswersHeader (header.BadHeader at) own left = (length own ≡ 32) × ((settings
 AnswersHeader (header.Short bytes) own left = (length own < 32) × (bytes ≡ length own) × (left ≡ [])
 AnswersHeader header.ReadFault own left = length own < 32
 
--- a source gave bytes for a header, and this is answered of them
+-- a source gave bytes as a header, and this is the answer
 pub record ReadsHeader (end : HeaderEnd) (old new : Seen) : Type 0 where
   pub own : List ℕ
   pub left : List ℕ

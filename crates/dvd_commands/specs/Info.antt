@@ -1,6 +1,6 @@
--- The command `info`: block k is a captured block of the lead-in (ECMA-267, control data). The first control block that is
--- right, and whose first sector is a physical format, is the last that is read: eleven lines of that format are written to
--- the output. If none of the 192 control blocks is one, the end is NoControl.
+-- The command `info`: block k is a captured block of the lead-in (ECMA-267, control data). The first control block that
+-- is right, and whose first sector is a physical format, is the last that is read: eleven lines of that format are
+-- written to the output. If none of the 192 control blocks is one, the end is NoControl.
 use Rattle.std.specs.Prelude.{◌≡◌, ◌⊎◌, ℕ, ◌+◌, Bool, Some, None, List, [], ◌∷◌, ◌++◌, codes, decimal, if◌then◌else◌}
 use Rattle.coding.specs.Product.{line}
 use Rattle.dvd_capture.specs.declared.form.Form.{Form}
@@ -45,7 +45,8 @@ format_lines format =
     ++ sector_line (codes "layer0 ") format.layer0_last
     ++ number_line (codes "bca ") (if format.bca then 1 else 0)
 
--- A block of control data answers: it is right, its first sector is a physical format, and the lines of that are written.
+-- A block of control data answers: it is right, its first sector is a physical format, and the lines of that are
+-- written.
 pub record GivesFormat (entry : BlockPlan) (rows : List (List ℕ)) (marks : List (List Bool)) (steps : List Step) (kind : UnitKind) : Type 0 where
   pub sectors : List (List ℕ)
   pub read : IsReadAs rows marks entry sectors
@@ -75,8 +76,8 @@ IsAsked (Image sector) entry rows marks steps kind = IsPassedOver steps kind
 abbrev pub IsSought : ℕ → Form → ℕ → List ℕ → List Step → UnitKind → Type 0
 IsSought initial = IsDoneByEntry (lead_in_blocks initial) (λ entry. IsAsked entry.content entry)
 
--- The blocks up to the last of control data: the Initial Zone, 2 of reference code, 30 of a buffer zone, and 192. The first
--- that answers is the last that is read, and behind all of them no control block has answered.
+-- The blocks up to the last of control data: the Initial Zone, 2 of reference code, 30 of a buffer zone, and 192. The
+-- first that answers is the last that is read. After all of them, none has answered.
 abbrev pub info_units : ℕ → Form → Units
 info_units initial form = record (captured_units (initial + 224) form (IsSought initial form)) { after_last = NoControl }
 

@@ -1,4 +1,4 @@
--- What holds of what each command does: the laws that speak of the units of commands, and not of whole runs.
+-- What holds of what each command does: the laws about the units of commands, and not about whole runs.
 use Rattle.std.specs.Prelude.{◌≡◌, ◌↔◌, ℕ, ◌*◌, ◌<◌, List, [], ◌∷◌, ◌++◌, length, replicate, All, Some, None, slice_get, ◌⊎◌, ◌+◌, take, drop, slice_index_or}
 use Rattle.dvd_assemble.specs.Assembled.{assembled}
 use Rattle.dvd_assemble.specs.Frames.{Frame}
@@ -41,7 +41,7 @@ use Rattle.dvd_commands.specs.Commands.{GoesOver}
 use Rattle.dvd_words.specs.declared.settings.Command.TheVariants.{CdRead}
 use Rattle.dvd_words.specs.declared.settings.Settings.{Settings}
 
--- The blocks before a data block take as many bytes as the image has before its first sector.
+-- The blocks before a data block read all bytes that the image has before its first sector.
 abbrev pub ImageIsTakenInOrder : Type 0
 ImageIsTakenInOrder =
     (layout : Layout) (zones : Zones) (cpr image : List ℕ) (k : ℕ) (entry : BlockPlan) (a : Outcome) → slice_get (plan_of layout zones) k ≡ Some entry → IsImage entry.content
@@ -53,8 +53,9 @@ ImageIsTakenWhole =
     (layout : Layout) (zones : Zones) (cpr image : List ℕ) (a : Outcome) → IsOutcome (master_units layout zones cpr) image a → IsFaultless a.end
     → (a.end ≡ Done → length image ≡ 2048 * total_sectors layout) × (length image ≡ 2048 * total_sectors layout → a.end ≡ Done)
 
--- A data block whose damage is within the bound: twice the bad rows plus the lost rows is at most 16 against the block that
--- was mastered at that place, of any image and any CPR_MAI. Exactly its image sectors are written, and no line names it.
+-- A data block whose damage is within the bound: twice the bad rows plus the lost rows is at most 16 against the block
+-- that was mastered at that place, of any image and any CPR_MAI. Exactly its image sectors are written, and no line
+-- names it.
 abbrev pub DamageWithinTheBoundIsRepaired : Type 0
 DamageWithinTheBoundIsRepaired =
     (layout : Layout) (zones : Zones) (form : Form) (cpr : List ℕ) (k : ℕ) (entry : BlockPlan) (image own : List ℕ) (block : List (List ℕ)) (steps : List Step) (kind : UnitKind)
@@ -63,8 +64,8 @@ DamageWithinTheBoundIsRepaired =
     → captured_part form own ≡ Whole (length own) → IsWithin block (captured_rows form own) (captured_marks form own)
     → IsRecovered layout zones form k own steps kind → (steps ≡ Write image ∷ []) × (kind ≡ Good)
 
--- A data block that two passes refuse, and an image sector there whose twelve rows are good against the block that was mastered
--- at that place, of any image and any CPR_MAI: what is written has the mastered sector at its place.
+-- A data block that two passes refuse, and an image sector there whose twelve rows are good against the block that was
+-- mastered at that place, of any image and any CPR_MAI: what is written has the mastered sector at its place.
 abbrev pub GoodFramesOfARefusedBlockAreGiven : Type 0
 GoodFramesOfARefusedBlockAreGiven =
     (layout : Layout) (zones : Zones) (form : Form) (cpr : List ℕ) (k f : ℕ) (entry : BlockPlan) (image own : List ℕ) (block : List (List ℕ)) (cause : Cause) (steps : List Step) (kind : UnitKind)
@@ -74,13 +75,14 @@ GoodFramesOfARefusedBlockAreGiven =
     → f < image_sectors layout entry.content → HasGoodRows block (captured_rows form own) (captured_marks form own) f
     → IsRecovered layout zones form k own steps kind → take 2048 (drop (2048 * f) (written steps)) ≡ take 2048 (drop (2048 * f) image)
 
--- The data frames of the blocks that `exercise` draws are those that `master` makes of the same sectors on a disk with one layer.
+-- The data frames of the blocks that `exercise` draws are those that `master` makes of the same sectors, on a disk with
+-- one layer.
 abbrev pub DrawnFramesAreMastered : Type 0
 DrawnFramesAreMastered =
     (layout : Layout) (k : ℕ) (entry : BlockPlan) (image : List ℕ) → layout.shape ≡ Single → slice_get (plan_of layout DataOnly) k ≡ Some entry
     → frames_of layout entry (replicate 6 0) image ≡ drawn_frames k image
 
--- Block k of the lead-in is the first that answers: the lines of its format are written, and nothing behind it is taken.
+-- Block k of the lead-in is the first that answers: the lines of its format are written, and nothing after it is read.
 pub record FindsTheFirst (initial : ℕ) (form : Form) (bytes : List ℕ) (a : Outcome) : Type 0 where
   pub k : ℕ
   pub format : Fields
@@ -90,12 +92,12 @@ pub record FindsTheFirst (initial : ℕ) (form : Form) (bytes : List ℕ) (a : O
   pub none_before : (j : ℕ) → j < k → IsSought initial form j (block_bytes form bytes j) [] Good
   pub is : a ≡ record { taken = take (block_start form bytes (k + 1)) bytes; out = format_lines format; lines = []; end = Done }
 
--- the input has all blocks that are sought, and these are taken
+-- the input has all blocks that are sought, and these are read
 pub record PassesAll (initial : ℕ) (form : Form) (bytes : List ℕ) (a : Outcome) : Type 0 where
   pub whole : HasBlocks form bytes (initial + 224)
   pub is : a ≡ record { taken = take (block_start form bytes (initial + 224)) bytes; out = []; lines = []; end = NoControl }
 
--- the input ends within block k, so many bytes of which it has
+-- the input ends within block k, of which it has `held` bytes
 pub record RunsOut (initial : ℕ) (form : Form) (bytes : List ℕ) (a : Outcome) : Type 0 where
   pub k : ℕ
   pub held : ℕ
@@ -105,7 +107,7 @@ pub record RunsOut (initial : ℕ) (form : Form) (bytes : List ℕ) (a : Outcome
   pub size : length bytes ≡ block_start form bytes k + held
   pub is : a ≡ record { taken = bytes; out = []; lines = []; end = Short k held }
 
--- block k breaks a rule of its form, and at least that field of it is taken
+-- block k breaks a rule of its form, and a prefix of it with that field is read
 pub record BreaksOff (initial : ℕ) (form : Form) (bytes : List ℕ) (a : Outcome) : Type 0 where
   pub k : ℕ
   pub at : ℕ
@@ -122,13 +124,13 @@ pub record FindsNone (initial : ℕ) (form : Form) (bytes : List ℕ) (a : Outco
   pub none : (j : ℕ) → j < initial + 224 → HasBlocks form bytes (j + 1) → IsSought initial form j (block_bytes form bytes j) [] Good
   pub ends : PassesAll initial form bytes a ⊎ (RunsOut initial form bytes a ⊎ BreaksOff initial form bytes a)
 
--- What `info` writes and takes of an input, where no fault ends it, is told by the first block of control data that answers.
+-- What `info` writes and reads of an input, where no fault ends it, depends on the first control block that answers.
 abbrev pub InfoFindsTheFirstAnswer : Type 0
 InfoFindsTheFirstAnswer =
     (initial : ℕ) (form : Form) (bytes : List ℕ) (a : Outcome) → IsOutcome (info_units initial form) bytes a → IsFaultless a.end
     → FindsTheFirst initial form bytes a ⊎ FindsNone initial form bytes a
 
--- A loop of `cdread` gives the user data of every sector whose damage is borne, whatever ended it.
+-- A loop of `cdread` gives the user data of every sector whose damage is within the bound, whatever ended it.
 abbrev pub BorneSectorsAreKept : Type 0
 BorneSectorsAreKept =
     (settings : Settings) (bytes : List ℕ) (outcome : Outcome) → settings.command ≡ CdRead → GoesOver settings bytes outcome → KeepsSectors settings bytes outcome
@@ -138,9 +140,9 @@ abbrev pub AreMastered : Layout → List ℕ → (ℕ → List ℕ) → (ℕ →
 AreMastered layout cpr parts blocks =
     (k : ℕ) (entry : BlockPlan) → slice_get (plan_of layout DataOnly) k ≡ Some entry → IsBlockOf (frames_of layout entry cpr (filled_block (parts k))) (blocks k)
 
--- Frames that were captured of mastered ones, of any image and any CPR_MAI: whatever is lost, their bytes are right at all places
--- that aren't marked, and at most ten of the first row are. Each has its home where it was mastered; and no place of the blocks
--- that `assemble` makes of them is in conflict, each that is seen having the mastered byte.
+-- Captured frames of mastered ones, of any image and any CPR_MAI: whatever is lost, their unmarked bytes are right, and
+-- at most ten bytes of the first row are marked. Each has its home where it was mastered. No byte of the blocks that
+-- `assemble` makes of them is in conflict, and each that is known is the mastered byte.
 abbrev pub CapturedFramesAreAssembled : Type 0
 CapturedFramesAreAssembled =
     (layout : Layout) (cpr : List ℕ) (parts : ℕ → List ℕ) (blocks : ℕ → List (List ℕ)) → AreMastered layout cpr parts blocks
@@ -148,8 +150,8 @@ CapturedFramesAreAssembled =
     × ((frames : List Frame) → All (IsCaptured layout blocks) frames
     → (k : ℕ) → k < length (plan_of layout DataOnly) → IsOf (blocks k) (slice_index_or (assembled layout frames) k unseen))
 
--- The offset that `broken_at` finds is the least field of a listed block that stands wholly in the bytes and breaks a rule, and it
--- finds none exactly where none does.
+-- The offset that `broken_at` finds is the least field of a listed block that is wholly in the bytes and breaks a rule.
+-- It finds none exactly where none does.
 abbrev pub BrokenFieldIsFound : Type 0
 BrokenFieldIsFound =
     (bytes : List ℕ) → ((at : ℕ) → (broken_at bytes ≡ Some at) ↔ IsBrokenAt bytes at) × ((broken_at bytes ≡ None) ↔ IsUnbroken bytes)

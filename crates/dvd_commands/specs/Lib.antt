@@ -1,4 +1,4 @@
--- What the contracts speak of: the commands, each on a page of its own, and how a run of one opens.
+-- What the contracts are about: the commands, each on a page of its own, and how a run of one opens.
 pub mod Assemble
 pub mod Bound
 pub mod Captured

@@ -1,11 +1,11 @@
--- What `frames` and `cdmake` have in common: of each sector of user data one list of bytes is made. Ours.
+-- Ours: what `frames` and `cdmake` have in common. Of each sector of user data one list of bytes is made.
 use Rattle.std.specs.Prelude.{◌≡◌, ◌+◌, ℕ, List, [], ◌∷◌}
 use Rattle.dvd_loop.specs.Machine.{Step, Units, plain_units}
 use Rattle.dvd_loop.specs.Machine.Step.{Write}
 use Rattle.dvd_loop.specs.declared.ends.UnitKind.{UnitKind}
 use Rattle.dvd_loop.specs.declared.ends.UnitKind.TheVariants.{Good}
 
--- bytes of which this holds are written
+-- bytes that this holds of are written
 pub record IsMade (Holds : List ℕ → Type 0) (steps : List Step) (kind : UnitKind) : Type 0 where
   pub made : List ℕ
   pub holds : Holds made

@@ -24,7 +24,7 @@ use Rattle.dvd_loop.specs.declared.ends.UnitKind.{UnitKind}
 use Rattle.dvd_loop.specs.declared.ends.UnitKind.TheVariants.{Good}
 use Rattle.dvd_commands.specs.Meaning.{Meaning, by_layout}
 
--- how many bytes of the image a block takes
+-- how many bytes of the image a block reads
 abbrev pub image_bytes : Layout → BlockPlan → ℕ
 image_bytes layout entry = 2048 * image_sectors layout entry.content
 
@@ -36,14 +36,14 @@ image_part layout entry image = take (image_bytes layout entry) (drop (2048 * im
 abbrev pub filled_block : List ℕ → List ℕ
 filled_block own = own ++ replicate (32768 - length own) 0
 
--- Main Data of frame f of a block, of which these are the sixteen sectors
+-- Main Data of frame f of a block, whose sixteen sectors these are
 abbrev pub main_for : Content → Layout → BlockPlan → List ℕ → ℕ → List ℕ
 main_for (Image sector) layout entry sectors f = take 2048 (drop (2048 * f) sectors)
 main_for Zero layout entry sectors f = main_bytes layout entry f
 main_for Reference layout entry sectors f = main_bytes layout entry f
 main_for Control layout entry sectors f = main_bytes layout entry f
 
--- CPR_MAI, which is zeros but in the Data Zone
+-- CPR_MAI, which is zeros except in the Data Zone
 abbrev pub cpr_in : Area → List ℕ → List ℕ
 cpr_in DataZone cpr = cpr
 cpr_in LeadIn cpr = replicate 6 0
@@ -69,16 +69,16 @@ pub record IsMastered (layout : Layout) (zones : Zones) (cpr : List ℕ) (k : �
   pub writes : steps ≡ Write (recording block) ∷ []
   pub good : kind ≡ Good
 
--- how many bytes of the image an entry of the plan takes, and none where there is no entry
+-- how many bytes of the image an entry of the plan reads, and 0 where there is no entry
 abbrev pub bytes_of_entry : Layout → Option BlockPlan → ℕ
 bytes_of_entry layout None = 0
 bytes_of_entry layout (Some entry) = image_bytes layout entry
 
--- how many bytes of the image block k takes: those of the image sectors that stand in it
+-- how many bytes of the image block k reads: those of the image sectors in it
 abbrev pub bytes_of_block : Layout → Zones → ℕ → ℕ
 bytes_of_block layout zones k = bytes_of_entry layout (slice_get (plan_of layout zones) k)
 
--- the units are the blocks of the plan, each of its image bytes
+-- the units are the blocks of the plan, each with its image bytes
 abbrev pub master_units : Layout → Zones → List ℕ → Units
 master_units layout zones cpr = plain_units (length (plan_of layout zones)) (bytes_of_block layout zones) (IsMastered layout zones cpr)
 

@@ -6,15 +6,15 @@ use Rattle.dvd_loop.specs.Machine.{IsOutcome, Outcome, Units}
 use Rattle.dvd_words.specs.Settings.{IsLayoutOf, broken_rule}
 use Rattle.dvd_words.specs.declared.settings.Settings.{Settings}
 
--- The first rule of layouts that its settings break; what its units are of beside the settings, as a layout; which these
--- settings have; and its units.
+-- The first rule of layouts that settings break. What the units depend on in addition to the settings, such as a
+-- layout, and which of these the settings have. The units.
 pub record Meaning : Type 1 where
   pub breaks : Settings → Option LayoutFault
   pub Subject : Type 0
   pub IsSubject : Settings → Subject → Type 0
   pub units : Settings → Subject → Units
 
--- the meaning of a command whose units are of its settings alone, and which has no layout
+-- the meaning of a command whose units depend on its settings alone, and which has no layout
 abbrev pub by_settings : (Settings → Units) → Meaning
 by_settings units = record {
   breaks = λ settings. None;
@@ -23,7 +23,7 @@ by_settings units = record {
   units = λ settings subject. units settings;
 }
 
--- the meaning of a command whose units are of the layout of its settings, which has to break no rule
+-- the meaning of a command whose units depend on the layout of its settings, which has to break no rule
 abbrev pub by_layout : (Settings → Layout → Units) → Meaning
 by_layout units = record { breaks = broken_rule; Subject = Layout; IsSubject = IsLayoutOf; units = units }
 

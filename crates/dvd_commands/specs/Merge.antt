@@ -1,5 +1,5 @@
--- The command `merge` (ours): unit k is captured block k of each capture, one after the other. Their join is written in the
--- marked form. A byte of it is that of the captures that have one there, if these have the same; else it is marked.
+-- The command `merge` (ours): unit k is captured block k of each capture, one after the other. Their join is written in
+-- the marked form. A byte of it is that of the captures that have one there, if these have the same; else it is marked.
 use Rattle.std.specs.Prelude.{◌≡◌, ℕ, ◌*◌, List, [], ◌∷◌, length, map, take, drop}
 use Rattle.std.specs.List.{range_with_len}
 use Rattle.dvd_capture.specs.Captured.{block_size, captured_rows, captured_marks}
@@ -14,7 +14,7 @@ use Rattle.dvd_merge.specs.Join.{Table, joined, seen_table}
 use Rattle.dvd_merge.specs.MarkedText.{marked_text}
 use Rattle.dvd_commands.specs.Meaning.{Meaning, by_layout}
 
--- capture c of a unit, in which they stand one after the other
+-- capture c of a unit, whose captures come one after the other
 abbrev pub capture_in : Form → List ℕ → ℕ → List ℕ
 capture_in form own c = take (block_size form) (drop (block_size form * c) own)
 
@@ -22,7 +22,7 @@ capture_in form own c = take (block_size form) (drop (block_size form * c) own)
 abbrev pub table_in : Form → List ℕ → Table
 table_in form bytes = seen_table (captured_rows form bytes) (captured_marks form bytes)
 
--- what each of so many captures knows
+-- what each of the captures of a unit knows
 unfoldable pub tables_in : ℕ → Form → List ℕ → List Table
 tables_in captures form own = map (λ c. table_in form (capture_in form own c)) (range_with_len 0 captures)
 

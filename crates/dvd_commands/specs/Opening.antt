@@ -27,7 +27,7 @@ abbrev pub zones_number : Zones → ℕ
 zones_number DataOnly = 0
 zones_number All = 1
 
--- these settings have the layout and the zones that a header states, and all else of the words' settings
+-- these settings have the layout and the zones that a header states, and all else of the settings of the arguments
 pub record IsStated (settings : Settings) (header : Header) (stated : Settings) : Type 0 where
   pub shape : shape_number stated.shape ≡ header.shape
   pub zones : zones_number stated.zones ≡ header.zones
@@ -62,14 +62,14 @@ pub record IsHeaderOf (settings stated : Settings) (own : List ℕ) : Type 0 whe
   pub bytes : own ≡ header_bytes header
   pub states : IsStated settings header stated
 
--- They break a rule at that place: a byte can't stand there, or else the layout that they state breaks a rule.
+-- They break a rule at this offset: a byte isn't allowed there, or the layout that they state breaks a rule.
 abbrev pub BreaksHeader : Settings → List ℕ → ℕ → Type 0
 BreaksHeader settings own at =
     IsFirstWrongByte own at
     ⊎ ((stated : Settings) × (fault : LayoutFault) × IsHeaderOf settings stated own × (broken_rule stated ≡ Some fault) × (at ≡ fault_byte fault))
 
--- What comes behind so many bytes that were taken for the header: the input ended within it, or a read failed there; or they are
--- a header that breaks a rule; or they state settings, and the loop runs by these.
+-- What comes after the bytes that were read as the header: the input ended within it, or a read failed there; or it is
+-- a header that breaks a rule; or it states settings, and the loop runs by these.
 abbrev pub ComesBehind : (Settings → List ℕ → Outcome → Type 0) → Settings → List ℕ → List ℕ → Outcome → Type 0
 ComesBehind Loops settings own left after =
     ((length own < 32) × (((left ≡ []) × (after ≡ ended (ShortHeader (length own)))) ⊎ (after ≡ ended ReadFault)))
@@ -91,8 +91,8 @@ Opens Listed Loops = IsOpened Loops
 Opens Plain Loops = Loops
 Opens Marked Loops = Loops
 
--- What is promised of a loop over bytes is promised, of a listed capture, by the settings that its header states and of what comes
--- after the header: of the bytes there, and of what was done over them.
+-- A promise about a loop over bytes holds for a listed capture by the settings that its header states, and for what
+-- comes after the header: the bytes there, and what was done over them.
 abbrev pub AfterHeader : Form → (Settings → List ℕ → Outcome → Type 0) → Settings → List ℕ → Outcome → Type 0
 AfterHeader Plain Keeps settings bytes outcome = Keeps settings bytes outcome
 AfterHeader Marked Keeps settings bytes outcome = Keeps settings bytes outcome

@@ -1,4 +1,4 @@
--- What a command that was asked for does before its closing line: how its loop ended, or why it doesn't begin.
+-- What a command does before its closing line: how its loop ended, or why it doesn't begin.
 use Rattle.std.specs.Prelude.{◌≡◌, Result, Ok, Err, None, Some}
 use Rattle.dvd_loop.specs.Streams.{HasEnded, Streams}
 use Rattle.dvd_loop.specs.declared.ends.LoopEnd.{LoopEnd}
@@ -8,7 +8,7 @@ use Rattle.dvd_words.specs.declared.settings.Settings.{Settings}
 use Rattle.dvd_commands.specs.declared.refusal.Refusal.{Refusal}
 use Rattle.dvd_commands.specs.declared.refusal.Refusal.TheVariants.{Setting, NoMemory}
 
--- its layout is lawful, and its loop ended so
+-- its layout is valid, and its loop had this end
 pub record HasLooped (settings : Settings) (old new : Streams) (end : LoopEnd) : Type 0 where
   pub lawful : breaks settings ≡ None
   pub loop : HasEnded (Opens settings.form GoesOver settings) old new end
@@ -18,12 +18,12 @@ abbrev pub IsRefusal : Settings → Refusal → Type 0
 IsRefusal settings (Setting fault) = breaks settings ≡ Some fault
 IsRefusal settings NoMemory = breaks settings ≡ None
 
--- what a command did: its loop ended so, or it didn't begin
+-- what a command did: its loop had this end, or it didn't begin
 abbrev pub IsPerformed : Settings → Streams → Streams → Result LoopEnd Refusal → Type 0
 IsPerformed settings old new (Ok end) = HasLooped settings old new end
 IsPerformed settings old new (Err refusal) = IsRefusal settings refusal
 
--- The same of a command by its words alone, which no header comes before.
+-- Likewise for a command by its arguments alone, without a header.
 pub record HasGoneOver (settings : Settings) (old new : Streams) (end : LoopEnd) : Type 0 where
   pub lawful : (meaning settings.command).breaks settings ≡ None
   pub loop : HasEnded (GoesOver settings) old new end
@@ -33,7 +33,7 @@ abbrev pub IsRefusalOfWords : Settings → Refusal → Type 0
 IsRefusalOfWords settings (Setting fault) = (meaning settings.command).breaks settings ≡ Some fault
 IsRefusalOfWords settings NoMemory = (meaning settings.command).breaks settings ≡ None
 
--- what it did
+-- what it did, by its arguments alone
 abbrev pub IsPerformedByWords : Settings → Streams → Streams → Result LoopEnd Refusal → Type 0
 IsPerformedByWords settings old new (Ok end) = HasGoneOver settings old new end
 IsPerformedByWords settings old new (Err refusal) = IsRefusalOfWords settings refusal

@@ -1,7 +1,7 @@
--- The command `recover`: block k is a captured block. One without image sectors is passed over. If two passes determine a
--- block and its frames are right, its image sectors are written. Otherwise a line is reported with the block, its first
--- cause and how many frames are salvaged. After it the image sectors are written: those of the frames that are right by
--- themselves, and zeros for the others.
+-- The command `recover`: block k is a captured block. One without image sectors is passed over. If two passes determine
+-- a block and its frames are right, its image sectors are written. Otherwise a line is reported with the block, its
+-- first cause and how many frames are salvaged. After it the image sectors are written: those of the frames that are
+-- right by themselves, and zeros for the others.
 use Rattle.std.specs.Prelude.{◌≡◌, ◌⊎◌, ℕ, Bool, Option, Some, List, [], ◌∷◌, length, take, ◌+◌, ◌*◌, ◌<◌}
 use Rattle.std.specs.List.{flat_map}
 use Rattle.dvd_capture.specs.declared.form.Form.{Form}
@@ -25,15 +25,15 @@ use Rattle.coding.specs.Product.{line}
 use Rattle.dvd_capture.specs.Answers.{marks_line}
 use Rattle.coding.specs.Within.{row_weight}
 
--- The image sectors of the block that two passes determine are written, and its frames are right; padding sectors aren't.
+-- Two passes determine the block and its frames are right: its image sectors are written, without the padding sectors.
 pub record IsGiven (layout : Layout) (entry : BlockPlan) (rows : List (List ℕ)) (marks : List (List Bool)) (steps : List Step) (kind : UnitKind) : Type 0 where
   pub sectors : List (List ℕ)
   pub read : IsReadAs rows marks entry sectors
   pub writes : steps ≡ Write (flat_map (λ sector. sector) (take (image_sectors layout entry.content) sectors)) ∷ []
   pub good : kind ≡ Good
 
--- Or the block is refused for the first cause that it has: its line is told with the number of frames that are rescued, and then
--- its image sectors are written, zeros in the place of those that are lost.
+-- Or the block is refused for its first cause. Its line is reported with the number of frames that are salvaged. Then
+-- its image sectors are written, with zeros for those that are lost.
 pub record IsRefused (has : Option Cause) (layout : Layout) (k : ℕ) (entry : BlockPlan) (rows : List (List ℕ)) (marks : List (List Bool)) (steps : List Step) (kind : UnitKind) : Type 0 where
   pub cause : Cause
   pub first : has ≡ Some cause
@@ -57,7 +57,7 @@ IsRecovered layout zones form k = IsDoneByEntry (plan_of layout zones) (λ entry
 abbrev pub recover_units : Layout → Zones → Form → Units
 recover_units layout zones form = captured_units (length (plan_of layout zones)) form (IsRecovered layout zones form)
 
--- the twelve rows of frame f are good against the block that was recorded: none weighs anything
+-- the twelve rows of frame f are good against the block that was recorded: none of them is bad or lost
 abbrev pub HasGoodRows : List (List ℕ) → List (List ℕ) → List (List Bool) → ℕ → Type 0
 HasGoodRows block received marks f =
     (q : ℕ) → q < 12 → row_weight (line block (12 * f + q)) (line received (12 * f + q)) (marks_line marks (12 * f + q)) ≡ 0

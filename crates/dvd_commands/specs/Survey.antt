@@ -1,5 +1,5 @@
--- The command `survey`: block k is a captured block, whatever the disk has there. A line is written to the output with its
--- PI error rows, its failed rows and its cause, and after the last block a line of totals.
+-- The command `survey`: block k is a captured block, whatever the disk has there. A line is written to the output with
+-- its PI error rows, its failed rows and its cause, and after the last block a line of totals.
 use Rattle.std.specs.Prelude.{◌≡◌, ℕ, Some, None, Option, List, [], ◌∷◌, ◌++◌, length, map, zip, slice_get}
 use Rattle.dvd_capture.specs.Captured.{captured_rows, captured_marks}
 use Rattle.dvd_capture.specs.declared.form.Form.{Form}
@@ -19,11 +19,11 @@ use Rattle.dvd_report.specs.declared.counts.Surveyed.{Surveyed}
 use Rattle.dvd_commands.specs.Captured.{captured_part}
 use Rattle.dvd_commands.specs.Meaning.{Meaning, by_layout}
 
--- what is found of a captured block that stands for an entry of the plan
+-- what is found of a captured block, by its entry of the plan
 abbrev pub found_of : Form → List ℕ × BlockPlan → Surveyed
 found_of form captured = surveyed (captured_rows form captured.0) (captured_marks form captured.0) captured.1
 
--- what is found of the first blocks of a stream, these being their bytes
+-- what is found of the first blocks of a stream, by their bytes
 unfoldable pub found_in : Layout → Zones → Form → List (List ℕ) → List Surveyed
 found_in layout zones form blocks = map (found_of form) (zip blocks (plan_of layout zones))
 
@@ -32,14 +32,15 @@ abbrev pub kind_by : Option Cause → UnitKind
 kind_by None = Good
 kind_by (Some cause) = Bad
 
--- What is done for block k of the plan, whatever it holds: its line is written, which looks back on the blocks before it.
+-- What is done for block k of the plan, whatever it holds: its line is written, which depends on the blocks before it
+-- too.
 pub record IsSurveyed (layout : Layout) (zones : Zones) (form : Form) (k : ℕ) (before : List (List ℕ)) (own : List ℕ) (steps : List Step) (kind : UnitKind) : Type 0 where
   pub entry : BlockPlan
   pub stands : slice_get (plan_of layout zones) k ≡ Some entry
   pub writes : steps ≡ Write (survey_line k entry (found_in layout zones form (before ++ own ∷ []))) ∷ []
   pub answers : kind ≡ kind_by (block_cause (captured_rows form own) (captured_marks form own) entry)
 
--- Behind the last block, and before one byte more is asked for, the line of totals is written.
+-- After the last block, and before one more byte is requested, the line of totals is written.
 abbrev pub survey_units : Layout → Zones → Form → Units
 survey_units layout zones form = record {
   count = length (plan_of layout zones);

@@ -78,7 +78,7 @@ impl<'a> UnitCommand for Assembling<'a> {
         Ok(UnitKind::Good)
     }
 
-    // Before one byte more is asked for: where the input is too long, the line is true of what was written.
+    // Before one more byte is requested, so that the line is true of what was written even if the input is too long.
     fn close<K: Sink, E: Sink>(&self, out: &mut K, report: &mut E) -> Result<(), LoopEnd> {
         write_blocks(self.shelf, out)?;
         let line = placed_line(self.placed, self.frames.saturating_sub(self.placed));
@@ -89,8 +89,8 @@ impl<'a> UnitCommand for Assembling<'a> {
     }
 }
 
-/// Puts as many recording frames in order as the settings say. The shelf has the data blocks of the layout that the settings
-/// choose, and none of their places is seen yet.
+/// Puts the recording frames that the settings count in order. The shelf has the data blocks of the layout that the
+/// settings choose, and nothing is known of any of their bytes yet.
 pub fn assemble_loop<S: Source, K: Sink, E: Sink>(
     settings: &Settings,
     layout: &Layout,
@@ -162,7 +162,7 @@ fn read_frame<S: Source>(
     }
 }
 
-// Joins a frame to its home. Answers 1, or 0 where it has none.
+// Joins a frame to its home. Answers 1, or 0 for a stray.
 fn settle_frame(layout: &Layout, frame: &FrameWork, shelf: &mut Shelf) -> u32
     requires { length (tables_of shelf.old) ≡ length (plan_of layout.now DataOnly) }
     ensures count { result ≡ option_map_or (λ n. 1) (home layout.now (captured frame.now)) 0 }
@@ -174,7 +174,6 @@ fn settle_frame(layout: &Layout, frame: &FrameWork, shelf: &mut Shelf) -> u32
     }
 }
 
-// Writes all blocks in the marked form.
 fn write_blocks<K: Sink>(shelf: &Shelf, out: &mut K) -> Result<(), WriteFault>
     ensures { IsWritten (text_of (tables_of shelf.now)) (K.seen out.old) (K.seen out.new) result }
 {
@@ -184,7 +183,6 @@ fn write_blocks<K: Sink>(shelf: &Shelf, out: &mut K) -> Result<(), WriteFault>
     Ok(())
 }
 
-// The line of all frames.
 #[tactic(auto, unfolding(crate::specs::Assemble::placed_line))]
 fn placed_line(placed: u32, strays: u32) -> Line
     ensures { result ≡ placed_line placed strays }

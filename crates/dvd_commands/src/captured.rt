@@ -1,4 +1,4 @@
-//! Captured blocks, as the commands that read a stream of them take them.
+//! Captured blocks, as the commands that read a stream of them use them.
 ghost use Rattle.std.specs.Prelude.{◌≤◌, IfErr, OnOk};
 ghost use Rattle.dvd_capture.specs.Captured.{Captures};
 ghost use Rattle.dvd_capture.specs.Rule.{HasAnswers, HasBlock};
@@ -46,8 +46,8 @@ pub(crate) fn fetch_block<S: Source>(
     }
 }
 
-/// Tells the line of a block that is refused for this cause, and writes the image sectors of it that are saved, and zeros for
-/// the others.
+/// Reports the line of a block that is refused for this cause, and writes its image sectors: those that are salvaged,
+/// and zeros for the others.
 pub(crate) fn refuse_block<K: Sink, E: Sink>(
     block: &Planned<'_>,
     cause: &Cause,
@@ -80,7 +80,8 @@ pub(crate) fn write_sectors<K: Sink>(
     write_each(work.first_sectors(count), out)
 }
 
-/// Writes the sectors that these bytes are, each as one piece. After a fault a prefix of the bytes was taken.
+/// Writes the sectors in these bytes, each by a `write_whole` of its own. After a fault a prefix of the bytes was
+/// written.
 pub(crate) fn write_each<K: Sink>(sectors: &[u8], out: &mut K) -> Result<(), WriteFault>
     ensures { IsWritten sectors.now (K.seen out.old) (K.seen out.new) result }
 {

@@ -10,7 +10,8 @@ use dvd_loop::LoopEnd;
 use dvd_ports::{Sink, Source};
 use dvd_words::Settings;
 
-/// Makes a CD-ROM sector for each of `settings.sectors` sectors of 2,048 bytes, with addresses from `settings.address` on.
+/// Makes a CD-ROM sector for each of `settings.sectors` sectors of 2,048 bytes, with addresses from `settings.address`
+/// on.
 pub fn cdmake_loop<S: Source, K: Sink>(settings: &Settings, src: &mut S, out: &mut K) -> LoopEnd
     requires { HasAddresses settings.now }
     ensures follows { (report : Seen) → HasEnded (IsOutcome (cdmake_units settings.now.address settings.now.sectors))

@@ -48,8 +48,8 @@ impl PlainCommand for CdRead {
     }
 }
 
-/// Gives the user data of `settings.sectors` CD-ROM sectors with addresses from `settings.address` on, each repaired. A line
-/// names each that can't be, and zeros stand in its place.
+/// Gives the user data of `settings.sectors` CD-ROM sectors with addresses from `settings.address` on, each repaired. A
+/// line names each that stays wrong, and zeros are written in its place.
 pub fn cdread_loop<S: Source, K: Sink, E: Sink>(
     settings: &Settings,
     src: &mut S,
@@ -69,7 +69,7 @@ pub fn cdread_loop<S: Source, K: Sink, E: Sink>(
     run_owned(reading, src, out, report)
 }
 
-// Repairs a sector and writes its user data; or tells what is wrong with it and writes zeros.
+// Repairs a sector and writes its user data; or reports its first cause and writes zeros.
 fn give_sector<K: Sink, E: Sink>(
     address: u32,
     k: u32,

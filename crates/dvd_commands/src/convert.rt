@@ -1,4 +1,4 @@
-//! The command `convert`: captured blocks in the listed form, behind the header that states their layout.
+//! The command `convert`: captured blocks in the listed form, after the header that states their layout.
 ghost use Rattle.std.specs.Prelude.{◌≡◌, length, IsErr};
 ghost use Rattle.dvd_capture.specs.Captured.{HasSize};
 ghost use Rattle.dvd_capture.specs.Header.{header_bytes};
@@ -25,7 +25,7 @@ use dvd_ports::{NullSink, Sink, Source, write_whole};
 use dvd_words::{Command, Settings};
 use std::alloc::Global;
 
-/// Its blocks, whose number the layout tells, the header that opens them, and the memory of one block.
+/// Its blocks, in the number of the layout, the header that opens them, and the memory of one block.
 #[derive(Drop)]
 struct Converting<'a> {
     layout: Layout,
@@ -78,7 +78,8 @@ impl<'a> UnitCommand for Converting<'a> {
     }
 }
 
-/// Writes the header of the layout and of the zones that the settings choose, and then each captured block as a listed one.
+/// Writes the header of the layout and of the zones that the settings choose, and then each captured block as a listed
+/// one.
 pub fn convert_loop<S: Source, K: Sink>(
     settings: &Settings,
     layout: &Layout,

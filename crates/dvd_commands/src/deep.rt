@@ -78,8 +78,9 @@ impl<'a> PlainCommand for Deepening<'a> {
     }
 }
 
-/// Reads every block of the plan of the layout and the zones that the settings choose, by rounds where two passes refuse it,
-/// and writes its image sectors. A line names each that is refused, and zeros stand in the place of those that aren't saved.
+/// Reads every block of the plan of the layout and the zones that the settings choose, by rounds where two passes
+/// refuse it, and writes its image sectors. A line names each that is refused; zeros are written for its sectors that
+/// aren't salvaged.
 pub fn deep_loop<S: Source, K: Sink, E: Sink>(
     settings: &Settings,
     layout: &Layout,
@@ -140,8 +141,8 @@ pub(crate) fn run_deep<S: Source, K: Sink, E: Sink>(
     }
 }
 
-// Reads a block of image sectors and writes them, behind the line of its round where two passes refused it; or tells its cause
-// and writes those that are saved, and zeros for the others. Any other block is passed over.
+// Reads a block of image sectors and writes them, after the line of its round where two passes refused it. Or it
+// reports its cause, and writes those that are salvaged and zeros for the others. Any other block is passed over.
 fn deep_block<K: Sink, E: Sink>(
     block: &Planned<'_>,
     deep: &mut Deep,
@@ -180,8 +181,8 @@ fn deep_block<K: Sink, E: Sink>(
     }
 }
 
-// Looks by rounds for a block that was refused for this cause. Answers the round that gave it back, its frames being right,
-// with its Main Data in the piece; or why it is refused still.
+// Searches by rounds for a block that was refused for this cause. Answers the round that gave it back with right
+// frames, with its Main Data in the piece; or why it is still refused.
 fn search_block(
     entry: &BlockPlan,
     cause: Cause,
@@ -204,7 +205,7 @@ fn search_block(
     }
 }
 
-// Tells the line of a block that a round gave back, and writes its image sectors.
+// Reports the line of a block that a round gave back, and writes its image sectors.
 fn give_back<K: Sink, E: Sink>(
     k: u32,
     entry: &BlockPlan,

@@ -43,8 +43,8 @@ use std::thread::Threads;
 #[derive(Drop)]
 struct Counts {
     whole: u32, // blocks that gave back what was drawn
-    fixed: u64, // places in which the received blocks differ from those made
-    failed: u64, // received rows that have no codeword near
+    fixed: u64, // bytes in which the received blocks differ from those made
+    failed: u64, // received rows that are uncorrectable
 }
 
 impl Counts {
@@ -68,8 +68,8 @@ impl Counts {
     }
 }
 
-// Its blocks, the state that the next is drawn from, what was found so far, how a block gets its parity and is read, and the
-// memory of one block.
+// Its blocks, the state that the next is drawn from, what was found so far, how a block gets its parity and is read,
+// and the memory of one block.
 #[derive(Drop)]
 struct Exercise<'a, 'r, A, F> {
     seed: u32,
@@ -92,7 +92,7 @@ impl<'a, 'r, A: Fn(&mut Block), F: Fn(&mut Work, &BlockPlan) -> Result<Fixed, Ca
     for Exercise<'a, 'r, A, F> {
     ghost Key = { ℕ × ℕ × ℕ };
 
-    // The caller finds what the last block left in the work that it lent.
+    // With the name of the work, since the caller finds there what the last block left.
     ghost key = { λ e. (e.seed, e.blocks, e.work.ghost_name) };
 
     ghost units = { λ key. exercise_units key.0 key.1 };
@@ -148,7 +148,7 @@ impl<'a, 'r, A: Fn(&mut Block), F: Fn(&mut Work, &BlockPlan) -> Result<Fixed, Ca
     }
 }
 
-/// Draws, damages and reads back as many blocks as the settings say, from 1 to 4,096. The work then holds the last of them.
+/// Draws, damages and reads back `settings.blocks` blocks, from 1 to 4,096. The work then holds the last of them.
 pub fn exercise_loop<R: Threads + Sync, K: Sink, G: Gate>(
     rt: &R,
     settings: &Settings,
@@ -178,7 +178,7 @@ pub fn exercise_loop<R: Threads + Sync, K: Sink, G: Gate>(
     )
 }
 
-// The same beside any source, which stays as it is.
+// Likewise with any source, which stays as it is: the loop takes one, though these units read nothing.
 fn follow_trials<R: Threads + Sync, S: Source, K: Sink, G: Gate>(
     rt: &R,
     settings: &Settings,
@@ -213,7 +213,7 @@ fn follow_trials<R: Threads + Sync, S: Source, K: Sink, G: Gate>(
     follow_by(&add, &read, settings, block, piece, work, src, out)
 }
 
-// The same with what gives a block its parity, and what reads it.
+// Likewise with what gives a block its parity, and what reads it.
 fn follow_by<
     'a,
     'r,
@@ -289,7 +289,6 @@ pub(crate) fn run_exercise<R: Threads + Sync, S: Source, K: Sink, G: Gate>(
     ))
 }
 
-// A disk with one layer of so many blocks.
 fn disk_of(blocks: u32) -> Layout
     requires some { 1 ≤ blocks }
     requires few { blocks ≤ 4096 }
@@ -369,7 +368,6 @@ fn read_back<F: Fn(&mut Work, &BlockPlan) -> Result<Fixed, Cause>>(
     }
 }
 
-// Whether the sectors that were read are those of an image.
 #[tactic(auto, unfolding(crate::specs::Inner::Exercising::are_sectors))]
 fn has_sectors(work: &Work, image: &[u8]) -> bool
     requires { length image.now ≡ 32768 }
@@ -378,7 +376,6 @@ fn has_sectors(work: &Work, image: &[u8]) -> bool
     (0..16).all(|f| is_sector(work, image, f))
 }
 
-// Whether sector `f` is that of the image.
 fn is_sector(work: &Work, image: &[u8], f: usize) -> bool
     requires size { length image.now ≡ 32768 }
     requires sector { f < 16 }
@@ -387,7 +384,6 @@ fn is_sector(work: &Work, image: &[u8], f: usize) -> bool
     work.sector(f) == &image[2048 * f..2048 * f + 2048]
 }
 
-// The line of all blocks.
 #[tactic(auto, unfolding(crate::specs::Exercise::exercise_line))]
 fn exercise_line(seed: u32, blocks: u32, counts: &Counts) -> Line
     ensures { result ≡ exercise_line seed blocks counts.now.whole counts.now.fixed counts.now.failed }

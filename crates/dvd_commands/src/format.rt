@@ -6,7 +6,7 @@ ghost use Rattle.dvd_commands.specs.Info.{format_lines, number_line, sector_line
 use dvd_control::PhysicalFormat;
 use dvd_report::Line;
 
-/// The eleven lines that tell a physical format.
+/// The eleven lines of a physical format.
 #[tactic(auto, unfolding(crate::specs::Info::format_lines))]
 pub fn format_lines(format: &PhysicalFormat) -> Line
     ensures { result ≡ format_lines (fields_of format.now) }
@@ -41,7 +41,6 @@ fn path_line(opposite: bool) -> &'static [u8]
     }
 }
 
-// A line with a number in decimal.
 fn put_number(lines: &mut Line, name: &[u8], number: u8)
     requires { length lines.old + length name.now + 4 ≤ 256 }
     ensures bytes { lines.new ≡ lines.old ++ number_line name.now number }
@@ -52,7 +51,6 @@ fn put_number(lines: &mut Line, name: &[u8], number: u8)
     lines.put(b"\n");
 }
 
-// A line with a sector number in six hexadecimal digits.
 fn put_sector(lines: &mut Line, name: &[u8], number: u32)
     requires { length lines.old + length name.now + 7 ≤ 256 }
     ensures bytes { lines.new ≡ lines.old ++ sector_line name.now number }

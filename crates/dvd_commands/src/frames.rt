@@ -10,7 +10,8 @@ use dvd_loop::LoopEnd;
 use dvd_ports::{Sink, Source};
 use dvd_words::Settings;
 
-/// Makes a scrambled data frame for each of `settings.sectors` sectors of 2,048 bytes, numbered from `settings.first` on.
+/// Makes a scrambled data frame for each of `settings.sectors` sectors of 2,048 bytes, numbered from `settings.first`
+/// on.
 pub fn frames_loop<S: Source, K: Sink>(settings: &Settings, src: &mut S, out: &mut K) -> LoopEnd
     requires { HasSectors settings.now }
     ensures follows { (report : Seen) → HasEnded (IsOutcome (frames_units settings.now.first settings.now.sectors))

@@ -1,4 +1,4 @@
-//! The command `info`: the physical format that the lead-in of a disk tells.
+//! The command `info`: the physical format in the lead-in of a disk.
 ghost use Rattle.std.specs.Prelude.{◌≡◌, ◌≤◌, ◌+◌, ℕ, None, IsErr, IfSome};
 ghost use Rattle.dvd_capture.specs.Rule.{HasBlock};
 ghost use Rattle.dvd_capture.specs.Works.{rows_of, marks_of_work, stage_of};
@@ -30,7 +30,7 @@ use dvd_read::read_block;
 use dvd_words::{Command, Settings};
 use std::alloc::Global;
 
-// The blocks of the lead-in behind its Initial Zone, up to the last of control data.
+// The blocks of the lead-in after its Initial Zone, up to the last of control data.
 const BLOCKS_BEHIND_INITIAL: u32 = 224;
 
 /// The blocks of the lead-in up to the last of control data, and the memory of one block.
@@ -122,7 +122,7 @@ pub(crate) fn run_info<S: Source, K: Sink>(
     }
 }
 
-// The same of a listed capture: its header, and then its blocks.
+// Likewise for a listed capture: its header, and then its blocks.
 fn info_listed<S: Source, K: Sink>(
     settings: &Settings,
     work: &mut Work,
@@ -139,7 +139,7 @@ fn info_listed<S: Source, K: Sink>(
     }
 }
 
-// Asks a block of control data for the physical format. Any other block is passed over.
+// Seeks the physical format in a block of control data. Any other block is passed over.
 fn ask_block<K: Sink>(entry: &BlockPlan, work: &mut Work, out: &mut K) -> Result<UnitKind, LoopEnd>
     requires numbers { HasNumbers entry.now }
     requires stage { HasBlock (stage_of work.old) }
@@ -165,7 +165,7 @@ fn ask_control<K: Sink>(
     let Some(format) = format_in(entry, work) else {
         return Ok(UnitKind::Good);
     };
-    // One piece, so that the output has a front of these lines after a fault.
+    // One write, so that the output has a prefix of these lines after a fault.
     write_whole(out, format_lines(&format).as_slice())?;
     Ok(UnitKind::Last)
 }

@@ -1,7 +1,7 @@
 //! What holds of what each command does: each function's contract is one law, and its body is empty.
 ghost use Rattle.dvd_commands.specs.Laws.{ImageIsTakenInOrder, ImageIsTakenWhole, DamageWithinTheBoundIsRepaired, GoodFramesOfARefusedBlockAreGiven, DrawnFramesAreMastered, InfoFindsTheFirstAnswer, BorneSectorsAreKept, CapturedFramesAreAssembled, BrokenFieldIsFound};
 
-/// The blocks before a data block take as many bytes as the image has before its first sector.
+/// The blocks before a data block read all bytes that the image has before its first sector.
 pub fn image_is_taken_in_order()
     ensures { ImageIsTakenInOrder }
 {}
@@ -26,17 +26,18 @@ pub fn drawn_frames_are_mastered()
     ensures { DrawnFramesAreMastered }
 {}
 
-/// What `info` writes and takes of an input is told by the first control block that answers.
+/// What `info` writes and reads of an input depends on the first control block that answers.
 pub fn info_finds_the_first_answer()
     ensures { InfoFindsTheFirstAnswer }
 {}
 
-/// A loop of `cdread` gives back the user data of each CD-ROM sector whose damage is borne, whatever ended it.
+/// A loop of `cdread` gives back the user data of each CD-ROM sector whose damage is within the bound, whatever ended
+/// it.
 pub fn borne_sectors_are_kept()
     ensures { BorneSectorsAreKept }
 {}
 
-/// Frames that were captured of mastered ones are put in order as they were mastered, and are nowhere in conflict.
+/// Captured frames of mastered ones are put in order as they were mastered, without a conflict.
 pub fn captured_frames_are_assembled()
     ensures { CapturedFramesAreAssembled }
 {}

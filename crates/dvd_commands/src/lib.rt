@@ -1,10 +1,10 @@
 //! The commands of dvdecc: how each begins, and what it does for each unit of its input.
-//! All share one loop. A command without a report lends it a `NullSink`, and promises its run beside any report. The crate
-//! above, dvd_top, says with which line and status a run ends.
+//! All share one loop. A command without a report lends it a `NullSink`, and promises its run with any report. The
+//! crate above, dvd_top, says with which line and status a run ends.
 #![tactic(auto)]
 
 mod assemble; // scattered recording frames put in order
-mod captured; // captured blocks, as the commands that read a stream of them take them
+mod captured; // captured blocks, as the commands that read a stream of them use them
 mod cd_line; // the line of a damaged CD-ROM sector
 mod cd_make; // a CD-ROM sector for each sector of user data
 mod cd_read; // the user data of CD-ROM sectors
@@ -14,7 +14,7 @@ mod dispatch; // which command runs
 mod exercise; // blocks that are drawn, damaged and read back
 mod format; // the lines of a physical format
 mod frames; // a scrambled data frame for each sector
-mod info; // the physical format that the lead-in of a disk tells
+mod info; // the physical format in the lead-in of a disk
 pub mod laws; // what holds of what each command does
 mod making; // what `frames` and `cdmake` have in common: something is made of each sector
 mod master; // the recording frames of each ECC block of a disk

@@ -23,7 +23,7 @@ pub(crate) enum Made {
     CdSector,
 }
 
-/// The sectors that are taken: what is made of each, the number or address of the first, and how many.
+/// The sectors that are read: what is made of each, the number or address of the first, and how many.
 #[derive(Drop)]
 struct Making {
     made: Made,
@@ -60,7 +60,7 @@ impl PlainCommand for Making {
     }
 }
 
-/// Makes this of each of so many sectors, the first of which has that number or address.
+/// Makes this of each sector. The first of them has that number or address.
 pub(crate) fn make_each<S: Source, K: Sink>(
     made: Made,
     first: u32,
@@ -81,7 +81,6 @@ pub(crate) fn make_each<S: Source, K: Sink>(
     run_owned(making, src, out, &mut NullSink::new())
 }
 
-// Makes this of one sector and writes it.
 fn write_made<K: Sink>(
     made: Made,
     number: u32,
@@ -107,7 +106,6 @@ fn write_made<K: Sink>(
     Ok(UnitKind::Good)
 }
 
-// The frame of a sector in the Data Zone of a disk with one layer.
 fn write_frame(number: u32, sector: &[u8; 2048], frame: &mut [u8; 2064])
     requires { number < 2 ^ 24 }
     ensures { IsSectorFrame number sector.now frame.new }

@@ -141,7 +141,6 @@ pub(crate) fn run_master<R: Threads + Sync, S: Source, K: Sink, G: Gate>(
     ))
 }
 
-// How many bytes of the image a block takes.
 fn image_size(layout: &Layout, entry: &BlockPlan) -> usize
     ensures value { result ≡ image_bytes layout.now entry.now }
     ensures most { result ≤ 32768 }
@@ -149,7 +148,7 @@ fn image_size(layout: &Layout, entry: &BlockPlan) -> usize
     2048 * layout.image_sectors(entry.content)
 }
 
-// Reads the image bytes of block `k` to the front of the piece, and zeros behind them.
+// Reads the image bytes of block `k` to the beginning of the piece, and fills the rest with zeros.
 fn read_image<S: Source>(src: &mut S, k: u32, piece: &mut Piece, size: usize) -> Result<(), LoopEnd>
     requires { size ≤ 32768 }
     ensures length { length (piece_bytes piece.new) ≡ 32768 }
@@ -164,8 +163,8 @@ fn read_image<S: Source>(src: &mut S, k: u32, piece: &mut Piece, size: usize) ->
     Ok(())
 }
 
-/// What a block is mastered of: its entry in the plan of the layout, the six bytes of CPR_MAI, and its image bytes, with zeros
-/// behind them.
+/// What a block is mastered of: its entry in the plan of the layout, the six bytes of CPR_MAI, and its image bytes,
+/// filled with zeros.
 #[derive(Drop)]
 pub(crate) struct Mastered<'a> {
     pub layout: &'a Layout,
@@ -182,7 +181,7 @@ pub(crate) fn fill_block<F: Fn(&mut Block)>(given: &Mastered<'_>, add: &F, block
     requires adder { IsAdder F.Fn add.now }
     ensures { IsBlockOf (frames_of given.now.layout.now given.now.entry.now given.now.cpr.now given.now.sectors.now) (block_rows block.new) }
 {
-    // The frames of a block have one preset.
+    // All frames of a block have the same preset of the scrambler, so its sequence is made once.
     let mut scrambler = Scrambler::new();
     let mut frame = [0; 2064];
     for f in 0..16 {

@@ -67,8 +67,8 @@ impl<'a> PlainCommand for Merging<'a> {
     }
 }
 
-/// Joins the captures of each block of the plan of the layout and the zones that the settings choose: a captured block of
-/// each of them, one after the other.
+/// Joins the captures of each block of the plan of the layout and the zones that the settings choose: a captured block
+/// of each of them, one after the other.
 pub fn merge_loop<S: Source, K: Sink>(
     settings: &Settings,
     layout: &Layout,
@@ -115,7 +115,7 @@ pub(crate) fn run_merge<S: Source, K: Sink>(
     Ok(merge_loop(settings, &layout, &mut merge, &mut work, src, out))
 }
 
-// Joins the captures of block `k`, these alone, or answers how the loop ends within them.
+// Joins the captures of block `k`, or answers how the loop ends within them. The join doesn't depend on earlier blocks.
 fn take_captures<S: Source>(
     src: &mut S,
     k: u32,

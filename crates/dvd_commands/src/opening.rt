@@ -1,5 +1,5 @@
 //! The header that a listed capture opens with.
-//! It is read before the loop, which then runs by the settings that it states: so each loop is the one of the other forms.
+//! It is read before the loop, which then runs by the settings that it states: so the loop is that of the other forms.
 ghost use Rattle.std.specs.Prelude.{◌≡◌, ◌<◌, ℕ, List, Some, IfOk, IfErr};
 ghost use Rattle.dvd_capture.specs.Header.{header_bytes};
 ghost use Rattle.dvd_layout.specs.Lengths.{initial_fault};
@@ -23,17 +23,17 @@ use dvd_words::Settings;
 pub enum HeaderEnd {
     /// A header, which states this layout and these zones.
     Found { layout: Layout, zones: Zones },
-    /// The input ended in the header, after so many bytes.
+    /// The input ended in the header, after this number of bytes.
     Short { bytes: u32 },
-    /// 32 bytes that break a rule, whose field begins at that byte.
+    /// 32 bytes that break a rule; the field that breaks it begins at this byte.
     BadHeader { at: u32 },
     /// A read failed before all 32 bytes came.
     ReadFault,
 }
 
-/// Reads the header of a listed capture: 32 bytes, and none behind them. It is Short exactly where the input ended before,
-/// BadHeader exactly where a byte can't stand in a header or the layout that it states breaks a rule, and ReadFault only
-/// where a read failed.
+/// Reads the header of a listed capture: 32 bytes, and none after them. It is `Short` exactly where the input ended
+/// before. It is `BadHeader` exactly where a byte isn't allowed in a header or the layout that it states breaks a rule.
+/// It is `ReadFault` only where a read failed.
 pub fn listed_layout<S: Source>(src: &mut S) -> HeaderEnd
     ensures header { ReadsHeader result (S.seen src.old) (S.seen src.new) }
     ensures counts { HeaderCounts result (S.seen src.old) (S.seen src.new) }
@@ -156,7 +156,7 @@ fn layer_byte(layer: u8) -> u32
     if layer == 0 { 12 } else { 16 }
 }
 
-/// The layout that the words ask for, or the first rule that it breaks; none where a listed capture states its own.
+/// The layout that the arguments ask for, or the first rule that it breaks; none where a listed capture states its own.
 pub(crate) fn layout_from_arguments(settings: &Settings) -> Result<Option<Layout>, LayoutFault>
     ensures worded { IfOk result (IsWorded settings.now) }
     ensures refused { IfErr result (λ fault. HasSize settings.now.form × (broken_rule settings.now ≡ Some fault)) }
@@ -167,7 +167,8 @@ pub(crate) fn layout_from_arguments(settings: &Settings) -> Result<Option<Layout
     }
 }
 
-/// The length of the Initial Zone that the words ask for, or the rule that it breaks; none where a listed capture states its own.
+/// The length of the Initial Zone that the arguments ask for, or the rule that it breaks; none where a listed capture
+/// states its own.
 pub(crate) fn worded_initial(settings: &Settings) -> Result<Option<u32>, LayoutFault>
     ensures worded { IfOk result (IsWordedInitial settings.now) }
     ensures refused { IfErr result (λ fault. HasSize settings.now.form × (initial_fault settings.now.initial ≡ Some fault)) }
@@ -215,8 +216,8 @@ pub(crate) fn open_listed<S: Source>(settings: &Settings, src: &mut S) -> Result
     }
 }
 
-/// The settings and the layout by which a command goes over its blocks: those of its words, or those that the header of a listed
-/// capture states, which is read here; or how the run ends in that header.
+/// The settings and the layout by which a command goes over its blocks: those of its arguments, or those that the
+/// header of a listed capture states, which is read here; or how the run ends in that header.
 pub(crate) fn open_blocks<S: Source>(
     settings: &Settings,
     worded: Option<Layout>,

@@ -77,8 +77,8 @@ impl<'a, 'r, F: Fn(&mut Work, &BlockPlan) -> Result<Fixed, Cause>> PlainCommand
     }
 }
 
-/// Reads every block of the plan of the layout and the zones that the settings choose, and writes its image sectors. A line
-/// names each that is refused, and zeros stand in the place of its sectors that aren't saved.
+/// Reads every block of the plan of the layout and the zones that the settings choose, and writes its image sectors. A
+/// line names each that is refused, and zeros are written for its sectors that aren't salvaged.
 pub fn recover_loop<R: Threads + Sync, S: Source, K: Sink, E: Sink, G: Gate>(
     rt: &R,
     settings: &Settings,
@@ -149,8 +149,8 @@ pub(crate) fn run_recover<R: Threads + Sync, S: Source, K: Sink, E: Sink, G: Gat
     }
 }
 
-// Decodes a block of image sectors and writes them; or tells its cause and writes those that are saved, and zeros for the
-// others. Any other block is passed over.
+// Decodes a block of image sectors and writes them. Or it reports its cause, and writes those that are salvaged and
+// zeros for the others. Any other block is passed over.
 fn recover_block<F: Fn(&mut Work, &BlockPlan) -> Result<Fixed, Cause>, K: Sink, E: Sink>(
     block: &Planned<'_>,
     read: &F,

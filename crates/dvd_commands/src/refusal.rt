@@ -8,7 +8,7 @@ use dvd_ports::NoMemory;
 /// Why a command doesn't begin.
 #[derive(Clone, Copy, Debug, PartialEq, Eq)]
 pub enum Refusal {
-    /// The layout that the settings ask for is not lawful.
+    /// The layout that the settings ask for is not valid.
     Setting(LayoutFault),
     /// There is no memory for its buffers.
     NoMemory,

@@ -85,14 +85,15 @@ impl<'a, 'r, F: Fn(&mut Work, &BlockPlan) -> Result<Fixed, Cause>> UnitCommand
         survey_block(&entry, self.read, self.survey, self.work, out)
     }
 
-    // Before one byte more is asked for, so that an input that is too long has its totals too.
+    // Before one more byte is requested, so that an input that is too long has its totals too.
     fn close<K: Sink, E: Sink>(&self, out: &mut K, _report: &mut E) -> Result<(), LoopEnd> {
         self.survey.write_totals(out)?;
         Ok(())
     }
 }
 
-/// Surveys every block of the plan of the layout and the zones that the settings choose. The survey has no block before.
+/// Surveys every block of the plan of the layout and the zones that the settings choose. The survey has to be empty
+/// before.
 #[tactic(auto, unfolding(crate::specs::Survey::found_in))]
 pub fn survey_loop<R: Threads + Sync, S: Source, K: Sink, G: Gate>(
     rt: &R,
@@ -191,7 +192,6 @@ fn survey_block<F: Fn(&mut Work, &BlockPlan) -> Result<Fixed, Cause>, K: Sink>(
     Ok(kind_of(&answer))
 }
 
-// A block with a cause is bad.
 fn kind_of(answer: &Result<Fixed, Cause>) -> UnitKind
     ensures { result ≡ kind_by (result_err answer.now) }
 {

@@ -1,6 +1,6 @@
 //! What the workers do for a unit of a command: a closure, which the loop made, holds them.
-//! Processing a unit is a method of a trait. What it sent to a thread would rest on what its caller can't promise, that the runtime
-//! and the gate may be shared. The function that makes the loop knows this, so it makes the closure.
+//! Processing a unit is a method of a trait, whose caller can't promise that the runtime and the gate may be shared
+//! with threads. The function that makes the loop knows this, so it makes the closure.
 ghost use Rattle.dvd_block.specs.Buffers.{block_rows};
 ghost use Rattle.coding.specs.Product.{IsParityAdded};
 ghost use Rattle.dvd_capture.specs.Rule.{HasBlock};
@@ -14,7 +14,7 @@ use dvd_capture::Work;
 use dvd_layout::BlockPlan;
 use dvd_read::{Cause, Fixed};
 
-/// What makes the workers of a run, and what each of them asks before a piece.
+/// What makes the workers of a run, and the gate that each of them asks before a piece.
 #[derive(Drop)]
 pub struct Workers<'a, R, G> {
     pub rt: &'a R,

@@ -1,5 +1,5 @@
--- Control data stand in lead-ins alone: on layer 0, and on layer 1 where its track is read from the inside. And the Main Data
--- of entries that hold no image, by their content.
+-- Control data are in lead-ins alone: on layer 0, and on layer 1 where its track is read from the inside. Also the Main
+-- Data of entries that hold no image, by their content.
 use Rattle.std.proofs.Common.{◌≡◌, ℕ, All, ◌≢◌, replicate, nat_eq, false, inl, inr, refl, subst, arith}
 use Rattle.std.specs.List.{AllByRecursion}
 use Rattle.std.proofs.lemmas.Bool.Decides.{nat_tests}

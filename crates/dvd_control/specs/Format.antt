@@ -10,13 +10,13 @@ use Rattle.dvd_control.specs.declared.format.PhysicalFormat.{PhysicalFormat}
 use Rattle.dvd_control.specs.declared.format.ControlFault.{ControlFault}
 use Rattle.dvd_control.specs.declared.format.ControlFault.TheVariants.{Category, Size, Layers, Range}
 
--- What a physical format tells, as plain numbers.
+-- What a physical format says, as plain numbers.
 pub record Fields : Type 0 where
   -- the version of the format; 1 is the first
   pub version : ℕ
-  -- the maximum rate of the channel behind the decoder: 0 is 2.52 Mbit/s, 1 is 5.04, 2 is 10.08
+  -- the maximum rate of the channel after the decoder: 0 is 2.52 Mbit/s, 1 is 5.04, 2 is 10.08
   pub rate : ℕ
-  -- whether there are two layers, and whether their track path is the opposite one, on which layer 1 goes on where layer 0 ends
+  -- whether there are two layers, and whether their track path is the opposite one: layer 1 goes on where layer 0 ends
   pub two_layers : Bool
   pub opposite : Bool
   -- the kind of the layers, a bit for each: 1 has embossed data, 2 a recordable and 4 a rewritable area
@@ -69,11 +69,11 @@ head_bytes format =
     ++ 0 ∷ three_bytes format.layer0_last
     ++ (if format.bca then 128 else 0) ∷ []
 
--- the whole sector: zeros behind
+-- the whole sector: zeros follow
 unfoldable pub format_bytes : Fields → List ℕ
 format_bytes format = head_bytes format ++ replicate 2031 0
 
--- what a sector tells; the other bits are passed over
+-- what a sector says; the other bits aren't read
 unfoldable pub fields_in : List ℕ → Fields
 fields_in bytes = record {
   version = slice_index bytes 0 % 16;
@@ -89,8 +89,8 @@ fields_in bytes = record {
   bca = slice_index bytes 16 / 128 == 1;
 }
 
--- the first rule that a sector breaks: a category or a size that isn't 0, more than two layers, a Data Zone that doesn't
--- begin at 030000 or ends before
+-- the first rule that a sector breaks: a category or a size that isn't 0, more than two layers, or a Data Zone that
+-- doesn't begin at 030000 or ends before it begins
 unfoldable pub control_fault : List ℕ → Option ControlFault
 control_fault bytes =
     if nat_lt 15 (slice_index bytes 0) then Some (Category (slice_index bytes 0))
@@ -99,8 +99,8 @@ control_fault bytes =
     else if not (number_at bytes 5 == data_first) || nat_lt (number_at bytes 9) (number_at bytes 5) then Some (Range (number_at bytes 5) (number_at bytes 9))
     else None
 
--- the physical format that the lead-in of a layer tells: version 1, 10.08 Mbit/s, no burst cutting area; the last sector is
--- that layer's, and on the opposite track path layer 1's
+-- The physical format in the lead-in of a layer: version 1, 10.08 Mbit/s, no burst cutting area. The last sector is
+-- that of this layer, or on the opposite track path that of layer 1.
 unfoldable pub fields_for : Layout → ℕ → Fields
 fields_for layout layer = record {
   version = 1;

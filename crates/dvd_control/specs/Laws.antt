@@ -26,7 +26,7 @@ data_blocks layout layer = filter (λ entry. is_data entry.area && (entry.layer 
 abbrev pub last_block : List BlockPlan → Option BlockPlan
 last_block blocks = slice_get blocks (length blocks - 1)
 
--- the layer on which the Data Zone ends that the lead-in of a layer tells: on the opposite track path, layer 1
+-- the layer on which the Data Zone ends that the lead-in of a layer describes: on the opposite track path, layer 1
 abbrev pub ends_on : Shape → ℕ → ℕ
 ends_on Single layer = layer
 ends_on Parallel layer = layer

@@ -6,8 +6,8 @@ use Rattle.dvd_layout.specs.declared.entry.Content.TheVariants.{Zero, Reference,
 use Rattle.dvd_layout.specs.declared.layout.Layout.{Layout}
 use Rattle.dvd_control.specs.Format.{fields_for, format_bytes}
 
--- The Main Data of frame f of an entry that isn't image: zeros; the reference code AC; the physical format in frame 0 of each
--- block of control data and zeros in the others.
+-- The Main Data of frame f of an entry that isn't image: zeros; the reference code AC; or in control data the physical
+-- format in frame 0 of each block and zeros in the others.
 unfoldable pub main_bytes : Layout → BlockPlan → ℕ → List ℕ
 main_bytes layout entry f = main_by entry.content
   where

@@ -1,4 +1,4 @@
-//! The physical format of a disk, as the Control Data Zone tells it.
+//! The physical format of a disk, as it is in the Control Data Zone.
 ghost use Rattle.std.specs.Prelude.{◌≡◌, ◌+◌, ◌-◌, ◌<◌, ◌≤◌, ◌^◌, None, Some, IfErr, IfOk};
 ghost use Rattle.dvd_layout.specs.Lengths.{data_first};
 
@@ -6,7 +6,7 @@ use crate::numbers::{last_of, last_of_layer_0, number_at, three_bytes};
 use dvd_layout::{DATA_FIRST, Layout};
 use thiserror::Error;
 
-/// What the physical format tells of a disk: version of the format, maximum rate, layers and track path, kind of the
+/// What the physical format says of a disk: version of the format, maximum rate, layers and track path, kind of the
 /// layers, channel bit length and track pitch by their numbers, the first and the last sector of the Data Zone, the
 /// last one of layer 0 on the opposite track path, and whether there is a burst cutting area.
 #[derive(Clone, Copy, Debug, PartialEq, Eq)]
@@ -49,7 +49,7 @@ pub struct PhysicalFormat {
     pub ghost ends: { first ≤ last },
     /// Its last sector number has 24 bits.
     pub ghost last_number: { last < 2 ^ 24 },
-    /// So has the last one of layer 0.
+    /// The last sector number of layer 0 has 24 bits too.
     pub ghost layer0_number: { layer0_last < 2 ^ 24 },
 }
 
@@ -59,13 +59,13 @@ pub enum ControlFault {
     /// The disk isn't a read-only disk.
     #[error("category {byte}")]
     Category { byte: u8 },
-    /// The disk hasn't 120 mm.
+    /// The disk isn't one of 120 mm.
     #[error("size {byte}")]
     Size { byte: u8 },
     /// The disk has neither one layer nor two.
     #[error("layers {byte}")]
     Layers { byte: u8 },
-    /// The Data Zone doesn't begin at 030000, or ends before.
+    /// The Data Zone doesn't begin at 030000, or ends before it begins.
     #[error("range {first} {last}")]
     Range { first: u32, last: u32 },
 }
@@ -76,7 +76,7 @@ impl PhysicalFormat {
     ghost use Rattle.dvd_control.specs.Format.{HasLeadIn, control_fault, fields_for, fields_in, fields_of, format_bytes, head_bytes};
 
     #[tactic(auto, unfolding(crate::specs::Format::fields_for))]
-    /// The physical format that the lead-in of a layer of a disk tells.
+    /// The physical format in the lead-in of this layer of a disk.
     pub fn of_layout(layout: &Layout, layer: u8) -> PhysicalFormat
         requires { HasLeadIn layout.now.shape layer }
         ensures { fields_of result ≡ fields_for layout.now layer }
@@ -99,7 +99,7 @@ impl PhysicalFormat {
     }
 
     #[tactic(auto, unfolding(crate::specs::Format::format_bytes))]
-    /// Writes the sector that tells this format: 17 bytes, and zeros behind.
+    /// Writes the sector of this format: 17 bytes, and then zeros.
     pub fn to_bytes(&self, out: &mut [u8; 2048])
         ensures { out.new ≡ format_bytes (fields_of self.now) }
     {
@@ -107,7 +107,6 @@ impl PhysicalFormat {
         out[..17].copy_from_slice(&self.head());
     }
 
-    // The first 17 bytes of the sector.
     fn head(&self) -> [u8; 17]
         ensures { result ≡ head_bytes (fields_of self.now) }
     {
@@ -138,7 +137,7 @@ impl PhysicalFormat {
     }
 
     #[tactic(auto, using(std::proofs::lemmas::Bool::Decides::nat_tests), unfolding(crate::specs::Format::control_fault, crate::specs::Format::fields_in))]
-    /// Reads bytes 0 to 16 of a sector and passes over the rest, or answers the first rule that it breaks.
+    /// The format in bytes 0 to 16 of a sector, or the first rule that these break. The rest of the sector isn't read.
     pub fn from_bytes(bytes: &[u8; 2048]) -> Result<PhysicalFormat, ControlFault>
         ensures refused { IfErr result (λ fault. control_fault bytes.now ≡ Some fault) }
         ensures lawful { IfOk result (λ format. control_fault bytes.now ≡ None) }
@@ -175,7 +174,7 @@ impl PhysicalFormat {
     }
 }
 
-// The version of the format that is written.
+// The version of the format that `of_layout` names.
 const VERSION: u8 = 1;
 
 // The number of the maximum rate 10.08 Mbit/s.

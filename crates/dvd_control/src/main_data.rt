@@ -11,7 +11,7 @@ use dvd_layout::{BlockPlan, Content, Layout};
 const REFERENCE: u8 = 0xAC;
 
 /// Writes the Main Data of frame `f` of an entry of a plan that isn't image: zeros, the reference code, or the control
-/// data, which have the physical format of that layer in frame 0 of each block.
+/// data. Control data have the physical format of the entry's layer in frame 0 of each block, and zeros in the others.
 pub fn main_of(layout: &Layout, plan: &BlockPlan, f: usize, out: &mut [u8; 2048])
     requires frame { f < 16 }
     requires entry { IsEntry layout.now plan.now }

@@ -6,7 +6,7 @@ ghost use Rattle.dvd_control.specs.Format.{HasLeadIn, fields_for, number_at, thr
 use byteorder::{BigEndian, ByteOrder};
 use dvd_layout::{DATA_FIRST, Layout, Shape};
 
-// The last of these data sectors, which fill whole ECC blocks from `first` on.
+// The last of `sectors` data sectors, which fill whole ECC blocks from `first` on.
 fn last_from(first: u32, sectors: u32) -> u32
     requires begins { 0 < first }
     requires ends { first + padded sectors ≤ 2 ^ 24 }
@@ -15,14 +15,13 @@ fn last_from(first: u32, sectors: u32) -> u32
     first + 16 * sectors.div_ceil(16) - 1
 }
 
-// The last sector of the data of layer 0.
 pub(crate) fn last_of_layer_0(layout: &Layout) -> u32
     ensures { result ≡ data_first + padded layout.now.sectors0 - 1 }
 {
     last_from(DATA_FIRST, layout.sectors0)
 }
 
-// The last sector of the Data Zone that the lead-in of a layer tells.
+// The last sector of the Data Zone that the lead-in of a layer names.
 #[tactic(auto, unfolding(crate::specs::Format::fields_for))]
 pub(crate) fn last_of(layout: &Layout, layer: u8) -> u32
     requires { HasLeadIn layout.now.shape layer }
@@ -47,7 +46,7 @@ pub(crate) fn three_bytes(number: u32) -> [u8; 3]
     bytes
 }
 
-// The sector number in three bytes from place i on.
+// The sector number in three bytes from place `i` on, the most significant byte first.
 pub(crate) fn number_at(bytes: &[u8; 2048], i: usize) -> u32
     requires { i ≤ 2045 }
     ensures value { result ≡ number_at bytes.now i }

@@ -20,7 +20,7 @@ const PARALLEL_LAYER_1: [u8; 17] = [
     0x00,
 ];
 
-// The sector with these first bytes, and zeros behind.
+// The sector with these first bytes, and then zeros.
 fn sector(head: &[u8; 17]) -> [u8; 2048] {
     let mut bytes = [0; 2048];
     bytes[..17].copy_from_slice(head);

@@ -1,4 +1,4 @@
--- The Main Data of a block's frames, one sector behind the other.
+-- The Main Data of a block's frames, one sector after the other.
 use Rattle.std.proofs.Common.{◌≡◌, ◌≢◌, ◌⊎◌, ◌∙◌, ℕ, ◌+◌, ◌*◌, ◌<◌, List, [], ◌∷◌, ◌++◌, length, map, take, get_or, replicate, inl, inr, sym, ap, arith}
 use Rattle.std.specs.List.{flat_map, range_with_len}
 use Rattle.std.proofs.lemmas.List.{append-nil, get_or-replicate, length-replicate, take_all}

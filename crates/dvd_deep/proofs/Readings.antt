@@ -1,4 +1,4 @@
--- What is read by rounds beside what two passes answer.
+-- What is read by rounds, compared with what two passes answer.
 use Rattle.std.proofs.Common.{◌≡◌, ◌∙◌, ℕ, Bool, true, List, length, refl, sym, ap, Some, None, is_some}
 use Rattle.std.specs.Option.{option_map, option_or}
 use Rattle.std.specs.declared.option.Option.{Option}

@@ -18,8 +18,8 @@ abbrev pub WhatIsFoundIsProduct : Type 0
 WhatIsFoundIsProduct =
     (received : List (List ℕ)) (marks : List (List Bool)) (block : List (List ℕ)) → deep_block received marks ≡ Some block → IsProduct block
 
--- Where each received byte that isn't marked is that of a product codeword, the block that is given back is no other,
--- however many places are marked.
+-- Where each received byte that isn't marked is that of a product codeword, no other block is given back, however many
+-- places are marked.
 abbrev pub TrueBytesGiveTheBlock : Type 0
 TrueBytesGiveTheBlock =
     (received : List (List ℕ)) (marks : List (List Bool)) (true_block block : List (List ℕ)) → IsReceived received marks → IsProduct true_block

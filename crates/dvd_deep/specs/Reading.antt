@@ -1,5 +1,5 @@
--- Ours: what is read of a captured block as an entry of a plan by rounds: the block of the first round that finishes, or
--- where none does what two passes answer.
+-- Ours: what is read by rounds of a captured block, as an entry of a plan. It is the block of the first round that
+-- finishes, or where none does what two passes answer.
 use Rattle.std.specs.Prelude.{◌≡◌, ℕ, Bool, List, None, Some}
 use Rattle.std.specs.declared.option.Option.{Option}
 use Rattle.dvd_layout.specs.declared.entry.BlockPlan.{BlockPlan}
@@ -13,7 +13,7 @@ abbrev pub cause_by : List (List ℕ) → List (List Bool) → BlockPlan → Opt
 cause_by received marks entry None = block_cause received marks entry
 cause_by received marks entry (Some block) = frames_cause block entry
 
--- why a block is refused that is read by rounds, or none
+-- why a block that is read by rounds is refused, or none
 unfoldable pub deep_cause : List (List ℕ) → List (List Bool) → BlockPlan → Option Cause
 deep_cause received marks entry = cause_by received marks entry (deep_block received marks)
 

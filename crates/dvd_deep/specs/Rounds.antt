@@ -1,5 +1,5 @@
--- Ours: iterated reading. A state is the rows of a block with a mark for each place. Each round gives rows and columns the
--- codewords near them, and takes the marks of these away.
+-- Ours: iterated reading. A state is the rows of a block with a mark for each place. Each round replaces rows and
+-- columns by the codewords near them, and clears the marks of these.
 use Rattle.std.specs.Prelude.{ℕ, zero, suc, ◌-◌, Bool, false, ◌&&◌, List, if◌then◌else◌, map, find, is_none, is_some, unwrap_or, replicate, slice_index_or}
 use Rattle.std.specs.List.{list_all, range_with_len}
 use Rattle.std.specs.Option.{option_map, option_or}
@@ -33,7 +33,7 @@ row_step state = record {
   marks = map (λ i. if is_some (row_near state i) then replicate 182 false else marks_line state.marks i) (range_with_len 0 208);
 }
 
--- the rows that fail in it
+-- the rows that fail in the row step
 unfoldable pub failed_marks : State → List Bool
 failed_marks state = map (λ i. is_none (row_near state i)) (range_with_len 0 208)
 
@@ -46,11 +46,11 @@ abbrev pub column_near : List Bool → State → ℕ → Option (List ℕ)
 column_near failed state j =
     option_or (near_of 208 16 (column state.rows j) failed) (near_of 208 16 (column state.rows j) (column_marks state.marks j))
 
--- whether every column has one
+-- whether every column has such a codeword
 unfoldable pub are_answered : List Bool → State → Bool
 are_answered failed state = list_all (λ j. is_some (column_near failed state j)) (range_with_len 0 182)
 
--- The column step: each column that has one becomes it, and loses its marks. The others stay.
+-- The column step: each column that has a codeword near it becomes that, and loses its marks. The others stay.
 unfoldable pub column_step : List Bool → State → State
 column_step failed state = record {
   rows = from_columns (map (λ j. unwrap_or (column_near failed state j) (column state.rows j)) (range_with_len 0 182));
@@ -61,11 +61,11 @@ column_step failed state = record {
 unfoldable pub round : State → State
 round state = column_step (failed_marks state) (row_step state)
 
--- It finishes where all columns are answered and all rows are then codewords.
+-- A round finishes where all columns are answered and all rows are then codewords.
 unfoldable pub finishes : State → Bool
 finishes state = are_answered (failed_marks state) (row_step state) && list_all (vanishes_at_all 10) (round state).rows
 
--- the state that so many rounds leave
+-- the state that n rounds leave
 unfoldable pub after : ℕ → State → State
 after zero state = state
 after (suc n) state = round (after n state)

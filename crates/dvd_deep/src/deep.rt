@@ -1,4 +1,4 @@
-//! A search for the block behind a captured one, by rounds.
+//! A search for the block of a captured one, by rounds.
 ghost use Rattle.std.specs.Prelude.{◌≡◌, ◌<◌, IfOk, IfSome, IsTrue, Some, false, is_some};
 ghost use Rattle.coding.specs.Product.{place};
 ghost use Rattle.dvd_capture.specs.Rule.{HasBlock};
@@ -10,8 +10,8 @@ use dvd_capture::{RowMarks, Work};
 use dvd_ports::NoMemory;
 use std::alloc::Global;
 
-/// The state of a search: the rows of a block, 37,856 bytes in sum, their marks, 4,784 bytes, and whether the last search
-/// found a block.
+/// The state of a search: the rows of a block, 37,856 bytes in all, their marks, 4,784 bytes, and whether the last
+/// search found a block.
 /// They are apart from what was received, so that a block that isn't found can still be salvaged from its first pass.
 #[derive(Drop)]
 pub struct Deep {
@@ -23,7 +23,7 @@ pub struct Deep {
 impl Deep {
     ghost use Rattle.dvd_deep.specs.Deeps.{has_found, rows_of_deep};
 
-    /// No block is found. `NoMemory` may come at any time, and nothing is taken then.
+    /// A search that has found no block yet. `NoMemory` may come at any time, and nothing stays allocated then.
     pub fn new(alloc: Global) -> Result<Deep, NoMemory>
         ensures { IfOk result (λ deep. has_found deep ≡ false) }
     {
@@ -34,10 +34,10 @@ impl Deep {
         })
     }
 
-    /// Looks for the block of a captured one by up to four rounds. Each answers rows by the codewords near them, and then
-    /// columns, first with the failed rows as marks, or else with the marks that they have left. Answers the number of the
-    /// first round that finishes: all columns are answered, and all rows are then codewords. Where none does, no block is
-    /// found.
+    /// Searches for the block of a captured one by up to four rounds. Each round first replaces rows by the codewords
+    /// near them. Then it replaces columns likewise, with the failed rows as marks, or else with the marks that are
+    /// left in the column. Returns the number of the first round that finishes: all columns are answered, and all rows
+    /// are then codewords. Where none does, no block is found.
     pub fn search(&mut self, work: &Work) -> Option<u8>
         requires stage { HasBlock (stage_of work.now) }
         ensures round { result ≡ deep_round (rows_of work.now) (marks_of_work work.now) }

@@ -1,4 +1,5 @@
-//! What holds of every captured block that is read by rounds: each function's contract is one law, and its body is empty.
+//! What holds of every captured block that is read by rounds: each function's contract is one law, and its body is
+//! empty.
 ghost use Rattle.dvd_deep.specs.Laws.{TrueBytesGiveTheBlock, TwoPassIsRoundOne, WhatIsFoundIsProduct};
 
 /// Where two passes determine a block, round 1 finishes with it.
@@ -11,7 +12,7 @@ pub fn what_is_found_is_product()
     ensures { WhatIsFoundIsProduct }
 {}
 
-/// Where the bytes that aren't marked are true, no other block is given back, however many places are marked.
+/// Where the bytes that aren't marked are right, no other block is given back, however many places are marked.
 pub fn true_bytes_give_the_block()
     ensures { TrueBytesGiveTheBlock }
 {}

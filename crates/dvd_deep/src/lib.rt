@@ -1,6 +1,6 @@
-//! Iterated reading of a captured ECC block (ours; ECMA-267, clause 18, defines the block): where two passes over rows and
-//! columns refuse it, up to four rounds of both may still give it back, since what one round corrects loses its marks and
-//! its errors for the next.
+//! Iterated reading of a captured ECC block (ours; ECMA-267, clause 18, defines the block). Where two passes over rows
+//! and columns refuse a block, up to four rounds of both may still give it back: the next round no longer has the marks
+//! and errors that one round corrects.
 #![tactic(auto)]
 
 mod deep; // a search for a block by rounds

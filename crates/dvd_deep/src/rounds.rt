@@ -19,10 +19,10 @@ use rs_decode::{Erasures, decode};
 /// The rows of a block: 37,856 bytes.
 pub(crate) type Rows = [[u8; 182]; 208];
 
-/// Their marks: 4,784 bytes.
+/// The marks of these rows: 4,784 bytes.
 pub(crate) type Marks = [RowMarks; 208];
 
-// How many rounds there are at most.
+// The most rounds of a search.
 const MOST_ROUNDS: u8 = 4;
 
 /// Sets rows and marks to those of a received block.
@@ -36,7 +36,8 @@ pub(crate) fn read_block(work: &Work, rows: &mut Rows, marks: &mut Marks)
     }
 }
 
-/// Plays up to four rounds. Answers the number of the first that finishes, whose state then stands.
+/// Plays up to four rounds. Returns the number of the first that finishes; rows and marks are then the state that it
+/// leaves.
 pub(crate) fn play_rounds(rows: &mut Rows, marks: &mut Marks) -> Option<u8>
     ensures first { result ≡ first_round (buffered_state rows.old marks.old) }
     ensures state { IfSome result (λ t. buffered_state rows.new marks.new ≡ after t (buffered_state rows.old marks.old)) }
@@ -49,7 +50,7 @@ pub(crate) fn play_rounds(rows: &mut Rows, marks: &mut Marks) -> Option<u8>
     None
 }
 
-// Plays one round. Answers whether it finishes.
+// Plays one round. Returns whether it finishes.
 fn play_round(rows: &mut Rows, marks: &mut Marks) -> bool
     ensures state { buffered_state rows.new marks.new ≡ round (buffered_state rows.old marks.old) }
     ensures finishes { result ≡ finishes (buffered_state rows.old marks.old) }
@@ -60,7 +61,7 @@ fn play_round(rows: &mut Rows, marks: &mut Marks) -> bool
     answered && are_codewords(rows)
 }
 
-// The row step. Notes which rows fail.
+// The row step. Also sets which rows fail.
 fn answer_rows(rows: &mut Rows, marks: &mut Marks, failed: &mut [bool; 208])
     ensures state { buffered_state rows.new marks.new ≡ row_step (buffered_state rows.old marks.old) }
     ensures failed { failed.new ≡ failed_marks (buffered_state rows.old marks.old) }
@@ -72,7 +73,8 @@ fn answer_rows(rows: &mut Rows, marks: &mut Marks, failed: &mut [bool; 208])
     }
 }
 
-// Answers row `i`: it becomes the codeword near it and loses its marks, if there is one. Answers whether there is.
+// Answers row `i`: if there is a codeword near it, the row becomes that and loses its marks. Returns whether there is
+// one.
 fn answer_row(code: &Pi, rows: &mut Rows, marks: &mut Marks, i: usize) -> bool
     requires { i < 208 }
     ensures answered { result ≡ is_some (row_near (buffered_state rows.old marks.old) i) }
@@ -92,7 +94,7 @@ fn answer_row(code: &Pi, rows: &mut Rows, marks: &mut Marks, i: usize) -> bool
     answered
 }
 
-// Answers a word: it becomes the codeword near it, if there is one. Answers whether there is.
+// Answers a word: if there is a codeword near it, the word becomes that. Returns whether there is one.
 fn answer_word<const N: usize, const R: usize>(
     code: &Code<N, R>,
     word: &mut [u8; N],
@@ -105,7 +107,7 @@ fn answer_word<const N: usize, const R: usize>(
     if Erasures::new(marks, R).is_none() {
         return false;
     }
-    // Most words are codewords, and with few marks these are near themselves: a test is shorter than a search.
+    // Most words are codewords, and a codeword is near itself if its marks are few. So a test comes before the search.
     if code.is_codeword(word) {
         return true;
     }
@@ -115,8 +117,8 @@ fn answer_word<const N: usize, const R: usize>(
     }
 }
 
-// The column step. Answers whether all columns are answered. What one column's answer takes away are its own marks, which no
-// other column asks for, so that all are taken at the end.
+// The column step. Returns whether all columns are answered. An answered column loses its own marks alone, which no
+// other column reads, so that all are cleared at the end.
 fn answer_columns(rows: &mut Rows, marks: &mut Marks, failed: &[bool; 208]) -> bool
     requires wide { AreWide rows.old }
     ensures state { buffered_state rows.new marks.new ≡ column_step failed.now (buffered_state rows.old marks.old) }
@@ -146,8 +148,8 @@ fn marked_rows(marks: &Marks) -> [bool; 208]
     marked
 }
 
-// Answers column `j`: it becomes the codeword that the first or the second try finds, if there is one. Answers whether there
-// is.
+// Answers column `j`: if the first or the second try finds a codeword, the column becomes that. Returns whether one is
+// found.
 fn answer_column(
     code: &Po,
     rows: &mut Rows,
@@ -172,7 +174,7 @@ fn answer_column(
     true
 }
 
-// Answers the word of column `j`: with the failed rows as its marks, or else with its own.
+// Answers the word of column `j`: with the failed rows as its marks, or else with its own marks.
 fn answer_column_word(
     code: &Po,
     word: &mut [u8; 208],
@@ -189,7 +191,6 @@ fn answer_column_word(
     answer_word(code, word, failed) || answer_word(code, word, &own_marks(marks, marked, j))
 }
 
-// Writes the bytes of column `j`.
 fn read_column(rows: &Rows, j: usize, word: &mut [u8; 208])
     requires { j < 182 }
     ensures { word.new ≡ column rows.now j }
@@ -199,7 +200,7 @@ fn read_column(rows: &Rows, j: usize, word: &mut [u8; 208])
     }
 }
 
-// The marks of column `j`.
+// The marks of column `j`. Only marked rows are read.
 fn own_marks(marks: &Marks, marked: &[bool; 208], j: usize) -> [bool; 208]
     requires place { j < 182 }
     requires marked { TellsMarked (marks_of_rows marks.now) marked.now }
@@ -212,7 +213,7 @@ fn own_marks(marks: &Marks, marked: &[bool; 208], j: usize) -> [bool; 208]
     own
 }
 
-// Its mark in row `i`.
+// The mark of column `j` in row `i`.
 #[tactic(auto, using(crate::proofs::MarksTaken::unmarked))]
 fn own_mark(marks: &Marks, marked: &[bool; 208], i: usize, j: usize) -> bool
     requires row { i < 208 }
@@ -223,7 +224,6 @@ fn own_mark(marks: &Marks, marked: &[bool; 208], i: usize, j: usize) -> bool
     marked[i] && marks[i].get(j)
 }
 
-// Sets column `j` to a word.
 fn put_column(rows: &mut Rows, j: usize, word: &[u8; 208])
     requires place { j < 182 }
     requires wide { AreWide rows.old }
@@ -235,7 +235,7 @@ fn put_column(rows: &mut Rows, j: usize, word: &[u8; 208])
     }
 }
 
-// Takes away the marks of the columns that are answered.
+// Clears the marks of the answered columns.
 fn take_marks(marks: &mut Marks, answered: &[bool; 182])
     ensures taken { AreMarksTaken answered.now (marks_of_rows marks.old) (marks_of_rows marks.new) }
     ensures height { length marks.new ≡ 208 }
@@ -245,7 +245,7 @@ fn take_marks(marks: &mut Marks, answered: &[bool; 182])
     }
 }
 
-// Takes them away in one row.
+// Clears them in one row.
 fn take_row_marks(row: &mut RowMarks, answered: &[bool; 182])
     ensures { (j : ℕ) → j < 182 → slice_index_or (marks_of_row row.new) j false ≡ mark_left answered.now (marks_of_row row.old) j }
 {
@@ -259,7 +259,6 @@ fn take_row_marks(row: &mut RowMarks, answered: &[bool; 182])
     }
 }
 
-// Whether all rows are codewords.
 fn are_codewords(rows: &Rows) -> bool
     ensures { result ≡ list_all (vanishes_at_all 10) rows.now }
 {

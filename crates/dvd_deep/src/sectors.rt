@@ -15,7 +15,8 @@ impl Deep {
     ghost use Rattle.dvd_deep.specs.Deeps.{has_found, rows_of_deep};
 
     /// Checks the sixteen data frames of the block that was found, as those of an entry of a plan, and writes their
-    /// unscrambled Main Data, 2,048 bytes each. After a cause, that of the first frame that has one, all bytes are 0.
+    /// unscrambled Main Data, 2,048 bytes each. The error is the cause of the first frame that has one; all bytes are 0
+    /// then.
     pub fn sectors(&self, plan: &BlockPlan, out: &mut Piece) -> Result<(), Cause>
         requires found { IsTrue (has_found self.now) }
         requires numbers { HasNumbers plan.now }
@@ -28,7 +29,7 @@ impl Deep {
     }
 }
 
-// Writes the Main Data of the frames of a block, or zeros after a cause.
+// Writes the Main Data of the frames of a block, or zeros if there is a cause.
 fn read_frames(rows: &Rows, plan: &BlockPlan, out: &mut [u8]) -> Result<(), Cause>
     requires size { length out.old ≡ 32768 }
     requires numbers { HasNumbers plan.now }
@@ -49,7 +50,7 @@ fn read_frames(rows: &Rows, plan: &BlockPlan, out: &mut [u8]) -> Result<(), Caus
     Ok(())
 }
 
-// Writes a sector behind those before it.
+// Writes a sector after those before it.
 fn put_sector(out: &mut [u8], f: usize, main: &[u8; 2048])
     requires size { length out.old ≡ 32768 }
     requires frame { f < 16 }

@@ -17,7 +17,7 @@ const FIRST: BlockPlan = BlockPlan {
     content: Content::Image(0),
 };
 
-// What a search of so many chains of lost places answers.
+// A number of chains of lost places, and what a search answers.
 const CHAINS: [(usize, Option<u8>); 5] = [
     (0, Some(1)),
     (1, Some(2)),
@@ -26,7 +26,8 @@ const CHAINS: [(usize, Option<u8>); 5] = [
     (4, None),
 ];
 
-// The first data block as it was received, with byte f as the Main Data of frame f. A main byte of frame `edc` is another.
+// The first data block as it was received, with byte f as the Main Data of frame f. A Main Data byte of frame `edc` is
+// changed.
 fn data_block(alloc: Global, edc: Option<u32>) -> Result<Work, Fail> {
     let mut block = Block::new(alloc)?;
     for f in 0..16u32 {
@@ -60,8 +61,8 @@ fn lose_chains(work: &mut Work, chains: usize)
     }
 }
 
-// Loses ten places of a row in columns that all rows of its chain have lost, and one more in a column that the chain before
-// gives back, or for the first chain in one of two columns that have lost less.
+// Loses ten places of a row, in columns that all rows of its chain have lost. Loses one more place, in a column that
+// the chain before gives back, or for the first chain in one of two columns that have lost less.
 fn lose_row(work: &mut Work, chain: usize, r: usize)
     requires chain { chain < 4 }
     requires row { r < 17 }
@@ -77,7 +78,7 @@ fn lose_row(work: &mut Work, chain: usize, r: usize)
     lose(work, 17 * chain + r, link);
 }
 
-// What a search answers, where a block was received.
+// What a search answers where a block was received.
 fn search(deep: &mut Deep, work: &Work) -> Option<u8> {
     if work.stage() == Stage::Fetched {
         deep.search(work)
@@ -98,7 +99,7 @@ fn each_chain_takes_a_round(rt: HostRuntime) -> Result<(), Fail> {
     Ok(())
 }
 
-// What is found of the first data block, where a round gives it back: its second byte, and what its frames say.
+// What is found of the first data block where a round gives it back: its second byte, and the result for its frames.
 fn read(deep: &mut Deep, work: &Work, piece: &mut Piece) -> Option<(u8, Result<(), Cause>)> {
     if work.stage() == Stage::Fetched && deep.search(work).is_some() {
         Some((deep.byte(0, 1), deep.sectors(&FIRST, piece)))

@@ -1,4 +1,4 @@
--- Why the contracts hold: lemmas on sectors drawn from a seed, and damage that two-pass decoding bears.
+-- Why the contracts hold: lemmas on sectors drawn from a seed, and damage within the bound of two-pass decoding.
 pub mod Bound
 pub mod Changed
 pub mod Burdens

@@ -7,7 +7,7 @@ use Rattle.dvd_exercise.specs.declared.generator.Rand.{Rand}
 abbrev pub state_of : Rand → ℕ
 state_of rand = rand.state
 
--- The next state: three times combined by exclusive or with itself, shifted by 13 to the left, by 7 to the right and by 17 to
+-- The next state: three times the exclusive or with itself, shifted by 13 to the left, by 7 to the right and by 17 to
 -- the left. Bits shifted over the ends are lost.
 unfoldable pub step : ℕ → ℕ
 step x =

@@ -5,28 +5,28 @@ use Rattle.coding.specs.TwoPass.{IsTwoPass}
 use Rattle.coding.specs.Within.{IsWithin}
 use Rattle.dvd_exercise.specs.Damage.{IsHurt, drawn_errors, error_place, damaged_row}
 
--- a block with no marks is hurt within the bound that two-pass decoding bears
+-- the damage to a block with no marks is within the bound of two-pass decoding
 abbrev pub HurtIsWithin : Type 0
 HurtIsWithin =
     (x : ℕ) (rows : List (List ℕ)) (marks : List (List Bool)) (hurt_rows : List (List ℕ)) (hurt_marks : List (List Bool))
     → length rows ≡ 208 → marks ≡ replicate 208 (replicate 182 false) → IsHurt x rows marks hurt_rows hurt_marks
     → IsWithin rows hurt_rows hurt_marks
 
--- So where it was a block with right parity, it is the one that has two-pass agreement.
+-- So where the block's parity was right, it is the block that two-pass decoding determines.
 abbrev pub HurtIsTwoPass : Type 0
 HurtIsTwoPass =
     (x : ℕ) (block : List (List ℕ)) (marks : List (List Bool)) (hurt_rows : List (List ℕ)) (hurt_marks : List (List Bool))
     → IsProduct block → marks ≡ replicate 208 (replicate 182 false) → IsHurt x block marks hurt_rows hurt_marks
     → IsTwoPass hurt_rows hurt_marks block
 
--- one state hurts a block in one way
+-- one state damages a block in one way
 abbrev pub HurtIsOnlyOne : Type 0
 HurtIsOnlyOne =
     (x : ℕ) (rows : List (List ℕ)) (marks : List (List Bool)) (a b : List (List ℕ)) (a_marks b_marks : List (List Bool))
     → length rows ≡ 208 → IsHurt x rows marks a a_marks → IsHurt x rows marks b b_marks
     → (a ≡ b) × (a_marks ≡ b_marks)
 
--- and hurts every block somehow
+-- and damages every block in some way
 abbrev pub SomethingIsHurt : Type 0
 SomethingIsHurt =
     (x : ℕ) (rows : List (List ℕ)) (marks : List (List Bool)) → length rows ≡ 208 → length marks ≡ 208 → All (λ row. length row ≡ 182) rows

@@ -1,4 +1,4 @@
--- What the contracts speak of: sectors drawn from a seed, and damage that two-pass decoding bears.
+-- What the contracts speak of: sectors drawn from a seed, and damage within the bound of two-pass decoding.
 pub mod Generator
 pub mod Damage
 pub mod Laws

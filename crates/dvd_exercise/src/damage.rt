@@ -12,15 +12,16 @@ ghost use Rattle.dvd_exercise.specs.Inner.Kept.{KeepsRest};
 use crate::generator::Rand;
 use dvd_capture::Work;
 
-/// Damages the received block. At most 8 rows are bad: each of their bytes is combined by exclusive or with a drawn one, and
-/// its mark stays. At most 16 rows are lost: all their bytes are 0 and marked. Each other row has at most 5 bytes combined
-/// with drawn ones that aren't 0, and its marks stay. Twice the bad rows and the lost rows together are at most 16, so a block
-/// with no marks is damaged no more than two-pass decoding bears.
-/// More isn't drawn: what two passes do with more depends on the numbers, and no clause could say it.
+/// Damages the received block. At most 8 rows are bad: each of their bytes becomes the exclusive or with a drawn one,
+/// and its mark stays. At most 16 rows are lost: all their bytes are 0 and marked. In each other row at most 5 bytes
+/// become the exclusive or with drawn ones that aren't 0, and its marks stay. Twice the bad rows plus the lost rows is
+/// at most 16, so the damage to a block with no marks is within the bound of two-pass decoding.
+/// No more damage is drawn: what two passes do with more depends on the numbers, and no clause could say it.
 ///
-/// Drawn are, in this order: how many rows are bad, how many are lost, and which of them comes first, a word each; the bytes
-/// for the bad rows; and for each other row, from row 0 on, how many bytes of it are changed and the place of the first, a
-/// word each, and what they are combined with. The stage stays Fetched, and answers, columns and sectors stay.
+/// The numbers are drawn in this order. First come the number of bad rows, the number of lost rows, and the first of
+/// these rows, a word each. Then come the bytes for the bad rows. Then comes each other row, from row 0 on: the number
+/// of bytes that are changed and the place of the first, a word each, and then the bytes for the exclusive or. The
+/// stage stays Fetched, and answers, columns and sectors stay.
 pub fn hurt(rand: &mut Rand, work: &mut Work)
     requires stage { stage_of work.old ≡ Fetched }
     ensures hurt { IsHurt (state_of rand.old) (rows_of work.old) (marks_of_work work.old) (rows_of work.new) (marks_of_work work.new) }
@@ -35,16 +36,16 @@ pub fn hurt(rand: &mut Rand, work: &mut Work)
     hurt_others(&plan, rand, work);
 }
 
-// How many rows are bad, how many are lost, and which of them comes first.
+// The number of bad rows, the number of lost rows, and the first of these rows.
 #[derive(Drop)]
 struct Plan {
     bad: usize,
     lost: usize,
     start: usize,
 
-    // The bad and the lost rows are within the bound of a column.
+    // The bad and the lost rows are within the bound.
     pub ghost bound: { 2 * bad + lost ≤ 16 },
-    // The first of them is a row of the block.
+    // The first of these rows is a row of the block.
     pub ghost within: { start < 208 },
 }
 
@@ -67,7 +68,7 @@ impl Plan {
         }
     }
 
-    // The row that is bad or lost in this turn; the bad rows come first.
+    // The bad or lost row with the number `turn`; the bad rows come first.
     fn row(&self, turn: usize) -> usize
         requires { turn < 208 }
         ensures row { result ≡ damaged_row self.now.start turn }
@@ -85,7 +86,7 @@ impl Plan {
     }
 }
 
-// Combines one received byte with another by exclusive or. Its mark stays.
+// Sets one received byte to its exclusive or with another byte. Its mark stays.
 fn combine(work: &mut Work, i: usize, j: usize, byte: u8)
     requires stage { stage_of work.old ≡ Fetched }
     requires row { i < 208 }
@@ -100,7 +101,7 @@ fn combine(work: &mut Work, i: usize, j: usize, byte: u8)
     work.damage(i, j, received ^ byte, mark);
 }
 
-// Combines each byte of a row with a drawn one.
+// Sets each byte of a row to its exclusive or with a drawn one.
 fn combine_row(rand: &mut Rand, work: &mut Work, i: usize)
     requires stage { stage_of work.old ≡ Fetched }
     requires row { i < 208 }
@@ -115,7 +116,6 @@ fn combine_row(rand: &mut Rand, work: &mut Work, i: usize)
     }
 }
 
-// Sets all bytes of a row to 0 and marks them.
 fn lose_row(work: &mut Work, i: usize)
     requires stage { stage_of work.old ≡ Fetched }
     requires row { i < 208 }
@@ -128,7 +128,7 @@ fn lose_row(work: &mut Work, i: usize)
     }
 }
 
-// Combines up to 5 bytes of a row with drawn ones that aren't 0.
+// Sets up to 5 bytes of a row to their exclusive or with drawn ones that aren't 0.
 fn hurt_row(rand: &mut Rand, work: &mut Work, i: usize)
     requires stage { stage_of work.old ≡ Fetched }
     requires row { i < 208 }
@@ -146,7 +146,7 @@ fn hurt_row(rand: &mut Rand, work: &mut Work, i: usize)
     }
 }
 
-// Damages the bad rows in turn.
+// Damages the bad rows, in the order of `Plan::row`.
 fn combine_rows(plan: &Plan, rand: &mut Rand, work: &mut Work)
     requires stage { stage_of work.old ≡ Fetched }
     ensures received { IsChanged [] plan.now.bad (damaged_row plan.now.start) (λ t. combined (state_after (state_of rand.old) (182 * t)) (line (rows_of work.old) (damaged_row plan.now.start t))) (rows_of work.old) (rows_of work.new) }
@@ -159,7 +159,7 @@ fn combine_rows(plan: &Plan, rand: &mut Rand, work: &mut Work)
     }
 }
 
-// Loses the rows whose turns follow.
+// Loses the rows that follow the bad ones in this order.
 fn lose_rows(plan: &Plan, work: &mut Work)
     requires stage { stage_of work.old ≡ Fetched }
     ensures received { IsChanged [] plan.now.lost (λ t. damaged_row plan.now.start (plan.now.bad + t)) (λ t. replicate 182 0) (rows_of work.old) (rows_of work.new) }
@@ -171,7 +171,6 @@ fn lose_rows(plan: &Plan, work: &mut Work)
     }
 }
 
-// Puts single errors into each row that is neither bad nor lost.
 fn hurt_others(plan: &Plan, rand: &mut Rand, work: &mut Work)
     requires stage { stage_of work.old ≡ Fetched }
     ensures hit { (row : ℕ) → row < 208 → is_hit plan.now.start (plan.now.bad + plan.now.lost) row ≡ true → line (rows_of work.new) row ≡ line (rows_of work.old) row }

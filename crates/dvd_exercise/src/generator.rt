@@ -5,8 +5,8 @@ ghost use Rattle.dvd_exercise.specs.Generator.{bytes_from, state_after, state_of
 
 use dvd_block::Piece;
 
-/// A generator with a state of 64 bits. It draws the same words for the same seed, and isn't fit for secrets.
-/// It is a plain one of our own, so that its definition is short: every number that it draws is part of what is proved.
+/// A generator with a state of 64 bits. It draws the same words for the same seed, and isn't fit for secrets. It is our
+/// own and simple, so that its definition is short: every number that it draws is part of what is proved.
 #[derive(Clone, Debug, PartialEq, Eq, Drop)]
 pub struct Rand {
     state: u64,
@@ -22,7 +22,7 @@ impl Rand {
         }
     }
 
-    /// Draws the next word: it is the new state.
+    /// Draws the next word, which is the new state.
     #[tactic(auto, unfolding(crate::specs::Generator::step))]
     pub fn word(&mut self) -> u64
         ensures word { result ≡ step (state_of self.old) }
@@ -34,7 +34,7 @@ impl Rand {
         self.state
     }
 
-    /// Draws the next word, and answers its top eight bits.
+    /// Draws the next word, and returns its top eight bits.
     pub fn byte(&mut self) -> u8
         ensures byte { result ≡ step (state_of self.old) / 2 ^ 56 }
         ensures state { state_of self.new ≡ step (state_of self.old) }

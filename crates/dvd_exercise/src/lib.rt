@@ -1,5 +1,5 @@
-//! A self-test of a decoder: pseudo-random sectors, and damage to a received ECC block (ECMA-267, clause 18) that two-pass
-//! decoding still bears. The same seed draws the same sectors and the same damage.
+//! A self-test of a decoder: pseudo-random sectors, and damage to a received ECC block (ECMA-267, clause 18) within the
+//! bound of two-pass decoding. The same seed draws the same sectors and the same damage.
 #![tactic(auto)]
 
 mod damage; // what is damaged in a block

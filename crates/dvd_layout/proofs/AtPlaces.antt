@@ -1,4 +1,4 @@
--- The image sectors of each block of a plan stand at the block's sector numbers.
+-- The image sectors of each block of a plan are at the block's sector numbers.
 use Rattle.std.proofs.Common.{◌≡◌, ◌⊎◌, inl, inr, ap, subst, ℕ, ◌+◌, ◌-◌, ◌*◌, ◌%◌, ◌<◌, ◌≤◌, true, false, nat_lt, refl, arith}
 use Rattle.std.proofs.Common.{All, Some, slice_get}
 use Rattle.std.specs.List.{AllByRecursion}

@@ -1,4 +1,5 @@
--- The blocks of a list of zones: how many stand before a zone, which one stands at a place, and what holds of those of a plan.
+-- The blocks of a list of zones: how many come before a zone, which one is at a place, and what holds of those of a
+-- plan.
 use Rattle.std.proofs.Common.{◌≡◌, ◌∙◌, sym, ap, subst, ℕ, ◌+◌, ◌-◌, ◌*◌, ◌^◌, ◌<◌, ◌≤◌, List, [], ◌∷◌, length, get_or, take, All, Some, slice_get, refl, arith, add-one, length-append}
 use Rattle.std.specs.List.{AllByRecursion, flat_map}
 use Rattle.std.proofs.Math.Seq.{take-suc}

@@ -1,4 +1,4 @@
--- The blocks of the lead-in: where the control data stand among them, and that a plan begins with them.
+-- The blocks of the lead-in: where the control data are among them, and that a plan begins with them.
 use Rattle.std.proofs.Common.{◌≡◌, ◌≢◌, ◌∙◌, inl, inr, sym, ap, subst, ℕ, ◌+◌, ◌-◌, ◌*◌, ◌<◌, List, [], ◌∷◌, ◌++◌, length, take, Some, slice_get, refl, arith, length-append}
 use Rattle.std.specs.List.{flat_map}
 use Rattle.std.proofs.Math.Seq.{take-append_seam}

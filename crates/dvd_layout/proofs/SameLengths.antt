@@ -1,4 +1,4 @@
--- A layout is told by its lengths: the facts that it keeps are propositions.
+-- A layout is determined by its lengths: the facts that it keeps are propositions.
 use mathlib.Core.HLevel.{is_prop→PathP}
 use Rattle.std.proofs.Common.{◌≡◌, ◌%◌, ◌<◌, ◌≤◌, true, false}
 use Rattle.std.proofs.Props.{props}

@@ -1,4 +1,4 @@
--- What stands in the blocks of a zone.
+-- What the blocks of a zone hold.
 use Rattle.std.specs.Prelude.{ℕ, ◌+◌, ◌*◌}
 use Rattle.dvd_layout.specs.declared.entry.Content.{Content}
 use Rattle.dvd_layout.specs.declared.entry.Content.TheVariants.{Zero, Reference, Control, Image}
@@ -17,7 +17,7 @@ image_from Zero = 0
 image_from Reference = 0
 image_from Control = 0
 
--- what stands in block b of a zone of this content
+-- what block b of a zone of this content holds
 abbrev pub content_at : Content → ℕ → Content
 content_at (Image sector) b = Image (sector + 16 * b)
 content_at Zero b = Zero

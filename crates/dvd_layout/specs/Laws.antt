@@ -1,4 +1,4 @@
--- The laws of every lawful layout.
+-- The laws of every valid layout.
 use Rattle.std.specs.Prelude.{◌≡◌, ◌≢◌, ℕ, ◌+◌, ◌*◌, ◌<◌, All as EachOf, None, Some, slice_get, take}
 use Rattle.dvd_frame.specs.declared.id.Area.TheVariants.{LeadIn}
 use Rattle.dvd_layout.specs.declared.entry.BlockPlan.{BlockPlan}
@@ -25,7 +25,7 @@ LayoutIsByLengths =
 abbrev pub PlanNumbersHave24Bits : Type 0
 PlanNumbersHave24Bits = (layout : Layout) (zones : Zones) → EachOf HasNumbers (plan_of layout zones)
 
--- The control data of a disk are 192 blocks from sector 02F200 on, behind the Initial Zone and 32 blocks more, and no block
+-- The control data of a disk are 192 blocks from sector 02F200 on, after the Initial Zone and 32 more blocks. No block
 -- before them is one of theirs.
 pub record ControlDataStandInTheLeadIn (initial : ℕ) : Type 0 where
   pub stand : (c : ℕ) → c < 192
@@ -53,7 +53,7 @@ ImageStandsInOrder =
 abbrev pub ImageIsWhole : Type 0
 ImageIsWhole = (layout : Layout) (zones : Zones) → image_before layout (plan_of layout zones) ≡ total_sectors layout
 
--- the image sectors of a block stand at the block's sector numbers, one after the other
+-- the image sectors of a block are at the block's sector numbers, one after the other
 abbrev pub PlanFollowsPlaces : Type 0
 PlanFollowsPlaces =
     (layout : Layout) (zones : Zones) (k from f : ℕ) (entry : BlockPlan)

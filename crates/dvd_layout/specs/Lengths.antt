@@ -6,7 +6,7 @@ use Rattle.dvd_layout.specs.declared.layout.Shape.TheVariants.{Single, Parallel,
 use Rattle.dvd_layout.specs.declared.fault.LayoutFault.{LayoutFault}
 use Rattle.dvd_layout.specs.declared.fault.LayoutFault.TheVariants.{EmptyLayer, OddLayer, SecondLayer, LayerLonger, InitialTooLong, TailTooLong, LayerTooLong}
 
--- the ECC blocks of sixteen sectors that so many sectors fill, the last one maybe in part
+-- the ECC blocks that this number of sectors fills, the last one maybe in part
 abbrev pub blocks_of : ℕ → ℕ
 blocks_of sectors = (sectors + 15) / 16
 
@@ -30,7 +30,7 @@ is_opposite Opposite = true
 abbrev pub data_first : ℕ
 data_first = 0x30000
 
--- the sector number behind a layer that begins there: its data and the zone behind them
+-- the sector number after a layer that begins at `data_first`: after its data and the zone that follows them
 abbrev pub layer_end : ℕ → ℕ → ℕ
 layer_end sectors tail = data_first + padded sectors + 16 * tail
 

@@ -1,4 +1,4 @@
--- Where image sectors stand on the disk, and what an entry of a plan says of its data frames.
+-- Where image sectors are on the disk, and what an entry of a plan says of its data frames.
 use Rattle.std.specs.Prelude.{ℕ, ◌+◌, ◌-◌, ◌<◌, ◌^◌, ◌==◌, nat_lt, min, List, sum_by, if◌then◌else◌}
 use Rattle.dvd_frame.specs.declared.scrambling.Rule.{Rule}
 use Rattle.dvd_frame.specs.declared.scrambling.Rule.TheVariants.{Whole, Off, First160}
@@ -34,8 +34,8 @@ pub record HasNumbers (entry : BlockPlan) : Type 0 where
   pub numbers : entry.first + 15 < 2 ^ 24
   pub layers : entry.layer < 2
 
--- Which Main Data bytes of frame f are scrambled: all of them, but of the reference code
--- only the first 160 of the first frame of each block (ECMA-267, Reference Code Zone).
+-- Which Main Data bytes of frame f are scrambled: all of them, except in the reference code, where only the first 160
+-- of the first frame of each block are (ECMA-267, Reference Code Zone).
 abbrev pub rule_for : Content → ℕ → Rule
 rule_for Reference f = if f == 0 then First160 else Off
 rule_for Zero f = Whole

@@ -1,5 +1,6 @@
 -- The zone table of a disk and the plan of its ECC blocks (ECMA-267, section 5, Format of the Information Zone).
--- A table is a list of zones, a plan the blocks of its zones one after the other. The code computes one entry without a list.
+-- A table is a list of zones; a plan is the list of the blocks of its zones, one after the other. The code computes one
+-- entry without a list.
 use Rattle.std.specs.Prelude.{◌≡◌, ℕ, ◌+◌, ◌-◌, ◌*◌, List, [], ◌∷◌, ◌++◌, map, Bool, true, false, filter, if◌then◌else◌, Some, slice_get}
 use Rattle.std.specs.List.{flat_map, range_with_len}
 use Rattle.dvd_frame.specs.declared.id.Area.{Area}
@@ -28,7 +29,7 @@ entries_of zone = map (entry_of zone) (range_with_len 0 zone.blocks)
 abbrev pub zone_of : ℕ → ℕ → Area → ℕ → Content → Zone
 zone_of first blocks area layer content = record { first = first; blocks = blocks; area = area; layer = layer; content = content }
 
--- the zones of the lead-in of a layer, with an Initial Zone of so many blocks
+-- the zones of the lead-in of a layer, with an Initial Zone of `initial` blocks
 abbrev pub lead_in : ℕ → ℕ → List Zone
 lead_in initial layer =
     zone_of (0x2F000 - 16 * initial) initial LeadIn layer Zero
@@ -41,7 +42,8 @@ lead_in initial layer =
 unfoldable pub lead_in_blocks : ℕ → List BlockPlan
 lead_in_blocks initial = flat_map entries_of (lead_in initial 0)
 
--- Where the data of layer 1 begin: at 030000, or on the opposite track path at the complement of layer 0's last data sector.
+-- Where the data of layer 1 begin: at 030000, or on the opposite track path at the complement of layer 0's last data
+-- sector.
 abbrev pub second_first : Layout → ℕ
 second_first layout = if is_opposite layout.shape then 0xFD0000 - padded layout.sectors0 else data_first
 
@@ -53,7 +55,7 @@ first_data layout = zone_of data_first (blocks_of layout.sectors0) DataZone 0 (I
 abbrev pub second_data : Layout → Zone
 second_data layout = zone_of (second_first layout) (blocks_of layout.sectors1) DataZone 1 (Image layout.sectors0)
 
--- the zone of zeros behind a Data Zone
+-- the zone of zeros after a Data Zone
 abbrev pub behind : Zone → ℕ → Area → Zone
 behind image blocks area = zone_of (image.first + 16 * image.blocks) blocks area image.layer Zero
 

@@ -20,7 +20,7 @@ pub enum Content {
 }
 
 impl Content {
-    /// What stands in block `b` of a zone whose first block has this content.
+    /// What block `b` of a zone holds, where the first block of the zone has this content.
     pub(crate) fn at_block(self, b: u32) -> Content
         requires { image_from self + 16 * b < 2 ^ 32 }
         ensures { result ≡ content_at self b }
@@ -37,7 +37,7 @@ impl Content {
 pub struct BlockPlan {
     /// Its first sector number.
     pub first: u32,
-    /// The area that it stands in.
+    /// The area that it is in.
     pub area: Area,
     /// Its layer, 0 or 1.
     pub layer: u8,
@@ -45,8 +45,8 @@ pub struct BlockPlan {
     pub content: Content,
 }
 
-/// The ID of frame `f` of a block; `dim` tells that the disk has two layers.
-/// It is no method: an entry doesn't know whether the disk has two layers.
+/// The ID of frame `f` of a block; `dim` says whether the disk has two layers.
+/// It is a function and no method, since an entry doesn't know whether the disk has two layers.
 pub fn id_of(plan: &BlockPlan, dim: bool, f: usize) -> Id
     requires frame { f < 16 }
     requires numbers { HasNumbers plan.now }

@@ -8,7 +8,7 @@ pub enum LayoutFault {
     /// A layer has no sector.
     #[error("layer {layer} has no sector")]
     EmptyLayer { layer: u8 },
-    /// Layer 0 of two isn't whole blocks.
+    /// Layer 0 of two layers isn't whole blocks.
     #[error("layer 0 of two has {sectors} sectors, which are no whole blocks")]
     OddLayer { sectors: u32 },
     /// A disk of one layer has sectors for a second.
@@ -20,7 +20,7 @@ pub enum LayoutFault {
     /// The Initial Zone would begin below the first sector number.
     #[error("an Initial Zone of {blocks} blocks would begin below the first sector number")]
     InitialTooLong { blocks: u32 },
-    /// The zone behind the data is too long.
+    /// The zone after the data is too long.
     #[error("{blocks} blocks behind the data are too many")]
     TailTooLong { blocks: u32 },
     /// A layer ends above the last sector number that it may have.

@@ -1,4 +1,4 @@
-//! What holds of every lawful layout. Each function's contract is a law of the definitions; the bodies are empty.
+//! What holds of every valid layout. Each function's contract is a law of the definitions; the bodies are empty.
 ghost use Rattle.std.specs.Prelude.{ℕ};
 ghost use Rattle.dvd_layout.specs.Laws.{ControlDataStandInTheLeadIn, ImageIsWhole, ImageStandsInOrder, LayoutIsByLengths, LayoutsBreakNoRule, PlacesDiffer, PlanBeginsWithTheLeadIn, PlanFollowsPlaces, PlanNumbersHave24Bits};
 
@@ -12,12 +12,12 @@ pub fn layout_is_by_lengths()
     ensures { LayoutIsByLengths }
 {}
 
-/// Every sector number of a plan has 24 bits, those of the last frames of its blocks too, and every layer is one of two.
+/// Every sector number of a plan has 24 bits, those of the last frames of its blocks too. Every layer is 0 or 1.
 pub fn plan_numbers_have_24_bits()
     ensures { PlanNumbersHave24Bits }
 {}
 
-/// The control data stand in the lead-in from sector 02F200 on.
+/// The control data are in the lead-in, from sector 02F200 on.
 pub fn control_data_stand_in_the_lead_in()
     ensures { (initial : ℕ) → ControlDataStandInTheLeadIn initial }
 {}
@@ -42,7 +42,7 @@ pub fn image_is_whole()
     ensures { ImageIsWhole }
 {}
 
-/// The image sectors of a block stand at the block's sector numbers, one after the other.
+/// The image sectors of a block are at the block's sector numbers, one after the other.
 pub fn plan_follows_places()
     ensures { PlanFollowsPlaces }
 {}

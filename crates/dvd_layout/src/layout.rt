@@ -1,4 +1,4 @@
-//! The lengths of a disk, which make a lawful layout.
+//! The lengths of a disk, which make a valid layout.
 
 ghost use Rattle.std.specs.Prelude.{◌≡◌, ◌+◌, ◌*◌, ◌%◌, ◌<◌, ◌≤◌, true, false, Some, None, IfOk, IfErr, IsOk, IsTrue};
 ghost use Rattle.dvd_layout.specs.Lengths.{blocks_of, first_fault, has_two_layers, initial_fault, is_opposite, layer_end, most_initial, padded};
@@ -9,13 +9,13 @@ use crate::plan::DATA_FIRST;
 // The longest Initial Zone, in ECC blocks: no sector has the number 0.
 const MAX_INITIAL: u32 = 12_031;
 
-// The longest zone behind the data, in ECC blocks.
+// The longest zone after the data, in ECC blocks.
 const MAX_TAIL: u32 = 12_288;
 
-// Where a layer that begins at 030000 ends at the latest.
+// The highest sector number that may follow a layer that begins at 030000 and the zone after its data.
 const LAST_END: u64 = 0x80_0000;
 
-/// Whether an Initial Zone may have so many ECC blocks.
+/// Checks that an Initial Zone may have `initial` ECC blocks, or returns the rule that it breaks.
 pub fn check_initial(initial: u32) -> Result<(), LayoutFault>
     ensures refused { IfErr result (λ fault. initial_fault initial ≡ Some fault) }
     ensures lawful { IsOk result → initial_fault initial ≡ None }
@@ -68,8 +68,8 @@ pub enum Zones {
     All,
 }
 
-/// A lawful layout: a shape, the image sectors of each layer, and the lengths in ECC blocks of the Initial Zone and
-/// of each zone behind the data.
+/// A valid layout: a shape, the image sectors of each layer, and the lengths in ECC blocks of the Initial Zone and of
+/// each zone after the data.
 #[derive(Clone, Copy, Debug, PartialEq, Eq)]
 pub struct Layout {
     /// The shape of the disk.
@@ -80,37 +80,37 @@ pub struct Layout {
     pub sectors1: u32,
     /// The ECC blocks of the Initial Zone, at most 12,031.
     pub initial: u32,
-    /// The ECC blocks of each zone behind the data, at most 12,288.
+    /// The ECC blocks of each zone after the data, at most 12,288.
     pub tail: u32,
     /// Layer 0 has data.
     pub ghost first_layer: { 0 < sectors0 },
-    /// So has layer 1, where there are two.
+    /// Layer 1 has data too, where there are two layers.
     pub ghost second_layer: { has_two_layers shape ≡ true → 0 < sectors1 },
-    /// Layer 0 is whole ECC blocks then.
+    /// Layer 0 is whole ECC blocks, where there are two layers.
     pub ghost whole_blocks: { has_two_layers shape ≡ true → sectors0 % 16 ≡ 0 },
-    /// Where there is one layer the other has no sectors.
+    /// Layer 1 has no sectors, where there is one layer.
     pub ghost one_layer: { has_two_layers shape ≡ false → sectors1 ≡ 0 },
     /// On the opposite track path layer 1 is no longer than layer 0.
     pub ghost no_longer: { is_opposite shape ≡ true → padded sectors1 ≤ padded sectors0 },
-    /// The Initial Zone stands before the data.
+    /// The Initial Zone fits before the data.
     pub ghost initial_fits: { initial ≤ most_initial },
-    /// The zones behind the data are within their bound.
+    /// The zones after the data are at most 12,288 blocks long.
     pub ghost tail_fits: { tail ≤ 12288 },
     /// Layer 0 ends before sector number 800000.
     pub ghost end0: { layer_end sectors0 tail ≤ 0x800000 },
-    /// So does layer 1.
+    /// Layer 1 ends before it too.
     pub ghost end1: { layer_end sectors1 tail ≤ 0x800000 },
 }
 
-// The ECC blocks of sixteen sectors that so many sectors fill.
+// The ECC blocks that this number of sectors fills, the last one maybe in part.
 pub(crate) fn blocks_of(sectors: u32) -> u32
     ensures { result ≡ blocks_of sectors }
 {
     sectors.div_ceil(16)
 }
 
-// The sector number behind a layer that begins at 030000: its data and the zone behind them.
-// It has 64 bits, since the line of a layer that is too long names its end exactly.
+// The sector number after a layer that begins at 030000: after its data and the zone that follows them. It has 64 bits,
+// since the error of a layer that is too long names its end exactly.
 fn layer_end(sectors: u32, tail: u32) -> u64
     ensures { result ≡ layer_end sectors tail }
 {

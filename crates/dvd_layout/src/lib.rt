@@ -3,9 +3,9 @@
 //!
 //! - `entry`: one ECC block of a plan, and what is known of its sixteen data frames.
 //! - `fault`: why a layout is refused.
-//! - `laws`: what holds of every lawful layout.
-//! - `layout`: the lengths of a disk, which make a lawful layout.
-//! - `place`: where image sectors stand on the disk.
+//! - `laws`: what holds of every valid layout.
+//! - `layout`: the lengths of a disk, which make a valid layout.
+//! - `place`: where image sectors are on the disk.
 //! - `plan`: the zone table, and the plan entry by entry.
 //! - `zone`: a zone of the disk.
 #![tactic(auto)]

@@ -1,4 +1,4 @@
-//! Where image sectors stand on the disk.
+//! Where image sectors are on the disk.
 ghost use Rattle.std.specs.Prelude.{◌≡◌, ◌↔◌, ℕ, ◌<◌, ◌≤◌, Some, IfSome};
 ghost use Rattle.dvd_layout.specs.Lengths.{has_two_layers};
 ghost use Rattle.dvd_layout.specs.Place.{image_sectors, place_of, total_sectors};
@@ -8,21 +8,21 @@ use crate::layout::Layout;
 use crate::plan::DATA_FIRST;
 
 impl Layout {
-    /// How many sectors the image has.
+    /// The number of sectors of the image.
     pub fn total(&self) -> u32
         ensures { result ≡ total_sectors self.now }
     {
         self.sectors0 + self.sectors1
     }
 
-    /// Whether the disk has two layers, whose reflectivity b29 of each ID tells.
+    /// Whether the disk has two layers; bit 29 of each ID (b29, reflectivity) says so.
     pub fn dim(&self) -> bool
         ensures { result ≡ has_two_layers self.now.shape }
     {
         self.shape.has_two_layers()
     }
 
-    /// How many image sectors a block of this content holds.
+    /// The number of image sectors that a block of this content holds.
     pub fn image_sectors(&self, content: Content) -> usize
         ensures value { result ≡ image_sectors self.now content }
         ensures most { result ≤ 16 }
@@ -45,7 +45,7 @@ impl Layout {
         }
     }
 
-    /// The image sector at a layer and a sector number. None stands anywhere else.
+    /// The image sector at a layer and a sector number, or `None` where there is no image sector.
     pub fn lba_of(&self, layer: u8, number: u32) -> Option<u32>
         ensures within { IfSome result (λ lba. lba < total_sectors self.now) }
         ensures exact { (lba : ℕ) → lba < total_sectors self.now → (result ≡ Some lba) ↔ (place_of self.now lba ≡ (layer, number)) }

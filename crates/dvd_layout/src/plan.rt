@@ -13,15 +13,15 @@ use dvd_frame::Area;
 /// The first sector number of the Data Zone of a layer that is read from the inside.
 pub const DATA_FIRST: u32 = 0x03_0000;
 
-// On the opposite track path the data of layer 1 begin as far before this number as layer 0 has sectors:
-// at the complement of layer 0's last data sector.
+// On the opposite track path the data of layer 1 begin as far before this number as layer 0 has sectors, in whole
+// blocks: at the complement of layer 0's last data sector.
 const SECOND_END: u32 = 0xFD_0000;
 
-// The most zones that a disk has: seven of each layer on the parallel track path.
+// The most zones that a disk has: seven for each layer on the parallel track path.
 type ZoneTable = ArrayVec<Zone, 14>;
 
 impl Layout {
-    /// How many ECC blocks a stream of these zones has.
+    /// The number of ECC blocks in a stream of these zones.
     pub fn blocks(&self, zones: Zones) -> u64
         ensures { result ≡ length (plan_of self.now zones) }
     {
@@ -37,7 +37,7 @@ impl Layout {
     }
 
     // The zones that a stream holds, in order.
-    // They are listed anew for each block, on the stack: a list that is kept would have to agree with the layout, and each
+    // They are listed anew for each block, on the stack: a stored list would have to agree with the layout, and each
     // clause that names a layout would have to say so.
     fn zone_table(&self, zones: Zones) -> ZoneTable
         ensures { result.items ≡ zone_table self.now zones }
@@ -48,7 +48,6 @@ impl Layout {
         }
     }
 
-    // Every zone of the disk.
     fn all_zones(&self) -> ZoneTable
         ensures { result.items ≡ zones_by self.now self.now.shape }
     {
@@ -64,7 +63,6 @@ impl Layout {
         table
     }
 
-    // The Data Zones alone.
     fn data_zones(&self) -> ZoneTable
         ensures { result.items ≡ zone_table self.now Zones.DataOnly }
     {
@@ -76,7 +74,7 @@ impl Layout {
         table
     }
 
-    // A layer that is read from the inside, with this Data Zone.
+    // Adds a layer that is read from the inside, with this Data Zone.
     fn push_layer(&self, table: &mut ZoneTable, image: Zone)
         requires room { array_vec_len table.old ≤ 7 }
         requires numbers { image.first + 16 * image.blocks < 2 ^ 32 }
@@ -88,7 +86,7 @@ impl Layout {
         table.push(behind(&image, self.tail, Area::LeadOut));
     }
 
-    // The opposite track path.
+    // Adds both layers of the opposite track path.
     fn push_opposite(&self, table: &mut ZoneTable)
         requires room { array_vec_len table.old ≤ 4 }
         requires shape { self.now.shape ≡ Shape.Opposite }
@@ -105,14 +103,12 @@ impl Layout {
         table.push(behind(&second, self.tail, Area::LeadOut));
     }
 
-    // The Data Zone of layer 0.
     fn first_data(&self) -> Zone
         ensures { result ≡ first_data self.now }
     {
         data_zone(DATA_FIRST, self.sectors0, 0, 0)
     }
 
-    // The Data Zone of layer 1.
     fn second_data(&self) -> Zone
         ensures { result ≡ second_data self.now }
     {
@@ -131,7 +127,7 @@ impl Layout {
     }
 }
 
-/// Block `k` of the lead-in of layer 0, where so many ECC blocks stand in its Initial Zone. Behind that zone come the
+/// Block `k` of the lead-in of layer 0, with an Initial Zone of `initial` ECC blocks. After that zone come the
 /// reference code, a buffer zone, the control data and another buffer zone, 256 blocks in all.
 pub fn lead_in_block(initial: u32, k: u32) -> BlockPlan
     requires initial { initial ≤ most_initial }
@@ -143,7 +139,7 @@ pub fn lead_in_block(initial: u32, k: u32) -> BlockPlan
     block_at(&table, u64::from(k))
 }
 
-// The zones of the lead-in of a layer.
+// Adds the zones of the lead-in of a layer.
 fn push_lead_in(table: &mut ZoneTable, initial: u32, layer: u8)
     requires room { array_vec_len table.old ≤ 9 }
     requires initial { initial ≤ most_initial }
@@ -163,7 +159,7 @@ fn push_lead_in(table: &mut ZoneTable, initial: u32, layer: u8)
     table.push(zeros(0x02_FE00, 32, Area::LeadIn, layer));
 }
 
-// A Data Zone of so many image sectors from one on.
+// A Data Zone of `sectors` image sectors, from image sector `from` on.
 fn data_zone(first: u32, sectors: u32, layer: u8, from: u32) -> Zone
     ensures { result ≡ zone_of first (blocks_of sectors) Area.DataZone layer (Content.Image from) }
 {
@@ -176,7 +172,6 @@ fn data_zone(first: u32, sectors: u32, layer: u8, from: u32) -> Zone
     }
 }
 
-// A zone of zeros.
 fn zeros(first: u32, blocks: u32, area: Area, layer: u8) -> Zone
     ensures { result ≡ zone_of first blocks area layer Content.Zero }
 {
@@ -189,7 +184,7 @@ fn zeros(first: u32, blocks: u32, area: Area, layer: u8) -> Zone
     }
 }
 
-// The zone of zeros behind a Data Zone.
+// The zone of zeros after a Data Zone.
 fn behind(image: &Zone, blocks: u32, area: Area) -> Zone
     requires { image.now.first + 16 * image.now.blocks < 2 ^ 32 }
     ensures { result ≡ behind image.now blocks area }

@@ -11,7 +11,7 @@ fn opposite() -> Result<Layout, LayoutFault> {
     Layout::new(Opposite, 32, 16, 0, 16)
 }
 
-// The fault of a layer that ends there.
+// The fault of a layer that ends at this sector number.
 fn too_long(layer: u8, end: u64) -> LayoutFault {
     LayerTooLong { layer, end }
 }

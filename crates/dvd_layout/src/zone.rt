@@ -7,19 +7,19 @@ ghost use Rattle.dvd_layout.specs.Inner.Ranges.{IsInRange};
 use crate::entry::{BlockPlan, Content};
 use dvd_frame::Area;
 
-/// A zone of a layer: its first sector number, its length in ECC blocks, and what stands in it.
+/// A zone of a layer: its first sector number, its length in ECC blocks, and what it holds.
 /// The image sector of its content is the first of its first block.
 #[derive(Clone, Copy, Debug, PartialEq, Eq)]
 pub struct Zone {
     /// The number of its first sector.
     pub first: u32,
-    /// How many ECC blocks it has.
+    /// The number of its ECC blocks.
     pub blocks: u32,
     /// The area that the IDs of its frames name.
     pub area: Area,
-    /// 0 or 1.
+    /// Its layer, 0 or 1.
     pub layer: u8,
-    /// What stands in its first block.
+    /// What its first block holds.
     pub content: Content,
 }
 
@@ -54,7 +54,7 @@ impl Zone {
     }
 }
 
-/// How many blocks these zones have.
+/// The number of blocks of these zones.
 pub(crate) fn count_blocks(zones: &[Zone]) -> u64
     requires few { length zones.now < 16 }
     requires numbers { All IsInRange zones.now }

@@ -1,4 +1,4 @@
--- One unit of a run apart from the others: what stands before it, its own, and what comes behind it.
+-- One unit of a run apart from the others: what comes before it, its own bytes, and what comes after it.
 use Rattle.std.proofs.Common.{◌≡◌, ◌≢◌, inl, inr, ℕ, zero, suc, ◌+◌, ◌*◌, ◌<◌, ◌≤◌, List, [], ◌∷◌, ◌++◌, length, get_or, take, drop, refl, ap, sym, subst, ◌∙◌, append_assoc, append-nil, add-one, length-append, arith}
 use Rattle.std.proofs.Math.Nat.{mul-le-mul_left, mul-suc, mul-zero}
 use Rattle.std.proofs.lemmas.List.{drop-drop, length-drop, length-take-le, take-append-drop}

@@ -1,4 +1,4 @@
--- What stands behind the last unit, as a loop comes to it, and the closing line behind the loop.
+-- What comes after the last unit, as a loop reaches it, and the closing line after the loop.
 use Rattle.std.proofs.Common.{◌≡◌, ◌≢◌, inl, inr, ℕ, ◌<◌, List, [], ◌∷◌, ◌++◌, length, refl, ap, sym, subst, arith}
 use Rattle.std.specs.Io.KnownBytes.{Appends, Consumes, IsAtEnd}
 use Rattle.dvd_ports.specs.Causes.{HasGoneOn}

@@ -1,4 +1,4 @@
--- What is done where no fault comes: all of the steps, and then what stands behind them; and how a loop ends within a unit.
+-- What is done where no fault comes: all of the steps, and then what comes after them; how a loop ends within a unit.
 use Rattle.std.proofs.Common.{◌≡◌, inl, inr, ◌⊎◌, ℕ, List, [], ◌∷◌, ◌++◌, length, refl, ap, sym, subst, ◌∙◌, append_assoc, append-nil}
 use Rattle.dvd_loop.specs.Laws.{IsFaultless}
 use Rattle.dvd_loop.specs.Machine.{Performs, EndsWithin, Fails, IsEndedWithin, Outcome, Step, Units, ended, stepping, taking}

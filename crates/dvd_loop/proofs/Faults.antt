@@ -1,4 +1,4 @@
--- What a fault leaves: after a failed read what the end of the input there would leave, and after any fault fronts.
+-- What a fault leaves: after a failed read, what the end of the input there would leave; after any fault, prefixes.
 use Rattle.std.proofs.Common.{◌≡◌, inl, inr, ℕ, zero, suc, ◌+◌, List, [], ◌∷◌, ◌++◌, length, refl, ap, sym, subst, ◌∙◌, append_assoc, append-nil, arith}
 use Rattle.dvd_loop.specs.Laws.{AreTotal, FaultsLeaveFronts, IsFaultless, IsFrontOf, ReadFaultEndsInput}
 use Rattle.dvd_loop.specs.Machine.{Performs, EndsAfterLast, EndsWithin, Fails, Continues, ContinuesAfter, IsEndedWithin, Outcome, Prefix, Step, Units, bad_of, end_by, ended, stepping, taking}

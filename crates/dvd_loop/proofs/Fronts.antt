@@ -1,4 +1,4 @@
--- Two fronts of the same bytes.
+-- Two prefixes of the same bytes.
 use Rattle.std.proofs.Common.{◌≡◌, ℕ, List, ◌++◌, length, take, ap, sym, ◌∙◌}
 use Rattle.std.proofs.lemmas.List.{append_cancel_left}
 use Rattle.std.proofs.Math.Seq.{take-append_seam}

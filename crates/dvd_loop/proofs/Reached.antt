@@ -1,4 +1,4 @@
--- What the loop has reached before a unit: whatever may come of the units to come is, behind what was done, an outcome of all.
+-- What the loop has reached before a unit: what may follow, added to what was done, is an outcome of all units.
 use Rattle.std.proofs.Common.{◌≡◌, ◌≢◌, inl, inr, ℕ, zero, suc, ◌+◌, ◌<◌, List, [], ◌∷◌, ◌++◌, length, refl, ap, sym, subst, append_assoc, append-nil, length-append, arith}
 use Rattle.dvd_loop.specs.Machine.{Performs, EndsAfterLast, Continues, ContinuesAfter, IsOutcome, IsUnit, Outcome, Step, Units, bad_of, ended, taking}
 use Rattle.dvd_loop.specs.Streams.{HaveReached, HaveMoved, Streams}

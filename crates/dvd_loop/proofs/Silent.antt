@@ -1,4 +1,4 @@
--- A run whose units tell nothing is the same beside any report, which stays as it is.
+-- A run whose units report nothing is the same with any report, which stays as it is.
 use Rattle.std.proofs.Common.{◌≡◌, ◌∙◌, inl, inr, ℕ, zero, suc, ◌+◌, Bool, true, false, List, [], ◌∷◌, ◌++◌, length, ap, refl, subst, sym, arith}
 use Rattle.std.specs.Io.KnownBytes.{Appends}
 use Rattle.dvd_ports.proofs.StopLemmas.{unmoved}

@@ -1,4 +1,4 @@
--- Steps that are taken: all of them, some of them, and with other things behind them.
+-- Steps that are done: all of them, some of them, and with other things after them.
 use Rattle.std.proofs.Common.{◌≡◌, inl, inr, List, [], ◌∷◌, ◌++◌, ℕ, ap, append_assoc}
 use Rattle.dvd_loop.specs.Machine.{Performs, IsTaken, IsUnit, Outcome, Step, Units, taking}
 use Rattle.dvd_loop.specs.Machine.Step.{Write, Tell}

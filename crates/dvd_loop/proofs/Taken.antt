@@ -1,4 +1,4 @@
--- What a run that ends as done has taken: the bytes of all units.
+-- What a run that ends as Done has read: the bytes of all units.
 use Rattle.std.proofs.Common.{◌≡◌, inl, inr, ℕ, zero, suc, ◌+◌, List, [], ◌∷◌, ◌++◌, length, length-append, refl, ap, sym, subst, ◌∙◌, add-one, arith}
 use Rattle.dvd_loop.specs.Laws.{IsFaultless, IsNever}
 use Rattle.dvd_loop.specs.Machine.{Performs, EndsAfterLast, Continues, IsOutcome, Outcome, Units, bad_of, sized}

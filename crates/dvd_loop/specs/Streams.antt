@@ -21,19 +21,19 @@ streams source output report = record { source = source; output = output; report
 abbrev pub no_stream : Seen
 no_stream = record { bytes = None; faults = 0; ends = 0; stopped = false }
 
--- what a stream tells, where it tells it, is this
+-- the bytes of a stream, where they are known, are these
 abbrev pub IsTold : Option (List ℕ) → List ℕ → Type 0
 IsTold None bytes = Unit {0}
 IsTold (Some told) bytes = told ≡ bytes
 
--- the source has given what was taken, the output and the report have grown by what was written and told
+-- the source has given what was read, and the output and the report have grown by what was written to them
 pub record HaveMoved (old new : Streams) (taken out lines : List ℕ) : Type 0 where
   pub reads : Consumes old.source.bytes new.source.bytes taken
   pub writes : Appends old.output.bytes new.output.bytes out
   pub tells : Appends old.report.bytes new.report.bytes lines
 
--- There are bytes, those of the source where it tells them, with an outcome of P over them that ends so, and to that the
--- streams have come.
+-- There are bytes, those of the source where they are known, and an outcome of P over them with this end, and the
+-- streams have moved by that outcome.
 pub record HaveReached (P : List ℕ → Outcome → Type 0) (old new : Streams) (end : LoopEnd) : Type 0 where
   pub bytes : List ℕ
   pub told : IsTold old.source.bytes bytes
@@ -48,8 +48,8 @@ pub record HaveGoneOn (old new : Streams) : Type 0 where
   pub output : HasGoneOn old.output new.output
   pub report : HasGoneOn old.report new.report
 
--- The counts of the source by the end of a loop. The one read that failed was its last, or the one that met the end of the
--- input; where the loop is done, none need have met it, since a command may ask for nothing after its last unit.
+-- The counts of the source by the end of a loop. The one read that failed was its last, or the one that met the end of
+-- the input. Where the loop is done, none need have met it, since a command may request nothing after its last unit.
 abbrev pub SourceCounts : LoopEnd → Seen → Seen → Type 0
 SourceCounts ReadFault old new = HasFailed old new
 SourceCounts (Short unit bytes) old new = HasMetEnd old new
@@ -63,7 +63,7 @@ abbrev pub is_write_fault : LoopEnd → Bool
 is_write_fault WriteFault = true
 is_write_fault end = false
 
--- because a line of the report failed
+-- whether it ended because a line of the report failed
 abbrev pub is_report_fault : LoopEnd → Bool
 is_report_fault ReportFault = true
 is_report_fault end = false
@@ -73,15 +73,15 @@ abbrev pub Counts : Bool → Seen → Seen → Type 0
 Counts true old new = HasFailed old new
 Counts false old new = HasGoneOn old new
 
--- The loop ended so, and with its closing line so: each fault among the two is one failed call of its stream, and its last
--- call; no other stream failed.
+-- The ends of the loop and of the run with its closing line: each fault among the two is one failed call of its stream,
+-- and its last call; no other stream failed.
 pub record HaveCauses (within end : LoopEnd) (old new : Streams) : Type 0 where
   pub source : SourceCounts within old.source new.source
   pub output : Counts (is_write_fault within) old.output new.output
   pub report : Counts (is_report_fault end) old.report new.report
 
--- A loop has ended so: with an outcome of P, to which the streams have come, and after a fault or the end of the input its
--- stream was asked for nothing more.
+-- A loop has ended in this way: with an outcome of P, by which the streams have moved. After a fault or the end of the
+-- input nothing more was requested of that stream.
 pub record HasEnded (P : List ℕ → Outcome → Type 0) (old new : Streams) (end : LoopEnd) : Type 0 where
   pub comes : HaveReached P old new end
   pub causes : HaveCauses end end old new

@@ -1,4 +1,4 @@
-//! How a loop ends, what a unit turns out to be, and what stands behind the last one.
+//! How a loop ends, what kind a unit is, and what comes after the last one.
 ghost use Rattle.std.specs.Prelude.{◌≡◌, ◌≢◌, true, false};
 ghost use Rattle.dvd_loop.specs.declared.ends.LoopEnd.TheVariants.{ReadFault as read_fault, WriteFault as write_fault};
 ghost use Rattle.dvd_loop.specs.declared.ends.UnitKind.TheVariants.{Last as last};
@@ -17,24 +17,25 @@ pub enum LoopEnd {
     WriteFault,
     /// A line of the report couldn't be written.
     ReportFault,
-    /// The input ended in this unit, after so many of its bytes.
+    /// The input ended in this unit, after this number of its bytes.
     Short { unit: u32, bytes: u32 },
     /// One byte more came than was expected.
     Long,
-    /// The input was whole, and so many units are bad.
+    /// The input was whole, and this number of units is bad.
     Damaged { blocks: u32 },
     /// No unit answered.
     NoControl,
-    /// This unit breaks a rule of its form at that byte.
+    /// This unit breaks a rule of its form at this byte.
     BadMarks { block: u32, at: u32 },
-    /// The input ended in the header before its first unit, after so many of its bytes.
-    /// No loop ends so, or as `BadHeader`. Both are here because a run has one end, with its status and its line.
+    /// The input ended in the header before its first unit, after this number of its bytes.
+    /// No loop ends in this way, or as `BadHeader`. Both are here because a run has one end, with its status and its
+    /// line.
     ShortHeader { bytes: u32 },
-    /// That header breaks a rule at that byte.
+    /// That header breaks a rule at this byte.
     BadHeader { at: u32 },
 }
 
-/// A call of the source failed.
+/// A failed call of the source ends the loop as `ReadFault`.
 impl From<Failed> for LoopEnd {
     ghost from_gives = { λ _ end. end ≡ read_fault };
 
@@ -43,7 +44,7 @@ impl From<Failed> for LoopEnd {
     }
 }
 
-/// The output couldn't be written. A fault of the report is named where it comes.
+/// A failed write ends the loop as `WriteFault`. A fault of the report is named where it comes.
 impl From<WriteFault> for LoopEnd {
     ghost from_gives = { λ _ end. end ≡ write_fault };
 
@@ -52,19 +53,19 @@ impl From<WriteFault> for LoopEnd {
     }
 }
 
-/// What a unit that was read and done is.
+/// The kind of a unit that was read and processed.
 #[derive(Clone, Copy, Debug, PartialEq, Eq)]
 pub enum UnitKind {
     /// Nothing of it is damaged, and the loop goes on.
     Good,
     /// It counts among the damaged units.
     Bad,
-    /// It answers, and the loop ends as Done behind it.
+    /// It answers, and the loop ends as `Done` after it.
     Last,
 }
 
 impl UnitKind {
-    /// Whether the loop ends behind it.
+    /// Whether the loop ends after this unit.
     pub fn is_last(self) -> bool
         ensures yes { result ≡ true → self ≡ last }
         ensures no { result ≡ false → self ≢ last }
@@ -72,7 +73,7 @@ impl UnitKind {
         matches!(self, UnitKind::Last)
     }
 
-    /// How many bad units it is.
+    /// How many bad units it counts as: 1 or 0.
     pub fn bad(self) -> u32
         ensures { result ≡ bad_of self }
     {
@@ -83,13 +84,13 @@ impl UnitKind {
     }
 }
 
-/// What stands behind the last unit.
+/// What comes after the last unit.
 #[derive(Clone, Copy, Debug, PartialEq, Eq)]
 pub enum AfterLast {
-    /// The end of the input: one byte more is asked for.
+    /// The end of the input: one more byte is requested.
     EndOfInput,
-    /// The end of the loop, which takes nothing more.
+    /// The end of the loop, which reads nothing more.
     Done,
-    /// The same, where a unit was to answer and none did.
+    /// Likewise the end of the loop, where a unit was to answer and none did.
     NoControl,
 }

@@ -4,12 +4,12 @@ ghost use Rattle.dvd_loop.specs.Laws.{OutcomesAgree, OutcomeExists, ReadFaultEnd
 
 use crate::UnitCommand;
 
-/// What is done for an input is determined.
+/// What is done for an input without a fault is determined, if what is done for each unit is.
 pub fn outcomes_agree<C: UnitCommand>()
     ensures { (key : C.Key) → OutcomesAgree (C.units key) }
 {}
 
-/// Something is done for every input.
+/// Every input has an outcome without a fault, if each unit has something that may be done for it.
 pub fn an_outcome_exists<C: UnitCommand>()
     ensures { (key : C.Key) → OutcomeExists (C.units key) }
 {}
@@ -19,12 +19,12 @@ pub fn a_read_fault_ends_the_input<C: UnitCommand>()
     ensures { (key : C.Key) → ReadFaultEndsInput (C.units key) }
 {}
 
-/// A fault leaves fronts of what is done without it.
+/// A fault leaves prefixes of what is done without it.
 pub fn faults_leave_fronts<C: UnitCommand>()
     ensures { (key : C.Key) → FaultsLeaveFronts (C.units key) }
 {}
 
-/// Where all units have one size the end tells how long the input is.
+/// Where all units have one size, the end says how long the input is.
 pub fn ends_by_size<C: UnitCommand>()
     ensures { (key : C.Key) → EndsBySize (C.units key) }
 {}

@@ -1,4 +1,5 @@
-//! The loop that goes over an input unit by unit, whatever the units are: what it takes, writes and tells, and how it ends.
+//! The loop that goes over an input unit by unit, whatever the units are: what it reads, writes and reports, and its
+//! ends.
 #![tactic(auto)]
 
 mod ends; // how a loop ends, and what a unit is

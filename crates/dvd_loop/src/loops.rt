@@ -8,7 +8,7 @@ ghost use Rattle.dvd_loop.specs.declared.ends.LoopEnd.{LoopEnd as HowItEnds};
 use crate::{AfterLast, LoopEnd, UnitCommand};
 use dvd_ports::{Failed, Sink, Source, WriteFault, read_whole, write_whole};
 
-/// Opens a command, goes over its units, closes it, and looks at what stands behind the last unit. Nothing is tried again:
+/// Opens a command, goes over its units, closes it, and checks what comes after the last unit. Nothing is tried again:
 /// a failed call, and a read that met the end of the input, is the last of its stream.
 pub fn run_units<C: UnitCommand, S: Source, K: Sink, E: Sink>(
     command: &mut C,
@@ -40,7 +40,7 @@ pub fn run_units<C: UnitCommand, S: Source, K: Sink, E: Sink>(
     }
 }
 
-/// The same of a command that is handed over, where nobody asks what it leaves.
+/// Likewise for a command that is handed over, where the caller doesn't need what it leaves.
 pub fn run_owned<C: UnitCommand + Drop, S: Source, K: Sink, E: Sink>(
     command: C,
     src: &mut S,
@@ -56,7 +56,6 @@ pub fn run_owned<C: UnitCommand + Drop, S: Source, K: Sink, E: Sink>(
     run_units(&mut command, src, out, report)
 }
 
-// Asks for one byte more, where one is to be asked for.
 fn expect_end<S: Source>(after_last: AfterLast, bad: u32, src: &mut S) -> LoopEnd
     ensures comes { (output report : Seen) → HaveReached (EndsAfterLast after_last bad)
         (streams (S.seen src.old) output report) (streams (S.seen src.new) output report) result }
@@ -75,8 +74,8 @@ fn expect_end<S: Source>(after_last: AfterLast, bad: u32, src: &mut S) -> LoopEn
     }
 }
 
-/// Tells the closing line of a loop that ended so. After a fault of the report none is tried; where the line can't be told
-/// the end is that fault, in place of the other.
+/// Writes the closing line of a loop's end to the report. After a fault of the report nothing is tried. Where the line
+/// can't be written, the end is `ReportFault` in place of the other.
 pub fn close<E: Sink>(end: LoopEnd, line: &[u8], report: &mut E) -> LoopEnd
     ensures closes { (closing : HowItEnds → List ℕ) (source output : Seen) → closing end ≡ line.now → HaveReached (λ bytes. Closes closing end)
         (streams source output (E.seen report.old)) (streams source output (E.seen report.new)) result }

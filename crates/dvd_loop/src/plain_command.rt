@@ -1,4 +1,4 @@
-//! A command whose units stand alone: nothing opens or closes them, and the input has to end behind the last.
+//! A command whose units are independent: nothing opens or closes them, and the input has to end after the last.
 ghost use Rattle.std.specs.Prelude.{◌≡◌, ◌<◌};
 ghost use Rattle.dvd_loop.specs.Machine.{Units};
 ghost use Rattle.dvd_loop.specs.Streams.{streams};
@@ -7,7 +7,7 @@ ghost use Rattle.dvd_loop.specs.UnitCommand.{ArePlain, ProcessesPlain};
 use crate::{AfterLast, LoopEnd, UnitCommand, UnitKind};
 use dvd_ports::{Sink, Source};
 
-/// A command whose units stand alone.
+/// A command whose units are independent: the processing of one is right whatever came before it.
 pub trait PlainCommand {
     /// What its units depend on, and the names of what it borrows. No unit changes it.
     ghost Key: { Type 0 };
@@ -18,17 +18,17 @@ pub trait PlainCommand {
     /// Its units.
     ghost units: { Key → Units };
 
-    /// It can process a unit: what it works with serves.
+    /// It can process a unit: its buffers are fit for it.
     ghost ready: { Self → Type 0 } = { λ _. Unit {0} };
 
-    /// They stand alone.
+    /// Nothing opens or closes its units, and the input has to end after the last.
     ghost alone: { (key : Key) → ArePlain (units key) };
 
     /// How many units there are.
     fn count(&self) -> u32
         ensures { result ≡ (units (key self.now)).count };
 
-    /// Reads unit `k`, takes its steps in their order, and answers what the unit is.
+    /// Reads unit `k`, does its steps in order, and answers the kind of the unit.
     fn process<S: Source, K: Sink, E: Sink>(
         &mut self,
         k: u32,
@@ -45,7 +45,7 @@ pub trait PlainCommand {
             (streams (S.seen src.new) (K.seen out.new) (E.seen report.new)) result };
 }
 
-// The loop takes it as any other: it opens and closes with nothing, and one byte more is asked for behind its last unit.
+// The loop runs it as any other: it opens and closes with nothing, and one more byte is requested after its last unit.
 impl<P: PlainCommand> UnitCommand for P {
     ghost Key = { P.PlainCommand.Key };
 

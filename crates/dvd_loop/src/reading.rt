@@ -6,8 +6,8 @@ ghost use Rattle.dvd_loop.specs.UnitCommand.{EndsShort, HasReadCause};
 use crate::LoopEnd;
 use dvd_ports::{Source, read_whole};
 
-/// Reads unit `k`, which has as many bytes as the buffer, or answers how the loop ends within it: the failed read, or the
-/// one that met the end of the input, is then the last.
+/// Reads unit `k`, whose bytes fill the buffer, or answers how the loop ends within it. The failed read, or the one
+/// that met the end of the input, is then the last.
 pub fn read_unit<S: Source>(src: &mut S, k: u32, unit: &mut [u8]) -> Result<(), LoopEnd>
     requires { length unit.old < 2 ^ 32 }
     ensures whole { OnOk result (Consumes (S.seen src.old).bytes (S.seen src.new).bytes unit.new) }

@@ -21,22 +21,22 @@ pub trait UnitCommand {
     /// Its units.
     ghost units: { Key → Units };
 
-    /// It is ready for the unit behind these.
+    /// It is ready for the unit after these.
     ghost ready: { Self → List (List ℕ) → Type 0 };
 
-    /// What it leaves where the loop ends so.
+    /// What it leaves where the loop ends in this way.
     ghost left: { Self → HowItEnds → Type 0 };
 
     /// How many units there are.
     fn count(&self) -> u32
         ensures { result ≡ (units (key self.now)).count };
 
-    /// What stands behind the last of them.
+    /// What comes after the last unit.
     fn after_last(&self) -> AfterLast
         ensures { result ≡ (units (key self.now)).after_last };
 
-    /// Writes and tells what stands before the first unit.
-    /// It has no body of its own: that would be proved for all units, and most commands open with nothing.
+    /// Writes and reports what comes before the first unit. It has no default body: that would have to be proved for
+    /// all units, though most commands open with nothing.
     fn open<K: Sink, E: Sink>(&self, out: &mut K, report: &mut E) -> Result<(), LoopEnd>
         ensures opens { (source : Seen) → AreSteps (units (key self.now)).opens
             (streams source (K.seen out.old) (E.seen report.old)) (streams source (K.seen out.new) (E.seen report.new)) result }
@@ -44,7 +44,7 @@ pub trait UnitCommand {
             (streams source (K.seen out.old) (E.seen report.old)) (streams source (K.seen out.new) (E.seen report.new)) }
         ensures left { IfErr result (left self.now) };
 
-    /// Reads unit `k`, takes its steps in their order, and answers what the unit is.
+    /// Reads unit `k`, does its steps in order, and answers the kind of the unit.
     fn process<S: Source, K: Sink, E: Sink>(
         &mut self,
         k: u32,
@@ -61,7 +61,7 @@ pub trait UnitCommand {
         ensures left { IfErr result (left self.new) }
         ensures last { result ≡ Ok UnitKind.Last → left self.new LoopEnd.Done };
 
-    /// Writes and tells what stands behind the last unit, before one byte more is asked for.
+    /// Writes and reports what comes after the last unit, before one more byte is requested.
     fn close<K: Sink, E: Sink>(&self, out: &mut K, report: &mut E) -> Result<(), LoopEnd>
         ensures closes { (source : Seen) → ClosesUnits (units (key self.now)) (ready self.now)
             (streams source (K.seen out.old) (E.seen report.old)) (streams source (K.seen out.new) (E.seen report.new)) result }

@@ -1,4 +1,4 @@
-//! The program dvdecc: it makes the real words and streams, and ends with the status of the run.
+//! The program dvdecc: it makes the real arguments and streams, and ends with the status of the run.
 #![tactic(auto)]
 
 use dvd_par::OpenGate;
@@ -30,7 +30,7 @@ fn main(rt: HostRuntime) -> ExitCode {
     ExitCode::from(status.number())
 }
 
-// The words behind the program's own name; none where one of them isn't UTF-8, which is no command.
+// The arguments after the program's own name; none where one of them isn't UTF-8, which makes a usage error.
 fn words<R: Env + AllocGlobal>(rt: &R) -> Result<Vec<String>, NoMemory> {
     match env::args(rt) {
         Ok(args) => args.skip(1).collect(rt.alloc()).map_err(|_| NoMemory),

@@ -5,13 +5,13 @@ use Rattle.std.specs.Io.KnownBytes.{ReadConsumes, WriteAppends}
 use Rattle.dvd_ports.specs.Causes.{HasFailed, HasGoneOn, HasMetEnd}
 use Rattle.dvd_ports.specs.Seen.{Seen}
 
--- The call moved bytes: the counts stay, and it isn't one that stopped.
+-- The call moved bytes: the counts stay, and the call neither failed nor met the end.
 pub record HasMoved (before now : Seen) : Type 0 where
   pub goes_on : HasGoneOn before now
   pub last : now.stopped ≡ false
 
--- A read moved the first bytes that were left to the front of the buffer. None into a buffer with room is the end of the
--- input. A read that failed lost none.
+-- A read moved the first bytes that were left to the beginning of the buffer. None into a buffer with room is the end
+-- of the input. A read that failed lost none.
 pub record IsRead {E : Type 0} (before now : Seen) (result : Result ℕ E) (buf : List ℕ) : Type 0 where
   pub bound : ReadsAtMost result buf
   pub bytes : ReadConsumes before.bytes now.bytes result buf
@@ -19,8 +19,8 @@ pub record IsRead {E : Type 0} (before now : Seen) (result : Result ℕ E) (buf 
   pub ended : IfOk result (λ count. count ≡ 0 → 0 < length buf → HasMetEnd before now)
   pub failed : OnErr result (HasFailed before now)
 
--- A write took bytes from the front of the buffer, at least one if there is one, and they stand after those taken before.
--- A write that failed took none.
+-- A write accepted bytes from the beginning of the buffer, at least one if there is one. They follow those accepted
+-- before. A write that failed accepted none, where the bytes of the sink are known.
 pub record IsWrite {E : Type 0} (before now : Seen) (result : Result ℕ E) (buf : List ℕ) : Type 0 where
   pub bound : WritesAtMost result buf
   pub progress : 0 < length buf → IfOk result (λ count. 0 < count)

@@ -2,12 +2,12 @@
 use Rattle.std.specs.Prelude.{ℕ, ◌+◌, ◌-◌, ◌^◌, ◌<◌, ◌≤◌, ◌≡◌, min, true, Result, IfOk, OnOk, OnErr}
 use Rattle.dvd_ports.specs.Seen.{Seen}
 
--- one more, but a count stays at the last number of 64 bits
+-- one more, but a count stays at the greatest number of 64 bits
 abbrev pub next_count : ℕ → ℕ
 next_count n = min (n + 1) (2 ^ 64 - 1)
 
--- the count rose: it is greater than before, or stands at its last number
--- An adapter counts in 64 bits; at the last number a fault may come without a rise.
+-- The count rose: it is greater than before, or at the greatest number of 64 bits. An adapter counts in 64 bits; at
+-- that number a fault may come without a rise.
 abbrev pub Rose : ℕ → ℕ → Type 0
 Rose before now = next_count before ≤ now
 
@@ -29,12 +29,14 @@ pub record HasMetEnd (before now : Seen) : Type 0 where
   pub ends : now.ends ≡ next_count before.ends
   pub last : now.stopped ≡ true
 
--- Calls that answer so together: they failed where one of them did, the last; and where they succeeded none did.
+-- Several calls that together have this result: they failed where one of them did, the last; and where they succeeded
+-- none failed.
 pub record HasCause {T E : Type 0} (before now : Seen) (result : Result T E) : Type 0 where
   pub failed : OnErr result (HasFailed before now)
   pub steady : OnOk result (HasGoneOn before now)
 
--- The same of reads that answer how many of these bytes came: fewer come only where the last read met the end of the input.
+-- Likewise for reads that answer how many of `size` bytes came: fewer come only where the last read met the end of the
+-- input.
 pub record HasFilled {E : Type 0} (size : ℕ) (before now : Seen) (result : Result ℕ E) : Type 0 where
   pub failed : OnErr result (HasFailed before now)
   pub full : IfOk result (λ count. size ≤ count → HasGoneOn before now)

@@ -2,9 +2,9 @@
 use Rattle.std.specs.Prelude.{ℕ, Bool, List, Some}
 use Rattle.dvd_ports.specs.Seen.{Seen}
 
--- The bytes left, how many a call gives at most, the numbers of the calls that fail, the number of the next call, how often
--- a call failed and how often one met the end, and whether the last did either. Only calls into a buffer that isn't empty
--- count.
+-- The bytes left, the most bytes that a call gives, the numbers of the calls that fail, the number of the next call,
+-- how often a call failed and how often one met the end, and whether the last did either. Only calls into a buffer that
+-- isn't empty count.
 pub record SourceState : Type 0 where
   pub left : List ℕ
   pub step : ℕ
@@ -14,7 +14,7 @@ pub record SourceState : Type 0 where
   pub ends : ℕ
   pub stopped : Bool
 
--- The bytes taken, how many there is room for, and the rest as for a source; a sink has no end.
+-- The bytes accepted, the number of bytes that there is room for, and the rest as for a source; a sink has no end.
 pub record SinkState : Type 0 where
   pub held : List ℕ
   pub room : ℕ
@@ -24,7 +24,8 @@ pub record SinkState : Type 0 where
   pub faults : ℕ
   pub stopped : Bool
 
--- Of a source over a slice, which never fails: the bytes left, how often a call met the end, and whether the last did.
+-- The state of a source over a slice, which never fails: the bytes left, how often a call met the end, and whether the
+-- last did.
 pub record SliceState : Type 0 where
   pub left : List ℕ
   pub ends : ℕ

@@ -4,14 +4,14 @@ use Rattle.std.specs.Io.KnownBytes.{Appends, Consumes}
 use Rattle.dvd_ports.specs.Causes.{HasCause}
 use Rattle.dvd_ports.specs.Seen.{Seen}
 
--- known bytes grew by a front of the piece, or by all of it
+-- known bytes grew by a prefix of the piece, or by all of it
 pub record AppendsFront (old new : Option (List ℕ)) (piece : List ℕ) : Type 0 where
   pub taken : List ℕ
   pub rest : List ℕ
   pub grows : Appends old new taken
   pub whole : taken ++ rest ≡ piece
 
--- known bytes grew by a front of the piece, and something of it was left
+-- known bytes grew by a prefix of the piece, and something of it was left
 pub record AppendsPrefix (old new : Option (List ℕ)) (piece : List ℕ) : Type 0 where
   pub taken : List ℕ
   pub rest : List ℕ
@@ -19,13 +19,14 @@ pub record AppendsPrefix (old new : Option (List ℕ)) (piece : List ℕ) : Type
   pub whole : taken ++ rest ≡ piece
   pub more : rest ≢ []
 
--- A piece was written: all of it, or the sink failed and took a front of it. A fault has its cause, the last call of the sink.
+-- A piece was written: all of it, or the sink failed and accepted a prefix of it. A fault has its cause, the last call
+-- of the sink.
 pub record IsWritten {E : Type 0} (piece : List ℕ) (old new : Seen) (answer : Result (Unit {0}) E) : Type 0 where
   pub written : OnOk answer (Appends old.bytes new.bytes piece)
   pub begun : OnErr answer (AppendsPrefix old.bytes new.bytes piece)
   pub cause : HasCause old new answer
 
--- known bytes lost fewer than so many at their front
+-- known bytes lost fewer than `size` at their beginning
 pub record ConsumesFewer (old new : Option (List ℕ)) (size : ℕ) : Type 0 where
   pub taken : List ℕ
   pub loses : Consumes old new taken

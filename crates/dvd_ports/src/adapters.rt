@@ -1,5 +1,5 @@
-//! Sources and sinks over std's readers and writers. Each counts its own errors, and a source how often its input ended, in
-//! 64 bits; the last number stays.
+//! Sources and sinks over std's readers and writers. Each counts its own errors, and a source also how often its input
+//! ended. The counts have 64 bits and stay at their greatest number.
 ghost use Rattle.std.specs.Prelude.{◌≡◌, ◌<◌, length, take, None, IfOk, OnErr, is_ok, false, if◌then◌else◌};
 ghost use Rattle.std.specs.Io.KnownBytes.{Appends};
 ghost use Rattle.dvd_ports.specs.Calls.{IsRead, IsWrite};
@@ -12,7 +12,7 @@ use std::io::{Read, Write};
 #[cfg(test)]
 mod tests;
 
-/// A source over a reader. It tells what std knows of the reader's bytes.
+/// A source over a reader. Its bytes are known where std knows those of the reader.
 #[derive(Drop)]
 pub struct StdSource<R: Read> {
     reader: R,
@@ -24,7 +24,7 @@ pub struct StdSource<R: Read> {
 impl<R: Read> StdSource<R> {
     ghost use Rattle.dvd_ports.specs.Adapters.{source_reader};
 
-    /// A source over this reader, of which nothing is read here.
+    /// A source over this reader. Nothing is read yet.
     pub fn new(reader: R) -> StdSource<R>
         ensures reader { source_reader result ≡ reader }
         ensures seen { ⟦<StdSource<R> as Source>⟧.seen result ≡ record { bytes = R.remaining reader; faults = 0; ends = 0; stopped = false } }
@@ -71,9 +71,9 @@ impl<R: Read> Source for StdSource<R> {
     }
 }
 
-/// A sink over a writer, which it flushes after each write. A write that takes nothing of a piece has failed.
-/// So a fault is known at the write that caused it, and a loop over the sink has an end.
-/// It tells no bytes, since a flush may fail when the bytes were taken.
+/// A sink over a writer, which it flushes after each write. A write that accepts nothing of a piece has failed. So a
+/// fault is known at the write that caused it, and a loop over the sink ends.
+/// Its bytes aren't known, since a flush may fail after the bytes were accepted.
 #[derive(Drop)]
 pub struct StdSink<W: Write> {
     writer: W,
@@ -84,7 +84,7 @@ pub struct StdSink<W: Write> {
 impl<W: Write> StdSink<W> {
     ghost use Rattle.dvd_ports.specs.Adapters.{sink_writer};
 
-    /// A sink over this writer, to which nothing is written here.
+    /// A sink over this writer. Nothing is written yet.
     pub fn new(writer: W) -> StdSink<W>
         ensures writer { sink_writer result ≡ writer }
         ensures seen { ⟦<StdSink<W> as Sink>⟧.seen result ≡ record { bytes = None; faults = 0; ends = 0; stopped = false } }

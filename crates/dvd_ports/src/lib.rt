@@ -1,9 +1,9 @@
 //! Sources and sinks of bytes: what a call moves, when it may fail, and what it leaves.
 //!
 //! Every object counts its own faults and the ends of its input, and knows whether its last call was one of these. Code
-//! that is generic over a source or a sink can't change these counts. So a contract that allows a fault only where one
-//! call failed, the last, refuses a body that gives up by itself, and one that tries a failed call again. A read that met
-//! the end of the input is likewise the last.
+//! that is generic over a source or a sink can't change these counts. So a contract may allow a fault only where
+//! exactly one call failed, the last. Such a contract refuses a body that gives up by itself, and one that tries a
+//! failed call again. A read that met the end of the input is likewise the last.
 #![tactic(auto)]
 
 /// The two traits and their errors.

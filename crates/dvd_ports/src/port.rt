@@ -22,11 +22,13 @@ pub struct NoMemory;
 
 /// Where bytes come from.
 pub trait Source {
-    /// The bytes that are left, where they are told, the counts of faults and of ends, and whether the last call stopped.
+    /// The bytes that are left, where they are known; the counts of faults and of ends; and whether the last call
+    /// failed or met the end.
     ghost seen: { Self → Seen };
 
-    /// Moves bytes to the front of `buf` and answers how many. Into a buffer with room, 0 is the end of the input.
-    /// Into an empty buffer nothing is moved and nothing changes, so that such a call is never taken for that end.
+    /// Moves bytes to the beginning of `buf` and returns their number. Into a buffer with room, 0 is the end of the
+    /// input. With an empty buffer nothing is moved and nothing changes, so that such a call is never mistaken for that
+    /// end.
     fn read(&mut self, buf: &mut [u8]) -> Result<usize, Failed>
         ensures call { IsRead (seen self.old) (seen self.new) result buf.new }
         ensures empty { length buf.old ≡ 0 → (result ≡ Ok 0) × (self.new ≡ self.old) };
@@ -34,10 +36,10 @@ pub trait Source {
 
 /// Where bytes go.
 pub trait Sink {
-    /// The bytes taken so far, where they are told, the count of faults, and whether the last call failed.
+    /// The bytes accepted so far, where they are known; the count of faults; and whether the last call failed.
     ghost seen: { Self → Seen };
 
-    /// Takes bytes from the front of `buf` and answers how many: at least one, if there is one.
+    /// Accepts bytes from the beginning of `buf` and returns their number: at least one, if there is one.
     fn write(&mut self, buf: &[u8]) -> Result<usize, Failed>
         ensures call { IsWrite (seen self.old) (seen self.new) result buf.now }
         ensures empty { length buf.now ≡ 0 → (result ≡ Ok 0) × (self.new ≡ self.old) };

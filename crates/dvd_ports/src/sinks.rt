@@ -1,4 +1,4 @@
-//! Sinks over memory. They fail exactly where they are told to.
+//! Sinks over memory. A call fails only where its number is listed, or where the sink is full.
 ghost use Rattle.std.specs.Prelude.{◌≡◌, ◌<◌, ◌≤◌, ◌↔◌, ◌-◌, ◌⊎◌, ◌++◌, [], length, take, min, Some, None, Contains, IfOk, IsErr, OnErr, true, false};
 ghost use Rattle.dvd_ports.specs.Calls.{IsWrite};
 ghost use Rattle.dvd_ports.specs.Causes.{next_count};
@@ -8,9 +8,9 @@ use crate::{Failed, NoMemory, Sink};
 use std::alloc::Global;
 use std::marker::Model;
 
-/// A sink that keeps what it takes, for tests: it has room for so many bytes, takes at most `step` of them a call, and
-/// fails where it is full and at the calls whose numbers are listed. Calls with a byte to write are numbered from 0;
-/// the last number stays.
+/// A sink that keeps what it accepts, for tests. It has room for `room` bytes and accepts at most `step` of them a
+/// call. It fails where it is full, and at the calls whose numbers are listed. Calls with a byte to write are numbered
+/// from 0, up to the greatest number of 64 bits, which then stays.
 #[derive(Drop)]
 pub struct MemSink {
     held: Vec<u8>,
@@ -34,7 +34,7 @@ impl Model for MemSink {
 }
 
 impl MemSink {
-    /// A sink with room for so many bytes, whose memory is taken here; no write takes any.
+    /// A sink with room for `room` bytes, whose memory is allocated here; no write allocates any.
     pub fn new(
         alloc: Global,
         room: usize,
@@ -57,7 +57,7 @@ impl MemSink {
         })
     }
 
-    /// What the sink has taken.
+    /// The bytes that the sink has accepted.
     pub fn held(&self) -> &[u8]
         ensures { result.now ≡ self.now.held }
     {
@@ -100,7 +100,7 @@ impl Sink for MemSink {
     }
 }
 
-/// A sink that takes everything, tells nothing and never fails.
+/// A sink that accepts everything and never fails; its bytes aren't known.
 #[derive(Clone, Copy, Debug, PartialEq, Eq)]
 pub struct NullSink;
 

@@ -1,5 +1,5 @@
-//! Sources over memory. They tell their bytes, and fail exactly where they are told to.
-//! They are part of the library, since every crate above tries its faults on them.
+//! Sources over memory. Their bytes are known, and a call fails only where its number is listed. They are part of the
+//! library, since the crates that depend on it test their faults with them.
 ghost use Rattle.std.specs.Prelude.{◌≡◌, ◌<◌, ◌≤◌, ◌↔◌, ◌++◌, length, take, drop, min, Some, Contains, IfOk, IsErr, OnErr, OnOk, true, false};
 ghost use Rattle.dvd_ports.specs.Calls.{IsRead};
 ghost use Rattle.dvd_ports.specs.Causes.{next_count};
@@ -8,7 +8,7 @@ ghost use Rattle.dvd_ports.specs.Memory.{slice_seen, source_seen};
 use crate::{Failed, Source};
 use std::marker::Model;
 
-/// A source over bytes that it is lent. It gives as many as the buffer takes and never fails.
+/// A source over borrowed bytes. Each call gives the bytes that are left, as far as the buffer has room; none fails.
 #[derive(Drop)]
 pub struct SliceSource<'a> {
     rest: &'a [u8],
@@ -68,7 +68,8 @@ impl<'a> Source for SliceSource<'a> {
 }
 
 /// A source over bytes of its own, for tests: it gives at most `step` bytes a call, and fails at the calls whose
-/// numbers are listed. Calls into a buffer with room are numbered from 0; the last number stays.
+/// numbers are listed. Calls into a buffer with room are numbered from 0, up to the greatest number of 64 bits, which
+/// then stays.
 #[derive(Drop)]
 pub struct MemSource {
     bytes: Vec<u8>,

@@ -13,7 +13,7 @@ static READS: [Reads; 4] = [
     (&[], 1, &[1], [0, 9, 0, 0]),
 ];
 
-// Room, step, calls that fail, and what is taken of a piece of three at each of the next calls.
+// Room, step, calls that fail, and how many bytes of a piece of three are accepted at each of the next calls.
 type Writes = (usize, usize, &'static [u64], [usize; 4]);
 
 static WRITES: [Writes; 4] = [
@@ -28,7 +28,7 @@ fn count_or_nine(answer: Result<usize, Failed>) -> usize {
     answer.unwrap_or(9)
 }
 
-// An error where the next call gives another count. What it gives comes behind what came.
+// An error where the next call gives another count. What it gives is added to what came before.
 fn reads(source: &mut MemSource, got: &mut Vec<u8>, count: usize) -> Result<(), Fail> {
     let mut buf = [0u8; 5];
     let none = count_or_nine(source.read(&mut []));
@@ -69,7 +69,7 @@ fn a_source_in_memory_gives_its_bytes_by_steps(rt: HostRuntime) -> Result<(), Fa
     Ok(())
 }
 
-// An error where the next call takes another count. What it takes comes behind what is wanted.
+// An error where the next call accepts another count. What it accepts is added to what is wanted.
 fn writes(sink: &mut MemSink, wanted: &mut Vec<u8>, count: usize) -> Result<(), Fail> {
     let none = count_or_nine(sink.write(&[]));
     let some = count_or_nine(sink.write(&[7, 8, 9]));
@@ -82,7 +82,7 @@ fn writes(sink: &mut MemSink, wanted: &mut Vec<u8>, count: usize) -> Result<(), 
     Ok(())
 }
 
-// The pieces are taken by these counts, and held.
+// The pieces are accepted by these counts, and held.
 fn takes(alloc: Global, sink: &mut MemSink, case: &Writes) -> Result<(), Fail> {
     let mut wanted = Vec::new(alloc);
     for count in case.3 {

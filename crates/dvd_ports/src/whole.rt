@@ -7,8 +7,8 @@ ghost use Rattle.dvd_ports.specs.Whole.{ConsumesFewer, IsWritten};
 
 use crate::{Failed, Sink, Source, WriteFault};
 
-/// Writes the whole piece, by as many calls as it takes. After a fault a prefix of it was taken, and the failed call is
-/// the last.
+/// Writes the whole piece, in one call or several. After a fault the sink has accepted a prefix of the piece and not
+/// all of it, and the failed call is the last.
 #[tactic(auto, using(crate::proofs::KnownLemmas::write_begun, crate::proofs::KnownLemmas::writes_more))]
 pub fn write_whole<K: Sink>(out: &mut K, buf: &[u8]) -> Result<(), WriteFault>
     ensures { IsWritten buf.now (K.seen out.old) (K.seen out.new) result }
@@ -23,9 +23,9 @@ pub fn write_whole<K: Sink>(out: &mut K, buf: &[u8]) -> Result<(), WriteFault>
     Ok(())
 }
 
-/// Fills the buffer, by as many calls as it takes, and answers how many bytes came: fewer than the buffer's length
-/// only at the end of the input, which is believed at once. After a fault fewer bytes than that were taken from the
-/// source, and the failed call is the last.
+/// Fills the buffer, in one call or several, and returns the number of bytes read. It is less than the buffer's length
+/// only at the end of the input, which is believed at once. After a fault fewer bytes than the buffer's length were
+/// read from the source, and the failed call is the last.
 #[tactic(auto, using(crate::proofs::KnownLemmas::reads_more, crate::proofs::KnownLemmas::reads_inside))]
 pub fn read_whole<S: Source>(src: &mut S, buf: &mut [u8]) -> Result<usize, Failed>
     ensures bound { ReadsAtMost result buf.new }

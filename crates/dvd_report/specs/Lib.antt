@@ -1,4 +1,4 @@
--- What the contracts speak of: the lines of a report, and the survey of a disk.
+-- What the contracts are about: the lines of a report, and the survey of a disk.
 pub mod Examples
 pub mod Inner
 pub mod Lines

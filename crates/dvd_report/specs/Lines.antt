@@ -1,12 +1,12 @@
 -- The lines of a report that name damaged ECC blocks, and those that were given back. Each ends with one line feed.
--- Numbers are decimal, but where it says otherwise.
+-- Numbers are decimal, except where a comment says otherwise.
 use Rattle.std.specs.Prelude.{ℕ, zero, suc, ◌/◌, ◌%◌, List, [], ◌∷◌, ◌++◌, true, codes, decimal}
 use Rattle.std.specs.Fmt.{digit_glyph}
 use Rattle.dvd_layout.specs.declared.entry.BlockPlan.{BlockPlan}
 use Rattle.dvd_decoding.specs.declared.cause.Cause.{Cause}
 use Rattle.dvd_decoding.specs.declared.cause.Cause.TheVariants.{Rows, Column, Row, Ied, Address, Edc}
 
--- The last so many hexadecimal digits of a number, in capitals, the highest first. The code makes the highest first;
+-- The last `width` hexadecimal digits of a number, in capitals, the highest first. The code makes the highest first;
 -- this peels off the lowest.
 unfoldable pub hexadecimal : ℕ → ℕ → List ℕ
 hexadecimal zero number = []
@@ -25,7 +25,7 @@ cause_text (Edc f) = codes "edc " ++ decimal f
 unfoldable pub block_text : ℕ → BlockPlan → List ℕ
 block_text k plan = codes "block " ++ decimal k ++ codes " sector " ++ hexadecimal 6 plan.first ++ codes " layer " ++ decimal plan.layer
 
--- such a block, its cause, and how many of its sixteen frames were saved
+-- such a block, its cause, and how many of its sixteen frames were salvaged
 unfoldable pub damage_line : ℕ → BlockPlan → Cause → ℕ → List ℕ
 damage_line k plan cause saved = block_text k plan ++ codes ": " ++ cause_text cause ++ codes " saved " ++ decimal saved ++ codes "\n"
 

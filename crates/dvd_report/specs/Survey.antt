@@ -15,7 +15,7 @@ use Rattle.dvd_report.specs.Lines.{block_text, cause_text}
 use Rattle.dvd_report.specs.declared.counts.Surveyed.{Surveyed}
 use Rattle.dvd_report.specs.declared.counts.Totals.{Totals}
 
--- A received row has a PI error: a place of it is marked, or it isn't a codeword of its inner parity. It is taken as it
+-- A received row has a PI error: a byte of it is marked, or it isn't a codeword of its inner parity. It counts as it
 -- was received, before any correction.
 abbrev pub has_pi_error : List ℕ → List Bool → Bool
 has_pi_error row marks = list_any (λ mark. mark) marks || not (vanishes_at_all 10 row)
@@ -24,7 +24,7 @@ has_pi_error row marks = list_any (λ mark. mark) marks || not (vanishes_at_all 
 unfoldable pub pi_rows : List (List ℕ) → List (List Bool) → ℕ
 pi_rows rows marks = count_by (λ i. has_pi_error (line rows i) (marks_line marks i)) (range_with_len 0 208)
 
--- how many rows have no near codeword
+-- how many rows are uncorrectable
 abbrev pub failed_rows : List (List ℕ) → List (List Bool) → ℕ
 failed_rows rows marks = marked (failed_of (answers_of rows marks))
 
@@ -53,8 +53,8 @@ abbrev pub greatest : List ℕ → ℕ
 greatest [] = 0
 greatest (x ∷ xs) = max x (greatest xs)
 
--- The totals over blocks. The peak is the greatest sum of eight, and stands at the first block that has it; over is
--- how many blocks have a sum above 280.
+-- The totals over blocks. The peak is the greatest sum of eight, with the first block that has it; `over` is how many
+-- blocks have a sum above 280.
 unfoldable pub totals_of : List Surveyed → Totals
 totals_of blocks = record {
   blocks = length blocks;
@@ -76,7 +76,7 @@ pub record SurveyState : Type 0 where
   pub window : List ℕ
   pub last : Option Surveyed
 
--- a survey stands for these blocks
+-- a survey is that of these blocks
 pub record StandsFor (survey : SurveyState) (blocks : List Surveyed) : Type 0 where
   pub totals : survey.totals ≡ totals_of blocks
   pub window : survey.window ≡ map pi_of (last_eight blocks)
@@ -108,6 +108,6 @@ line_of_totals totals =
     ++ codes " damaged " ++ decimal totals.damaged ++ codes " peak " ++ decimal totals.peak ++ codes " at " ++ decimal totals.peak_at
     ++ codes " over " ++ decimal totals.over ++ codes "\n"
 
--- that of these blocks
+-- the line of totals of these blocks
 abbrev pub totals_line : List Surveyed → List ℕ
 totals_line blocks = line_of_totals (totals_of blocks)

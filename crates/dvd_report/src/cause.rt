@@ -1,5 +1,5 @@
-//! The line of a damaged ECC block: where it stands in the plan and on the disk, the first rule that it breaks, and how many
-//! of its sixteen frames were saved.
+//! The line of a damaged ECC block: its number in the plan and its place on the disk, the first rule that it breaks,
+//! and how many of its sixteen frames were salvaged.
 ghost use Rattle.std.specs.Prelude.{◌≡◌, ◌+◌, ◌≤◌, ◌++◌, length};
 ghost use Rattle.dvd_layout.specs.Place.{HasNumbers};
 ghost use Rattle.dvd_ports.specs.Whole.{IsWritten};
@@ -10,8 +10,8 @@ use dvd_layout::BlockPlan;
 use dvd_ports::{Sink, WriteFault, write_whole};
 use dvd_read::Cause;
 
-/// Writes the line of block `k` of a plan, which has this cause and of whose sixteen frames so many were saved:
-/// `block K sector H6 layer L: CAUSE saved S` and a line feed, where `H6` is the block's first sector number.
+/// Writes the line of block `k` of a plan, with this cause and with `saved`, the number of its sixteen frames that were
+/// salvaged: `block K sector H6 layer L: CAUSE saved S` and a line feed, where `H6` is the block's first sector number.
 /// After a fault a prefix of the line was written.
 pub fn write_cause<E: Sink>(
     k: u64,

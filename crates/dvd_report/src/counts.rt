@@ -6,7 +6,7 @@ use dvd_read::Cause;
 pub struct Surveyed {
     /// How many received rows have a PI error, at most 208.
     pub pi: u8,
-    /// How many rows have no near codeword, at most 208.
+    /// How many rows are uncorrectable, at most 208.
     pub failed: u8,
     /// Why the block is refused, or none.
     pub cause: Option<Cause>,
@@ -19,7 +19,7 @@ pub struct Totals {
     pub blocks: u64,
     /// How many of their received rows have a PI error.
     pub pi: u64,
-    /// How many of their rows have no near codeword.
+    /// How many of their rows are uncorrectable.
     pub failed: u64,
     /// How many blocks have a cause.
     pub damaged: u64,

@@ -42,7 +42,7 @@ fn count_rows(work: &Work) -> (u8, u8)
     (pi, failed)
 }
 
-// Whether a row with this answer was received with a PI error: it failed, or a place was corrected or marked.
+// Whether a row with this answer was received with a PI error: it failed, or a byte was corrected or marked.
 fn has_pi_error(answer: Option<Fix>) -> bool
     ensures failed { answer ≡ None → result ≡ true }
     ensures answered { IfSome answer (λ fix. result ≡ nat_lt 0 (fix.errors + fix.erased)) }
@@ -53,7 +53,8 @@ fn has_pi_error(answer: Option<Fix>) -> bool
     }
 }
 
-// A row has 182 bytes. That isn't known of it as a line of a block; this says it, and does nothing when it runs.
+// A row has 182 bytes. The contract of a block's rows doesn't say this; the call proves it, and does nothing at run
+// time.
 fn prove_row(row: &[u8; 182])
     ensures size { length row.now ≡ 182 }
     ensures bytes { All IsByte row.now }
@@ -61,7 +62,7 @@ fn prove_row(row: &[u8; 182])
     prove_bytes(row);
 }
 
-// What a slice of bytes has is bytes.
+// The elements of a slice of bytes are bytes. The call proves this, and does nothing at run time.
 fn prove_bytes(bytes: &[u8])
     ensures { All IsByte bytes.now }
 {}

@@ -1,5 +1,5 @@
-//! The lines of a report that name the ECC blocks of a stream that are damaged, or that a round gave back, and the survey of
-//! a disk's surface: how many rows of its blocks have a PI error (ECMA-267, clause 18).
+//! The lines of a report that name the ECC blocks of a stream that are damaged, or that a round gave back, and the
+//! survey of a disk's surface: how many rows of its blocks have a PI error (ECMA-267, clause 18).
 #![tactic(auto)]
 
 mod cause; // the line of a damaged block

@@ -9,8 +9,8 @@ use crate::text::Line;
 use dvd_layout::BlockPlan;
 use dvd_ports::{Sink, WriteFault, write_whole};
 
-/// Writes the line of block `k` of a plan, which this round gave back: `block K sector H6 layer L: round T` and a line feed.
-/// After a fault a prefix of the line was written.
+/// Writes the line of block `k` of a plan, which this round gave back: `block K sector H6 layer L: round T` and a line
+/// feed. After a fault a prefix of the line was written.
 pub fn write_round<E: Sink>(
     k: u64,
     plan: &BlockPlan,

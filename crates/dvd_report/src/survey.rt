@@ -22,14 +22,14 @@ use dvd_read::{Cause, Fixed};
 use std::alloc::Global;
 use std::marker::Model;
 
-// So many blocks are summed together.
+// The number of blocks that are summed together.
 const WINDOW: usize = 8;
 
-// The sums above this are counted.
+// Sums above this are counted: ECMA-267 allows 280.
 const MANY: u32 = 280;
 
 /// A survey: totals over all blocks, the PI error rows of the last eight, and the last block.
-/// It is all that is kept of the list of its blocks, for which contracts take it.
+/// It keeps only these of the list of its blocks; a contract sees it as the survey of that list.
 #[derive(Drop)]
 pub struct Survey {
     totals: Totals,
@@ -49,7 +49,7 @@ impl Model for Survey {
 }
 
 impl Survey {
-    /// The survey of no block. `NoMemory` may come at any time, and nothing is taken then.
+    /// The survey of no block. `NoMemory` may come at any time, and nothing is allocated then.
     pub fn new(alloc: Global) -> Result<Survey, NoMemory>
         ensures { IfOk result (λ survey. StandsFor survey []) }
     {
@@ -62,7 +62,7 @@ impl Survey {
     }
 
     /// Adds a block that was decoded, and what was answered to it. The rows are counted as they were received. The work
-    /// stays, and no memory is taken.
+    /// stays, and no memory is allocated.
     pub fn add(&mut self, work: &Work, answer: &Result<Fixed, Cause>)
         requires answers { HasAnswers (stage_of work.now) }
         requires room { self.old.totals.blocks < 2 ^ 32 }
@@ -83,9 +83,9 @@ impl Survey {
         self.totals
     }
 
-    /// Writes the line of the last block, which has this place in a plan:
-    /// `block K sector H6 layer L pi P failed F sum8 S: ANSWER` and a line feed. `K` is the block's number from 0, `P` and
-    /// `F` are its rows with a PI error and without a near codeword, and `S` is the sum of `P` over it and the seven
+    /// Writes the line of the last block, whose entry of the plan this is:
+    /// `block K sector H6 layer L pi P failed F sum8 S: ANSWER` and a line feed. `K` is the block's number from 0, `P`
+    /// and `F` are its rows with a PI error and its uncorrectable rows, and `S` is the sum of `P` over it and the seven
     /// before it. After a fault a prefix of the line was written.
     pub fn write_line<K: Sink>(&self, plan: &BlockPlan, out: &mut K) -> Result<(), WriteFault>
         requires some { 0 < self.now.totals.blocks }
@@ -99,8 +99,8 @@ impl Survey {
         write_whole(out, self.last_line(plan).as_slice())
     }
 
-    /// Writes the line of totals: `blocks B pi P failed F damaged D peak S at K over O` and a line feed. After a fault a
-    /// prefix of the line was written.
+    /// Writes the line of totals: `blocks B pi P failed F damaged D peak S at K over O` and a line feed. After a fault
+    /// a prefix of the line was written.
     pub fn write_totals<K: Sink>(&self, out: &mut K) -> Result<(), WriteFault>
         ensures written { (blocks : List Surveyed) → StandsFor self.now blocks
             → OnOk result (Appends (K.seen out.old).bytes (K.seen out.new).bytes (totals_line blocks)) }
@@ -111,7 +111,6 @@ impl Survey {
         write_whole(out, line_of_totals(&self.totals).as_slice())
     }
 
-    // The line of the last block.
     fn last_line(&self, plan: &BlockPlan) -> Line
         requires { 0 < self.now.totals.blocks }
         ensures { (blocks : List Surveyed) → StandsFor self.now blocks → result ≡ survey_line (length blocks - 1) plan.now blocks }
@@ -128,7 +127,6 @@ impl Survey {
     }
 }
 
-// The totals over no block.
 fn no_totals() -> Totals
     ensures totals { result ≡ totals_of [] }
     ensures bounded { IsBounded result }

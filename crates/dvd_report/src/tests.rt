@@ -7,7 +7,7 @@ use dvd_ports::{MemSink, WriteFault};
 use dvd_read::{Cause, Fixed, read_block, two_pass};
 use std::test::Fail;
 
-// A block of the plan, the number that its line is to have, its cause, how many frames were saved, and the line.
+// A block of the plan, the number for its line, its cause, how many frames were salvaged, and the line.
 const LINES: [(u64, u64, Cause, u8, &[u8]); 7] = [
     (
         256,
@@ -86,7 +86,7 @@ fn each_cause_has_its_line(rt: HostRuntime) -> Result<(), Fail> {
     Ok(())
 }
 
-// The rows with a wrong byte or a marked place, the lost rows, and the line of a block.
+// The rows with a wrong byte or a mark, the lost rows, and the line of a block.
 static BLOCKS: [(usize, usize, &[u8]); 21] = [
     (
         40,
@@ -201,8 +201,8 @@ fn put(work: &mut Work, i: usize, j: usize, byte: u8, mark: bool) {
     }
 }
 
-// A received block of zeros. Of its first `wrong` rows each has a wrong byte or a marked place or both, in turn; of its
-// last `lost` rows all places are marked.
+// A received block of zeros. Each of its first `wrong` rows has a wrong byte or a mark or both, in turn; in its last
+// `lost` rows all bytes are marked.
 fn receive(work: &mut Work, zeros: &Block, wrong: usize, lost: usize) {
     work.load_block(zeros);
     for i in 0..wrong {
@@ -224,8 +224,8 @@ fn receive(work: &mut Work, zeros: &Block, wrong: usize, lost: usize) {
 // The totals of these blocks.
 static TOTALS: &[u8] = b"blocks 21 pi 421 failed 17 damaged 1 peak 281 at 9 over 2\n";
 
-// The totals over no block, the line of a block without errors, the totals then, and the line of a block whose first frame
-// names another place.
+// The totals over no block, the line of a block without errors, the totals then, and the line of a block whose first
+// frame names another place.
 static LINES_OF_ZEROS: [&[u8]; 4] = [
     b"blocks 0 pi 0 failed 0 damaged 0 peak 0 at 0 over 0\n",
     b"block 0 sector 030000 layer 0 pi 0 failed 0 sum8 0: whole\n",

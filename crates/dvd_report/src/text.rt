@@ -1,4 +1,4 @@
-//! Lines of text, which take no memory from an allocator, and what is put at their end.
+//! Lines of text, which allocate no memory, and what is put at their end.
 ghost use Rattle.std.specs.Prelude.{◌≡◌, ◌+◌, ◌<◌, ◌≤◌, [], ◌++◌, length, decimal, true};
 ghost use Rattle.std.specs.Fmt.{digit_glyph};
 ghost use Rattle.dvd_report.specs.Lines.{hexadecimal};
@@ -43,7 +43,7 @@ impl Line {
         let _ = self.bytes.try_extend_from_slice(text);
     }
 
-    /// Puts a number in decimal at the end of the line: at most 20 places.
+    /// Puts a number in decimal at the end of the line: at most 20 digits.
     pub fn put_number(&mut self, number: u64)
         requires room { length self.old + 20 ≤ 256 }
         ensures bytes { self.new ≡ self.old ++ decimal number }
@@ -52,7 +52,7 @@ impl Line {
         self.put(Buffer::new().format(number).as_bytes());
     }
 
-    /// Puts a number of eight bits in decimal at the end of the line: at most 3 places.
+    /// Puts a number of eight bits in decimal at the end of the line: at most 3 digits.
     pub fn put_byte(&mut self, number: u8)
         requires room { length self.old + 3 ≤ 256 }
         ensures bytes { self.new ≡ self.old ++ decimal number }
@@ -92,7 +92,6 @@ impl Line {
     }
 }
 
-// The hexadecimal digit, in capitals.
 fn hexadecimal_digit(value: u32) -> u8
     requires { value < 16 }
     ensures { result ≡ digit_glyph true value }

@@ -1,4 +1,4 @@
--- What follows for a run: what a failed read leaves, how the closing line is told, and which calls failed.
+-- What follows for a run: what a failed read leaves, how the closing line is reported, and which calls failed.
 use Rattle.std.proofs.Common.{◌≡◌, ◌≢◌, ◌⊎◌, inl, inr, ℕ, List, [], ◌∷◌, ◌++◌, refl, ap, sym, subst, ◌∙◌, append-nil}
 use Rattle.dvd_ports.specs.Causes.{HasGoneOn, HasMetEnd}
 use Rattle.dvd_ports.specs.Seen.{Seen}

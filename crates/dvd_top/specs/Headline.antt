@@ -28,14 +28,14 @@ use Rattle.dvd_top.specs.declared.status.Status.TheVariants as status
 -- `breaks` gives the first rule of layouts that these break. A listed capture states its layout in a header, which is
 -- read later.
 
--- LOOP. A command cuts its input into units, as `recover` and `master` into blocks, and says on its page of dvd_commands
--- what is done for each. A unit is acted on only when all its bytes have come. Its steps are done in order: each writes
--- to the output or reports a line. `recover` reports the damage line of a refused block, and then writes its sectors;
--- an accepted block has no line, and beyond the bound it may be a wrong one. After the last unit every command but
--- `info` and `exercise` reads one more byte. If it comes the end is Long (status 6), with all written; else Done (0),
--- or Damaged (7) where a unit was refused. Short (5): the input ended before. Where a read fails (3) nothing is done of
--- its unit. Where a write (4) or a line (9) fails, all before it was done, perhaps a first part of it, and nothing
--- after it.
+-- LOOP. A command cuts its input into units, as `recover` and `master` into blocks, and says on its page of
+-- dvd_commands what is done for each. A unit is acted on only when all its bytes have come. Its steps are done in
+-- order: each writes to the output or reports a line. `recover` reports the damage line of a refused block, and then
+-- writes its sectors; an accepted block has no line, and beyond the bound it may be a wrong one. After the last unit
+-- every command but `info` and `exercise` reads one more byte. If it comes the end is Long (status 6), with all
+-- written; else Done (0), or Damaged (7) where a unit was refused. Short (5): the input ended before. Where a read
+-- fails (3) nothing is done of its unit. Where a write (4) or a line (9) fails, all before it was done, perhaps a first
+-- part of it, and nothing after it.
 abbrev pub IsLoop : Settings → List ℕ → Outcome → Type 0
 IsLoop settings bytes outcome = Opens settings.form GoesOver settings bytes outcome
 
@@ -64,10 +64,10 @@ pub record IsRun (settings : Settings) (old new : Streams) (result : Status) : T
   pub bound : Rescues settings.command → AfterHeader settings.form KeepsBound settings bytes loop
   -- `recover`: likewise each sector whose twelve rows are good, in a block that two passes refuse
   pub good_frames : settings.command ≡ Recover → AfterHeader settings.form KeepsGoodFrames settings bytes loop
-  -- `cdread`: likewise each CD-ROM sector whose damage its words can correct (`IsBorne`) gives its user data
+  -- `cdread`: likewise each CD-ROM sector whose damage its codewords can correct (`IsBorne`) gives its user data
   pub sectors : settings.command ≡ CdRead → KeepsSectors settings bytes loop
 
--- NO RUN. The report gets one line, and the status is this one; or the report failed within the line.
+-- NO RUN. The report gets one line, and the status is the one wanted; or the report failed within the line.
 abbrev pub Reports : Status → List ℕ → Seen → Seen → Status → Type 0
 Reports wanted line old new result =
     ((result ≡ wanted) × Appends old.bytes new.bytes line × HasGoneOn old new)
@@ -78,7 +78,8 @@ abbrev pub Untouched : {S K : Type 0} → S → S → K → K → Type 0
 Untouched src src_now out out_now = (src_now ≡ src) × (out_now ≡ out)
 
 -- CALL. It is one of four things. IsNoMemory (8) may come in place of each other one, but only before a byte is read or
--- written: a run never ends so, and without threads the work is done by one. That memory was short is not claimed.
+-- written: no run that began ends with it, and without threads the work is done by one. That memory was short is not
+-- claimed.
 pub data Call (untouched : Type 0) (words : List (List ℕ)) (old new : Streams) (result : Status) : Type 0 where
   IsUsageError : reading words ≡ None → untouched → Reports status.Usage (codes "usage\n") old.report new.report result
       → Call untouched words old new result

@@ -23,15 +23,15 @@ use Rattle.dvd_top.specs.declared.status.Status.{Status}
 use Rattle.dvd_words.specs.declared.settings.Command.TheVariants.{CdMake, Convert, Recover}
 use Rattle.dvd_words.specs.declared.settings.Settings.{Settings}
 
--- What is done for an input is determined: the same settings and bytes come to one outcome, where no fault ends it. But how much
--- of a block that breaks a rule was taken is left open.
+-- What is done for an input is determined: the same settings and bytes have one outcome, where no fault ends it. But
+-- how much is read of a block that breaks a rule is left open.
 abbrev pub WhatIsDoneIsDetermined : Type 0
 WhatIsDoneIsDetermined =
     (settings : Settings) (bytes : List ℕ) (a b : Outcome) → IsLoop settings bytes a → IsLoop settings bytes b → IsFaultless a.end → IsFaultless b.end
     → (a.out ≡ b.out) × (a.lines ≡ b.lines) × (a.end ≡ b.end) × (IsNotBadMarks a.end → a.taken ≡ b.taken)
 
--- How many workers there are changes nothing: settings that differ in that number alone have the same loops and the same runs, of
--- a listed capture too.
+-- The number of workers changes nothing: settings that differ in that number alone have the same loops and the same
+-- runs, of a listed capture too.
 abbrev pub WorkersChangeNothing : Type 0
 WorkersChangeNothing =
     (settings : Settings) (workers : ℕ) (bytes : List ℕ) (outcome : Outcome)
@@ -42,8 +42,8 @@ WorkersChangeNothing =
 abbrev pub AreBytes : List ℕ → Type 0
 AreBytes numbers = All (λ byte. byte < 256) numbers
 
--- Something is done for every input: where the settings break no rule of layouts, and each CD-ROM sector that is to be made has
--- an address (their settings are of no listed capture), there is an outcome that no fault ends.
+-- Something is done for every input: there is an outcome that no fault ends. For this the settings may break no rule of
+-- layouts. For `cdmake` each sector needs an address, and the form has to be plain.
 abbrev pub SomethingIsDone : Type 0
 SomethingIsDone =
     (settings : Settings) (bytes : List ℕ) → length settings.cpr ≡ 6 → AreBytes settings.cpr → AreBytes bytes → breaks settings ≡ None
@@ -56,7 +56,7 @@ BoundIsKept =
     (settings : Settings) (bytes : List ℕ) (outcome : Outcome) → Rescues settings.command → IsLoop settings bytes outcome
     → AfterHeader settings.form KeepsBound settings bytes outcome
 
--- The same over the blocks alone, after the header of a listed capture.
+-- Likewise over the blocks alone, after the header of a listed capture.
 abbrev pub LoopsKeepTheBound : Type 0
 LoopsKeepTheBound =
     (settings : Settings) (bytes : List ℕ) (outcome : Outcome) → Rescues settings.command → GoesOver settings bytes outcome → KeepsBound settings bytes outcome
@@ -67,7 +67,7 @@ GoodFramesAreKept =
     (settings : Settings) (bytes : List ℕ) (outcome : Outcome) → settings.command ≡ Recover → IsLoop settings bytes outcome
     → AfterHeader settings.form KeepsGoodFrames settings bytes outcome
 
--- A loop of `master` over the whole image that no fault ended writes the stream of the image, and is done.
+-- A loop of `master` over a whole image that no fault ended writes the stream of the image, and ends as Done.
 abbrev pub ImageIsMastered : Type 0
 ImageIsMastered =
     (layout : Layout) (zones : Zones) (cpr image : List ℕ) (a : Outcome) → length image ≡ 2048 * total_sectors layout
@@ -81,15 +81,16 @@ MasteredStreamIsRecovered =
     → IsStreamOf layout zones cpr image stream → IsOutcome (recover_units layout zones Plain) stream recovered → IsFaultless recovered.end
     → recovered ≡ record { taken = stream; out = image; lines = []; end = Done }
 
--- A loop of `recover` over a capture of the right length that no fault ended writes its image sectors, and is done, or damaged.
+-- A loop of `recover` over a capture of the right length that no fault ended writes its image sectors. It ends as Done
+-- or Damaged.
 abbrev pub CaptureIsRecovered : Type 0
 CaptureIsRecovered =
     (layout : Layout) (zones : Zones) (form : Form) (capture : List ℕ) (a : Outcome) → HasSize form → length capture ≡ length (plan_of layout zones) * (208 * record_size form)
     → IsOutcome (recover_units layout zones form) capture a → IsFaultless a.end
     → IsImageOf layout zones form capture a.out × (a.taken ≡ capture) × IsOver a.end
 
--- What `convert` wrote of an input is a listed capture of the same: recovery, whatever else its words say, does for it what it does for
--- that input where no fault ends it, but for what is taken.
+-- What `convert` wrote of an input is a listed capture of the same blocks. `recover` of it, whatever its other
+-- settings, has the output, the report and the end of `recover` over that input, where no fault ends it.
 abbrev pub ConvertedIsRead : Type 0
 ConvertedIsRead =
     (settings words : Settings) (bytes : List ℕ) (converted read : Outcome)

@@ -1,4 +1,4 @@
--- What the contracts speak of: what a run does, and what it promises.
+-- What the contracts are about: what a run does, and what it promises.
 pub mod Headline
 pub mod Laws
 pub mod Lines

@@ -9,7 +9,7 @@ use Rattle.dvd_words.specs.declared.settings.Command.{Command}
 use Rattle.dvd_words.specs.declared.table.Unit.{Unit}
 use Rattle.dvd_words.specs.declared.table.Unit.TheVariants.{Sector, Block, Frame}
 
--- the text of a refused layout
+-- the text of a rule that a layout breaks
 abbrev pub fault_text : LayoutFault → List ℕ
 fault_text (EmptyLayer layer) = codes "empty layer " ++ decimal layer
 fault_text (OddLayer sectors) = codes "odd layer " ++ decimal sectors
@@ -19,7 +19,7 @@ fault_text (InitialTooLong blocks) = codes "initial too long " ++ decimal blocks
 fault_text (TailTooLong blocks) = codes "tail too long " ++ decimal blocks
 fault_text (LayerTooLong layer end) = codes "layer " ++ decimal layer ++ codes " too long " ++ decimal end
 
--- the line of a refused layout
+-- the line of a layout that breaks a rule
 abbrev pub setting_line : LayoutFault → List ℕ
 setting_line fault = codes "setting: " ++ fault_text fault ++ codes "\n"
 
@@ -29,7 +29,7 @@ unit_name Sector = codes "sector"
 unit_name Block = codes "block"
 unit_name Frame = codes "frame"
 
--- none is tried after a fault of the report
+-- the line of each end; empty after a fault of the report
 abbrev pub closing_line : Command → LoopEnd → List ℕ
 closing_line command Done = codes "done\n"
 closing_line command ReadFault = codes "read fault\n"

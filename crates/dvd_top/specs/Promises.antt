@@ -1,5 +1,5 @@
--- The promise in plain words, for who reads one page: what `master` and `recover` give over streams whose bytes are
--- known and of which no call failed. In each there may be no memory instead, before the first byte.
+-- The promise in plain words, for a reader of this page alone: what `master` and `recover` give over streams whose
+-- bytes are known and of which no call failed. In each there may be no memory instead, before the first byte.
 use Rattle.std.specs.Prelude.{◌≡◌, ◌⊎◌, ℕ, ◌*◌, List, length, take, drop, codes, Some, slice_get}
 use Rattle.std.specs.Io.KnownBytes.{Appends, Consumes}
 use Rattle.std.specs.List.{flat_map}
@@ -46,9 +46,9 @@ Masters settings old new result =
     ⊎ ((result ≡ status.Done) × ((stream : List ℕ) × IsStreamOf layout settings.zones settings.cpr image stream
     × HaveMoved old new image stream (codes "done\n")))
 
--- The image sectors that are recovered from a plain or a marked capture. Of block k, whose bytes are its own, they are
--- those of the block that two passes determine, where its frames are right. Else they are those of each frame that is
--- right by itself, and zeros for the others.
+-- The image sectors that are recovered from a plain or a marked capture. Where two passes determine block k and its
+-- frames are right, they are those of that block. Else they are those of each frame that is right by itself, and zeros
+-- for the others.
 pub record IsImageOf (layout : Layout) (zones : Zones) (form : Form) (capture image : List ℕ) : Type 0 where
   pub size : length image ≡ 2048 * total_sectors layout
   pub each : (k : ℕ) (entry : BlockPlan) (own : List ℕ) → slice_get (plan_of layout zones) k ≡ Some entry

@@ -1,5 +1,5 @@
-//! What holds of every run of a command: each function's contract is one law, and its body is empty. The laws of what each
-//! command does are those of dvd_commands.
+//! What holds of every run of a command: each function's contract is one law, and its body is empty. The laws of what
+//! each command does are those of dvd_commands.
 ghost use Rattle.dvd_top.specs.Laws.{WhatIsDoneIsDetermined, WorkersChangeNothing, SomethingIsDone, BoundIsKept, LoopsKeepTheBound, GoodFramesAreKept, ImageIsMastered, MasteredStreamIsRecovered, CaptureIsRecovered, ConvertedIsRead};
 
 pub use dvd_commands::laws::{
@@ -8,12 +8,13 @@ pub use dvd_commands::laws::{
     image_is_taken_whole, info_finds_the_first_answer, the_broken_field_is_found,
 };
 
-/// What is done for an input, where no fault ends it, is determined, but for how much is taken of a block that breaks a rule.
+/// What is done for an input, where no fault ends it, is determined, except for how much is read of a block that breaks
+/// a rule.
 pub fn what_is_done_is_determined()
     ensures { WhatIsDoneIsDetermined }
 {}
 
-/// How many workers there are changes nothing.
+/// The number of workers changes nothing.
 pub fn workers_change_nothing()
     ensures { WorkersChangeNothing }
 {}
@@ -38,7 +39,7 @@ pub fn good_frames_are_kept()
     ensures { GoodFramesAreKept }
 {}
 
-/// Mastering a whole image writes the stream of that image, reports no line of its own, and is done.
+/// Mastering a whole image writes the stream of that image, reports no line of its own, and ends as Done.
 pub fn image_is_mastered()
     ensures { ImageIsMastered }
 {}
@@ -53,7 +54,7 @@ pub fn capture_is_recovered()
     ensures { CaptureIsRecovered }
 {}
 
-/// What was converted is read as what it was converted from.
+/// What was converted is read like what it was converted from.
 pub fn what_is_converted_is_read()
     ensures { ConvertedIsRead }
 {}

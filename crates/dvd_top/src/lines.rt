@@ -56,7 +56,7 @@ pub fn close_line(command: Command, end: LoopEnd) -> Line
     line
 }
 
-/// The line of a refused layout.
+/// The line of a layout that breaks a rule.
 pub fn refused_line(fault: LayoutFault) -> Line
     ensures { result ≡ setting_line fault }
 {

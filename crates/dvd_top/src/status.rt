@@ -7,9 +7,9 @@ use dvd_loop::LoopEnd;
 /// The exit statuses of the program.
 #[derive(Clone, Copy, Debug, PartialEq, Eq)]
 pub enum Status {
-    /// The command was done to its end.
+    /// The command ran to its end.
     Done = 0,
-    /// The words ask for nothing.
+    /// The arguments are invalid.
     Usage = 1,
     /// The layout that the settings ask for breaks a rule.
     Setting = 2,
@@ -23,7 +23,7 @@ pub enum Status {
     Long = 6,
     /// The input was whole, and some of its units are bad.
     Damaged = 7,
-    /// There is no memory for the words or for the buffers.
+    /// There is no memory for the arguments or for the buffers.
     NoMemory = 8,
     /// A line of the report couldn't be written.
     ReportFault = 9,
@@ -46,7 +46,7 @@ impl Status {
     }
 }
 
-/// The exit status of a run that ended so.
+/// The exit status of a run with this end.
 impl From<LoopEnd> for Status {
     ghost from_gives = { λ end status. status ≡ status_of end };
 

@@ -13,9 +13,9 @@ use dvd_words::{WordsFault, read};
 use std::alloc::Global;
 use std::thread::Threads;
 
-/// Does what the words ask for: reads `src`, writes to `out`, and writes lines to `report`, the last of which tells
-/// how the run ended. Each worker asks the gate before its pieces; nothing that is read, written or told depends on it.
-/// What an input, an output or a report holds is known where these tell theirs.
+/// Does what the arguments ask for: reads `src`, writes to `out`, and writes lines to `report`. The last line names how
+/// the run ended. Each worker asks the gate before its pieces; nothing that is read, written or reported depends on it.
+/// The contract says which bytes an input, an output or a report has where these are known.
 pub fn run<R: Threads + Sync, S: Source, K: Sink, E: Sink, G: Gate>(
     rt: &R,
     alloc: Global,
@@ -45,7 +45,7 @@ pub fn run<R: Threads + Sync, S: Source, K: Sink, E: Sink, G: Gate>(
     }
 }
 
-// The line of a run that doesn't begin, and its status, which is ReportFault where the line can't be told.
+// The line of a run that doesn't begin, and its status, which is `ReportFault` where the line can't be written.
 fn refuse<E: Sink>(status: Status, line: &[u8], report: &mut E) -> Status
     ensures { Reports status line.now (E.seen report.old) (E.seen report.new) result }
 {

@@ -10,14 +10,14 @@ pub const BLOCK: usize = 37_856;
 
 pub const MARKED_BLOCK: usize = 42_640;
 
-/// What stands for a number that is none.
+/// The value for a number that is missing or isn't one.
 pub const NONE: usize = usize::MAX;
 
 pub fn number(text: &str) -> usize {
     text.parse::<usize>().unwrap_or(NONE)
 }
 
-/// The numbers among the words of a text, and behind the last one `NONE`.
+/// The numbers among the words of a text, in order; the rest of the twenty are `NONE`.
 pub fn numbers(text: &str) -> [usize; 20] {
     let mut numbers = [NONE; 20];
     let mut at: usize = 0;

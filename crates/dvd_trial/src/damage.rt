@@ -4,7 +4,7 @@ use crate::amounts::{BLOCK, MARKED_ROW, ROW, Span, number};
 /// What happens to a byte.
 #[derive(Clone, Copy)]
 enum Hit {
-    // These bits are wrong, and no mark tells it.
+    // These bits are wrong, without a mark.
     Wrong(u8),
     // It is another one.
     Set(u8),
@@ -12,7 +12,7 @@ enum Hit {
     Is(u8),
     // In the marked form: it is zero, with a mark.
     Lost,
-    // In the marked form: these bits are wrong, and a mark tells it.
+    // In the marked form: these bits are wrong, with a mark.
     Doubtful(u8),
 }
 
@@ -21,9 +21,9 @@ struct Places {
     blocks: Span,
     rows: Span,
     bytes: Span,
-    // How many bytes further the places are in each row than in the one before.
+    // How many bytes further the bytes are in each row than in the one before.
     shift: usize,
-    // The size of the sectors that stand in the place of the rows, or 0.
+    // The size of the sectors that are hit in place of rows, or 0.
     sector: usize,
 }
 
@@ -80,7 +80,7 @@ fn read_places(text: &str) -> Places {
     }
 }
 
-// What stands behind this name, or else the last.
+// What comes after this name, or else `all`.
 fn behind<'a>(name: &str, text: &'a str, all: &'a str) -> &'a str {
     match text.split_once(name) {
         Some((_, rest)) => {
@@ -91,7 +91,7 @@ fn behind<'a>(name: &str, text: &'a str, all: &'a str) -> &'a str {
     }
 }
 
-// Whether each part has a name, so that nothing misspelt is taken for no place.
+// Whether each part has a name, so that a misspelt one doesn't count as all.
 fn is_spelt(text: &str) -> bool {
     let mut names: usize = 0;
     for name in ["block", "row", "byte", "sector"] {
@@ -130,7 +130,7 @@ fn hit_row(places: &Places, block: usize, i: usize, hit: Hit, bytes: &mut [u8]) 
     }
 }
 
-// Where a row of a block is recorded: behind each twelve rows of data one of outer parity.
+// Where a row of a block is recorded: after each twelve rows of data comes one of outer parity.
 fn recorded(row: usize) -> usize {
     if row < 192 {
         row + row / 12
@@ -139,7 +139,7 @@ fn recorded(row: usize) -> usize {
     }
 }
 
-// A row in the marked form has its marks behind it, of which the high bit of the first byte is that of its first byte.
+// A row in the marked form has its marks after it. The high bit of their first byte is that of the row's first byte.
 fn hit_at(row: usize, at: usize, length: usize, hit: Hit, bytes: &mut [u8]) {
     let place = row.saturating_mul(length).saturating_add(at);
     let first = row.saturating_mul(MARKED_ROW);
@@ -164,7 +164,7 @@ fn hit_at(row: usize, at: usize, length: usize, hit: Hit, bytes: &mut [u8]) {
     }
 }
 
-// Of the byte these bits are kept, and those are turned.
+// Keeps these bits of the byte, and then inverts those.
 fn change(bytes: &mut [u8], at: usize, kept: u8, turned: u8) {
     if let Some(byte) = bytes.get_mut(at) {
         *byte = *byte & kept ^ turned;

@@ -1,4 +1,4 @@
-//! What a test ends with, and what is told where something else came than has to.
+//! What a test ends with, and what is printed where the result isn't the one expected.
 use crate::amounts::{MARKED_ROW, ROW};
 use crate::trial::{Trial, line_holds, name_of, new_trial};
 use std::thread::Threads;
@@ -6,12 +6,12 @@ use std::thread::Threads;
 /// Everything holds, or the line that doesn't.
 pub type Held = Result<(), &'static str>;
 
-/// Whether what each line of the text says holds. Where one doesn't, it is told what was run and what came.
+/// Whether what each line of the text says holds. Where one doesn't, prints what was run and what came.
 pub fn hold<R: AllocGlobal + Threads + Sync + Eprint>(rt: &R, text: &'static str) -> Held {
     hold_over(rt, &[""], text)
 }
 
-/// The same behind each of these lines.
+/// Likewise after the lines of each of `givens`.
 pub fn hold_over<R: AllocGlobal + Threads + Sync + Eprint>(
     rt: &R,
     givens: &[&'static str],
@@ -32,7 +32,7 @@ pub fn hold_over<R: AllocGlobal + Threads + Sync + Eprint>(
     Ok(())
 }
 
-/// The same, and nothing is told.
+/// Likewise over a trial that was begun, and nothing is printed.
 pub fn lines_hold<R: AllocGlobal + Threads + Sync>(
     rt: &R,
     text: &'static str,
@@ -52,7 +52,7 @@ pub fn fails<R: AllocGlobal + Threads + Sync>(rt: &R, text: &'static str) -> boo
     lines_hold(rt, text, &mut new_trial(rt.alloc())).is_err()
 }
 
-// The words that ran last, what came, and where the output differs first from the one that was wanted: in an image,
+// The arguments that ran last, their result, and where the output first differs from the wanted one: in an image,
 // or in a capture.
 fn tell<R: Eprint>(rt: &R, trial: &Trial) {
     let words = trial.words.split(" | ").nth(trial.last).unwrap_or("");

@@ -11,24 +11,24 @@
 //! ```
 //!
 //! `given` are the bytes that cases have in common, and `case` is one of them, changed; `also` changes those in common.
-//! `output` is all that a run writes where nothing fails. Behind `run` stand the words of a run, and behind each `or`
-//! others, which leave the same. What must come stands behind `->`: status, length of the output, a front of the
-//! whole one, and the lines of the report, with `/` between them; one that ends in `..` is cut off there. A line that
-//! names nothing else goes on changing the bytes. Nothing behind `#` is read.
+//! `output` is all that a run writes where nothing fails. After `run` come the arguments of a run, and after each `or`
+//! others, which leave the same. What must come follows `->`: status, length of the output, a prefix of the whole
+//! one, and the lines of the report, with `/` between them; one that ends in `..` is cut off there. A line that
+//! names nothing else goes on changing the bytes. Nothing after `#` is read.
 //!
 //! ```text
-//! reads: 700 bytes a call, call 2 fails      the next run reads so; `writes`, `reports`; `room for 5 bytes` of an output
+//! reads: 700 bytes a call, call 2 fails      the next run reads so; `writes`, `reports`; `room for 5 bytes` to write
 //! digest: .., last line: .., read: 2 blocks  of the output that came last, and how much of the input was read
-//! at 2 blocks and 12 bytes: ACA6AD           these bytes stand there in it
-//! the same in pieces: 1 7 2047               it comes again where all streams move so many bytes a call
+//! at 2 blocks and 12 bytes: ACA6AD           these bytes are there in it
+//! the same in pieces: 1 7 2047               it comes again where all streams move these numbers of bytes a call
 //! each call fails: 9 reads of 5000 bytes, 4 reports of 7 bytes 2 apart
-//!                                            where one of so many calls fails, all that was done before it is left
+//!                                            where one of that many calls fails, all that was done before it is left
 //! nothing is tried again: 7 calls of 700 bytes
-//!                                            where one of so many calls of a stream or of its flushes fails
+//!                                            where one of that many calls of a stream or of its flushes fails
 //! the same while these blocks become zeros: 32 to 223
 //! to nothing                                 it comes again with an output that keeps nothing
-//! twin: .., alike: A = B                     words A leave over the case what words B leave over the twin
-//! two workers meet: 2 times                  in so many passes; `pieces ask: 3 pieces, 2 times each`
+//! twin: .., alike: A = B                     arguments A leave over the case what arguments B leave over the twin
+//! two workers meet: 2 times                  in that many passes; `pieces ask: 3 pieces, 2 times each`
 //! ```
 //!
 //! Places are those of a block: rows 0 to 191 are its rows of data, rows 192 to 207 those of outer parity, each of 182
@@ -37,7 +37,7 @@
 
 mod amounts; // numbers, amounts and lists of numbers
 mod damage; // bytes that are lost, wrong or doubtful
-mod failure; // what is told where something else came
+mod failure; // what is printed where a result isn't the one expected
 mod made; // how bytes are made
 mod runs; // one run and what it leaves
 mod streams; // streams that fail or go in pieces, and see that nothing is tried again

@@ -9,21 +9,21 @@
 //!                                 they become what a run writes over them, 2 blocks
 //! marked                          they become a capture in the marked form without a mark
 //! listed shape 0 zones 0 sectors 17 and 0 initial 0 tail 16 runs 0:2
-//!                                 they become a listed capture with this header, and behind each block the runs of its
+//!                                 they become a listed capture with this header; after each block come the runs of its
 //!                                 marks, first place and length
 //! front 1 block, without 1 byte   the first of them alone; without the last ones
-//! from 2 blocks                   what is before that comes behind the rest; `again 1 frame`: the last ones once more
+//! from 2 blocks                   what is before that comes after the rest; `again 1 frame`: the last ones once more
 //! frames reversed                 the frames in reverse order
 //! woven                           marked blocks of the first half and of the second one in turn
 //! drawn from 2                    of a capture about a sixth of the rows are lost, and each other one has a wrong byte
-//! spare bits                      the two bits behind the marks of each row are set
+//! spare bits                      the two bits after the marks of each row are set
 //! header byte 12 is 01            of a listed capture
 //! wrong by 55: block 1, rows 0 to 19, bytes 0 to 9 shifted 9; row 192
 //!                                 these bits are wrong, in each of the rows nine bytes further, and in all of row 192
 //! wrong by 55: one byte of each 31
 //!                                 from the first on
-//! lost: row 3, doubtful by 5A: .. a zero with a mark; these bits are wrong, and a mark tells it
-//! stands by 01: .., zero: ..      this byte stands there without a mark; zeros stand there
+//! lost: row 3, doubtful by 5A: .. a zero with a mark; these bits are wrong, with a mark
+//! stands by 01: .., zero: ..      this byte is there without a mark; zeros are there
 //! zero: sectors 0 to 1            of an image; `cdsectors`: those of a CD-ROM
 //! ```
 use crate::amounts::{BLOCK, MARKED_BLOCK, MARKED_ROW, NONE, ROW, amount, number, numbers};
@@ -138,7 +138,7 @@ fn reverse(bytes: &mut [u8]) -> bool {
     true
 }
 
-// Each row gets its marks behind it, of which none is set.
+// Each row gets its marks after it, none of which is set.
 fn add_marks(bytes: &mut Vec<u8>, spare: &mut Vec<u8>) -> bool {
     spare.clear();
     let mut is_room = bytes.len() % BLOCK == 0;
@@ -196,7 +196,7 @@ fn set_header(text: &str, bytes: &mut [u8]) -> bool {
     }
 }
 
-// The header, and behind each block how many runs there are, and these.
+// The header, and after each block the number of its runs, and the runs.
 fn list(bytes: &mut Vec<u8>, spare: &mut Vec<u8>, numbers: &[usize; 20]) -> bool {
     spare.clear();
     let runs = numbers[6..].split(|number| *number == NONE).next();

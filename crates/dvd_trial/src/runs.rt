@@ -30,7 +30,7 @@ pub fn nothing_left(alloc: Global) -> Left {
     }
 }
 
-/// Puts the words of a command line in the place of those that stand.
+/// Replaces the arguments in `words` by those of this text.
 pub fn put_words(alloc: Global, text: &str, words: &mut Vec<String>) -> Result<(), AllocError> {
     words.clear();
     let text = if text == "no words" { "" } else { text };
@@ -40,7 +40,7 @@ pub fn put_words(alloc: Global, text: &str, words: &mut Vec<String>) -> Result<(
     Ok(())
 }
 
-/// Runs the words over these bytes, where the workers ask this gate. Answers whether nothing was tried again.
+/// Runs the arguments over these bytes, where the workers ask this gate. Answers whether nothing was tried again.
 pub fn run_over<R: AllocGlobal + Threads + Sync, G: Gate>(
     rt: &R,
     gate: &G,
@@ -76,7 +76,7 @@ pub fn run_over<R: AllocGlobal + Threads + Sync, G: Gate>(
     left.is_kept
 }
 
-/// The same over so many of them.
+/// Likewise over the first `length` bytes.
 pub fn run_front<R: AllocGlobal + Threads + Sync>(
     rt: &R,
     text: &str,
@@ -89,7 +89,7 @@ pub fn run_front<R: AllocGlobal + Threads + Sync>(
     run_over(rt, &OpenGate, text, front, ports, left)
 }
 
-/// The same with an output that keeps nothing.
+/// Likewise with an output that keeps nothing.
 pub fn run_to_nothing<R: AllocGlobal + Threads + Sync>(
     rt: &R,
     text: &str,

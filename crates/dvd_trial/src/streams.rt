@@ -66,7 +66,7 @@ impl Watch {
         self.stops.load(Ordering::SeqCst) > 0
     }
 
-    /// Whether nothing came after a call that stopped but for the closing line.
+    /// Whether nothing but the closing line came after a call that stopped.
     pub fn is_kept(&self) -> bool {
         self.late.load(Ordering::SeqCst) == 0 && self.lines.load(Ordering::SeqCst) <= 1
     }

@@ -1,4 +1,4 @@
-//! The lines of a text: which bytes are made, which words are run, and what has to come.
+//! The lines of a text: which bytes are made, which arguments are run, and what has to come.
 use crate::amounts::{amount, number, numbers};
 use crate::made::{add, step};
 use crate::runs::{Left, nothing_left, run_over};
@@ -33,16 +33,16 @@ pub struct Trial {
     /// The whole output, and whether it may be any.
     pub output: Vec<u8>,
     pub is_any: bool,
-    /// The bytes of a case, and others, for other words.
+    /// The bytes of a case, and others, for other arguments.
     pub case: Vec<u8>,
     twin: Vec<u8>,
     spare: Vec<u8>,
-    /// The words that are run, with ` | ` between those of each run, and which of them ran last.
+    /// The arguments of each run, with ` | ` between the runs, and which of them ran last.
     pub words: String,
     pub last: usize,
     /// The ports of the next run.
     pub ports: Ports,
-    /// What the last run left, the one before it, and the last one of which it is said what comes.
+    /// What the last run left, what one over a prefix of its bytes left, and the last result that a line states.
     pub left: Left,
     pub front: Left,
     pub kept: Left,
@@ -67,7 +67,7 @@ pub fn new_trial(alloc: Global) -> Trial {
     }
 }
 
-/// The bytes that these steps make of none.
+/// The bytes that these steps make, from none.
 pub fn bytes_of<R: AllocGlobal + Threads + Sync>(rt: &R, text: &str) -> Option<Vec<u8>> {
     let mut trial = new_trial(rt.alloc());
     if !steps(rt, text, &mut trial) {
@@ -151,7 +151,7 @@ fn step_is_done<R: AllocGlobal + Threads + Sync>(rt: &R, text: &str, trial: &mut
     }
 }
 
-/// Runs the words of this number over the bytes of the case. Answers whether there are some, and nothing was tried
+/// Runs the arguments of this number over the bytes of the case. Answers whether there are such, and nothing was tried
 /// again.
 pub fn go<R: AllocGlobal + Threads + Sync>(rt: &R, k: usize, trial: &mut Trial) -> bool {
     trial.last = k;
@@ -168,7 +168,7 @@ pub fn go<R: AllocGlobal + Threads + Sync>(rt: &R, k: usize, trial: &mut Trial) 
     }
 }
 
-// Whether each of the words leaves what is wanted. The last of these is kept.
+// Whether each of the runs leaves what is wanted. The last result is kept.
 fn comes<R: AllocGlobal + Threads + Sync>(rt: &R, wanted: &str, trial: &mut Trial) -> bool {
     let mut all_come = !trial.words.is_empty();
     for k in 0..trial.words.split(" | ").count() {
@@ -181,7 +181,7 @@ fn comes<R: AllocGlobal + Threads + Sync>(rt: &R, wanted: &str, trial: &mut Tria
     all_come
 }
 
-/// Whether each of the words leaves what is kept.
+/// Whether each of the runs leaves what is kept.
 pub fn all_same<R: AllocGlobal + Threads + Sync>(rt: &R, trial: &mut Trial) -> bool {
     let mut are_same = true;
     for k in 0..trial.words.split(" | ").count() {
@@ -191,7 +191,7 @@ pub fn all_same<R: AllocGlobal + Threads + Sync>(rt: &R, trial: &mut Trial) -> b
     are_same
 }
 
-// Whether the words before `=` leave over the case what those behind it leave over its twin.
+// Whether the arguments before `=` leave over the case what those after it leave over its twin.
 fn are_alike<R: AllocGlobal + Threads + Sync>(rt: &R, text: &str, trial: &mut Trial) -> bool {
     let (words, others) = text.split_once(" = ").unwrap_or((text, ""));
     let is_sound = trial.put_words("run", words)
@@ -207,7 +207,7 @@ fn are_alike<R: AllocGlobal + Threads + Sync>(rt: &R, text: &str, trial: &mut Tr
     is_sound && trial.is_same()
 }
 
-// Pieces 0 and 1 of each of so many passes meet in one of five runs.
+// Pieces 0 and 1 meet in each of `passes` passes, in one of five runs.
 fn meet<R: AllocGlobal + Threads + Sync>(rt: &R, passes: u64, trial: &mut Trial) -> bool {
     for _ in 0..5u32 {
         let gate = Meeting::new();
@@ -218,7 +218,7 @@ fn meet<R: AllocGlobal + Threads + Sync>(rt: &R, passes: u64, trial: &mut Trial)
     false
 }
 
-// In one run the gate is asked for each of so many pieces so often, and for no other.
+// In one run the gate is asked `n[1]` times for each of `n[0]` pieces, and for no other.
 fn ask<R: AllocGlobal + Threads + Sync>(rt: &R, n: &[usize; 20], trial: &mut Trial) -> bool {
     let gate = Counting::new();
     done_through(rt, &gate, trial) && gate.has_counted(n[0], n[1])
@@ -278,7 +278,7 @@ impl Trial {
         self.words.push_str(" | ").is_ok() && self.words.push_str(text).is_ok()
     }
 
-    // `700 bytes a call`, and behind it `, call 2 fails` or `, room for 5 bytes`.
+    // `700 bytes a call`, followed by `, call 2 fails` or `, room for 5 bytes`.
     fn set_port(&mut self, side: &str, text: &str) -> bool {
         let (step, rest) = text.split_once(" a call").unwrap_or((text, ""));
         let (call, _) = rest.split_once(" fails").unwrap_or((rest, ""));
@@ -353,13 +353,13 @@ pub fn ports_with(side: &str, port: Port) -> Ports {
     ports
 }
 
-// Puts bytes in the place of others, where there is memory.
+// Replaces the bytes, where there is memory.
 fn put(to: &mut Vec<u8>, bytes: &[u8]) -> bool {
     to.clear();
     add(to, bytes)
 }
 
-// Puts the lines of a report in the place of other bytes: each / ends one. The last one is cut off where `..` tells it.
+// Replaces the bytes by the lines of a report: each / ends one. The last one is cut off at `..`.
 fn put_report(to: &mut Vec<u8>, text: &str) -> bool {
     let is_room = match text.strip_suffix("..") {
         Some(front) => put(to, front.as_bytes()),

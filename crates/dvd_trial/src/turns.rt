@@ -1,5 +1,5 @@
-//! Runs in which something fails, is cut or is zero in turn: each leaves what the run leaves of which it was said
-//! what comes, or a front of it.
+//! Runs in which something fails, is cut or is zero in turn: each leaves what the kept run left, or a
+//! prefix of it.
 use crate::amounts::{BLOCK, NONE, Span, number, numbers};
 use crate::runs::{run_front, run_to_nothing};
 use crate::streams::{ALL_SOUND, NEVER, Port, Ports, SOUND};
@@ -7,7 +7,7 @@ use crate::trial::{Trial, all_same, go, ports_with};
 use dvd_top::Status;
 use std::thread::Threads;
 
-/// They leave the same where each stream moves so many bytes a call.
+/// The runs leave the same where each stream moves a given number of bytes a call, for each of `sizes`.
 pub fn come_in_pieces<R: AllocGlobal + Threads + Sync>(
     rt: &R,
     sizes: &str,
@@ -27,7 +27,7 @@ pub fn come_in_pieces<R: AllocGlobal + Threads + Sync>(
     are_same
 }
 
-/// They leave the same while these blocks become zeros, one after the other.
+/// The runs leave the same while these blocks become zeros, one after the other.
 pub fn answer_with_zeros<R: AllocGlobal + Threads + Sync>(
     rt: &R,
     blocks: &str,
@@ -44,7 +44,7 @@ pub fn answer_with_zeros<R: AllocGlobal + Threads + Sync>(
     are_same
 }
 
-/// `9 reads of 5000 bytes, 16 writes of 700 bytes 11 apart`: where one of so many calls of a stream fails, all that
+/// `9 reads of 5000 bytes, 16 writes of 700 bytes 11 apart`: where one of that many calls of a stream fails, all that
 /// was done before it is left.
 pub fn fail_in_turn<R: AllocGlobal + Threads + Sync>(
     rt: &R,
@@ -97,7 +97,7 @@ fn leaves_after<R: AllocGlobal + Threads + Sync>(rt: &R, side: &str, trial: &mut
     }
 }
 
-// It left what a run over the bytes leaves that it had read, with the fault in the place of the closing line.
+// It left what a run over only the bytes that it read leaves, with the fault in place of the closing line.
 fn leaves_front_read<R: AllocGlobal + Threads + Sync>(rt: &R, trial: &mut Trial) -> bool {
     let read = trial.left.read;
     let is_sound = match trial.words.split(" | ").next() {
@@ -112,7 +112,7 @@ fn leaves_front_read<R: AllocGlobal + Threads + Sync>(rt: &R, trial: &mut Trial)
         & has_fault(&left.report, b"read fault\n", &front.report)
 }
 
-// Whether the fault came in the place of the closing line.
+// Whether the fault came in place of the closing line.
 fn has_fault(told: &[u8], fault: &[u8], whole: &[u8]) -> bool {
     let Some(lines) = told.strip_suffix(fault) else {
         return false;
@@ -131,7 +131,7 @@ fn is_last_line(text: &[u8]) -> bool {
     }
 }
 
-// It wrote a front, and reported some of the lines, not the last one, and then the fault.
+// It wrote a prefix, and reported some of the lines, not the last one, and then the fault.
 fn leaves_front_written(trial: &Trial) -> bool {
     let (left, kept) = (&trial.left, &trial.kept);
     let Some(lines) = left.report.strip_suffix(b"write fault\n") else {
@@ -144,7 +144,7 @@ fn leaves_front_written(trial: &Trial) -> bool {
         & (lines.is_empty() | lines.ends_with(b"\n"))
 }
 
-// It wrote a front, and reported one. Where the closing line failed all was written.
+// Its output and its report are prefixes. Where the closing line failed, all was written.
 fn leaves_front_told(trial: &Trial) -> bool {
     let (left, kept) = (&trial.left, &trial.kept);
     let Some(rest) = kept.report.strip_prefix(left.report.as_slice()) else {
@@ -155,7 +155,7 @@ fn leaves_front_told(trial: &Trial) -> bool {
         & (!is_last_line(rest) | (kept.output.len() == left.output.len()))
 }
 
-/// `7 calls of 700 bytes`: nothing is tried again where one of the first so many calls of a stream or of its flushes
+/// `7 calls of 700 bytes`: nothing is tried again where one of the first 7 calls of a stream or of its flushes
 /// fails, or the input ends before its last byte.
 pub fn stop_in_turn<R: AllocGlobal + Threads + Sync>(
     rt: &R,
@@ -197,7 +197,7 @@ fn stopping(step: usize, call: u64, side: usize) -> Ports {
     }
 }
 
-// Over so many bytes of the case.
+// Over the first `length` bytes of the case.
 fn stops<R: AllocGlobal + Threads + Sync>(
     rt: &R,
     length: usize,
@@ -214,7 +214,7 @@ fn stops<R: AllocGlobal + Threads + Sync>(
     ) && (trial.left.has_stopped || trial.left.status == Status::Done)
 }
 
-/// An output that keeps nothing plays no part.
+/// Whether a run whose output keeps nothing leaves the same status and report.
 pub fn comes_to_nothing<R: AllocGlobal + Threads + Sync>(rt: &R, trial: &mut Trial) -> bool {
     let is_sound = match trial.words.split(" | ").next() {
         Some(words) => run_to_nothing(rt, words, &trial.case, &mut trial.left),

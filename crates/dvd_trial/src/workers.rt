@@ -5,7 +5,7 @@ use std::sync::atomic::{AtomicU64, Ordering};
 // How often a piece looks at the counter of the other, at most.
 const MOST_LOOKS: u64 = 50_000_000;
 
-/// A gate where pieces 0 and 1 wait for each other, for so many looks. Once a wait has run out nobody waits.
+/// A gate where pieces 0 and 1 wait for each other, for `MOST_LOOKS` looks. Once a wait has run out, nobody waits.
 #[derive(Drop)]
 pub struct Meeting {
     first: AtomicU64, // calls of piece 0
@@ -38,7 +38,7 @@ impl Meeting {
         self.missed.fetch_add(1, Ordering::SeqCst);
     }
 
-    /// Whether no wait ran out, and both pieces were asked so often, and no other.
+    /// Whether no wait ran out, and each of the two pieces was asked this number of times, and no other piece.
     pub fn is_met(&self, calls: u64) -> bool {
         self.first.load(Ordering::SeqCst) == calls
             && self.second.load(Ordering::SeqCst) == calls
@@ -74,7 +74,7 @@ impl Counting {
         }
     }
 
-    /// Whether each of so many pieces was asked so often, and no other.
+    /// Whether each of the first `pieces` pieces was asked `times` times, and no other.
     pub fn has_counted(&self, pieces: usize, times: usize) -> bool {
         let mut digits: u64 = 0;
         for _ in 0..pieces.min(16) {

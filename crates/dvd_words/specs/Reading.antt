@@ -1,4 +1,4 @@
--- What the words of a command line ask for.
+-- What the arguments of a command line ask for.
 use Rattle.std.specs.Prelude.{◌≡◌, ◌≤◌, ℕ, ◌+◌, ◌^◌, ◌&&◌, ◌||◌, not, nat_le, Bool, true, if◌then◌else◌, List, [], ◌∷◌, codes, replicate, Option, Some, None, is_some, option_and_then, find}
 use Rattle.std.specs.Str.{bytes_eq}
 use Rattle.clap.specs.Words.{Row, Text, fault_of, first_of, matches_of}
@@ -20,11 +20,11 @@ infixl 10 ◌>>=◌
 abbrev pub ◌>>=◌ : {A B : Type 0} → Option A → (A → Option B) → Option B
 o >>= f = option_and_then f o
 
--- the command that a word names
+-- the command that an argument names
 abbrev pub command_of : Text → Option Command
 command_of word = find (λ command. bytes_eq word (entry_of command).name) all
 
--- the options and their values, where clap finds no fault in the words
+-- the options and their values, where clap finds no fault in the arguments
 abbrev pub rows_for : Command → List Text → Option (List Row)
 rows_for command words = if is_empty (fault_of (app_for command) words) then Some (matches_of (app_for command) words) else None
 
@@ -33,8 +33,8 @@ abbrev pub value_or : {X : Type 0} → X → (Text → Option X) → Option Text
 value_or default value_of None = Some default
 value_or default value_of (Some text) = value_of text
 
--- Whether the numbers of a command keep its limit: sector numbers end at FFFFFF and addresses at 449,999, and a whole disk
--- that is kept has at most 16,384 sectors on both layers.
+-- Whether the numbers of a command keep its limit: sector numbers end at FFFFFF and addresses at 449,999, and a whole
+-- disk that is kept has at most 16,384 sectors on both layers.
 abbrev pub is_within : Limit → ℕ → ℕ → ℕ → ℕ → ℕ → Bool
 is_within Any first sectors sectors1 blocks address = true
 is_within Numbers first sectors sectors1 blocks address = nat_le 1 sectors && nat_le (first + sectors) (2 ^ 24)
@@ -46,7 +46,7 @@ is_within WholeDisk first sectors sectors1 blocks address = nat_le (sectors + se
 abbrev pub is_given : Text → List Row → Bool
 is_given name rows = is_some (first_of name rows)
 
--- whether an option tells of the shape of a disk, of its lengths or of its zones
+-- whether an option gives the shape of a disk, its lengths or its zones
 abbrev pub tells_layout : List Row → Bool
 tells_layout rows =
     is_given (codes "sectors") rows || (is_given (codes "sectors1") rows || (is_given (codes "shape") rows
@@ -56,12 +56,12 @@ tells_layout rows =
 abbrev pub takes_listed : Command → Bool
 takes_listed command = (entry_of command).takes_listed
 
--- The layout is told once: a listed capture states its own, and no option tells of it then; else the words state it.
+-- The layout is stated once: a listed capture states its own, and then no option may; else the arguments state it.
 abbrev pub has_layout : Command → Form → List Row → Bool
 has_layout command Listed rows = takes_listed command && not (tells_layout rows)
 has_layout command other rows = not (entry_of command).sectors_or_listed || is_given (codes "sectors") rows
 
--- each option by its form, the layout told once, and the limit of the command kept
+-- each option by its form, the layout stated once, and the limit of the command kept
 unfoldable pub settings_of : Command → List Row → Option Settings
 settings_of command rows = do
   first ← value_or 0 sector_number_of (first_of (codes "first") rows)
@@ -98,7 +98,7 @@ settings_of command rows = do
     frames = frames;
   }) else None
 
--- the first word names the command, and clap reads those behind it
+-- the first argument names the command, and clap reads those after it
 unfoldable pub reading : List Text → Option Settings
 reading [] = None
 reading (word ∷ words) = do
@@ -106,11 +106,11 @@ reading (word ∷ words) = do
   rows ← rows_for command (word ∷ words)
   settings_of command rows
 
--- these words ask for these settings
+-- these arguments ask for these settings
 abbrev pub Reads : List Text → Settings → Type 0
 Reads words settings = reading words ≡ Some settings
 
--- what holds of all settings that words ask for
+-- what holds of all settings that arguments ask for
 pub record IsLawful (settings : Settings) : Type 0 where
   pub some_worker : 1 ≤ settings.workers
   pub few_workers : settings.workers ≤ 16

@@ -16,20 +16,20 @@ use Rattle.dvd_words.specs.declared.table.Unit.TheVariants.{Sector, Block, Frame
 abbrev pub option_rule : Bool → Text → Rule
 option_rule required name = record (new_rule name) { long = Some name; action = Some Set; required = required }
 
--- options that must stand
+-- options that are required
 abbrev pub must : List String → List Rule
 must names = map (λ name. option_rule true (codes name)) names
 
--- options that may stand
+-- options that may be given
 abbrev pub may : List String → List Rule
 may names = map (λ name. option_rule false (codes name)) names
 
--- the shape and the lengths of a disk but for its first layer, and which of its zones a stream has
+-- the shape and the lengths of a disk, except that of its first layer, and which of its zones a stream has
 abbrev pub layout : List String
 layout = "sectors1" ∷ "shape" ∷ "zones" ∷ "initial" ∷ "tail" ∷ []
 
--- The word that names a command, what its units are, whether it reads listed captures, whether it needs a number of sectors or a listed
--- capture, what its numbers have to keep, and its options.
+-- The word that names a command, what its units are, and whether it reads listed captures. Whether it needs a number of
+-- sectors or a listed capture, the limit of its numbers, and its options.
 pub record Entry : Type 0 where
   pub name : Text
   pub unit : Unit
@@ -70,7 +70,7 @@ entry_of Convert = row "convert" Block false false Any (must ("sectors" ∷ []) 
 abbrev pub all : List Command
 all = Frames ∷ Master ∷ Recover ∷ Info ∷ Survey ∷ Exercise ∷ CdMake ∷ CdRead ∷ Merge ∷ Deep ∷ Assemble ∷ Convert ∷ []
 
--- a command as clap is told of it: its word, its options and nothing else, no flag for help either
+-- a command as clap reads it: its word, its options and nothing else, without a flag for help
 abbrev pub app_for : Command → App
 app_for command = record {
   top = record (new_shape (entry_of command).name) { rules = (entry_of command).options; disable_help_flag = true };

@@ -1,4 +1,4 @@
--- The values of options: what a text says, if it has the form.
+-- The values of options: what a text means, if it has the form.
 use Rattle.std.specs.Prelude.{ℕ, ◌^◌, ◌&&◌, nat_le, nat_lt, Bool, if◌then◌else◌, List, ◌∷◌, length, codes, Option, Some, None, option_map, option_and_then}
 use Rattle.std.specs.Char.{is_digit}
 use Rattle.std.specs.Int.{from_be_bytes, w32}
@@ -26,7 +26,7 @@ number_in text = if is_numeral text && nat_lt (digits_value 10 text) (2 ^ 32) th
 abbrev pub number_within : ℕ → ℕ → List ℕ → Option ℕ
 number_within least most text = option_and_then (λ n. if nat_le least n && nat_le n most then Some n else None) (number_in text)
 
--- so many bytes, of two hexadecimal digits each, of either case
+-- this number of bytes, each of two hexadecimal digits of either case
 abbrev pub hex_bytes : ℕ → List ℕ → Option (List ℕ)
 hex_bytes n text = result_ok (decode_sized text n)
 

@@ -1,4 +1,4 @@
-//! Why words give no settings.
+//! Why arguments give no settings.
 
 ghost use Rattle.std.specs.Prelude.{◌≡◌};
 ghost use Rattle.dvd_words.specs.declared.fault.WordsFault.TheVariants.{NoMemory};
@@ -6,13 +6,13 @@ ghost use Rattle.dvd_words.specs.declared.fault.WordsFault.TheVariants.{NoMemory
 use std::alloc::AllocError;
 use thiserror::Error;
 
-/// The words ask for nothing, or they can't be read now.
+/// The arguments are invalid, or they can't be read now.
 #[derive(Clone, Copy, Debug, PartialEq, Eq, Error)]
 pub enum WordsFault {
     /// They have the form of no command.
     #[error("the words are no command of the program")]
     Usage,
-    /// There was none to read them with.
+    /// There was no memory to read them with.
     #[error("there is no memory to read the words with")]
     NoMemory,
 }

@@ -1,11 +1,11 @@
-//! The words of the command line: each command by its own `clap` command, and each option by its form.
+//! The arguments of the command line: each command by its own `clap` command, and each option by its form.
 //!
-//! - `fault`: why words give no settings.
+//! - `fault`: why arguments give no settings.
 //! - `parser`: the `clap` command of each command.
-//! - `settings`: what the words ask for.
+//! - `settings`: what the arguments ask for.
 //! - `table`: the commands, a row each.
 //! - `values`: the values of options.
-//! - `words`: reads the words.
+//! - `words`: reads the arguments.
 #![tactic(auto)]
 
 mod fault;

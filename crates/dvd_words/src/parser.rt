@@ -15,7 +15,7 @@ use clap::error::ErrorKind;
 use clap::{Arg, ArgAction, ArgMatches};
 use std::alloc::{AllocError, Global};
 
-/// The options in the words of a command, with their values.
+/// The options in the arguments of a command, with their values.
 pub fn parse<'a>(
     alloc: Global,
     command: Command,
@@ -32,7 +32,7 @@ pub fn parse<'a>(
     }
 }
 
-// The command's name, its options and nothing else, no flag for help either.
+// The command's name, its options and nothing else, without a flag for help.
 fn parser_for<'a>(alloc: Global, command: Command) -> Result<clap::Command<'a>, AllocError>
     ensures { IfOk result (λ parser. app_of parser ≡ app_for command) }
 {
@@ -41,7 +41,7 @@ fn parser_for<'a>(alloc: Global, command: Command) -> Result<clap::Command<'a>, 
     with_options(alloc, parser, spec.options)
 }
 
-// The command with these options more, each of which takes one value.
+// The command with these options added, each with one value.
 fn with_options<'a>(
     alloc: Global,
     parser: clap::Command<'a>,

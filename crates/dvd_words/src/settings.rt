@@ -1,4 +1,4 @@
-//! What the words of a command line ask for.
+//! What the arguments of a command line ask for.
 
 use dvd_capture::Form;
 use dvd_layout::{Layout, LayoutFault, Shape, Zones};
@@ -12,7 +12,7 @@ pub enum Command {
     Master,
     /// The image sectors that are read from a stream of captured blocks.
     Recover,
-    /// The physical format that the lead-in of a disk tells.
+    /// The physical format in the lead-in of a disk.
     Info,
     /// How many rows of each captured block have errors.
     Survey,
@@ -49,11 +49,11 @@ pub struct Settings {
     pub zones: Zones,
     /// How many blocks the Initial Zone has.
     pub initial: u32,
-    /// How many blocks the zones behind the data have.
+    /// How many blocks the zones after the data have.
     pub tail: u32,
     /// The six bytes CPR_MAI of the data frames in the Data Zone.
     pub cpr: [u8; 6],
-    /// How the bytes of a captured block stand in a stream.
+    /// The form of captured blocks in a stream: plain, marked or listed.
     pub form: Form,
     /// How many threads work, from 1 to 16.
     pub workers: u8,

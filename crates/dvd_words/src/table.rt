@@ -19,9 +19,9 @@ pub struct CommandSpec<'a> {
     pub takes_listed: bool,
     /// Whether it needs a number of sectors or a listed capture, which states it.
     pub sectors_or_listed: bool,
-    /// What its numbers have to keep.
+    /// The limit of its numbers.
     pub limit: Limit,
-    /// Its options, in the order in which clap is told of them.
+    /// Its options, in the order in which clap gets them.
     pub options: &'a [OptionSpec<'a>],
 }
 
@@ -44,7 +44,7 @@ pub enum Unit {
     Frame,
 }
 
-/// What the numbers of a command have to keep, beside the range that each has by itself.
+/// The limit of a command's numbers, in addition to the range that each has by itself.
 #[derive(Clone, Copy, Debug, PartialEq, Eq)]
 pub enum Limit {
     /// Nothing.
@@ -81,9 +81,9 @@ macro_rules! is_must {
     (may) => { false };
 }
 
-// Command, word, unit, takes_listed, sectors_or_listed, limit, and the options that must stand and those that may.
-// No definition can name a constant that holds references: so specs/Table.antt has the same rows, and `spec_of` is proved to
-// give these.
+// Command, word, unit, takes_listed, sectors_or_listed, limit, and the options: required ones and others.
+// A definition can't name a constant that holds references. So specs/Table.antt has the same rows, and `spec_of` is
+// proved to give these.
 static COMMANDS: [CommandSpec<'static>; 12] = rows! {
     Frames   frames   Sector false false Numbers   must [first sectors];
     Master   master   Block  false false Any       must [sectors] may [sectors1 shape zones initial tail workers cpr];

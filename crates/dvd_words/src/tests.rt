@@ -1,4 +1,4 @@
-//! Worked words, each with what it asks for.
+//! Worked arguments, each list with what it asks for.
 use crate::{Command, Settings, WordsFault, read};
 use dvd_capture::Form;
 use dvd_layout::{Shape, Zones};

@@ -10,7 +10,7 @@ use dvd_capture::Form;
 use dvd_layout::{Shape, Zones};
 use hex::FromHex;
 
-/// A number of one to ten decimal digits.
+/// A number of one to ten decimal digits, below 2^32, or the default where there is no text. `None`: another text.
 pub fn read_number(text: Option<&str>, default: u32) -> Option<u32>
     ensures { result ≡ value_or default number_in (option_map (λ s. s.now) text.entry) }
 {
@@ -35,7 +35,7 @@ fn has_digits_alone(text: &[u8]) -> bool
     text.iter().all(|byte| byte.is_ascii_digit())
 }
 
-/// A number from `least` to `most`, or the default.
+/// A number from `least` to `most`, or the default where there is no text. `None`: another text.
 pub fn read_within(text: Option<&str>, least: u32, most: u32, default: u32) -> Option<u32>
     ensures value { result ≡ value_or default (number_within least most) (option_map (λ s. s.now) text.entry) }
     ensures bounds { IfSome result (λ n. (min least default ≤ n) × (n ≤ max most default)) }
@@ -53,7 +53,7 @@ pub fn read_within(text: Option<&str>, least: u32, most: u32, default: u32) -> O
     }
 }
 
-/// How many threads work: from 1 to 16.
+/// How many threads work: from 1 to 16, and 1 where there is no text. `None`: another text.
 pub fn read_workers(text: Option<&str>) -> Option<u8>
     ensures value { result ≡ value_or 1 (number_within 1 16) (option_map (λ s. s.now) text.entry) }
     ensures bounds { IfSome result (λ n. (1 ≤ n) × (n ≤ 16)) }
@@ -61,7 +61,7 @@ pub fn read_workers(text: Option<&str>) -> Option<u8>
     Some(read_within(text, 1, 16, 1)? as u8)
 }
 
-/// A sector number of six hexadecimal digits.
+/// A sector number of six hexadecimal digits, or 0 where there is no text. `None`: another text.
 pub fn read_sector_number(text: Option<&str>) -> Option<u32>
     ensures { result ≡ value_or 0 sector_number_of (option_map (λ s. s.now) text.entry) }
 {
@@ -74,7 +74,7 @@ pub fn read_sector_number(text: Option<&str>) -> Option<u32>
     }
 }
 
-/// CPR_MAI, as twelve hexadecimal digits.
+/// CPR_MAI, as twelve hexadecimal digits, or zeros where there is no text. `None`: another text.
 pub fn read_cpr(text: Option<&str>) -> Option<[u8; 6]>
     ensures { result ≡ value_or (replicate 6 0) (hex_bytes 6) (option_map (λ s. s.now) text.entry) }
 {
@@ -84,7 +84,7 @@ pub fn read_cpr(text: Option<&str>) -> Option<[u8; 6]>
     }
 }
 
-/// How many layers there are, and the track path of two.
+/// How many layers there are, and the track path of two; one layer where there is no text. `None`: another text.
 pub fn read_shape(text: Option<&str>) -> Option<Shape>
     ensures { result ≡ value_or Shape.Single shape_of (option_map (λ s. s.now) text.entry) }
 {
@@ -96,7 +96,7 @@ pub fn read_shape(text: Option<&str>) -> Option<Shape>
     }
 }
 
-/// Which zones of a disk a stream has.
+/// Which zones of a disk a stream has, and the Data Zones alone where there is no text. `None`: another text.
 pub fn read_zones(text: Option<&str>) -> Option<Zones>
     ensures { result ≡ value_or Zones.DataOnly zones_of (option_map (λ s. s.now) text.entry) }
 {
@@ -107,7 +107,7 @@ pub fn read_zones(text: Option<&str>) -> Option<Zones>
     }
 }
 
-/// How captured blocks are stored.
+/// The form of captured blocks: plain where there is no text. `None`: another text.
 pub fn read_form(text: Option<&str>) -> Option<Form>
     ensures { result ≡ value_or Form.Plain form_of (option_map (λ s. s.now) text.entry) }
 {

@@ -1,4 +1,4 @@
-//! Reads the words of the command line.
+//! Reads the arguments of the command line.
 
 ghost use Rattle.std.specs.Prelude.{◌≡◌, ◌+◌, None, IfOk, IfSome, map, option_map, string_bytes};
 ghost use Rattle.clap.specs.Words.{first_of, found_of, rows_of};
@@ -16,7 +16,7 @@ use clap::ArgMatches;
 use dvd_capture::Form;
 use std::alloc::Global;
 
-/// The settings that the words ask for.
+/// The settings that the arguments ask for.
 #[tactic(auto, unfolding(crate::specs::Reading::reading))]
 pub fn read(alloc: Global, words: &[String]) -> Result<Settings, WordsFault>
     ensures read { IfOk result (Reads (map string_bytes words.now)) }
@@ -64,7 +64,7 @@ fn settings(command: Command, matches: &ArgMatches<'_>) -> Option<Settings>
     }
 }
 
-// The layout is told once: a listed capture states its own, and no option tells of it then; else the words state it.
+// The layout is stated once: a listed capture states its own, and then no option may; else the arguments state it.
 fn has_layout(command: Command, form: Form, matches: &ArgMatches<'_>) -> bool
     ensures { result ≡ has_layout command form (rows_of (found_of matches.now)) }
 {
@@ -106,7 +106,6 @@ fn is_given(matches: &ArgMatches<'_>, name: &str) -> bool
     given(matches, name).is_some()
 }
 
-// The value of an option, if it is given.
 fn given<'a>(matches: &ArgMatches<'a>, name: &str) -> Option<&'a str>
     ensures { option_map (λ s. s.now) result ≡ first_of name.now (rows_of (found_of matches.now)) }
 {

@@ -1,2 +1,2 @@
--- What the contracts speak of: the field of 256 elements, its words and their codes, and division of lists of bits.
+-- What the laws of the field say of one byte.
 pub mod Laws

@@ -1,10 +1,11 @@
-//! Sums of elements, and products, quotients, inverses and powers by logarithms: to multiply is to add exponents of alpha.
+//! Sums of elements, and products, quotients, inverses and powers by logarithms: to multiply is to add exponents of
+//! alpha.
 ghost use Rattle.std.specs.Prelude.{◌≡◌, ◌≢◌, ◌<◌};
 ghost use Rattle.coding.specs.Field.{alpha, plus, product, power};
 
 use crate::powers::{LOGARITHMS, POWERS};
 
-/// How many powers of alpha differ: alpha^255 is 01.
+/// The number of different powers of alpha: alpha^255 is 01.
 const ORDER: u32 = 255;
 
 /// The sum of two elements, which is their difference too.
@@ -69,7 +70,7 @@ pub fn log(a: u8) -> u8
     exponent(a) as u8
 }
 
-/// The exponent of alpha that reaches an element that isn't 0, as a place in the table of powers.
+/// The exponent of alpha whose power is an element that isn't 0: a place in the table of powers.
 #[inline]
 fn exponent(a: u8) -> usize
     requires { a ≢ 0 }

@@ -1,5 +1,6 @@
 //! The laws of the field. Each function's contract is a law of the definitions; the bodies are empty.
-//! A law that doesn't say that its numbers are bytes holds of all numbers, since a product reads the lowest eight bits alone.
+//! A law that doesn't say that its numbers are bytes holds for all numbers, since a product depends on the lowest eight
+//! bits of its factors alone.
 #![tactic(auto, using(crate::proofs::FieldLaws::laws))]
 
 ghost use Rattle.std.specs.Prelude.{◌≡◌, ◌≢◌, ◌⊎◌, ℕ, ◌+◌, ◌<◌};

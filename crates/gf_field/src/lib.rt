@@ -2,7 +2,8 @@
 //!
 //! An element is a byte: its bit k is the coefficient of x^k, and products are reduced by x^8 + x^4 + x^3 + x^2 + 1.
 //! Products, quotients, inverses and powers are read from two tables, of the powers of alpha and of logarithms.
-//! `specs/Field.antt` defines sum, product and power, and `specs/Words.antt` words over the field and their codes.
+//! In the crate `coding`, `specs/Field.antt` defines sum, product and power, and `specs/Words.antt` words over the
+//! field and their codes.
 #![tactic(auto)]
 
 mod field;

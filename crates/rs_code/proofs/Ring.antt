@@ -1,4 +1,4 @@
--- Sums of products brought to one form: `simp ring` multiplies out, sorts, and cancels what stands twice.
+-- Sums of products brought to one form: `simp ring` multiplies out, sorts, and cancels what comes twice.
 use Rattle.std.proofs.Common.{◌≡◌, ℕ, sym, ◌∙◌, ap}
 use Rattle.coding.specs.Field.{plus, product}
 use Rattle.gf_field.proofs.FieldLaws.{plus-comm, plus-assoc, plus-zero, zero-plus, plus-self, plus-again, product-comm, product-assoc, product-plus, plus-product, product-zero, zero-product}

@@ -17,7 +17,7 @@ syndromes-two : syndromes_of 2 (1 ∷ 2 ∷ 3 ∷ 4 ∷ 5 ∷ 6 ∷ []) ≡ 0x07
 unfolding syndromes_of value power product partial_product shifted shift
 syndromes-two = refl
 
--- the same second value as a power sum
+-- this second value as a power sum
 power-sum-one : power_sum (1 ∷ 2 ∷ 3 ∷ 4 ∷ 5 ∷ 6 ∷ []) (points_of 6) 1 ≡ 0x04
 unfolding power_sum points_of power product partial_product shifted shift
 power-sum-one = refl

@@ -1,4 +1,4 @@
--- Words over the field as polynomials: where they vanish.
+-- Words over the field as polynomials: where their value is 0.
 -- A word's first byte is the coefficient of the highest power, as in ECMA-267, clause 18.
 use Rattle.std.specs.Prelude.{◌≡◌, ℕ, ◌<◌, List, ◌∷◌}
 use Rattle.coding.specs.Field.{alpha, power}

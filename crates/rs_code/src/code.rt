@@ -16,7 +16,7 @@ pub type Pi = Code<182, 10>;
 /// The code of a column of an ECC block with its sixteen PO bytes (ECMA-267, clause 18).
 pub type Po = Code<208, 16>;
 
-/// The code of an ID with its two check bytes, the IED (ECMA-267, clause 16.2).
+/// The code of an ID with its two parity bytes, the IED (ECMA-267, clause 16.2).
 pub type Ied = Code<6, 2>;
 
 /// The code of words of `N` bytes that end with `R` parity bytes.
@@ -65,9 +65,8 @@ impl<const N: usize, const R: usize> Code<N, R> {
         evaluation::is_zero(&self.remainder(word))
     }
 
-    /// The remainder of `word` by the generator polynomial: `R` bytes that have the word's values at alpha^0 to alpha^(R-1). They
-    /// are zeros where the word is a codeword.
-    /// That the word is bytes is told too, since a word of constant length doesn't tell it.
+    /// The remainder of `word` by the generator polynomial: `R` bytes that have the word's values at alpha^0 to
+    /// alpha^(R-1). They are zeros where the word is a codeword. Also ensures that the elements of `word` are bytes.
     pub fn remainder(&self, word: &[u8; N]) -> [u8; R]
         ensures values { (k : ℕ) → k < R → value result (power alpha k) ≡ value word.now (power alpha k) }
         ensures bytes { All IsByte result }
@@ -80,8 +79,8 @@ impl<const N: usize, const R: usize> Code<N, R> {
         remainder
     }
 
-    // Sets `parity` so that it makes a codeword with `message`: by tables for the codes of an ECC block, else by the generator.
-    // That the message is bytes is told too, since a word of constant length doesn't tell it.
+    // Sets `parity` so that it makes a codeword with `message`: by tables for the codes of an ECC block, else by the
+    // generator. Also ensures that the elements of `message` are bytes.
     fn divide(&self, message: &[u8], parity: &mut [u8])
         requires fits { length parity.old ≡ R }
         ensures codeword { IsCodeword (length message.now + R) R (message.now ++ parity.new) }

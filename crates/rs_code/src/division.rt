@@ -1,5 +1,5 @@
 //! The generator polynomial, and the division by it.
-//! A polynomial with the leading coefficient 1 is kept without it.
+//! A polynomial with the leading coefficient 1 is stored without it.
 ghost use Rattle.std.specs.Prelude.{◌≡◌, ℕ, ◌-◌, ◌<◌, ◌≤◌, List, [], ◌∷◌, ◌++◌, length, All};
 ghost use Rattle.arrayvec.specs.ArrayVec.{array_vec_len};
 ghost use Rattle.coding.specs.Words.{IsByte};
@@ -9,7 +9,7 @@ ghost use Rattle.rs_code.specs.Inner.Polynomials.{sum_of, times_root, IsRemainde
 use arrayvec::ArrayVec;
 use gf_field::mul;
 
-// The generators of the codes of an ECC block, which are at hand since callers from outside make a code for each word.
+// The generators of the codes of an ECC block are constants, since callers may make a code for each word.
 static PI_GENERATOR: [u8; 10] = [0xD8, 0xC2, 0x9F, 0x6F, 0xC7, 0x5E, 0x5F, 0x71, 0x9D, 0xC1];
 
 static PO_GENERATOR: [u8; 16] = [
@@ -29,7 +29,7 @@ pub fn generator(parity: u8) -> ArrayVec<u8, 32>
     }
 }
 
-// The same product, factor by factor.
+// The same product, computed factor by factor.
 fn product_of_factors(parity: u8) -> ArrayVec<u8, 32>
     requires { parity ≤ 32 }
     ensures degree { array_vec_len result ≡ parity }
@@ -45,7 +45,7 @@ fn product_of_factors(parity: u8) -> ArrayVec<u8, 32>
     coefficients
 }
 
-/// Multiplies a polynomial, which a 0 follows, by (x + `root`).
+/// Multiplies a polynomial by (x + `root`). A 0 comes after it, since the product has one coefficient more.
 fn multiply_by_root(coefficients: &mut [u8], root: u8)
     ensures { (polynomial : List ℕ) → coefficients.old ≡ polynomial ++ 0 ∷ [] → coefficients.new ≡ times_root polynomial root }
 {
@@ -57,8 +57,8 @@ fn multiply_by_root(coefficients: &mut [u8], root: u8)
     }
 }
 
-/// Sets `register` to the remainder of `message` by the generator, which is its parity.
-/// That the message is bytes is told too, since a word of constant length doesn't tell it.
+/// Sets `register` to the remainder of `message` by the generator, which is its parity. Also ensures that the elements
+/// of `message` are bytes.
 pub fn divide(generator: &[u8], message: &[u8], register: &mut [u8])
     requires some_degree { 0 < length generator.now }
     requires fits { length register.old ≡ length generator.now }
@@ -71,7 +71,7 @@ pub fn divide(generator: &[u8], message: &[u8], register: &mut [u8])
     }
 }
 
-/// One step of the division: takes in one more byte.
+/// One step of the division: reads one more byte.
 fn read_byte(generator: &[u8], register: &mut [u8], byte: u8)
     requires some_degree { 0 < length generator.now }
     requires fits { length register.old ≡ length generator.now }
@@ -85,7 +85,7 @@ fn read_byte(generator: &[u8], register: &mut [u8], byte: u8)
     register[last] = mul(factor, generator[last]);
 }
 
-/// Adds a word to another of the same length. That the word is bytes is told too.
+/// Adds `word` to another of the same length. Also ensures that its elements are bytes.
 pub fn add_word(sum: &mut [u8], word: &[u8])
     requires { length word.now ≡ length sum.old }
     ensures sum { sum.new ≡ sum_of sum.old word.now }

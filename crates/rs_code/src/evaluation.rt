@@ -20,7 +20,7 @@ pub fn syndromes(word: &[u8], parity: usize) -> ArrayVec<u8, 32>
     syndromes
 }
 
-/// Whether a word has zeros alone.
+/// Whether all bytes of a word are 0.
 pub fn is_zero(word: &[u8]) -> bool
     ensures { IsTrue result ↔ (word.now ≡ replicate (length word.now) 0) }
 {
@@ -32,8 +32,8 @@ pub fn is_zero(word: &[u8]) -> bool
     true
 }
 
-/// The value of a word of at most 33 bytes at alpha to a power below 255, term by term: a term's logarithm is its byte's and a
-/// multiple of the exponent, so that no term waits for another.
+/// The value of a word of at most 33 bytes at alpha to a power below 255, term by term. A term's logarithm is that of
+/// its byte plus a multiple of the exponent, so that no term depends on another.
 pub fn value_at(word: &[u8], exponent: u32) -> u8
     requires few { length word.now ≤ 33 }
     requires below { exponent < 255 }

@@ -1,14 +1,14 @@
-//! Division by a generator of at most sixteen coefficients: the remainder stands in one number of 128 bits, its first byte highest.
-//! A byte is read by one look-up, of the generator times the sum of that byte and the one that leaves the register; four bytes by
-//! four look-ups at once.
+//! Division by a generator of at most sixteen coefficients: the remainder is one number of 128 bits, its first byte
+//! highest. A byte is read by one look-up, of the generator times the sum of that byte and the one that leaves the
+//! register. Four bytes are read by four look-ups at once.
 ghost use Rattle.std.specs.Prelude.{◌≡◌, ℕ, ◌<◌, ◌≤◌, List, [], ◌∷◌, ◌++◌, length, slice_index_or, take, All};
 ghost use Rattle.std.specs.List.{concat};
 ghost use Rattle.coding.specs.Words.{IsByte};
 ghost use Rattle.rs_code.specs.Inner.Polynomials.{IsRemainder};
 ghost use Rattle.rs_code.specs.Inner.Registers.{AreTables, after_bytes, register_bytes};
 
-/// Sets `parity` to the remainder of `message` by the generator whose tables these are.
-/// That the message is bytes is told too, since a word of constant length doesn't tell it.
+/// Sets `parity` to the remainder of `message` by the generator whose tables these are. Also ensures that the elements
+/// of `message` are bytes.
 #[inline]
 pub fn divide(tables: &[[u128; 256]; 4], message: &[u8], parity: &mut [u8])
     requires some_parity { 0 < length parity.old }
@@ -23,7 +23,7 @@ pub fn divide(tables: &[[u128; 256]; 4], message: &[u8], parity: &mut [u8])
     );
 }
 
-/// Writes the first bytes of a register.
+/// Writes the first `parity.len()` bytes of a register.
 #[inline]
 fn put_register(register: u128, parity: &mut [u8])
     requires { length parity.old ≤ 16 }
@@ -58,7 +58,7 @@ fn with_bytes(tables: &[[u128; 256]; 4], register: u128, bytes: &[u8]) -> u128
     next
 }
 
-/// Four steps of the division in one. No look-up waits for another.
+/// Four steps of the division in one. No look-up depends on another.
 #[inline]
 fn with_word(tables: &[[u128; 256]; 4], register: u128, word: [u8; 4]) -> u128
     ensures { (generator : List ℕ) → AreTables generator tables.now → (rest : List ℕ)
@@ -70,7 +70,7 @@ fn with_word(tables: &[[u128; 256]; 4], register: u128, word: [u8; 4]) -> u128
     (register << 32) ^ front ^ back
 }
 
-/// One step of the division: takes in one more byte.
+/// One step of the division: reads one more byte.
 #[inline]
 #[tactic(auto, unfolding(crate::specs::Inner::Registers::after_byte, crate::specs::Inner::Registers::after_bytes))]
 fn with_byte(table: &[u128; 256], register: u128, byte: u8) -> u128

@@ -1,14 +1,15 @@
 //! The multiples of the generators of the two codes of an ECC block, as registers.
-//! A multiple is linear in its factor: it is the sum of those by the powers of two that make up the factor, so that the eight
-//! numbers at 1, 2, 4, .. 128 span a table.
+//! A multiple is linear in its factor: it is the sum of those by the powers of two that make up the factor. So the
+//! eight numbers at 1, 2, 4, .. 128 span a table.
 
-// The 256 sums of eight numbers: at each byte, of those whose bits it has, the lowest bit first.
+// The 256 sums of eight numbers: at each byte, the sum of those whose bits it has, the lowest bit first.
 macro_rules! sums {
     ([$($sum:expr),*]) => { [$($sum),*] };
     ([$($sum:expr),*] $number:literal $($more:literal)*) => { sums!([$($sum,)* $($sum ^ $number),*] $($more)*) };
 }
 
-/// The generator with ten roots times each byte, and what is left of each of these one, two and three bytes later.
+/// The generator with ten roots times each byte, and what is left of each of these products one, two and three bytes
+/// later.
 pub static PI_TABLES: [[u128; 256]; 4] = [
     sums!([0]
         0xD8C29F6FC75E5F719DC1000000000000 0xAD9923DE93BCBEE2279F000000000000
@@ -32,7 +33,8 @@ pub static PI_TABLES: [[u128; 256]; 4] = [
         0x11B7043DEBBEF03DDD9A000000000000 0x2273087ACB61FD7AA729000000000000),
 ];
 
-/// The generator with sixteen roots times each byte, and what is left of each of these one, two and three bytes later.
+/// The generator with sixteen roots times each byte, and what is left of each of these products one, two and three
+/// bytes later.
 pub static PO_TABLES: [[u128; 256]; 4] = [
     sums!([0]
         0x3B0D68BD44D11E08A34129E56232243B 0x761AD06788BF3C105B8252D7C4644876

@@ -1,5 +1,5 @@
-//! Values from outside: worked parity bytes, and the parity of drawn words as a program computed it that solves the
-//! parity checks as linear equations and knows no generator.
+//! Values from outside: worked parity bytes, and the parity of drawn words as another program computed it. That program
+//! solves the parity checks as linear equations and uses no generator.
 ghost use Rattle.std.specs.Prelude.{◌≡◌, length};
 
 use crate::{Code, Ied, Pi, Po};

@@ -1,6 +1,7 @@
--- Parity by its values: sums of the columns of a matrix (combined, combined-zero, combined_more, combined_bytes), which have the
--- values where the matrix is a basis (combined_values); zeros behind a word (filled-whole, filled-bytes), and the encoded word,
--- whose parity has the values of the message followed by zeros (encoded_by_values); encoded_kept where columns stay.
+-- Parity by its values: sums of the columns of a matrix (combined, combined-zero, combined_more, combined_bytes), which
+-- have the values where the matrix is a basis (combined_values); zeros after a word (filled-whole, filled-bytes), and
+-- the encoded word, whose parity has the values of the message followed by zeros (encoded_by_values); encoded_kept
+-- where columns stay.
 use Rattle.std.proofs.Common.{◌≡◌, ◌≢◌, ℕ, zero, suc, ◌+◌, ◌-◌, ◌<◌, ◌≤◌, List, ◌++◌, length, get_or, replicate, All, refl, sym, ap, subst, ◌∙◌, inl, inr, arith, add-one, length-append, ◌==◌, if◌then◌else◌}
 use Rattle.std.proofs.lemmas.Bool.{cases_eq, cases_lt}
 use Rattle.std.proofs.lemmas.Bool.Decides.{nat_tests}

@@ -1,4 +1,4 @@
--- Rows that stand in something else: row_taken, the bytes of one of them.
+-- Rows that are part of something else: row_taken, the bytes of one of them.
 use Rattle.std.proofs.Common.{◌≡◌, ℕ, ◌<◌, List, [], length, get_or, map, sym, ap, ◌∙◌}
 use Rattle.std.proofs.lemmas.List.{get_or-map}
 use Rattle.coding.specs.Rows.{line}

@@ -1,6 +1,6 @@
--- Tiles of sixteen vectors: lanes of two vectors in turns (in_turns), what their pairs of rows hold (HasPairs, pairs_more,
--- pairs_wide), and vectors by places: what holds below a place, and of sixteen vectors from it on, holds of all of them
--- (places_more).
+-- Tiles of sixteen vectors: alternating lanes of two vectors (in_turns), what their pairs of rows hold (HasPairs,
+-- pairs_more, pairs_wide), and vectors by places: what holds below a place, and of sixteen vectors from it on, holds of
+-- all of them (places_more).
 use Rattle.std.proofs.Common.{◌≡◌, ℕ, ◌+◌, ◌-◌, ◌*◌, ◌/◌, ◌%◌, ◌<◌, List, [], ◌++◌, length, get_or, map, set, sym, ap, subst, ◌∙◌, inl, inr, arith, length-set, get_or-set_other}
 use Rattle.std.proofs.lemmas.Bool.{cases_eq, cases_lt}
 use Rattle.std.specs.List.{range_with_len}

@@ -28,8 +28,8 @@ pub fn outer_parity(rows: &[[u8; 182]], parity: &mut [[u8; 182]])
     put_parity(rows, 150, parity);
 }
 
-/// The values of the 32 columns from `at` on of 208 rows at alpha^0 to alpha^15, a vector for each of these powers: that of
-/// column `at + n` stands in lane `n`. That the columns are bytes is told too.
+/// The values of the 32 columns from `at` on of 208 rows at alpha^0 to alpha^15, a vector for each of these powers:
+/// that of column `at + n` is in lane `n`. Also ensures that the elements of the columns are bytes.
 pub fn column_values<T: Row>(rows: &[T], at: usize) -> [u8x32; 16]
     requires at { at + 32 ≤ 182 }
     requires rows { length rows.now ≡ 208 }
@@ -74,7 +74,7 @@ fn put_vectors(vectors: &[u8x32; 16], at: usize, parity: &mut [[u8; 182]])
     }
 }
 
-// Sets the 32 places from `at` on in a row, whose length is told.
+// Sets the 32 places from `at` on in a row. Also ensures that the row has 182 places.
 #[inline(always)]
 fn put_lanes(lanes: u8x32, row: &mut [u8; 182], at: usize)
     requires { at + 32 ≤ 182 }
@@ -95,8 +95,8 @@ fn lanes_at(row: &[u8; 182], at: usize) -> u8x32
     load(row, at)
 }
 
-// Sets the thirds to those of the 32 columns from `at` on, of 208 rows or of fewer with zeros below. That the columns are
-// bytes is told too.
+// Sets the thirds to those of the 32 columns from `at` on, of 208 rows or of fewer with zeros below. Also ensures that
+// the elements of the columns are bytes.
 #[inline(always)]
 fn put_thirds<T: Row>(rows: &[T], at: usize, thirds: &mut [[u8x32; 3]; 85])
     requires at { at + 32 ≤ 182 }
@@ -113,7 +113,7 @@ fn put_thirds<T: Row>(rows: &[T], at: usize, thirds: &mut [[u8x32; 3]; 85])
     }
 }
 
-// A place of these columns with 47 zeros put in front.
+// A place of these columns after 47 zeros are put before each.
 #[inline(always)]
 fn padded<T: Row>(rows: &[T], at: usize, place: usize) -> u8x32
     requires at { at + 32 ≤ 182 }

@@ -1,11 +1,11 @@
-//! What vectors of sixteen points are made of: the products of each byte with each nibble, and the powers of each power of
-//! alpha.
+//! The tables for vectors of sixteen points: the products of each byte with each nibble, and the powers of each power
+//! of alpha.
 ghost use Rattle.std.specs.Prelude.{◌≡◌, ℕ, ◌*◌, ◌<◌, slice_index};
 ghost use Rattle.coding.specs.Field.{alpha, power};
 ghost use Rattle.rs_lanes.specs.Inner.Tables.{IsTable};
 
-// Rows of sixteen multiples, by six of each: those by 1, 2, 3, 4, 8 and 12. The others are sums of two, as a product is linear in
-// each of its factors.
+// Rows of sixteen multiples, by six of each: those by 1, 2, 3, 4, 8 and 12. The others are sums of two of these, since
+// a product is linear in each of its factors.
 macro_rules! multiples {
     ($($one:literal $two:literal $three:literal $four:literal $eight:literal $twelve:literal)*) => {
         [$([
@@ -17,7 +17,7 @@ macro_rules! multiples {
     };
 }
 
-// Rows of sixteen bytes, a line each.
+// Rows of sixteen bytes.
 macro_rules! rows {
     ($($a:literal $b:literal $c:literal $d:literal $e:literal $f:literal $g:literal $h:literal
        $i:literal $j:literal $k:literal $l:literal $m:literal $n:literal $o:literal $p:literal)*) => {

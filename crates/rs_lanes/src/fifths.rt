@@ -1,5 +1,5 @@
-//! The five pieces of a third, added up for its five exponents k at once: the 17th powers of alpha^k are one of them times the
-//! fifth roots of one, so the sums are values of words of five bytes at these roots.
+//! The five pieces of a third, added up for its five exponents k at once. The 17th powers of alpha^k are one of them
+//! times the fifth roots of one, so the sums are values of words of five bytes at these roots.
 ghost use Rattle.std.specs.Prelude.{ℕ, ◌*◌, ◌<◌, [], ◌∷◌, slice_index};
 ghost use Rattle.coding.specs.Field.{alpha, plus, product, power};
 ghost use Rattle.coding.specs.Words.{value};
@@ -11,8 +11,8 @@ use crate::factors::{powers_of, products};
 use crate::lanes::{mixed, times};
 use std::simd::prelude::*;
 
-/// One place of the five pieces of the third with number `i`, added up to one by Horner's rule in the 17th power of alpha^k:
-/// result `m` for the exponent k with number `m`.
+/// One place of the five pieces of the third with number `i`, added up to one by Horner's rule in the 17th power of
+/// alpha^k: result `m` for the exponent k with number `m`.
 #[inline(always)]
 pub fn folded_places(thirds: &[[u8x32; 3]; 85], i: usize, place: usize) -> [u8x32; 5]
     requires third { i < 3 }
@@ -29,13 +29,13 @@ pub fn folded_places(thirds: &[[u8x32; 3]; 85], i: usize, place: usize) -> [u8x3
     )
 }
 
-// Each lane times alpha^(85 `turns`). That the lanes are bytes is told too.
+// Each lane times alpha^(85 `turns`). Also ensures that the lanes are bytes.
 #[inline(always)]
 fn turned(lanes: u8x32, turns: usize) -> u8x32
     ensures turned { HasLanes result (λ j. product (slice_index lanes j) (power alpha (85 * turns))) }
     ensures bytes { (j : ℕ) → j < 32 → slice_index lanes j < 256 }
 {
-    // alpha^255 is 1, so a product is spared where it can be.
+    // alpha^255 is 1, so every third power needs no product.
     let rest = turns % 3;
     if rest == 0 {
         lanes
@@ -50,8 +50,8 @@ fn fifths(y0: u8x32, y1: u8x32, y2: u8x32, y3: u8x32, y4: u8x32) -> [u8x32; 5]
     ensures { (m : ℕ) → m < 5 → HasLanes (line result m) (λ j.
         value (slice_index y4 j ∷ slice_index y3 j ∷ slice_index y2 j ∷ slice_index y1 j ∷ slice_index y0 j ∷ []) (power alpha (51 * m))) }
 {
-    // The roots other than 1 are 0x0A and its inverse 0xDD, 0x44 and its inverse 0x92. 0x0A and 0xDD add up to 0xD7, 0x44 and
-    // 0x92 to 0xD7 + 1: so a product with 0xD7 turns a sum taken with one root into that with its inverse.
+    // The roots other than 1 are 0x0A and its inverse 0xDD, 0x44 and its inverse 0x92. 0x0A and 0xDD add up to 0xD7,
+    // 0x44 and 0x92 to 0xD7 + 1. So a product with 0xD7 makes a sum with one root into that with its inverse.
     let ends = mixed(y1, y4);
     let middle = mixed(y2, y3);
     let both = mixed(ends, middle);

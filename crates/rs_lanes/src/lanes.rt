@@ -51,7 +51,7 @@ pub fn store(lanes: u8x32, row: &mut [u8], at: usize)
     lanes.copy_to_slice(&mut row[at..]);
 }
 
-/// The product of each lane and the factor that the table is of.
+/// The product of each lane and the factor of the table.
 #[inline(always)]
 pub fn times(table: &[[u8; 16]; 2], lanes: u8x32) -> u8x32
     ensures { (factor : ℕ) → IsTable factor table.now → HasLanes result (λ k. product (slice_index lanes k) factor) }

@@ -1,12 +1,12 @@
-//! Reed-Solomon parity of whole ECC blocks (ECMA-267, clause 18), and the values of their rows and columns at the powers of
-//! alpha, on vectors of 32 bytes: 32 columns or 32 rows at once.
+//! Reed-Solomon parity of whole ECC blocks (ECMA-267, clause 18), and the values of their rows and columns at the
+//! powers of alpha, on vectors of 32 bytes: 32 columns or 32 rows at once.
 //! A product with a constant is then two look-ups among sixteen, one for each half of a byte. Words are tested by their
-//! values and not by a remainder, since a decoder begins with these values.
+//! values and not by a remainder, since a decoder needs these values first.
 //!
 //! - [`columns`]: the outer parity of 192 rows, and the values of 32 columns of a block.
 //! - [`rows`]: the inner parity of 32 rows, and their values.
-//! - [`row`]: what has the bytes of a row.
-//! - [`turning`]: 32 rows as vectors, one for each place.
+//! - [`row`]: the trait of a type that has the bytes of a row.
+//! - [`turning`]: 32 rows, transposed: vectors, one for each place.
 //! - [`points`]: products and powers of sixteen bytes at once.
 //! - `lanes`: sums, products, loads and stores of vectors, and where all of several are zero.
 //! - `thirds`: the values of words, in each lane.

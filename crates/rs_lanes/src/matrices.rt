@@ -1,7 +1,7 @@
-//! The parity of a word by its values: for each code a matrix whose column `k` is the word that has the value 1 at alpha^k, and
-//! 0 at the other powers of alpha below the number of parity bytes.
+//! The parity of a word by its values. Each code has a matrix. Its column `k` is the word that has the value 1 at
+//! alpha^k, and 0 at the other powers of alpha below the number of parity bytes.
 
-/// Of the ten bytes of inner parity.
+/// The matrix of the ten bytes of inner parity.
 pub static PI_MATRIX: [[u8; 10]; 10] = [
     [0xF8, 0xE0, 0xA3, 0x7A, 0xB9, 0x5D, 0x9B, 0xBC, 0xFF, 0xFD],
     [0x79, 0xD3, 0xC9, 0xD3, 0x02, 0x7B, 0xFB, 0xBA, 0x77, 0xFF],
@@ -15,7 +15,7 @@ pub static PI_MATRIX: [[u8; 10]; 10] = [
     [0xD1, 0x83, 0xDA, 0x4C, 0x22, 0xD9, 0x02, 0xBD, 0x79, 0xF8],
 ];
 
-/// Of the sixteen bytes of outer parity.
+/// The matrix of the sixteen bytes of outer parity.
 pub static PO_MATRIX: [[u8; 16]; 16] = [
     [
         0xB8, 0x66, 0x9D, 0xAA, 0x7E, 0x3A, 0xD6, 0xD6, 0x78, 0x5F, 0x7A, 0xC7, 0xFE, 0x59, 0x9C,

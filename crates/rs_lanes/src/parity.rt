@@ -1,6 +1,7 @@
-//! The parity of words in 32 lanes, as the sum of the words that a matrix has for each of their values.
-//! The parity is the word that has the same values as its message, with zeros in place of the parity: both together are
-//! then zero at each root.
+//! The parity of words in 32 lanes, as a sum: for each of their values, a multiple of the column that a matrix has for
+//! it.
+//! The parity is the word that has the same values as its message followed by zeros. Both together are then zero at
+//! each root.
 ghost use Rattle.std.specs.Prelude.{◌≡◌, ℕ, ◌<◌, length, slice_index, EachIndex, All};
 ghost use Rattle.coding.specs.Field.{alpha, plus, product, power};
 ghost use Rattle.coding.specs.Words.{IsByte, value};
@@ -27,7 +28,7 @@ pub fn parity_of<const R: usize>(matrix: &[[u8; R]; R], values: &[u8x32; R]) -> 
     parity
 }
 
-// Adds the value with number `k` to each place, multiplied by its coefficient there.
+// Adds to each place the value with number `k`, multiplied by its coefficient there.
 #[inline(always)]
 fn add_multiples<const R: usize>(
     matrix: &[[u8; R]; R],

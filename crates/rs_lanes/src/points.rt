@@ -1,4 +1,4 @@
-//! Vectors of sixteen bytes, each lane of them at a point of its own.
+//! Vectors of sixteen bytes, where each lane has a point of its own.
 ghost use Rattle.std.specs.Prelude.{◌≡◌, ℕ, ◌*◌, ◌/◌, ◌%◌, ◌<◌, length, slice_index};
 ghost use Rattle.coding.specs.Field.{alpha, product, power};
 ghost use Rattle.rs_lanes.specs.Inner.Lanes.{HoldsLanes};

@@ -1,8 +1,8 @@
-//! What has the bytes of a row.
+//! Types that have the bytes of a row.
 ghost use Rattle.std.specs.Prelude.{◌≡◌, ℕ, List};
 
-/// A row of a block, whatever stands beside its bytes.
-/// The answer to a row has its bytes beside what was corrected, and its columns are tested where they are, without a copy.
+/// A row of a block, with or without more than its bytes.
+/// The answer to a row has its bytes and what was corrected, and its columns are tested in place, without a copy.
 pub trait Row {
     ghost word: { Self → List ℕ };
 

@@ -30,8 +30,8 @@ pub fn inner_parity(rows: &mut [[u8; 182]], top: usize)
     }
 }
 
-/// The values of the 32 rows from `top` on at alpha^0 to alpha^9, a vector for each of these powers: that of row `top + n`
-/// stands in lane `n`. That the rows are bytes is told too.
+/// The values of the 32 rows from `top` on at alpha^0 to alpha^9, a vector for each of these powers: that of row
+/// `top + n` is in lane `n`. Also ensures that the elements of the rows are bytes.
 pub fn row_values(rows: &[[u8; 182]], top: usize) -> [u8x32; 10]
     requires { top + 32 ≤ length rows.now }
     ensures bytes { (n : ℕ) → n < 32 → All IsByte (line rows.now (top + n)) }
@@ -43,7 +43,8 @@ pub fn row_values(rows: &[[u8; 182]], top: usize) -> [u8x32; 10]
     turned_values(&turned)
 }
 
-/// The same of 32 words of which each vector has one place: word `n` stands in lane `n`.
+/// Likewise for 32 transposed words, where each vector has one place of all words: the values of word `n` are in lane
+/// `n`.
 pub fn turned_values(turned: &[u8x32; 182]) -> [u8x32; 10]
     ensures bytes { (n : ℕ) → n < 32 → All IsByte (column turned.now n) }
     ensures lanes { EachIndex result (λ k. length (line result k) ≡ 32) }
@@ -66,8 +67,8 @@ fn put_end(parity: &[u8x32; 10], n: usize, row: &mut [u8; 182])
     }
 }
 
-// Sets the thirds to those of words of 182 bytes, of which places from `count` on are zeros. That the others are bytes is
-// told too.
+// Sets the thirds to those of words of 182 bytes, which have zeros from place `count` on. Also ensures that the other
+// elements are bytes.
 #[inline(always)]
 fn put_thirds(turned: &[u8x32; 182], count: usize, thirds: &mut [[u8x32; 3]; 85])
     requires { count ≤ 182 }
@@ -83,7 +84,7 @@ fn put_thirds(turned: &[u8x32; 182], count: usize, thirds: &mut [[u8x32; 3]; 85]
     }
 }
 
-// A place of these words with 73 zeros put in front.
+// A place of these words after 73 zeros are put before each.
 #[inline(always)]
 fn padded(turned: &[u8x32; 182], count: usize, at: usize) -> u8x32
     requires count { count ≤ 182 }

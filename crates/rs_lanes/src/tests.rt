@@ -1,5 +1,5 @@
-//! The parity of drawn words, as a program computed it that solves the parity checks as linear equations and knows no
-//! generator, and as the encoder of one word has it; and values, products and powers as they are without vectors.
+//! The parity of drawn words, as two others computed it: a program that solves the parity checks as linear equations
+//! and uses no generator, and the encoder of one word. Also values, products and powers as they are without vectors.
 ghost use Rattle.std.specs.Prelude.{◌≡◌, ◌<◌, ◌≤◌, length, vec_len, IfOk};
 
 use crate::{any_of, column_values, inner_parity, outer_parity, powers, row_values, scaled};
@@ -37,7 +37,7 @@ fn empty_rows(alloc: Global, count: usize) -> Result<Vec<[u8; 182]>, AllocError>
     vec![in alloc; [0; 182]; count]
 }
 
-// Rows whose first `size` bytes are drawn, with zeros behind them.
+// Rows whose first `size` bytes are drawn, and then zeros.
 fn drawn_rows(
     alloc: Global,
     count: usize,

@@ -1,7 +1,8 @@
-//! The values of words in 32 lanes at the first powers of alpha. A word of at most 255 bytes is, zeros put in front, three
-//! pieces of 85 bytes. Since alpha^255 is 1, the 85th power of alpha^k goes by k mod 3 alone: so for each of these three the
-//! pieces are added up to one first, which is a third here. A third serves five exponents below 15, and its own five pieces are
-//! added up for all of them at once (`fifths`). So what is left for each exponent is Horner's rule on 17 bytes.
+//! The values of words in 32 lanes at the first powers of alpha. A word of at most 255 bytes, with zeros put before it,
+//! is three pieces of 85 bytes. Since alpha^255 is 1, the 85th power of alpha^k depends on k mod 3 alone. So for each
+//! of these three the pieces are added up to one first; this sum is called a third. A third serves five exponents below
+//! 15, and its own five pieces are added up for all of them at once (`fifths`). What is left for each exponent is
+//! Horner's rule on 17 bytes.
 ghost use Rattle.std.specs.Prelude.{◌≡◌, ◌≢◌, ◌↔◌, ℕ, ◌%◌, ◌<◌, ◌≤◌, length, slice_index};
 ghost use Rattle.coding.specs.Field.{alpha, plus, product, power};
 ghost use Rattle.coding.specs.Words.{value};
@@ -14,7 +15,7 @@ use crate::fifths::folded_places;
 use crate::lanes::{mixed, times};
 use std::simd::prelude::*;
 
-/// One place of the three thirds, by that of the three pieces. That these have bytes is told too, since vectors don't tell it.
+/// One place of the three thirds, by that place of the three pieces. Also ensures that the lanes of these are bytes.
 #[inline(always)]
 pub fn thirds_of(a: u8x32, b: u8x32, c: u8x32) -> [u8x32; 3]
     ensures thirds { (i : ℕ) → i < 3 → HasLanes (line result i) (λ j. third_byte i (slice_index a j) (slice_index b j) (slice_index c j)) }
@@ -36,7 +37,7 @@ pub fn values_of<const R: usize>(thirds: &[[u8x32; 3]; 85]) -> [u8x32; R]
     requires { R ≤ 16 }
     ensures { (k : ℕ) → k < R → HasLanes (line result k) (λ j. value (third thirds.now (k % 3) j) (power alpha k)) }
 {
-    // Each third is named, so that its exponents are constants where this is inlined.
+    // There is a call for each third, so that its exponents are constants where this is inlined.
     let mut all = [u8x32::splat(0); R];
     put_values(&values(thirds, 0, R), 0, &mut all);
     put_values(&values(thirds, 1, R), 1, &mut all);
@@ -45,7 +46,7 @@ pub fn values_of<const R: usize>(thirds: &[[u8x32; 3]; 85]) -> [u8x32; R]
     all
 }
 
-// Puts the five values of the third with number `i` where their exponents are, as far as these are below `R`.
+// Sets the values at the five exponents of the third with number `i`, where these are below `R`.
 #[inline(always)]
 fn put_values<const R: usize>(values: &[u8x32; 5], i: usize, all: &mut [u8x32; R])
     requires { i < 3 }
@@ -60,7 +61,7 @@ fn put_values<const R: usize>(values: &[u8x32; 5], i: usize, all: &mut [u8x32; R
     }
 }
 
-// Puts the value at alpha^15 last, if there are sixteen values. All others stay.
+// Sets the value at alpha^15, if there are sixteen values. All others stay.
 #[inline(always)]
 fn put_last_value<const R: usize>(thirds: &[[u8x32; 3]; 85], all: &mut [u8x32; R])
     ensures set { R ≡ 16 → HasLanes (line all.new 15) (λ j. value (third thirds.now 0 j) (power alpha 15)) }
@@ -85,7 +86,8 @@ fn values(thirds: &[[u8x32; 3]; 85], i: usize, count: usize) -> [u8x32; 5]
     values
 }
 
-// The value of each lane's word at alpha^15. As the 17th power of alpha^15 is 1, the five pieces are added up as for alpha^0.
+// The value of each lane's word at alpha^15. The 17th power of alpha^15 is 1, so the five pieces are added up as for
+// alpha^0.
 #[inline(always)]
 fn last_value(thirds: &[[u8x32; 3]; 85]) -> u8x32
     ensures { HasLanes result (λ j. value (third thirds.now 0 j) (power alpha 15)) }
@@ -97,8 +99,8 @@ fn last_value(thirds: &[[u8x32; 3]; 85]) -> u8x32
     value
 }
 
-// A step of Horner's rule at each power of alpha of a third that is below alpha^`count`. That the next lanes are bytes is
-// told too.
+// A step of Horner's rule at each power of alpha of a third that is below alpha^`count`. Also ensures that the next
+// lanes are bytes.
 #[inline(always)]
 fn read_places(values: &mut [u8x32; 5], next: &[u8x32; 5], i: usize, count: usize)
     requires { i < 3 }
@@ -111,7 +113,7 @@ fn read_places(values: &mut [u8x32; 5], next: &[u8x32; 5], i: usize, count: usiz
     }
 }
 
-// A step of Horner's rule at alpha^`k`, unless `k` isn't below `count`. That the next lanes are bytes is told too.
+// A step of Horner's rule at alpha^`k`, where `k` is below `count`. Also ensures that the next lanes are bytes.
 #[inline(always)]
 fn next_value(k: usize, count: usize, value: u8x32, next: u8x32) -> u8x32
     requires { k < 16 }

@@ -1,4 +1,4 @@
-//! 32 rows as vectors by places: vector `k` has place `k` of each row.
+//! 32 rows, transposed: vector `k` has place `k` of each row.
 ghost use Rattle.std.specs.Prelude.{◌≡◌, ℕ, ◌+◌, ◌*◌, ◌/◌, ◌%◌, ◌<◌, ◌≤◌, length, map, slice_index, EachIndex};
 ghost use Rattle.coding.specs.Rows.{line, place};
 ghost use Rattle.rs_lanes.specs.Inner.Turning.{IsRiffled, IsTurned};
@@ -6,7 +6,7 @@ ghost use Rattle.rs_lanes.specs.Inner.Turning.{IsRiffled, IsTurned};
 use crate::row::Row;
 use std::simd::prelude::*;
 
-// Sets the vectors to the places of the 32 rows from `top` on. That these rows have 182 places is told too.
+// Sets the vectors to the places of the 32 rows from `top` on. Also ensures that these rows have 182 places.
 pub(crate) fn turn<T: Row>(rows: &[T], top: usize, turned: &mut [u8x32; 182])
     requires { top + 32 ≤ length rows.now }
     ensures sizes { (n : ℕ) → n < 32 → length (line (map T.word rows.now) (top + n)) ≡ 182 }
@@ -33,7 +33,8 @@ fn put_tile(tile: &[u8x32; 16], at: usize, turned: &mut [u8x32; 182])
     }
 }
 
-/// Sixteen places, from `at` on, of the 32 rows from `top` on, as vectors by places. That these rows have 182 places is told too.
+/// Sixteen places, from `at` on, of the 32 rows from `top` on, transposed: vector `k` has place `at + k` of each row.
+/// Also ensures that these rows have 182 places.
 #[inline(always)]
 pub fn load_turned<T: Row>(rows: &[T], top: usize, at: usize) -> [u8x32; 16]
     requires top { top + 32 ≤ length rows.now }
@@ -45,7 +46,8 @@ pub fn load_turned<T: Row>(rows: &[T], top: usize, at: usize) -> [u8x32; 16]
     turn_tile(&load_tile(rows, top, at))
 }
 
-// Sixteen places of 32 rows: the upper sixteen rows in the lower halves of the vectors, and the others in the upper halves.
+// Sixteen places of 32 rows: the upper sixteen rows in the lower halves of the vectors, and the others in the upper
+// halves.
 #[inline(always)]
 fn load_tile<T: Row>(rows: &[T], top: usize, at: usize) -> [u8x32; 16]
     requires top { top + 32 ≤ length rows.now }
@@ -61,7 +63,7 @@ fn load_tile<T: Row>(rows: &[T], top: usize, at: usize) -> [u8x32; 16]
     tile
 }
 
-// The same of two rows, whose lengths are told.
+// Sixteen places of two rows. Also ensures that these have 182 places.
 #[inline(always)]
 fn pair_at(one: &[u8; 182], other: &[u8; 182], at: usize) -> u8x32
     requires { at + 16 ≤ 182 }
@@ -92,7 +94,7 @@ fn load_pair(one: &[u8], other: &[u8], at: usize) -> u8x32
     )
 }
 
-// Exchanges rows and lanes of both halves of a tile.
+// Transposes both halves of a tile.
 #[inline(always)]
 fn turn_tile(tile: &[u8x32; 16]) -> [u8x32; 16]
     requires { EachIndex tile.now (λ k. length (line tile.now k) ≡ 32) }
@@ -102,7 +104,7 @@ fn turn_tile(tile: &[u8x32; 16]) -> [u8x32; 16]
     riffle(&riffle(&riffle(&riffle(tile))))
 }
 
-// One of four equal steps: the vectors of the upper and of the lower half take turns, lane by lane.
+// One of four equal steps: the vectors of the upper half alternate with those of the lower half, lane by lane.
 #[inline(always)]
 fn riffle(tile: &[u8x32; 16]) -> [u8x32; 16]
     requires { EachIndex tile.now (λ k. length (line tile.now k) ≡ 32) }
@@ -117,7 +119,7 @@ fn riffle(tile: &[u8x32; 16]) -> [u8x32; 16]
     riffled
 }
 
-// The first eight lanes of each half of two vectors, in turns.
+// The first eight lanes of each half of two vectors, alternating.
 #[inline(always)]
 fn first_lanes(a: u8x32, b: u8x32) -> u8x32
     requires a { length a ≡ 32 }
@@ -135,7 +137,7 @@ fn first_lanes(a: u8x32, b: u8x32) -> u8x32
     )
 }
 
-// The last eight lanes of each half of two vectors, in turns.
+// The last eight lanes of each half of two vectors, alternating.
 #[inline(always)]
 fn last_lanes(a: u8x32, b: u8x32) -> u8x32
     requires a { length a ≡ 32 }

@@ -1,12 +1,12 @@
-//! The bytes to add at the zeros of 32 locators, by Forney's formula: with the locator p(x) whose highest power
-//! stands first, and q(x) the powers of x from 0 on of its product with the sum of each syndrome times x^(-k-1), they
-//! are q / p' at the zeros.
+//! The bytes to add at the zeros of 32 locators, by Forney's formula. Let p(x) be the locator, with its highest power
+//! first. Let q(x) be the powers of x from 0 on of the product of p(x) with the sum of each syndrome times x^(-k-1).
+//! Then the bytes are q / p' at the zeros.
 use crate::locators::{logs_of_all, sum_at};
 use crate::tower::{Logs, bytes, inverse, logs, pairs, product, squares};
 use std::simd::prelude::*;
 
-/// Sets the bytes at these points. Where a point is 0 and stands for none, it becomes 1 and its byte is 0, so that
-/// adding it changes nothing.
+/// Sets the bytes at these points. A point 0 means none: it becomes 1 and its byte becomes 0, so that adding it changes
+/// nothing.
 pub fn put_amounts(
     syndromes: &[u8x32; 10],
     syndrome_logs: &[Logs; 10],
@@ -28,7 +28,7 @@ pub fn put_amounts(
     }
 }
 
-// The numerator at a point by the derivative there, x^4 + `quadratic` x^2 + `last`.
+// The numerator at a point, divided by the derivative there, x^4 + `quadratic` x^2 + `last`.
 #[inline(always)]
 fn amount_at(point: u8x32, numerator: &[u8x32; 5], quadratic: &Logs, last: u8x32) -> u8x32 {
     let point_logs = logs(point);

@@ -1,10 +1,10 @@
-//! A byte added to a row, and how many places then differ from the received row.
+//! A byte added to a row, and the number of places that then differ from the received row.
 ghost use Rattle.std.specs.Prelude.{◌≡◌, ◌+◌, ◌<◌, ◌≤◌, false, replicate, slice_index, slice_set};
 ghost use Rattle.coding.specs.Field.{plus};
 ghost use Rattle.rs_decode.specs.Errors.{error_count};
 
-/// Adds a byte at a place, and answers how many places differ then, by how many did before. That it is a byte is told
-/// too.
+/// Adds a byte at a place. Returns the number of places that then differ from the received row; `differing` did before.
+/// Also ensures that `byte` is a byte.
 #[inline(always)]
 pub fn add_at(
     received: &[u8; 182],

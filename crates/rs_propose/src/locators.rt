@@ -1,16 +1,16 @@
 //! The locators of 32 rows, by their syndromes: the algorithm of Berlekamp and Massey in each lane, without a branch.
-//! The first coefficient is 1 and isn't written. A row with more than five errors has some locator too, and its
+//! The first coefficient is 1 and isn't stored. A row with more than five errors gets some locator too, and its
 //! proposal isn't believed.
 ghost use Rattle.std.specs.Prelude.{◌<◌};
 
 use crate::tower::{Logs, chosen, inverse, logs, logs_of_one, logs_of_zero, product};
 use std::simd::prelude::*;
 
-/// The coefficients of the locators behind the first one.
+/// The coefficients of the locators after the first one.
 pub fn locators(syndromes: &[u8x32; 10], syndrome_logs: &[Logs; 10]) -> [u8x32; 5] {
     let mut taps = [u8x32::splat(0); 5];
-    // The register from before it last got longer, as many places up as it is syndromes ago, and the inverse of what
-    // it missed.
+    // The register as it was before it last got longer, moved up one place for each syndrome since, and the inverse of
+    // its discrepancy then.
     let mut earlier = [logs_of_zero(); 5];
     earlier[0] = logs_of_one();
     let mut divisor = logs_of_one();
@@ -56,7 +56,7 @@ pub fn sum_at(
     sum
 }
 
-// Whether a register gets longer: where it misses, and isn't longer than half of the syndromes so far.
+// Whether a register gets longer: where its discrepancy isn't 0, and it isn't longer than half of the syndromes so far.
 #[inline(always)]
 fn grow_at(at: usize, missed: u8x32, lengths: u8x32) -> mask8x32
     requires { at < 10 }
@@ -65,8 +65,8 @@ fn grow_at(at: usize, missed: u8x32, lengths: u8x32) -> mask8x32
     missed.simd_ne(u8x32::splat(0)) & (lengths + lengths).simd_le(reach)
 }
 
-// Adds the multiple of the earlier register with which a register misses no longer. Only so many of its coefficients
-// can be other than 0.
+// Adds the multiple of the earlier register that makes the discrepancy 0. Only its first `count` coefficients can be
+// other than 0.
 #[inline(always)]
 fn add_multiples(taps: &mut [u8x32; 5], factor: &Logs, earlier: &[Logs; 5], count: usize) {
     for k in 0..count.min(5) {
@@ -74,7 +74,8 @@ fn add_multiples(taps: &mut [u8x32; 5], factor: &Logs, earlier: &[Logs; 5], coun
     }
 }
 
-// Moves the earlier register up by one place. Where a register gets longer, that one as it was takes its place.
+// Moves the earlier register up by one place. Where a register gets longer, it becomes the earlier one as it was
+// before.
 #[inline(always)]
 fn shift(earlier: &mut [Logs; 5], taps: &[Logs; 5], grows: mask8x32) {
     for k in 0..4 {

@@ -1,7 +1,7 @@
 //! Look-ups in tables of sixteen bytes, in each lane.
 use std::simd::prelude::*;
 
-/// The table's entry at each lane, and 0 at lanes from 128 on. Those between 16 and 127 count by their low four bits.
+/// The table's entry at each lane, and 0 at lanes from 128 on. Lanes from 16 to 127 count by their low four bits.
 #[inline(always)]
 pub fn look_up(table: &[u8; 16], places: u8x32) -> u8x32 {
     twice(table).swizzle_dyn_within::<16>(places & u8x32::splat(0x8F))
@@ -19,7 +19,7 @@ pub fn at_high_nibbles(table: &[u8; 16], lanes: u8x32) -> u8x32 {
     twice(table).swizzle_dyn_within::<16>(lanes >> u8x32::splat(4))
 }
 
-/// A linear map of bytes in each lane, by what it makes of each low nibble and of each high one.
+/// A linear map of bytes in each lane, by its values at each low nibble and at each high one.
 #[inline(always)]
 pub fn mapped(tables: &[[u8; 16]; 2], lanes: u8x32) -> u8x32 {
     at_low_nibbles(&tables[0], lanes) ^ at_high_nibbles(&tables[1], lanes)

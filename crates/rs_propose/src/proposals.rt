@@ -16,8 +16,8 @@ use rs_decode::Fix;
 use rs_lanes::{powers, scaled};
 use std::simd::prelude::*;
 
-/// What is proposed for each of 32 rows of 182 bytes, of which ten are parity: up to five bytes to add, and the
-/// powers of alpha that their places stand at. A byte 0 at the point 1 stands for none.
+/// What is proposed for each of 32 rows of 182 bytes, ten of them parity: up to five bytes to add, and the powers of
+/// alpha at their places. A byte 0 at the point 1 is none.
 #[derive(Drop)]
 pub struct Proposals {
     points: [[u8; 32]; 5],
@@ -25,7 +25,7 @@ pub struct Proposals {
 }
 
 impl Proposals {
-    /// Nothing for any row.
+    /// No proposal for any row.
     pub fn none() -> Self {
         Proposals {
             points: [[1; 32]; 5],
@@ -33,8 +33,8 @@ impl Proposals {
         }
     }
 
-    /// Those for rows that have these values at alpha^0 to alpha^9: for row `n` those in the lanes `n`. They are
-    /// right for rows with at most five errors, which tests show and no contract says.
+    /// Makes proposals for rows that have these values at alpha^0 to alpha^9: lane `n` has those of row `n`. They are
+    /// right for rows with at most five errors; tests show this, and no contract says it.
     pub fn propose(&mut self, values: &[u8x32; 10]) {
         let mut syndromes = [u8x32::splat(0); 10];
         let mut syndrome_logs = [logs_of_zero(); 10];
@@ -56,9 +56,10 @@ impl Proposals {
         }
     }
 
-    /// Sets `row` to the codeword near a received row without marks, by its syndromes and what is proposed for row
-    /// `n`, if that is right: if the bytes have the syndromes as their power sums, so that the row with them added is
-    /// a codeword. It then is the near one, since at most five places differ. Otherwise `row` may be anything.
+    /// Sets `row` to the codeword near a received row without marks, by its syndromes and the proposal for row `n`, if
+    /// this is right. It is right if its bytes have the syndromes as their power sums: the row with these bytes added
+    /// is then a codeword. This codeword is near the row, since at most five places differ. Otherwise the result is
+    /// `None`, and `row` may be anything.
     pub fn believe(
         &self,
         n: usize,
@@ -87,7 +88,7 @@ impl Proposals {
     }
 }
 
-// The place in a row that stands at this power of alpha, if there is one.
+// The place in a row whose power of alpha this is, if there is one.
 #[inline(always)]
 fn place_of(point: u8) -> Option<usize>
     ensures { IfSome result (λ place. place < 182) }
@@ -98,7 +99,7 @@ fn place_of(point: u8) -> Option<usize>
     181usize.checked_sub(log(point) as usize)
 }
 
-// The power sums with a byte more, which stands at a place of a row.
+// The power sums with one more byte, which is at a place of a row.
 #[inline(always)]
 fn with_byte(sums: u8x16, place: usize, byte: u8) -> u8x16
     requires { place < 182 }

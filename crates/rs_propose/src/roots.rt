@@ -1,8 +1,8 @@
-//! The zeros of 32 polynomials of degree 5, x^5 and five coefficients each: all 256 points are walked. Squares and
-//! fourth powers are linear over the bits of a point, and its third and fifth powers are products of two such, so
-//! that the polynomial is a quadratic form of eight bits. Where one bit changes, its value changes by a sum of what
-//! belongs to that bit and to that bit and each other that is set. In Gray's order each point has one bit changed,
-//! and no product is left.
+//! The zeros of 32 polynomials of degree 5, x^5 and five coefficients each, by trying all 256 points. Squares and
+//! fourth powers are linear over the bits of a point, and its third and fifth powers are products of two such. So the
+//! polynomial is a quadratic form of eight bits. Where one bit changes, its value changes by a sum: of what belongs to
+//! that bit alone, and of what belongs to that bit and each other bit that is set. In Gray's order each point has one
+//! bit changed, and no product is left.
 ghost use Rattle.std.specs.Prelude.{◌<◌};
 
 use rs_lanes::scaled;
@@ -44,8 +44,8 @@ static FIFTH_PAIRS: [[u8; 8]; 8] = [
     [0x98, 0xD8, 0x46, 0x9A, 0x54, 0x2B, 0x8E, 0x00],
 ];
 
-/// The zeros of each polynomial that aren't 0, in no order: the last five found. Where fewer are found, zeros stand
-/// for the others.
+/// The zeros of each polynomial that aren't 0, in no order: the last five found. Where fewer are found, the others are
+/// 0.
 pub fn roots(taps: &[u8x32; 5]) -> [u8x32; 5] {
     let mut lower = [u8x16::splat(0); 5];
     let mut upper = [u8x16::splat(0); 5];
@@ -62,13 +62,13 @@ pub fn roots(taps: &[u8x32; 5]) -> [u8x32; 5] {
     found
 }
 
-// The same of sixteen polynomials. What changes with each point then fits into sixteen registers of as many lanes.
+// Likewise for sixteen polynomials. What changes with each point then fits into sixteen registers of sixteen lanes.
 fn roots_of_half(taps: &[u8x16; 5]) -> [u8x16; 5] {
     let mut found = [u8x16::splat(0); 5];
     let pairs = pairs_of(taps[1]);
     let mut changes = singles_of(taps);
     let inner = inner_changes(&changes, &pairs);
-    // Of the lower bits only what they share with upper ones is wanted here.
+    // Of the lower bits only what they share with upper ones is needed here.
     for bit in 0..4 {
         changes[bit] = u8x16::splat(0);
     }
@@ -85,7 +85,7 @@ fn roots_of_half(taps: &[u8x16; 5]) -> [u8x16; 5] {
     found
 }
 
-// Two halves of a vector.
+// Joins two halves to a vector.
 #[inline(always)]
 fn joined(lower: u8x16, upper: u8x16) -> u8x32 {
     lower.shuffle(
@@ -119,7 +119,7 @@ fn singles_of(taps: &[u8x16; 5]) -> [u8x16; 8] {
     singles
 }
 
-// What each two bits that are both set add besides, by the coefficients of x^3.
+// What each two bits add together where both are set, by the coefficients of x^3.
 #[inline(always)]
 fn pairs_of(cubic: u8x16) -> [[u8x16; 8]; 8] {
     let mut pairs = [[u8x16::splat(0); 8]; 8];
@@ -154,7 +154,7 @@ fn turn(changes: &mut [u8x16; 8], pairs: &[u8x16; 8]) {
     }
 }
 
-// Walks the sixteen points with the same upper bits: four times four, of which each changes bit 0, bit 1 and bit 0.
+// Walks the sixteen points with the same upper bits: four times four, each of which changes bit 0, bit 1 and bit 0.
 #[inline(always)]
 fn walk(
     found: &mut [u8x16; 5],
@@ -195,7 +195,7 @@ fn walk_four(
     }
 }
 
-// Puts a point in front of those found, in each lane where the value is 0.
+// Puts a point before those found, in each lane where the value is 0.
 #[inline(always)]
 fn note(found: &mut [u8x16; 5], value: u8x16, point: u8x16) {
     let here = value.simd_eq(u8x16::splat(0));

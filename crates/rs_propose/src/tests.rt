@@ -1,5 +1,5 @@
-//! How often a row has to be decoded by itself. That what is proposed for a row with at most five errors is right is
-//! shown here alone: where it isn't, answers stay right and take longer.
+//! How often a row has to be decoded by itself. That the proposal for a row with at most five errors is right is shown
+//! here alone. Where it isn't, the row is decoded by itself, and its answer is still right.
 ghost use Rattle.std.specs.Prelude.{◌<◌, ◌≤◌};
 
 use crate::Proposals;
@@ -27,7 +27,7 @@ impl Drawn {
         }
     }
 
-    /// Adds bytes at this many drawn places, of which some may be the same.
+    /// Adds bytes at `count` drawn places, some of which may be the same.
     fn damage(&mut self, row: &mut [u8; 182], count: usize) {
         for _k in 0..count {
             let place = (usize::from(self.byte()) + usize::from(self.byte())) % 182;
@@ -45,7 +45,7 @@ fn draw_rows(drawn: &mut Drawn, rows: &mut [[u8; 182]; 32]) {
     }
 }
 
-/// Whether what is proposed for row `n` is believed exactly where it has an answer, and is that one.
+/// Whether the proposal for row `n` is believed exactly where the row has an answer, and gives that answer.
 fn is_right(proposals: &Proposals, n: usize, received: &[u8; 182]) -> bool
     requires { n < 32 }
 {
@@ -59,7 +59,7 @@ fn is_right(proposals: &Proposals, n: usize, received: &[u8; 182]) -> bool
     }
 }
 
-/// The first row, if there is one, of which the answer isn't what is believed.
+/// The first row, if there is one, where this isn't so.
 fn first_refused(received: &[[u8; 182]; 32]) -> Option<usize> {
     let mut proposals = Proposals::none();
     proposals.propose(&row_values(received, 0));

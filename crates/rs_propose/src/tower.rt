@@ -1,14 +1,15 @@
-//! The field as pairs of nibbles: a byte's high nibble counts times y, where nibbles are the field of sixteen
-//! elements by z^4 + z + 1, and y^2 = y + z^14. Vectors have no product of bytes. In this form one is three products
-//! of nibbles, and these are sums of logarithms to the base z, which sixteen lanes look up at once.
+//! The field as pairs of nibbles: a byte's high nibble is the coefficient of y, and its low nibble is added. Nibbles
+//! are the field of sixteen elements by z^4 + z + 1, and y^2 = y + z^14. Vectors have no product of bytes. In this form
+//! a product is three products of nibbles. These are sums of logarithms to the base z, which tables of sixteen give in
+//! all lanes at once.
 use crate::nibbles::{at_high_nibbles, at_low_nibbles, look_up, mapped};
 use std::simd::prelude::*;
 
-/// The logarithms of a vector's high nibbles, of its low ones, and of the sums of both. That of 0 is 240: with
-/// another added to it, it is 128 or more still, and nothing is found there.
+/// The logarithms of a vector's high nibbles, of its low ones, and of the sums of both. The logarithm of 0 is 240: with
+/// another added to it, it is still 128 or more, and a look-up there gives 0.
 pub type Logs = [u8x32; 3];
 
-/// What stands for the logarithm of 0.
+/// The number that is used as the logarithm of 0.
 pub const NONE: u8 = 0xF0;
 
 // The logarithms of the nibbles.
@@ -21,17 +22,17 @@ static POWERS: [u8; 16] = [
     0x01, 0x02, 0x04, 0x08, 0x03, 0x06, 0x0C, 0x0B, 0x05, 0x0A, 0x07, 0x0E, 0x0F, 0x0D, 0x09, 0,
 ];
 
-// What a product of the high nibbles adds: it counts times y^2, of which the y cancels a part of the middle product.
+// What a product of the high nibbles adds: itself times y^2, whose y cancels a part of the middle product.
 static OF_HIGH: [u8; 16] = [
     0x09, 0x01, 0x02, 0x04, 0x08, 0x03, 0x06, 0x0C, 0x0B, 0x05, 0x0A, 0x07, 0x0E, 0x0F, 0x0D, 0,
 ];
 
-// What a product of the low nibbles adds: itself, and times y, since the middle product has it once too often.
+// What a product of the low nibbles adds: itself, and itself times y, since the middle product has it once too often.
 static OF_LOW: [u8; 16] = [
     0x11, 0x22, 0x44, 0x88, 0x33, 0x66, 0xCC, 0xBB, 0x55, 0xAA, 0x77, 0xEE, 0xFF, 0xDD, 0x99, 0,
 ];
 
-// What the middle product adds, that of the sums of both nibbles: itself times y.
+// What the middle product, that of the sums of both nibbles, adds: itself times y.
 static OF_SUMS: [u8; 16] = [
     0x10, 0x20, 0x40, 0x80, 0x30, 0x60, 0xC0, 0xB0, 0x50, 0xA0, 0x70, 0xE0, 0xF0, 0xD0, 0x90, 0,
 ];
@@ -46,7 +47,7 @@ static INVERSE_LOGARITHMS: [u8; 16] = [
     NONE, 0x00, 0x0E, 0x0B, 0x0D, 0x07, 0x0A, 0x05, 0x0C, 0x01, 0x06, 0x08, 0x09, 0x02, 0x04, 0x03,
 ];
 
-// From bytes to pairs of nibbles, where z stands for 98 and y for 12 (in base 16).
+// From bytes to pairs of nibbles, where z is 98 and y is 12 (in base 16).
 static PAIRS: [[u8; 16]; 2] = [
     [
         0x00, 0x01, 0x48, 0x49, 0x34, 0x35, 0x7C, 0x7D, 0x40, 0x41, 0x08, 0x09, 0x74, 0x75, 0x3C,
@@ -58,7 +59,7 @@ static PAIRS: [[u8; 16]; 2] = [
     ],
 ];
 
-// And back.
+// From pairs of nibbles to bytes.
 static BYTES: [[u8; 16]; 2] = [
     [
         0x00, 0x01, 0x98, 0x99, 0x4E, 0x4F, 0xD6, 0xD7, 0x0A, 0x0B, 0x92, 0x93, 0x44, 0x45, 0xDC,
@@ -94,7 +95,7 @@ pub fn bytes(pairs: u8x32) -> u8x32 {
     mapped(&BYTES, pairs)
 }
 
-/// The squares.
+/// The squares of pairs of nibbles.
 #[inline(always)]
 pub fn squares(pairs: u8x32) -> u8x32 {
     mapped(&SQUARES, pairs)
@@ -123,7 +124,7 @@ pub fn logs_of_zero() -> Logs {
     [u8x32::splat(NONE); 3]
 }
 
-/// The products.
+/// The products of pairs of nibbles, by the logarithms of the factors.
 #[inline(always)]
 pub fn product(a: &Logs, b: &Logs) -> u8x32 {
     look_up(&OF_HIGH, joined(a[0], b[0]))
@@ -132,7 +133,7 @@ pub fn product(a: &Logs, b: &Logs) -> u8x32 {
 }
 
 /// The logarithms of the inverses. Those of 0 have no meaning.
-/// Times a y + b its conjugate a y + (a + b) is its norm, a nibble.
+/// The product of a y + b and its conjugate a y + (a + b) is its norm, a nibble.
 #[inline(always)]
 pub fn inverse(a: &Logs) -> Logs {
     let norms = look_up(&POWERS, joined(a[1], a[2])) ^ look_up(&SQUARES_IN_NORM, a[0]);
@@ -144,7 +145,7 @@ pub fn inverse(a: &Logs) -> Logs {
     ]
 }
 
-/// The one or the other logarithms in each lane.
+/// In each lane, the first or the second logarithms.
 #[inline(always)]
 pub fn chosen(choice: mask8x32, first: &Logs, second: &Logs) -> Logs {
     [

@@ -7,7 +7,7 @@ use Rattle.cap_lost.specs.declared.fault.ReportFault.TheVariants.{NoMemory, Read
 use Rattle.dvd_layout.specs.declared.fault.LayoutFault.{LayoutFault}
 use Rattle.dvd_layout.specs.declared.fault.LayoutFault.TheVariants.{EmptyLayer, OddLayer, SecondLayer, LayerLonger, InitialTooLong, TailTooLong, LayerTooLong}
 
--- the text of a refused layout, as `dvdecc` writes it
+-- the text of a layout that breaks a rule, as `dvdecc` writes it
 abbrev pub fault_text : LayoutFault → List ℕ
 fault_text (EmptyLayer layer) = codes "empty layer " ++ decimal layer
 fault_text (OddLayer sectors) = codes "odd layer " ++ decimal sectors
@@ -17,7 +17,7 @@ fault_text (InitialTooLong blocks) = codes "initial too long " ++ decimal blocks
 fault_text (TailTooLong blocks) = codes "tail too long " ++ decimal blocks
 fault_text (LayerTooLong layer end) = codes "layer " ++ decimal layer ++ codes " too long " ++ decimal end
 
--- the line of a refused layout
+-- the line of a layout that breaks a rule
 abbrev pub setting_line : LayoutFault → List ℕ
 setting_line fault = codes "setting: " ++ fault_text fault ++ codes "\n"
 

@@ -10,13 +10,13 @@ use Rattle.cap_top.specs.declared.mark.opening.Refusal.TheVariants.{NoMemory, Re
 use Rattle.dvd_ports.specs.Causes.{HasFailed, HasMetEnd}
 use Rattle.dvd_ports.specs.Seen.{Seen}
 
--- these are the bytes of a source to its end, where it knows its bytes; no read failed, and none came after the end
+-- these are all bytes of a source, where they are known; no read failed, and none came after the end
 pub record TextIs (old new : Seen) (text : List ℕ) : Type 0 where
   pub reads : Consumes old.bytes new.bytes text
   pub at_end : IsAtEnd new.bytes
   pub met : HasMetEnd old new
 
--- the text of the map keeps the rules, and says these spans
+-- the text of the map breaks no rule, and says these spans
 pub record Opens (good : List ℕ) (old new : Seen) (spans : List Span) : Type 0 where
   pub text : List ℕ
   pub is_text : TextIs old new text
@@ -28,7 +28,7 @@ pub record Breaks (good : List ℕ) (old new : Seen) (line : ℕ) (cause : Cause
   pub is_text : TextIs old new text
   pub says : map_of good text ≡ Err (faults.Rule line cause)
 
--- why the text of a map isn't read: one read failed, the last; or there is no memory, of which a contract can say no more
+-- why the text of a map isn't read: one read failed, the last; or there is no memory, and a contract can say no more
 abbrev pub IsTextFault : Seen → Seen → Refusal → Type 0
 IsTextFault old new NoMemory = Unit {0}
 IsTextFault old new ReadFault = HasFailed old new

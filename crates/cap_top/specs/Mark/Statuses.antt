@@ -21,7 +21,7 @@ status_of (ends.Short frame bytes) = short_status bytes
 status_of ends.Long = status.Long
 status_of other = status.ReportFault
 
--- of a run that doesn't begin
+-- the status of a run that doesn't begin
 abbrev pub refusal_status : Refusal → Status
 refusal_status refusals.NoMemory = status.NoMemory
 refusal_status refusals.ReadFault = status.ReadFault

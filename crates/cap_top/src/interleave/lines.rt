@@ -5,7 +5,7 @@ ghost use Rattle.cap_top.specs.Interleave.{closing_line};
 use cap_interleave::InterleaveEnd;
 use dvd_report::Line;
 
-/// The closing line. The files are counted from 1 there, as they are in the words.
+/// The closing line. The files are counted from 1 there, as they are in the arguments.
 pub fn close_line(end: InterleaveEnd) -> Line
     ensures { result ≡ closing_line end }
 {

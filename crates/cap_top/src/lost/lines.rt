@@ -6,7 +6,7 @@ use cap_lost::{Cause, ReportFault};
 use dvd_layout::LayoutFault;
 use dvd_report::Line;
 
-/// The line of a run whose layout breaks a rule, in the words of `dvdecc`.
+/// The line of a run whose layout breaks a rule, as `dvdecc` writes it.
 pub fn setting_line(fault: LayoutFault) -> Line
     ensures { result ≡ setting_line fault }
 {
@@ -52,7 +52,6 @@ fn put_fault(line: &mut Line, fault: LayoutFault)
     }
 }
 
-// Puts a text and a number.
 fn put_named(line: &mut Line, name: &[u8], number: u64)
     requires room { length line.old + length name.now + 20 ≤ 96 }
     ensures bytes { line.new ≡ line.old ++ name.now ++ decimal number }

@@ -7,8 +7,9 @@ use cap_map::Cause;
 use dvd_loop::LoopEnd;
 use dvd_report::Line;
 
-/// The line that closes the report of a run. A capture has as many recording frames as it has, so that the end within a
-/// frame none of which came is that of a whole capture. No run ends otherwise than so.
+/// The line that closes the report of a run. The number of recording frames of a capture isn't known before, so an end
+/// within a frame none of whose bytes came is that of a whole capture. The line is empty after a fault of the report,
+/// and for an end that no run has.
 pub fn close_line(end: LoopEnd) -> Line
     ensures { result ≡ closing_line end }
 {

@@ -30,7 +30,6 @@ pub fn open_map<M: Source>(alloc: Global, good: &[u8], map: &mut M) -> Result<Ve
     }
 }
 
-// All bytes of a source.
 fn read_text<M: Source>(alloc: Global, map: &mut M) -> Result<Vec<u8>, Refusal>
     ensures read { IfOk result (λ text. TextIs (M.seen map.old) (M.seen map.new) text.items) }
     ensures refused { IfErr result (IsTextFault (M.seen map.old) (M.seen map.new)) }

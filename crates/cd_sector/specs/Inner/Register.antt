@@ -5,17 +5,17 @@ use Rattle.std.specs.Prelude.{ℕ, zero, suc, ◌+◌, ◌/◌, ◌%◌, ◌==�
 unfoldable pub stepped : ℕ → ℕ
 stepped register = bit_xor (register / 2) (if register % 2 == 1 then 0xD8018001 else 0)
 
--- and after n steps
+-- the register after n steps
 unfoldable pub after_steps : ℕ → ℕ → ℕ
 after_steps zero register = register
 after_steps (suc n) register = after_steps n (stepped register)
 
--- the register once these bytes are read too
+-- the register after these bytes are read
 unfoldable pub after_reading : List ℕ → ℕ → ℕ
 after_reading [] register = register
 after_reading (byte ∷ bytes) register = after_reading bytes (after_steps 8 (bit_xor register byte))
 
--- what is left of four bytes, each eight steps before the next and the last n steps before the end
+-- what is left of four bytes: n steps after the last, and eight more steps for each one before it
 abbrev pub after_word : ℕ → List ℕ → ℕ
 after_word n word =
     bit_xor (bit_xor (after_steps (24 + n) (slice_index word 0)) (after_steps (16 + n) (slice_index word 1)))

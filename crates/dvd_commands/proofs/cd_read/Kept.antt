@@ -1,4 +1,4 @@
--- A run of `cdread` gives back the user data of each CD-ROM sector whose damage is borne.
+-- A run of `cdread` gives back the user data of each CD-ROM sector whose damage is within the bound of its codes.
 use Rattle.std.proofs.Common.{◌≡◌, ◌≢◌, ◌∙◌, inl, inr, ℕ, ◌+◌, ◌*◌, ◌≤◌, List, [], ◌∷◌, ◌++◌, length, take, drop, refl, ap, sym, subst, append-nil, length-append, arith}
 use Rattle.std.specs.Prelude.{replicate}
 use Rattle.std.proofs.lemmas.List.{length-drop, length-replicate, length-take-le, take_at}

@@ -1,4 +1,4 @@
--- The Main Data of a frame are 2,048 bytes, whatever stands in its block.
+-- The Main Data of a frame are 2,048 bytes, whatever its block holds.
 use Rattle.std.proofs.Common.{◌≡◌, ℕ, ◌+◌, ◌-◌, ◌*◌, ◌/◌, ◌%◌, ◌^◌, ◌<◌, ◌≤◌, ◌==◌, Bool, true, false, cond, List, [], ◌∷◌, length, replicate, refl, ap, arith}
 use Rattle.dvd_control.specs.Format.{fields_for, format_bytes, head_bytes, three_bytes}
 use Rattle.dvd_control.specs.MainData.{main_bytes}

@@ -1,4 +1,5 @@
--- One block that `recover` reads: its image sectors are written, or its line is told and what is saved of them is written.
+-- One block that `recover` reads: its image sectors are written, or its line is reported and those salvaged are
+-- written.
 use Rattle.std.proofs.Common.{◌≡◌, inl, ℕ, ◌≤◌, Bool, List, [], ◌∷◌, ap, Option, Some, refl, subst, ◌∙◌}
 use Rattle.dvd_capture.specs.Parts.{marks_rows, received_rows}
 use Rattle.dvd_capture.specs.Works.{marks_of_work, rows_of}

@@ -13,7 +13,7 @@ use Rattle.dvd_decoding.specs.Reading.{block_in}
 use Rattle.dvd_commands.specs.Exercise.{AreTrials, IsLeft, Trial, drawn_sector, failed_in, fixed_in, state_at}
 use Rattle.dvd_commands.specs.declared.exercise.Counts.{Counts}
 
--- a disk with one layer of so many blocks
+-- a disk with one layer and this number of blocks
 pub record IsDiskOf (blocks : ℕ) (layout : Layout) : Type 0 where
   pub shape : layout.shape ≡ Single
   pub sectors0 : layout.sectors0 ≡ 16 * blocks
@@ -28,7 +28,7 @@ pub record CountsOne (rows : List (List ℕ)) (marks : List (List Bool)) (before
   pub fixed : after.fixed ≡ before.fixed + block_differences rows (block_in rows marks)
   pub failed : after.failed ≡ before.failed + marked (failed_of (answers_of rows marks))
 
--- Behind the first n blocks: the generator's state, the counts, and what the last of them left.
+-- After the first n blocks: the generator's state, the counts, and what the last of them left.
 pub record IsBehind (seed n state : ℕ) (counts : Counts) (work : Work) : Type 0 where
   pub state_is : state ≡ state_at seed n
   pub trials : List Trial

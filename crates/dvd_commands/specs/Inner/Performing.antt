@@ -32,7 +32,7 @@ use Rattle.dvd_report.specs.Lines.{damage_line}
 use Rattle.dvd_commands.specs.Survey.{kind_by}
 use Rattle.dvd_commands.specs.Captured.{captured_part}
 
--- A source gave a part of captured block k, and the loop ends so; these are left, where the source tells them.
+-- A source gave a part of captured block k, and the loop ends there; these bytes are left, where they are known.
 pub record EndsCaptured (form : Form) (k : ℕ) (old new : Seen) (end : LoopEnd) : Type 0 where
   pub own : List ℕ
   pub left : List ℕ
@@ -40,11 +40,11 @@ pub record EndsCaptured (form : Form) (k : ℕ) (old new : Seen) (end : LoopEnd)
   pub told : IsTold new.bytes left
   pub ends : EndsWithin (captured_part form own) k (length own) left end
 
--- so many sectors, one after the other
+-- the first sectors, this many, one after the other
 abbrev pub sectors_out : ℕ → List (List ℕ) → List ℕ
 sectors_out count sectors = flat_map (λ sector. sector) (take count sectors)
 
--- a line is told, these bytes are written, and the unit is this
+-- a line is reported, these bytes are written, and the unit is of this kind
 abbrev pub TellsAndWrites : List ℕ → List ℕ → UnitKind → List Step → UnitKind → Type 0
 TellsAndWrites line bytes is steps kind = (steps ≡ Tell line ∷ Write bytes ∷ []) × (kind ≡ is)
 
@@ -53,37 +53,38 @@ abbrev pub IsRefusedFor : Layout → ℕ → BlockPlan → List (List ℕ) → L
 IsRefusedFor layout k entry rows marks cause =
     TellsAndWrites (damage_line k entry cause (saved_in rows marks entry)) (sectors_out (image_sectors layout entry.content) (block_out rows marks entry)) Bad
 
--- what rounds read of a block that two passes refused: these are its first image sectors, and its frames are right
+-- what rounds give of a block that two passes refused: these bytes begin with its image sectors, and its frames are
+-- right
 pub record IsFoundBy (layout : Layout) (entry : BlockPlan) (rows : List (List ℕ)) (marks : List (List Bool)) (bytes : List ℕ) (round : ℕ) : Type 0 where
   pub sectors : List (List ℕ)
   pub read : IsDeep rows marks entry round sectors
   pub refused : is_some (two_pass_cause (answers_of rows marks)) ≡ true
   pub first : take (2048 * image_sectors layout entry.content) bytes ≡ sectors_out (image_sectors layout entry.content) sectors
 
--- a block of control data tells this format
+-- a block of control data has this physical format
 pub record Tells (entry : BlockPlan) (rows : List (List ℕ)) (marks : List (List Bool)) (format : Fields) : Type 0 where
   pub sectors : List (List ℕ)
   pub read : IsReadAs rows marks entry sectors
   pub lawful : control_fault (line sectors 0) ≡ None
   pub fields : format ≡ fields_in (line sectors 0)
 
--- or it tells none
+-- or it has none
 abbrev pub AnswersNothing : BlockPlan → List (List ℕ) → List (List Bool) → Type 0
 AnswersNothing entry rows marks = GivesNoFormat entry rows marks [] Good
 
--- what is done for a block that is surveyed behind those
+-- what is done for a block that is surveyed after those
 pub record IsLineDone (entry : BlockPlan) (blocks : List Surveyed) (rows : List (List ℕ)) (marks : List (List Bool)) (steps : List Step) (kind : UnitKind) : Type 0 where
   pub writes : steps ≡ Write (survey_line (length blocks) entry (blocks ++ surveyed rows marks entry ∷ [])) ∷ []
   pub answers : kind ≡ kind_by (block_cause rows marks entry)
 
--- A source gave so many captures of a block, and this is the join of what they know of it.
+-- A source gave the captures of a block, and this is the join of what they know of it.
 pub record AreTaken (captures : ℕ) (form : Form) (old new : Option (List ℕ)) (table : Table) : Type 0 where
   pub bytes : List ℕ
   pub size : length bytes ≡ captures * block_size form
   pub taken : Consumes old new bytes
   pub joins : table ≡ joined (tables_in captures form bytes)
 
--- A source gave a part of the captured block that stands behind so many bytes of unit k, and the loop ends so.
+-- A source gave a part of a captured block, which begins after `held` bytes of unit k, and the loop ends there.
 pub record EndsInCapture (k held size : ℕ) (old new : Seen) (end : LoopEnd) : Type 0 where
   pub own : List ℕ
   pub reads : Consumes old.bytes new.bytes own

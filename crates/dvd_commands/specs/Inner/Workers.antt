@@ -1,5 +1,6 @@
--- Ours: how the loops of commands have their blocks read and given their parity. A loop is handed a closure for it, which
--- holds the workers; a unit of a command is processed knowing of the closure that each of its calls does what the call of one worker does.
+-- Ours: how the loops of commands have their blocks read and given their parity. A loop is handed a closure for it,
+-- which holds the workers. A unit is processed knowing that each call of the closure does what the call of one worker
+-- does.
 use Rattle.std.specs.Prelude.{Result}
 use denote.Ref.{Bor, MutBor}
 use denote.Param.Members.{Shared}

@@ -13,11 +13,11 @@ pub record IsColumnPut (j : ℕ) (word : List ℕ) (old new : List (List ℕ)) :
   pub here : (i : ℕ) → i < 208 → place new i j ≡ slice_index word i
   pub others : (i k : ℕ) → i < 208 → k < 182 → k ≢ j → place new i k ≡ place old i k
 
--- a row that isn't told as marked has no marks
+-- a row that isn't listed as marked has no marks
 abbrev pub TellsMarked : List (List Bool) → List Bool → Type 0
 TellsMarked marks marked = (i : ℕ) → i < 208 → slice_index_or marked i false ≡ false → marks_line marks i ≡ replicate 182 false
 
--- the mark at place j of a row after those of the answered columns were taken
+-- the mark at place j of a row after those of the answered columns were cleared
 abbrev pub mark_left : List Bool → List Bool → ℕ → Bool
 mark_left answered row j = if slice_index_or answered j false then false else slice_index_or row j false
 

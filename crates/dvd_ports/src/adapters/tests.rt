@@ -6,13 +6,13 @@ use std::io;
 use std::io::{ErrorKind, Read, Write};
 use std::test::Fail;
 
-// The number of no call.
+// A call number that no call has.
 const NEVER: usize = usize::MAX;
 
 // The error after which std's own loops try again.
 const AGAIN: ErrorKind = ErrorKind::Interrupted;
 
-// Another one.
+// Another error.
 const OTHER: ErrorKind = ErrorKind::Other;
 
 // Gives at most `step` bytes a call and fails at one call.
@@ -51,8 +51,8 @@ impl<'a> Read for Reader<'a> {
     }
 }
 
-// Takes at most `step` bytes a call and fails at one write and at one flush. `flushed` is how many bytes it had at its
-// last flush.
+// Accepts at most `step` bytes a call and fails at one write and at one flush. `flushed` is the number of bytes that it
+// had at its last flush.
 #[derive(Drop)]
 struct Writer {
     held: Vec<u8>,
@@ -109,7 +109,7 @@ impl Write for Writer {
     }
 }
 
-// So many bytes: byte k is k modulo 251.
+// `count` bytes: byte k is k modulo 251.
 fn stream(alloc: Global, count: usize) -> Result<Vec<u8>, AllocError> {
     let mut bytes = Vec::new(alloc);
     for k in 0..count {
@@ -133,7 +133,7 @@ static READS: [Reads; 9] = [
     (25_000, 32_768, 2366, 7),
 ];
 
-// An error where a call gives or counts something else. What it gives comes behind what came.
+// An error where a call gives or counts something else. What it gives is added to what came before.
 fn reads(
     source: &mut StdSource<Reader>,
     buf: &mut [u8],
@@ -175,7 +175,7 @@ fn gives(
     Ok(())
 }
 
-// They do, where the error is of that kind.
+// All bytes come too, where the error is of that kind.
 fn come(alloc: Global, case: &Reads, kind: ErrorKind) -> Result<(), Fail> {
     let input = stream(alloc, case.0)?;
     let mut source = StdSource::new(Reader::new(&input, case.2, case.3, kind));
@@ -213,7 +213,7 @@ static WRITES: [Writes; 9] = [
     (32_768, 2366, 1, 3),
 ];
 
-// What a writer has to have, and a sink to count.
+// What a writer must have, and what a sink must count.
 #[derive(Drop)]
 struct Wanted {
     held: Vec<u8>,
@@ -224,7 +224,7 @@ struct Wanted {
 }
 
 impl Wanted {
-    // One call more, and what it answers.
+    // One more call, and what it answers.
     fn write(&mut self, piece: &[u8], case: &Writes) -> Result<Result<usize, Failed>, AllocError> {
         let taken = if self.calls == case.2 {
             0
@@ -240,7 +240,7 @@ impl Wanted {
         Ok(if fault { Err(Failed) } else { Ok(taken) })
     }
 
-    // Whether the sink and its writer have and count that.
+    // Whether the writer has that, and the sink counts that.
     fn is_in(&self, sink: &StdSink<Writer>) -> bool {
         sink.writer.held.as_slice() == self.held.as_slice()
             && sink.writer.calls == self.calls
@@ -296,7 +296,7 @@ fn a_sink_writes_and_flushes_once_a_call_and_counts_each_error(
     Ok(())
 }
 
-// Bytes a call, the call that fails, and how many calls a piece of 32,768 bytes then takes.
+// Bytes a call, the call that fails, and the number of calls that a piece of 32,768 bytes then needs.
 type Whole = (usize, usize, usize);
 
 static WHOLE: [Whole; 4] = [
@@ -337,7 +337,7 @@ fn is_written(alloc: Global, piece: &[u8], case: &Whole, kind: ErrorKind) -> Res
     Ok(())
 }
 
-// It is both, where the error is of that kind.
+// It is written and read so too, where the error is of that kind.
 fn ends(alloc: Global, piece: &[u8], case: &Whole, kind: ErrorKind) -> Result<(), Fail> {
     is_read(alloc, piece, case, kind)?;
     is_written(alloc, piece, case, kind)

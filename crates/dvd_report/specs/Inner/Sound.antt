@@ -5,7 +5,7 @@ use Rattle.circular_buffer.specs.Buffer.{Buffer}
 use Rattle.dvd_report.specs.declared.counts.Surveyed.{Surveyed}
 use Rattle.dvd_report.specs.declared.counts.Totals.{Totals}
 
--- no sum is above what so many blocks can have
+-- no sum is above 255 for each counted block, and no other count is above their number
 pub record IsBounded (totals : Totals) : Type 0 where
   pub pi : totals.pi ≤ 255 * totals.blocks
   pub failed : totals.failed ≤ 255 * totals.blocks

@@ -7,7 +7,7 @@ use Rattle.dvd_words.specs.declared.settings.Command.{Command}
 use Rattle.dvd_words.specs.declared.table.CommandSpec.{CommandSpec}
 use Rattle.dvd_words.specs.declared.table.OptionSpec.{OptionSpec}
 
--- the rule that an option is to clap
+-- the rule by which clap reads an option
 abbrev pub rule : OptionSpec → Rule
 rule option = option_rule option.is_required option.name.now
 

@@ -1,10 +1,10 @@
--- Ours: sums and multiples of words over the field, and what a remainder is. A word's first byte is the coefficient of the
--- highest power, as in ECMA-267, clause 18.
+-- Ours: sums and multiples of words over the field, and what a remainder is. A word's first byte is the coefficient of
+-- the highest power, as in ECMA-267, clause 18.
 use Rattle.std.specs.Prelude.{◌≡◌, ℕ, List, [], ◌∷◌, ◌++◌, length, map, All}
 use Rattle.coding.specs.Field.{plus, product}
 use Rattle.coding.specs.Words.{IsByte, value}
 
--- the sum of two words, byte by byte; where one is longer its rest is left out
+-- the sum of two words, byte by byte; where one is longer, the rest of it is left out
 unfoldable pub sum_of : List ℕ → List ℕ → List ℕ
 sum_of [] ys = []
 sum_of (x ∷ xs) [] = []
@@ -18,8 +18,8 @@ scaled factor word = map (product factor) word
 unfoldable pub times_root : List ℕ → ℕ → List ℕ
 times_root generator root = sum_of (generator ++ 0 ∷ []) (scaled root (1 ∷ generator))
 
--- What was read, followed by the register, vanishes wherever the generator vanishes.
--- So the register is the remainder of the division by the generator, and neither division nor remainder is named.
+-- The bytes read, followed by the register, have the value 0 wherever the generator has. So the register is the
+-- remainder of the division by the generator, and neither division nor remainder is named.
 pub record IsRemainder (generator read register : List ℕ) : Type 0 where
   pub size : length register ≡ length generator
   pub bytes : All IsByte register

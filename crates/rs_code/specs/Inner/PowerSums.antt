@@ -15,12 +15,12 @@ shifted_by a [] points = []
 shifted_by a (byte ∷ bytes) [] = []
 shifted_by a (byte ∷ bytes) (point ∷ points) = product byte (plus point a) ∷ shifted_by a bytes points
 
--- the powers of alpha that the bytes of a word of n bytes stand at
+-- the points of a word of n bytes: the power of alpha at each byte
 unfoldable pub points_of : ℕ → List ℕ
 points_of zero = []
 points_of (suc n) = power alpha n ∷ points_of n
 
--- no point stands twice
+-- no point comes twice
 unfoldable pub AreDistinct : List ℕ → Type 0
 AreDistinct [] = Unit {0}
 AreDistinct (x ∷ xs) = All (λ y. x ≢ y) xs × AreDistinct xs

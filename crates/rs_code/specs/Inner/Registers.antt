@@ -12,11 +12,11 @@ register_bytes k number = bytes_high_first k number
 abbrev pub Holds : ℕ → List ℕ → Type 0
 Holds register bytes = register_bytes 16 register ≡ bytes ++ replicate (16 - length bytes) 0
 
--- the table has the generator times each factor below n, at the factor's place
+-- at the place of each factor below n, the table has the generator times this factor
 abbrev pub HasMultiples : List ℕ → List ℕ → ℕ → Type 0
 HasMultiples generator table n = (factor : ℕ) → factor < n → Holds (get_or table factor 0) (scaled factor generator)
 
--- the register after one more byte; the byte that leaves it and the one that comes are the factor
+-- the register after one more byte; the factor is the sum of the byte that leaves the register and the one that comes
 unfoldable pub after_byte : List ℕ → ℕ → ℕ → ℕ
 after_byte table register byte = plus (register * 2 ^ 8 % 2 ^ 128) (get_or table (plus (register / 2 ^ 120) byte) 0)
 

@@ -6,6 +6,6 @@ pub record HoldsLanes (count : ℕ) (lanes : List ℕ) (f : ℕ → ℕ) : Type 
   pub size : length lanes ≡ count
   pub each : (k : ℕ) → k < count → slice_index lanes k ≡ f k
 
--- the same of 32 lanes
+-- a vector of 32 lanes, likewise
 abbrev pub HasLanes : List ℕ → (ℕ → ℕ) → Type 0
 HasLanes lanes f = HoldsLanes 32 lanes f

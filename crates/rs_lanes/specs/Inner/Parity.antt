@@ -4,7 +4,7 @@ use Rattle.coding.specs.Field.{alpha, power}
 use Rattle.coding.specs.Words.{value}
 use Rattle.coding.specs.Rows.{column}
 
--- a word with zeros put behind it, up to this length
+-- a word followed by zeros, up to this length
 unfoldable pub filled : ℕ → List ℕ → List ℕ
 filled size word = word ++ replicate (size - length word) 0
 

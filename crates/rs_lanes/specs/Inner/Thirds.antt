@@ -1,12 +1,13 @@
--- Ours: the values of a word by its thirds. A word of at most 255 bytes is, zeros put in front, three pieces of 85 bytes. Since
--- alpha^255 is 1, the power of alpha^k by 85 goes by k mod 3 alone: so for each of these three the pieces can be added up to one.
+-- Ours: the values of a word by its thirds. A word of at most 255 bytes, with zeros put before it, is three pieces of
+-- 85 bytes. Since alpha^255 is 1, the 85th power of alpha^k depends on k mod 3 alone. So for each of these three the
+-- pieces can be added up to one.
 use Rattle.std.specs.Prelude.{◌≡◌, ℕ, zero, suc, ◌+◌, ◌*◌, ◌%◌, List, ◌++◌, map, length, take, drop, replicate}
 use Rattle.coding.specs.Field.{alpha, plus, product, power}
 use Rattle.coding.specs.Words.{value}
 use Rattle.rs_code.specs.Inner.Polynomials.{sum_of, scaled}
 use Rattle.coding.specs.Rows.{place}
 
--- a word with this many zeros put in front
+-- a word after this many zeros
 unfoldable pub behind_zeros : ℕ → List ℕ → List ℕ
 behind_zeros count word = replicate count 0 ++ word
 
@@ -28,7 +29,7 @@ pub record IsThird (i : ℕ) (word third : List ℕ) : Type 0 where
   pub size : length third ≡ 85
   pub values : (k : ℕ) → k % 3 ≡ i → value third (power alpha k) ≡ value word (power alpha k)
 
--- the five exponents k below 15 that are i mod 3: the 17th powers of alpha^k are alpha^(170 i) times the fifth roots of one,
--- in order
+-- the five exponents k below 15 that are i mod 3: the 17th powers of alpha^k are alpha^(170 i) times the fifth roots of
+-- one, in order
 abbrev pub exponent_at : ℕ → ℕ → ℕ
 exponent_at i m = (10 * i + 3 * m) % 15

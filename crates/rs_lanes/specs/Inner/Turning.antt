@@ -1,12 +1,13 @@
--- Ours: how rows become vectors by places, in four equal steps.
+-- Ours: how rows are transposed into vectors, in four equal steps.
 use Rattle.std.specs.Prelude.{◌≡◌, ℕ, ◌+◌, ◌*◌, ◌/◌, ◌%◌, ◌<◌, List}
 use Rattle.coding.specs.Rows.{place}
 
--- the sixteen vectors after one step: those of the upper and of the lower half take turns, lane by lane, in each half of a vector
+-- the sixteen vectors after one step: those of the upper half alternate with those of the lower half, lane by lane, in
+-- each half of a vector
 pub record IsRiffled (before after : List (List ℕ)) : Type 0 where
   pub each : (k n : ℕ) → k < 16 → n < 32
       → place after k n ≡ place before (8 * (n % 2) + k / 2) (16 * (n / 16) + (8 * (k % 2) + n % 16 / 2))
 
--- sixteen vectors, rows and lanes exchanged in each half
+-- sixteen vectors, transposed in each half
 pub record IsTurned (before after : List (List ℕ)) : Type 0 where
   pub each : (k n : ℕ) → k < 16 → n < 32 → place after k n ≡ place before (n % 16) (16 * (n / 16) + k)
