@@ -198,14 +198,45 @@ fn write_frame(scrambler: &mut Scrambler, given: &Mastered<'_>, f: usize, frame:
     requires frame { f < 16 }
     ensures { frame.new ≡ frame_for given.now.layout.now given.now.entry.now given.now.cpr.now given.now.sectors.now f }
 {
-    let mut main = [0; 2048];
-    write_main(given.layout, given.entry, given.sectors, f, &mut main);
+    match given.entry.content {
+        Content::Image(_) => make_with(scrambler, given, f, sector_at(given.sectors, f), frame),
+        Content::Zero | Content::Reference | Content::Control => {
+            let mut main = [0; 2048];
+            main_of(given.layout, given.entry, f, &mut main);
+            make_with(scrambler, given, f, &main, frame);
+        }
+    }
+}
+
+// Sector `f` of sixteen.
+fn sector_at(sectors: &[u8], f: usize) -> &[u8; 2048]
+    requires size { length sectors.now ≡ 32768 }
+    requires frame { f < 16 }
+    ensures { result.now ≡ take 2048 (drop (2048 * f) sectors.now) }
+{
+    <&[u8; 2048]>::try_from(&sectors[2048 * f..2048 * f + 2048]).unwrap()
+}
+
+// Makes frame `f` with these Main Data.
+fn make_with(
+    scrambler: &mut Scrambler,
+    given: &Mastered<'_>,
+    f: usize,
+    main: &[u8; 2048],
+    frame: &mut [u8; 2064],
+)
+    requires entry { IsEntry given.now.layout.now given.now.entry.now }
+    requires numbers { HasNumbers given.now.entry.now }
+    requires frame { f < 16 }
+    requires main { main.now ≡ main_for given.now.entry.now.content given.now.layout.now given.now.entry.now given.now.sectors.now f }
+    ensures { frame.new ≡ frame_for given.now.layout.now given.now.entry.now given.now.cpr.now given.now.sectors.now f }
+{
     make_frame_with(
         scrambler,
         id_of(given.entry, given.layout.dim(), f),
         &cpr_of(given.entry.area, given.cpr),
         rule_of(given.entry.content, f),
-        &main,
+        main,
         frame,
     );
 }
@@ -216,17 +247,5 @@ fn cpr_of(area: Area, cpr: &[u8; 6]) -> [u8; 6]
     match area {
         Area::DataZone => *cpr,
         Area::LeadIn | Area::LeadOut | Area::Middle => [0; 6],
-    }
-}
-
-fn write_main(layout: &Layout, entry: &BlockPlan, sectors: &[u8], f: usize, main: &mut [u8; 2048])
-    requires size { length sectors.now ≡ 32768 }
-    requires entry { IsEntry layout.now entry.now }
-    requires frame { f < 16 }
-    ensures { main.new ≡ main_for entry.now.content layout.now entry.now sectors.now f }
-{
-    match entry.content {
-        Content::Image(_) => main.copy_from_slice(&sectors[2048 * f..2048 * f + 2048]),
-        Content::Zero | Content::Reference | Content::Control => main_of(layout, entry, f, main),
     }
 }
