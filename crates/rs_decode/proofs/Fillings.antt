@@ -2,7 +2,7 @@
 use Rattle.std.proofs.Common.{◌≡◌, ◌≢◌, ℕ, zero, suc, ◌<◌, ◌≤◌, Bool, true, false, List, [], ◌∷◌, length, get_or, All, refl, sym, ap, subst, ◌∙◌, arith}
 use Rattle.coding.specs.Field.{alpha, plus, product, power}
 use Rattle.coding.specs.Words.{IsByte, IsCodeword, value}
-use Rattle.gf_field.proofs.FieldLaws.{plus-again, plus-assoc, plus-pairs, plus-zero, plus-zero_same, plus-product, power-swap}
+use Rattle.gf_field.proofs.FieldLaws.{plus-again, plus-assoc, plus-pairs, plus-self, plus-zero, plus-zero_same, plus-product, power-swap}
 use Rattle.rs_code.specs.Syndromes.{syndromes_of}
 use Rattle.rs_code.specs.Inner.Polynomials.{sum_of}
 use Rattle.rs_code.proofs.Distance.{All-sum_of}
@@ -11,7 +11,8 @@ use Rattle.rs_code.proofs.PowerSums.{length-points_of, AreDistinct-points_of}
 use Rattle.rs_code.proofs.Syndromes.{get_or-syndromes_of, length-syndromes_of}
 use Rattle.rs_code.proofs.Values.{length-sum_of, value-cons}
 use Rattle.coding.specs.Filling.{IsFilling, HasNoFilling, AgreeUnmarked, marked}
-use Rattle.rs_decode.specs.Inner.Places.{picked, patched}
+use Rattle.rs_decode.specs.Patches.{patched}
+use Rattle.rs_decode.specs.Inner.Places.{picked}
 use Rattle.rs_decode.specs.Inner.Sums.{AreOnly, AreSums}
 use Rattle.rs_decode.proofs.Marks.{All-picked, length-picked}
 
@@ -86,14 +87,26 @@ value-patched (byte ∷ word) (true ∷ marks) (first ∷ rest) k size few =
     ∙ ap (λ v. plus v (plus (product first place) others)) (sym (value-cons byte word (power alpha k)))
     ∙ ap (λ p. plus (value (byte ∷ word) (power alpha k)) (plus (product first p) others)) (power-swap alpha k (length word))
 
+-- the same, with the points of the marked places at hand
+value-at_points : (word : List ℕ) (marks : List Bool) (bytes points : List ℕ) (k : ℕ) → length word ≡ length marks → length bytes ≡ length points
+    → points ≡ picked marks (points_of (length marks)) → value (patched word marks bytes) (power alpha k) ≡ plus (value word (power alpha k)) (power_sum bytes points k)
+value-at_points word marks bytes points k alike fits points_are =
+    value-patched word marks bytes k alike (fits ∙ points-few marks points points_are)
+    ∙ ap (λ n. plus (value word (power alpha k)) (power_sum bytes (picked marks (points_of n)) k)) alike
+    ∙ ap (λ xs. plus (value word (power alpha k)) (power_sum bytes xs k)) (sym points_are)
+
+-- so bytes that have a value as their power sum take it to 0
+pub value-completed : (word : List ℕ) (marks : List Bool) (bytes points : List ℕ) (k : ℕ) → length word ≡ length marks → length bytes ≡ length points
+    → points ≡ picked marks (points_of (length marks)) → value word (power alpha k) ≡ power_sum bytes points k → value (patched word marks bytes) (power alpha k) ≡ 0
+value-completed word marks bytes points k alike fits points_are same =
+    value-at_points word marks bytes points k alike fits points_are ∙ ap (plus (value word (power alpha k))) (sym same) ∙ plus-self (value word (power alpha k))
+
 -- so a filled word's values are its syndromes before and these power sums
 pub value-filled : (r : ℕ) (word filled syndromes bytes points : List ℕ) (marks : List Bool) → length word ≡ length marks → length bytes ≡ length points
     → points ≡ picked marks (points_of (length marks)) → syndromes ≡ syndromes_of r word → filled ≡ patched word marks bytes
     → (k : ℕ) → k < r → value filled (power alpha k) ≡ plus (get_or syndromes k 0) (power_sum bytes points k)
 value-filled r word filled syndromes bytes points marks alike fits points_are syndromes_are filled_is k below =
-    ap (λ w. value w (power alpha k)) filled_is ∙ value-patched word marks bytes k alike (fits ∙ points-few marks points points_are)
-    ∙ ap (λ n. plus (value word (power alpha k)) (power_sum bytes (picked marks (points_of n)) k)) alike
-    ∙ ap (λ xs. plus (value word (power alpha k)) (power_sum bytes xs k)) (sym points_are)
+    ap (λ w. value w (power alpha k)) filled_is ∙ value-at_points word marks bytes points k alike fits points_are
     ∙ ap (λ v. plus v (power_sum bytes points k)) (sym (get_or-syndromes_of r word k below) ∙ ap (λ xs. get_or xs k 0) (sym syndromes_are))
 
 -- ---- a codeword that agrees

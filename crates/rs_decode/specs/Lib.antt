@@ -3,4 +3,5 @@ pub mod Errors
 pub mod Examples
 pub mod Inner
 pub mod Laws
+pub mod Patches
 pub mod Register

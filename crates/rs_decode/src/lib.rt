@@ -6,6 +6,7 @@
 //! - `forney`: the bytes at given points that have given power sums, by Forney's formula.
 //! - `inverse`: what the formula gives for the points alone, [`Inverse`], by which many words are filled.
 //! - `locating`: the places where errors may be, from power sums and a locator.
+//! - `patches`: what 32 words with the same marks lack at these, [`Patches`], proposed for all at once and tested.
 //! - `places`: the marked places of a word, [`Erasures`].
 //! - [`register`]: `shortest` finds the shortest linear feedback register that generates a list.
 //! - `combining`: sixteen bytes added to others at once, lists in the first lanes of vectors, and lanes moved up.
@@ -22,6 +23,7 @@ mod forney;
 mod inverse;
 pub mod laws;
 mod locating;
+mod patches;
 mod places;
 pub mod register;
 mod sums;
@@ -33,5 +35,6 @@ mod values;
 pub use erasures::{NoCodeword, fill};
 pub use errors::{Beyond, Fix, decode, decode_from};
 pub use inverse::Inverse;
+pub use patches::Patches;
 pub use places::Erasures;
 pub use register::{Register, shortest};

@@ -4,7 +4,8 @@ ghost use Rattle.std.specs.Option.{ForSome};
 ghost use Rattle.coding.specs.Field.{alpha, power};
 ghost use Rattle.coding.specs.Words.{IsByte};
 ghost use Rattle.coding.specs.Filling.{marked};
-ghost use Rattle.rs_decode.specs.Inner.Places.{ArePlaces, picked, patched};
+ghost use Rattle.rs_decode.specs.Patches.{patched};
+ghost use Rattle.rs_decode.specs.Inner.Places.{ArePlaces, picked};
 ghost use Rattle.rs_code.specs.Inner.PowerSums.{AreDistinct, points_of};
 ghost use Rattle.rs_decode.specs.Inner.Sums.{AreOnly};
 

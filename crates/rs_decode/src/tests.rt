@@ -2,10 +2,11 @@
 //! algorithm and Forney's formula.
 ghost use Rattle.std.specs.Prelude.{◌≡◌, ◌<◌, ◌≤◌, length};
 
-use crate::{Beyond, Fix, NoCodeword, decode, fill, shortest};
+use crate::{Beyond, Erasures, Fix, NoCodeword, Patches, decode, fill, shortest};
 use gf_field::mul;
 use rs_code::{Code, Ied, Pi, Po};
 use sha2::{Digest, Sha256};
+use std::simd::prelude::*;
 
 #[test]
 fn fills_marked_places_of_an_id(rt: HostRuntime) {
@@ -262,4 +263,75 @@ fn finds_shortest_registers_of_drawn_lists(rt: HostRuntime) {
         hasher.finalize(),
         *b"\xB8\x6E\x08\xDE\xDE\x99\x59\x6B\x6E\x80\xB0\x70\xAD\xF9\x98\x13\x41\x52\x7E\x05\x9C\xA4\x1E\xD5\xE2\x97\xD3\x9E\x72\xE3\x31\x70"
     );
+}
+
+/// The values at alpha^0 to alpha^15 of 32 words that are 0 but for drawn bytes at their marked places.
+fn drawn_values(drawn: &mut Drawn, marks: &[bool; 208]) -> [u8x32; 16] {
+    let code = Po::new();
+    let mut values = [[0; 32]; 16];
+    for n in 0..32usize {
+        let mut word = [0; 208];
+        for place in 0..208usize {
+            if marks[place] {
+                word[place] = drawn.byte();
+            }
+        }
+        for (k, value) in code.syndromes(&word).iter().enumerate() {
+            values[k % 16][n] = *value;
+        }
+    }
+    let mut lanes = [u8x32::splat(0); 16];
+    for k in 0..16usize {
+        lanes[k] = u8x32::from_array(values[k]);
+    }
+    lanes
+}
+
+/// Whether what is proposed for 32 words with `count` marks from place `first` on, 13 apart, is right for each, so that none
+/// has to be decoded by itself: else answers stay right and take longer.
+fn are_patched(drawn: &mut Drawn, first: usize, count: usize) -> bool {
+    let mut marks = [false; 208];
+    for k in 0..count {
+        marks[first.wrapping_add(k.wrapping_mul(13)) % 208] = true;
+    }
+    match Erasures::shared(&marks, 16) {
+        Some(erasures) => Patches::new(&erasures, &drawn_values(drawn, &marks)).wrong == [0; 32],
+        None => false,
+    }
+}
+
+#[test]
+fn patches_all_words_with_up_to_sixteen_marks(rt: HostRuntime) {
+    let mut drawn = Drawn { state: 9 };
+    for first in [0usize, 207] {
+        assert!(rt; are_patched(&mut drawn, first, 1), "at {first}");
+    }
+    for count in [1usize, 2, 5, 15, 16] {
+        for _k in 0..8 {
+            let first = drawn.below(208);
+            assert!(rt;
+                are_patched(&mut drawn, first, count),
+                "{count} from {first}"
+            );
+        }
+    }
+}
+
+/// Words with an error more are told, whichever lane they stand in.
+#[test]
+fn tells_words_that_are_not_patched(rt: HostRuntime) {
+    let mut marks = [false; 208];
+    marks[100] = true;
+    let mut values = drawn_values(&mut Drawn { state: 10 }, &marks);
+    values[3] ^= u8x32::from_array([
+        1, 0, 0, 0, 0, 0, 0, 2, 0, 0, 0, 0, 0, 0, 0, 0, 0, 0, 0, 0, 0, 0, 0, 0, 0, 0, 0, 0, 0, 0,
+        0, 0x80,
+    ]);
+    let Some(erasures) = Erasures::shared(&marks, 16) else {
+        panic!(rt; "one mark is not few");
+    };
+    let wrong = Patches::new(&erasures, &values).wrong;
+    for n in 0..32usize {
+        assert_eq!(rt; wrong[n] != 0, n == 0 || n == 7 || n == 31, "in lane {n}");
+    }
 }

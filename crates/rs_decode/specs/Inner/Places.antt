@@ -1,6 +1,5 @@
 -- The bytes of a word at its marked places.
 use Rattle.std.specs.Prelude.{◌≡◌, ℕ, zero, suc, ◌<◌, Bool, true, false, List, [], ◌∷◌, slice_index}
-use Rattle.coding.specs.Field.{plus}
 
 -- the numbers at the marked places, in order
 unfoldable pub picked : List Bool → List ℕ → List ℕ
@@ -19,11 +18,3 @@ place_of_mark (false ∷ marks) i = suc (place_of_mark marks i)
 -- the first numbers, as many as told, are the places of the first marks
 abbrev pub ArePlaces : List Bool → ℕ → List ℕ → Type 0
 ArePlaces marks count places = (i : ℕ) → i < count → slice_index places i ≡ place_of_mark marks i
-
--- a word with the bytes added to its marked places, in order
-unfoldable pub patched : List ℕ → List Bool → List ℕ → List ℕ
-patched [] marks bytes = []
-patched (byte ∷ word) [] bytes = byte ∷ word
-patched (byte ∷ word) (false ∷ marks) bytes = byte ∷ patched word marks bytes
-patched (byte ∷ word) (true ∷ marks) [] = byte ∷ patched word marks []
-patched (byte ∷ word) (true ∷ marks) (first ∷ rest) = plus byte first ∷ patched word marks rest

@@ -4,7 +4,7 @@ use Rattle.std.proofs.Common.{◌≡◌, ◌≢◌, ◌≤◌, length, All, rule
 use Rattle.std.proofs.lemmas.List.Elements.{All-from_get_or}
 use Rattle.coding.specs.Words.{IsByte, IsCodeword}
 use Rattle.rs_code.proofs.Syndromes.{length-syndromes_of}
-use Rattle.rs_decode.specs.Inner.Places.{patched}
+use Rattle.rs_decode.specs.Patches.{patched}
 use Rattle.rs_decode.specs.Inner.Sums.{AreOnly}
 use Rattle.coding.specs.Filling.{AgreeUnmarked, marked}
 use Rattle.rs_decode.proofs.Fillings.{points-few, value-filled, AgreeUnmarked-patched, no_filling}

@@ -4,7 +4,7 @@ use Rattle.std.proofs.lemmas.List.{take_all}
 use Rattle.std.proofs.lemmas.List.Elements.{All-from_get_or}
 use Rattle.coding.specs.Field.{plus}
 use Rattle.coding.specs.Words.{IsByte}
-use Rattle.rs_decode.specs.Inner.Places.{patched}
+use Rattle.rs_decode.specs.Patches.{patched}
 use Rattle.rs_decode.proofs.Marks.{byte-added, patched-next, patched-none, point-nonzero, point-within}
 use Rattle.rs_decode.proofs.places.patch.Goals as goal
 use Rattle.rs_decode.proofs.places.patch.Goals.{then-point-ne0+then-exponent-word, then-point-ne0+else-exponent-word, else-point-ne0}

@@ -2,7 +2,8 @@
 use Rattle.std.proofs.Common.{◌≡◌, All, Bool, List, length, take}
 use Rattle.coding.specs.Words.{IsByte}
 use Rattle.rs_code.specs.Inner.PowerSums.{points_of}
-use Rattle.rs_decode.specs.Inner.Places.{picked, patched}
+use Rattle.rs_decode.specs.Patches.{patched}
+use Rattle.rs_decode.specs.Inner.Places.{picked}
 use Rattle.rs_decode.proofs.places.patch.Given as goal
 
 -- the first bytes are added, where the points are those of marked places

@@ -1,0 +1,36 @@
+-- The proof of `new` in src/patches.rt.
+use Rattle.std.proofs.Common.{◌≡◌, ◌≢◌, ◌≤◌, ◌∙◌, List, ℕ, length, take, get_or, sym, ap, arith, rules, length-take-le}
+use Rattle.std.proofs.lemmas.List.Elements.{All-from_get_or}
+use Rattle.coding.specs.Field.{alpha, power}
+use Rattle.coding.specs.Filling.{marked}
+use Rattle.coding.specs.Rows.{column}
+use Rattle.coding.specs.Words.{value}
+use Rattle.rs_decode.specs.Patches.{patched}
+use Rattle.rs_lanes.proofs.ColumnLemmas.{length-column, same_columns}
+use Rattle.rs_decode.proofs.Fillings.{points-few, value-completed}
+use Rattle.rs_decode.proofs.Marks.{point-nonzero}
+use Rattle.rs_decode.proofs.patches.Patches.new.Goals as goal
+
+pub left_over-requires-clause-nonzero : goal.left_over-requires-clause-nonzero
+left_over-requires-clause-nonzero g c =
+    let erasures = c.args.erasures.now in
+    let points_are = c.deref.ensures.0 ∙ erasures.gathered in
+    All-from_get_or (λ point. point ≢ 0) c.deref.result.now 0 (λ i. point-nonzero erasures.marks c.deref.result.now i points_are)
+
+pub returns : goal.returns
+returns g c = λ n word inside size same told k below.
+    let erasures = c.args.erasures.now in
+    let points = c.deref.result.now in
+    let stored = c.loop-i.patches.bytes in
+    let proposed = c.proposed-proposed.result in
+    let points_are = c.deref.ensures.0 ∙ erasures.gathered in
+    let count : length points ≡ marked erasures.marks = points-few erasures.marks points points_are in
+    let few : length points ≤ 16 = search rules in
+    let long : length proposed ≡ 16 = search rules in
+    let bytes : List ℕ = take (length points) (column proposed n) in
+    let fits : length bytes ≡ length points = length-take-le (length points) (column proposed n) (omega (arith, length-column proposed n, long, few)) in
+    let alike : column stored n ≡ column proposed n =
+    same_columns stored proposed n n (c.loop-i.invariant.size ∙ sym long) (λ i within. ap (λ (lanes : List ℕ). get_or lanes n 0) (c.loop-i.invariant.set i (omega (arith, within, c.loop-i.invariant.size)))) in
+    ap (λ (m : ℕ). value (patched word erasures.marks (take m (column stored n))) (power alpha k)) (sym count)
+    ∙ ap (λ (all : List ℕ). value (patched word erasures.marks (take (length points) all)) (power alpha k)) alike
+    ∙ value-completed word erasures.marks bytes points k (size ∙ sym erasures.size) fits points_are (sym (same k below) ∙ c.left_over.ensures.sums k n below inside told)

@@ -1,0 +1,123 @@
+//! What 32 words with the same marks lack at their marked places, for all at once: proposed in the lanes of vectors by the
+//! inverse of the places' powers, and tested there. Nothing is proved of how the bytes come about, but of the test alone: so
+//! wrong ones cost the time of decoding a word by itself, and no more.
+ghost use Rattle.std.specs.Prelude.{◌≡◌, ◌≢◌, ℕ, ◌<◌, ◌≤◌, Bool, List, false, length, slice_index, take, All, IsTrue};
+ghost use Rattle.coding.specs.Field.{alpha, plus, power, product};
+ghost use Rattle.coding.specs.Words.{value};
+ghost use Rattle.coding.specs.Rows.{column, place};
+ghost use Rattle.coding.specs.Filling.{IsFilling};
+ghost use Rattle.rs_code.specs.Inner.PowerSums.{power_sum};
+ghost use Rattle.rs_decode.specs.Patches.{Completes};
+
+use crate::inverse::Inverse;
+use crate::places::{Erasures, patch};
+use gf_field::log;
+use rs_lanes::{any_of, powers, with_multiple};
+use std::simd::prelude::*;
+
+/// The bytes to add at the marked places of 32 words of a code with sixteen parity bytes, which all have the same marks.
+#[derive(Drop)]
+pub struct Patches {
+    /// Byte `n` of the list with number `i` is for the marked place that `i` others stand before, in word `n`.
+    pub(crate) bytes: [[u8; 32]; 16],
+    /// Byte `n` is 0 only if the bytes for word `n` make it a codeword.
+    pub(crate) wrong: [u8; 32],
+}
+
+impl Patches {
+    /// Those for no word.
+    pub fn none() -> Self
+        ensures { (n : ℕ) (marks : List Bool) (word : List ℕ) → n < 32 → Completes result marks n word }
+    {
+        Patches {
+            bytes: [[0; 32]; 16],
+            wrong: [1; 32],
+        }
+    }
+
+    /// Those for words with these marks that have these values at alpha^0 to alpha^15: for word `n` those in the lanes `n`.
+    /// They are right for each word that has a filling, if the marks are made for many words, which tests show and no contract
+    /// says.
+    pub fn new<const N: usize>(erasures: &Erasures<N>, values: &[u8x32; 16]) -> Self
+        ensures { (n : ℕ) (word : List ℕ) → n < 32 → length word ≡ N
+            → ((k : ℕ) → k < 16 → place values.now k n ≡ value word (power alpha k)) → Completes result erasures.now.marks n word }
+    {
+        let Some(inverse) = &erasures.inverse else {
+            return Patches::none();
+        };
+        let proposed = proposed(inverse, values);
+        let mut patches = Patches::none();
+        for i in 0..16 {
+            patches.bytes[i] = proposed[i].to_array();
+        }
+        patches.wrong = left_over(&erasures.points, &proposed, values).to_array();
+        patches
+    }
+
+    /// Sets the bytes at the marked places of word `n` so that it is a codeword. Answers whether the bytes for it are right:
+    /// where they aren't, the word is unchanged.
+    pub fn fill<const N: usize>(&self, erasures: &Erasures<N>, n: usize, word: &mut [u8; N]) -> bool
+        requires short { N ≤ 255 }
+        requires lane { n < 32 }
+        requires completes { Completes self.now erasures.now.marks n word.old }
+        ensures filled { IsTrue result → IsFilling N 16 word.old erasures.now.marks word.new }
+        ensures same { result ≡ false → word.new ≡ word.old }
+    {
+        let count = erasures.points.len();
+        if self.wrong[n] != 0 || count > 16 {
+            return false;
+        }
+        patch(word, &erasures.points, &self.lane(n)[..count]);
+        true
+    }
+
+    // The bytes for word `n`.
+    fn lane(&self, n: usize) -> [u8; 16]
+        requires { n < 32 }
+        ensures { result ≡ column self.now.bytes n }
+    {
+        let mut lane = [0; 16];
+        for i in 0..16 {
+            lane[i] = self.bytes[i][n];
+        }
+        lane
+    }
+}
+
+// The bytes that words with these values need at the points, in the lanes of a vector for each point. Those past the last
+// point are zeros.
+fn proposed(inverse: &Inverse, values: &[u8x32; 16]) -> [u8x32; 16] {
+    let mut bytes = [u8x32::splat(0); 16];
+    for k in 0..inverse.points.len() {
+        add_multiples(&mut bytes, values[k], &inverse.columns[k]);
+    }
+    bytes
+}
+
+// Lanes that are zero only where bytes at points have these values as their power sums.
+fn left_over(points: &[u8], bytes: &[u8x32; 16], values: &[u8x32; 16]) -> u8x32
+    requires nonzero { All (λ point. point ≢ 0) points.now }
+    requires few { length points.now ≤ 16 }
+    ensures size { length result ≡ 32 }
+    ensures sums { (k n : ℕ) → k < 16 → n < 32 → slice_index result n ≡ 0
+        → place values.now k n ≡ power_sum (take (length points.now) (column bytes.now n)) points.now k }
+{
+    let mut left = *values;
+    for i in (0..points.len()).rev() {
+        let powers = powers(log(points[i]) as usize).to_array();
+        add_multiples(&mut left, bytes[i], &powers);
+    }
+    any_of(&left)
+}
+
+// Adds to each of sixteen vectors its multiple of one vector.
+#[inline(always)]
+fn add_multiples(sums: &mut [u8x32; 16], lanes: u8x32, factors: &[u8; 16])
+    ensures size { length sums.new ≡ 16 }
+    ensures added { (k n : ℕ) → k < 16 → n < 32
+        → place sums.new k n ≡ plus (place sums.old k n) (product (slice_index lanes n) (slice_index factors.now k)) }
+{
+    for k in 0..16 {
+        sums[k] = with_multiple(sums[k], lanes, factors[k]);
+    }
+}
