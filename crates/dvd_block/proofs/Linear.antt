@@ -1,6 +1,6 @@
 -- The values of all rows of a block at one point are a combination of its columns. So they are a codeword where the
--- columns are, and rows of outer parity vanish wherever the rows above them do.
-use Rattle.std.proofs.Common.{◌≡◌, ℕ, zero, suc, ◌+◌, ◌-◌, ◌<◌, ◌≤◌, List, [], ◌∷◌, length, map, get_or, drop, All, replicate, refl, sym, ◌∙◌, ap, subst, arith}
+-- columns are. As many rows as a column has parity bytes vanish wherever all others do: those of outer parity, or marked ones.
+use Rattle.std.proofs.Common.{◌≡◌, ℕ, zero, suc, ◌+◌, ◌-◌, ◌<◌, ◌≤◌, Bool, true, false, List, [], ◌∷◌, length, map, get_or, drop, All, replicate, refl, sym, ◌∙◌, ap, subst, arith}
 use Rattle.std.specs.Prelude.{◌==◌, if◌then◌else◌}
 use Rattle.std.proofs.lemmas.List.{get_or-map, length-map, length-replicate, get_or-replicate}
 use Rattle.std.proofs.lemmas.List.Elements.{All-replicate, All-nil, All-cons}
@@ -9,6 +9,7 @@ use Rattle.coding.specs.Field.{alpha, plus, product, power}
 use Rattle.coding.specs.Words.{IsByte, IsCodeword, value}
 use Rattle.gf_field.proofs.FieldLaws.{product-byte, product-comm, product-zero}
 use Rattle.coding.specs.Distance.{weight}
+use Rattle.coding.specs.Filling.{marked}
 use Rattle.rs_code.specs.Inner.Polynomials.{sum_of, scaled}
 use Rattle.rs_code.proofs.Distance.{IsCodeword-light, IsCodeword-sum_of}
 use Rattle.rs_code.proofs.Values.{value-nil, value-cons, value-scaled, value-zeros, length-scaled}
@@ -117,6 +118,23 @@ weight_behind (suc n) (byte ∷ word) zeros =
     let none : (if byte == 0 then 0 else 1) + weight word ≡ weight word = zero_weighs byte (weight word) first in
     omega arith
 
+-- where all numbers but those at marked places are zeros, a word weighs no more than there are marks
+weight_unmarked : (marks : List Bool) (word : List ℕ) → length word ≡ length marks
+    → ((i : ℕ) → i < length word → get_or marks i false ≡ false → get_or word i 0 ≡ 0) → weight word ≤ marked marks
+unfolding weight marked
+weight_unmarked [] [] size zeros = omega arith
+weight_unmarked [] (byte ∷ word) size zeros = absurd (omega (arith, size))
+weight_unmarked (mark ∷ marks) [] size zeros = absurd (omega (arith, size))
+weight_unmarked (true ∷ marks) (byte ∷ word) size zeros =
+    let rest : weight word ≤ marked marks = weight_unmarked marks word (omega (arith, size)) (λ i below clear. zeros (suc i) (omega arith) clear) in
+    let all : (if byte == 0 then 0 else 1) + weight word ≤ suc (marked marks) = weighs_one byte (weight word) (marked marks) rest in
+    omega arith
+weight_unmarked (false ∷ marks) (byte ∷ word) size zeros =
+    let rest : weight word ≤ marked marks = weight_unmarked marks word (omega (arith, size)) (λ i below clear. zeros (suc i) (omega arith) clear) in
+    let first : byte ≡ 0 = zeros 0 (omega arith) refl in
+    let none : (if byte == 0 then 0 else 1) + weight word ≡ weight word = zero_weighs byte (weight word) first in
+    omega arith
+
 -- rows each of which has that width are of one width
 IsWide-all : (width : ℕ) (block : List (List ℕ)) → ((i : ℕ) → i < length block → length (line block i) ≡ width) → IsWide width block
 unfolding IsWide
@@ -128,14 +146,39 @@ get_or-values : (x : ℕ) (block : List (List ℕ)) (i : ℕ) → i < length blo
 unfolding values
 get_or-values x block i below = get_or-map (λ (row : List ℕ). value row x) block i [] 0 below
 
--- where every column is a codeword and the upper rows vanish at a point, all rows vanish there
+-- there is a value for each row
+length-values : (x : ℕ) (block : List (List ℕ)) → length (values x block) ≡ length block
+unfolding values
+length-values x block = length-map block (λ (row : List ℕ). value row x)
+
+-- where every column is a codeword and few rows don't vanish at a point, all rows vanish there
+light_vanish : (width n r x : ℕ) (block : List (List ℕ)) → n ≤ 255 → length block ≡ n → ((i : ℕ) → i < n → length (line block i) ≡ width)
+    → ((j : ℕ) → j < width → IsCodeword n r (column block j)) → weight (values x block) ≤ r → (i : ℕ) → i < n → value (line block i) x ≡ 0
+light_vanish width n r x block short height wide columns light i below =
+    let codeword : IsCodeword n r (values x block) =
+    IsCodeword-values width n r x block height (IsWide-all width block (λ k under. wide k (omega arith))) columns in
+    let zeros : values x block ≡ replicate n 0 = IsCodeword-light n r (values x block) short codeword light in
+    sym (get_or-values x block i (omega arith)) ∙ ap (λ (l : List ℕ). get_or l i 0) zeros ∙ get_or-replicate n i 0 0 below
+
+-- so they do where the upper rows vanish there
 pub rows_vanish : (width n r x : ℕ) (block : List (List ℕ)) → n ≤ 255 → r ≤ n → length block ≡ n → ((i : ℕ) → i < n → length (line block i) ≡ width)
     → ((j : ℕ) → j < width → IsCodeword n r (column block j))
     → ((i : ℕ) → i < n - r → value (line block i) x ≡ 0) → (i : ℕ) → i < n → value (line block i) x ≡ 0
-rows_vanish width n r x block short fits height wide columns above i below =
-    let codeword : IsCodeword n r (values x block) =
-    IsCodeword-values width n r x block height (IsWide-all width block (λ k under. wide k (omega arith))) columns in
+rows_vanish width n r x block short fits height wide columns above =
     let upper : (k : ℕ) → k < n - r → get_or (values x block) k 0 ≡ 0 = λ k under. get_or-values x block k (omega arith) ∙ above k under in
-    let light : weight (values x block) ≤ r = omega (arith, weight_behind (n - r) (values x block) upper, codeword.size) in
-    let zeros : values x block ≡ replicate n 0 = IsCodeword-light n r (values x block) short codeword light in
-    sym (get_or-values x block i (omega arith)) ∙ ap (λ (l : List ℕ). get_or l i 0) zeros ∙ get_or-replicate n i 0 0 below
+    light_vanish width n r x block short height wide columns
+    (omega (arith, weight_behind (n - r) (values x block) upper, length-values x block))
+
+-- and where all rows vanish there that aren't among r marked ones
+pub unmarked_vanish : (width n r x : ℕ) (block : List (List ℕ)) (marks : List Bool) → n ≤ 255 → length block ≡ n → length marks ≡ n → marked marks ≤ r
+    → ((i : ℕ) → i < n → length (line block i) ≡ width) → ((j : ℕ) → j < width → IsCodeword n r (column block j))
+    → ((i : ℕ) → i < n → get_or marks i false ≡ false → value (line block i) x ≡ 0) → (i : ℕ) → i < n → value (line block i) x ≡ 0
+unmarked_vanish width n r x block marks short height size few wide columns unmarked =
+    let long : length (values x block) ≡ length block = length-values x block in
+    light_vanish width n r x block short height wide columns
+    (omega (
+      arith,
+      few,
+      weight_unmarked marks (values x block) (long ∙ height ∙ sym size)
+          (λ k inside clear. get_or-values x block k (omega arith) ∙ unmarked k (omega arith) clear),
+    ))

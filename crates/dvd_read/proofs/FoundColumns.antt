@@ -5,6 +5,7 @@ use Rattle.std.specs.declared.option.Option.{Option}
 use Rattle.std.proofs.lemmas.Bool.{not-false}
 use Rattle.std.proofs.lemmas.List.{get_or-map, ext_get_or, length-map}
 use Rattle.coding.specs.Nearest.{vanishes_at_all}
+use Rattle.coding.specs.Product.{line}
 use Rattle.coding.specs.Filling.{marked}
 use Rattle.coding.specs.TwoPass.{AgreesWith, failed_of, from_columns}
 use Rattle.dvd_capture.specs.declared.parts.ColumnAnswer.{ColumnAnswer}
@@ -14,7 +15,7 @@ use Rattle.dvd_read.specs.Parts.{column_word}
 use Rattle.dvd_read.specs.Inner.Found.{words_of_columns}
 use Rattle.dvd_decoding.specs.declared.cause.Cause.TheVariants.{Column, Row}
 use Rattle.dvd_read.proofs.ColumnAnswers.{AreColumns, blank_column}
-use Rattle.dvd_read.proofs.Outcomes.{missing_column, get_or-columns_of, length-columns_of, column_cause, row_cause, fixed-agrees}
+use Rattle.dvd_read.proofs.Outcomes.{missing_column, get_or-columns_of, length-columns_of, column_cause, row_cause, failed-vanish, fixed-agrees}
 use Rattle.dvd_read.proofs.Positions.{none_fails}
 
 -- the columns that the code answered, as words, are those of the second pass
@@ -73,6 +74,17 @@ words-found answers columns size are none =
     ∙ word-by (get_or columns j blank_column).answered (get_or columns j blank_column).bytes answered
     ∙ ap (λ column. unwrap_or column []) (are j blank_column below ∙ sym (get_or-columns_of answers j None below))
     ∙ sym (get_or-map (λ column. unwrap_or column []) (columns_of answers) j None [] (omega (arith, length-columns_of answers)))))
+
+-- so where at most sixteen rows failed, all rows of the columns' words vanish if those do that didn't fail
+pub rows_all-vanish : (answers : List (Option (List ℕ))) (columns : List ColumnAnswer) → length answers ≡ 208 → length columns ≡ 182 → AreColumns answers columns
+    → marked (failed_of answers) ≤ 16 → position (λ (column : ColumnAnswer). not column.answered) columns ≡ None
+    → ((i : ℕ) → i < 208 → get_or (failed_of answers) i false ≡ false → vanishes_at_all 10 (line (from_columns (words_of_columns columns)) i) ≡ true)
+    → (i : ℕ) → i < 208 → vanishes_at_all 10 (line (from_columns (words_of_columns columns)) i) ≡ true
+rows_all-vanish answers columns answers_size size are few none others i below =
+    let is = words-found answers columns size are none in
+    ap (λ (b : List (List ℕ)). vanishes_at_all 10 (line b i)) is
+    ∙ failed-vanish answers answers_size few (sym (missing-is answers columns size are) ∙ none)
+    (λ m inside clear. ap (λ (b : List (List ℕ)). vanishes_at_all 10 (line b m)) (sym is) ∙ others m inside clear) i below
 
 -- where at most sixteen rows failed, the first column without an answer is the cause
 pub column_refused : (answers : List (Option (List ℕ))) (columns : List ColumnAnswer) (j : ℕ) → length columns ≡ 182 → AreColumns answers columns

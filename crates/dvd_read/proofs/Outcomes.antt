@@ -7,13 +7,15 @@ use Rattle.std.proofs.lemmas.Bool.Decides.{nat_tests}
 use Rattle.std.proofs.lemmas.List.{get_or-map, length-map}
 use Rattle.std.proofs.lemmas.List.FromFn.{length-map-range_with_len, get_or-map-range_with_len}
 use Rattle.std.proofs.lemmas.List.Elements.{All-from_get_or}
-use Rattle.coding.specs.Words.{IsByte, IsNear}
+use Rattle.coding.specs.Field.{alpha, power}
+use Rattle.coding.specs.Words.{IsByte, IsCodeword, IsNear}
 use Rattle.coding.specs.Filling.{marked}
 use Rattle.coding.specs.Nearest.{vanishes_at_all}
 use Rattle.rs_decode.proofs.NearSearch.{near_of-is_near, codeword-vanishes, vanishing-codeword}
-use Rattle.coding.specs.Product.{line}
+use Rattle.coding.specs.Product.{column, line}
 use Rattle.coding.specs.TwoPass.{AgreesWith, answer_column, column_answer, failed_of, from_columns}
-use Rattle.dvd_capture.proofs.Columns.{AreNearColumns, agrees-from_columns, column-answered, few_fail, from_columns-line, length-answer_column, length-from_columns, near_columns-agree}
+use Rattle.dvd_block.proofs.Linear.{unmarked_vanish}
+use Rattle.dvd_capture.proofs.Columns.{AreNearColumns, agrees-from_columns, column-answered, column-from_columns, few_fail, from_columns-line, length-answer_column, length-from_columns, near_columns-agree}
 use Rattle.dvd_decoding.specs.Causes.{two_pass_cause}
 use Rattle.coding.specs.Found.{block_found, columns_of}
 use Rattle.dvd_decoding.specs.declared.cause.Cause.{Cause}
@@ -117,6 +119,31 @@ agrees-found answers size none_lost none_wrong =
     ap (λ block. vanishes_at_all 10 (line block i)) (sym (found-words answers)) ∙ not-false (vanishes_at_all 10 (line (block_found answers) i)) fine in
     vanishing-codeword 182 10 (line (from_columns (words answers)) i) (row_size (words answers) i (length-words answers) below)
     (row_bytes answers (words answers) i are below) vanishes))
+
+-- Where all columns are answered, at most sixteen rows failed and all others vanish, these vanish too.
+pub failed-vanish : (answers : List (Option (List ℕ))) → length answers ≡ 208 → marked (failed_of answers) ≤ 16 → missing_column answers ≡ None
+    → ((i : ℕ) → i < 208 → get_or (failed_of answers) i false ≡ false → vanishes_at_all 10 (line (block_found answers) i) ≡ true)
+    → (i : ℕ) → i < 208 → vanishes_at_all 10 (line (block_found answers) i) ≡ true
+failed-vanish answers size few none others i below =
+    let are = all_near answers size none in
+    let block : List (List ℕ) = from_columns (words answers) in
+    let is : block_found answers ≡ block = found-words answers in
+    let wide : (m : ℕ) → m < 208 → length (line block m) ≡ 182 = λ m inside. row_size (words answers) m (length-words answers) inside in
+    let bytes : (m : ℕ) → m < 208 → All IsByte (line block m) = λ m inside. row_bytes answers (words answers) m are inside in
+    let codewords : (j : ℕ) → j < 182 → IsCodeword 208 16 (column block j) = λ j inside.
+    let codeword = (are.near j inside).codeword in
+    subst (IsCodeword 208 16) (sym (column-from_columns (words answers) j (omega (arith, are.size)) codeword.size)) codeword in
+    let vanish : (m : ℕ) → m < 208 → get_or (failed_of answers) m false ≡ false → vanishes_at_all 10 (line block m) ≡ true = λ m inside clear.
+    ap (λ (b : List (List ℕ)). vanishes_at_all 10 (line b m)) (sym is) ∙ others m inside clear in
+    subst (λ (b : List (List ℕ)). vanishes_at_all 10 (line b i) ≡ true) (sym is)
+    (codeword-vanishes 182 10 (line block i) (record {
+      size = wide i below;
+      bytes = bytes i below;
+      vanishes = λ k under.
+          unmarked_vanish 182 208 16 (power alpha k) block (failed_of answers) (omega arith) (length-from_columns (words answers)) (length-map answers is_none ∙ size) few
+          wide codewords
+          (λ m inside clear. (vanishing-codeword 182 10 (line block m) (wide m inside) (bytes m inside) (vanish m inside clear)).vanishes k under) i below;
+    }))
 
 -- a block that agrees is the one found
 pub found-agrees : (answers : List (Option (List ℕ))) (block : List (List ℕ)) → length answers ≡ 208 → AgreesWith answers block → block_found answers ≡ block

@@ -1,5 +1,5 @@
 //! The second pass: each column of the rows' answers is answered by the codeword near it, the failed rows being marked.
-ghost use Rattle.std.specs.Prelude.{◌≡◌, ℕ, ◌+◌, ◌<◌, ◌≤◌, IsTrue, true, false, length, map, slice_index, slice_index_or, position, not, MatchOption};
+ghost use Rattle.std.specs.Prelude.{◌≡◌, ℕ, ◌+◌, ◌<◌, ◌≤◌, List, IsTrue, true, false, length, map, slice_index, slice_index_or, position, not, MatchOption};
 ghost use Rattle.coding.specs.Field.{alpha, power};
 ghost use Rattle.coding.specs.Words.{IsCodeword, value};
 ghost use Rattle.rs_code.specs.Syndromes.{syndromes_of};
@@ -7,16 +7,17 @@ ghost use Rattle.coding.specs.TwoPass.{failed_of, from_columns};
 ghost use Rattle.coding.specs.Nearest.{near_of, vanishes_at_all};
 ghost use Rattle.coding.specs.Filling.{AgreeUnmarked, marked};
 ghost use Rattle.coding.specs.Product.{column, line, place};
+ghost use Rattle.rs_decode.specs.Patches.{Completes};
 ghost use Rattle.dvd_read.specs.Parts.{AreColumnsFrom, AreKeptFrom, answer_word, column_word};
 ghost use Rattle.dvd_read.specs.Inner.Found.{AreRightFrom, IsFirstWrongRow, words_of_columns};
 ghost use Rattle.dvd_read.specs.Inner.Standing.{AreCopied, AreOwnFrom};
 
 use crate::lanes::lane_of;
-use crate::rows::{MOST_FAILED, is_codeword};
+use crate::rows::MOST_FAILED;
 use arrayvec::ArrayVec;
 use dvd_capture::parts::{AnswerRow, ColumnAnswer};
-use rs_code::{Pi, Po};
-use rs_decode::{Erasures, decode_from};
+use rs_code::Po;
+use rs_decode::{Erasures, Patches, decode_from};
 use rs_lanes::{any_of, column_values, load, load_turned, store, turned_values};
 use std::simd::prelude::*;
 
@@ -137,7 +138,8 @@ fn answer_copied(
 }
 
 // Answers at most 32 of these columns, by their values. Answers whether they correct no row that was answered.
-// The values that test a column are its syndromes too, so that a column isn't read once more to be decoded.
+// The values that test a column are its syndromes too, so that a column isn't read once more to be decoded. Where rows failed,
+// all columns need bytes in these rows: they are found for 32 at once.
 fn answer_group(
     code: &Po,
     answers: &[AnswerRow],
@@ -159,37 +161,54 @@ fn answer_group(
     let left = start.min(150);
     let values = column_values(answers, left);
     let wrong = any_of(&values);
+    let patches = patches_for(erasures, &values, wrong);
     let mut are_kept = true;
     for (k, column) in piece.iter_mut().enumerate() {
         let n = start - left + k;
-        let is_kept = answer_column(code, erasures, &values, n, wrong[n], column);
+        let is_kept = fill_column(erasures, &patches, n, wrong[n], column)
+            || decode_column(code, erasures, lane_of(&values, n), column);
         are_kept = are_kept && is_kept;
     }
     are_kept
 }
 
-// Answers one column, whose values stand in lane `n`; `wrong` is zero where they all are. A codeword is its own answer, also
-// where rows failed: each costs one, and at most sixteen did. Answers whether nothing is corrected in rows that aren't marked.
-fn answer_column(
-    code: &Po,
+// What 32 columns with these values lack in the failed rows. Nothing is proposed where all are codewords: the lanes that
+// tell so are zeros.
+fn patches_for(erasures: &Erasures<208>, values: &[u8x32; 16], wrong: u8x32) -> Patches
+    ensures { (n : ℕ) (word : List ℕ) → n < 32 → length word ≡ 208
+        → ((k : ℕ) → k < 16 → place values.now k n ≡ value word (power alpha k)) → Completes result erasures.now.marks n word }
+{
+    if wrong.to_array() == [0; 32] {
+        Patches::none()
+    } else {
+        Patches::new(erasures, values)
+    }
+}
+
+// Answers one column as it stands, or with the bytes that lane `n` has for it in the failed rows; `wrong` is zero where it is
+// a codeword. A codeword is its own answer, also where rows failed: each costs one, and at most sixteen did. Answers whether
+// the column could be answered so, and nothing is corrected in rows that aren't marked.
+fn fill_column(
     erasures: &Erasures<208>,
-    values: &[u8x32; 16],
+    patches: &Patches,
     n: usize,
     wrong: u8,
     column: &mut ColumnAnswer,
 ) -> bool
     requires lane { n < 32 }
     requires borne { marked erasures.now.marks ≤ 16 }
-    requires values { (k : ℕ) → k < 16 → place values.now k n ≡ value column.old.bytes (power alpha k) }
     requires wrong { wrong ≡ 0 → IsCodeword 208 16 column.old.bytes }
-    ensures answered { column_word column.new ≡ near_of 208 16 column.old.bytes erasures.now.marks }
+    requires completes { Completes patches.now erasures.now.marks n column.old.bytes }
+    ensures answered { IsTrue result → column_word column.new ≡ near_of 208 16 column.old.bytes erasures.now.marks }
     ensures kept { IsTrue result → AgreeUnmarked erasures.now.marks column.old.bytes column.new.bytes }
+    ensures same { result ≡ false → column.new.bytes ≡ column.old.bytes }
 {
     if wrong == 0 {
         column.answered = true;
         return true;
     }
-    decode_column(code, erasures, lane_of(values, n), column)
+    column.answered = patches.fill(erasures, n, &mut column.bytes);
+    column.answered
 }
 
 // Answers one column by its syndromes, in its place. Answers whether nothing is corrected in rows that aren't marked.
@@ -223,29 +242,6 @@ pub(crate) fn first_missing(columns: &[ColumnAnswer]) -> Option<u16>
     for (j, column) in columns.iter().enumerate() {
         if !column.answered {
             return Some(j as u16);
-        }
-    }
-    None
-}
-
-/// The first of the failed rows of the columns' words that isn't a codeword, where all others are.
-pub(crate) fn first_wrong_failed(
-    code: &Pi,
-    columns: &[ColumnAnswer],
-    failed: &[bool; 208],
-) -> Option<u16>
-    requires columns { length columns.now ≡ 182 }
-    requires others { (i : ℕ) → i < 208 → slice_index_or failed.now i false ≡ false
-        → vanishes_at_all 10 (line (from_columns (words_of_columns columns.now)) i) ≡ true }
-    ensures { result ≡ position (λ row. not (vanishes_at_all 10 row)) (from_columns (words_of_columns columns.now)) }
-{
-    let mut row = [0; 182];
-    for i in 0..208usize {
-        if failed[i] {
-            read_row(columns, i, &mut row);
-            if !is_codeword(code, &row) {
-                return Some(i as u16);
-            }
         }
     }
     None

@@ -16,7 +16,7 @@ ghost use Rattle.dvd_read.specs.Parts.{AreAnswersFrom, AreColumnsFrom, AreKeptFr
 ghost use Rattle.dvd_read.specs.Inner.Found.{words_of_columns};
 ghost use Rattle.dvd_read.specs.Inner.Standing.{AreCodewords};
 
-use crate::columns::{answer_columns, first_missing, first_wrong, first_wrong_failed, read_row};
+use crate::columns::{answer_columns, first_missing, first_wrong, read_row};
 use crate::fixed::Fixed;
 use crate::rows::{MOST_FAILED, answer_rows, are_few, count_failed, mark_failed};
 use dvd_capture::parts::{AnswerRow, ColumnAnswer, Received};
@@ -146,24 +146,20 @@ fn find_columns(
     if let Some(j) = first_missing(columns) {
         return Err(Cause::Column { j });
     }
-    match find_wrong(columns, &failed, are_kept) {
+    match find_wrong(columns, are_kept) {
         Some(i) => Err(Cause::Row { i }),
         None => Ok(failed_rows),
     }
 }
 
-// The first row of the columns' words that isn't a codeword. Where rows that were answered are kept, they needn't be looked at.
-fn find_wrong(columns: &[ColumnAnswer], failed: &[bool; 208], are_kept: bool) -> Option<u16>
+// The first row of the columns' words that isn't a codeword. Where rows that were answered are kept, none needs to be looked at:
+// the values of all rows at a point are a codeword of PO, so that at most sixteen failed rows vanish where all others do.
+fn find_wrong(columns: &[ColumnAnswer], are_kept: bool) -> Option<u16>
     requires columns { length columns.now ≡ 182 }
-    requires kept { IsTrue are_kept → (i : ℕ) → i < 208 → slice_index_or failed.now i false ≡ false
-        → vanishes_at_all 10 (line (from_columns (words_of_columns columns.now)) i) ≡ true }
+    requires right { IsTrue are_kept → (i : ℕ) → i < 208 → vanishes_at_all 10 (line (from_columns (words_of_columns columns.now)) i) ≡ true }
     ensures { result ≡ position (λ row. not (vanishes_at_all 10 row)) (from_columns (words_of_columns columns.now)) }
 {
-    if are_kept {
-        first_wrong_failed(&Pi::new(), columns, failed)
-    } else {
-        first_wrong(columns)
-    }
+    if are_kept { None } else { first_wrong(columns) }
 }
 
 // In how many places the block differs from what was received.

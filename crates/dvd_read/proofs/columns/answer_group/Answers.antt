@@ -13,8 +13,8 @@ use Rattle.dvd_read.proofs.ColumnAnswers.{blank_column}
 use Rattle.dvd_read.proofs.MarkedColumns.{column_vanishes, marked-answer}
 use Rattle.dvd_read.proofs.columns.answer_group.Goals as goal
 
-pub answer_column-is_kept-requires-clause-wrong : goal.answer_column-is_kept-requires-clause-wrong
-answer_column-is_kept-requires-clause-wrong c = λ zero_is.
+pub fill_column-requires-clause-wrong : goal.fill_column-requires-clause-wrong
+fill_column-requires-clause-wrong c = λ zero_is.
     let n : ℕ = c.args.start - c.min-left.result + c.loop-k.k in
     let word : ℕ → List ℕ = λ (j : ℕ). column (bytes_of c.args.answers.now) j in
     let below : n < 32 = omega (arith, c.min-left.ensures, c.requires.columns, c.requires.few, c.loop-k-test.true) in

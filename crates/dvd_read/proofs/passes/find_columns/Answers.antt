@@ -1,5 +1,5 @@
 -- The proof of `find_columns` in src/passes.rt.
-use Rattle.std.proofs.Common.{◌≡◌, ◌≤◌, ◌∙◌, Bool, None, false, List, length, map, get_or, sym, ap, subst, arith}
+use Rattle.std.proofs.Common.{◌≡◌, ◌≤◌, ◌∙◌, Bool, None, List, length, map, sym, ap, subst, arith}
 use Rattle.std.specs.Prelude.{IsTrue}
 use Rattle.std.proofs.lemmas.List.{length-map}
 use Rattle.coding.specs.Filling.{marked}
@@ -13,7 +13,7 @@ use Rattle.dvd_read.specs.Inner.Standing.{AreCodewords}
 use Rattle.dvd_read.specs.Parts.{AreKeptFrom, AreRowsKept, answer_word}
 use Rattle.dvd_read.proofs.ColumnAnswers.{columns-whole}
 use Rattle.dvd_read.proofs.Outcomes.{rows_cause}
-use Rattle.dvd_read.proofs.FoundColumns.{column_refused, row_refused, block_accepted, words-found}
+use Rattle.dvd_read.proofs.FoundColumns.{column_refused, row_refused, block_accepted, rows_all-vanish, words-found}
 use Rattle.dvd_read.proofs.Standing.{kept-vanish, rows-kept}
 use Rattle.dvd_read.proofs.passes.find_columns.Goals as goal
 
@@ -42,11 +42,15 @@ pub returns-in-Some-clause-rows : goal.returns-in-Some-clause-rows
 returns-in-Some-clause-rows c =
     kept_rows c.args.answers.now c.args.columns.now c.args.are_kept c.requires.rows c.requires.columns c.requires.codewords c.requires.kept
 
-pub find_wrong-requires-clause-kept : goal.find_wrong-requires-clause-kept
-find_wrong-requires-clause-kept c = λ are_kept i below clear.
+pub find_wrong-requires-clause-right : goal.find_wrong-requires-clause-right
+find_wrong-requires-clause-right c = λ are_kept.
+    let few : marked (failed_of (map answer_word c.args.answers.now)) ≤ 16 = omega (arith, c.count_failed-failed_rows.ensures.count, ap marked c.mark_failed.ensures) in
+    rows_all-vanish (map answer_word c.args.answers.now) c.args.columns.now (length-map c.args.answers.now answer_word ∙ c.requires.rows) c.requires.columns
+    (columns-whole (map answer_word c.args.answers.now) c.args.columns.now c.requires.columns (c.requires.answered few)) few
+    (sym c.in_default.ensures)
+    (λ i below clear.
     kept-vanish c.args.answers.now (from_columns (words_of_columns c.args.columns.now)) i c.requires.rows c.requires.codewords
-    (kept_rows c.args.answers.now c.args.columns.now c.args.are_kept c.requires.rows c.requires.columns c.requires.codewords c.requires.kept are_kept) below
-    (ap (λ (marks : List Bool). get_or marks i false) (sym c.mark_failed.ensures) ∙ clear)
+    (kept_rows c.args.answers.now c.args.columns.now c.args.are_kept c.requires.rows c.requires.columns c.requires.codewords c.requires.kept are_kept) below clear)
 
 pub returns-in-Some-find_wrong-clause-refused : goal.returns-in-Some-find_wrong-clause-refused
 returns-in-Some-find_wrong-clause-refused c =
