@@ -1,10 +1,10 @@
 -- What the operations on vectors of bytes hold in each lane: HoldsLanes-zip2 of two vectors, HoldsLanes-splat of a vector and one
 -- byte, byte_lane of one lane, HoldsLanes-low_nibbles and high_nibble-small of the two nibbles, HoldsLanes-look_up of a table of
--- sixteen at positions below sixteen, whole_table of a table in one vector, HasLanes-zeros of vectors of zeros, and
--- either-zero of two lanes joined.
-use Rattle.std.proofs.Common.{◌≡◌, ◌↔◌, ℕ, ◌+◌, ◌*◌, ◌/◌, ◌%◌, ◌<◌, List, [], length, get_or, replicate, take, get_or-take, length-take-le, sym, ap, subst, ◌∙◌, arith, w8, Fits, bit_and, bit_or}
+-- sixteen at positions below sixteen, whole_table of a table in one vector, HasLanes-zeros of vectors of zeros,
+-- either-zero of two lanes joined, and joined-zero of all lanes of a vector.
+use Rattle.std.proofs.Common.{◌≡◌, ◌↔◌, ℕ, ◌+◌, ◌*◌, ◌/◌, ◌%◌, ◌<◌, List, [], ◌∷◌, zero, suc, length, get_or, replicate, take, get_or-take, length-take-le, sym, ap, subst, ◌∙◌, arith, w8, Fits, bit_and, bit_or}
 use Rattle.std.specs.Int.Bits.{or_zero_r}
-use Rattle.std.specs.Simd.Lanes.{Each1, zip2}
+use Rattle.std.specs.Simd.Lanes.{Each1, zip2, fold_l}
 use Rattle.std.proofs.lemmas.Nat.{and_mask, le_or_l, le_or_r}
 use Rattle.std.proofs.lemmas.Simd.{length-zip2, get_or-zip2, get_or-replicate, length-replicate, length-swz_l, get_or-swz_l_below, swz_l, SwzOk, SwzOk-from_below, Each1-from_get_or, Each1-get_or}
 use Rattle.coding.specs.Rows.{line}
@@ -80,3 +80,17 @@ HasLanes-zeros count m inside =
 -- two lanes joined are zero where both are
 pub either-zero : (a b : ℕ) → (bit_or a b ≡ 0) ↔ ((a ≡ 0) × (b ≡ 0))
 either-zero a b = ((λ zero_is. (omega (arith, le_or_l a b), omega (arith, le_or_r a b))), (λ both. rw (both.0, both.1) (or_zero_r 0)))
+
+-- the first of several lanes, and those behind it
+first_and_behind : (x : ℕ) (xs : List ℕ) → x ≡ 0 → ((k : ℕ) → k < length xs → get_or xs k 0 ≡ 0) → (k : ℕ) → k < length (x ∷ xs) → get_or (x ∷ xs) k 0 ≡ 0
+first_and_behind x xs first behind zero below = first
+first_and_behind x xs first behind (suc k) below = behind k (omega arith)
+
+-- all lanes of a vector joined, and a number before them, are zero where each is
+pub joined-zero : (a : ℕ) (lanes : List ℕ) → (fold_l bit_or a lanes ≡ 0) ↔ ((a ≡ 0) × ((k : ℕ) → k < length lanes → get_or lanes k 0 ≡ 0))
+joined-zero a [] = ((λ none. (none, λ k below. absurd (omega arith))), (λ both. both.0))
+joined-zero a (x ∷ xs) =
+    let behind = joined-zero (bit_or a x) xs in (
+      (λ none. (((either-zero a x).0 (behind.0 none).0).0, first_and_behind x xs ((either-zero a x).0 (behind.0 none).0).1 (behind.0 none).1)),
+      (λ both. behind.1 ((either-zero a x).1 (both.0, both.1 0 (omega arith)), λ k below. both.1 (suc k) (omega arith))),
+    )

@@ -42,6 +42,19 @@ pub fn column_values<T: Row>(rows: &[T], at: usize) -> [u8x32; 16]
     values_of(&thirds)
 }
 
+/// The outer parity of the 32 columns from `at` on of 192 rows, a vector for each of its sixteen bytes: that of column `at + n`
+/// stands in lane `n`.
+pub fn parity_of_columns(rows: &[[u8; 182]], at: usize) -> [u8x32; 16]
+    requires at { at + 32 ≤ 182 }
+    requires rows { length rows.now ≡ 192 }
+    ensures lanes { EachIndex result (λ k. length (line result k) ≡ 32) }
+    ensures encoded { (j : ℕ) → j < 32 → IsEncoded 208 16 (column rows.now (at + j)) (column rows.now (at + j) ++ column result j) }
+{
+    let mut thirds = [[u8x32::splat(0); 3]; 85];
+    put_thirds(rows, at, &mut thirds);
+    parity_of(&PO_MATRIX, &values_of(&thirds))
+}
+
 // Sets the outer parity of the 32 columns from `at` on. All else stays.
 fn put_parity(rows: &[[u8; 182]], at: usize, parity: &mut [[u8; 182]])
     requires at { at + 32 ≤ 182 }
@@ -53,9 +66,7 @@ fn put_parity(rows: &[[u8; 182]], at: usize, parity: &mut [[u8; 182]])
     ensures below { (k j : ℕ) → j < at → place parity.new k j ≡ place parity.old k j }
     ensures above { (k j : ℕ) → at + 32 ≤ j → place parity.new k j ≡ place parity.old k j }
 {
-    let mut thirds = [[u8x32::splat(0); 3]; 85];
-    put_thirds(rows, at, &mut thirds);
-    put_vectors(&parity_of(&PO_MATRIX, &values_of(&thirds)), at, parity);
+    put_vectors(&parity_of_columns(rows, at), at, parity);
 }
 
 // Sets the bytes of 32 columns to those of the vectors. All others stay.

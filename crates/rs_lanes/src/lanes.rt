@@ -1,5 +1,5 @@
 //! Vectors of 32 bytes, lane by lane.
-ghost use Rattle.std.specs.Prelude.{◌≡◌, ◌↔◌, ℕ, ◌+◌, ◌*◌, ◌/◌, ◌%◌, ◌<◌, ◌≤◌, length, slice_index};
+ghost use Rattle.std.specs.Prelude.{◌≡◌, ◌↔◌, ℕ, IsTrue, ◌+◌, ◌*◌, ◌/◌, ◌%◌, ◌<◌, ◌≤◌, length, slice_index};
 ghost use Rattle.coding.specs.Field.{plus, product};
 ghost use Rattle.coding.specs.Rows.{place};
 ghost use Rattle.rs_lanes.specs.Inner.Lanes.{HasLanes};
@@ -27,6 +27,15 @@ pub fn any_of<const R: usize>(vectors: &[u8x32; R]) -> u8x32
         any = either(any, vectors[k]);
     }
     any
+}
+
+/// Whether all lanes are zero.
+#[inline(always)]
+pub fn are_zeros(lanes: u8x32) -> bool
+    requires { length lanes ≡ 32 }
+    ensures { IsTrue result ↔ ((k : ℕ) → k < 32 → slice_index lanes k ≡ 0) }
+{
+    lanes.reduce_or() == 0
 }
 
 /// The 32 bytes from place `at` on.

@@ -3,7 +3,7 @@
 //! A product with a constant is then two look-ups among sixteen, one for each half of a byte. Words are tested by their
 //! values and not by a remainder, since a decoder needs these values first.
 //!
-//! - [`columns`]: the outer parity of 192 rows, and the values of 32 columns of a block.
+//! - [`columns`]: the outer parity of 192 rows, or of 32 of their columns, and the values of 32 columns of a block.
 //! - [`rows`]: the inner parity of 32 rows, and their values.
 //! - [`row`]: the trait of a type that has the bytes of a row.
 //! - [`turning`]: 32 rows, transposed: vectors, one for each place.
@@ -30,8 +30,8 @@ mod tests;
 mod thirds;
 pub mod turning;
 
-pub use columns::{column_values, outer_parity};
-pub use lanes::{any_of, load, multiple, store, with_multiple};
+pub use columns::{column_values, outer_parity, parity_of_columns};
+pub use lanes::{any_of, are_zeros, load, multiple, store, with_multiple};
 pub use points::{powers, scaled};
 pub use row::Row;
 pub use rows::{inner_parity, row_values, turned_values};

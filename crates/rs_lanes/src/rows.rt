@@ -31,9 +31,10 @@ pub fn inner_parity(rows: &mut [[u8; 182]], top: usize)
 }
 
 /// The values of the 32 rows from `top` on at alpha^0 to alpha^9, a vector for each of these powers: that of row
-/// `top + n` is in lane `n`. Also ensures that the elements of the rows are bytes.
+/// `top + n` is in lane `n`. Also ensures that the rows are 182 bytes each.
 pub fn row_values(rows: &[[u8; 182]], top: usize) -> [u8x32; 10]
     requires { top + 32 ≤ length rows.now }
+    ensures sizes { (n : ℕ) → n < 32 → length (line rows.now (top + n)) ≡ 182 }
     ensures bytes { (n : ℕ) → n < 32 → All IsByte (line rows.now (top + n)) }
     ensures lanes { EachIndex result (λ k. length (line result k) ≡ 32) }
     ensures values { (k n : ℕ) → k < 10 → n < 32 → place result k n ≡ value (line rows.now (top + n)) (power alpha k) }

@@ -17,6 +17,9 @@ same rows turned top n many size is =
     turned_row turned n (line rows (top + n)) many (subst (λ xs. length (line xs (top + n)) ≡ 182) whole size)
     (λ k inside. is k inside ∙ ap (λ xs. place xs (top + n) k) whole)
 
+pub returns-clause-sizes : goal.returns-clause-sizes
+returns-clause-sizes c = λ n below. subst (λ xs. length (line xs (c.args.top + n)) ≡ 182) (map-id c.args.rows.now) (c.turn.ensures.sizes n below)
+
 pub returns-clause-bytes : goal.returns-clause-bytes
 returns-clause-bytes c = λ n below.
     subst (All IsByte)
