@@ -1,6 +1,6 @@
 -- Columns of a block: their bytes, and words that agree with one place by place or are encoded in it; how long one is stands in rs_lanes.
 use Rattle.std.proofs.Common.{◌≡◌, ℕ, ◌<◌, ◌≤◌, List, ◌++◌, length, get_or, take, drop, sym, ◌∙◌, ap, subst, arith}
-use Rattle.std.proofs.lemmas.List.{get_or-take, length-take, take_all, take_at, take-append-drop}
+use Rattle.std.proofs.lemmas.List.{get_or-take, length-take, take_at, take-append-drop}
 use Rattle.std.proofs.lemmas.Grind.{same_number_lists}
 use Rattle.coding.specs.Words.{IsCodeword, IsEncoded}
 pub use Rattle.rs_lanes.proofs.ColumnLemmas.{length-column, get_or-column}
@@ -20,9 +20,3 @@ pub column_encoded : (front top behind word : List ℕ) → length top ≡ 192 �
 column_encoded front top behind word size is encoded =
     let begins : take 192 word ≡ front = encoded.begins ∙ take_at top behind 192 size ∙ is in
     subst (IsCodeword 208 16) (sym (take-append-drop 192 word) ∙ ap (λ (l : List ℕ). l ++ drop 192 word) begins) encoded.codeword
-
--- bytes that agree with a column place by place are that column
-pub whole_column : (block : List (List ℕ)) (j n : ℕ) (word : List ℕ) → length word ≡ n → length block ≡ n
-    → ((i : ℕ) → i < length word → get_or word i 0 ≡ place block i j) → word ≡ column block j
-whole_column block j n word size height each =
-    upper_end block j n word size (omega arith) each ∙ take_all n (column block j) (omega (arith, length-column block j))

@@ -3,6 +3,7 @@ pub mod Taken
 pub mod RowParts
 pub mod Columns
 pub mod Linear
+pub mod Tested
 pub mod Filling
 pub mod Recorded
 pub mod OneBlock

@@ -7,7 +7,7 @@ mod buffers; // the memory of a block
 pub mod laws; // what holds of every block
 mod order; // where a row is recorded
 mod parity; // the parity of rows and columns
-pub mod parts; // the buffers and the parity of one row and one column, for work on several at once
+pub mod parts; // the buffers and the parity of some rows or columns, for work on several at once
 mod piece; // a buffer for the sectors of a block
 
 pub use block::{Block, write_rows};

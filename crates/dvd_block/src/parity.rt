@@ -1,13 +1,16 @@
 //! The parity of rows and columns (ECMA-267, 18): ten bytes of inner parity (PI) end a row, sixteen of outer
 //! parity (PO) end a column.
-ghost use Rattle.std.specs.Prelude.{◌≡◌, ℕ, ◌<◌, ◌≤◌, ◌++◌, length, take, slice_index, EachIndex, All, ◌↔◌, IsTrue};
+ghost use Rattle.std.specs.Prelude.{◌≡◌, ℕ, ◌+◌, ◌<◌, ◌≤◌, ◌++◌, length, take, slice_index, EachIndex, All, ◌↔◌, IsTrue};
 ghost use Rattle.coding.specs.Words.{IsCodeword, IsEncoded};
 ghost use Rattle.dvd_block.specs.Buffers.{lines_rows};
 ghost use Rattle.coding.specs.Product.{line, place, column, IsParityAdded, IsProduct};
 
 use crate::buffers::Lines;
 use rs_code::{Pi, Po};
-use rs_lanes::{inner_parity, outer_parity};
+use rs_lanes::{
+    any_of, are_zeros, column_values, inner_parity, outer_parity, parity_of_columns, row_values,
+};
+use std::simd::prelude::*;
 
 /// Keeps the first 172 bytes of a row and sets the last ten so that it is a codeword.
 pub fn row_parity(code: &Pi, row: &mut [u8; 182])
@@ -28,6 +31,93 @@ pub fn column_parity(code: &Po, lines: &Lines, j: usize, cell: &mut [u8; 16])
     cell.copy_from_slice(&word[192..]);
 }
 
+/// Sets the last ten bytes of each of these rows so that it is a codeword, of 32 at once. The first 172 bytes of each stay.
+pub fn rows_parity(rows: &mut [[u8; 182]])
+    ensures size { length rows.new ≡ length rows.old }
+    ensures encoded { EachIndex rows.new (λ i. IsEncoded 182 10 (take 172 (line rows.old i)) (line rows.new i)) }
+{
+    for group in 0..rows.len().div_ceil(32) {
+        let at = 32 * group;
+        let end = rows.len().min(at + 32);
+        group_parity(&mut rows[at..end]);
+    }
+}
+
+// The same of at most 32 rows.
+fn group_parity(rows: &mut [[u8; 182]])
+    requires { length rows.old ≤ 32 }
+    ensures size { length rows.new ≡ length rows.old }
+    ensures encoded { EachIndex rows.new (λ i. IsEncoded 182 10 (take 172 (line rows.old i)) (line rows.new i)) }
+{
+    if rows.len() == 32 {
+        inner_parity(rows, 0);
+    } else {
+        few_rows_parity(rows);
+    }
+}
+
+// The same in a buffer of 32 rows.
+fn few_rows_parity(rows: &mut [[u8; 182]])
+    requires { length rows.old ≤ 32 }
+    ensures size { length rows.new ≡ length rows.old }
+    ensures encoded { EachIndex rows.new (λ i. IsEncoded 182 10 (take 172 (line rows.old i)) (line rows.new i)) }
+{
+    let mut buffer = with_zeros_below(rows);
+    inner_parity(&mut buffer, 0);
+    rows.copy_from_slice(&buffer[..rows.len()]);
+}
+
+// At most 32 rows, and rows of zeros below them.
+fn with_zeros_below(rows: &[[u8; 182]]) -> [[u8; 182]; 32]
+    requires { length rows.now ≤ 32 }
+    ensures size { length result ≡ 32 }
+    ensures rows { take (length rows.now) result ≡ rows.now }
+{
+    let mut buffer = [[0; 182]; 32];
+    buffer[..rows.len()].copy_from_slice(rows);
+    buffer
+}
+
+/// Sets these cells to the outer parity of the columns from `start` on, of 32 at once: the upper 192 bytes of each column,
+/// followed by its cell, are a codeword.
+pub fn columns_parity(lines: &Lines, start: usize, cells: &mut [[u8; 16]])
+    requires { start + length cells.old ≤ 182 }
+    ensures size { length cells.new ≡ length cells.old }
+    ensures encoded { EachIndex cells.new (λ k. IsCodeword 208 16 (take 192 (column (lines_rows lines.now) (start + k)) ++ line cells.new k)) }
+{
+    for group in 0..cells.len().div_ceil(32) {
+        let at = 32 * group;
+        let end = cells.len().min(at + 32);
+        group_cells(lines, start + at, &mut cells[at..end]);
+    }
+}
+
+// The same of at most 32 cells.
+fn group_cells(lines: &Lines, start: usize, cells: &mut [[u8; 16]])
+    requires few { length cells.old ≤ 32 }
+    requires columns { start + length cells.old ≤ 182 }
+    ensures size { length cells.new ≡ length cells.old }
+    ensures encoded { EachIndex cells.new (λ k. IsCodeword 208 16 (take 192 (column (lines_rows lines.now) (start + k)) ++ line cells.new k)) }
+{
+    // The parity of 32 columns is found even where fewer follow.
+    let left = start.min(150);
+    let parity = parity_of_columns(&lines.rows()[..192], left);
+    for (k, cell) in cells.iter_mut().enumerate() {
+        put_cell(&parity, start - left + k, cell);
+    }
+}
+
+// Sets a cell to lane `n` of these vectors.
+fn put_cell(parity: &[u8x32; 16], n: usize, cell: &mut [u8; 16])
+    requires lane { n < 32 }
+    requires lanes { EachIndex parity.now (λ t. length (line parity.now t) ≡ 32) }
+    ensures { cell.new ≡ column parity.now n }
+{
+    for t in 0..16 {
+        cell[t] = parity[t][n];
+    }
+}
+
 /// Sets the parity of the 208 rows of a block: the last ten bytes of each, and the last sixteen rows. The first 172 bytes of
 /// the others stay.
 // The inner parity of the upper 192 rows comes first, and then the outer parity of all columns, those of inner parity too.
@@ -38,19 +128,8 @@ pub fn fill_parity(rows: &mut [[u8; 182]])
     ensures added { IsParityAdded rows.old rows.new }
 {
     let (upper, lower) = rows.split_at_mut(192);
-    set_inner_parity(upper);
+    rows_parity(upper);
     outer_parity(upper, lower);
-}
-
-// Sets the inner parity of 192 rows, of 32 at once.
-fn set_inner_parity(rows: &mut [[u8; 182]])
-    requires { length rows.old ≡ 192 }
-    ensures size { length rows.new ≡ 192 }
-    ensures encoded { (i : ℕ) → i < 192 → IsEncoded 182 10 (take 172 (line rows.old i)) (line rows.new i) }
-{
-    for group in 0..6 {
-        inner_parity(rows, 32 * group);
-    }
 }
 
 /// Whether each of the 208 rows of a block and each of its columns is a codeword.
@@ -63,15 +142,24 @@ pub fn is_product(rows: &[[u8; 182]]) -> bool
 
 // Whether each row is a codeword.
 fn rows_are_codewords(rows: &[[u8; 182]]) -> bool
+    requires { length rows.now ≡ 208 }
     ensures { IsTrue result ↔ All (IsCodeword 182 10) rows.now }
 {
-    let code = Pi::new();
-    for row in rows {
-        if !code.is_codeword(row) {
+    for group in 0..7usize {
+        // The last 32 rows begin at row 176.
+        if !group_rows_are_codewords(rows, (32 * group).min(176)) {
             return false;
         }
     }
     true
+}
+
+// Whether each of the 32 rows from `top` on is a codeword.
+fn group_rows_are_codewords(rows: &[[u8; 182]], top: usize) -> bool
+    requires { top + 32 ≤ length rows.now }
+    ensures { IsTrue result ↔ ((n : ℕ) → n < 32 → IsCodeword 182 10 (line rows.now (top + n))) }
+{
+    are_zeros(any_of(&row_values(rows, top)))
 }
 
 // Whether each column is a codeword.
@@ -79,15 +167,22 @@ fn columns_are_codewords(rows: &[[u8; 182]]) -> bool
     requires { length rows.now ≡ 208 }
     ensures { IsTrue result ↔ ((j : ℕ) → j < 182 → IsCodeword 208 16 (column rows.now j)) }
 {
-    let code = Po::new();
-    for j in 0..182 {
-        let mut word = [0; 208];
-        read_column(rows, j, &mut word);
-        if !code.is_codeword(&word) {
+    for group in 0..6usize {
+        // The last 32 columns begin at column 150.
+        if !group_columns_are_codewords(rows, (32 * group).min(150)) {
             return false;
         }
     }
     true
+}
+
+// Whether each of the 32 columns from `at` on is a codeword.
+fn group_columns_are_codewords(rows: &[[u8; 182]], at: usize) -> bool
+    requires rows { length rows.now ≡ 208 }
+    requires at { at + 32 ≤ 182 }
+    ensures { IsTrue result ↔ ((n : ℕ) → n < 32 → IsCodeword 208 16 (column rows.now (at + n))) }
+{
+    are_zeros(any_of(&column_values(rows, at)))
 }
 
 // Copies the upper end of a column.

@@ -13,7 +13,7 @@ module _ (c : goal.After-rows-2-1) where
 
   -- the upper 192 rows with their inner parity
   abbrev upper : List (List ℕ)
-  upper = c.set_inner_parity.new.rows
+  upper = c.rows_parity.new.rows
 
   -- the sixteen rows of outer parity
   abbrev lower : List (List ℕ)
@@ -26,8 +26,8 @@ module _ (c : goal.After-rows-2-1) where
       let row_is : (i : ℕ) → i < 192 → line was i ≡ line old i =
       λ i above. sym (ap (λ (rows : List (List ℕ)). line rows i) c.split_at_mut-upper.ensures.value
       ∙ get_or_append_left was c.split_at_mut-upper.result.1.now [] i (omega (arith, c.split_at_mut-upper.ensures.front_len))) in
-      filled_below old upper lower c.set_inner_parity.ensures.size c.outer_parity.ensures.size
-      (λ i above. subst (λ (row : List ℕ). IsEncoded 182 10 (take 172 row) (line upper i)) (row_is i above) (c.set_inner_parity.ensures.encoded i above))
+      filled_below old upper lower (c.rows_parity.ensures.size ∙ c.split_at_mut-upper.ensures.front_len) c.outer_parity.ensures.size
+      (λ i above. subst (λ (row : List ℕ). IsEncoded 182 10 (take 172 row) (line upper i)) (row_is i above) (c.rows_parity.ensures.encoded i (omega (arith, c.rows_parity.ensures.size, c.split_at_mut-upper.ensures.front_len))))
       c.outer_parity.ensures.encoded
       c.outer_parity.ensures.sizes
 
