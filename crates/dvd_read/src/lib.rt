@@ -5,6 +5,7 @@
 mod columns; // the second pass: columns of the rows' answers
 mod fixed; // what was fixed of a block that is read
 mod frames; // the checks of the sixteen data frames
+mod kept; // whether the columns keep the rows that were answered
 mod lanes; // the values of 32 words, as the syndromes of each
 pub mod laws; // what holds of every captured block that is read
 pub mod parts; // the passes piece by piece, for work on several pieces at once

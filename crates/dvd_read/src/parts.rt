@@ -3,6 +3,7 @@
 //! whoever asks which of the sixteen are.
 pub use crate::columns::answer_columns;
 pub use crate::frames::{Source, sectors_of_block};
+pub use crate::kept::are_kept;
 pub use crate::passes::settle;
 pub use crate::rescue::salvage_frame;
 pub use crate::rows::{answer_rows, are_few, count_failed, is_codeword, mark_failed};

@@ -1,5 +1,5 @@
--- Ours: rows that are answered by codewords, and columns that are copied of these answers.
-use Rattle.std.specs.Prelude.{◌≡◌, ℕ, ◌+◌, ◌<◌, List, [], length, slice_index, slice_index_or, Some}
+-- Ours: rows that are answered by codewords, and columns that are copied of these answers or have their bytes.
+use Rattle.std.specs.Prelude.{◌≡◌, ℕ, ◌+◌, ◌<◌, ◌≤◌, List, [], length, slice_index, slice_index_or, Some}
 use Rattle.coding.specs.Product.{column}
 use Rattle.coding.specs.Words.{IsCodeword}
 use Rattle.dvd_capture.specs.declared.parts.AnswerRow.{AnswerRow}
@@ -21,3 +21,9 @@ abbrev pub AreCopied : List AnswerRow → ℕ → List ColumnAnswer → ℕ → 
 AreCopied answers start piece n =
     (j i : ℕ) (default : ColumnAnswer) → j < length piece → i < n
     → slice_index (slice_index_or piece j default).bytes i ≡ slice_index (slice_index_or (bytes_of answers) i []) (start + j)
+
+-- at row i the columns from `at` to the one before `end` have the bytes of these answers
+abbrev pub IsRowKept : List AnswerRow → List ColumnAnswer → ℕ → ℕ → ℕ → Type 0
+IsRowKept answers columns i at end =
+    (j : ℕ) (default : ColumnAnswer) → at ≤ j → j < end
+    → slice_index (slice_index_or columns j default).bytes i ≡ slice_index (slice_index_or (bytes_of answers) i []) j

@@ -1,0 +1,90 @@
+//! Whether the columns keep the rows that were answered: compared with the rows' answers by vectors, as those who answered
+//! pieces of the columns apart from each other can't tell.
+ghost use Rattle.std.specs.Prelude.{◌≡◌, ◌↔◌, ℕ, ◌+◌, ◌<◌, ◌≤◌, IsTrue, false, length, map, slice_index, slice_index_or};
+ghost use Rattle.coding.specs.TwoPass.{failed_of};
+ghost use Rattle.dvd_capture.specs.declared.parts.ColumnAnswer.{ColumnAnswer};
+ghost use Rattle.dvd_read.specs.Parts.{AreKeptFrom, answer_word};
+ghost use Rattle.dvd_read.specs.Inner.Standing.{IsRowKept};
+
+use dvd_capture::parts::{AnswerRow, ColumnAnswer};
+use rs_lanes::{any_of, load, load_turned};
+use std::simd::prelude::*;
+
+/// Whether the columns of a block have, in each row that didn't fail, the bytes of the rows' answers.
+pub fn are_kept(answers: &[AnswerRow], failed: &[bool; 208], columns: &[ColumnAnswer]) -> bool
+    requires rows { length answers.now ≡ 208 }
+    requires marks { failed.now ≡ failed_of (map answer_word answers.now) }
+    requires columns { length columns.now ≡ 182 }
+    ensures { IsTrue result ↔ AreKeptFrom answers.now 0 columns.now }
+{
+    for group in 0..7usize {
+        // The last 32 rows begin at row 176.
+        if !are_rows_kept(answers, failed, columns, (32 * group).min(176)) {
+            return false;
+        }
+    }
+    true
+}
+
+// The same of the 32 rows from `top` on.
+fn are_rows_kept(
+    answers: &[AnswerRow],
+    failed: &[bool; 208],
+    columns: &[ColumnAnswer],
+    top: usize,
+) -> bool
+    requires rows { length answers.now ≡ 208 }
+    requires columns { length columns.now ≡ 182 }
+    requires top { top + 32 ≤ 208 }
+    ensures { IsTrue result ↔ ((n : ℕ) → n < 32 → slice_index_or failed.now (top + n) false ≡ false → IsRowKept answers.now columns.now (top + n) 0 182) }
+{
+    let changed = rows_changed(answers, columns, top);
+    for n in 0..32usize {
+        if changed[n] != 0 && !failed[top + n] {
+            return false;
+        }
+    }
+    true
+}
+
+// Lanes that are zero where the columns have the bytes of the rows' answers: lane `n` for row `top + n`.
+fn rows_changed(answers: &[AnswerRow], columns: &[ColumnAnswer], top: usize) -> u8x32
+    requires rows { length answers.now ≡ 208 }
+    requires columns { length columns.now ≡ 182 }
+    requires top { top + 32 ≤ 208 }
+    ensures size { length result ≡ 32 }
+    ensures zeros { (n : ℕ) → n < 32 → (slice_index result n ≡ 0) ↔ IsRowKept answers.now columns.now (top + n) 0 182 }
+{
+    let mut tiles = [u8x32::splat(0); 12];
+    for tile in 0..12usize {
+        // The last sixteen columns begin at column 166.
+        tiles[tile] = tile_changed(answers, columns, top, (16 * tile).min(166));
+    }
+    any_of(&tiles)
+}
+
+// The same of the sixteen columns from `at` on.
+fn tile_changed(answers: &[AnswerRow], columns: &[ColumnAnswer], top: usize, at: usize) -> u8x32
+    requires rows { length answers.now ≡ 208 }
+    requires columns { length columns.now ≡ 182 }
+    requires top { top + 32 ≤ 208 }
+    requires at { at + 16 ≤ 182 }
+    ensures size { length result ≡ 32 }
+    ensures zeros { (n : ℕ) → n < 32 → (slice_index result n ≡ 0) ↔ IsRowKept answers.now columns.now (top + n) at (at + 16) }
+{
+    let turned = load_turned(answers, top, at);
+    let mut differences = [u8x32::splat(0); 16];
+    for j in 0..16usize {
+        differences[j] = difference(turned[j], &columns[at + j].bytes, top);
+    }
+    any_of(&differences)
+}
+
+// Lanes that are zero where these are the 32 bytes of a column from `top` on.
+fn difference(lanes: u8x32, word: &[u8; 208], top: usize) -> u8x32
+    requires lanes { length lanes ≡ 32 }
+    requires top { top + 32 ≤ 208 }
+    ensures { (n : ℕ) → n < 32 → (slice_index result n ≡ 0) ↔ (slice_index word.now (top + n) ≡ slice_index lanes n) }
+{
+    load(word, top) ^ lanes
+}
