@@ -15,8 +15,8 @@ pub fn piece_size(total: usize, workers: u8) -> usize
     total.div_ceil(usize::from(workers))
 }
 
-/// Does `work` on each piece of the items, with the place where the piece begins, each in a thread of its own where one can be
-/// made. The gate is asked once for each piece, by the thread that then does it. A single piece is done on this thread.
+/// Does `work` on each piece of the items, with the place where the piece begins. The last piece is done on this thread, and each
+/// other in a thread of its own where one can be made. The gate is asked once for each piece, by the thread that then does it.
 pub fn for_each_piece<R: Threads + Sync, G: Gate, T: Send, F: Fn(usize, &mut [T]) + Sync>(
     rt: &R,
     workers: u8,

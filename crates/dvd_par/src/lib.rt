@@ -1,6 +1,6 @@
 //! Work on one captured or mastered block by several workers at once: each pass over its rows or over its columns is cut into
-//! pieces, as many as there are workers at most, and each piece is done by a thread of its own where one can be made. The
-//! answers are those of one worker.
+//! pieces, as many as there are workers at most. The calling thread does the last piece, and each other is done by a thread of
+//! its own where one can be made. The answers are those of one worker.
 //! A piece is a slice that one worker writes and nobody else reads, so that no buffer is copied.
 #![tactic(auto)]
 

@@ -7,8 +7,7 @@ ghost use Rattle.coding.specs.Product.{IsParityAdded, column, line};
 use crate::cutting::for_each_piece;
 use crate::gate::Gate;
 use dvd_block::Block;
-use dvd_block::parts::{Cells, Lines, column_parity, row_parity};
-use rs_code::{Pi, Po};
+use dvd_block::parts::{Cells, Lines, columns_parity, rows_parity};
 use std::thread::Threads;
 
 /// Sets the inner and the outer parity as `Block::add_parity` does, with so many workers. A worker has the rows of a piece in
@@ -47,22 +46,13 @@ fn row_pieces<R: Threads + Sync, G: Gate>(rt: &R, workers: u8, gate: &G, rows: &
     requires rows { length rows.old ≡ 192 }
     ensures { EachIndex rows.new (λ i. IsEncoded 182 10 (take 172 (line rows.old i)) (line rows.new i)) }
 {
-    let code = Pi::new();
     let encode = |_start: usize, piece: &mut [[u8; 182]]|
         ensures rows { EachIndex piece.exit.now (λ i. IsEncoded 182 10 (take 172 (line piece.entry.now i)) (line piece.exit.now i)) }
         ensures size { length piece.exit.now ≡ length piece.entry.now }
     {
-        encode_rows(&code, piece);
+        rows_parity(piece);
     };
     for_each_piece(rt, workers, gate, rows, &encode);
-}
-
-fn encode_rows(code: &Pi, rows: &mut [[u8; 182]])
-    ensures { EachIndex rows.new (λ i. IsEncoded 182 10 (take 172 (line rows.old i)) (line rows.new i)) }
-{
-    for row in rows {
-        row_parity(code, row);
-    }
 }
 
 // Sets the outer parity of each column.
@@ -91,23 +81,12 @@ fn cell_pieces<R: Threads + Sync, G: Gate>(
     requires cells { length cells.old ≡ 182 }
     ensures { EachIndex cells.new (λ j. IsCodeword 208 16 (take 192 (column (lines_rows lines.now) j) ++ line cells.new j)) }
 {
-    let code = Po::new();
     let encode = |start: usize, piece: &mut [[u8; 16]]|
         requires { start + length piece.now ≤ 182 }
         ensures cells { EachIndex piece.exit.now (λ k. IsCodeword 208 16 (take 192 (column (lines_rows lines.entry.now) (start + k)) ++ line piece.exit.now k)) }
         ensures size { length piece.exit.now ≡ length piece.entry.now }
     {
-        encode_cells(&code, lines, start, piece);
+        columns_parity(lines, start, piece);
     };
     for_each_piece(rt, workers, gate, cells, &encode);
-}
-
-// Sets cells to the outer parity of the columns from `start` on.
-fn encode_cells(code: &Po, lines: &Lines, start: usize, piece: &mut [[u8; 16]])
-    requires { start + length piece.old ≤ 182 }
-    ensures { EachIndex piece.new (λ k. IsCodeword 208 16 (take 192 (column (lines_rows lines.now) (start + k)) ++ line piece.new k)) }
-{
-    for (k, cell) in piece.iter_mut().enumerate() {
-        column_parity(code, lines, start + k, cell);
-    }
 }

@@ -12,7 +12,7 @@ use crate::cutting::for_each_piece;
 use crate::gate::Gate;
 use dvd_capture::parts::{AnswerRow, ColumnAnswer, Marks, Received};
 use dvd_capture::{Stage, Work};
-use dvd_read::parts::{answer_columns, answer_rows, are_few, mark_failed, settle};
+use dvd_read::parts::{answer_columns, answer_rows, are_few, are_kept, mark_failed, settle};
 use dvd_read::{Cause, Fixed};
 use rs_code::{Pi, Po};
 use std::thread::Threads;
@@ -81,8 +81,8 @@ fn row_pass<R: Threads + Sync, G: Gate>(
     for_each_piece(rt, workers, gate, answers, &answer);
 }
 
-// Several workers answer their pieces apart from each other, so that of their answers nothing is known beyond this pass.
-// The second pass, where no more rows failed than it can bear. Answers whether it is known to correct no row that was answered.
+// The second pass, where no more rows failed than it can bear. Answers whether it is known to correct no row that was answered:
+// several workers answer their pieces apart from each other, so that the columns are compared with the rows at the end.
 fn column_pass<R: Threads + Sync, G: Gate>(
     rt: &R,
     workers: u8,
@@ -106,7 +106,7 @@ fn column_pass<R: Threads + Sync, G: Gate>(
         return answer_columns(&Po::new(), answers, &failed, 0, columns);
     }
     column_pieces(rt, workers, gate, answers, &failed, columns);
-    false
+    are_kept(answers, &failed, columns)
 }
 
 // The columns, piece by piece.
