@@ -51,7 +51,7 @@ impl FrameWork {
         requires { length bytes.now ≡ frame_size form }
         ensures { captured self.new ≡ frame_in form bytes.now }
     {
-        let size = record_size(form);
+        let size = form.record_size();
         for q in 0..13usize {
             let row = &bytes[size * q..size * q + size];
             put_row(&mut self.rows[q], &mut self.marks[q], form, row);
@@ -84,16 +84,6 @@ impl FrameWork {
     }
 }
 
-// The bytes of a recorded row.
-fn record_size(form: Form) -> usize
-    ensures { result ≡ record_size form }
-{
-    match form {
-        Form::Plain | Form::Listed => ROW,
-        Form::Marked => ROW + BITS,
-    }
-}
-
 // Sets a row and its marks to those in the bytes of a recorded row.
 fn put_row(row: &mut [u8; ROW], marks: &mut RowMarks, form: Form, bytes: &[u8])
     requires { length bytes.now ≡ record_size form }
@@ -101,18 +91,7 @@ fn put_row(row: &mut [u8; ROW], marks: &mut RowMarks, form: Form, bytes: &[u8])
     ensures marks { marks_of_row marks.new ≡ marks_in form bytes.now }
 {
     row.copy_from_slice(&bytes[..ROW]);
-    put_marks(marks, form, bytes);
-}
-
-// Sets the marks of a row to those in a recorded row.
-fn put_marks(marks: &mut RowMarks, form: Form, row: &[u8])
-    requires { length row.now ≡ record_size form }
-    ensures { marks_of_row marks.new ≡ marks_in form row.now }
-{
-    match form {
-        Form::Plain | Form::Listed => *marks = RowMarks::none(),
-        Form::Marked => marks.copy_from_bits(&row[ROW..]),
-    }
+    marks.copy_from_record(form, bytes);
 }
 
 /// Reads one recording frame, by as many calls as it takes: 2,366 bytes in the plain form, 2,665 in the marked form.
@@ -128,7 +107,7 @@ pub fn fetch_frame<S: Source>(src: &mut S, form: Form, frame: &mut FrameWork) ->
     ensures counts { FetchCounts result (S.seen src.old) (S.seen src.new) }
     ensures same { result ≢ Full → frame.new ≡ frame.old }
 {
-    let size = 13 * record_size(form);
+    let size = 13 * form.record_size();
     let mut buffer = [0; MOST];
     let bytes = &mut buffer[..size];
     match read_whole(src, bytes) {

@@ -17,4 +17,5 @@ pub mod ListedWritten
 pub mod MarkPlaces
 pub mod OneSpelling
 pub mod RunStarts
+pub mod SpreadMarks
 pub mod Undamaged

@@ -1,5 +1,5 @@
 -- The fields of a listed unit as a source gives them.
-use Rattle.std.proofs.Common.{◌≡◌, ◌⊎◌, ◌∙◌, ℕ, ◌+◌, ◌*◌, ◌<◌, ◌≤◌, ◌&&◌, ◌||◌, nat_le, nat_lt, Bool, List, ◌++◌, length, Option, Result, Ok, Err, inl, inr, refl, sym, ap, subst, arith, length-append, append_assoc}
+use Rattle.std.proofs.Common.{◌≡◌, ◌∙◌, ℕ, ◌<◌, ◌≤◌, Bool, List, ◌++◌, length, Option, Result, Ok, Err, refl, sym, subst, arith, length-append, append_assoc}
 use Rattle.std.specs.Int.{from_be_bytes, w16}
 use Rattle.std.specs.Result.{IfErr, IsErrAnd}
 use Rattle.std.specs.Io.KnownBytes.{Consumes}
@@ -9,7 +9,7 @@ use Rattle.dvd_capture.specs.Listed.{field_at, marked_by, run_count}
 use Rattle.dvd_capture.specs.Inner.Listing.{AreRows, HasRuns, IsNoField, IsStop, IsStopped, TakesField, TakesRuns}
 use Rattle.dvd_capture.specs.declared.capture.FetchAnswer.{FetchAnswer}
 use Rattle.dvd_capture.specs.declared.capture.FetchAnswer.TheVariants.{Full, End, Short, ReadFault, BadMarks}
-use Rattle.dvd_capture.proofs.ListedFields.{IsFine, broken-length, broken-start, cut-in-length, cut-in-start, early-cut, field_at-append, field_at-behind, number-broken, number-unbroken, one-run-more}
+use Rattle.dvd_capture.proofs.ListedFields.{early-cut, field_at-append, field_at-behind, number-broken, number-unbroken}
 
 -- two fields behind each other
 pub first-field : (start long : List ℕ) → length start ≡ 2 → field_at (start ++ long) 0 ≡ field_at start 0

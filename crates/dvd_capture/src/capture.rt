@@ -1,5 +1,5 @@
 //! Captured blocks are read from a source.
-ghost use Rattle.std.specs.Prelude.{◌≡◌, ◌≢◌, ℕ, ◌*◌, ◌<◌, ◌==◌, if◌then◌else◌, length, take, slice_set};
+ghost use Rattle.std.specs.Prelude.{◌≡◌, ◌≢◌, ℕ, ◌+◌, ◌*◌, ◌<◌, ◌≤◌, ◌==◌, if◌then◌else◌, List, ◌++◌, length, take, slice_set};
 ghost use Rattle.coding.specs.Recording.{row_at};
 ghost use Rattle.dvd_capture.specs.Captured.{HasSize, marks_in, record_size};
 ghost use Rattle.dvd_capture.specs.Parts.{marks_rows, received_rows};
@@ -17,8 +17,11 @@ use crate::work::Work;
 use dvd_block::row_of_record;
 use dvd_ports::{Failed, Source, read_whole};
 
-// The bytes of a block in the form that has most, of those that give each block as many.
-const MOST_BLOCK: usize = 208 * 205;
+// A block is read in two halves of as many recorded rows, so that the buffer they pass through is small, and read no oftener.
+const HALF: usize = 104;
+
+// The bytes of a half in the form that has most, of those that give each block as many.
+const MOST_HALF: usize = HALF * 205;
 
 /// What a source gave for one block.
 #[derive(Clone, Copy, Debug, PartialEq, Eq)]
@@ -68,7 +71,6 @@ fn fetch_parts<S: Source>(
 }
 
 // Reads the 208 recorded rows of a block.
-#[tactic(auto, using(crate::proofs::FetchedCounts::cut_counts))]
 pub(crate) fn fetch_rows<S: Source>(
     src: &mut S,
     form: Form,
@@ -79,17 +81,17 @@ pub(crate) fn fetch_rows<S: Source>(
     ensures fetches { Fetches form (S.seen src.old) (S.seen src.new) (received_rows received.new) (marks_rows marks.new) result }
     ensures never { (at : ℕ) → result ≢ BadMarks at }
 {
-    let size = form.size();
-    let mut buffer = [0; MOST_BLOCK];
+    let size = HALF * form.record_size();
+    let mut buffer = [0; MOST_HALF];
     let bytes = &mut buffer[..size];
-    match read_whole(src, bytes) {
-        Ok(count) if count < size => cut_off(count),
-        Ok(_) => {
-            put_rows(received, marks, form, bytes);
-            FetchAnswer::Full
+    for half in 0..2usize {
+        match read_whole(src, bytes) {
+            Ok(count) if count < size => return cut_off(size * half + count),
+            Ok(_) => put_half(received, marks, form, HALF * half, bytes),
+            Err(Failed) => return FetchAnswer::ReadFault,
         }
-        Err(Failed) => FetchAnswer::ReadFault,
     }
+    FetchAnswer::Full
 }
 
 /// What is answered where a source ended after so many bytes of a block, or of a part of one.
@@ -106,15 +108,18 @@ pub fn cut_off(bytes: usize) -> FetchAnswer
     }
 }
 
-// Sets all rows and their marks to those in these bytes.
-fn put_rows(received: &mut Received, marks: &mut Marks, form: Form, bytes: &[u8])
-    requires { length bytes.now ≡ record_size form * 208 }
-    ensures { ArePut form bytes.now (received_rows received.new) (marks_rows marks.new) 208 }
+// Sets the rows that stand at recorded row `from` and the 103 behind it, and their marks, to those in these bytes.
+fn put_half(received: &mut Received, marks: &mut Marks, form: Form, from: usize, bytes: &[u8])
+    requires from { from ≤ 104 }
+    requires size { length bytes.now ≡ record_size form * 104 }
+    ensures { (before : List ℕ) → length before ≡ record_size form * from
+        → ArePut form before (received_rows received.old) (marks_rows marks.old) from
+        → ArePut form (before ++ bytes.now) (received_rows received.new) (marks_rows marks.new) (from + 104) }
 {
     let size = form.record_size();
-    for m in 0..208 {
+    for m in 0..HALF {
         let record = &bytes[size * m..size * m + size];
-        put_record(received, marks, m, form, record);
+        put_record(received, marks, from + m, form, record);
     }
 }
 
@@ -127,17 +132,5 @@ fn put_record(received: &mut Received, marks: &mut Marks, m: usize, form: Form, 
 {
     let i = row_of_record(m);
     received.set_row(i, &bytes[..182]);
-    put_marks(marks, i, form, bytes);
-}
-
-// Sets the marks of row `i` to those in a recorded row.
-fn put_marks(marks: &mut Marks, i: usize, form: Form, bytes: &[u8])
-    requires row { i < 208 }
-    requires size { length bytes.now ≡ record_size form }
-    ensures { marks_rows marks.new ≡ slice_set (marks_rows marks.old) i (marks_in form bytes.now) }
-{
-    match form {
-        Form::Plain | Form::Listed => marks.clear_row(i),
-        Form::Marked => marks.set_row(i, &bytes[182..]),
-    }
+    marks.set_record(i, form, bytes);
 }

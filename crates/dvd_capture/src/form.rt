@@ -23,7 +23,7 @@ impl Form {
     }
 
     /// The bytes of a recorded row.
-    pub(crate) fn record_size(self) -> usize
+    pub fn record_size(self) -> usize
         ensures { result ≡ record_size self }
     {
         match self {

@@ -18,7 +18,7 @@ pub use capture::{FetchAnswer, cut_off, fetch};
 pub use form::Form;
 pub use header::{Header, HeaderFault};
 pub use listed::write_listed;
-pub use row_marks::RowMarks;
+pub use row_marks::{RowMarks, SPREAD};
 pub use stage::Stage;
 pub use work::Work;
 

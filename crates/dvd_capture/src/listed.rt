@@ -30,18 +30,18 @@ pub fn write_listed<K: Sink>(work: &Work, out: &mut K) -> Result<(), WriteFault>
     ensures begun { OnErr result (AppendsPart (K.seen out.old).bytes (K.seen out.new).bytes (rows_of work.now) (marks_of_work work.now)) }
     ensures cause { HasCause (K.seen out.old) (K.seen out.new) result }
 {
-    see_rows(&work.received);
-    write_rows(work.received.rows(), out)?;
-    write_runs(&work.marks, out)
+    write_unit(work.received.rows(), &work.marks, out)
 }
 
-// Each received row has 182 bytes, which is known of those that were looked at.
-fn see_rows(received: &Received)
-    ensures { (i : ℕ) → i < 208 → length (line (received_rows received.now) i) ≡ 182 }
+// Writes the unit of these rows and marks.
+fn write_unit<K: Sink>(rows: &[[u8; 182]], marks: &Marks, out: &mut K) -> Result<(), WriteFault>
+    requires { length rows.now ≡ 208 }
+    ensures written { OnOk result (AppendsUnit (K.seen out.old).bytes (K.seen out.new).bytes rows.now (marks_rows marks.now)) }
+    ensures begun { OnErr result (AppendsPart (K.seen out.old).bytes (K.seen out.new).bytes rows.now (marks_rows marks.now)) }
+    ensures cause { HasCause (K.seen out.old) (K.seen out.new) result }
 {
-    for i in 0..208 {
-        let _first = received.row(i)[0];
-    }
+    write_rows(rows, out)?;
+    write_runs(marks, out)
 }
 
 // Writes the number of runs and then each run, behind the bytes of the rows, as one piece.

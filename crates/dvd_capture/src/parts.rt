@@ -4,8 +4,9 @@ ghost use Rattle.std.specs.List.{flat_map};
 ghost use Rattle.std.specs.declared.option.Option.TheVariants.{None};
 ghost use Rattle.coding.specs.Product.{line};
 ghost use Rattle.dvd_capture.specs.Inner.Listing.{IsFound};
-ghost use Rattle.dvd_capture.specs.MarkBits.{marks_of};
+ghost use Rattle.dvd_capture.specs.Captured.{marks_in, record_size};
 
+use crate::form::Form;
 use crate::row_marks::RowMarks;
 use dvd_ports::NoMemory;
 use rs_decode::Fix;
@@ -180,21 +181,13 @@ impl Marks {
         self.rows[i].set(j, mark);
     }
 
-    /// Sets the mark bits of row `i`, and nothing else.
-    pub(crate) fn set_row(&mut self, i: usize, bits: &[u8])
+    /// Sets the marks of row `i` to those in a recorded row by itself, and no others.
+    pub(crate) fn set_record(&mut self, i: usize, form: Form, record: &[u8])
         requires row { i < 208 }
-        requires size { length bits.now ≡ 23 }
-        ensures { marks_rows self.new ≡ slice_set (marks_rows self.old) i (marks_of bits.now) }
+        requires size { length record.now ≡ record_size form }
+        ensures { marks_rows self.new ≡ slice_set (marks_rows self.old) i (marks_in form record.now) }
     {
-        self.rows[i].copy_from_bits(bits);
-    }
-
-    /// Takes the marks of row `i` away, and no others.
-    pub(crate) fn clear_row(&mut self, i: usize)
-        requires { i < 208 }
-        ensures { marks_rows self.new ≡ slice_set (marks_rows self.old) i (replicate 182 false) }
-    {
-        self.rows[i] = RowMarks::none();
+        self.rows[i].copy_from_record(form, record);
     }
 
     /// Takes all marks away.

@@ -1,8 +1,18 @@
 //! The marks of one row.
-ghost use Rattle.std.specs.Prelude.{◌≡◌, ◌↔◌, ℕ, ◌<◌, ◌≤◌, ◌≢◌, ◌==◌, false, length, IsTrue, replicate, slice_index_or, slice_set};
+ghost use Rattle.std.specs.Prelude.{◌≡◌, ◌↔◌, ℕ, ◌+◌, ◌-◌, ◌<◌, ◌≤◌, ◌≢◌, ◌==◌, false, length, IsTrue, replicate, slice_index, slice_index_or, slice_set};
 ghost use Rattle.std.specs.Int.{bit_at};
+ghost use Rattle.dvd_capture.specs.Captured.{marks_in, record_size};
 ghost use Rattle.dvd_capture.specs.Inner.Listing.{IsFound};
-ghost use Rattle.dvd_capture.specs.MarkBits.{mark_at, marks_of};
+ghost use Rattle.dvd_capture.specs.MarkBits.{is_set, mark_at, marks_of};
+
+use crate::form::Form;
+use std::simd::prelude::*;
+
+/// A byte for each place of a row, and two that are spare, as a byte of mark bits has eight places.
+pub const SPREAD: usize = 184;
+
+// The bit of each of eight places in their byte of mark bits.
+const BITS: [u8; 8] = [0x80, 0x40, 0x20, 0x10, 0x08, 0x04, 0x02, 0x01];
 
 /// A mark for each of the 182 places of a row, a bit each: 23 bytes, of which the last two bits are spare. Two are equal
 /// where these bits are too.
@@ -56,9 +66,17 @@ impl RowMarks {
     pub fn unpack(&self, out: &mut [bool; 182])
         ensures { out.new ≡ marks_of_row self.now }
     {
+        let spread = self.spread();
         for (j, mark) in out.iter_mut().enumerate() {
-            *mark = is_marked(&self.bits, j);
+            *mark = spread[j] != 0;
         }
+    }
+
+    /// A byte for the mark of each place, 0 where it isn't marked. What the two spare bytes are isn't said.
+    pub fn spread(&self) -> [u8; SPREAD]
+        ensures { (j : ℕ) → j < 182 → is_set (slice_index result j) ≡ slice_index_or (marks_of_row self.now) j false }
+    {
+        spread_bits(&self.bits)
     }
 
     /// The 23 bytes of mark bits. What the two spare bits are isn't said.
@@ -74,6 +92,17 @@ impl RowMarks {
         ensures { marks_of_row self.new ≡ marks_of bits.now }
     {
         self.bits.copy_from_slice(bits);
+    }
+
+    /// Sets all marks to those in a recorded row by itself, which has mark bits in the marked form alone.
+    pub fn copy_from_record(&mut self, form: Form, record: &[u8])
+        requires { length record.now ≡ record_size form }
+        ensures { marks_of_row self.new ≡ marks_in form record.now }
+    {
+        match form {
+            Form::Plain | Form::Listed => *self = RowMarks::none(),
+            Form::Marked => self.copy_from_bits(&record[182..]),
+        }
     }
 }
 
@@ -109,6 +138,29 @@ fn next_mark(bits: &[u8; 23], from: usize, mark: bool) -> usize
         }
     }
     182
+}
+
+// A byte for each mark bit, 0 where the place isn't marked.
+fn spread_bits(bits: &[u8; 23]) -> [u8; SPREAD]
+    ensures { (j : ℕ) → j < 182 → is_set (slice_index result j) ≡ mark_at bits.now j }
+{
+    let mut marks = [0; SPREAD];
+    for k in 0..23 {
+        put_bits(bits[k], &mut marks, 8 * k);
+    }
+    marks
+}
+
+// Sets eight bytes from place `at` on: the first is 0 where the highest bit is, and so on.
+#[inline(always)]
+fn put_bits(bits: u8, marks: &mut [u8], at: usize)
+    requires { at + 8 ≤ length marks.old }
+    ensures size { length marks.new ≡ length marks.old }
+    ensures set { (k : ℕ) → k < 8 → is_set (slice_index marks.new (at + k)) ≡ (bit_at bits (7 - k) == 1) }
+    ensures below { (k : ℕ) → k < at → slice_index marks.new k ≡ slice_index marks.old k }
+{
+    let lanes = u8x8::splat(bits) & u8x8::from_array(BITS);
+    lanes.copy_to_slice(&mut marks[at..]);
 }
 
 // Sets it.

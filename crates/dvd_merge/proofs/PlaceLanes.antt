@@ -3,9 +3,10 @@ use Rattle.std.proofs.Common.{◌≡◌, ◌≢◌, ℕ, ◌<◌, ◌==◌, Bool
 use Rattle.std.specs.Simd.Lanes.{zip2, sel_l, top}
 use Rattle.std.proofs.lemmas.Bool.Decides.{eqb_tells}
 use Rattle.std.proofs.lemmas.Simd.{get_or-replicate, get_or-sel_l, get_or-zip2, length-sel_l, length-zip2, tops_compared}
+use Rattle.dvd_capture.specs.MarkBits.{is_set}
 use Rattle.dvd_merge.specs.Join.{byte_of, join, joined_mark, seen}
 use Rattle.dvd_merge.specs.Planes.{code_of, place_of}
-use Rattle.dvd_merge.specs.Inner.Rows.{HasLanes, is_set, is_unknown}
+use Rattle.dvd_merge.specs.Inner.Rows.{HasLanes, is_unknown}
 use Rattle.dvd_merge.specs.declared.place.Place.{Place}
 use Rattle.dvd_merge.specs.declared.place.Place.TheVariants.{Unseen, Value, Conflict}
 use Rattle.dvd_merge.proofs.Places.{Tells, conflict-join, join-apart, join-assoc, join-idem, join-same, join-unseen, unseen-join}

@@ -1,20 +1,13 @@
 -- Rows that are joined 32 places at a time.
-use Rattle.std.proofs.Common.{◌≡◌, ◌⊎◌, ℕ, zero, suc, ◌+◌, ◌-◌, ◌*◌, ◌/◌, ◌%◌, ◌^◌, ◌<◌, ◌≤◌, ◌==◌, Bool, true, false, List, [], ◌∷◌, length, get_or, replicate, inl, inr, refl, sym, ◌∙◌, ap, subst, arith, bit_and}
-use Rattle.std.specs.Simd.Lanes.{zip2}
-use Rattle.std.specs.Int.{bit_at}
+use Rattle.std.proofs.Common.{◌≡◌, ◌⊎◌, ℕ, ◌+◌, ◌-◌, ◌<◌, ◌≤◌, Bool, false, List, length, get_or, inl, inr, refl, sym, ◌∙◌, ap, subst, arith}
 use Rattle.std.proofs.lemmas.Bool.{cases_lt}
-use Rattle.std.proofs.lemmas.Bool.Decides.{eqb_tells}
-use Rattle.std.proofs.lemmas.List.FromFn.{get_or-map-range_with_len, length-map-range_with_len}
-use Rattle.std.proofs.lemmas.Nat.{pow_pos}
-use Rattle.std.proofs.lemmas.Nat.Bits.{and_pow, bit_at-lt}
-use Rattle.std.proofs.lemmas.Simd.{get_or-replicate, get_or-zip2, length-zip2}
-use Rattle.dvd_capture.specs.MarkBits.{mark_at, marks_of}
+use Rattle.std.proofs.lemmas.Simd.{get_or-zip2, length-zip2}
+use Rattle.dvd_capture.specs.MarkBits.{is_set}
 use Rattle.dvd_merge.specs.Join.{join, join_rows, seen, seen_row}
 use Rattle.dvd_merge.specs.Planes.{place_of, row_of}
-use Rattle.dvd_merge.specs.Inner.Rows.{AreJoined, HasPlaces, at_place, is_set, joined_at}
+use Rattle.dvd_merge.specs.Inner.Rows.{AreJoined, HasPlaces, at_place, joined_at}
 use Rattle.dvd_merge.specs.declared.place.Place.TheVariants.{Unseen}
 use Rattle.dvd_merge.proofs.PlaceLanes.{joined-again}
-use Rattle.dvd_merge.proofs.Places.{Tells}
 use Rattle.dvd_merge.proofs.Records.{row_taken}
 
 -- two planes agree with two others at a place
@@ -93,80 +86,3 @@ row-joined old_values old_codes values codes bytes spread marks ov oc nv nc nb n
     (λ k below.
     row-place values codes k (omega (arith, below, nv)) (omega (arith, below, nc)) ∙ each k below
     ∙ (λ i. join (sym (row-place old_values old_codes k (omega (arith, below, ov)) (omega (arith, below, oc))) i) (seen (get_or bytes k 0) (same k below i))))
-
--- a byte that isn't 0 marks its place
-is_set-some : (byte : ℕ) → 0 < byte → is_set byte ≡ true
-is_set-some byte some = by_cases (eqb_tells byte 0)
-  where
-    by_cases : Tells byte 0 → is_set byte ≡ true
-    by_cases (inl is) = absurd (omega (arith, some, is.1))
-    by_cases (inr is) = rw is.0 refl
-
--- the mark of a place, and its bit in a byte of its own
-pub mark-spread : (byte place : ℕ) → is_set (bit_and byte (2 ^ place)) ≡ (bit_at byte place == 1)
-mark-spread byte place = ap is_set (and_pow byte place) ∙ by_bit (bit_at byte place) (bit_at-lt byte place)
-  where
-    some : (bit : ℕ) → bit < 2 → (bit ≡ 0) ⊎ (bit ≡ 1)
-    some bit few = elim (cases_lt bit 1) [ inl low ↦ inl (omega (arith, low)) | inr high ↦ inr (omega (arith, high, few)) ]
-
-    never : 0 * 2 ^ place ≡ 0
-    never = omega arith
-
-    once : 1 * 2 ^ place ≡ 2 ^ place
-    once = omega arith
-
-    by_case : (bit : ℕ) → (bit ≡ 0) ⊎ (bit ≡ 1) → is_set (bit * 2 ^ place) ≡ (bit == 1)
-    by_case bit (inl none) = subst (λ b. is_set (b * 2 ^ place) ≡ (b == 1)) (sym none) (ap is_set never)
-    by_case bit (inr one) = subst (λ b. is_set (b * 2 ^ place) ≡ (b == 1)) (sym one) (ap is_set once ∙ is_set-some (2 ^ place) (pow_pos place))
-
-    by_bit : (bit : ℕ) → bit < 2 → is_set (bit * 2 ^ place) ≡ (bit == 1)
-    by_bit bit few = by_case bit (some bit few)
-
--- the bits of eight places, the first the highest
-abbrev eight_bits : List ℕ
-eight_bits = 128 ∷ 64 ∷ 32 ∷ 16 ∷ 8 ∷ 4 ∷ 2 ∷ 1 ∷ []
-
--- bit i of them
-bit-of_place : (i : ℕ) → i < 8 → get_or eight_bits i 0 ≡ 2 ^ (7 - i)
-bit-of_place zero below = refl
-bit-of_place (suc zero) below = refl
-bit-of_place (suc (suc zero)) below = refl
-bit-of_place (suc (suc (suc zero))) below = refl
-bit-of_place (suc (suc (suc (suc zero)))) below = refl
-bit-of_place (suc (suc (suc (suc (suc zero))))) below = refl
-bit-of_place (suc (suc (suc (suc (suc (suc zero)))))) below = refl
-bit-of_place (suc (suc (suc (suc (suc (suc (suc zero))))))) below = refl
-bit-of_place (suc (suc (suc (suc (suc (suc (suc (suc i)))))))) below = absurd (omega (arith, below))
-
--- the bit of a place in its byte, chosen by its lane
-pub lane-bit : (byte i : ℕ) → i < 8 → is_set (get_or (zip2 bit_and (replicate 8 byte) eight_bits) i 0) ≡ (bit_at byte (7 - i) == 1)
-lane-bit byte i few =
-    ap is_set (get_or-zip2 bit_and (replicate 8 byte) eight_bits i 0 0 0 (omega (arith, few)) (omega (arith, few)))
-    ∙ (λ j. is_set (bit_and (get_or-replicate 8 i byte 0 few j) (bit-of_place i few j)))
-    ∙ mark-spread byte (7 - i)
-
--- the marks of eight places more, a byte for each
-pub spread-more : (bits marks new_marks : List ℕ) (k : ℕ) → ((q : ℕ) → q < 8 * k → is_set (get_or marks q 0) ≡ mark_at bits q)
-    → ((q : ℕ) → q < 8 * k → get_or new_marks q 0 ≡ get_or marks q 0)
-    → ((i : ℕ) → i < 8 → is_set (get_or new_marks (8 * k + i) 0) ≡ (bit_at (get_or bits k 0) (7 - i) == 1))
-    → (q : ℕ) → q < 8 * (k + 1) → is_set (get_or new_marks q 0) ≡ mark_at bits q
-spread-more bits marks new_marks k before same set q below = elim (cases_lt q (8 * k)) [
-  | inl low ↦ ap is_set (same q low) ∙ before q low
-  | inr high ↦ here (q - 8 * k) (omega (arith, below, high)) (omega (arith, high))
-]
-  where
-    here : (i : ℕ) → i < 8 → 8 * k + i ≡ q → is_set (get_or new_marks q 0) ≡ mark_at bits q
-    here i few whole =
-        let byte : k ≡ q / 8 = omega (arith, few, whole) in
-        let place : 7 - i ≡ 7 - q % 8 = omega (arith, few, whole) in
-        ap (λ m. is_set (get_or new_marks m 0)) (sym whole) ∙ set i few ∙ (λ j. bit_at (get_or bits (byte j) 0) (place j) == 1)
-
--- a row has 182 marks
-pub length-marks_of : (bits : List ℕ) → length (marks_of bits) ≡ 182
-unfolding marks_of
-length-marks_of bits = length-map-range_with_len (mark_at bits) 0 182
-
--- and each stands at its place
-pub marks_of-at : (bits : List ℕ) (k : ℕ) → k < 182 → get_or (marks_of bits) k false ≡ mark_at bits k
-unfolding marks_of
-marks_of-at bits k below = get_or-map-range_with_len (mark_at bits) 0 182 k k false below (omega arith)

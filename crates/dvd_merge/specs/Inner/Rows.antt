@@ -1,12 +1,9 @@
 -- Rows that are joined lane by lane.
-use Rattle.std.specs.Prelude.{◌≡◌, ℕ, ◌+◌, ◌<◌, ◌==◌, ◌≤◌, Bool, true, false, not, if◌then◌else◌, List, length, slice_index}
+use Rattle.std.specs.Prelude.{◌≡◌, ℕ, ◌+◌, ◌<◌, ◌==◌, ◌≤◌, Bool, not, List, length, slice_index}
+use Rattle.dvd_capture.specs.MarkBits.{is_set}
 use Rattle.dvd_merge.specs.Join.{join, seen}
 use Rattle.dvd_merge.specs.Planes.{place_of}
 use Rattle.dvd_merge.specs.declared.place.Place.{Place}
-
--- whether a byte says that a place is marked
-abbrev pub is_set : ℕ → Bool
-is_set byte = if byte == 0 then false else true
 
 -- whether a code says that no one byte is known of a place
 abbrev pub is_unknown : ℕ → Bool

@@ -1,9 +1,10 @@
 -- The proof of `take_row` in src/row.rt.
 use Rattle.std.proofs.Common.{◌≡◌, ◌∙◌, Bool, false, List, get_or, replicate, sym, ap, arith}
 use Rattle.std.proofs.lemmas.Simd.{get_or-replicate}
+use Rattle.dvd_capture.specs.MarkBits.{is_set}
 use Rattle.dvd_capture.specs.Parts.{marks_of_row}
-use Rattle.dvd_merge.specs.Inner.Rows.{is_set}
-use Rattle.dvd_merge.proofs.Rows.{length-marks_of, marks_of-at, row-joined}
+use Rattle.dvd_capture.proofs.MarkLists.{length-marks_of}
+use Rattle.dvd_merge.proofs.Rows.{row-joined}
 use Rattle.dvd_merge.proofs.row.take_row.Goals as goal
 
 pub returns-then-is_clear : goal.returns-then-is_clear
@@ -18,7 +19,5 @@ pub returns-else-is_clear : goal.returns-else-is_clear
 returns-else-is_clear c =
     row-joined c.args.values.now c.args.codes.now c.join_row-else-is_clear.new.values c.join_row-else-is_clear.new.codes c.args.bytes.now c.spread.result (marks_of_row c.args.marks.now)
     c.told-values c.told-codes c.join_row-else-is_clear.array_long c.join_row-else-is_clear.array_long2 c.told-bytes (length-marks_of c.args.marks.now.bits)
-    (λ k below.
-    c.spread.ensures k below ∙ sym (marks_of-at c.bits.result.now k below)
-    ∙ ap (λ (marks : List Bool). get_or marks k false) (sym c.bits.ensures))
+    c.spread.ensures
     c.join_row-else-is_clear.ensures

@@ -1,8 +1,8 @@
--- What each turn of the loop in `spread` keeps.
+-- What each turn of the loop in `spread_bits` keeps.
 use Rattle.std.proofs.Common.{◌≡◌, ℕ, ◌*◌, ◌<◌, length, get_or}
 use Rattle.dvd_capture.specs.MarkBits.{mark_at}
-use Rattle.dvd_merge.specs.Inner.Rows.{is_set}
-use Rattle.dvd_merge.proofs.row.spread.Given as goal
+use Rattle.dvd_capture.specs.MarkBits.{is_set}
+use Rattle.dvd_capture.proofs.row_marks.spread_bits.Given as goal
 
 abbrev pub invariant-loop-k : goal.invariant-loop-k
 invariant-loop-k l = record {

@@ -1,7 +1,7 @@
--- The proof of `spread` in src/row.rt.
+-- The proof of `spread_bits` in src/row_marks.rt.
 use Rattle.std.proofs.Common.{◌∙◌, arith}
-use Rattle.dvd_merge.proofs.Rows.{spread-more}
-use Rattle.dvd_merge.proofs.row.spread.Goals as goal
+use Rattle.dvd_capture.proofs.SpreadMarks.{spread-more}
+use Rattle.dvd_capture.proofs.row_marks.spread_bits.Goals as goal
 
 pub loop-k-preserved : goal.loop-k-preserved
 loop-k-preserved c = record {
