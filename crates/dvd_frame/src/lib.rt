@@ -15,7 +15,9 @@ mod scrambling; // which Main Data bytes are combined with which bytes
 pub use checks::{edc, ied};
 pub use frame::{make_frame, make_frame_with};
 pub use id::{Area, Id};
-pub use reading::{FrameCause, found_id, has_right_ied, read_frame, read_frame_with};
+pub use reading::{
+    FrameCause, found_id, has_right_ied, read_frame, read_frame_into, read_frame_with,
+};
 pub use scrambling::{Keystream, Rule, Scrambler, preset, scramble};
 
 #[cfg(test)]

@@ -1,8 +1,8 @@
 //! A data frame that was read: its checks, and its Main Data unscrambled (ECMA-267, 16 and 17).
-ghost use Rattle.std.specs.Prelude.{◌≡◌, ◌≤◌, ◌++◌, length, take, drop};
+ghost use Rattle.std.specs.Prelude.{◌≡◌, ◌≤◌, ◌++◌, None, Some, length, take, drop, IfErr, OnOk};
 ghost use Rattle.std.specs.Str.{bytes_eq};
 ghost use Rattle.dvd_frame.specs.Edc.{edc_of};
-ghost use Rattle.dvd_frame.specs.Frame.{IsFrameRead, found_word};
+ghost use Rattle.dvd_frame.specs.Frame.{IsFrameRead, found_word, frame_cause, main_in};
 ghost use Rattle.dvd_frame.specs.Scrambling.{masked};
 ghost use Rattle.dvd_frame.specs.Id.{has_check};
 
@@ -41,7 +41,6 @@ pub fn read_frame(
 }
 
 /// Reads a frame as `read_frame` does, with scrambling bytes that are kept from one frame to the next.
-#[tactic(auto, using(std::proofs::lemmas::Bool::Decides::nat_tests), unfolding(crate::specs::Frame::frame_cause))]
 pub fn read_frame_with(
     scrambler: &mut Scrambler,
     frame: &[u8; 2064],
@@ -51,6 +50,26 @@ pub fn read_frame_with(
 ) -> Result<(), FrameCause>
     ensures { IsFrameRead frame.now want rule out.old out.new result }
 {
+    // Read apart and then moved, since `out` stays as it is after a cause.
+    let mut main = [0; 2048];
+    read_frame_into(scrambler, frame, want, rule, &mut main)?;
+    *out = main;
+    Ok(())
+}
+
+/// Reads a frame as `read_frame_with` does, where it stands: what `out` is after a cause isn't said.
+#[tactic(auto, using(std::proofs::lemmas::Bool::Decides::nat_tests), unfolding(crate::specs::Frame::frame_cause))]
+pub fn read_frame_into(
+    scrambler: &mut Scrambler,
+    frame: &[u8; 2064],
+    want: Id,
+    rule: Rule,
+    out: &mut [u8; 2048],
+) -> Result<(), FrameCause>
+    ensures refused { IfErr result (λ cause. frame_cause frame.now want rule ≡ Some cause) }
+    ensures right { OnOk result (frame_cause frame.now want rule ≡ None) }
+    ensures main { OnOk result (out.new ≡ main_in frame.now rule) }
+{
     if !has_right_ied(frame) {
         return Err(FrameCause::Ied);
     }
@@ -58,13 +77,10 @@ pub fn read_frame_with(
     if !id.same_place(want) {
         return Err(FrameCause::Address { found: id.word() });
     }
-    let mut main = [0; 2048];
-    unscramble(scrambler, frame, id, rule, &mut main);
-    if !has_right_edc(frame, &main) {
+    unscramble(scrambler, frame, id, rule, out);
+    if !has_right_edc(frame, out) {
         return Err(FrameCause::Edc);
     }
-    // Moved a second time, since `out` stays as it is until the EDC was tried.
-    *out = main;
     Ok(())
 }
 

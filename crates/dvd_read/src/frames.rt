@@ -15,7 +15,7 @@ use crate::columns::read_row;
 use dvd_capture::parts::{AnswerRow, ColumnAnswer, Received, Sectors};
 use dvd_capture::{Stage, Work};
 use dvd_decoding::Cause;
-use dvd_frame::{FrameCause, Scrambler, read_frame, read_frame_with};
+use dvd_frame::{FrameCause, Scrambler, read_frame_into};
 use dvd_layout::{BlockPlan, id_of, rule_of};
 
 /// Checks the sixteen data frames of a block that two passes fixed, as those of an entry of a plan, and sets the sectors to
@@ -104,7 +104,7 @@ fn read_frames(
         let want = id_of(plan, false, f);
         let rule = rule_of(plan.content, f);
         let main = sectors.sector_mut(f);
-        if let Err(cause) = read_frame_with(&mut scrambler, &frame, want, rule, main) {
+        if let Err(cause) = read_frame_into(&mut scrambler, &frame, want, rule, main) {
             return Err(cause_of(f as u8, cause));
         }
     }
@@ -127,8 +127,9 @@ pub fn read_frame_at(
 {
     let mut frame = [0; 2064];
     copy_received(rows, f, &mut frame);
+    let want = id_of(plan, false, f);
     let rule = rule_of(plan.content, f);
-    match read_frame(&frame, id_of(plan, false, f), rule, main) {
+    match read_frame_into(&mut Scrambler::new(), &frame, want, rule, main) {
         Ok(()) => Ok(()),
         Err(cause) => Err(cause_of(f as u8, cause)),
     }

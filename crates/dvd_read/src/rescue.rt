@@ -2,7 +2,7 @@
 ghost use Rattle.std.specs.Prelude.{◌≡◌, ◌<◌, ◌↔◌, IsTrue, true, length, map, not, replicate, Some, is_some, unwrap_or};
 ghost use Rattle.coding.specs.TwoPass.{answers_of};
 ghost use Rattle.dvd_capture.specs.Rule.{HasAnswers};
-ghost use Rattle.dvd_capture.specs.Parts.{sector_bytes};
+ghost use Rattle.dvd_capture.specs.Parts.{answer_rows, column_answers, sector_bytes};
 ghost use Rattle.dvd_capture.specs.Works.{marks_of_work, rows_of, sectors_of, stage_of};
 ghost use Rattle.dvd_layout.specs.Place.{HasNumbers};
 ghost use Rattle.dvd_read.specs.Parts.{answer_word};
@@ -12,10 +12,34 @@ ghost use Rattle.dvd_decoding.specs.Salvage.{block_out, candidate, rescued, save
 ghost use Rattle.dvd_read.specs.Inner.Saved.{answered_block, frames_saved, lacks_row, sectors_saved};
 
 use crate::frames::{copy_frame, put_front};
-use dvd_capture::parts::{AnswerRow, ColumnAnswer, Sectors};
+use dvd_capture::parts::{AnswerRow, Answers, ColumnAnswer, Columns, Sectors};
 use dvd_capture::{Stage, Work};
-use dvd_frame::read_frame;
+use dvd_frame::{Scrambler, read_frame_into};
 use dvd_layout::{BlockPlan, id_of, rule_of};
+
+// Of what frames are saved: the columns, where they hold the block that two passes fixed, or else the rows' answers.
+#[derive(Drop)]
+struct Held<'a> {
+    fixed: bool,
+    columns: &'a [ColumnAnswer],
+    answers: &'a [AnswerRow],
+}
+
+impl<'a> Held<'a> {
+    // Those of a block at this stage.
+    fn new(stage: Stage, columns: &'a Columns, answers: &'a Answers) -> Held<'a>
+        ensures fixed { IsTrue result.fixed ↔ stage ≡ Stage.Fixed }
+        ensures columns { result.columns.now ≡ column_answers columns.now }
+        ensures answers { result.answers.now ≡ answer_rows answers.now }
+        ensures width { length result.columns.now ≡ 182 }
+    {
+        Held {
+            fixed: stage == Stage::Fixed,
+            columns: columns.all(),
+            answers: answers.rows(),
+        }
+    }
+}
 
 /// Saves the data frames that can be known to be right, as those of an entry of a plan: of the block that two passes fixed,
 /// or, where they refused it, of the rows' answers. Each sector is then the unscrambled Main Data of its frame, or zeros
@@ -33,13 +57,8 @@ pub fn salvage(work: &mut Work, plan: &BlockPlan) -> u8
     ensures answers { work.new.answers ≡ work.old.answers }
     ensures columns { work.new.columns ≡ work.old.columns }
 {
-    save_frames(
-        is_fixed(work),
-        work.columns.all(),
-        work.answers.rows(),
-        plan,
-        &mut work.sectors,
-    )
+    let held = Held::new(work.stage(), &work.columns, &work.answers);
+    save_frames(&held, plan, &mut work.sectors)
 }
 
 /// Writes the unscrambled Main Data of one data frame if it can be known to be right, as `salvage` does for all sixteen, or
@@ -51,56 +70,45 @@ pub fn salvage_frame(work: &Work, plan: &BlockPlan, f: usize, main: &mut [u8; 20
     ensures main { main.new ≡ unwrap_or (rescued (answers_of (rows_of work.now) (marks_of_work work.now)) plan.now f) (replicate 2048 0) }
     ensures saved { result ≡ is_some (rescued (answers_of (rows_of work.now) (marks_of_work work.now)) plan.now f) }
 {
-    let columns = work.columns.all();
-    let answers = work.answers.rows();
-    save_frame(is_fixed(work), columns, answers, plan, f, main)
+    let held = Held::new(work.stage(), &work.columns, &work.answers);
+    let mut frame = [0; 2064];
+    save_frame(&held, plan, f, &mut Scrambler::new(), &mut frame, main)
 }
 
-// Whether the columns hold the block that two passes fixed.
-fn is_fixed(work: &Work) -> bool
-    ensures { IsTrue result ↔ stage_of work.now ≡ Stage.Fixed }
-{
-    work.stage() == Stage::Fixed
-}
-
-// Saves the frames of the columns' block where that was fixed, or else of the rows' answers.
-fn save_frames(
-    fixed: bool,
-    columns: &[ColumnAnswer],
-    answers: &[AnswerRow],
-    plan: &BlockPlan,
-    sectors: &mut Sectors,
-) -> u8
-    requires held { HoldAnswers fixed columns.now answers.now }
+// Saves the frames of the columns' block where that was fixed, or else of the rows' answers. Each is read where it stands.
+fn save_frames(held: &Held<'_>, plan: &BlockPlan, sectors: &mut Sectors) -> u8
+    requires held { HoldAnswers held.now.fixed held.now.columns.now held.now.answers.now }
     requires numbers { HasNumbers plan.now }
-    ensures out { sector_bytes sectors.new ≡ sectors_saved (map answer_word answers.now) plan.now }
-    ensures saved { result ≡ frames_saved (map answer_word answers.now) plan.now }
+    ensures out { sector_bytes sectors.new ≡ sectors_saved (map answer_word held.now.answers.now) plan.now }
+    ensures saved { result ≡ frames_saved (map answer_word held.now.answers.now) plan.now }
 {
+    // The frames of a block have one preset.
+    let mut scrambler = Scrambler::new();
+    let mut frame = [0; 2064];
     let mut saved = 0;
-    let mut main = [0; 2048];
     for f in 0..16usize {
-        saved += u8::from(save_frame(fixed, columns, answers, plan, f, &mut main));
-        sectors.set(f, &main);
+        let main = sectors.sector_mut(f);
+        saved += u8::from(save_frame(held, plan, f, &mut scrambler, &mut frame, main));
     }
     saved
 }
 
 // Writes the Main Data of frame `f` if it is rescued, or else zeros. Answers whether it is.
 fn save_frame(
-    fixed: bool,
-    columns: &[ColumnAnswer],
-    answers: &[AnswerRow],
+    held: &Held<'_>,
     plan: &BlockPlan,
     f: usize,
+    scrambler: &mut Scrambler,
+    frame: &mut [u8; 2064],
     main: &mut [u8; 2048],
 ) -> bool
-    requires held { HoldAnswers fixed columns.now answers.now }
+    requires held { HoldAnswers held.now.fixed held.now.columns.now held.now.answers.now }
     requires numbers { HasNumbers plan.now }
     requires frame { f < 16 }
-    ensures main { main.new ≡ unwrap_or (rescued (map answer_word answers.now) plan.now f) (replicate 2048 0) }
-    ensures saved { result ≡ is_some (rescued (map answer_word answers.now) plan.now f) }
+    ensures main { main.new ≡ unwrap_or (rescued (map answer_word held.now.answers.now) plan.now f) (replicate 2048 0) }
+    ensures saved { result ≡ is_some (rescued (map answer_word held.now.answers.now) plan.now f) }
 {
-    let saved = read_candidate(fixed, columns, answers, plan, f, main);
+    let saved = read_candidate(held, plan, f, scrambler, frame, main);
     if !saved {
         *main = [0; 2048];
     }
@@ -109,43 +117,36 @@ fn save_frame(
 
 // Writes the Main Data of the candidate of frame `f`, if it has one without a cause. Answers whether it has.
 fn read_candidate(
-    fixed: bool,
-    columns: &[ColumnAnswer],
-    answers: &[AnswerRow],
+    held: &Held<'_>,
     plan: &BlockPlan,
     f: usize,
+    scrambler: &mut Scrambler,
+    frame: &mut [u8; 2064],
     main: &mut [u8; 2048],
 ) -> bool
-    requires held { HoldAnswers fixed columns.now answers.now }
+    requires held { HoldAnswers held.now.fixed held.now.columns.now held.now.answers.now }
     requires numbers { HasNumbers plan.now }
     requires frame { f < 16 }
-    ensures main { result ≡ true → rescued (map answer_word answers.now) plan.now f ≡ Some main.new }
-    ensures saved { result ≡ is_some (rescued (map answer_word answers.now) plan.now f) }
+    ensures main { result ≡ true → rescued (map answer_word held.now.answers.now) plan.now f ≡ Some main.new }
+    ensures saved { result ≡ is_some (rescued (map answer_word held.now.answers.now) plan.now f) }
 {
-    let mut frame = [0; 2064];
     let rule = rule_of(plan.content, f);
-    copy_candidate(fixed, columns, answers, f, &mut frame)
-        && read_frame(&frame, id_of(plan, false, f), rule, main).is_ok()
+    copy_candidate(held, f, frame)
+        && read_frame_into(scrambler, frame, id_of(plan, false, f), rule, main).is_ok()
 }
 
 // Writes the candidate of frame `f`, if it has one. Answers whether it has.
-fn copy_candidate(
-    fixed: bool,
-    columns: &[ColumnAnswer],
-    answers: &[AnswerRow],
-    f: usize,
-    frame: &mut [u8; 2064],
-) -> bool
-    requires held { HoldAnswers fixed columns.now answers.now }
+fn copy_candidate(held: &Held<'_>, f: usize, frame: &mut [u8; 2064]) -> bool
+    requires held { HoldAnswers held.now.fixed held.now.columns.now held.now.answers.now }
     requires frame { f < 16 }
-    ensures candidate { result ≡ true → candidate (map answer_word answers.now) f ≡ Some frame.new }
-    ensures has { result ≡ is_some (candidate (map answer_word answers.now) f) }
+    ensures candidate { result ≡ true → candidate (map answer_word held.now.answers.now) f ≡ Some frame.new }
+    ensures has { result ≡ is_some (candidate (map answer_word held.now.answers.now) f) }
 {
-    if fixed {
-        copy_frame(columns, f, frame);
+    if held.fixed {
+        copy_frame(held.columns, f, frame);
         true
     } else {
-        copy_answered(answers, f, frame)
+        copy_answered(held.answers, f, frame)
     }
 }
 

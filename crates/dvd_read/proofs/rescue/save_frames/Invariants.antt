@@ -7,7 +7,7 @@ use Rattle.dvd_read.proofs.rescue.save_frames.Given as goal
 
 abbrev pub invariant-loop-f : goal.invariant-loop-f
 invariant-loop-f l = record {
-  counted : l.saved ≡ saved_before (map answer_word l.answers) l.plan l.f;
+  counted : l.saved ≡ saved_before (map answer_word l.held.answers.now) l.plan l.f;
   few : l.saved ≤ l.f;
-  sectors : AreSavedBefore (map answer_word l.answers) l.plan (sector_bytes l.sectors) l.f;
+  sectors : AreSavedBefore (map answer_word l.held.answers.now) l.plan (sector_bytes l.sectors) l.f;
 }
