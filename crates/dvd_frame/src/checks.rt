@@ -27,6 +27,7 @@ pub fn ied(id: Id) -> [u8; 2]
 
 /// The EDC of a list of bytes of any length: the remainder of its bits, as a polynomial times x^32,
 /// by x^32 + x^31 + x^4 + 1, most significant byte first.
+#[inline(always)]
 pub fn edc(bytes: &[u8]) -> [u8; 4]
     ensures { result ≡ edc_of bytes.now }
 {
@@ -34,6 +35,7 @@ pub fn edc(bytes: &[u8]) -> [u8; 4]
 }
 
 /// The EDC of two lists of bytes, as if the second stood behind the first.
+#[inline(always)]
 pub(crate) fn edc_of_parts(front: &[u8], back: &[u8]) -> [u8; 4]
     ensures { result ≡ edc_of (front.now ++ back.now) }
 {
@@ -44,6 +46,7 @@ pub(crate) fn edc_of_parts(front: &[u8], back: &[u8]) -> [u8; 4]
 }
 
 // The remainder of two lists of bytes, as if the second stood behind the first.
+#[inline(always)]
 fn divide_parts(front: &[u8], back: &[u8]) -> u32
     ensures { divided_from result [] ≡ divided_from 0 (front.now ++ back.now) }
 {
@@ -54,7 +57,9 @@ fn divide_parts(front: &[u8], back: &[u8]) -> u32
 }
 
 // The remainder of at most 2,080 bytes, as many as 65 chunks of 32: zeros in front of them change nothing. Four folds by
-// vectors leave the last 128 bytes to divide.
+// vectors leave the last 128 bytes to divide. All is inlined from `edc` on: where the lengths are known, no byte of the buffer
+// is blanked but those in front.
+#[inline(always)]
 fn folded(front: &[u8], back: &[u8]) -> u32
     requires { length front.now + length back.now ≤ 2080 }
     ensures { divided_from result [] ≡ divided_from 0 (front.now ++ back.now) }
