@@ -1,5 +1,5 @@
 -- Rows without marks to which bytes are added: their values, and the places where they differ from the received row.
-use Rattle.std.proofs.Common.{◌≡◌, ℕ, zero, suc, ◌+◌, ◌-◌, ◌<◌, ◌≤◌, Bool, true, false, not, ◌==◌, if◌then◌else◌, inl, inr, List, [], ◌∷◌, length, length-set, get_or, get_or-take, set, take, replicate, All, refl, sym, ap, ◌∙◌, arith}
+use Rattle.std.proofs.Common.{◌≡◌, ℕ, zero, suc, ◌+◌, ◌-◌, ◌<◌, ◌≤◌, Bool, false, not, ◌==◌, if◌then◌else◌, inl, inr, List, [], ◌∷◌, length, length-set, get_or, get_or-take, set, take, replicate, All, refl, sym, ap, ◌∙◌, arith}
 use Rattle.std.proofs.lemmas.Bool.{cases_eq}
 use Rattle.std.proofs.lemmas.Bool.Decides.{nat_tests}
 use mir.Val.{bool_byte}
@@ -55,11 +55,6 @@ values-next received row after sums next place byte k size inside after_is befor
     ∙ ap (λ v. plus v more) before
     ∙ plus-assoc (value received x) (get_or sums k 0) more
     ∙ ap (plus (value received x)) (sym next_is)
-
--- what isn't not so is so
-pub unnegated : (b : Bool) → not b ≡ false → b ≡ true
-unnegated true is = refl
-unnegated false is = cc
 
 -- the marks of a row that has none
 abbrev pub clear : ℕ → List Bool

@@ -1,5 +1,5 @@
 //! What is proposed for 32 rows, and the test of it.
-ghost use Rattle.std.specs.Prelude.{◌≡◌, ℕ, ◌-◌, ◌<◌, false, length, replicate, slice_index, IfSome};
+ghost use Rattle.std.specs.Prelude.{◌≡◌, ℕ, ◌-◌, ◌<◌, false, length, replicate, slice_index, take, IfSome, IsTrue};
 ghost use Rattle.coding.specs.Field.{alpha, plus, power, product};
 ghost use Rattle.coding.specs.Words.{IsNear};
 ghost use Rattle.coding.specs.Filling.{marked};
@@ -81,7 +81,7 @@ impl Proposals {
             errors = add_at(received, row, place, self.bytes[k][n], errors);
             sums = with_byte(sums, place, self.bytes[k][n]);
         }
-        if sums.to_array()[..10] != syndromes[..] {
+        if !begin_with(sums, syndromes) {
             return None;
         }
         Some(Fix { errors, erased: 0 })
@@ -108,4 +108,19 @@ fn with_byte(sums: u8x16, place: usize, byte: u8) -> u8x16
         → slice_index result k ≡ plus (slice_index sums k) (product byte (power (power alpha k) (181 - place))) }
 {
     sums ^ scaled(powers(181 - place), byte)
+}
+
+// Whether the first sums are these syndromes. No branch hangs on one of them, so that all are compared at once.
+#[inline(always)]
+fn begin_with(sums: u8x16, syndromes: &[u8]) -> bool
+    requires lanes { length sums ≡ 16 }
+    requires size { length syndromes.now ≡ 10 }
+    ensures { IsTrue result → take 10 sums ≡ syndromes.now }
+{
+    let sums = sums.to_array();
+    let mut differences = 0;
+    for k in 0..10 {
+        differences |= sums[k] ^ syndromes[k];
+    }
+    differences == 0
 }

@@ -2,13 +2,13 @@
 use Rattle.std.proofs.Common.{◌≡◌, ℕ, false, length, length-set, replicate, take, All, sym, ap, subst, ◌∙◌, arith}
 use Rattle.std.proofs.lemmas.List.Elements.{All-from_get_or}
 use Rattle.std.proofs.lemmas.Simd.{get_or-replicate}
-use Rattle.std.specs.Cmp.Lexicographic.{bytes_decides}
 use Rattle.coding.specs.Field.{alpha, plus, power}
 use Rattle.coding.specs.Words.{IsByte, value}
 use Rattle.gf_field.proofs.FieldLaws.{plus-zero}
+use Rattle.rs_code.proofs.Syndromes.{length-syndromes_of}
 use Rattle.rs_decode.proofs.Counting.{error_count-self}
 use Rattle.rs_decode.proofs.Marks.{byte-added}
-use Rattle.rs_propose.proofs.AddedBytes.{believed, marked-clear, unnegated, values-next}
+use Rattle.rs_propose.proofs.AddedBytes.{believed, marked-clear, values-next}
 use Rattle.rs_propose.proofs.proposals.Proposals.believe.Goals as goal
 
 pub loop-k-init : goal.loop-k-init
@@ -36,10 +36,13 @@ loop-k-preserved c =
       few = omega (arith, c.add_at-errors.ensures.few, before.few);
     }
 
+pub begin_with-requires-clause-size : goal.begin_with-requires-clause-size
+begin_with-requires-clause-size c = ap length c.requires.syndromes ∙ length-syndromes_of 10 c.args.received.now
+
 pub returns-clause-near : goal.returns-clause-near
 returns-clause-near c =
     let last = c.loop-k.invariant in
-    let same : take 10 c.loop-k.sums ≡ c.args.syndromes.now = (bytes_decides (take 10 c.loop-k.sums) c.args.syndromes.now).0 (unnegated _ (sym c.ne.ensures ∙ c.if-ne.false)) in
+    let same : take 10 c.loop-k.sums ≡ c.args.syndromes.now = c.begin_with.ensures c.if-not-begin_with.false in
     believed c.args.received.now c.loop-k.row c.loop-k.sums c.args.syndromes.now c.loop-k.errors c.told-received last.size last.bytes last.values
     c.requires.syndromes same last.counted (omega (arith, last.few))
 
