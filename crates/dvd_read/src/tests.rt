@@ -140,6 +140,18 @@ fn sixteen_lost_rows_are_filled_and_seventeen_are_not(rt: HostRuntime) -> Result
 }
 
 #[test]
+fn lost_rows_that_hold_noise_are_filled(rt: HostRuntime) -> Result<(), Fail> {
+    let mut work = zero_block(rt.alloc())?;
+    for t in 0..16usize {
+        for j in 0..182usize {
+            put(&mut work, 13 * t, j, ((7 * t + j) % 256) as u8 | 1, true);
+        }
+    }
+    assert_eq!(rt; decode(&mut work), fixed(16 * 182, 16));
+    Ok(())
+}
+
+#[test]
 fn eight_rows_of_another_codeword_are_fixed(rt: HostRuntime) -> Result<(), Fail> {
     let mut work = eight_rows(rt.alloc())?;
     assert_eq!(rt; decode(&mut work), fixed(88, 0));
