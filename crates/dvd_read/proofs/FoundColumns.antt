@@ -76,8 +76,8 @@ words-found answers columns size are none =
     ∙ sym (get_or-map (λ column. unwrap_or column []) (columns_of answers) j None [] (omega (arith, length-columns_of answers)))))
 
 -- so where at most sixteen rows failed, all rows of the columns' words vanish if those do that didn't fail
-pub rows_all-vanish : (answers : List (Option (List ℕ))) (columns : List ColumnAnswer) → length answers ≡ 208 → length columns ≡ 182 → AreColumns answers columns
-    → marked (failed_of answers) ≤ 16 → position (λ (column : ColumnAnswer). not column.answered) columns ≡ None
+pub rows_all-vanish : (answers : List (Option (List ℕ))) (columns : List ColumnAnswer) → length answers ≡ 208 → length columns ≡ 182
+    → AreColumns answers columns → marked (failed_of answers) ≤ 16 → position (λ (column : ColumnAnswer). not column.answered) columns ≡ None
     → ((i : ℕ) → i < 208 → get_or (failed_of answers) i false ≡ false → vanishes_at_all 10 (line (from_columns (words_of_columns columns)) i) ≡ true)
     → (i : ℕ) → i < 208 → vanishes_at_all 10 (line (from_columns (words_of_columns columns)) i) ≡ true
 rows_all-vanish answers columns answers_size size are few none others i below =

@@ -140,8 +140,8 @@ failed-vanish answers size few none others i below =
       size = wide i below;
       bytes = bytes i below;
       vanishes = λ k under.
-          unmarked_vanish 182 208 16 (power alpha k) block (failed_of answers) (omega arith) (length-from_columns (words answers)) (length-map answers is_none ∙ size) few
-          wide codewords
+          unmarked_vanish 182 208 16 (power alpha k) block (failed_of answers) (omega arith) (length-from_columns (words answers))
+          (length-map answers is_none ∙ size) few wide codewords
           (λ m inside clear. (vanishing-codeword 182 10 (line block m) (wide m inside) (bytes m inside) (vanish m inside clear)).vanishes k under) i below;
     }))
 

@@ -89,7 +89,8 @@ value-patched (byte ∷ word) (true ∷ marks) (first ∷ rest) k size few =
 
 -- the same, with the points of the marked places at hand
 value-at_points : (word : List ℕ) (marks : List Bool) (bytes points : List ℕ) (k : ℕ) → length word ≡ length marks → length bytes ≡ length points
-    → points ≡ picked marks (points_of (length marks)) → value (patched word marks bytes) (power alpha k) ≡ plus (value word (power alpha k)) (power_sum bytes points k)
+    → points ≡ picked marks (points_of (length marks))
+    → value (patched word marks bytes) (power alpha k) ≡ plus (value word (power alpha k)) (power_sum bytes points k)
 value-at_points word marks bytes points k alike fits points_are =
     value-patched word marks bytes k alike (fits ∙ points-few marks points points_are)
     ∙ ap (λ n. plus (value word (power alpha k)) (power_sum bytes (picked marks (points_of n)) k)) alike
@@ -97,7 +98,8 @@ value-at_points word marks bytes points k alike fits points_are =
 
 -- so bytes that have a value as their power sum take it to 0
 pub value-completed : (word : List ℕ) (marks : List Bool) (bytes points : List ℕ) (k : ℕ) → length word ≡ length marks → length bytes ≡ length points
-    → points ≡ picked marks (points_of (length marks)) → value word (power alpha k) ≡ power_sum bytes points k → value (patched word marks bytes) (power alpha k) ≡ 0
+    → points ≡ picked marks (points_of (length marks)) → value word (power alpha k) ≡ power_sum bytes points k
+    → value (patched word marks bytes) (power alpha k) ≡ 0
 value-completed word marks bytes points k alike fits points_are same =
     value-at_points word marks bytes points k alike fits points_are ∙ ap (plus (value word (power alpha k))) (sym same) ∙ plus-self (value word (power alpha k))
 

@@ -87,7 +87,7 @@ get_or-points_of (suc n) (suc i) below =
 -- ---- the places of the marks
 
 -- each mark's place is a place of the word
-place_of_mark-inside : (marks : List Bool) (i : ℕ) → i < marked marks → place_of_mark marks i < length marks
+pub place_of_mark-inside : (marks : List Bool) (i : ℕ) → i < marked marks → place_of_mark marks i < length marks
 unfolding place_of_mark marked
 place_of_mark-inside [] i below = absurd (omega arith)
 place_of_mark-inside (true ∷ marks) zero below = omega arith
@@ -183,6 +183,15 @@ patched-suc (byte ∷ word) (false ∷ marks) bytes i size inside below = ap (λ
 patched-suc (byte ∷ word) (true ∷ marks) [] i size inside below = absurd (omega arith)
 patched-suc (byte ∷ word) (true ∷ marks) (first ∷ rest) zero size inside below = refl
 patched-suc (byte ∷ word) (true ∷ marks) (first ∷ rest) (suc i) size inside below = ap (λ w. plus byte first ∷ w) (patched-suc word marks rest i (omega arith) (omega arith) (omega arith))
+
+-- the same by the places in order
+pub patched-placed : (word now : List ℕ) (marks : List Bool) (places bytes : List ℕ) (i : ℕ) → length word ≡ length marks → i < length bytes → i < marked marks
+    → ArePlaces marks (marked marks) places → now ≡ patched word marks (take i bytes)
+    → added now (get_or places i 0) (get_or bytes i 0) ≡ patched word marks (take (i + 1) bytes)
+patched-placed word now marks places bytes i size inside below are now_is =
+    ap (λ p. added now p (get_or bytes i 0)) (are i below)
+    ∙ ap (λ w. added w (place_of_mark marks i) (get_or bytes i 0)) now_is
+    ∙ sym (patched-suc word marks bytes i size inside below) ∙ ap (λ n. patched word marks (take n bytes)) (sym (add-one i))
 
 -- the same by the point's logarithm
 pub patched-next : (word now : List ℕ) (marks : List Bool) (points bytes : List ℕ) (i e : ℕ) → length marks ≤ 255 → length marks ≡ length word

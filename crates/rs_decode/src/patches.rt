@@ -5,12 +5,14 @@ ghost use Rattle.std.specs.Prelude.{◌≡◌, ◌≢◌, ℕ, ◌<◌, ◌≤�
 ghost use Rattle.coding.specs.Field.{alpha, plus, power, product};
 ghost use Rattle.coding.specs.Words.{value};
 ghost use Rattle.coding.specs.Rows.{column, place};
-ghost use Rattle.coding.specs.Filling.{IsFilling};
+ghost use Rattle.coding.specs.Filling.{IsFilling, marked};
 ghost use Rattle.rs_code.specs.Inner.PowerSums.{power_sum};
-ghost use Rattle.rs_decode.specs.Patches.{Completes};
+ghost use Rattle.rs_decode.specs.Inner.Places.{ArePlaces};
+ghost use Rattle.rs_decode.specs.Patches.{Completes, patched};
 
 use crate::inverse::Inverse;
-use crate::places::{Erasures, patch};
+use crate::locating::tell_bytes;
+use crate::places::Erasures;
 use gf_field::log;
 use rs_lanes::{any_of, powers, with_multiple};
 use std::simd::prelude::*;
@@ -64,23 +66,28 @@ impl Patches {
         ensures same { result ≡ false → word.new ≡ word.old }
     {
         let count = erasures.points.len();
-        if self.wrong[n] != 0 || count > 16 {
+        if self.wrong[n] != 0 || count > 16 || erasures.inverse.is_none() {
             return false;
         }
-        patch(word, &erasures.points, &self.lane(n)[..count]);
+        self.add_to(&erasures.places[..count], n, word);
+        tell_bytes(word);
         true
     }
 
-    // The bytes for word `n`.
-    fn lane(&self, n: usize) -> [u8; 16]
-        requires { n < 32 }
-        ensures { result ≡ column self.now.bytes n }
+    // Adds the bytes for word `n` at its marked places.
+    #[inline(always)]
+    fn add_to(&self, places: &[u8], n: usize, word: &mut [u8])
+        requires lane { n < 32 }
+        requires few { length places.now ≤ 16 }
+        ensures { (marks : List Bool) → length marks ≡ length word.old → marked marks ≡ length places.now → ArePlaces marks (marked marks) places.now
+            → word.new ≡ patched word.old marks (take (marked marks) (column self.now.bytes n)) }
     {
-        let mut lane = [0; 16];
-        for i in 0..16 {
-            lane[i] = self.bytes[i][n];
+        for (i, place) in places.iter().enumerate() {
+            let place = usize::from(*place);
+            if place < word.len() {
+                word[place] ^= self.bytes[i][n];
+            }
         }
-        lane
     }
 }
 

@@ -24,10 +24,13 @@ pub struct Erasures<const N: usize> {
     pub(crate) points: ArrayVec<u8, 32>,
     // The inverse of their powers, where many words are to be filled at them.
     pub(crate) inverse: Option<Inverse>,
+    // The marked places in order, there too: as many as there are points, and zeros or others behind them.
+    pub(crate) places: [u8; 256],
     /// A word of `N` bytes has as many places.
     pub ghost size: { length marks ≡ N },
     ghost gathered: { points.items ≡ picked marks (points_of (length marks)) },
     ghost same_points: { ForSome inverse (λ inverse. inverse.points.items ≡ points.items) },
+    ghost located: { ForSome inverse (λ _. ArePlaces marks (length points.items) places) },
 }
 
 impl<const N: usize> Erasures<N> {
@@ -39,6 +42,7 @@ impl<const N: usize> Erasures<N> {
             marks: [false; N],
             points: ArrayVec::new(),
             inverse: None,
+            places: [0; 256],
         }
     }
 
@@ -53,6 +57,7 @@ impl<const N: usize> Erasures<N> {
             marks: *marks,
             points,
             inverse: None,
+            places: [0; 256],
         })
     }
 
@@ -64,10 +69,13 @@ impl<const N: usize> Erasures<N> {
     {
         let points = marked_points(marks, most)?;
         let inverse = inverse_of(&points);
+        let mut places = [0; 256];
+        gather_places(marks, &mut places);
         Some(Erasures {
             marks: *marks,
             points,
             inverse,
+            places,
         })
     }
 

@@ -50,7 +50,8 @@ find_wrong-requires-clause-right c = λ are_kept.
     (sym c.in_default.ensures)
     (λ i below clear.
     kept-vanish c.args.answers.now (from_columns (words_of_columns c.args.columns.now)) i c.requires.rows c.requires.codewords
-    (kept_rows c.args.answers.now c.args.columns.now c.args.are_kept c.requires.rows c.requires.columns c.requires.codewords c.requires.kept are_kept) below clear)
+    (kept_rows c.args.answers.now c.args.columns.now c.args.are_kept c.requires.rows c.requires.columns c.requires.codewords c.requires.kept are_kept)
+    below clear)
 
 pub returns-in-Some-find_wrong-clause-refused : goal.returns-in-Some-find_wrong-clause-refused
 returns-in-Some-find_wrong-clause-refused c =

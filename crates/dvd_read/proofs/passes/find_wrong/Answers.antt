@@ -9,4 +9,5 @@ use Rattle.dvd_read.proofs.passes.find_wrong.Goals as goal
 pub returns-then-are_kept : goal.returns-then-are_kept
 returns-then-are_kept c =
     let block = from_columns (words_of_columns c.args.columns.now) in
-    sym (wrong_none block (λ i within. c.requires.right c.if-are_kept.true i (omega (arith, within, length-from_columns (words_of_columns c.args.columns.now)))))
+    sym (wrong_none block (λ i within.
+    c.requires.right c.if-are_kept.true i (omega (arith, within, length-from_columns (words_of_columns c.args.columns.now)))))

@@ -32,7 +32,8 @@ loop-i-preserved c = record {
       let v : ℕ = place c.args.values.now k n in
       let sum : ℕ = power_sum (drop c.loop-i.i front) (drop c.loop-i.i points) k in
       let term : ℕ = product (place c.args.bytes.now i n) (get_or c.powers.result k 0) in
-      let fits : length front ≡ length points = length-take-le (length points) all (omega (arith, length-column c.args.bytes.now n, c.told-bytes, c.requires.few)) in
+      let fits : length front ≡ length points =
+      length-take-le (length points) all (omega (arith, length-column c.args.bytes.now n, c.told-bytes, c.requires.few)) in
       let here : get_or front i 0 ≡ place c.args.bytes.now i n = get_or-take (length points) all i 0 (omega arith) ∙ get_or-column c.args.bytes.now n i in
       let is_term : term ≡ product (power alpha (c.log.result * k)) (get_or front i 0) =
       product-comm (place c.args.bytes.now i n) (get_or c.powers.result k 0)

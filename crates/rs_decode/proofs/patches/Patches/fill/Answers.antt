@@ -1,12 +1,20 @@
 -- The proof of `fill` in src/patches.rt.
-use Rattle.std.proofs.Common.{◌≡◌, ◌∙◌, ℕ, length, take, sym, ap, subst, arith}
+use Rattle.std.proofs.Common.{◌≡◌, true, not, refl, Some, None, is_some, ◌∙◌, length, length-take-le, take, get_or-take, sym, rules, ap, subst, arith}
+use Rattle.std.specs.Option.{ForSome}
+use Rattle.std.specs.declared.option.Option.{Option}
 use Rattle.coding.specs.Field.{alpha, power}
 use Rattle.coding.specs.Filling.{AgreeUnmarked, marked}
 use Rattle.coding.specs.Rows.{column}
 use Rattle.coding.specs.Words.{value}
+use Rattle.rs_decode.specs.Inner.Places.{ArePlaces}
 use Rattle.rs_decode.specs.Patches.{patched}
 use Rattle.rs_decode.proofs.Fillings.{AgreeUnmarked-patched, points-few}
 use Rattle.rs_decode.proofs.patches.Patches.fill.Goals as goal
+
+-- what is told where there is something holds if there is
+where-some : {X : Type 0} (found : Option X) (P : Type 0) → is_some found ≡ true → ForSome found (λ _. P) → P
+where-some None P is told = cc
+where-some (Some x) P is told = told x refl
 
 pub returns-clause-filled : goal.returns-clause-filled
 returns-clause-filled g c = λ _.
@@ -15,13 +23,18 @@ returns-clause-filled g c = λ _.
     let bytes = take (marked erasures.marks) (column c.args.self.now.bytes c.args.n) in
     let alike : length word ≡ length erasures.marks = c.told-word ∙ sym erasures.size in
     let count : c.len-count.result ≡ marked erasures.marks = c.len-count.ensures.value ∙ points-few erasures.marks erasures.points.items erasures.gathered in
-    let filled_is : c.patch.new.word ≡ patched word erasures.marks bytes =
-    c.patch.ensures.patched erasures.marks (sym alike) (c.deref.ensures.0 ∙ erasures.gathered)
-    ∙ ap (λ (m : ℕ). patched word erasures.marks (take m c.lane.result)) count ∙ ap (λ lane. patched word erasures.marks (take (marked erasures.marks) lane)) c.lane.ensures in
+    let few : length erasures.places ≡ 256 = search rules in
+    let first = take c.len-count.result erasures.places in
+    let long : length first ≡ marked erasures.marks = length-take-le c.len-count.result erasures.places (omega (arith, few, c.if-count-gt16.false)) ∙ count in
+    let all = where-some erasures.inverse (ArePlaces erasures.marks (length erasures.points.items) erasures.places)
+    (c.is_none.ensures ∙ ap not c.if-is_none.false) erasures.located in
+    let located : ArePlaces erasures.marks (marked erasures.marks) first = λ i below.
+    get_or-take c.len-count.result erasures.places i 0 (omega (arith, count, below)) ∙ all i (omega (arith, count, below, c.len-count.ensures.value)) in
+    let filled_is : c.add_to.new.word ≡ patched word erasures.marks bytes = c.add_to.ensures erasures.marks (sym alike) (sym long) located in
     record {
       codeword = record {
-        size = omega (arith, c.patch.auto.word, c.told-word);
-        bytes = c.patch.ensures.bytes;
+        size = omega (arith, c.add_to.auto.word, c.told-word);
+        bytes = c.tell_bytes.ensures;
         vanishes = λ k below. ap (λ w. value w (power alpha k)) filled_is ∙ c.requires.completes c.if-self-n-ne0.false k below;
       };
       agrees = subst (AgreeUnmarked erasures.marks word) (sym filled_is) (AgreeUnmarked-patched word erasures.marks bytes alike);

@@ -30,7 +30,9 @@ returns g c = λ n word inside size same told k below.
     let bytes : List ℕ = take (length points) (column proposed n) in
     let fits : length bytes ≡ length points = length-take-le (length points) (column proposed n) (omega (arith, length-column proposed n, long, few)) in
     let alike : column stored n ≡ column proposed n =
-    same_columns stored proposed n n (c.loop-i.invariant.size ∙ sym long) (λ i within. ap (λ (lanes : List ℕ). get_or lanes n 0) (c.loop-i.invariant.set i (omega (arith, within, c.loop-i.invariant.size)))) in
+    same_columns stored proposed n n (c.loop-i.invariant.size ∙ sym long)
+    (λ i within. ap (λ (lanes : List ℕ). get_or lanes n 0) (c.loop-i.invariant.set i (omega (arith, within, c.loop-i.invariant.size)))) in
     ap (λ (m : ℕ). value (patched word erasures.marks (take m (column stored n))) (power alpha k)) (sym count)
     ∙ ap (λ (all : List ℕ). value (patched word erasures.marks (take (length points) all)) (power alpha k)) alike
-    ∙ value-completed word erasures.marks bytes points k (size ∙ sym erasures.size) fits points_are (sym (same k below) ∙ c.left_over.ensures.sums k n below inside told)
+    ∙ value-completed word erasures.marks bytes points k (size ∙ sym erasures.size) fits points_are
+    (sym (same k below) ∙ c.left_over.ensures.sums k n below inside told)

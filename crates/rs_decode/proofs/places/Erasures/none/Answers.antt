@@ -10,4 +10,5 @@ invariant_of-result g c = record {
   size = length-replicate g.row.N false;
   gathered = c.new.ensures ∙ sym (picked-replicate g.row.N (points_of (length (replicate g.row.N false))));
   same_points = search rules;
+  located = search rules;
 }
