@@ -1,5 +1,5 @@
 //! Rounds over the state of a search: a row step, a column step, and the test whether the round finishes.
-ghost use Rattle.std.specs.Prelude.{◌≡◌, ◌<◌, ℕ, IfSome, Some, false, if◌then◌else◌, is_some, length, replicate, slice_index_or, slice_set, unwrap_or};
+ghost use Rattle.std.specs.Prelude.{◌≡◌, ◌↔◌, ◌+◌, ◌<◌, ◌≤◌, ℕ, IsTrue, true, IfSome, Some, false, if◌then◌else◌, is_some, length, replicate, slice_index_or, slice_set, unwrap_or};
 ghost use Rattle.std.specs.List.{list_all};
 ghost use Rattle.std.specs.Option.{option_or};
 ghost use Rattle.coding.specs.Nearest.{near_of, vanishes_at_all};
@@ -12,9 +12,9 @@ ghost use Rattle.dvd_deep.specs.Rounds.{after, are_answered, column_marks, colum
 ghost use Rattle.dvd_deep.specs.Inner.Steps.{AreMarksTaken, AreWide, IsColumnPut, TellsMarked, mark_left};
 
 use dvd_capture::{RowMarks, Work};
-use dvd_read::parts::is_codeword;
 use rs_code::{Code, Pi, Po};
 use rs_decode::{Erasures, decode};
+use rs_lanes::{any_of, are_zeros, row_values};
 
 /// The rows of a block: 37,856 bytes.
 pub(crate) type Rows = [[u8; 182]; 208];
@@ -262,11 +262,19 @@ fn take_row_marks(row: &mut RowMarks, answered: &[bool; 182])
 fn are_codewords(rows: &Rows) -> bool
     ensures { result ≡ list_all (vanishes_at_all 10) rows.now }
 {
-    let code = Pi::new();
-    for i in 0..208usize {
-        if !is_codeword(&code, &rows[i]) {
+    for group in 0..7usize {
+        // The last 32 rows begin at row 176.
+        if !group_are_codewords(rows, (32 * group).min(176)) {
             return false;
         }
     }
     true
+}
+
+// Whether the 32 rows from `top` on are codewords.
+fn group_are_codewords(rows: &[[u8; 182]], top: usize) -> bool
+    requires { top + 32 ≤ length rows.now }
+    ensures { IsTrue result ↔ ((n : ℕ) → n < 32 → vanishes_at_all 10 (line rows.now (top + n)) ≡ true) }
+{
+    are_zeros(any_of(&row_values(rows, top)))
 }
