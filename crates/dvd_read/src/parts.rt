@@ -6,4 +6,4 @@ pub use crate::frames::{Source, sectors_of_block};
 pub use crate::kept::are_kept;
 pub use crate::passes::settle;
 pub use crate::rescue::salvage_frame;
-pub use crate::rows::{answer_rows, are_few, count_failed, is_codeword, mark_failed};
+pub use crate::rows::{answer_rows, are_few, count_failed, mark_failed};

@@ -174,7 +174,7 @@ fn answer_erased(
 }
 
 /// Whether a row is a codeword.
-pub fn is_codeword(code: &Pi, row: &[u8; 182]) -> bool
+pub(crate) fn is_codeword(code: &Pi, row: &[u8; 182]) -> bool
     ensures { result ≡ vanishes_at_all 10 row.now }
 {
     code.is_codeword(row)
