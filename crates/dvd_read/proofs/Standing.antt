@@ -48,7 +48,7 @@ own-row row answer codeword bytes_are fix_is =
     row_fixed row row (replicate 182 false) (record { errors = 0; erased = 0 }) answer (near-itself 182 10 row (replicate 182 false) (length-replicate 182 false) (omega (arith, marked-clear 182)) codeword)
     (sym (error_count-self row (replicate 182 false))) (sym (marked-clear 182)) bytes_are fix_is
 
--- ---- a row where nothing was corrected and nothing marked
+-- ---- a row where nothing is marked
 
 -- a fix that was found tells what was corrected
 pub fix-told : (row word : List ℕ) (marks : List Bool) (found : Option Fix) (fix : Fix) → found ≡ Some fix
@@ -56,31 +56,27 @@ pub fix-told : (row word : List ℕ) (marks : List Bool) (found : Option Fix) (f
 fix-told row word marks found fix is told =
     subst (λ (f : Option Fix). MatchOption f (near_of 182 10 row marks ≡ None) (IsFix row marks word)) is told
 
--- a first place that has no error doesn't differ
-own-step : (x y rest more : ℕ) → (if y == x then 0 else 1) + rest ≡ 0 → (rest ≡ 0 → more ≡ 0) → 0 ≡ (if x == y then 0 else 1) + more
-own-step x y rest more none later =
-    let no_rest : rest ≡ 0 = omega (arith, none) in
-    let no_more : more ≡ 0 = later no_rest in
-    grind (arith, nat_tests)
+-- a first place is an error exactly where it differs
+counted-step : (x y rest more : ℕ) → rest ≡ more → (if y == x then 0 else 1) + rest ≡ (if x == y then 0 else 1) + more
+counted-step x y rest more same = grind (arith, nat_tests)
 
--- a word with no errors and no marks differs nowhere from what was received
-none-differ : (row word : List ℕ) (marks : List Bool) → length row ≤ length marks → marked marks ≡ 0 → error_count row word marks ≡ 0
-    → 0 ≡ distance row word
+-- a word without marks has an error at each place where it differs from what was received
+errors-differ : (row word : List ℕ) (marks : List Bool) → length row ≤ length marks → marked marks ≡ 0
+    → error_count row word marks ≡ distance row word
 unfolding distance error_count marked
-none-differ [] word marks within clear none = refl
-none-differ (x ∷ row) [] marks within clear none = refl
-none-differ (x ∷ row) (y ∷ word) [] within clear none = absurd (omega arith)
-none-differ (x ∷ row) (y ∷ word) (true ∷ marks) within clear none = absurd (omega (arith, clear))
-none-differ (x ∷ row) (y ∷ word) (false ∷ marks) within clear none =
-    own-step x y (error_count row word marks) (distance row word) none
-    (λ rest. sym (none-differ row word marks (omega arith) (omega (arith, clear)) rest))
+errors-differ [] word marks within clear = refl
+errors-differ (x ∷ row) [] marks within clear = refl
+errors-differ (x ∷ row) (y ∷ word) [] within clear = absurd (omega arith)
+errors-differ (x ∷ row) (y ∷ word) (true ∷ marks) within clear = absurd (omega (arith, clear))
+errors-differ (x ∷ row) (y ∷ word) (false ∷ marks) within clear =
+    counted-step x y (error_count row word marks) (distance row word) (errors-differ row word marks (omega arith) (omega (arith, clear)))
 
--- a row of which nothing was corrected and nothing marked doesn't differ from its answer
-pub uncorrected : (row : List ℕ) (marks : List Bool) (answer : AnswerRow) (fix : Fix) → length row ≡ length marks → answer.fix ≡ Some fix
-    → fix.errors ≡ 0 → fix.erased ≡ 0 → IsAnswer row marks answer → 0 ≡ distance row answer.bytes
-uncorrected row marks answer fix size is errors erased told =
+-- a row of which no place is marked differs from its answer where an error was corrected
+pub errors-counted : (row : List ℕ) (marks : List Bool) (answer : AnswerRow) (fix : Fix) → length row ≡ length marks
+    → answer.fix ≡ Some fix → fix.erased ≡ 0 → IsAnswer row marks answer → fix.errors ≡ distance row answer.bytes
+errors-counted row marks answer fix size is erased told =
     let fixed : IsFix row marks answer.bytes fix = fix-told row answer.bytes marks answer.fix fix is told in
-    none-differ row answer.bytes marks (omega (arith, size)) (sym fixed.2 ∙ erased) (sym fixed.1 ∙ errors)
+    fixed.1 ∙ errors-differ row answer.bytes marks (omega (arith, size)) (sym fixed.2 ∙ erased)
 
 -- ---- a column of which nothing was corrected that isn't marked
 

@@ -190,8 +190,7 @@ fn count_corrections(work: &Work) -> u32
     count
 }
 
-// In how many places row `i` of the block differs from what was received: in none where nothing was corrected and nothing
-// marked.
+// In how many places row `i` of the block differs from what was received: where nothing was marked, at its errors.
 fn row_corrections(
     received: &[u8; 182],
     answer: &AnswerRow,
@@ -203,10 +202,10 @@ fn row_corrections(
     requires kept { is_some answer.now.fix ≡ true → line (from_columns (words_of_columns columns.now)) i ≡ answer.now.bytes }
     ensures count { (marks : List Bool) → length marks ≡ 182 → IsAnswer received.now marks answer.now
         → result ≡ distance received.now (line (from_columns (words_of_columns columns.now)) i) }
-    ensures most { result ≤ 182 }
+    ensures most { result < 65536 }
 {
     match answer.fix {
-        Some(fix) if fix.errors == 0 && fix.erased == 0 => 0,
+        Some(fix) if fix.erased == 0 => u32::from(fix.errors),
         Some(_) => row_differences(received, &answer.bytes),
         None => {
             let mut row = [0; 182];

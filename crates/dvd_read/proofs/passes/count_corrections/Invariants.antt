@@ -7,5 +7,5 @@ use Rattle.dvd_read.proofs.passes.count_corrections.Given as goal
 abbrev pub invariant-loop-i : goal.invariant-loop-i
 invariant-loop-i l = record {
   counted : l.count ≡ block_differences (take l.i (rows_of l.work)) (take l.i (block_of l.work));
-  few : l.count ≤ 182 * l.i;
+  few : l.count ≤ 65536 * l.i;
 }

@@ -1,10 +1,10 @@
 -- The proof of `row_corrections` in src/passes.rt.
 use Rattle.std.proofs.Common.{◌∙◌, is_some, sym, ap}
 use Rattle.coding.specs.Distance.{distance}
-use Rattle.dvd_read.proofs.Standing.{uncorrected}
+use Rattle.dvd_read.proofs.Standing.{errors-counted}
 use Rattle.dvd_read.proofs.passes.row_corrections.Goals as goal
 
 pub returns-in-Some-clause-count : goal.returns-in-Some-clause-count
 returns-in-Some-clause-count c = λ marks size told.
-    uncorrected c.args.received.now marks c.args.answer.now c.in-Some.fix (c.told-received ∙ sym size) c.in-Some.is c.if-fix-eq0.true c.if-fix-eq0-2.true told
+    c.from.ensures ∙ errors-counted c.args.received.now marks c.args.answer.now c.in-Some.fix (c.told-received ∙ sym size) c.in-Some.is c.if-fix-eq0.true told
     ∙ ap (distance c.args.received.now) (sym (c.requires.kept (ap is_some c.in-Some.is)))
