@@ -1,5 +1,5 @@
 -- What is answered to a captured block that is read as a block of a disk, and what is salvaged of it.
-use Rattle.std.specs.Prelude.{⊤, ℕ, ◌+◌, ◌/◌, ◌%◌, ◌^◌, nat_lt, ◌==◌, Bool, List, Result, Ok, Err, if◌then◌else◌, is_some, map}
+use Rattle.std.specs.Prelude.{ℕ, ◌≢◌, ◌+◌, ◌/◌, ◌%◌, ◌^◌, nat_lt, ◌==◌, Bool, List, Result, Ok, Err, if◌then◌else◌, is_some, map}
 use Rattle.std.specs.List.{range_with_len}
 use Rattle.std.specs.declared.option.Option.{Option}
 use Rattle.std.specs.declared.option.Option.TheVariants.{Some, None}
@@ -15,7 +15,7 @@ use Rattle.dvd_layout.specs.declared.entry.Content.{Content}
 use Rattle.dvd_layout.specs.declared.entry.Content.TheVariants.{Zero, Reference}
 use Rattle.dvdecc_c.specs.Blocks.{block_or, block_status, report_of}
 use Rattle.dvdecc_c.specs.declared.blocks.Report.{Report}
-use Rattle.dvdecc_c.specs.declared.status.TheConstants.{OK, BAD_RULE, BAD_ID}
+use Rattle.dvdecc_c.specs.declared.status.TheConstants.{OK, NO_MEMORY, BAD_RULE, BAD_ID}
 
 -- the area of a number
 abbrev pub area_numbered : ℕ → Area
@@ -43,9 +43,9 @@ block_with id (Some content) = block_named id content
 abbrev pub asked_block : ℕ → ℕ → Result BlockPlan ℕ
 asked_block id rule = block_with id (content_ruled rule)
 
--- the numbers of a block that may be asked for are in range
+-- the numbers of a block that may be asked for are in range, and what is wrong with another isn't told as missing memory
 abbrev pub HasAsked : Result BlockPlan ℕ → Type 0
-HasAsked (Err status) = ⊤
+HasAsked (Err status) = status ≢ NO_MEMORY
 HasAsked (Ok entry) = HasNumbers entry
 
 -- the status by the block alone

@@ -19,7 +19,7 @@ use std::alloc::Global;
 
 /// What two passes over a captured block came to.
 #[repr(C)]
-#[derive(Clone, Copy, Debug, PartialEq, Eq)]
+#[derive(Clone, Copy)]
 pub struct Report {
     /// In how many places the block differs from what was received, or 0 where there is a cause.
     pub corrected: u32,

@@ -10,7 +10,7 @@ use crate::words::{Correction, dvdecc_row_decode, dvdecc_row_parity};
 
 /// What the decoding of one of many words came to.
 #[repr(C)]
-#[derive(Clone, Copy, Debug, PartialEq, Eq)]
+#[derive(Clone, Copy)]
 pub struct Answer {
     /// The status of the call for one word.
     pub status: u32,

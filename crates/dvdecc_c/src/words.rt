@@ -10,7 +10,7 @@ use rs_decode::decode;
 
 /// What the decoding of a word corrected.
 #[repr(C)]
-#[derive(Clone, Copy, Debug, PartialEq, Eq)]
+#[derive(Clone, Copy)]
 pub struct Correction {
     /// How many places that weren't lost changed.
     pub errors: u32,

@@ -1,8 +1,22 @@
 -- The proof of `marks_of` in src/words.rt.
-use Rattle.std.proofs.Common.{◌∙◌, ℕ, false, map, not, ◌==◌, sym, arith}
-use Rattle.std.proofs.lemmas.List.{ext_get_or, get_or-map, length-map}
+use Rattle.std.proofs.Common.{◌≡◌, ◌∙◌, ℕ, Bool, false, get_or, map, not, ◌==◌, sym, refl, arith}
+use Rattle.std.proofs.lemmas.List.{ext_get_or, get_or-map, length-map, length-replicate, length-set}
 use Rattle.dvdecc_c.specs.Words.{lost_marks}
+use Rattle.dvdecc_c.proofs.Filling.{filled-one_more}
 use Rattle.dvdecc_c.proofs.words.marks_of.Goals as goal
+
+pub loop-k-init : goal.loop-k-init
+loop-k-init g c = record {
+  size = length-replicate g.row.N false;
+  told = λ j below. absurd (omega (arith, below));
+}
+
+pub loop-k-preserved : goal.loop-k-preserved
+loop-k-preserved g c = record {
+  size = length-set c.loop-k.marks c.loop-k.k _ ∙ c.loop-k.invariant.size;
+  told = filled-one_more (λ j (mark : Bool). mark ≡ not (get_or c.args.lost.now j 0 == 0)) c.loop-k.marks c.loop-k.k _ false
+      (omega (arith, c.loop-k-test.true, c.loop-k.invariant.size)) c.loop-k.invariant.told refl;
+}
 
 pub returns : goal.returns
 unfolding lost_marks

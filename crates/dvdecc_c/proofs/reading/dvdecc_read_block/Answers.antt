@@ -1,0 +1,5 @@
+-- The proof of `dvdecc_read_block` in src/reading.rt.
+use Rattle.dvdecc_c.proofs.reading.dvdecc_read_block.Goals as goal
+
+pub returns-in-Err-clause-asked : goal.returns-in-Err-clause-asked
+returns-in-Err-clause-asked c = λ missing. absurd (c.in-Err.ensures.numbers missing)

@@ -1,0 +1,5 @@
+-- The proof of `dvdecc_column_is_codeword` in src/words.rt.
+use Rattle.dvdecc_c.proofs.words.dvdecc_column_is_codeword.Goals as goal
+
+pub returns : goal.returns
+returns c = c.is_codeword.ensures
