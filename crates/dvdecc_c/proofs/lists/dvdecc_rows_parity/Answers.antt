@@ -1,5 +1,5 @@
 -- The proof of `dvdecc_rows_parity` in src/lists.rt.
-use Rattle.std.proofs.Common.{◌≡◌, ◌∙◌, ℕ, ◌≤◌, [], List, take, refl, sym, subst, arith}
+use Rattle.std.proofs.Common.{◌∙◌, ℕ, [], List, take, refl, subst, arith}
 use Rattle.std.proofs.lemmas.List.{get_or-set_other}
 use Rattle.coding.specs.Product.{line}
 use Rattle.coding.specs.Words.{IsEncoded}

@@ -1,8 +1,8 @@
 -- The proof of `read_received` in src/reading.rt.
-use Rattle.std.proofs.Common.{◌≡◌, sym, ap, ◌∙◌}
+use Rattle.std.proofs.Common.{sym, ap, ◌∙◌}
 use Rattle.std.specs.declared.option.Option.{Option}
 use Rattle.dvd_capture.proofs.WorkParts.{marks-height, rows-height}
-use Rattle.dvd_capture.specs.Works.{block_of, marks_of_work, rows_of, sectors_of}
+use Rattle.dvd_capture.specs.Works.{marks_of_work, rows_of, sectors_of}
 use Rattle.dvd_decoding.specs.declared.cause.Cause.{Cause}
 use Rattle.dvd_decoding.specs.Frames.{main_data}
 use Rattle.dvd_decoding.specs.Reading.{block_in}
