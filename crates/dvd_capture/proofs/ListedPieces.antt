@@ -244,3 +244,8 @@ bad-counts (BadMarks at) old new is steady = steady
 pub err-cause : {A : Type 0} (answer : Result A FetchAnswer) (error : FetchAnswer) (old new : Seen) → IsErrAnd answer (λ e. e ≡ error) → FetchCounts error old new → HasFetchCause answer old new
 err-cause (Ok value) error old new is counts = absurd is
 err-cause (Err e) error old new is counts = subst (λ a. FetchCounts a old new) (sym is) counts
+
+-- nothing was taken
+pub Consumes-none : (now : Option (List ℕ)) → Consumes now now []
+Consumes-none None = tt
+Consumes-none (Some bytes) = refl

@@ -1,7 +1,7 @@
 //! Captured blocks are read from a source.
-ghost use Rattle.std.specs.Prelude.{◌≡◌, ◌≢◌, ℕ, ◌+◌, ◌*◌, ◌<◌, ◌≤◌, ◌==◌, if◌then◌else◌, List, ◌++◌, length, take, slice_set};
+ghost use Rattle.std.specs.Prelude.{◌≡◌, ◌≢◌, ℕ, ◌*◌, ◌<◌, ◌==◌, if◌then◌else◌, length, take, slice_set};
 ghost use Rattle.coding.specs.Recording.{row_at};
-ghost use Rattle.dvd_capture.specs.Captured.{HasSize, marks_in, record_size};
+ghost use Rattle.dvd_capture.specs.Captured.{HasSize, block_size, marks_in, record_size};
 ghost use Rattle.dvd_capture.specs.Parts.{marks_rows, received_rows};
 ghost use Rattle.dvd_capture.specs.Fetching.{Fetches};
 ghost use Rattle.dvd_capture.specs.Inner.Putting.{ArePut};
@@ -16,12 +16,6 @@ use crate::stage::Stage;
 use crate::work::Work;
 use dvd_block::row_of_record;
 use dvd_ports::{Failed, Source, read_whole};
-
-// A block is read in two halves of as many recorded rows, so that the buffer they pass through is small, and read no oftener.
-const HALF: usize = 104;
-
-// The bytes of a half in the form that has most, of those that give each block as many.
-const MOST_HALF: usize = HALF * 205;
 
 /// What a source gave for one block.
 #[derive(Clone, Copy, Debug, PartialEq, Eq)]
@@ -70,7 +64,7 @@ fn fetch_parts<S: Source>(
     }
 }
 
-// Reads the 208 recorded rows of a block.
+// Reads the 208 recorded rows of a block, through as many bytes as its form has.
 pub(crate) fn fetch_rows<S: Source>(
     src: &mut S,
     form: Form,
@@ -81,17 +75,34 @@ pub(crate) fn fetch_rows<S: Source>(
     ensures fetches { Fetches form (S.seen src.old) (S.seen src.new) (received_rows received.new) (marks_rows marks.new) result }
     ensures never { (at : ℕ) → result ≢ BadMarks at }
 {
-    let size = HALF * form.record_size();
-    let mut buffer = [0; MOST_HALF];
-    let bytes = &mut buffer[..size];
-    for half in 0..2usize {
-        match read_whole(src, bytes) {
-            Ok(count) if count < size => return cut_off(size * half + count),
-            Ok(_) => put_half(received, marks, form, HALF * half, bytes),
-            Err(Failed) => return FetchAnswer::ReadFault,
-        }
+    match form {
+        Form::Plain | Form::Listed => fetch_by(src, form, &mut [0; 37_856], received, marks),
+        Form::Marked => fetch_by(src, form, &mut [0; 42_640], received, marks),
     }
-    FetchAnswer::Full
+}
+
+// Reads the 208 recorded rows of a block by a buffer of its size.
+#[tactic(auto, using(crate::proofs::FetchedCounts::cut_counts))]
+fn fetch_by<S: Source>(
+    src: &mut S,
+    form: Form,
+    buffer: &mut [u8],
+    received: &mut Received,
+    marks: &mut Marks,
+) -> FetchAnswer
+    requires form { HasSize form }
+    requires size { length buffer.old ≡ block_size form }
+    ensures fetches { Fetches form (S.seen src.old) (S.seen src.new) (received_rows received.new) (marks_rows marks.new) result }
+    ensures never { (at : ℕ) → result ≢ BadMarks at }
+{
+    match read_whole(src, buffer) {
+        Ok(count) if count < buffer.len() => cut_off(count),
+        Ok(_) => {
+            put_rows(received, marks, form, buffer);
+            FetchAnswer::Full
+        }
+        Err(Failed) => FetchAnswer::ReadFault,
+    }
 }
 
 /// What is answered where a source ended after so many bytes of a block, or of a part of one.
@@ -108,18 +119,15 @@ pub fn cut_off(bytes: usize) -> FetchAnswer
     }
 }
 
-// Sets the rows that stand at recorded row `from` and the 103 behind it, and their marks, to those in these bytes.
-fn put_half(received: &mut Received, marks: &mut Marks, form: Form, from: usize, bytes: &[u8])
-    requires from { from ≤ 104 }
-    requires size { length bytes.now ≡ record_size form * 104 }
-    ensures { (before : List ℕ) → length before ≡ record_size form * from
-        → ArePut form before (received_rows received.old) (marks_rows marks.old) from
-        → ArePut form (before ++ bytes.now) (received_rows received.new) (marks_rows marks.new) (from + 104) }
+// Sets all rows and their marks to those in these bytes.
+fn put_rows(received: &mut Received, marks: &mut Marks, form: Form, bytes: &[u8])
+    requires { length bytes.now ≡ record_size form * 208 }
+    ensures { ArePut form bytes.now (received_rows received.new) (marks_rows marks.new) 208 }
 {
     let size = form.record_size();
-    for m in 0..HALF {
+    for m in 0..208 {
         let record = &bytes[size * m..size * m + size];
-        put_record(received, marks, from + m, form, record);
+        put_record(received, marks, m, form, record);
     }
 }
 

@@ -27,7 +27,6 @@ pub fn ied(id: Id) -> [u8; 2]
 
 /// The EDC of a list of bytes of any length: the remainder of its bits, as a polynomial times x^32,
 /// by x^32 + x^31 + x^4 + 1, most significant byte first.
-#[inline(always)]
 pub fn edc(bytes: &[u8]) -> [u8; 4]
     ensures { result ≡ edc_of bytes.now }
 {
@@ -57,8 +56,8 @@ fn divide_parts(front: &[u8], back: &[u8]) -> u32
 }
 
 // The remainder of at most 2,080 bytes, as many as 65 chunks of 32: zeros in front of them change nothing. Four folds by
-// vectors leave the last 128 bytes to divide. All is inlined from `edc` on: where the lengths are known, no byte of the buffer
-// is blanked but those in front.
+// vectors leave the last 128 bytes to divide. All is inlined, since where the lengths are known no
+// byte of the buffer is blanked but those in front.
 #[inline(always)]
 fn folded(front: &[u8], back: &[u8]) -> u32
     requires { length front.now + length back.now ≤ 2080 }

@@ -2,7 +2,7 @@
 ghost use Rattle.std.specs.Prelude.{◌≡◌};
 ghost use Rattle.dvd_frame.specs.Frame.{data_frame};
 
-use crate::checks::{edc, ied};
+use crate::checks::{edc_of_parts, ied};
 use crate::id::Id;
 use crate::parts::put;
 use crate::scrambling::{Rule, Scrambler, scramble_slice};
@@ -29,8 +29,8 @@ pub fn make_frame_with(
     put(out, 0, &id.bytes());
     put(out, 4, &ied(id));
     put(out, 6, cpr);
+    let check = edc_of_parts(&out[..12], main);
     put(out, 12, main);
-    let check = edc(&out[..2060]);
     put(out, 2060, &check);
     scramble_slice(scrambler, rule, id, &mut out[12..2060]);
 }

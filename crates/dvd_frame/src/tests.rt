@@ -1,7 +1,7 @@
 //! Worked values from outside the program, EDCs against a division bit by bit, and frames that are made and read back.
 use crate::{
     Area, FrameCause, Id, Keystream, Rule, Scrambler, edc, ied, make_frame, make_frame_with,
-    preset, read_frame, read_frame_with, scramble,
+    preset, read_frame, read_frame_into, scramble,
 };
 use std::test::Fail;
 
@@ -209,7 +209,7 @@ fn frames_of_two_presets_by_one_scrambler(rt: HostRuntime) {
         make_frame_with(&mut scrambler, id, &[0; 6], Rule::Whole, &main, &mut again);
         assert!(rt; again == frame);
         let mut out = [0; 2048];
-        let read = read_frame_with(&mut scrambler, &frame, id, Rule::Whole, &mut out);
+        let read = read_frame_into(&mut scrambler, &frame, id, Rule::Whole, &mut out);
         assert_eq!(rt; read, Ok(()));
         assert!(rt; out == main);
     }

@@ -1,23 +1,12 @@
 -- Ours: which rows of a block stand in their places while its recorded rows are put one after the other.
-use Rattle.std.specs.Prelude.{◌≡◌, ℕ, ◌*◌, ◌<◌, Bool, List, length, take}
-use Rattle.std.specs.Io.KnownBytes.{Consumes}
+use Rattle.std.specs.Prelude.{◌≡◌, ℕ, ◌<◌, Bool, List, take}
 use Rattle.coding.specs.Product.{line}
 use Rattle.coding.specs.Recording.{record_at}
 use Rattle.dvd_capture.specs.Answers.{marks_line}
-use Rattle.dvd_capture.specs.Captured.{marks_in, record_of, record_size}
+use Rattle.dvd_capture.specs.Captured.{marks_in, record_of}
 use Rattle.dvd_capture.specs.declared.form.Form.{Form}
-use Rattle.dvd_ports.specs.Causes.{HasGoneOn}
-use Rattle.dvd_ports.specs.Seen.{Seen}
 
 -- the rows that stand in the first m recorded rows of these bytes are put in their places, and their marks
 pub record ArePut (form : Form) (bytes : List ℕ) (rows : List (List ℕ)) (marks : List (List Bool)) (m : ℕ) : Type 0 where
   pub rows_set : (i : ℕ) → i < 208 → record_at i < m → line rows i ≡ take 182 (record_of form bytes (record_at i))
   pub marks_set : (i : ℕ) → i < 208 → record_at i < m → marks_line marks i ≡ marks_in form (record_of form bytes (record_at i))
-
--- of a block m recorded rows were taken, no read stopped, and the rows are put in their places
-pub record AreTaken (form : Form) (old now : Seen) (rows : List (List ℕ)) (marks : List (List Bool)) (m : ℕ) : Type 0 where
-  pub bytes : List ℕ
-  pub size : length bytes ≡ record_size form * m
-  pub taken : Consumes old.bytes now.bytes bytes
-  pub gone_on : HasGoneOn old now
-  pub put : ArePut form bytes rows marks m

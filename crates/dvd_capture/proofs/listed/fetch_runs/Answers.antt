@@ -6,8 +6,7 @@ use Rattle.dvd_capture.specs.Fetching.{FetchCounts}
 use Rattle.dvd_capture.specs.Listed.{mark_of}
 use Rattle.dvd_capture.specs.Inner.Listing.{BreaksIn, HasFields, HasRuns, IsStopped, TakesNone}
 use Rattle.dvd_capture.specs.Parts.{marks_rows}
-use Rattle.dvd_capture.proofs.Fetching.{Consumes-none}
-use Rattle.dvd_capture.proofs.ListedPieces.{bad-counts, err-cause, fields-begun, fields-come, fields-grow, fields-whole, length-grow, stopped-at-field, stopped-in-fields}
+use Rattle.dvd_capture.proofs.ListedPieces.{Consumes-none, bad-counts, err-cause, fields-begun, fields-come, fields-grow, fields-whole, length-grow, stopped-at-field, stopped-in-fields}
 use Rattle.dvd_capture.proofs.ListedTaken.{if_err, stopped-at-number, stopped-in-number}
 use Rattle.dvd_capture.proofs.listed.fetch_runs.Goals as goal
 
