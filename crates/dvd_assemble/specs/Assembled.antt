@@ -1,4 +1,4 @@
--- What captured frames tell of the blocks of a data zone.
+-- What captured frames say of the blocks of a data zone.
 use Rattle.std.specs.Prelude.{ℕ, ◌/◌, ◌%◌, ◌==◌, if◌then◌else◌, List, length, map, replicate, slice_index_or, slice_set}
 use Rattle.std.specs.List.{range_with_len}
 use Rattle.std.specs.Option.{option_map_or}
@@ -14,17 +14,17 @@ use Rattle.dvd_merge.specs.declared.place.Place.TheVariants.{Unseen}
 use Rattle.dvd_assemble.specs.Frames.{Frame}
 use Rattle.dvd_assemble.specs.Home.{home}
 
--- Ours: what row q of a captured frame tells of its places
+-- Ours: what row q of a captured frame says of its places
 abbrev pub frame_row : Frame → ℕ → List Place
 frame_row frame q = seen_row (line frame.rows q) (marks_line frame.marks q)
 
--- ECMA-267, 19: what a captured frame tells of a block whose recording frame f it is. Of the block's 208 recorded rows those
--- from 13f on are the frame's: its rows 12f to 12f + 11, and behind them row 192 + f.
+-- ECMA-267, 19: what a captured frame says of a block whose recording frame f it is. Of the block's 208 recorded rows those
+-- from 13f on are the frame's: its rows 12f to 12f + 11, and after them row 192 + f.
 unfoldable pub frame_table : ℕ → Frame → Table
 frame_table f frame =
     map (λ i. if record_at i / 13 == f then frame_row frame (record_at i % 13) else replicate 182 Unseen) (range_with_len 0 208)
 
--- Ours: what a captured frame tells of data block k: nothing, if it has its home elsewhere or none
+-- Ours: what a captured frame says of data block k: nothing, if it has its home elsewhere or none
 abbrev pub table_for : ℕ → Frame → ℕ → Table
 table_for k frame n = if n / 16 == k then frame_table (n % 16) frame else unseen
 
@@ -32,7 +32,7 @@ table_for k frame n = if n / 16 == k then frame_table (n % 16) frame else unseen
 unfoldable pub told_of : Layout → ℕ → Frame → Table
 told_of layout k frame = option_map_or (table_for k frame) (home layout frame) unseen
 
--- Ours: for each data block the join of what all frames tell of it
+-- Ours: for each data block the join of what all frames say of it
 unfoldable pub assembled : Layout → List Frame → List Table
 assembled layout frames = map (λ k. joined (map (told_of layout k) frames)) (range_with_len 0 (length (plan_of layout DataOnly)))
 

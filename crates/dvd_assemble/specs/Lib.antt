@@ -1,4 +1,4 @@
--- What the contracts speak of: scattered recording frames, the blocks that they name, and what they tell of these.
+-- What the contracts speak of: scattered recording frames, the blocks that they name, and what they say of these.
 pub mod Assembled
 pub mod Frames
 pub mod Home

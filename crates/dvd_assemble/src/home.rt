@@ -63,8 +63,8 @@ fn decoded(code: &Pi, row: &[u8; 182], marks: &RowMarks) -> Option<[u8; 182]>
     Some(word)
 }
 
-// The block and the frame that have the place of this ID: the layer tells the first block that may have it, and the
-// sectors behind that block's first one tell the block. Only then is the whole ID compared with the plan's.
+// The block and the frame that have the place of this ID: the layer gives the first block that may have it, and the
+// sectors after that block's first one give the block. Only then is the whole ID compared with the plan's.
 // The definition looks through all frames of the zone; no other one than this can have the ID.
 fn home_of_id(layout: &Layout, id: Id) -> Option<(u16, u8)>
     requires { length (plan_of layout.now DataOnly) ≤ 1024 }
@@ -88,7 +88,7 @@ fn home_of_id(layout: &Layout, id: Id) -> Option<(u16, u8)>
     }
 }
 
-// How many blocks stand before those of a layer.
+// How many blocks come before those of a layer.
 fn blocks_before(layout: &Layout, layer: u8) -> u64
     ensures { result ≡ (if layer == 0 then 0 else blocks_of layout.now.sectors0) }
 {

@@ -16,7 +16,7 @@ use dvd_merge::Merge;
 use dvd_ports::NoMemory;
 use std::alloc::Global;
 
-/// What scattered frames told of the blocks of a data zone, up to 1,024: 75,712 bytes for each.
+/// What scattered frames said of the blocks of a data zone, up to 1,024: 75,712 bytes for each.
 #[derive(Drop)]
 pub struct Shelf {
     blocks: Vec<Merge>,

@@ -109,7 +109,7 @@ pub fn write_rows<K: Sink>(rows: &[[u8; 182]], out: &mut K) -> Result<(), WriteF
     write_whole(out, &bytes)
 }
 
-// Writes the first 172 bytes of twelve rows behind each other.
+// Writes the first 172 bytes of twelve rows one after the other.
 fn get_rows(rows: &[[u8; 182]], frame: &mut [u8; 2064])
     requires { length rows.now ≡ 12 }
     ensures { (q p : ℕ) → q < 12 → p < 172 → slice_index frame.new (172 * q + p) ≡ place rows.now q p }

@@ -1,8 +1,8 @@
-//! The order of recording (ECMA-267, 19): behind each twelve rows of data stands a row of outer parity.
+//! The order of recording (ECMA-267, 19): after each twelve rows of data comes a row of outer parity.
 ghost use Rattle.std.specs.Prelude.{◌≡◌, ◌<◌};
 ghost use Rattle.coding.specs.Recording.{row_at, record_at};
 
-/// The row of the block that stands at recorded row `m`.
+/// The row of the block that is recorded row `m`.
 pub fn row_of_record(m: usize) -> usize
     requires { m < 208 }
     ensures value { result ≡ row_at m }
@@ -16,7 +16,7 @@ pub fn row_of_record(m: usize) -> usize
     }
 }
 
-/// The recorded row at which row `i` of the block stands.
+/// The recorded row that row `i` of the block is.
 pub fn record_of_row(i: usize) -> usize
     requires { i < 208 }
     ensures value { result ≡ record_at i }

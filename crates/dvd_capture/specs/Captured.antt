@@ -54,7 +54,7 @@ marks_in Plain record_bytes = replicate 182 false
 marks_in Marked record_bytes = marks_of (drop 182 record_bytes)
 marks_in Listed record_bytes = replicate 182 false
 
--- the rows of a block in the order of the block; row i stands at recorded row `record_at i`
+-- the rows of a block in the order of the block; row i is recorded row `record_at i`
 unfoldable pub captured_rows : Form → List ℕ → List (List ℕ)
 captured_rows form bytes = map (λ i. take 182 (record_of form bytes (record_at i))) (range_with_len 0 208)
 

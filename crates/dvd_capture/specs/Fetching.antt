@@ -15,7 +15,7 @@ FetchCounts (Short count) old new = HasMetEnd old new
 FetchCounts ReadFault old new = HasFailed old new
 FetchCounts (BadMarks at) old new = HasGoneOn old new
 
--- The answer tells how much of a block a source gave, and these are the rows and marks of a whole one. After a fault, and
+-- The answer says how much of a block a source gave, and these are the rows and marks of a whole one. After a fault, and
 -- after the end of the input, nothing more was asked for.
 pub record Fetches (form : Form) (old new : Seen) (rows : List (List ℕ)) (marks : List (List Bool)) (answer : FetchAnswer) : Type 0 where
   pub full : answer ≡ Full → Captures form old.bytes new.bytes rows marks

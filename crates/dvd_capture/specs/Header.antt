@@ -25,11 +25,11 @@ may_stand place byte =
     else if nat_lt place 12 || nat_le 28 place then byte == 0
     else true
 
--- each byte may stand at its place
+-- each byte is allowed at its place
 abbrev pub IsHeader : List ℕ → Type 0
 IsHeader bytes = (place : ℕ) → place < 32 → may_stand place (slice_index bytes place) ≡ true
 
--- the first byte that may not stand at its place
+-- the first byte that isn't allowed at its place
 pub record IsFirstWrongByte (bytes : List ℕ) (at : ℕ) : Type 0 where
   pub within : at < 32
   pub wrong : may_stand at (slice_index bytes at) ≡ false

@@ -1,4 +1,4 @@
--- Ours: the listed form of a captured block. Its unit has the 37,856 bytes of the recorded rows, and behind them fields of two
+-- Ours: the listed form of a captured block. Its unit has the 37,856 bytes of the recorded rows, and after them fields of two
 -- bytes: the number of its runs, and for each run its start and its length. A run marks so many places from its start on.
 use Rattle.std.specs.Prelude.{◌≡◌, ◌⊎◌, ℕ, zero, suc, ◌+◌, ◌-◌, ◌*◌, ◌/◌, ◌%◌, ◌<◌, ◌≤◌, Bool, false, nat_le, nat_lt, ◌&&◌, ◌||◌, List, length, map, slice_index, slice_index_or}
 use Rattle.std.specs.List.{range_with_len}
@@ -21,7 +21,7 @@ start_of bytes i = field_at bytes (37_858 + 4 * i)
 abbrev pub length_of : List ℕ → ℕ → ℕ
 length_of bytes i = field_at bytes (37_860 + 4 * i)
 
--- the end of run i: the place behind its last one
+-- the end of run i: the place after its last one
 abbrev pub end_of : List ℕ → ℕ → ℕ
 end_of bytes i = start_of bytes i + length_of bytes i
 
@@ -48,15 +48,15 @@ IsBadField bytes offset =
     ((offset ≡ 37_856) × BreaksNumber bytes)
     ⊎ ((i : ℕ) × (i < run_count bytes) × (((offset ≡ 37_858 + 4 * i) × BreaksStart bytes i) ⊎ ((offset ≡ 37_860 + 4 * i) × BreaksLength bytes i)))
 
--- and it stands wholly in these bytes
+-- and it is wholly in these bytes
 abbrev pub HasBadField : List ℕ → ℕ → Type 0
 HasBadField bytes offset = (offset + 2 ≤ length bytes) × IsBadField bytes offset
 
--- no field that stands wholly in these bytes breaks a rule
+-- no field that is wholly in these bytes breaks a rule
 abbrev pub IsUnbroken : List ℕ → Type 0
 IsUnbroken bytes = (offset : ℕ) → HasBadField bytes offset → ⊥
 
--- one does, and the first of them stands there
+-- one does, and the first of them is there
 pub record IsBrokenAt (bytes : List ℕ) (at : ℕ) : Type 0 where
   pub bad : HasBadField bytes at
   pub first : (offset : ℕ) → HasBadField bytes offset → at ≤ offset

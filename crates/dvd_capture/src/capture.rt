@@ -28,7 +28,7 @@ pub enum FetchAnswer {
     Short { bytes: u32 },
     /// A fault.
     ReadFault,
-    /// Runs of marks that break a rule: the first field that does begins so many bytes behind the block's first.
+    /// Runs of marks that break a rule: the first field that does begins so many bytes after the block's first.
     BadMarks { at: u32 },
 }
 
@@ -131,7 +131,7 @@ fn put_rows(received: &mut Received, marks: &mut Marks, form: Form, bytes: &[u8]
     }
 }
 
-// Sets the row that stands at recorded row `m`, and its marks.
+// Sets the row that is recorded row `m`, and its marks.
 fn put_record(received: &mut Received, marks: &mut Marks, m: usize, form: Form, bytes: &[u8])
     requires row { m < 208 }
     requires size { length bytes.now ≡ record_size form }

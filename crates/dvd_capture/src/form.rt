@@ -2,14 +2,14 @@
 ghost use Rattle.std.specs.Prelude.{◌≡◌};
 ghost use Rattle.dvd_capture.specs.Captured.{HasSize, block_size, record_size};
 
-/// How the bytes of a captured block stand in a stream: its 208 recorded rows in order.
+/// How the bytes of a captured block are in a stream: its 208 recorded rows in order.
 #[derive(Clone, Copy, Debug, PartialEq, Eq)]
 pub enum Form {
     /// The 182 bytes of each row. No place is marked.
     Plain,
-    /// Behind the 182 bytes of each row 23 bytes of mark bits.
+    /// After the 182 bytes of each row 23 bytes of mark bits.
     Marked,
-    /// The bytes of the plain form, and behind those of all rows the runs of marked places.
+    /// The bytes of the plain form, and after those of all rows the runs of marked places.
     Listed,
 }
 

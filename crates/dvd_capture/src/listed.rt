@@ -1,4 +1,4 @@
-//! Blocks in the listed form: the bytes of the plain form, and behind them fields of two bytes, the number of runs of marked
+//! Blocks in the listed form: the bytes of the plain form, and after them fields of two bytes, the number of runs of marked
 //! places and each run's start and length.
 ghost use Rattle.std.specs.Prelude.{◌≡◌, ℕ, ◌+◌, ◌<◌, ◌≤◌, List, length, IfOk, IfErr, OnOk, OnErr};
 ghost use Rattle.coding.specs.Product.{line};
@@ -44,7 +44,7 @@ fn write_unit<K: Sink>(rows: &[[u8; 182]], marks: &Marks, out: &mut K) -> Result
     write_runs(marks, out)
 }
 
-// Writes the number of runs and then each run, behind the bytes of the rows, as one piece.
+// Writes the number of runs and then each run, after the bytes of the rows, as one piece.
 fn write_runs<K: Sink>(marks: &Marks, out: &mut K) -> Result<(), WriteFault>
     ensures written { (before : List ℕ) → length before ≡ 37_856
         → OnOk result (AppendsAll before (mark_of (marks_rows marks.now)) (K.seen out.old).bytes (K.seen out.new).bytes) }
@@ -71,7 +71,7 @@ pub(crate) fn fetch_listed<S: Source>(
     }
 }
 
-// Reads the number of runs and then each run, behind the bytes of the rows.
+// Reads the number of runs and then each run, after the bytes of the rows.
 fn fetch_marks<S: Source>(src: &mut S, marks: &mut Marks) -> FetchAnswer
     ensures fetched { (before : List ℕ) → AreRows before (mark_of (marks_rows marks.old))
         → IsFetched before (mark_of (marks_rows marks.new)) (S.seen src.old).bytes (S.seen src.new).bytes result }

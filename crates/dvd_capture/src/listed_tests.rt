@@ -18,7 +18,7 @@ static HEADER: [u8; 32] = [
     0, 0, 16, 0, 0, 0, 0,
 ];
 
-// Fields behind the rows, and what the unit is.
+// Fields after the rows, and what the unit is.
 type Unit = (&'static [u16], FetchAnswer);
 
 static UNITS: [Unit; 14] = [
@@ -237,7 +237,7 @@ fn a_fault_leaves_a_prefix_of_the_unit(rt: HostRuntime) -> Result<(), Fail> {
     is_cut_off(alloc, &work)
 }
 
-// Whether a header states what stands in `HEADER`.
+// Whether a header states what is in `HEADER`.
 fn is_stated(header: &Header) -> bool {
     header.shape == 0
         && header.zones == 0
@@ -247,7 +247,7 @@ fn is_stated(header: &Header) -> bool {
         && header.tail == 16
 }
 
-// The bytes behind the first eight of a header whose fields are numbers of the bytes 1 to 16.
+// The bytes after the first eight of a header whose fields are numbers of the bytes 1 to 16.
 static FIELDS: [u8; 20] = [
     2, 1, 0, 0, 1, 2, 3, 4, 5, 6, 7, 8, 9, 10, 11, 12, 13, 14, 15, 16,
 ];

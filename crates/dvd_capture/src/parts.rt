@@ -336,7 +336,7 @@ impl Sectors {
         &self.all[f]
     }
 
-    /// The first `count` sectors, one behind the other.
+    /// The first `count` sectors, one after the other.
     pub(crate) fn first(&self, count: usize) -> &[u8]
         requires { count ≤ 16 }
         ensures { result.now ≡ flat_map (λ sector. sector) (take count (sector_bytes self.now)) }

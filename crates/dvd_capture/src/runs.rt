@@ -16,7 +16,7 @@ use byteorder::{BigEndian, ByteOrder};
 /// The most runs that a block has: every other place is marked.
 pub(crate) const MOST_RUNS: usize = 18_928;
 
-/// The fields behind the rows of a block: the number of its runs, and two for each.
+/// The fields after the rows of a block: the number of its runs, and two for each.
 pub(crate) type Fields = ArrayVec<u8, 75_714>;
 
 /// How many runs were taken, and where the last of them ends.
@@ -52,7 +52,7 @@ fn put_field(fields: &mut Fields, value: usize)
     let _ = fields.try_extend_from_slice(&(value as u16).to_be_bytes());
 }
 
-/// Takes the runs that are whole in these fields, behind those that were taken before, and looks at the start of the next one.
+/// Takes the runs that are whole in these fields, after those that were taken before, and looks at the start of the next one.
 pub(crate) fn take_runs(
     marks: &mut Marks,
     fields: &[u8],

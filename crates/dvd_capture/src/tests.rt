@@ -76,7 +76,7 @@ pub(crate) fn gives(
     Ok(())
 }
 
-// An error where another byte stands at a place, or another mark.
+// An error where another byte is at a place, or another mark.
 fn has(work: &Work, place: &Place) -> Result<(), Fail>
     requires { HasBlock (stage_of work.now) }
 {
@@ -242,7 +242,7 @@ fn places_are_damaged_and_marked(rt: HostRuntime) -> Result<(), Fail> {
     is_damaged(&mut work, &block)
 }
 
-// What is set of the last row stands there.
+// What is set of the last row is there.
 fn a_row_is_set(answers: &mut Answers) -> bool {
     let fix = Some(Fix {
         errors: 2,
@@ -253,14 +253,14 @@ fn a_row_is_set(answers: &mut Answers) -> bool {
     row.bytes[181] == 7 && row.fix == fix
 }
 
-// What is set of the last column stands there.
+// What is set of the last column is there.
 fn a_column_is_set(columns: &mut Columns) -> bool {
     columns.all_mut()[181].set(&[8; 208], true);
     let column = &columns.all()[181];
     column.bytes[207] == 8 && column.answered
 }
 
-// What is set of the last sector stands there, until the sectors are blank.
+// What is set of the last sector is there, until the sectors are blank.
 fn a_sector_is_set(work: &mut Work) -> bool {
     work.sectors.set(15, &[9; 2048]);
     let is_set = work.sector(14)[2047] == 0 && work.sector(15)[2047] == 9;

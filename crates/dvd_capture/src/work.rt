@@ -70,7 +70,7 @@ impl Work {
         self.stage
     }
 
-    /// Sets the stage, and all else stays. Where it says that something was found, that stands in the buffers.
+    /// Sets the stage, and all else stays. Where it says that something was found, that is in the buffers.
     pub fn set_stage(&mut self, stage: Stage)
         requires answered { HasAnswers stage → AreAnswers (rows_of self.old) (marks_of_work self.old) (answers_of_work self.old) }
         requires refused { stage ≡ Refused → HasNoTwoPass (rows_of self.old) (marks_of_work self.old) }
@@ -198,7 +198,7 @@ impl Work {
         self.sectors.sector(f)
     }
 
-    /// The bytes of the first `count` sectors, one behind the other.
+    /// The bytes of the first `count` sectors, one after the other.
     pub fn first_sectors(&self, count: usize) -> &[u8]
         requires { count ≤ 16 }
         ensures { result.now ≡ flat_map (λ sector. sector) (take count (sectors_of self.now)) }

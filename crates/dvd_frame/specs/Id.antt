@@ -25,7 +25,7 @@ abbrev pub word_bytes : ℕ → List ℕ
 word_bytes word = to_be_bytes w32 word
 
 -- Two IDs name the same place on a disk: their areas, layers and sector numbers agree.
--- The other bits tell nothing of the place, and a reader doesn't compare them.
+-- The other bits say nothing of the place, and a reader doesn't compare them.
 abbrev pub IsSamePlace : ℕ → ℕ → Type 0
 IsSamePlace word other = bit_and word 0x0DFFFFFF ≡ bit_and other 0x0DFFFFFF
 

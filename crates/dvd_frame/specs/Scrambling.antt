@@ -34,7 +34,7 @@ scrambled_count First160 = 160
 unfoldable pub mask : ℕ → Rule → ℕ → ℕ
 mask word rule k = if nat_lt k (scrambled_count rule) then scrambling_byte (preset_of word) k else 0
 
--- Main Data as they stand in a scrambled frame: byte k combined with mask k. Masked twice they are as they were.
+-- Main Data as they are in a scrambled frame: byte k combined with mask k. Masked twice they are as they were.
 unfoldable pub masked : ℕ → Rule → List ℕ → List ℕ
 masked word rule main = map (λ k. bit_xor (slice_index main k) (mask word rule k)) (range_with_len 0 (length main))
 

@@ -33,7 +33,7 @@ pub fn edc(bytes: &[u8]) -> [u8; 4]
     edc_of_parts(bytes, &[])
 }
 
-/// The EDC of two lists of bytes, as if the second stood behind the first.
+/// The EDC of two lists of bytes, as if the second came after the first.
 #[inline(always)]
 pub(crate) fn edc_of_parts(front: &[u8], back: &[u8]) -> [u8; 4]
     ensures { result ≡ edc_of (front.now ++ back.now) }
@@ -44,7 +44,7 @@ pub(crate) fn edc_of_parts(front: &[u8], back: &[u8]) -> [u8; 4]
     edc
 }
 
-// The remainder of two lists of bytes, as if the second stood behind the first.
+// The remainder of two lists of bytes, as if the second came after the first.
 #[inline(always)]
 fn divide_parts(front: &[u8], back: &[u8]) -> u32
     ensures { divided_from result [] ≡ divided_from 0 (front.now ++ back.now) }
@@ -110,7 +110,7 @@ fn with_word(register: u32, word: [u8; 4]) -> u32
     ])
 }
 
-// One byte more: its sum with the eight bits that leave the register is divided, and what this leaves is added behind.
+// One byte more: its sum with the eight bits that leave the register is divided, and what this leaves is added at the end.
 fn with_byte(register: u32, byte: u8) -> u32
     ensures { (rest : List ℕ) → divided_from result rest ≡ divided_from register (byte ∷ rest) }
 {

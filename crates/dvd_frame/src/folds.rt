@@ -2,7 +2,7 @@
 //!
 //! The square of a sum of polynomials over the two bits is the sum of their squares. So with x^32 + x^31 + x^4 + 1,
 //! x^(32 n) + x^(31 n) + x^(4 n) + 1 is a multiple of the divisor for each power of two n, and a chunk of n bits may be added
-//! to those that stand 1, 28 and 32 chunks behind it and then left out.
+//! to those 1, 28 and 32 chunks after it and then left out.
 ghost use Rattle.std.specs.Prelude.{◌≡◌, ℕ, ◌+◌, ◌*◌, ◌^◌, ◌≤◌, ◌++◌, length, drop, replicate};
 ghost use Rattle.coding.specs.BitDivision.{plus_front};
 ghost use Rattle.dvd_frame.specs.Inner.Registers.{divided_from};
@@ -10,7 +10,7 @@ ghost use Rattle.dvd_frame.specs.Inner.Registers.{divided_from};
 use crate::parts::load;
 use std::simd::prelude::*;
 
-/// Folds away as many chunks of W bytes, from a place on: what division leaves of the bytes behind them is then what it left of
+/// Folds away as many chunks of W bytes, from a place on: what division leaves of the bytes after them is then what it left of
 /// all from there on.
 #[inline(always)]
 pub(crate) fn fold<const W: usize>(bytes: &mut [u8], from: usize, count: usize)
@@ -27,7 +27,7 @@ pub(crate) fn fold<const W: usize>(bytes: &mut [u8], from: usize, count: usize)
     add(bytes, at, carried);
 }
 
-// One chunk and what is carried to it, added to those 28 and 32 chunks behind it, and carried to the next.
+// One chunk and what is carried to it, added to those 28 and 32 chunks after it, and carried to the next.
 #[inline(always)]
 fn push<const W: usize>(bytes: &mut [u8], at: usize, carried: Simd<u8, W>) -> Simd<u8, W>
     requires { at + 33 * W ≤ length bytes.old }

@@ -47,7 +47,7 @@ impl Id {
         Id(dim_bit + area_bits + u32::from(layer) * (1 << 24) + number)
     }
 
-    /// The ID of a word as it stands on a disk; all 32 bits are kept.
+    /// The ID of a word as it is on a disk; all 32 bits are kept.
     pub fn from_word(word: u32) -> Id
         ensures { result ≡ word }
     {

@@ -1,9 +1,9 @@
-//! Parts of lists of bytes: written one behind the other, and read as vectors.
+//! Parts of lists of bytes: written one after the other, and read as vectors.
 ghost use Rattle.std.specs.Prelude.{◌≡◌, ◌+◌, ◌≤◌, ◌++◌, length, drop, take};
 
 use std::simd::prelude::*;
 
-// Writes a part behind what stands before it.
+// Writes a part after what comes before it.
 pub(crate) fn put(out: &mut [u8], at: usize, part: &[u8])
     requires { at + length part.now ≤ length out.old }
     ensures { take (at + length part.now) out.new ≡ take at out.old ++ part.now }

@@ -19,7 +19,7 @@ pub enum FrameCause {
     /// ID and IED aren't a codeword.
     #[error("ied")]
     Ied,
-    /// The ID names another place; its word is told as it was read.
+    /// The ID names another place; its word is given as it was read.
     #[error("address {found}")]
     Address { found: u32 },
     /// The EDC of the unscrambled frame is wrong.
@@ -57,7 +57,7 @@ pub fn read_frame_with(
     Ok(())
 }
 
-/// Reads a frame as `read_frame_with` does, where it stands: what `out` is after a cause isn't said.
+/// Reads a frame as `read_frame_with` does, straight into `out`: what that is after a cause isn't said.
 #[tactic(auto, using(std::proofs::lemmas::Bool::Decides::nat_tests), unfolding(crate::specs::Frame::frame_cause))]
 pub fn read_frame_into(
     scrambler: &mut Scrambler,

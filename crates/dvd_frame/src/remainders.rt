@@ -183,7 +183,7 @@ pub(crate) fn remainder_of_word(word: [u8; 4]) -> u32
     front ^ back
 }
 
-// An entry of a table of what each byte with k bytes of zeros behind it leaves.
+// An entry of a table of what each byte with k bytes of zeros after it leaves.
 fn entry(table: &[u32; 256], byte: u8) -> u32
     ensures { (k : ℕ) → table.now ≡ map (byte_remainder k) (range_with_len 0 256) → result ≡ byte_remainder k byte }
 {

@@ -66,7 +66,7 @@ impl Model for Keystream {
 }
 
 impl Keystream {
-    /// A stream that stands at byte 0 of the preset.
+    /// A stream that is at byte 0 of the preset.
     pub fn new(preset: u16) -> Keystream
         requires { preset < 2 ^ 15 }
         ensures { result ≡ window preset 0 }
@@ -85,7 +85,7 @@ impl Keystream {
     }
 }
 
-// Eight shifts at once: r6 to r0 move up by eight places, and the eight sums from r14 + r10 to r7 + r3 come in behind.
+// Eight shifts at once: r6 to r0 move up by eight places, and the eight sums from r14 + r10 to r7 + r3 come in at the end.
 fn shifted_by_byte(register: u16) -> u16
     requires { register < 2 ^ 15 }
     ensures within { result < 2 ^ 15 }
@@ -142,7 +142,7 @@ pub fn scramble(rule: Rule, id: Id, main: &mut [u8; 2048])
     scramble_slice(&mut Scrambler::new(), rule, id, main);
 }
 
-// The same where Main Data stand within a frame.
+// The same where Main Data are within a frame.
 pub(crate) fn scramble_slice(scrambler: &mut Scrambler, rule: Rule, id: Id, main: &mut [u8])
     requires { length main.old ≡ 2048 }
     ensures { main.new ≡ masked id rule main.old }
@@ -161,7 +161,7 @@ fn combine(bytes: &mut [u8], keys: &[u8])
     }
 }
 
-// Sets the scrambling bytes of a preset, as many as a frame has Main Data bytes: eight at a time, and behind the first 256
+// Sets the scrambling bytes of a preset, as many as a frame has Main Data bytes: eight at a time, and after the first 256
 // by vectors.
 fn set_keys(preset: u16, keys: &mut [u8; 2048])
     requires { preset < 2 ^ 15 }
@@ -199,7 +199,7 @@ fn next_word(stream: &mut Keystream) -> u64
     u64::from_be_bytes(bytes)
 }
 
-// The eight bytes behind these two words: each is the sum of those fifteen and eleven places before it.
+// The eight bytes after these two words: each is the sum of those fifteen and eleven places before it.
 fn word_behind(word: u64, next: u64) -> u64
     ensures { (preset k : ℕ) → to_be_bytes w64 word ≡ keys_from preset k 8 → to_be_bytes w64 next ≡ keys_from preset (k + 8) 8
         → to_be_bytes w64 result ≡ keys_from preset (k + 16) 8 }
@@ -208,7 +208,7 @@ fn word_behind(word: u64, next: u64) -> u64
     (both << 8 >> 64) as u64 ^ (both << 40 >> 64) as u64
 }
 
-// Sets the 32 bytes behind the scrambling bytes up to a place: each is the sum of those 240 and 176 places before it.
+// Sets the 32 bytes after the scrambling bytes up to a place: each is the sum of those 240 and 176 places before it.
 // Bits have u(n+120) = u(n) + u(n+32), and so do bytes at twice these distances: no sum waits for one of the last.
 #[inline(always)]
 fn set_vector(keys: &mut [u8], at: usize)

@@ -173,7 +173,7 @@ fn a_frame_is_read_back_or_refused(rt: HostRuntime) {
     make_frame(id, &[1, 2, 3, 4, 5, 6], Rule::Whole, &main, &mut frame);
     let mut out = [0; 2048];
 
-    // b29 tells nothing of the place.
+    // b29 says nothing of the place.
     let dim = Id::new(Area::DataZone, 0, true, 0x03_0000);
     assert_eq!(rt; read_frame(&frame, dim, Rule::Whole, &mut out), Ok(()));
     assert_eq!(rt; out, main);

@@ -50,7 +50,7 @@ joined tables = fold join_tables unseen tables
 abbrev pub known_row : Table → ℕ → List Place
 known_row table i = slice_index_or table i []
 
--- what is known of the place in row i at j, unseen behind the end
+-- what is known of the place in row i at j, unseen past the end
 abbrev pub known_at : Table → ℕ → ℕ → Place
 known_at table i j = slice_index_or (known_row table i) j Unseen
 

@@ -14,7 +14,7 @@ with_digit number mark = 2 * number + (if mark then 1 else 0)
 unfoldable pub number_of_marks : List Bool → ℕ
 number_of_marks marks = fold with_digit 0 marks
 
--- Ours: byte k of the mark bits of a row: a digit for each of eight places, and behind the last place two that are 0
+-- Ours: byte k of the mark bits of a row: a digit for each of eight places, and after the last place two that are 0
 abbrev pub mark_byte : List Bool → ℕ → ℕ
 mark_byte marks k = number_of_marks (take 8 (drop (8 * k) (marks ++ false ∷ false ∷ [])))
 

@@ -11,7 +11,7 @@ pub fn merging_costs_no_row_more()
     ensures { CostDoesNotGrow }
 {}
 
-/// What is written of a join is read back as it stands there: its bytes, and a mark where none is known.
+/// What is written of a join is read back as it is there: its bytes, and a mark where none is known.
 pub fn a_marked_text_is_captured_as_it_was_joined()
     ensures { MarkedTextIsCaptured }
 {}

@@ -156,7 +156,7 @@ fn captures_are_joined_place_by_place(rt: HostRuntime) -> Result<(), Fail> {
 const MARKED: usize = 42_640;
 
 // The bytes of the captures joined that aren't 0: row 0 begins with 01 and has a mark at 181, the last before the two spare
-// bits; row 12 stands behind row 192.
+// bits; row 12 comes after row 192.
 static WRITTEN: [(usize, u8); 5] = [
     (0, 1),
     (204, 0b100),

@@ -10,7 +10,7 @@ use std::thread::Threads;
 
 static WORKERS: [u8; 3] = [1, 3, 16];
 
-// The row codeword of the generator polynomial: it stands at the last eleven places.
+// The row codeword of the generator polynomial: it is at the last eleven places.
 const GENERATOR: [u8; 11] = [
     0x01, 0xD8, 0xC2, 0x9F, 0x6F, 0xC7, 0x5E, 0x5F, 0x71, 0x9D, 0xC1,
 ];

@@ -92,7 +92,7 @@ fn copy_rows(answers: &[AnswerRow], top: usize, start: usize, piece: &mut [Colum
     }
 }
 
-// Writes 32 bytes of a column, whose length is told.
+// Writes 32 bytes of a column. Also ensures its length.
 fn put_lanes(lanes: u8x32, at: usize, word: &mut [u8; 208])
     requires { at + 32 ≤ 208 }
     ensures size { length word.new ≡ 208 }
@@ -172,8 +172,8 @@ fn answer_group(
     are_kept
 }
 
-// What 32 columns with these values lack in the failed rows. Nothing is proposed where all are codewords: the lanes that
-// tell so are zeros.
+// What 32 columns with these values lack in the failed rows. Nothing is proposed where all are codewords, whose lanes
+// of `wrong` are zeros.
 fn patches_for(erasures: &Erasures<208>, values: &[u8x32; 16], wrong: u8x32) -> Patches
     ensures { (n : ℕ) (word : List ℕ) → n < 32 → length word ≡ 208
         → ((k : ℕ) → k < 16 → place values.now k n ≡ value word (power alpha k)) → Completes result erasures.now.marks n word }
@@ -185,7 +185,7 @@ fn patches_for(erasures: &Erasures<208>, values: &[u8x32; 16], wrong: u8x32) -> 
     }
 }
 
-// Answers one column as it stands, or with the bytes that lane `n` has for it in the failed rows; `wrong` is zero where it is
+// Answers one column as it is, or with the bytes that lane `n` has for it in the failed rows; `wrong` is zero where it is
 // a codeword. A codeword is its own answer, also where rows failed: each costs one, and at most sixteen did. Answers whether
 // the column could be answered so, and nothing is corrected in rows that aren't marked.
 fn fill_column(

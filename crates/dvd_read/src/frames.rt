@@ -181,7 +181,7 @@ fn copy_kept(answers: &[AnswerRow], columns: &[ColumnAnswer], f: usize, frame: &
     }
 }
 
-// Writes the first 172 bytes of row `i` behind what stands before them.
+// Writes the first 172 bytes of row `i` after what comes before them.
 fn put_kept_row(
     answers: &[AnswerRow],
     columns: &[ColumnAnswer],
@@ -206,7 +206,7 @@ fn put_kept_row(
     }
 }
 
-// Writes frame `f` of these rows. That they have 182 bytes is told too, since a row of a buffer doesn't tell it.
+// Writes frame `f` of these rows. Also ensures that they have 182 bytes.
 fn copy_received(rows: &[[u8; 182]], f: usize, frame: &mut [u8; 2064])
     requires rows { length rows.now ≡ 208 }
     requires frame { f < 16 }
@@ -231,7 +231,7 @@ pub(crate) fn copy_frame(columns: &[ColumnAnswer], f: usize, frame: &mut [u8; 20
     }
 }
 
-/// Writes the first 172 bytes of a row behind what stands before them.
+/// Writes the first 172 bytes of a row after what comes before them.
 pub(crate) fn put_front(frame: &mut [u8; 2064], at: usize, row: &[u8; 182])
     requires { at + 172 ≤ 2064 }
     ensures front { take (at + 172) frame.new ≡ take at frame.old ++ take 172 row.now }

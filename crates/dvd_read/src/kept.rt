@@ -1,5 +1,5 @@
 //! Whether the columns keep the rows that were answered: compared with the rows' answers by vectors, as those who answered
-//! pieces of the columns apart from each other can't tell.
+//! pieces of the columns apart from each other can't know.
 ghost use Rattle.std.specs.Prelude.{◌≡◌, ◌↔◌, ℕ, ◌+◌, ◌<◌, ◌≤◌, IsTrue, false, length, map, slice_index, slice_index_or};
 ghost use Rattle.coding.specs.TwoPass.{failed_of};
 ghost use Rattle.dvd_capture.specs.declared.parts.ColumnAnswer.{ColumnAnswer};

@@ -22,7 +22,7 @@ pub(crate) fn lane_of<const R: usize>(vectors: &[u8x32; R], n: usize) -> ArrayVe
     lanes
 }
 
-// Lane `n` of a vector. One of an array tells no lanes by itself.
+// Lane `n` of a vector. Of one in an array no lanes are known by themselves.
 #[inline(always)]
 fn lane(vector: u8x32, n: usize) -> u8
     requires { n < 32 }

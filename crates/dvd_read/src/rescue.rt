@@ -75,7 +75,7 @@ pub fn salvage_frame(work: &Work, plan: &BlockPlan, f: usize, main: &mut [u8; 20
     save_frame(&held, plan, f, &mut Scrambler::new(), &mut frame, main)
 }
 
-// Saves the frames of the columns' block where that was fixed, or else of the rows' answers. Each is read where it stands.
+// Saves the frames of the columns' block where that was fixed, or else of the rows' answers. Each is read where it is.
 fn save_frames(held: &Held<'_>, plan: &BlockPlan, sectors: &mut Sectors) -> u8
     requires held { HoldAnswers held.now.fixed held.now.columns.now held.now.answers.now }
     requires numbers { HasNumbers plan.now }

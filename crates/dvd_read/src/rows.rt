@@ -25,7 +25,7 @@ pub(crate) const MOST_FAILED: u16 = 16;
 // For fewer rows than this, to decode each takes less time than to propose for 32.
 const FEWEST_PROPOSED: u16 = 4;
 
-// What is told of a codeword without marks.
+// What is answered of a codeword without marks.
 const UNCHANGED: Fix = Fix {
     errors: 0,
     erased: 0,
@@ -49,7 +49,7 @@ pub fn answer_rows(
     }
 }
 
-// Answers at most 32 rows. The values of all are found at once, and tell which rows are codewords.
+// Answers at most 32 rows. The values of all are found at once, and show which rows are codewords.
 fn answer_group(
     code: &Pi,
     received: &Received,

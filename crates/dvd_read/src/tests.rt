@@ -8,7 +8,7 @@ use gf_field::mul;
 use std::alloc::Global;
 use std::test::Fail;
 
-// The row codeword of the generator polynomial: it stands at the last eleven places.
+// The row codeword of the generator polynomial: it is at the last eleven places.
 const GENERATOR: [u8; 11] = [
     0x01, 0xD8, 0xC2, 0x9F, 0x6F, 0xC7, 0x5E, 0x5F, 0x71, 0x9D, 0xC1,
 ];
@@ -43,7 +43,7 @@ fn lose_row(work: &mut Work, i: usize) {
     }
 }
 
-// Loses `count` rows, from row 0 on, each `step` rows behind the one before.
+// Loses `count` rows, from row 0 on, each `step` rows after the one before.
 fn lose_rows(work: &mut Work, step: usize, count: usize) {
     for t in 0..count {
         lose_row(work, step.wrapping_mul(t));

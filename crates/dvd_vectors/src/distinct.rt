@@ -58,7 +58,7 @@ fn layouts_of_other_numbers_are_lawful_and_unlike(_rt: HostRuntime) -> Held {
     held(are_unlike(&layouts) & are_all_ok(&layouts))
 }
 
-// The bytes of a physical format that differ from one with a Data Zone of one block, and what stands there.
+// The bytes of a physical format that differ from one with a Data Zone of one block, and what is there.
 static FORMAT_BYTES: [(usize, u8); 10] = [
     (0, 0),
     (0, 1),

@@ -40,7 +40,7 @@ abbrev pub block_status : Option Cause → ℕ
 block_status None = OK
 block_status (Some cause) = cause_status cause
 
--- the block found, or what stood in its place where there is a cause
+-- the block found, or what was in its place where there is a cause
 abbrev pub block_or : Option Cause → List (List ℕ) → List (List ℕ) → List (List ℕ)
 block_or None block before = block
 block_or (Some cause) block before = before

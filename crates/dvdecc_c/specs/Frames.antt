@@ -25,7 +25,7 @@ abbrev pub with_scrambling : Option Rule → ℕ → List ℕ → List ℕ
 with_scrambling None id main = main
 with_scrambling (Some rule) id main = masked id rule main
 
--- the frame of a rule, if there is one, or what stood in its place
+-- the frame of a rule, if there is one, or what was in its place
 abbrev pub with_frame : Option Rule → ℕ → List ℕ → List ℕ → List ℕ → List ℕ
 with_frame None id cpr main before = before
 with_frame (Some rule) id cpr main before = data_frame id cpr rule main
@@ -42,7 +42,7 @@ abbrev pub reading_status : Option Rule → List ℕ → ℕ → ℕ
 reading_status None frame id = BAD_RULE
 reading_status (Some rule) frame id = cause_status (frame_cause frame id rule)
 
--- what stands in place of Main Data: those of the frame, if it has no cause
+-- what is in place of Main Data: those of the frame, if it has no cause
 abbrev pub main_or : Option FrameCause → List ℕ → List ℕ → List ℕ
 main_or None main before = main
 main_or (Some cause) main before = before
@@ -52,7 +52,7 @@ abbrev pub with_main : Option Rule → List ℕ → ℕ → List ℕ → List �
 with_main None frame id before = before
 with_main (Some rule) frame id before = main_or (frame_cause frame id rule) (main_in frame rule) before
 
--- the ID word that is told: that of another place
+-- the ID word that is reported: that of another place
 abbrev pub found_or : Option FrameCause → ℕ → ℕ
 found_or None before = before
 found_or (Some Ied) before = before

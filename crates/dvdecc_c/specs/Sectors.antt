@@ -27,7 +27,7 @@ IsAnswered sector address None = ⊥
 IsAnswered sector address (Some None) = IsRightSector sector address
 IsAnswered sector address (Some (Some cause)) = IsCause sector address cause
 
--- the number that is told: causes but that of the EDC have one
+-- the number that is reported: causes but that of the EDC have one
 abbrev pub with_number : ℕ → ℕ → ℕ → ℕ
 with_number status told before =
     if status == CD_PARITY then told else if status == CD_MODE then told else if status == CD_ADDRESS then told else before

@@ -16,7 +16,7 @@ abbrev pub word_status : Option (List ℕ) → ℕ
 word_status None = UNCORRECTABLE
 word_status (Some word) = OK
 
--- what is told of the codeword near a word; nothing is where there is none
+-- what is reported of the codeword near a word: nothing where there is none
 abbrev pub with_correction : Option (List ℕ) → List ℕ → List Bool → Correction → Correction
 with_correction None received marks before = before
 with_correction (Some word) received marks before =

@@ -14,7 +14,7 @@ patched (byte ∷ word) (false ∷ marks) bytes = byte ∷ patched word marks by
 patched (byte ∷ word) (true ∷ marks) [] = byte ∷ patched word marks []
 patched (byte ∷ word) (true ∷ marks) (first ∷ rest) = plus byte first ∷ patched word marks rest
 
--- where the bytes for word n are told to be right, the word with them added vanishes at alpha^0 to alpha^15
+-- where the bytes for word n are said to be right, the word with them added vanishes at alpha^0 to alpha^15
 abbrev pub Completes : Patches → List Bool → ℕ → List ℕ → Type 0
 Completes patches marks n word =
     slice_index patches.wrong n ≡ 0 → (k : ℕ) → k < 16

@@ -18,7 +18,7 @@ use thiserror::Error;
 pub struct NoCodeword;
 
 /// Sets the bytes at the marked places so that `word` is a codeword, and answers how many places are marked.
-/// The bytes that stood there don't count. After an error the word is unchanged.
+/// The bytes that were there don't count. After an error the word is unchanged.
 pub fn fill<const N: usize, const R: usize>(
     code: &Code<N, R>,
     word: &mut [u8; N],

@@ -88,7 +88,7 @@ pub fn decode_from<const N: usize, const R: usize>(
     })
 }
 
-// Sets the bytes at the marked places and at those where the locator tells an error: to the near codeword, if there is one.
+// Sets the bytes at the marked places and at those where the locator shows an error: to the near codeword, if there is one.
 // What it makes is tested and counted, so nothing is needed of the locator but that it misses no error.
 fn fill_located<const N: usize, const R: usize>(
     code: &Code<N, R>,
@@ -105,7 +105,7 @@ fn fill_located<const N: usize, const R: usize>(
     ensures same { OnErr result (word.new ≡ word.old) }
 {
     let locator = shortest(&sums_without(&erasures.points, &syndromes));
-    // A locator of degree 0 is 1 and tells no error.
+    // A locator of degree 0 is 1 and shows no error.
     if locator.len == 0 {
         return fill_from(code, erasures, syndromes, word);
     }

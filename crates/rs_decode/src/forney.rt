@@ -78,7 +78,7 @@ fn evaluator(points: &[u8], sums: &[u8]) -> u8x32
     lanes
 }
 
-/// A polynomial times (x + `point`), where the highest power of both stands in the first lane.
+/// A polynomial times (x + `point`), where the highest power of both is in the first lane.
 #[inline(always)]
 pub fn times_distance(lanes: u8x32, point: u8) -> u8x32
     requires { length lanes ≡ 32 }

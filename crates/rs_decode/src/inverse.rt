@@ -19,10 +19,10 @@ use rs_lanes::scaled;
 use std::simd::prelude::*;
 
 /// The inverse of the matrix whose row k has the k-th powers of at most sixteen points: its row i, times power sums, is the
-/// byte at point i. It is as wide as there are points, and zeros stand in the rest.
+/// byte at point i. It is as wide as there are points, and the rest are zeros.
 #[derive(Drop)]
 pub struct Inverse {
-    /// The points, none of which stands twice.
+    /// The points, none of which comes twice.
     pub(crate) points: ArrayVec<u8, 32>,
     /// Its columns: byte i of column k is in row i.
     pub(crate) columns: [[u8; 16]; 16],
@@ -95,7 +95,7 @@ fn times_distances(lanes: u8x32, others: &[u8]) -> u8x32
     product
 }
 
-// Sets row `i` to the coefficients of a polynomial, of which the highest power stands first in the list.
+// Sets row `i` to the coefficients of a polynomial, of which the highest power comes first in the list.
 fn set_row(columns: &mut [[u8; 16]; 16], i: usize, polynomial: &[u8])
     requires inside { i < 16 }
     requires few { length polynomial.now ≤ 16 }

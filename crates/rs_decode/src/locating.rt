@@ -74,7 +74,8 @@ pub fn count_errors(received: &[u8], word: &[u8], marks: &[bool]) -> u16
     count
 }
 
-/// A word is made of bytes, which one of constant length tells only as a slice.
+/// Ensures that the elements of a word are bytes. It does nothing: the checker knows this of a slice, and not of an
+/// array.
 pub fn tell_bytes(word: &[u8])
     ensures { All IsByte word.now }
 {}

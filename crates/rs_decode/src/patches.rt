@@ -20,7 +20,7 @@ use std::simd::prelude::*;
 /// The bytes to add at the marked places of 32 words of a code with sixteen parity bytes, which all have the same marks.
 #[derive(Drop)]
 pub struct Patches {
-    /// Byte `n` of the list with number `i` is for the marked place that `i` others stand before, in word `n`.
+    /// Byte `n` of the list with number `i` is for the marked place that `i` others come before, in word `n`.
     pub(crate) bytes: [[u8; 32]; 16],
     /// Byte `n` is 0 only if the bytes for word `n` make it a codeword.
     pub(crate) wrong: [u8; 32],

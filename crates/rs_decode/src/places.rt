@@ -14,7 +14,7 @@ use crate::inverse::Inverse;
 use arrayvec::ArrayVec;
 use gf_field::{alpha_pow, log};
 
-/// The marked places of a word of `N` bytes, and the powers of alpha that their bytes stand at: found once for all words
+/// The marked places of a word of `N` bytes, and the powers of alpha that their bytes are at: found once for all words
 /// that have these marks.
 #[derive(Drop)]
 pub struct Erasures<const N: usize> {
@@ -24,7 +24,7 @@ pub struct Erasures<const N: usize> {
     pub(crate) points: ArrayVec<u8, 32>,
     // The inverse of their powers, where many words are to be filled at them.
     pub(crate) inverse: Option<Inverse>,
-    // The marked places in order, there too: as many as there are points, and zeros or others behind them.
+    // The marked places in order, there too: as many as there are points, and zeros or others after them.
     pub(crate) places: [u8; 256],
     /// A word of `N` bytes has as many places.
     pub ghost size: { length marks ≡ N },
@@ -104,7 +104,7 @@ fn inverse_of(points: &[u8]) -> Option<Inverse>
     Some(Inverse::new(ArrayVec::try_from(points).unwrap()))
 }
 
-// The powers of alpha that the bytes at the marked places stand at, unless more than `most` places are marked.
+// The powers of alpha that the bytes at the marked places are at, unless more than `most` places are marked.
 fn marked_points(marks: &[bool], most: usize) -> Option<ArrayVec<u8, 32>>
     requires room { most ≤ 32 }
     requires short { length marks.now ≤ 255 }
@@ -140,7 +140,7 @@ fn count_marks(marks: &[bool]) -> u16
     count
 }
 
-// The power of alpha that a place of a word of this size stands at.
+// The power of alpha that a place of a word of this size is at.
 fn point_of(size: usize, place: usize) -> u8
     requires short { size ≤ 255 }
     requires inside { place < size }
@@ -156,14 +156,14 @@ fn gather_places(marks: &[bool], places: &mut [u8; 256])
 {
     let mut count = 0;
     for place in 0..marks.len() {
-        // Each place is written behind those found so far and stays if it is marked, so that no branch hangs on a mark.
+        // Each place is written after those found so far and stays if it is marked, so that no branch hangs on a mark.
         places[count] = place as u8;
         count += usize::from(marks[place]);
     }
 }
 
 /// Adds each byte to the place that has its point. Where the points are those of marked places, these are patched in order.
-/// That the word is bytes is told too, since one of constant length doesn't tell it.
+/// Also ensures that its elements are bytes.
 pub fn patch(word: &mut [u8], points: &[u8], bytes: &[u8])
     requires short { length word.old ≤ 255 }
     requires fits { length bytes.now ≡ length points.now }

@@ -1,7 +1,7 @@
 //! The shortest linear feedback register that generates a list, by the steps of Berlekamp and Massey: the list is taken
-//! number by number. Where the register at hand fails, a multiple of an earlier one, shifted to fail at the same place, mends
-//! it. A register's taps stand in one vector, and its connections from the place at hand on in another: what mends its taps
-//! mends its connections too, so that nothing is summed up at any place. No step takes memory.
+//! number by number. Where the register at hand fails, a multiple of an earlier one, shifted to fail at the same place, corrects
+//! it. A register's taps are in one vector, and its connections from the place at hand on in another: what corrects its taps
+//! corrects its connections too, so that nothing is summed up at any place. No step takes memory.
 ghost use Rattle.std.specs.Prelude.{◌≡◌, ℕ, ◌+◌, ◌<◌, ◌≤◌, ◌∷◌, length, take, slice_index};
 ghost use Rattle.coding.specs.Field.{plus, product};
 ghost use Rattle.rs_lanes.specs.Inner.Lanes.{HasLanes};
@@ -46,7 +46,7 @@ pub fn shortest(seq: &[u8]) -> Register
         connections: u8x32::from_array(in_front(seq)),
     };
     // The register from before the length last changed, shifted to fail at the place at hand, and multiplied to fail by 1.
-    // While the length is 0 there is none, and x stands for it.
+    // While the length is 0 there is none, and x takes its place.
     let mut earlier = Candidate {
         taps: moved_up(1, register.taps),
         connections: moved_up(0, register.connections),

@@ -317,7 +317,7 @@ fn patches_all_words_with_up_to_sixteen_marks(rt: HostRuntime) {
     }
 }
 
-/// Words with an error more are told, whichever lane they stand in.
+/// Words with an error more are found, whichever lane they are in.
 #[test]
 fn tells_words_that_are_not_patched(rt: HostRuntime) {
     let mut marks = [false; 208];

@@ -1,4 +1,4 @@
-//! The values of a polynomial at the powers of alpha, sixteen at once. The highest power stands first.
+//! The values of a polynomial at the powers of alpha, sixteen at once. The highest power comes first.
 //! A term's values at sixteen powers, each times one power of alpha, are its values at the next sixteen. Formulas for low
 //! degrees would need a table and a proof for each degree, and this search for all others.
 ghost use Rattle.std.specs.Prelude.{◌≡◌, ℕ, ◌*◌, ◌<◌, ◌≤◌, length, slice_index};

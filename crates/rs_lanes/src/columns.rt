@@ -43,7 +43,7 @@ pub fn column_values<T: Row>(rows: &[T], at: usize) -> [u8x32; 16]
 }
 
 /// The outer parity of the 32 columns from `at` on of 192 rows, a vector for each of its sixteen bytes: that of column `at + n`
-/// stands in lane `n`.
+/// is in lane `n`.
 pub fn parity_of_columns(rows: &[[u8; 182]], at: usize) -> [u8x32; 16]
     requires at { at + 32 ≤ 182 }
     requires rows { length rows.now ≡ 192 }

@@ -33,7 +33,7 @@ abbrev pub IsBadMarks : FetchAnswer → Type 0
 IsBadMarks (BadMarks at) = Unit {0}
 IsBadMarks other = ⊥
 
--- one of these bytes' fields breaks a rule, the first at the place that the answer tells
+-- one of these bytes' fields breaks a rule, the first at the place that the answer gives
 abbrev pub BreaksIn : List ℕ → FetchAnswer → Type 0
 BreaksIn bytes (BadMarks at) = IsBrokenAt bytes at
 BreaksIn bytes other = ⊥
@@ -51,25 +51,25 @@ IsStop bytes left (Short count) = (count ≡ length bytes) × IsAtEnd left × Is
 IsStop bytes left ReadFault = IsCut bytes
 IsStop bytes left (BadMarks at) = IsBrokenAt bytes at
 
--- behind those bytes more were taken, and the unit isn't fetched
+-- after those bytes more were taken, and the unit isn't fetched
 pub record IsStopped (before : List ℕ) (old new : Option (List ℕ)) (answer : FetchAnswer) : Type 0 where
   pub own : List ℕ
   pub taken : Consumes old new own
   pub stops : IsStop (before ++ own) new answer
 
--- behind those bytes more were taken, and now there are so many runs
+-- after those bytes more were taken, and now there are so many runs
 pub record TakesRuns (before : List ℕ) (count n end : ℕ) (mark : ℕ → Bool) (old new : Option (List ℕ)) : Type 0 where
   pub own : List ℕ
   pub taken : Consumes old new own
   pub runs : HasRuns (before ++ own) count n end mark
 
--- behind those bytes of rows more were taken or written, to the last run of their unit
+-- after those bytes of rows more were taken or written, to the last run of their unit
 pub record TakesAll (before : List ℕ) (mark : ℕ → Bool) (old new : Option (List ℕ)) : Type 0 where
   pub count : ℕ
   pub end : ℕ
   pub takes : TakesRuns before count count end mark old new
 
--- what is answered behind the bytes of rows
+-- what is answered after the bytes of rows
 abbrev pub IsFetched : List ℕ → (ℕ → Bool) → Option (List ℕ) → Option (List ℕ) → FetchAnswer → Type 0
 IsFetched before mark old new Full = TakesAll before mark old new
 IsFetched before mark old new End = ⊥
@@ -77,26 +77,26 @@ IsFetched before mark old new (Short count) = IsStopped before old new (Short co
 IsFetched before mark old new ReadFault = IsStopped before old new ReadFault
 IsFetched before mark old new (BadMarks at) = IsStopped before old new (BadMarks at)
 
--- these bytes, behind those of the rows, are the fields of a unit to its last run
+-- these bytes, after those of the rows, are the fields of a unit to its last run
 pub record AreFields (before : List ℕ) (mark : ℕ → Bool) (own : List ℕ) : Type 0 where
   pub bytes : (k : ℕ) → slice_index own k < 256
   pub count : ℕ
   pub end : ℕ
   pub runs : HasRuns (before ++ own) count count end mark
 
--- behind those bytes of rows more were written, to the last run of their unit
+-- after those bytes of rows more were written, to the last run of their unit
 pub record AppendsAll (before : List ℕ) (mark : ℕ → Bool) (old new : Option (List ℕ)) : Type 0 where
   pub own : List ℕ
   pub are : AreFields before mark own
   pub grows : Appends old new own
 
--- behind those bytes of rows a front was written of bytes that go to the last run of their unit
+-- after those bytes of rows a front was written of bytes that go to the last run of their unit
 pub record AppendsSome (before : List ℕ) (mark : ℕ → Bool) (old new : Option (List ℕ)) : Type 0 where
   pub own : List ℕ
   pub are : AreFields before mark own
   pub part : AppendsPrefix old new own
 
--- some fields came behind these, no more than so many bytes in all
+-- some fields came after these, no more than so many bytes in all
 pub record TakesMore (most : ℕ) (fields now : List ℕ) (old new : Option (List ℕ)) : Type 0 where
   pub own : List ℕ
   pub some : 0 < length own
@@ -104,20 +104,20 @@ pub record TakesMore (most : ℕ) (fields now : List ℕ) (old new : Option (Lis
   pub puts : now ≡ fields ++ own
   pub taken : Consumes old new own
 
--- nothing came behind so many bytes of a unit: the source ended, or a read failed
+-- nothing came after so many bytes of a unit: the source ended, or a read failed
 abbrev pub TakesNone : ℕ → Option (List ℕ) → Option (List ℕ) → FetchAnswer → Type 0
 TakesNone held old new (Short count) = (count ≡ held) × Consumes old new [] × IsAtEnd new
 TakesNone held old new ReadFault = Consumes old new []
 TakesNone held old new other = ⊥
 
--- a field was taken behind so many bytes of a unit, or the source failed or ended within it
+-- a field was taken after so many bytes of a unit, or the source failed or ended within it
 pub record TakesField (old new : Option (List ℕ)) (value : ℕ) : Type 0 where
   pub own : List ℕ
   pub size : length own ≡ 2
   pub taken : Consumes old new own
   pub is : field_at own 0 ≡ value
 
--- the source ended within a field: of its two bytes fewer came, behind so many of the unit
+-- the source ended within a field: of its two bytes fewer came, after so many of the unit
 pub record EndsInField (held : ℕ) (old new : Option (List ℕ)) (count : ℕ) : Type 0 where
   pub own : List ℕ
   pub fewer : length own < 2

@@ -10,7 +10,7 @@ use Rattle.dvd_frame.specs.Scrambling.{scrambling_byte}
 unfoldable pub keys_from : ℕ → ℕ → ℕ → List ℕ
 keys_from preset k n = map (scrambling_byte preset) (range_with_len k n)
 
--- What division leaves once these bytes are read too: the register's bits stand for what is left of all before them.
+-- What division leaves once these bytes are read too: the register's bits are what is left of all before them.
 unfoldable pub divided_from : ℕ → List ℕ → List ℕ
 divided_from register bytes =
     remainder (8 * length bytes) (plus_front (bits_of bytes ++ replicate 32 0) (bits 32 register))
