@@ -90,5 +90,6 @@ pub mark-more : (is : ℕ → Bool) (marks : List Bool) (j : ℕ) (mark : Bool) 
     → (k : ℕ) → k < j + 1 → get_or (set marks j mark) k false ≡ is k
 mark-more is marks j mark inside before here k below = elim (cases_lt k j) [
   | inl low ↦ get_or-set_other marks j k mark false (λ e. omega (arith, low, e)) ∙ before k low
-  | inr high ↦ (let last : k ≡ j = omega (arith, high, below) in ap (λ m. get_or (set marks j mark) m false) last ∙ get_or-set_same marks j mark false inside ∙ here ∙ ap is (sym last))
+  | inr high ↦ (let last : k ≡ j = omega (arith, high, below) in
+      ap (λ m. get_or (set marks j mark) m false) last ∙ get_or-set_same marks j mark false inside ∙ here ∙ ap is (sym last))
 ]

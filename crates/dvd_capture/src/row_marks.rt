@@ -79,29 +79,15 @@ impl RowMarks {
         spread_bits(&self.bits)
     }
 
-    /// The 23 bytes of mark bits. What the two spare bits are isn't said.
-    pub fn bits(&self) -> &[u8; 23]
-        ensures { marks_of_row self.now ≡ marks_of result.now }
-    {
-        &self.bits
-    }
-
-    /// Sets all marks to those in 23 bytes of mark bits. The most significant bit of a byte is that of its first place.
-    pub fn copy_from_bits(&mut self, bits: &[u8])
-        requires { length bits.now ≡ 23 }
-        ensures { marks_of_row self.new ≡ marks_of bits.now }
-    {
-        self.bits.copy_from_slice(bits);
-    }
-
-    /// Sets all marks to those in a recorded row by itself, which has mark bits in the marked form alone.
+    /// Sets all marks to those in a recorded row by itself, which has mark bits in the marked form alone: the most significant
+    /// bit of a byte is that of its first place.
     pub fn copy_from_record(&mut self, form: Form, record: &[u8])
         requires { length record.now ≡ record_size form }
         ensures { marks_of_row self.new ≡ marks_in form record.now }
     {
         match form {
             Form::Plain | Form::Listed => *self = RowMarks::none(),
-            Form::Marked => self.copy_from_bits(&record[182..]),
+            Form::Marked => self.bits.copy_from_slice(&record[182..]),
         }
     }
 }
@@ -163,7 +149,7 @@ fn put_bits(bits: u8, marks: &mut [u8], at: usize)
     lanes.copy_to_slice(&mut marks[at..]);
 }
 
-// Sets it.
+// Sets the mark of place `j`.
 fn set_mark(bits: &mut [u8; 23], j: usize, mark: bool)
     requires { j < 182 }
     ensures { marks_of bits.new ≡ slice_set (marks_of bits.old) j mark }

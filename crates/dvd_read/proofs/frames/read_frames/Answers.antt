@@ -23,7 +23,8 @@ loop-f-preserved c =
     let right = cause_as c.get_frame.new.frame _ _ _ _ None c.id_of-want.ensures c.rule_of-rule.ensures c.in_default.ensures.right in
     record {
       right = fault-next block c.args.plan.now f c.get_frame.new.frame c.loop-f.invariant.right c.get_frame.ensures right;
-      mains = mains-next block c.args.plan.now sectors f c.get_frame.new.frame c.read_frame_into.new.out (omega arith) c.loop-f.invariant.mains c.get_frame.ensures
+      mains = mains-next block c.args.plan.now sectors f c.get_frame.new.frame c.read_frame_into.new.out (omega arith) c.loop-f.invariant.mains
+          c.get_frame.ensures
           (c.in_default.ensures.main ∙ ap (main_in c.get_frame.new.frame) c.rule_of-rule.ensures);
     }
 

@@ -10,12 +10,14 @@ use Rattle.dvd_read.proofs.rescue.copy_candidate.Goals as goal
 pub returns-then-held-clause-candidate : goal.returns-then-held-clause-candidate
 returns-then-held-clause-candidate c =
     λ yes.
-    candidate-found (map answer_word c.args.held.now.answers.now) c.args.f (from_columns (words_of_columns c.args.held.now.columns.now)) c.copy_frame.new.frame
+    candidate-found (map answer_word c.args.held.now.answers.now) c.args.f
+    (from_columns (words_of_columns c.args.held.now.columns.now)) c.copy_frame.new.frame
     (sym c.requires.held.fixed ∙ c.if-held.true) (c.requires.held.block c.if-held.true) c.copy_frame.ensures
 
 pub returns-then-held-clause-has : goal.returns-then-held-clause-has
 returns-then-held-clause-has c =
-    sym (ap is_some (candidate-found (map answer_word c.args.held.now.answers.now) c.args.f (from_columns (words_of_columns c.args.held.now.columns.now)) c.copy_frame.new.frame
+    sym (ap is_some (candidate-found (map answer_word c.args.held.now.answers.now) c.args.f
+    (from_columns (words_of_columns c.args.held.now.columns.now)) c.copy_frame.new.frame
     (sym c.requires.held.fixed ∙ c.if-held.true) (c.requires.held.block c.if-held.true) c.copy_frame.ensures))
 
 pub returns-else-held-clause-candidate : goal.returns-else-held-clause-candidate
@@ -26,4 +28,5 @@ returns-else-held-clause-candidate c =
 
 pub returns-else-held-clause-has : goal.returns-else-held-clause-has
 returns-else-held-clause-has c =
-    candidate-has (map answer_word c.args.held.now.answers.now) c.args.f c.copy_answered.result (sym c.requires.held.fixed ∙ c.if-held.false) c.copy_answered.ensures.has
+    candidate-has (map answer_word c.args.held.now.answers.now) c.args.f c.copy_answered.result
+    (sym c.requires.held.fixed ∙ c.if-held.false) c.copy_answered.ensures.has

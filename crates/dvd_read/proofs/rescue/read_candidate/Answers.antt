@@ -7,7 +7,8 @@ use Rattle.dvd_read.proofs.rescue.read_candidate.Goals as goal
 pub returns-then-copy_candidate-clause-main : goal.returns-then-copy_candidate-clause-main
 returns-then-copy_candidate-clause-main c =
     λ ok.
-    read-main (map answer_word c.args.held.now.answers.now) c.args.f c.args.plan.now c.read_frame_into.result c.copy_candidate.new.frame c.read_frame_into.new.out _ _
+    read-main (map answer_word c.args.held.now.answers.now) c.args.f c.args.plan.now c.read_frame_into.result c.copy_candidate.new.frame
+    c.read_frame_into.new.out _ _
     (c.copy_candidate.ensures.candidate c.if-copy_candidate.true) c.id_of.ensures c.rule_of-rule.ensures (sym c.is_ok.ensures.value ∙ ok)
     c.read_frame_into.ensures.right c.read_frame_into.ensures.main
 

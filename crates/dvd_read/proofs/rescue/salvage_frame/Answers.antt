@@ -12,9 +12,11 @@ save_frame-requires-clause-held c =
 pub returns-clause-main : goal.returns-clause-main
 returns-clause-main c =
     c.save_frame.ensures.main
-    ∙ ap (λ answers. unwrap_or (rescued answers c.args.plan.now c.args.f) (replicate 2048 0)) (words c.args.work.now c.new-held.result.answers.now c.new-held.ensures.answers c.requires.stage)
+    ∙ ap (λ answers. unwrap_or (rescued answers c.args.plan.now c.args.f) (replicate 2048 0))
+    (words c.args.work.now c.new-held.result.answers.now c.new-held.ensures.answers c.requires.stage)
 
 pub returns-clause-saved : goal.returns-clause-saved
 returns-clause-saved c =
     c.save_frame.ensures.saved
-    ∙ ap (λ answers. is_some (rescued answers c.args.plan.now c.args.f)) (words c.args.work.now c.new-held.result.answers.now c.new-held.ensures.answers c.requires.stage)
+    ∙ ap (λ answers. is_some (rescued answers c.args.plan.now c.args.f))
+    (words c.args.work.now c.new-held.result.answers.now c.new-held.ensures.answers c.requires.stage)

@@ -18,4 +18,4 @@ returns-in-Plain c = c.none.ensures ∙ no_bits c.args.form c.args.record.now c.
 pub returns-in-Marked : goal.returns-in-Marked
 returns-in-Marked c =
     rw c.in-Marked.is
-    (c.copy_from_bits.ensures ∙ ap marks_of (take_all _ (drop 182 c.args.record.now) (omega (arith, length-drop 182 c.args.record.now))))
+    (ap marks_of (c.copy_from_slice.ensures.after ∙ take_all _ (drop 182 c.args.record.now) (omega (arith, length-drop 182 c.args.record.now))))
