@@ -81,13 +81,13 @@ impl RowMarks {
 
     /// Sets all marks to those in a recorded row by itself, which has mark bits in the marked form alone: the most significant
     /// bit of a byte is that of its first place.
-    pub fn copy_from_record(&mut self, form: Form, record: &[u8])
-        requires { length record.now ≡ record_size form }
-        ensures { marks_of_row self.new ≡ marks_in form record.now }
+    pub fn copy_from_record(&mut self, form: Form, bytes: &[u8])
+        requires { length bytes.now ≡ record_size form }
+        ensures { marks_of_row self.new ≡ marks_in form bytes.now }
     {
         match form {
             Form::Plain | Form::Listed => *self = RowMarks::none(),
-            Form::Marked => self.bits.copy_from_slice(&record[182..]),
+            Form::Marked => self.bits.copy_from_slice(&bytes[182..]),
         }
     }
 }

@@ -13,9 +13,9 @@ no_bits form row (inl is) = rw is refl
 no_bits form row (inr is) = rw is refl
 
 pub returns-in-Plain : goal.returns-in-Plain
-returns-in-Plain c = c.none.ensures ∙ no_bits c.args.form c.args.record.now c.in-Plain.is
+returns-in-Plain c = c.none.ensures ∙ no_bits c.args.form c.args.bytes.now c.in-Plain.is
 
 pub returns-in-Marked : goal.returns-in-Marked
 returns-in-Marked c =
     rw c.in-Marked.is
-    (ap marks_of (c.copy_from_slice.ensures.after ∙ take_all _ (drop 182 c.args.record.now) (omega (arith, length-drop 182 c.args.record.now))))
+    (ap marks_of (c.copy_from_slice.ensures.after ∙ take_all _ (drop 182 c.args.bytes.now) (omega (arith, length-drop 182 c.args.bytes.now))))
