@@ -55,7 +55,7 @@ pub fn fails<R: AllocGlobal + Threads + Sync>(rt: &R, text: &'static str) -> boo
 // The arguments that ran last, their result, and where the output first differs from the wanted one: in an image,
 // or in a capture.
 fn tell<R: Eprint>(rt: &R, trial: &Trial) {
-    let words = trial.words.split(" | ").nth(trial.last).unwrap_or("");
+    let words = trial.words.split(" or ").nth(trial.last).unwrap_or("");
     let status = name_of(trial.left.status);
     let length = trial.left.output.len();
     let report = str::from_utf8(&trial.left.report).unwrap_or("bytes that are no text");

@@ -12,9 +12,10 @@
 //!
 //! `given` are the bytes that cases have in common, and `case` is one of them, changed; `also` changes those in common.
 //! `output` is all that a run writes where nothing fails. After `run` come the arguments of a run, and after each `or`
-//! others, which leave the same. What must come follows `->`: status, length of the output, a prefix of the whole
-//! one, and the lines of the report, with `/` between them; one that ends in `..` is cut off there. A line that
-//! names nothing else goes on changing the bytes. Nothing after `#` is read.
+//! others, which leave the same to the last byte. What must come follows `->`: status, length of the output, a prefix of
+//! the whole one, and the lines of the report, with `/` between them; one that ends in `..` is cut off there. A line
+//! that names nothing else goes on changing the bytes. What is run and the case stay until others take their place;
+//! `given` lets go of the output, which then may be any. Nothing after `#` is read.
 //!
 //! ```text
 //! reads: 700 bytes a call, call 2 fails      the next run reads so; `writes`, `reports`; `room for 5 bytes` to write
@@ -22,9 +23,10 @@
 //! at 2 blocks and 12 bytes: ACA6AD           these bytes are there in it
 //! the same in pieces: 1 7 2047               it comes again where all streams move these numbers of bytes a call
 //! each call fails: 9 reads of 5000 bytes, 4 reports of 7 bytes 2 apart
-//!                                            where one of that many calls fails, all that was done before it is left
+//!                                            there are that many calls, and where one fails, each in turn or with 2 apart
+//!                                            every second one, all that was done before it is left
 //! nothing is tried again: 7 calls of 700 bytes
-//!                                            where one of that many calls of a stream or of its flushes fails
+//!                                            where one of the first that many calls of a stream or of its flushes fails
 //! the same while these blocks become zeros: 32 to 223
 //! to nothing                                 it comes again with an output that keeps nothing
 //! twin: .., alike: A = B                     arguments A leave over the case what arguments B leave over the twin

@@ -37,7 +37,7 @@ pub struct Trial {
     pub case: Vec<u8>,
     twin: Vec<u8>,
     spare: Vec<u8>,
-    /// The arguments of each run, with ` | ` between the runs, and which of them ran last.
+    /// The arguments of each run, with ` or ` between the runs, and which of them ran last.
     pub words: String,
     pub last: usize,
     /// The ports of the next run.
@@ -155,7 +155,7 @@ fn step_is_done<R: AllocGlobal + Threads + Sync>(rt: &R, text: &str, trial: &mut
 /// again.
 pub fn go<R: AllocGlobal + Threads + Sync>(rt: &R, k: usize, trial: &mut Trial) -> bool {
     trial.last = k;
-    match trial.words.split(" | ").nth(k) {
+    match trial.words.split(" or ").nth(k) {
         Some(words) => run_over(
             rt,
             &OpenGate,
@@ -168,23 +168,26 @@ pub fn go<R: AllocGlobal + Threads + Sync>(rt: &R, k: usize, trial: &mut Trial) 
     }
 }
 
-// Whether each of the runs leaves what is wanted. The last result is kept.
+// Whether each of the runs leaves what is wanted, and what the one before it left. The last result is kept.
 fn comes<R: AllocGlobal + Threads + Sync>(rt: &R, wanted: &str, trial: &mut Trial) -> bool {
     let mut all_come = !trial.words.is_empty();
-    for k in 0..trial.words.split(" | ").count() {
-        all_come = all_come && go(rt, k, trial) && trial.has_come(wanted);
+    for k in 0..trial.words.split(" or ").count() {
+        all_come = all_come
+            && go(rt, k, trial)
+            && trial.has_come(wanted)
+            && (k == 0 || trial.is_same());
+        if all_come {
+            swap(&mut trial.left, &mut trial.kept);
+        }
     }
     trial.ports = ALL_SOUND;
-    if all_come {
-        swap(&mut trial.left, &mut trial.kept);
-    }
     all_come
 }
 
 /// Whether each of the runs leaves what is kept.
 pub fn all_same<R: AllocGlobal + Threads + Sync>(rt: &R, trial: &mut Trial) -> bool {
     let mut are_same = true;
-    for k in 0..trial.words.split(" | ").count() {
+    for k in 0..trial.words.split(" or ").count() {
         are_same = are_same && go(rt, k, trial) && trial.is_same();
     }
     trial.ports = ALL_SOUND;
@@ -275,7 +278,7 @@ impl Trial {
             self.words.clear();
             return self.words.push_str(text).is_ok();
         }
-        self.words.push_str(" | ").is_ok() && self.words.push_str(text).is_ok()
+        self.words.push_str(" or ").is_ok() && self.words.push_str(text).is_ok()
     }
 
     // `700 bytes a call`, followed by `, call 2 fails` or `, room for 5 bytes`.

@@ -100,7 +100,7 @@ fn leaves_after<R: AllocGlobal + Threads + Sync>(rt: &R, side: &str, trial: &mut
 // It left what a run over only the bytes that it read leaves, with the fault in place of the closing line.
 fn leaves_front_read<R: AllocGlobal + Threads + Sync>(rt: &R, trial: &mut Trial) -> bool {
     let read = trial.left.read;
-    let is_sound = match trial.words.split(" | ").next() {
+    let is_sound = match trial.words.split(" or ").next() {
         Some(words) => run_front(rt, words, &trial.case, read, &ALL_SOUND, &mut trial.front),
         None => false,
     };
@@ -216,7 +216,7 @@ fn stops<R: AllocGlobal + Threads + Sync>(
 
 /// Whether a run whose output keeps nothing leaves the same status and report.
 pub fn comes_to_nothing<R: AllocGlobal + Threads + Sync>(rt: &R, trial: &mut Trial) -> bool {
-    let is_sound = match trial.words.split(" | ").next() {
+    let is_sound = match trial.words.split(" or ").next() {
         Some(words) => run_to_nothing(rt, words, &trial.case, &mut trial.left),
         None => false,
     };

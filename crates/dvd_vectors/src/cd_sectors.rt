@@ -46,7 +46,7 @@ run: cdread --address 449998 --sectors 2
 case: 4704 bytes of 00  -> Damaged, 4096 bytes: sector 0: mode 0/sector 1: mode 0/damaged: 2 sectors
 run: cdread --address 0 --sectors 450000
 case: 2353 bytes of 00  -> Short, 2048 bytes: sector 0: mode 0/short: sector 1, 1 bytes
-run: cdread --address 449999 --sectors 2 | cdread --address 150 --sectors 1 --form plain
+run: cdread --address 449999 --sectors 2 or cdread --address 150 --sectors 1 --form plain
 case: 2352 bytes of 00  -> Usage, 0 bytes: usage
 
 # A sector of another address: of zeros, and of counted bytes.

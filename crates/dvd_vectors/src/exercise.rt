@@ -4,7 +4,7 @@ use dvd_trial::{Held, hold};
 const DRAWN: &str = "
 # The input fails at once.
 given: nothing
-run: exercise --seed 1 --blocks 3 | exercise --seed 1 --blocks 3 --workers 8
+run: exercise --seed 1 --blocks 3 or exercise --seed 1 --blocks 3 --workers 8
 output: line exercise seed 1 blocks 3 whole 3 fixed 5242 failed 21
 case: as given
 reads: 1 byte a call, call 0 fails -> Done, 54 bytes: done

@@ -16,7 +16,7 @@ use dvd_trial::{Held, hold};
 const STREAMS: &str = "
 # Two blocks, and an image that ends within the second one.
 given: image of 17 sectors
-run: master --sectors 17 | master --sectors 17 --workers 5 | master --sectors 17 --workers 16
+run: master --sectors 17 or master --sectors 17 --workers 5 or master --sectors 17 --workers 16
 case: as given         -> Done, 2 blocks: done
 digest: E72C18C8A280B741A3163FA45B59ACB1854E77AC43A64B8C23638295A634C02A
 the same in pieces: 1 7 2047 40000
@@ -27,7 +27,7 @@ each call fails: 9 reads of 5000 bytes, 8 writes of 5000 bytes, 4 reports of 7 b
 
 # Both blocks, the same without the last byte, and with one more.
 given: image of 17 sectors | master --sectors 17 makes 2 blocks
-run: recover --sectors 17 | recover --sectors 17 --workers 5 | recover --sectors 17 --workers 16
+run: recover --sectors 17 or recover --sectors 17 --workers 5 or recover --sectors 17 --workers 16
 output: image of 17 sectors
 case: as given         -> Done, 17 sectors: done
 digest: 821668C219648D7615F82E4B86593C1CF57D7E05FB1A5D71ABEF9E28059A6162

@@ -3,10 +3,10 @@ use dvd_trial::{Held, hold};
 
 const LARGEST: &str = "
 given: 5 bytes of 00
-run: master --sectors 8191744 | recover --sectors 8191744 | recover --form marked --sectors 8191744
-or: survey --sectors 8191744 | info --initial 12031 | merge --sectors 8191744 --captures 16 | deep --sectors 8191744
+run: master --sectors 8191744 or recover --sectors 8191744 or recover --form marked --sectors 8191744
+or: survey --sectors 8191744 or info --initial 12031 or merge --sectors 8191744 --captures 16 or deep --sectors 8191744
 case: as given -> Short, 0 bytes: short: block 0, 5 bytes
-run: frames --first 000000 --sectors 16777216 | cdmake --address 0 --sectors 450000
+run: frames --first 000000 --sectors 16777216 or cdmake --address 0 --sectors 450000
 or: cdread --address 0 --sectors 450000
 case: as given -> Short, 0 bytes: short: sector 0, 5 bytes
 run: assemble --sectors 16384 --frames 4294967295

@@ -63,7 +63,7 @@ fn a_format_is_found_behind_a_header(rt: HostRuntime) -> Held {
 // its header states, and it is surveyed the same.
 const LAYOUTS: &str = "
 given: image of 18 sectors | master --sectors 18 makes 2 blocks
-run: recover --form listed | deep --form listed
+run: recover --form listed or deep --form listed
 output: image of 18 sectors
 case: listed shape 0 zones 0 sectors 18 and 0 initial 0 tail 16 -> Done, 18 sectors: done
 case: as given
@@ -71,7 +71,7 @@ twin: listed shape 0 zones 0 sectors 18 and 0 initial 0 tail 16
 alike: survey --sectors 18 = survey --form listed
 
 given: image of 33 sectors | master --sectors 16 --sectors1 17 --shape parallel --tail 0 makes 3 blocks
-run: recover --form listed | deep --form listed
+run: recover --form listed or deep --form listed
 output: image of 33 sectors
 case: listed shape 1 zones 0 sectors 16 and 17 initial 0 tail 0 -> Done, 33 sectors: done
 case: as given
@@ -79,7 +79,7 @@ twin: listed shape 1 zones 0 sectors 16 and 17 initial 0 tail 0
 alike: survey --sectors 16 --sectors1 17 --shape parallel --tail 0 = survey --form listed
 
 given: image of 49 sectors | master --sectors 32 --sectors1 17 --shape opposite --initial 12031 makes 4 blocks
-run: recover --form listed | deep --form listed
+run: recover --form listed or deep --form listed
 output: image of 49 sectors
 case: listed shape 2 zones 0 sectors 32 and 17 initial 12031 tail 16 -> Done, 49 sectors: done
 case: as given

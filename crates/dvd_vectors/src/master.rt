@@ -17,7 +17,7 @@ case: front 32773 bytes
 writes: 1000 bytes a call -> Short, 1 block: short: block 1, 5 bytes
 
 # Words that ask for no layout.
-run: master --sectors 0 | recover --sectors 0 -> Setting, 0 bytes: setting: empty layer 0
+run: master --sectors 0 or recover --sectors 0 -> Setting, 0 bytes: setting: empty layer 0
 run: master --sectors 8191745                 -> Setting, 0 bytes: setting: layer 0 too long 8388624
 run: master --sectors 4294967295              -> Setting, 0 bytes: setting: layer 0 too long 4295164160
 

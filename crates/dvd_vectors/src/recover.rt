@@ -16,7 +16,7 @@ case: 9 bytes of 55             -> Long, 32 sectors: long
 read: 2 blocks and 1 byte
 
 given: image of 17 sectors | master --sectors 17 makes 2 blocks
-run: recover --sectors 17 | recover --form plain --sectors 17
+run: recover --sectors 17 or recover --form plain --sectors 17
 output: image of 17 sectors
 case: as given                  -> Done, 17 sectors: done
 to nothing
@@ -39,7 +39,7 @@ case: as given
 
 # Two more ways to write sixteen.
 given: image of 16 sectors | master --sectors 16 makes 1 block
-run: recover --sectors=16 | recover --sectors 0016
+run: recover --sectors=16 or recover --sectors 0016
 output: image of 16 sectors
 case: as given                  -> Done, 16 sectors: done
 case: front 0 bytes             -> Short, 0 sectors: short: block 0, 0 bytes

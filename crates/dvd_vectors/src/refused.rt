@@ -8,7 +8,7 @@ const HEADERS: &[&str] = &[
 ];
 
 const BAD: &str = "
-run: recover --form listed | survey --form listed | deep --form listed | info --form listed
+run: recover --form listed or survey --form listed or deep --form listed or info --form listed
 case: header byte 0 is 45   -> BadHeader, 0 bytes: bad header: byte 0
 case: header byte 5 is 44   -> BadHeader, 0 bytes: bad header: byte 5
 case: header byte 7 is 03   -> BadHeader, 0 bytes: bad header: byte 7
@@ -36,7 +36,7 @@ fn a_header_with_another_byte_is_refused(rt: HostRuntime) -> Held {
 }
 
 const REFUSED: &str = "
-run: recover --form listed | survey --form listed | deep --form listed | info --form listed
+run: recover --form listed or survey --form listed or deep --form listed or info --form listed
 
 # The header ends there.
 given: nothing | listed shape 0 zones 0 sectors 16 and 0 initial 0 tail 16

@@ -13,12 +13,10 @@ marked | lost: blocks 300 to 339, rows 0 to 11",
 
 const SURVEYED: &str = "
 # SHA-256 of the lines, which another program wrote from the numbers of the rows that were damaged. The last line has
-# the totals.
+# the totals; its peak is 26 wrong rows in each of eight blocks.
 case: as given
-run: survey --sectors 4096 --zones all --form marked              -> Done, 33220 bytes: done
-digest: 21FC8EF85675D34802E960E8B3CAA70E8B715DCED28C83B94AEDEEB6A4623CEF
-last line: blocks 528 pi 13168 failed 480 damaged 0 peak 208 at 7 over 0
-run: survey --sectors 4096 --zones all --form marked --workers 8  -> Done, 33220 bytes: done
+run: survey --sectors 4096 --zones all --form marked or survey --sectors 4096 --zones all --form marked --workers 8
+-> Done, 33220 bytes: done
 digest: 21FC8EF85675D34802E960E8B3CAA70E8B715DCED28C83B94AEDEEB6A4623CEF
 last line: blocks 528 pi 13168 failed 480 damaged 0 peak 208 at 7 over 0
 ";
@@ -29,7 +27,7 @@ fn a_scratched_disk_is_surveyed(rt: HostRuntime) -> Held {
 }
 
 const READ_BACK: &str = "
-run: recover --sectors 4096 --zones all --form marked | recover --sectors 4096 --zones all --form marked --workers 8
+run: recover --sectors 4096 --zones all --form marked or recover --sectors 4096 --zones all --form marked --workers 8
 output: image of 4096 sectors
 case: as given -> Done, 4096 sectors: done
 ";

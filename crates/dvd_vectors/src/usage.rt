@@ -6,17 +6,17 @@ const GIVEN: &[&str] = &["given: 17 sectors of 00", "given: nothing"];
 
 const USAGE: &str = "
 case: as given
-run: no words | Frames --first 030000 --sectors 1 | --help | --version | frames
-or: frames --first FFFFFF --sectors 2 | frames --first 030000 --sectors 0 | frames --first 030000 --sectors=
-or: frames --first 030000 --sectors +1 | frames --first 030000 --sectors 00000000001
-or: frames --first 030000 --sectors 1 --sectors 1 | frames --first 030000 --first 030000
-or: frames --first 030000 --sectors 1 -- 1 | frames --first 30000 --sectors 1 | frames --first 03000g --sectors 1
-or: master --sectors 17 --sectors 17 | master --sectors 16 --cpr 00
-or: recover | recover --sectors 16 --sectors 16 | recover --sectors +16 | recover --sectors 16 --workers 17
-or: merge --sectors 16 --captures 1 | merge --sectors 16 --captures 17
-or: assemble --sectors 16385 --frames 1 | assemble --sectors 16 --frames 0
-or: recover --form listed --sectors 16 | survey --form marked
-or: convert --sectors 16 --form listed | merge --sectors 16 --captures 2 --form listed
+run: no words or Frames --first 030000 --sectors 1 or --help or --version or frames
+or: frames --first FFFFFF --sectors 2 or frames --first 030000 --sectors 0 or frames --first 030000 --sectors=
+or: frames --first 030000 --sectors +1 or frames --first 030000 --sectors 00000000001
+or: frames --first 030000 --sectors 1 --sectors 1 or frames --first 030000 --first 030000
+or: frames --first 030000 --sectors 1 -- 1 or frames --first 30000 --sectors 1 or frames --first 03000g --sectors 1
+or: master --sectors 17 --sectors 17 or master --sectors 16 --cpr 00
+or: recover or recover --sectors 16 --sectors 16 or recover --sectors +16 or recover --sectors 16 --workers 17
+or: merge --sectors 16 --captures 1 or merge --sectors 16 --captures 17
+or: assemble --sectors 16385 --frames 1 or assemble --sectors 16 --frames 0
+or: recover --form listed --sectors 16 or survey --form marked
+or: convert --sectors 16 --form listed or merge --sectors 16 --captures 2 --form listed
                                            -> Usage, 0 bytes: usage
 reads: 1 byte a call                       -> Usage, 0 bytes: usage
 reads: 7 bytes a call                      -> Usage, 0 bytes: usage

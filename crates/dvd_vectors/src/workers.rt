@@ -41,10 +41,10 @@ given: image of 33 sectors | master --sectors 33 makes 3 blocks
 wrong by 5A: block 0, bytes 0 to 164 step 41; block 1, rows 3 to 188 step 37, bytes 0 to 175 step 7
 wrong by 5A: block 2, rows 0 to 18, bytes 0 to 176 step 11; block 2, row 192, bytes 0 to 176 step 11
 case: as given
-run: recover --sectors 33 | recover --sectors 33 --workers 1 | recover --sectors 33 --workers 8
+run: recover --sectors 33 or recover --sectors 33 --workers 1 or recover --sectors 33 --workers 8
 output: image of 32 sectors | 1 sector of 00
 -> Damaged, 33 sectors: block 2 sector 030020 layer 0: rows 20 saved 14/damaged: 1 blocks
-run: survey --sectors 33 | survey --sectors 33 --workers 1 | survey --sectors 33 --workers 8
+run: survey --sectors 33 or survey --sectors 33 --workers 1 or survey --sectors 33 --workers 8
 output: line block 0 sector 030000 layer 0 pi 208 failed 0 sum8 208: whole
 line block 1 sector 030010 layer 0 pi 6 failed 6 sum8 214: whole
 line block 2 sector 030020 layer 0 pi 20 failed 20 sum8 234: rows 20
@@ -52,12 +52,12 @@ line blocks 3 pi 234 failed 26 damaged 1 peak 234 at 2 over 0
 -> Damaged, 243 bytes: damaged: 1 blocks
 
 given: image of 33 sectors
-run: master --sectors 33 --workers 1 | master --sectors 33 --workers 5 | master --sectors 33 --workers 16
+run: master --sectors 33 --workers 1 or master --sectors 33 --workers 5 or master --sectors 33 --workers 16
 output: given | master --sectors 33 makes 3 blocks
 case: as given -> Done, 3 blocks: done
 
 given: nothing
-run: exercise --seed 1 --blocks 2 --workers 1 | exercise --seed 1 --blocks 2 --workers 3
+run: exercise --seed 1 --blocks 2 --workers 1 or exercise --seed 1 --blocks 2 --workers 3
 or: exercise --seed 1 --blocks 2 --workers 16
 output: exercise --seed 1 --blocks 2 makes 54 bytes
 case: as given -> Done, 54 bytes: done
