@@ -1,5 +1,5 @@
-//! Recordings: of the Data Zone, against the digest that another program computed from the standard, of images that
-//! don't fit, and of what the options change.
+//! Recordings, of the Data Zone and of disks of every shape with all of their zones, which are read back. The digests
+//! and the first bytes were computed by another program from the standard.
 use dvd_trial::{Held, hold};
 
 const RECORDINGS: &str = "
@@ -46,4 +46,60 @@ at 2 blocks: 21030000
 #[test]
 fn an_image_is_mastered_as_the_words_say(rt: HostRuntime) -> Held {
     hold(&rt, RECORDINGS)
+}
+
+const MASTERED: &str = "
+given: image of 17 sectors
+run: master --sectors 17 --zones all --cpr 0102030405ab
+case: as given -> Done, 274 blocks: done
+digest: 7593F9F751D356A4637B1F3978F30B3B2C1A032425C67A83C2F05326EB5814CF
+
+given: image of 49 sectors
+run: master --sectors 32 --sectors1 17 --shape parallel --zones all --cpr 0102030405ab
+case: as given -> Done, 548 blocks: done
+digest: 37269FF702DAA0B389B395F412845BAE2DC17AE6131FADA2A8E351288B274F9B
+
+run: master --sectors 32 --sectors1 17 --shape opposite --zones all --cpr 0102030405ab
+case: as given -> Done, 308 blocks: done
+digest: BA11D727460299542C3AE8D2D20102B531219B512EF18603C3575D84F9277539
+# On the opposite track path, where each zone begins, and with which sixteen bytes.
+at 0 blocks: 2402F0004F99000000000000ADAC8EA8
+at 2 blocks: 2402F0202FD900000000000002004408
+at 32 blocks: 2402F200419500000000000000021314
+at 224 blocks: 2402FE0065BD00000000000001002204
+at 256 blocks: 20030000D6F50102030405AB0180FAEA
+at 258 blocks: 2C030020323D00000000000002004408
+at 274 blocks: 2DFCFEE0DC1300000000000080110202
+at 290 blocks: 21FCFFE05F9D0102030405ABE6DD909D
+at 292 blocks: 29FD0000528600000000000001002204
+";
+
+#[test]
+fn every_zone_of_every_shape_is_mastered(rt: HostRuntime) -> Held {
+    hold(&rt, MASTERED)
+}
+
+const READ_BACK: &str = "
+# Nothing could be read of the first block of the lead-in.
+given: image of 17 sectors | master --sectors 17 --zones all --cpr 0102030405ab makes 274 blocks | zero: block 0
+run: recover --sectors 17 --zones all
+output: image of 17 sectors
+case: as given -> Done, 17 sectors: done
+
+given: image of 49 sectors
+master --sectors 32 --sectors1 17 --shape parallel --zones all --cpr 0102030405ab makes 548 blocks | zero: block 0
+run: recover --sectors 32 --sectors1 17 --shape parallel --zones all
+output: image of 49 sectors
+case: as given -> Done, 49 sectors: done
+
+given: image of 49 sectors
+master --sectors 32 --sectors1 17 --shape opposite --zones all --cpr 0102030405ab makes 308 blocks | zero: block 0
+run: recover --sectors 32 --sectors1 17 --shape opposite --zones all
+output: image of 49 sectors
+case: as given -> Done, 49 sectors: done
+";
+
+#[test]
+fn every_zone_of_every_shape_is_read_back(rt: HostRuntime) -> Held {
+    hold(&rt, READ_BACK)
 }

@@ -1,4 +1,5 @@
-//! Streams that are cut off, followed by more, full of marks or of another place, and what is read back of them.
+//! Streams that are cut off, followed by more, full of marks or of another place, and damaged blocks with marks: up to
+//! the bound all comes back. A block beyond it is named, and its frames come back whose rows are all read.
 use dvd_trial::{Held, hold};
 
 const STREAMS: &str = "
@@ -53,4 +54,43 @@ case: as given                  -> Done, 16 sectors: done
 #[test]
 fn what_stands_in_a_stream_comes_back(rt: HostRuntime) -> Held {
     hold(&rt, STREAMS)
+}
+
+const DAMAGED: &str = "
+# Each row of two blocks is damaged as far as its own parity bears: in every second one five bytes are wrong, 37
+# places apart, one place further in each; in each other one ten are lost.
+given: image of 17 sectors | master --sectors 17 makes 2 blocks
+wrong by 55: rows 0 to 206 step 2, bytes 0 to 148 step 37 shifted 1 | marked | lost: rows 1 to 207 step 2, bytes 0 to 9
+run: recover --sectors 17 --form marked
+output: image of 17 sectors
+case: as given -> Done, 17 sectors: done
+# Sixteen rows of each block are lost. The two spare bits of the marks play no part.
+case: lost: rows 0 to 14; row 192 | spare bits -> Done, 17 sectors: done
+# Rows 0 to 15 of the block and its first row of outer parity: frames 0 and 1.
+output: image of 17 sectors | zero: sectors 0 to 1; sector 16
+case: lost: rows 0 to 15; row 192 | spare bits -> Damaged, 17 sectors: block 0 sector 030000 layer 0: rows 17 saved 14/\
+block 1 sector 030010 layer 0: rows 17 saved 14/damaged: 2 blocks
+
+# Rows 0 to 16 of the block.
+given: image of 16 sectors | master --sectors 16 makes 1 block
+wrong by 55: rows 0 to 206 step 2, bytes 0 to 148 step 37 shifted 1 | marked | lost: rows 1 to 207 step 2, bytes 0 to 9
+run: recover --sectors 16 --form marked
+output: image of 16 sectors | zero: sectors 0 to 1
+case: lost: rows 0 to 16 -> Damaged, 16 sectors: block 0 sector 030000 layer 0: rows 17 saved 14/damaged: 1 blocks
+# A row of each frame, and another of the last.
+output: 16 sectors of 00
+case: lost: rows 0 to 180 step 12; row 181 -> Damaged, 16 sectors: block 0 sector 030000 layer 0: rows 17 saved 0/\
+damaged: 1 blocks
+
+# All sixteen rows of outer parity, and the last row of the last frame: the frames of padding are saved too.
+given: image of 3 sectors | master --sectors 3 makes 1 block
+wrong by 55: rows 0 to 206 step 2, bytes 0 to 148 step 37 shifted 1 | marked | lost: rows 1 to 207 step 2, bytes 0 to 9
+run: recover --sectors 3 --form marked
+output: image of 3 sectors
+case: lost: rows 191 to 207 -> Damaged, 3 sectors: block 0 sector 030000 layer 0: rows 17 saved 15/damaged: 1 blocks
+";
+
+#[test]
+fn what_can_be_read_of_damaged_blocks_comes_back(rt: HostRuntime) -> Held {
+    hold(&rt, DAMAGED)
 }
