@@ -1,6 +1,6 @@
 //! Every command over a small input: in pieces of every kind, and with each call of its input, its output and its
-//! report failing in turn. Each digest was computed by another program. These are the hostile streams and objects,
-//! and the module of each:
+//! report failing in turn; `survey`, `info` and `exercise` stand in `survey`, `info` and `workers`. Each digest was
+//! computed by another program. These are the hostile streams and objects, and the module of each:
 //!
 //! | What is hostile | Module |
 //! |---|---|
@@ -10,7 +10,7 @@
 //! | a block of the first of two layers, in the place of one of a disk of one layer | `recover` |
 //! | an input, an output or a report of which each call fails in turn, over blocks that are whole, cut, long and exchanged | here |
 //! | a report of which the first call fails, before the sectors of a refused block | `faults` |
-//! | an output that keeps nothing | `recover` |
+//! | an output that keeps nothing | here |
 use dvd_trial::{Held, hold};
 
 const STREAMS: &str = "
@@ -27,9 +27,11 @@ each call fails: 9 reads of 5000 bytes, 8 writes of 5000 bytes, 4 reports of 7 b
 
 # Both blocks, the same without the last byte, and with one more.
 given: image of 17 sectors | master --sectors 17 makes 2 blocks
-run: recover --sectors 17 or recover --sectors 17 --workers 5 or recover --sectors 17 --workers 16
+run: recover --sectors 17 or recover --form plain --sectors 17
+or: recover --sectors 17 --workers 5 or recover --sectors 17 --workers 16
 output: image of 17 sectors
 case: as given         -> Done, 17 sectors: done
+to nothing
 digest: 821668C219648D7615F82E4B86593C1CF57D7E05FB1A5D71ABEF9E28059A6162
 the same in pieces: 1 7 2047 40000
 each call fails: 17 reads of 5000 bytes, 17 writes of 5000 bytes, 1 report of 7 bytes
@@ -62,29 +64,6 @@ case: as given -> Done, 4128 bytes: done
 digest: E5FA46EFBFA66147C8E3190FC0F94B28730E6829799EAA1DFE3EB74B9EDD77DE
 the same in pieces: 1 7 2047 40000
 each call fails: 7 reads of 700 bytes, 6 writes of 1000 bytes, 3 reports of 2 bytes
-
-# The first control block stands behind 32 others, and nothing behind it is read: 33 blocks of eight calls.
-given: image of 16 sectors | master --sectors 16 --zones all makes 273 blocks | front 34 blocks
-run: info
-case: as given -> Done, 110 bytes: done
-digest: 0FDDB64878A08AE89606A5BE0594DE9746E477CB122EE9030783400AF8A55EEA
-the same in pieces: 1 7 2047 40000
-each call fails: 24 reads of 5000 bytes 11 apart, 3 writes of 50 bytes, 3 reports of 2 bytes
-
-given: image of 16 sectors | master --sectors 16 makes 1 block
-run: survey --sectors 16
-case: as given -> Done, 110 bytes: done
-digest: B038B3D1E340160483794133FBAB1EEE8C18820D221B768680758A9E8376F822
-the same in pieces: 1 7 2047 40000
-each call fails: 9 reads of 5000 bytes, 4 writes of 50 bytes, 3 reports of 2 bytes
-
-# It reads nothing.
-given: nothing
-run: exercise --seed 0 --blocks 1
-case: as given -> Done, 53 bytes: done
-digest: 083D427DB4956F89BB4082B12D48797D77E341868DEA1804CA581644D0DB868A
-the same in pieces: 1 7 2047 40000
-each call fails: 0 reads of 5000 bytes, 6 writes of 9 bytes, 3 reports of 2 bytes
 
 given: image of 2 sectors
 run: cdmake --address 150 --sectors 2

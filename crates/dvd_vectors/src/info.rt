@@ -9,7 +9,10 @@ run: info
 output: line version 1 | line rate 2 | line layers 1 | line path parallel | line kind 1 | line density 0 | line pitch 0
 line first 030000 | line last 03000F | line layer0 000000 | line bca 0
 case: as given                    -> Done, 110 bytes: done
+# The first control block stands behind 32 others, and nothing behind it is read: 33 blocks of eight calls.
 read: 33 blocks
+the same in pieces: 1 7 2047 40000
+each call fails: 24 reads of 5000 bytes 11 apart, 3 writes of 50 bytes, 3 reports of 2 bytes
 the same while these blocks become zeros: 32 to 223
                                   -> NoControl, 0 bytes: no control block
 read: 224 blocks

@@ -202,7 +202,6 @@ given: nothing
 case: listed shape 1 zones 0 sectors 16 and 0 initial 0 tail 16        -> BadHeader, 0 bytes: bad header: byte 16
 case: listed shape 1 zones 0 sectors 17 and 1 initial 0 tail 16        -> BadHeader, 0 bytes: bad header: byte 12
 case: listed shape 2 zones 1 sectors 16 and 17 initial 0 tail 16       -> BadHeader, 0 bytes: bad header: byte 16
-case: listed shape 0 zones 0 sectors 16 and 0 initial 12032 tail 16    -> BadHeader, 0 bytes: bad header: byte 20
 case: listed shape 0 zones 0 sectors 16 and 0 initial 0 tail 12289     -> BadHeader, 0 bytes: bad header: byte 24
 case: listed shape 0 zones 0 sectors 8192000 and 0 initial 0 tail 16   -> BadHeader, 0 bytes: bad header: byte 12
 case: listed shape 1 zones 0 sectors 16 and 8192000 initial 0 tail 16  -> BadHeader, 0 bytes: bad header: byte 16

@@ -3,18 +3,11 @@
 use dvd_trial::{Held, hold};
 
 const RECORDINGS: &str = "
-given: image of 17 sectors
-run: master --sectors 17
-case: as given
-writes: 1000 bytes a call -> Done, 2 blocks: done
-digest: E72C18C8A280B741A3163FA45B59ACB1854E77AC43A64B8C23638295A634C02A
-
-# Images that don't fit.
+# An image with a byte too many.
 given: image of 18 sectors
+run: master --sectors 17
 case: front 34817 bytes
 writes: 1000 bytes a call -> Long, 2 blocks: long
-case: front 32773 bytes
-writes: 1000 bytes a call -> Short, 1 block: short: block 1, 5 bytes
 
 # Words that ask for no layout.
 run: master --sectors 0 or recover --sectors 0 -> Setting, 0 bytes: setting: empty layer 0

@@ -16,14 +16,6 @@ case: 1 byte of 55              -> Long, 32 sectors: long
 case: 9 bytes of 55             -> Long, 32 sectors: long
 read: 2 blocks and 1 byte
 
-given: image of 17 sectors | master --sectors 17 makes 2 blocks
-run: recover --sectors 17 or recover --form plain --sectors 17
-output: image of 17 sectors
-case: as given                  -> Done, 17 sectors: done
-to nothing
-case: without 1 byte            -> Short, 16 sectors: short: block 1, 37855 bytes
-case: 1 byte of 55              -> Long, 17 sectors: long
-
 # Every byte is marked.
 given: 1 marked block of FF
 run: recover --sectors 16 --form marked

@@ -89,7 +89,6 @@ run: cdread --address 151 --sectors 1
 output: 1 sector of 00
 case: as given -> Damaged, 2048 bytes: sector 0: address found 000200/damaged: 1 sectors
 given: counted sector | cdmake --address 150 --sectors 1 makes 2352 bytes
-run: cdread --address 151 --sectors 1
 output: 1 sector of 00
 case: as given -> Damaged, 2048 bytes: sector 0: address found 000200/damaged: 1 sectors
 

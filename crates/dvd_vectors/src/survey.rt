@@ -9,6 +9,8 @@ run: survey --sectors 16
 output: line block 0 sector 030000 layer 0 pi 0 failed 0 sum8 0: whole
 line blocks 1 pi 0 failed 0 damaged 0 peak 0 at 0 over 0
 -> Done, 110 bytes: done
+the same in pieces: 1 7 2047 40000
+each call fails: 9 reads of 5000 bytes, 4 writes of 50 bytes, 3 reports of 2 bytes
 run: survey --sectors 17
 output: line block 0 sector 030000 layer 0 pi 0 failed 0 sum8 0: whole
 -> Short, 58 bytes: short: block 1, 0 bytes

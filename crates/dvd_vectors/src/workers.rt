@@ -13,8 +13,9 @@ reads: 1 byte a call, call 0 fails -> Done, 54 bytes: done
 
 run: exercise --seed 0 --blocks 1
 output: line exercise seed 0 blocks 1 whole 1 fixed 1397 failed 5
-case: as given
-reads: 1 byte a call, call 0 fails -> Done, 53 bytes: done
+case: as given                     -> Done, 53 bytes: done
+the same in pieces: 1 7 2047 40000
+each call fails: 0 reads of 5000 bytes, 6 writes of 9 bytes, 3 reports of 2 bytes
 
 run: exercise --blocks 1 --seed 4294967295
 output: line exercise seed 4294967295 blocks 1 whole 1 fixed 2677 failed 12
@@ -77,14 +78,13 @@ line blocks 3 pi 234 failed 26 damaged 1 peak 234 at 2 over 0
 -> Damaged, 243 bytes: damaged: 1 blocks
 
 given: image of 33 sectors
-run: master --sectors 33 --workers 1 or master --sectors 33 --workers 5 or master --sectors 33 --workers 16
-output: given | master --sectors 33 makes 3 blocks
+run: master --sectors 33 or master --sectors 33 --workers 1 or master --sectors 33 --workers 5
+or: master --sectors 33 --workers 16
 case: as given -> Done, 3 blocks: done
 
 given: nothing
-run: exercise --seed 1 --blocks 2 --workers 1 or exercise --seed 1 --blocks 2 --workers 3
+run: exercise --seed 1 --blocks 2 or exercise --seed 1 --blocks 2 --workers 1 or exercise --seed 1 --blocks 2 --workers 3
 or: exercise --seed 1 --blocks 2 --workers 16
-output: exercise --seed 1 --blocks 2 makes 54 bytes
 case: as given -> Done, 54 bytes: done
 ";
 
