@@ -45,9 +45,9 @@ each call fails: 17 reads of 5000 bytes, 17 writes of 5000 bytes, 1 report of 7 
 # Two blocks, the second before the first: zeros.
 given: image of 32 sectors | master --sectors 32 makes 2 blocks | from 1 block
 run: recover --sectors 32
+output: 32 sectors of 00
 case: as given -> Damaged, 32 sectors: block 0 sector 030000 layer 0: address 0 found 00030010 saved 0/\
 block 1 sector 030010 layer 0: address 0 found 00030000 saved 0/damaged: 2 blocks
-digest: DE2F256064A0AF797747C2B97505DC0B9F3DF0DE4F489EAC731C23AE9CA9CC31
 the same in pieces: 1 7 2047 40000
 each call fails: 17 reads of 5000 bytes, 32 writes of 5000 bytes, 23 reports of 7 bytes
 ";
@@ -75,8 +75,8 @@ each call fails: 7 reads of 700 bytes, 6 writes of 1000 bytes, 3 reports of 2 by
 # Two sectors of zeros, which are of no mode.
 given: 4704 bytes of 00
 run: cdread --address 150 --sectors 2
+output: 4096 bytes of 00
 case: as given -> Damaged, 4096 bytes: sector 0: mode 0/sector 1: mode 0/damaged: 2 sectors
-digest: AD7FACB2586FC6E966C004D7D1D16B024F5805FF7CB47C7A85DABD8B48892CA7
 the same in pieces: 1 7 2047 40000
 each call fails: 5 reads of 2000 bytes, 6 writes of 1000 bytes, 9 reports of 7 bytes
 
@@ -88,25 +88,25 @@ digest: E6D85C77DF15C8CA1B9DF398691A564A8521F6F70EE84BE05FC90E6E014EE883
 the same in pieces: 1 7 2047 40000
 each call fails: 17 reads of 5000 bytes, 9 writes of 5000 bytes, 1 report of 7 bytes
 
-run: deep --sectors 17
-case: as given -> Done, 17 sectors: done
-digest: 821668C219648D7615F82E4B86593C1CF57D7E05FB1A5D71ABEF9E28059A6162
-the same in pieces: 1 7 2047 40000
-each call fails: 17 reads of 5000 bytes, 17 writes of 5000 bytes, 1 report of 7 bytes
-
-# The frames of two blocks from the ninth on, those before it behind them; the disk has the first block alone.
-run: assemble --sectors 16 --frames 32
-case: from 8 frames -> Done, 42640 bytes: placed 16 strays 16/done
-digest: 11E3D04B0640E0B5CA69F454046CC7F07049C0E482C323D69C33C72B723965A4
-the same in pieces: 1 7 2047 40000
-each call fails: 33 reads of 5000 bytes, 9 writes of 5000 bytes, 4 reports of 7 bytes
-
 # The header, and of each block its rows and the number of its runs, none.
 run: convert --sectors 17
 case: as given -> Done, 75748 bytes: done
 digest: 3788D212632361880B89DAAB4E3124B1534E3A45B743B68D1F122F853966BB4F
 the same in pieces: 1 7 2047 40000
 each call fails: 17 reads of 5000 bytes, 19 writes of 5000 bytes, 1 report of 7 bytes
+
+run: deep --sectors 17
+output: image of 17 sectors
+case: as given -> Done, 17 sectors: done
+the same in pieces: 1 7 2047 40000
+each call fails: 17 reads of 5000 bytes, 17 writes of 5000 bytes, 1 report of 7 bytes
+
+# The frames of two blocks from the ninth on, those before it behind them; the disk has the first block alone.
+run: assemble --sectors 16 --frames 32
+output: given | front 1 block | marked
+case: from 8 frames -> Done, 42640 bytes: placed 16 strays 16/done
+the same in pieces: 1 7 2047 40000
+each call fails: 33 reads of 5000 bytes, 9 writes of 5000 bytes, 4 reports of 7 bytes
 ";
 
 #[test]
