@@ -1,19 +1,13 @@
 //! Bytes of a capture that are lost, wrong or doubtful, at places of its blocks.
 use crate::amounts::{BLOCK, MARKED_ROW, ROW, Span, number};
 
-/// What happens to a byte.
+/// What happens to a byte: these bits of it are kept, and then those inverted. A capture in the marked form also has
+// its mark set or cleared.
 #[derive(Clone, Copy)]
-enum Hit {
-    // These bits are wrong, without a mark.
-    Wrong(u8),
-    // It is another one.
-    Set(u8),
-    // In the marked form: it is this one, without a mark.
-    Is(u8),
-    // In the marked form: it is zero, with a mark.
-    Lost,
-    // In the marked form: these bits are wrong, with a mark.
-    Doubtful(u8),
+struct Hit {
+    kept: u8,
+    turned: u8,
+    mark: Option<bool>,
 }
 
 #[derive(Clone, Copy)]
@@ -34,15 +28,16 @@ pub fn damage(verb: &str, rest: &str, bytes: &mut [u8]) -> bool {
     let Ok(value) = u8::from_str_radix(value, 16) else {
         return false;
     };
-    let hit = match kind {
-        "wrong" => Hit::Wrong(value),
-        "zero" => Hit::Set(0),
-        "stands" => Hit::Is(value),
-        "lost" => Hit::Lost,
-        "doubtful" => Hit::Doubtful(value),
+    let (kept, mark) = match kind {
+        "wrong" => (0xFF, None),
+        "zero" => (0, None),
+        "stands" => (0, Some(false)),
+        "lost" => (0, Some(true)),
+        "doubtful" => (0xFF, Some(true)),
         _ => return false,
     };
-    hit_all(rest, hit, bytes)
+    let turned = value;
+    hit_all(rest, Hit { kept, turned, mark }, bytes)
 }
 
 fn hit_all(text: &str, hit: Hit, bytes: &mut [u8]) -> bool {
@@ -130,8 +125,8 @@ fn hit_row(places: &Places, block: usize, i: usize, hit: Hit, bytes: &mut [u8]) 
     }
 }
 
-// Where a row of a block is recorded: after each twelve rows of data comes one of outer parity.
-fn recorded(row: usize) -> usize {
+/// Where a row of a block is recorded: after each twelve rows of data comes one of outer parity.
+pub fn recorded(row: usize) -> usize {
     if row < 192 {
         row + row / 12
     } else {
@@ -141,27 +136,16 @@ fn recorded(row: usize) -> usize {
 
 // A row in the marked form has its marks after it. The high bit of their first byte is that of the row's first byte.
 fn hit_at(row: usize, at: usize, length: usize, hit: Hit, bytes: &mut [u8]) {
-    let place = row.saturating_mul(length).saturating_add(at);
+    let Some(mark) = hit.mark else {
+        let place = row.saturating_mul(length).saturating_add(at);
+        change(bytes, place, hit.kept, hit.turned);
+        return;
+    };
     let first = row.saturating_mul(MARKED_ROW);
-    let marked = first.saturating_add(at);
-    let mark = first.saturating_add(ROW + at / 8);
     let bit = 0x80 >> (at % 8);
-    match hit {
-        Hit::Wrong(bits) => change(bytes, place, 0xFF, bits),
-        Hit::Set(byte) => change(bytes, place, 0, byte),
-        Hit::Is(byte) => {
-            change(bytes, marked, 0, byte);
-            change(bytes, mark, !bit, 0);
-        }
-        Hit::Lost => {
-            change(bytes, marked, 0, 0);
-            change(bytes, mark, !bit, bit);
-        }
-        Hit::Doubtful(bits) => {
-            change(bytes, marked, 0xFF, bits);
-            change(bytes, mark, !bit, bit);
-        }
-    }
+    change(bytes, first.saturating_add(at), hit.kept, hit.turned);
+    let place = first.saturating_add(ROW + at / 8);
+    change(bytes, place, !bit, if mark { bit } else { 0 });
 }
 
 // Keeps these bits of the byte, and then inverts those.

@@ -1,6 +1,7 @@
 //! What a test ends with, and what is printed where the result isn't the one expected.
 use crate::amounts::{MARKED_ROW, ROW};
-use crate::trial::{Trial, line_holds, name_of, new_trial};
+use crate::damage::recorded;
+use crate::trial::{Trial, line_holds, new_trial};
 use std::thread::Threads;
 
 /// Everything holds, or the line that doesn't.
@@ -56,40 +57,27 @@ pub fn fails<R: AllocGlobal + Threads + Sync>(rt: &R, text: &'static str) -> boo
 // or in a capture.
 fn tell<R: Eprint>(rt: &R, trial: &Trial) {
     let words = trial.words.split(" or ").nth(trial.last).unwrap_or("");
-    let status = name_of(trial.left.status);
+    let status = trial.left.status;
     let length = trial.left.output.len();
     let report = str::from_utf8(&trial.left.report).unwrap_or("bytes that are no text");
-    let _ = eprintln!(rt; "{words}\ncame: {status}, {length} bytes, and the report\n{report}");
-    let at = first_difference(&trial.output, &trial.left.output);
-    let wanted = trial.output.get(at);
-    let came = trial.left.output.get(at);
-    if let (Some(wanted), Some(came)) = (wanted, came) {
-        let (sector, byte) = (at / 2048, at % 2048);
-        let _ = eprintln!(rt; "byte {at} is {came} for {wanted}: sector {sector}, byte {byte}");
-        tell_place(rt, "plain", at / ROW, at % ROW);
-        tell_place(rt, "marked", at / MARKED_ROW, at % MARKED_ROW);
-    }
-}
-
-fn first_difference(one: &[u8], other: &[u8]) -> usize {
-    let mut at: usize = 0;
-    for (this, that) in one.iter().zip(other) {
-        if *this != *that {
-            break;
+    let _ = eprintln!(rt; "{words}\ncame: {status:?}, {length} bytes, and the report\n{report}");
+    let pairs = trial.output.iter().zip(&trial.left.output);
+    for (at, (wanted, came)) in pairs.enumerate() {
+        if *wanted != *came {
+            let (sector, byte) = (at / 2048, at % 2048);
+            let _ = eprintln!(rt; "byte {at} is {came} for {wanted}: sector {sector}, byte {byte}");
+            tell_place(rt, "plain", at / ROW, at % ROW);
+            tell_place(rt, "marked", at / MARKED_ROW, at % MARKED_ROW);
+            return;
         }
-        at = at.saturating_add(1);
     }
-    at
 }
 
 // Which row of a block is recorded there.
-fn tell_place<R: Eprint>(rt: &R, form: &str, recorded: usize, byte: usize) {
-    let (block, recorded) = (recorded / 208, recorded % 208);
-    let frame = recorded / 13;
-    let row = if recorded % 13 == 12 {
-        frame.saturating_add(192)
-    } else {
-        recorded.saturating_sub(frame)
-    };
+fn tell_place<R: Eprint>(rt: &R, form: &str, place: usize, byte: usize) {
+    let (block, place) = (place / 208, place % 208);
+    let row = (0..208usize)
+        .position(|row| recorded(row) == place)
+        .unwrap_or(0);
     let _ = eprintln!(rt; "of a {form} capture: block {block}, row {row}, byte {byte}");
 }

@@ -18,7 +18,7 @@
 //! `given` lets go of the output, which then may be any. Nothing after `#` is read.
 //!
 //! ```text
-//! reads: 700 bytes a call, call 2 fails      the next run reads so; `writes`, `reports`; `room for 5 bytes` to write
+//! reads: 700 bytes a call, call 2 fails      the next run reads so; `writes`, `reports`
 //! digest: .., last line: .., read: 2 blocks  of the output that came last, and how much of the input was read
 //! at 2 blocks and 12 bytes: ACA6AD           these bytes are there in it
 //! the same in pieces: 1 7 2047               it comes again where all streams move these numbers of bytes a call

@@ -40,6 +40,15 @@ pub fn put_words(alloc: Global, text: &str, words: &mut Vec<String>) -> Result<(
     Ok(())
 }
 
+// What is asked of a run: its arguments, the bytes that it can read, and what its streams do.
+#[derive(Clone, Copy)]
+struct Asked<'a> {
+    text: &'a str,
+    bytes: &'a [u8],
+    ports: &'a Ports,
+    watch: &'a Watch,
+}
+
 /// Runs the arguments over these bytes, where the workers ask this gate. Answers whether nothing was tried again.
 pub fn run_over<R: AllocGlobal + Threads + Sync, G: Gate>(
     rt: &R,
@@ -50,6 +59,12 @@ pub fn run_over<R: AllocGlobal + Threads + Sync, G: Gate>(
     left: &mut Left,
 ) -> bool {
     let watch = Watch::new();
+    let asked = Asked {
+        text,
+        bytes,
+        ports,
+        watch: &watch,
+    };
     left.output.clear();
     let output = Output {
         watch: &watch,
@@ -60,23 +75,17 @@ pub fn run_over<R: AllocGlobal + Threads + Sync, G: Gate>(
         calls: 0,
     };
     let mut output = StdSink::new(output);
-    left.status = run_to(
-        rt,
-        gate,
-        text,
-        bytes,
-        ports,
-        &watch,
-        &mut output,
-        &mut left.report,
-    );
+    left.status = run_to(rt, gate, &asked, &mut output, &mut left.report);
     left.read = watch.read() as usize;
     left.has_stopped = watch.has_stopped();
     left.is_kept = watch.is_kept();
     left.is_kept
 }
 
-/// Likewise over the first `length` bytes.
+/// The length of all bytes.
+pub const ALL: usize = usize::MAX;
+
+/// Likewise over the first `length` bytes, or all, where no gate is asked.
 pub fn run_front<R: AllocGlobal + Threads + Sync>(
     rt: &R,
     text: &str,
@@ -85,7 +94,7 @@ pub fn run_front<R: AllocGlobal + Threads + Sync>(
     ports: &Ports,
     left: &mut Left,
 ) -> bool {
-    let front = bytes.get(..length).unwrap_or(&[]);
+    let front = bytes.get(..length).unwrap_or(bytes);
     run_over(rt, &OpenGate, text, front, ports, left)
 }
 
@@ -97,44 +106,38 @@ pub fn run_to_nothing<R: AllocGlobal + Threads + Sync>(
     left: &mut Left,
 ) -> bool {
     let watch = Watch::new();
-    let mut output = NullSink::new();
-    left.status = run_to(
-        rt,
-        &OpenGate,
+    let asked = Asked {
         text,
         bytes,
-        &ALL_SOUND,
-        &watch,
-        &mut output,
-        &mut left.report,
-    );
+        ports: &ALL_SOUND,
+        watch: &watch,
+    };
+    let mut output = NullSink::new();
+    left.status = run_to(rt, &OpenGate, &asked, &mut output, &mut left.report);
     watch.is_kept()
 }
 
 fn run_to<R: AllocGlobal + Threads + Sync, G: Gate, K: Sink>(
     rt: &R,
     gate: &G,
-    text: &str,
-    bytes: &[u8],
-    ports: &Ports,
-    watch: &Watch,
+    asked: &Asked,
     output: &mut K,
     held: &mut Vec<u8>,
 ) -> Status {
     let mut words = Vec::new(rt.alloc());
-    if put_words(rt.alloc(), text, &mut words).is_err() {
+    if put_words(rt.alloc(), asked.text, &mut words).is_err() {
         return Status::NoMemory;
     }
     held.clear();
     let input = Input {
-        watch,
-        port: ports.input,
-        rest: bytes,
+        watch: asked.watch,
+        port: asked.ports.input,
+        rest: asked.bytes,
         calls: 0,
     };
     let report = Output {
-        watch,
-        port: ports.report,
+        watch: asked.watch,
+        port: asked.ports.report,
         held,
         is_report: true,
         has_failed: false,

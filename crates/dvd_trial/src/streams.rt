@@ -1,4 +1,4 @@
-//! Streams that fail at one call, go in pieces or have little room, and see that nothing is tried again: after a
+//! Streams that fail at one call or go in pieces, and see that nothing is tried again: after a
 //! failed call, and after a read that met the end of the input, no stream is asked for anything more but the report,
 //! for the closing line; and after a fault of the report not even that.
 use std::io::{self, Error, ErrorKind, Read, Write};
@@ -7,14 +7,12 @@ use std::sync::atomic::{AtomicU64, Ordering};
 /// The number of no call.
 pub const NEVER: u64 = u64::MAX;
 
-/// A stream: the most bytes of one call, the number of the call that fails and of the one whose flush does, and its
-/// room.
+/// A stream: the most bytes of one call, the number of the call that fails and of the one whose flush does.
 #[derive(Clone, Copy)]
 pub struct Port {
     pub step: usize,
     pub call: u64,
     pub flush: u64,
-    pub room: usize,
 }
 
 /// A port that never fails.
@@ -22,7 +20,6 @@ pub const SOUND: Port = Port {
     step: 40_000,
     call: NEVER,
     flush: NEVER,
-    room: usize::MAX,
 };
 
 /// The input, the output and the report of a run.
@@ -142,8 +139,7 @@ impl<'a> Write for Output<'a> {
         self.see();
         let call = self.calls;
         self.calls = call.saturating_add(1);
-        let room = self.port.room.saturating_sub(self.held.len());
-        let count = self.port.step.min(buf.len().min(room));
+        let count = self.port.step.min(buf.len());
         if call == self.port.call || count == 0 {
             return Err(self.fail());
         }

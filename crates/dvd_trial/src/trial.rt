@@ -1,13 +1,13 @@
 //! The lines of a text: which bytes are made, which arguments are run, and what has to come.
-use crate::amounts::{amount, number, numbers};
+use crate::amounts::{NONE, amount, number, numbers};
 use crate::made::{add, step};
-use crate::runs::{Left, nothing_left, run_over};
+use crate::runs::{ALL, Left, nothing_left, run_front, run_over};
 use crate::streams::{ALL_SOUND, Port, Ports, SOUND};
 use crate::turns::{
     answer_with_zeros, come_in_pieces, comes_to_nothing, fail_in_turn, stop_in_turn,
 };
 use crate::workers::{Counting, Meeting};
-use dvd_par::OpenGate;
+use dvd_par::Gate;
 use dvd_top::Status;
 use sha2::{Digest, Sha256};
 use std::alloc::Global;
@@ -80,7 +80,7 @@ pub fn bytes_of<R: AllocGlobal + Threads + Sync>(rt: &R, text: &str) -> Option<V
 pub fn line_holds<R: AllocGlobal + Threads + Sync>(rt: &R, line: &str, trial: &mut Trial) -> bool {
     match line.split_once("->") {
         Some((part, wanted)) => {
-            part_holds(rt, part.trim(), trial) && comes(rt, wanted.trim(), trial)
+            part_holds(rt, part.trim(), trial) && runs_leave(rt, Some(wanted.trim()), trial)
         }
         None => part_holds(rt, line.trim(), trial),
     }
@@ -137,7 +137,7 @@ fn step_is_done<R: AllocGlobal + Threads + Sync>(rt: &R, text: &str, trial: &mut
         ("given", _) => add(&mut trial.output, &trial.given),
         (_, Some((words, length))) => {
             let bytes = replace(trial.made(), Vec::new(alloc));
-            let is_sound = run_over(rt, &OpenGate, words, &bytes, &ALL_SOUND, &mut trial.left);
+            let is_sound = run_front(rt, words, &bytes, ALL, &ALL_SOUND, &mut trial.left);
             let output = replace(&mut trial.left.output, bytes);
             *trial.made() = output;
             is_sound && trial.left.status == Status::Done && trial.made().len() == amount(length)
@@ -156,42 +156,32 @@ fn step_is_done<R: AllocGlobal + Threads + Sync>(rt: &R, text: &str, trial: &mut
 pub fn go<R: AllocGlobal + Threads + Sync>(rt: &R, k: usize, trial: &mut Trial) -> bool {
     trial.last = k;
     match trial.words.split(" or ").nth(k) {
-        Some(words) => run_over(
-            rt,
-            &OpenGate,
-            words,
-            &trial.case,
-            &trial.ports,
-            &mut trial.left,
-        ),
+        Some(words) => run_front(rt, words, &trial.case, ALL, &trial.ports, &mut trial.left),
         None => false,
     }
 }
 
-// Whether each of the runs leaves what is wanted, and what the one before it left. The last result is kept.
-fn comes<R: AllocGlobal + Threads + Sync>(rt: &R, wanted: &str, trial: &mut Trial) -> bool {
-    let mut all_come = !trial.words.is_empty();
+/// Whether each of the runs leaves what is wanted and the same as the one before it, or else, where nothing is said of
+/// it, what is kept. The last result is kept.
+pub fn runs_leave<R: AllocGlobal + Threads + Sync>(
+    rt: &R,
+    wanted: Option<&str>,
+    trial: &mut Trial,
+) -> bool {
+    let mut all_leave = !trial.words.is_empty();
     for k in 0..trial.words.split(" or ").count() {
-        all_come = all_come
-            && go(rt, k, trial)
-            && trial.has_come(wanted)
-            && (k == 0 || trial.is_same());
-        if all_come {
+        all_leave = all_leave && go(rt, k, trial);
+        all_leave = all_leave
+            && match wanted {
+                Some(wanted) => trial.has_come(wanted) && (k == 0 || trial.is_same()),
+                None => trial.is_same(),
+            };
+        if all_leave {
             swap(&mut trial.left, &mut trial.kept);
         }
     }
     trial.ports = ALL_SOUND;
-    all_come
-}
-
-/// Whether each of the runs leaves what is kept.
-pub fn all_same<R: AllocGlobal + Threads + Sync>(rt: &R, trial: &mut Trial) -> bool {
-    let mut are_same = true;
-    for k in 0..trial.words.split(" or ").count() {
-        are_same = are_same && go(rt, k, trial) && trial.is_same();
-    }
-    trial.ports = ALL_SOUND;
-    are_same
+    all_leave
 }
 
 // Whether the arguments before `=` leave over the case what those after it leave over its twin.
@@ -199,14 +189,7 @@ fn are_alike<R: AllocGlobal + Threads + Sync>(rt: &R, text: &str, trial: &mut Tr
     let (words, others) = text.split_once(" = ").unwrap_or((text, ""));
     let is_sound = trial.put_words("run", words)
         && go(rt, 0, trial)
-        && run_over(
-            rt,
-            &OpenGate,
-            others,
-            &trial.twin,
-            &ALL_SOUND,
-            &mut trial.kept,
-        );
+        && run_front(rt, others, &trial.twin, ALL, &ALL_SOUND, &mut trial.kept);
     is_sound && trial.is_same()
 }
 
@@ -227,7 +210,7 @@ fn ask<R: AllocGlobal + Threads + Sync>(rt: &R, n: &[usize; 20], trial: &mut Tri
     done_through(rt, &gate, trial) && gate.has_counted(n[0], n[1])
 }
 
-fn done_through<R: AllocGlobal + Threads + Sync, G: dvd_par::Gate>(
+fn done_through<R: AllocGlobal + Threads + Sync, G: Gate>(
     rt: &R,
     gate: &G,
     trial: &mut Trial,
@@ -281,28 +264,32 @@ impl Trial {
         self.words.push_str(" or ").is_ok() && self.words.push_str(text).is_ok()
     }
 
-    // `700 bytes a call`, followed by `, call 2 fails` or `, room for 5 bytes`.
+    // `700 bytes a call`, which `, call 2 fails` may follow.
     fn set_port(&mut self, side: &str, text: &str) -> bool {
         let (step, rest) = text.split_once(" a call").unwrap_or((text, ""));
-        let (call, _) = rest.split_once(" fails").unwrap_or((rest, ""));
+        let call = rest.strip_prefix(", call ").unwrap_or("");
+        let call = number(call.strip_suffix(" fails").unwrap_or(""));
+        let step = amount(step);
         let port = Port {
-            step: amount(step).max(1),
-            call: number(call.strip_prefix(", call ").unwrap_or("")) as u64,
-            room: amount(rest.strip_prefix(", room for ").unwrap_or("")),
+            step: step.max(1),
+            call: call as u64,
             ..SOUND
         };
         self.ports = ports_with(side.strip_suffix('s').unwrap_or(side), port);
-        true
+        step != NONE && (rest.is_empty() || call != NONE)
     }
 
     // Whether the last run left this: status, length of the output and report.
     fn has_come(&mut self, wanted: &str) -> bool {
+        let Ok(name) = format!(in self.alloc; "{:?}", self.left.status) else {
+            return false;
+        };
         let (status, rest) = wanted.split_once(", ").unwrap_or((wanted, ""));
         let (length, report) = rest.split_once(": ").unwrap_or((rest, ""));
         let left = &self.left;
         let has_begun = !matches!(left.status, Status::Usage | Status::Setting);
         put_report(&mut self.spare, report)
-            & (name_of(left.status) == status)
+            & (name.as_str() == status)
             & (has_begun | (left.read == 0))
             & (left.output.len() == amount(length))
             & (self.is_any | self.output.starts_with(&left.output))
@@ -374,23 +361,4 @@ fn put_report(to: &mut Vec<u8>, text: &str) -> bool {
         }
     }
     is_room
-}
-
-/// The name of a status.
-pub fn name_of(status: Status) -> &'static str {
-    match status {
-        Status::Done => "Done",
-        Status::Usage => "Usage",
-        Status::Setting => "Setting",
-        Status::ReadFault => "ReadFault",
-        Status::WriteFault => "WriteFault",
-        Status::Short => "Short",
-        Status::Long => "Long",
-        Status::Damaged => "Damaged",
-        Status::NoMemory => "NoMemory",
-        Status::ReportFault => "ReportFault",
-        Status::NoControl => "NoControl",
-        Status::BadHeader => "BadHeader",
-        Status::BadMarks => "BadMarks",
-    }
 }

@@ -3,7 +3,7 @@
 use crate::amounts::{BLOCK, NONE, Span, number, numbers};
 use crate::runs::{run_front, run_to_nothing};
 use crate::streams::{ALL_SOUND, NEVER, Port, Ports, SOUND};
-use crate::trial::{Trial, all_same, go, ports_with};
+use crate::trial::{Trial, go, ports_with, runs_leave};
 use dvd_top::Status;
 use std::thread::Threads;
 
@@ -22,7 +22,7 @@ pub fn come_in_pieces<R: AllocGlobal + Threads + Sync>(
             output: port,
             report: port,
         };
-        are_same = are_same && step != NONE && all_same(rt, trial);
+        are_same = are_same && step != NONE && runs_leave(rt, None, trial);
     }
     are_same
 }
@@ -36,7 +36,7 @@ pub fn answer_with_zeros<R: AllocGlobal + Threads + Sync>(
     let span = Span::of(blocks);
     let mut are_same = span.count > 0;
     for k in 0..span.count {
-        are_same = are_same && all_same(rt, trial);
+        are_same = are_same && runs_leave(rt, None, trial);
         if let Some(block) = trial.case.chunks_exact_mut(BLOCK).nth(span.at(k)) {
             block.fill(0);
         }
@@ -76,7 +76,7 @@ fn side_fails<R: AllocGlobal + Threads + Sync>(
         }
         trial.ports = ports_with(side, failing(step, apart.saturating_mul(calls)));
     }
-    all_leave && all_same(rt, trial)
+    all_leave && runs_leave(rt, None, trial)
 }
 
 fn failing(step: usize, call: usize) -> Port {
@@ -204,14 +204,9 @@ fn stops<R: AllocGlobal + Threads + Sync>(
     ports: &Ports,
     trial: &mut Trial,
 ) -> bool {
-    run_front(
-        rt,
-        trial.words.as_str(),
-        &trial.case,
-        length,
-        ports,
-        &mut trial.left,
-    ) && (trial.left.has_stopped || trial.left.status == Status::Done)
+    let words = trial.words.as_str();
+    run_front(rt, words, &trial.case, length, ports, &mut trial.left)
+        && (trial.left.has_stopped || trial.left.status == Status::Done)
 }
 
 /// Whether a run whose output keeps nothing leaves the same status and report.

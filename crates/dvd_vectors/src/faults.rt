@@ -10,18 +10,18 @@ case: as given
 reads: 700 bytes a call, call 2 fails           -> ReadFault, 0 bytes: read fault
 reads: 700 bytes a call, call 3 fails           -> ReadFault, 2064 bytes: read fault
 reads: 700 bytes a call, call 6 fails           -> ReadFault, 4128 bytes: read fault
-# Outputs that have no room for both frames.
-writes: 999 bytes a call, room for 0 bytes      -> WriteFault, 0 bytes: write fault
-writes: 999 bytes a call, room for 1 byte       -> WriteFault, 1 byte: write fault
-writes: 999 bytes a call, room for 2063 bytes   -> WriteFault, 2063 bytes: write fault
-writes: 999 bytes a call, room for 2064 bytes   -> WriteFault, 2064 bytes: write fault
-writes: 999 bytes a call, room for 4127 bytes   -> WriteFault, 4127 bytes: write fault
-writes: 999 bytes a call, room for 4128 bytes   -> Done, 4128 bytes: done
-# Reports that have no room for the closing line.
-reports: 9 bytes a call, room for 5 bytes       -> Done, 4128 bytes: done
-reports: 9 bytes a call, room for 0 bytes       -> ReportFault, 4128 bytes: ..
-reports: 9 bytes a call, room for 1 byte        -> ReportFault, 4128 bytes: d..
-reports: 9 bytes a call, room for 4 bytes       -> ReportFault, 4128 bytes: done..
+# Outputs that take so many bytes.
+writes: 1 byte a call, call 0 fails             -> WriteFault, 0 bytes: write fault
+writes: 1 byte a call, call 1 fails             -> WriteFault, 1 byte: write fault
+writes: 1 byte a call, call 2063 fails          -> WriteFault, 2063 bytes: write fault
+writes: 1 byte a call, call 2064 fails          -> WriteFault, 2064 bytes: write fault
+writes: 1 byte a call, call 4127 fails          -> WriteFault, 4127 bytes: write fault
+writes: 1 byte a call, call 4128 fails          -> Done, 4128 bytes: done
+# Reports that take so many bytes, and the closing line has five.
+reports: 1 byte a call, call 5 fails            -> Done, 4128 bytes: done
+reports: 1 byte a call, call 0 fails            -> ReportFault, 4128 bytes: ..
+reports: 1 byte a call, call 1 fails            -> ReportFault, 4128 bytes: d..
+reports: 1 byte a call, call 4 fails            -> ReportFault, 4128 bytes: done..
 
 # Sixteen reads of a sector each make a block.
 given: image of 32 sectors
@@ -39,7 +39,7 @@ output: image of 16 sectors
 case: as given
 reads: 1000 bytes a call, call 5 fails          -> ReadFault, 0 bytes: read fault
 writes: 1000 bytes a call, call 2 fails         -> WriteFault, 2000 bytes: write fault
-writes: 1000 bytes a call, room for 2500 bytes  -> WriteFault, 2500 bytes: write fault
+writes: 1 byte a call, call 2500 fails          -> WriteFault, 2500 bytes: write fault
 reports: 9 bytes a call, call 0 fails           -> ReportFault, 32768 bytes: ..
 
 # 208 reads of a row make a block.

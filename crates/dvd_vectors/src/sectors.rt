@@ -147,16 +147,16 @@ or: convert --sectors 16 --form listed or merge --sectors 16 --captures 2 --form
                                            -> Usage, 0 bytes: usage
 reads: 1 byte a call                       -> Usage, 0 bytes: usage
 reads: 7 bytes a call                      -> Usage, 0 bytes: usage
-reports: 9 bytes a call, room for 7 bytes  -> Usage, 0 bytes: usage
-reports: 9 bytes a call, room for 6 bytes  -> Usage, 0 bytes: usage
+reports: 1 byte a call, call 7 fails       -> Usage, 0 bytes: usage
+reports: 1 byte a call, call 6 fails       -> Usage, 0 bytes: usage
 
-# Where the report has no room for the line, the status tells it.
-reports: 9 bytes a call, room for 5 bytes  -> ReportFault, 0 bytes: usage..
-reports: 9 bytes a call, room for 4 bytes  -> ReportFault, 0 bytes: usag..
-reports: 9 bytes a call, room for 3 bytes  -> ReportFault, 0 bytes: usa..
-reports: 9 bytes a call, room for 2 bytes  -> ReportFault, 0 bytes: us..
-reports: 9 bytes a call, room for 1 byte   -> ReportFault, 0 bytes: u..
-reports: 9 bytes a call, room for 0 bytes  -> ReportFault, 0 bytes: ..
+# Where the report doesn't take the whole line, the status tells it.
+reports: 1 byte a call, call 5 fails       -> ReportFault, 0 bytes: usage..
+reports: 1 byte a call, call 4 fails       -> ReportFault, 0 bytes: usag..
+reports: 1 byte a call, call 3 fails       -> ReportFault, 0 bytes: usa..
+reports: 1 byte a call, call 2 fails       -> ReportFault, 0 bytes: us..
+reports: 1 byte a call, call 1 fails       -> ReportFault, 0 bytes: u..
+reports: 1 byte a call, call 0 fails       -> ReportFault, 0 bytes: ..
 ";
 
 #[test]
