@@ -37,6 +37,11 @@ pub fn amount(text: &str) -> usize {
     term(first).saturating_add(term(second))
 }
 
+/// The amount behind these words.
+pub fn amount_behind(words: &str, text: &str) -> usize {
+    amount(text.strip_prefix(words).unwrap_or(""))
+}
+
 fn term(text: &str) -> usize {
     let (count, unit) = text.split_once(' ').unwrap_or((text, ""));
     number(count).saturating_mul(size(unit))

@@ -1,8 +1,8 @@
 //! Bytes of a capture that are lost, wrong or doubtful, at places of its blocks.
 use crate::amounts::{BLOCK, MARKED_ROW, ROW, Span, number};
 
-/// What happens to a byte: these bits of it are kept, and then those inverted. A capture in the marked form also has
-// its mark set or cleared.
+/// What happens to a byte: these bits of it are kept, and then those inverted. In the marked form it also gets a mark,
+// or none.
 #[derive(Clone, Copy)]
 struct Hit {
     kept: u8,
@@ -24,14 +24,15 @@ struct Places {
 /// Does `verb: rest`, as `wrong by 55: block 1, rows 3 to 7, bytes 0 to 9; row 9`. Answers whether that is damage,
 /// and of bytes that have such places.
 pub fn damage(verb: &str, rest: &str, bytes: &mut [u8]) -> bool {
-    let (kind, value) = verb.split_once(" by ").unwrap_or((verb, "00"));
+    let valued = verb.split_once(" by ").or(verb.split_once(" as "));
+    let (kind, value) = valued.unwrap_or((verb, "00"));
     let Ok(value) = u8::from_str_radix(value, 16) else {
         return false;
     };
     let (kept, mark) = match kind {
         "wrong" => (0xFF, None),
         "zero" => (0, None),
-        "stands" => (0, Some(false)),
+        "known" => (0, Some(false)),
         "lost" => (0, Some(true)),
         "doubtful" => (0xFF, Some(true)),
         _ => return false,

@@ -12,8 +12,8 @@
 //!
 //! `given` are the bytes that cases have in common, and `case` is one of them, changed; `also` changes those in common.
 //! `output` is all that a run writes where nothing fails. After `run` come the arguments of a run, and after each `or`
-//! others, which leave the same to the last byte. What must come follows `->`: status, length of the output, a prefix of
-//! the whole one, and the lines of the report, with `/` between them; one that ends in `..` is cut off there. A line
+//! others, which leave the same to the last byte. What must come follows `->`: status, length of the output, a prefix
+//! of the whole one, and the lines of the report, with `/` between them; one that ends in `..` is cut off there. A line
 //! that names nothing else goes on changing the bytes. What is run and the case stay until others take their place;
 //! `given` lets go of the output, which then may be any. Nothing after `#` is read.
 //!
@@ -22,11 +22,11 @@
 //! digest: .., last line: .., read: 2 blocks  of the output that came last, and how much of the input was read
 //! at 2 blocks and 12 bytes: ACA6AD           these bytes are there in it
 //! the same in pieces: 1 7 2047               it comes again where all streams move these numbers of bytes a call
-//! each call fails: 9 reads of 5000 bytes, 4 reports of 7 bytes 2 apart
-//!                                            there are that many calls, and where one fails, each in turn or with 2 apart
-//!                                            every second one, all that was done before it is left
-//! nothing is tried again: 7 calls of 700 bytes
-//!                                            where one of the first that many calls of a stream or of its flushes fails
+//! all fail in turn: 9 reads of 5000 bytes, 4 reports of 7 bytes 2 apart
+//!                                            these are all calls of a stream; where one fails, each in turn or, 2
+//!                                            apart, every second one, all that was done before it is left
+//! each of the first calls stops it: 7 calls of 700 bytes
+//!                                            where one fails, of any stream or its flushes, nothing is tried again
 //! the same while these blocks become zeros: 32 to 223
 //! to nothing                                 it comes again with an output that keeps nothing
 //! twin: .., alike: A = B                     arguments A leave over the case what arguments B leave over the twin

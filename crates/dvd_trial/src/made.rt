@@ -3,7 +3,7 @@
 //! ```text
 //! nothing, as given               none; the bytes in common, where `given` is the first step of an output
 //! image of 17 sectors             bytes that are drawn; `counted sector`: byte i is 7i + i / 256
-//! 2 blocks of 5A, hex 49F1        bytes of this value; these bytes
+//! 2 blocks of 5A, hex 49F1        bytes of this value; these bytes. `then 1 byte of 5A` comes after what is there
 //! line blocks 1 pi 0              a line of text
 //! master --sectors 17 makes 2 blocks
 //!                                 they become what a run writes over them, 2 blocks
@@ -11,8 +11,9 @@
 //! listed shape 0 zones 0 sectors 17 and 0 initial 0 tail 16 runs 0:2
 //!                                 they become a listed capture with this header; after each block come the runs of its
 //!                                 marks, first place and length
-//! front 1 block, without 1 byte   the first of them alone; without the last ones
-//! from 2 blocks                   what is before that comes after the rest; `again 1 frame`: the last ones once more
+//! front 1 block, cut off 1 byte   the first of them alone; all but the last ones
+//! from 2 blocks                   what is before that comes after the rest
+//! repeat the last 1 frame         that comes once more
 //! frames reversed                 the frames in reverse order
 //! woven                           marked blocks of the first half and of the second one in turn
 //! drawn from 2                    of a capture about a sixth of the rows are lost, and each other one has a wrong byte
@@ -23,16 +24,19 @@
 //! wrong by 55: one byte of each 31
 //!                                 from the first on
 //! lost: row 3, doubtful by 5A: .. a zero with a mark; these bits are wrong, with a mark
-//! stands by 01: .., zero: ..      this byte is there without a mark; zeros are there
+//! known as 01: .., zero: ..       this byte is there without a mark; zeros are there
 //! zero: sectors 0 to 1            of an image; `cdsectors`: those of a CD-ROM
 //! ```
-use crate::amounts::{BLOCK, MARKED_BLOCK, MARKED_ROW, NONE, ROW, amount, number, numbers};
+use crate::amounts::{
+    BLOCK, MARKED_BLOCK, MARKED_ROW, NONE, ROW, amount, amount_behind, number, numbers,
+};
 use crate::damage::damage;
 use std::alloc::Global;
 use std::mem::swap;
 
 /// Does a step that runs nothing. Answers whether there is such a step, and memory.
 pub fn step(alloc: Global, text: &str, bytes: &mut Vec<u8>, spare: &mut Vec<u8>) -> bool {
+    let text = text.strip_prefix("then ").unwrap_or(text);
     let (verb, rest) = text.split_once(' ').unwrap_or((text, ""));
     match verb {
         "nothing" => true,
@@ -42,8 +46,10 @@ pub fn step(alloc: Global, text: &str, bytes: &mut Vec<u8>, spare: &mut Vec<u8>)
         "marked" => add_marks(bytes, spare),
         "listed" => list(bytes, spare, &numbers(rest)),
         "woven" => weave(bytes, spare),
-        "image" => add_image(bytes, amount(rest.strip_prefix("of ").unwrap_or(""))),
-        "front" | "without" | "from" | "again" => move_bytes(verb, amount(rest), bytes),
+        "image" => add_image(bytes, amount_behind("of ", rest)),
+        "front" | "from" => move_bytes(verb, amount(rest), bytes),
+        "cut" => move_bytes(verb, amount_behind("off ", rest), bytes),
+        "repeat" => move_bytes(verb, amount_behind("the last ", rest), bytes),
         _ => match text.split_once(": ") {
             Some((kind, places)) => damage(kind, places, bytes),
             None => change(text, verb, rest, bytes),
@@ -66,12 +72,11 @@ fn move_bytes(verb: &str, count: usize, bytes: &mut Vec<u8>) -> bool {
     let length = bytes.len();
     match verb {
         "front" => bytes.truncate(count),
-        "without" => bytes.truncate(length.saturating_sub(count)),
+        "cut" => bytes.truncate(length.saturating_sub(count)),
         "from" => bytes.rotate_left(count.min(length)),
         _ => {
-            return bytes
-                .extend_from_within(length.saturating_sub(count)..)
-                .is_ok();
+            let last = length.saturating_sub(count);
+            return count <= length && bytes.extend_from_within(last..).is_ok();
         }
     }
     count <= length

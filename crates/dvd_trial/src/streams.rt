@@ -1,6 +1,6 @@
-//! Streams that fail at one call or go in pieces, and see that nothing is tried again: after a
-//! failed call, and after a read that met the end of the input, no stream is asked for anything more but the report,
-//! for the closing line; and after a fault of the report not even that.
+//! Streams that fail at one call or go in pieces, and see that nothing is tried again: after a failed call, and after
+//! a read that met the end of the input, no stream is asked for anything more but the report, for the closing line;
+//! and after a fault of the report not even that.
 use std::io::{self, Error, ErrorKind, Read, Write};
 use std::sync::atomic::{AtomicU64, Ordering};
 

@@ -97,9 +97,9 @@ fn part_holds<R: AllocGlobal + Threads + Sync>(rt: &R, part: &str, trial: &mut T
         "reads" | "writes" | "reports" => trial.set_port(verb, rest),
         "digest" | "read" | "last line" => trial.has(verb, rest),
         "alike" => are_alike(rt, rest, trial),
-        "nothing is tried again" => stop_in_turn(rt, &numbers(rest), trial),
+        "each of the first calls stops it" => stop_in_turn(rt, &numbers(rest), trial),
         "the same in pieces" => come_in_pieces(rt, rest, trial),
-        "each call fails" => fail_in_turn(rt, rest, trial),
+        "all fail in turn" => fail_in_turn(rt, rest, trial),
         "the same while these blocks become zeros" => answer_with_zeros(rt, rest, trial),
         "two workers meet" => meet(rt, numbers(rest)[0] as u64, trial),
         "pieces ask" => ask(rt, &numbers(rest), trial),
@@ -161,8 +161,8 @@ pub fn go<R: AllocGlobal + Threads + Sync>(rt: &R, k: usize, trial: &mut Trial) 
     }
 }
 
-/// Whether each of the runs leaves what is wanted and the same as the one before it, or else, where nothing is said of
-/// it, what is kept. The last result is kept.
+/// Whether each of the runs leaves what is wanted and what the one before it left, or, where nothing is wanted, what is
+/// kept. The last result is kept.
 pub fn runs_leave<R: AllocGlobal + Threads + Sync>(
     rt: &R,
     wanted: Option<&str>,

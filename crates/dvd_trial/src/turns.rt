@@ -44,8 +44,8 @@ pub fn answer_with_zeros<R: AllocGlobal + Threads + Sync>(
     are_same
 }
 
-/// `9 reads of 5000 bytes, 16 writes of 700 bytes 11 apart`: where one of that many calls of a stream fails, all that
-/// was done before it is left.
+/// `9 reads of 5000 bytes, 16 writes of 700 bytes 11 apart`: these are all calls of a stream, and where one of them
+/// fails, all that was done before it is left.
 pub fn fail_in_turn<R: AllocGlobal + Threads + Sync>(
     rt: &R,
     text: &str,

@@ -21,7 +21,7 @@ static FAILING: [&str; 18] = [
     "given: image of 1 sector\noutput: image of 2 sectors\ncase: as given\n\
 run: frames --first 030000 --sectors 1 -> Done, 2064 bytes: done",
     "given: image of 1 sector\ncase: as given\nrun: frames --first 030000 --sectors 1 -> Done, 2064 bytes: done\n\
-each call fails: 3 reads of 700 bytes",
+all fail in turn: 3 reads of 700 bytes",
 ];
 
 #[test]

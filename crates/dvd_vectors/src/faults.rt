@@ -68,7 +68,7 @@ reports: 64 bytes a call, call 1 fails
 -> ReportFault, 16 sectors: block 0 sector 030000 layer 0: address 0 found 00000000 saved 0/..
 
 # A disk of two blocks, of which one is recorded.
-given: image of 16 sectors | master --sectors 16 makes 1 block | 1 block of 00
+given: image of 16 sectors | master --sectors 16 makes 1 block | then 1 block of 00
 run: recover --sectors 32
 output: image of 16 sectors
 case: as given

@@ -12,7 +12,7 @@ case: as given                    -> Done, 110 bytes: done
 # The first control block stands behind 32 others, and nothing behind it is read: 33 blocks of eight calls.
 read: 33 blocks
 the same in pieces: 1 7 2047 40000
-each call fails: 24 reads of 5000 bytes 11 apart, 3 writes of 50 bytes, 3 reports of 2 bytes
+all fail in turn: 24 reads of 5000 bytes 11 apart, 3 writes of 50 bytes, 3 reports of 2 bytes
 the same while these blocks become zeros: 32 to 223
                                   -> NoControl, 0 bytes: no control block
 read: 224 blocks
@@ -42,7 +42,7 @@ case: zero: blocks 332 to 523     -> NoControl, 0 bytes: no control block
 given: nothing
 run: info
 case: 224 blocks of 00                   -> NoControl, 0 bytes: no control block
-case: 224 blocks of 00 | without 1 byte  -> Short, 0 bytes: short: block 223, 37855 bytes
+case: 224 blocks of 00 | cut off 1 byte  -> Short, 0 bytes: short: block 223, 37855 bytes
 run: info --form marked
 case: 1 marked block and 5 bytes of 00   -> Short, 0 bytes: short: block 1, 5 bytes
 run: info --initial 12031

@@ -140,10 +140,10 @@ alike: recover --form marked --sectors 32 --sectors1 17 --shape opposite --initi
 given: image of 17 sectors | master --sectors 17 makes 2 blocks
 run: convert --sectors 17
 output: given | listed shape 0 zones 0 sectors 17 and 0 initial 0 tail 16
-case: 1 byte of 00    -> Long, 75748 bytes: long
-case: without 1 byte  -> Short, 37890 bytes: short: block 1, 37855 bytes
-case: front 0 bytes   -> Short, 32 bytes: short: block 0, 0 bytes
-case: without 1 byte
+case: then 1 byte of 00  -> Long, 75748 bytes: long
+case: cut off 1 byte     -> Short, 37890 bytes: short: block 1, 37855 bytes
+case: front 0 bytes      -> Short, 32 bytes: short: block 0, 0 bytes
+case: cut off 1 byte
 reads: 40000 bytes a call, call 0 fails   -> ReadFault, 32 bytes: read fault
 writes: 40000 bytes a call, call 0 fails  -> WriteFault, 0 bytes: write fault
 ";
@@ -226,9 +226,9 @@ case: listed shape 0 zones 0 sectors 16 and 0 initial 0 tail 16 runs 9:1 3:1
 -> BadMarks, 0 bytes: bad marks: block 0, byte 37862
 
 # The number of runs, behind which the input ends: one too many, and the most.
-case: listed shape 0 zones 0 sectors 16 and 0 initial 0 tail 16 | without 2 bytes | hex 49F1
+case: listed shape 0 zones 0 sectors 16 and 0 initial 0 tail 16 | cut off 2 bytes | then hex 49F1
 -> BadMarks, 0 bytes: bad marks: block 0, byte 37856
-case: listed shape 0 zones 0 sectors 16 and 0 initial 0 tail 16 | without 2 bytes | hex 49F0
+case: listed shape 0 zones 0 sectors 16 and 0 initial 0 tail 16 | cut off 2 bytes | then hex 49F0
 -> Short, 0 bytes: short: block 0, 37858 bytes
 
 # The end of a listed capture of two blocks: a byte too many, no length of the last run, and one that breaks a rule.
@@ -236,9 +236,9 @@ given: image of 17 sectors | master --sectors 17 makes 2 blocks
 listed shape 0 zones 0 sectors 17 and 0 initial 0 tail 16 runs 182:3
 run: recover --form listed
 output: image of 17 sectors
-case: 1 byte of 00                       -> Long, 17 sectors: long
-case: without 2 bytes                    -> Short, 16 sectors: short: block 1, 37860 bytes
-case: without 2 bytes | 2 bytes of 00    -> BadMarks, 16 sectors: bad marks: block 1, byte 37860
+case: then 1 byte of 00                     -> Long, 17 sectors: long
+case: cut off 2 bytes                       -> Short, 16 sectors: short: block 1, 37860 bytes
+case: cut off 2 bytes | then 2 bytes of 00  -> BadMarks, 16 sectors: bad marks: block 1, byte 37860
 ";
 
 #[test]

@@ -5,47 +5,47 @@ const JOINED: &str = "
 # Two captures of a block of zeros, of which the first or the second has another byte at place 0, or has lost that.
 given: 2 blocks of 00 | marked
 run: merge --sectors 16 --captures 2 --form marked
-output: 1 block of 00 | marked | stands by 01: row 0, byte 0
-case: stands by 01: block 0, row 0, byte 0 | lost: block 1, row 0, byte 0  -> Done, 1 marked block: done
-case: lost: block 0, row 0, byte 0 | stands by 01: block 1, row 0, byte 0  -> Done, 1 marked block: done
+output: 1 block of 00 | marked | known as 01: row 0, byte 0
+case: known as 01: block 0, row 0, byte 0 | lost: block 1, row 0, byte 0  -> Done, 1 marked block: done
+case: lost: block 0, row 0, byte 0 | known as 01: block 1, row 0, byte 0  -> Done, 1 marked block: done
 # Of two different bytes neither is believed.
 output: 1 block of 00 | marked | lost: row 0, byte 0
-case: stands by 01: block 0, row 0, byte 0                                 -> Done, 1 marked block: done
-case: stands by 01: block 1, row 0, byte 0                                 -> Done, 1 marked block: done
+case: known as 01: block 0, row 0, byte 0                                 -> Done, 1 marked block: done
+case: known as 01: block 1, row 0, byte 0                                 -> Done, 1 marked block: done
 output: 1 block of 00 | marked
 case: lost: block 0, row 0, byte 0                                         -> Done, 1 marked block: done
 
 # Of capture c of sixteen there is one byte, c + 1, at place 11c of row 12c of the block. Else nothing is known. The
 # two spare bits of the marks are set too.
 given: 16 blocks of 00 | marked | lost: blocks 0 to 15
-stands by 01: block 0, row 0, byte 0 | stands by 02: block 1, row 12, byte 11 | stands by 03: block 2, row 24, byte 22
-stands by 04: block 3, row 36, byte 33 | stands by 05: block 4, row 48, byte 44 | stands by 06: block 5, row 60, byte 55
-stands by 07: block 6, row 72, byte 66 | stands by 08: block 7, row 84, byte 77 | stands by 09: block 8, row 96, byte 88
-stands by 0A: block 9, row 108, byte 99 | stands by 0B: block 10, row 120, byte 110
-stands by 0C: block 11, row 132, byte 121
-stands by 0D: block 12, row 144, byte 132 | stands by 0E: block 13, row 156, byte 143
-stands by 0F: block 14, row 168, byte 154 | stands by 10: block 15, row 180, byte 165 | spare bits
+known as 01: block 0, row 0, byte 0 | known as 02: block 1, row 12, byte 11 | known as 03: block 2, row 24, byte 22
+known as 04: block 3, row 36, byte 33 | known as 05: block 4, row 48, byte 44 | known as 06: block 5, row 60, byte 55
+known as 07: block 6, row 72, byte 66 | known as 08: block 7, row 84, byte 77 | known as 09: block 8, row 96, byte 88
+known as 0A: block 9, row 108, byte 99 | known as 0B: block 10, row 120, byte 110
+known as 0C: block 11, row 132, byte 121
+known as 0D: block 12, row 144, byte 132 | known as 0E: block 13, row 156, byte 143
+known as 0F: block 14, row 168, byte 154 | known as 10: block 15, row 180, byte 165 | spare bits
 run: merge --sectors 16 --captures 16 --form marked
 output: 1 block of 00 | marked | lost: block 0
-stands by 01: row 0, byte 0 | stands by 02: row 12, byte 11 | stands by 03: row 24, byte 22
-stands by 04: row 36, byte 33
-stands by 05: row 48, byte 44 | stands by 06: row 60, byte 55 | stands by 07: row 72, byte 66
-stands by 08: row 84, byte 77
-stands by 09: row 96, byte 88 | stands by 0A: row 108, byte 99 | stands by 0B: row 120, byte 110
-stands by 0C: row 132, byte 121
-stands by 0D: row 144, byte 132 | stands by 0E: row 156, byte 143 | stands by 0F: row 168, byte 154
-stands by 10: row 180, byte 165
+known as 01: row 0, byte 0 | known as 02: row 12, byte 11 | known as 03: row 24, byte 22
+known as 04: row 36, byte 33
+known as 05: row 48, byte 44 | known as 06: row 60, byte 55 | known as 07: row 72, byte 66
+known as 08: row 84, byte 77
+known as 09: row 96, byte 88 | known as 0A: row 108, byte 99 | known as 0B: row 120, byte 110
+known as 0C: row 132, byte 121
+known as 0D: row 144, byte 132 | known as 0E: row 156, byte 143 | known as 0F: row 168, byte 154
+known as 10: row 180, byte 165
 case: as given        -> Done, 1 marked block: done
 # The same captures are not enough for two blocks.
 run: merge --sectors 17 --captures 16 --form marked
                       -> Short, 1 marked block: short: block 1, 0 bytes
 # A part of a unit counts with all captures before it.
 run: merge --sectors 16 --captures 16 --form marked
-case: without 1 byte  -> Short, 0 bytes: short: block 0, 682239 bytes
+case: cut off 1 byte  -> Short, 0 bytes: short: block 0, 682239 bytes
 
 # Two captures of a recording of sixteen blocks, one behind the other. Each of them is refused; the lines were
 # computed by another program, which draws the same.
-given: image of 256 sectors | master --sectors 256 makes 16 blocks | again 16 blocks | marked | drawn from 2
+given: image of 256 sectors | master --sectors 256 makes 16 blocks | repeat the last 16 blocks | marked | drawn from 2
 run: recover --sectors 256 --form marked
 case: front 16 marked blocks -> Damaged, 256 sectors: block 0 sector 030000 layer 0: rows 33 saved 1/\
 block 1 sector 030010 layer 0: rows 41 saved 0/block 2 sector 030020 layer 0: rows 26 saved 4/\

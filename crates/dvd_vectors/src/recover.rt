@@ -12,8 +12,8 @@ case: front 37855 bytes         -> Short, 0 sectors: short: block 0, 37855 bytes
 case: front 37856 bytes         -> Short, 16 sectors: short: block 1, 0 bytes
 case: front 37857 bytes         -> Short, 16 sectors: short: block 1, 1 bytes
 case: front 75711 bytes         -> Short, 16 sectors: short: block 1, 37855 bytes
-case: 1 byte of 55              -> Long, 32 sectors: long
-case: 9 bytes of 55             -> Long, 32 sectors: long
+case: then 1 byte of 55         -> Long, 32 sectors: long
+case: then 9 bytes of 55        -> Long, 32 sectors: long
 read: 2 blocks and 1 byte
 
 # Every byte is marked.

@@ -10,7 +10,7 @@ output: line block 0 sector 030000 layer 0 pi 0 failed 0 sum8 0: whole
 line blocks 1 pi 0 failed 0 damaged 0 peak 0 at 0 over 0
 -> Done, 110 bytes: done
 the same in pieces: 1 7 2047 40000
-each call fails: 9 reads of 5000 bytes, 4 writes of 50 bytes, 3 reports of 2 bytes
+all fail in turn: 9 reads of 5000 bytes, 4 writes of 50 bytes, 3 reports of 2 bytes
 run: survey --sectors 17
 output: line block 0 sector 030000 layer 0 pi 0 failed 0 sum8 0: whole
 -> Short, 58 bytes: short: block 1, 0 bytes
@@ -22,8 +22,8 @@ given: 1 block of 00
 run: survey --sectors 16
 output: line block 0 sector 030000 layer 0 pi 0 failed 0 sum8 0: address 0 found 00000000
 line blocks 1 pi 0 failed 0 damaged 1 peak 0 at 0 over 0
-case: as given      -> Damaged, 129 bytes: damaged: 1 blocks
-case: 1 byte of 00  -> Long, 129 bytes: long
+case: as given           -> Damaged, 129 bytes: damaged: 1 blocks
+case: then 1 byte of 00  -> Long, 129 bytes: long
 
 # A row with a mark has an error: 141 rows of each block, and 140.
 given: image of 32 sectors | master --sectors 32 makes 2 blocks | marked

@@ -1,5 +1,5 @@
-//! Blocks that `exercise` draws, by one worker and by several, and other runs of several workers: what comes out is that
-//! of one worker, two workers work at the same time, and each of three has its piece of each pass.
+//! Blocks that `exercise` draws, and runs of several workers: what comes out is that of one worker, two workers work at
+//! the same time, and each of three has its piece of each pass.
 use dvd_trial::{Held, hold};
 
 // Numbers that another program computed from the standard.
@@ -15,7 +15,7 @@ run: exercise --seed 0 --blocks 1
 output: line exercise seed 0 blocks 1 whole 1 fixed 1397 failed 5
 case: as given                     -> Done, 53 bytes: done
 the same in pieces: 1 7 2047 40000
-each call fails: 0 reads of 5000 bytes, 6 writes of 9 bytes, 3 reports of 2 bytes
+all fail in turn: 0 reads of 5000 bytes, 6 writes of 9 bytes, 3 reports of 2 bytes
 
 run: exercise --blocks 1 --seed 4294967295
 output: line exercise seed 4294967295 blocks 1 whole 1 fixed 2677 failed 12
@@ -68,7 +68,7 @@ wrong by 5A: block 0, bytes 0 to 164 step 41; block 1, rows 3 to 188 step 37, by
 wrong by 5A: block 2, rows 0 to 18, bytes 0 to 176 step 11; block 2, row 192, bytes 0 to 176 step 11
 case: as given
 run: recover --sectors 33 or recover --sectors 33 --workers 1 or recover --sectors 33 --workers 8
-output: image of 32 sectors | 1 sector of 00
+output: image of 32 sectors | then 1 sector of 00
 -> Damaged, 33 sectors: block 2 sector 030020 layer 0: rows 20 saved 14/damaged: 1 blocks
 run: survey --sectors 33 or survey --sectors 33 --workers 1 or survey --sectors 33 --workers 8
 output: line block 0 sector 030000 layer 0 pi 208 failed 0 sum8 208: whole
@@ -83,8 +83,8 @@ or: master --sectors 33 --workers 16
 case: as given -> Done, 3 blocks: done
 
 given: nothing
-run: exercise --seed 1 --blocks 2 or exercise --seed 1 --blocks 2 --workers 1 or exercise --seed 1 --blocks 2 --workers 3
-or: exercise --seed 1 --blocks 2 --workers 16
+run: exercise --seed 1 --blocks 2 or exercise --seed 1 --blocks 2 --workers 1
+or: exercise --seed 1 --blocks 2 --workers 3 or exercise --seed 1 --blocks 2 --workers 16
 case: as given -> Done, 54 bytes: done
 ";
 
