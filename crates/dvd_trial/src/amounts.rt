@@ -37,7 +37,7 @@ pub fn amount(text: &str) -> usize {
     term(first).saturating_add(term(second))
 }
 
-/// The amount behind these words.
+/// The amount after these words.
 pub fn amount_behind(words: &str, text: &str) -> usize {
     amount(text.strip_prefix(words).unwrap_or(""))
 }

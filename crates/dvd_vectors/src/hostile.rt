@@ -1,5 +1,5 @@
 //! Every command over a small input: in pieces of every kind, and with each call of its input, its output and its
-//! report failing in turn; `survey`, `info` and `exercise` stand in `survey`, `info` and `workers`. Each digest was
+//! report failing in turn; `survey`, `info` and `exercise` are in `survey`, `info` and `workers`. Each digest was
 //! computed by another program. These are the hostile streams and objects, and the module of each:
 //!
 //! | What is hostile | Module |
