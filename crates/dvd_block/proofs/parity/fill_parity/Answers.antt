@@ -27,7 +27,8 @@ module _ (c : goal.After-rows-2-1) where
       λ i above. sym (ap (λ (rows : List (List ℕ)). line rows i) c.split_at_mut-upper.ensures.value
       ∙ get_or_append_left was c.split_at_mut-upper.result.1.now [] i (omega (arith, c.split_at_mut-upper.ensures.front_len))) in
       filled_below old upper lower (c.rows_parity.ensures.size ∙ c.split_at_mut-upper.ensures.front_len) c.outer_parity.ensures.size
-      (λ i above. subst (λ (row : List ℕ). IsEncoded 182 10 (take 172 row) (line upper i)) (row_is i above) (c.rows_parity.ensures.encoded i (omega (arith, c.rows_parity.ensures.size, c.split_at_mut-upper.ensures.front_len))))
+      (λ i above. subst (λ (row : List ℕ). IsEncoded 182 10 (take 172 row) (line upper i)) (row_is i above)
+      (c.rows_parity.ensures.encoded i (omega (arith, c.rows_parity.ensures.size, c.split_at_mut-upper.ensures.front_len))))
       c.outer_parity.ensures.encoded
       c.outer_parity.ensures.sizes
 

@@ -33,4 +33,5 @@ returns c =
     let height : length rows ≡ 208 = c.told-rows in
     sym (list_all-from_AllPass (vanishes_at_all 10) rows
     (λ k d within.
-    subst (λ (row : List ℕ). vanishes_at_all 10 row ≡ true) (sym (get_or_default rows k d [] within)) (c.loop-group.invariant k (omega (arith, height)) (omega (arith, height)))))
+    subst (λ (row : List ℕ). vanishes_at_all 10 row ≡ true) (sym (get_or_default rows k d [] within))
+    (c.loop-group.invariant k (omega (arith, height)) (omega (arith, height)))))
