@@ -17,7 +17,8 @@ use std::marker::Model;
 const MOST_BYTES: usize = 16 * 42_640;
 
 /// A unit, a block, and how many bytes there were in the last block of each capture. Where blocks are filled, there is
-/// also a block that is marked whole.
+/// also a lost block: all its bytes are 0 and marked. It takes the place of a missing block, and its end that of what a
+/// block lacks.
 #[derive(Drop)]
 pub struct Buffers {
     unit: Vec<u8>,
@@ -77,7 +78,8 @@ impl Buffers {
         Ok(())
     }
 
-    /// How the loop ends where the captures don't have block `k`.
+    /// How the loop ends after block `k` of each capture was read, where the captures don't all have it: as `Done` where
+    /// none has a byte of it, and else, unless blocks are filled, as `Short` in the first capture that lacks some.
     pub(crate) fn check(&self, k: u32) -> Result<(), InterleaveEnd>
         ensures { ChecksTo self.now k result }
     {
@@ -175,6 +177,7 @@ fn put_lost_row(block: &mut Vec<u8>) -> Result<(), AllocError>
     ensures len { OnOk result (vec_len block.new ≡ vec_len block.old + 205) }
 {
     block.extend_from_slice(&[0; 182])?;
+    // A bit for each of the 182 places, and the two spare ones, which are 0.
     block.extend_from_slice(&[255; 22])?;
     block.push(252)?;
     Ok(())

@@ -52,6 +52,7 @@ fn count_blanks(text: &[u8]) -> usize
     count
 }
 
+// How many bytes come before the first blank.
 fn count_others(text: &[u8]) -> usize
     ensures count { result ≡ field_length text.now }
     ensures bound { result ≤ length text.now }
@@ -95,6 +96,7 @@ fn bytes_before(text: &[u8], end: u8) -> usize
     count
 }
 
+// A carriage return is one, so that lines may end in it.
 fn is_blank(byte: u8) -> bool
     ensures { result ≡ is_blank byte }
 {

@@ -25,7 +25,7 @@ struct Marking<'a> {
 }
 
 impl<'a> Marking<'a> {
-    // Spans that are right from this byte on: those where the loop is, or all of them where that is past this byte.
+    // The spans to look in for this byte and those after it: those that are left, or all where the loop is past it.
     fn passed(&self, start: u64) -> &'a [Span]
         requires { AgreeFrom self.now.place self.now.left.now self.now.spans.now }
         ensures { AgreeFrom start result.now self.now.spans.now }

@@ -1,4 +1,4 @@
-//! The clap command of each command. Values are texts to clap, and the page of their command reads them by their forms.
+//! The clap command of each command. Values are texts to clap, and the module of their command reads them by their forms.
 ghost use Rattle.std.specs.Prelude.{◌≡◌, codes, false, true, None, Some, IfOk, map, option_map, string_bytes};
 ghost use Rattle.clap.specs.Words.{app_of, first_of, found_of, rows_of, with_rule};
 ghost use Rattle.cap_words.specs.Apps.{app_for, bare_app, file_rule, flag_rule, option_rule, with_options};
@@ -55,7 +55,7 @@ fn parser_for<'a>(alloc: Global, command: Command) -> Result<clap::Command<'a>, 
     }
 }
 
-// A command without options, and without a flag for help.
+// A command without options, and without clap's flag for help: the program has no such option.
 fn bare_parser<'a>(alloc: Global, name: &'a str) -> clap::Command<'a>
     ensures { app_of result ≡ bare_app name.now }
 {

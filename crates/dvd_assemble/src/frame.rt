@@ -95,7 +95,8 @@ fn put_row(row: &mut [u8; ROW], marks: &mut RowMarks, form: Form, bytes: &[u8])
 }
 
 /// Reads one recording frame, by as many calls as it takes: 2,366 bytes in the plain form, 2,665 in the marked form.
-/// One that isn't whole leaves the frame as it was.
+/// It is `End` where the source ended before the first, and `Short` where it ended within. One that isn't whole leaves the
+/// frame as it was. Marks of these forms break no rule (`no_rule`).
 #[tactic(auto, using(dvd_capture::proofs::FetchedCounts::cut_counts))]
 pub fn fetch_frame<S: Source>(src: &mut S, form: Form, frame: &mut FrameWork) -> FetchAnswer
     requires { HasSize form }

@@ -68,8 +68,8 @@ impl Counts {
     }
 }
 
-// Its blocks, the state that the next is drawn from, what was found so far, how a block gets its parity and is read,
-// and the memory of one block.
+// Its seed and its blocks, the state that the next is drawn from, what was found so far, how a block gets its parity and
+// is read, and the memory of one block.
 #[derive(Drop)]
 struct Exercise<'a, 'r, A, F> {
     seed: u32,
@@ -213,7 +213,7 @@ fn follow_trials<R: Threads + Sync, S: Source, K: Sink, G: Gate>(
     follow_by(&add, &read, settings, block, piece, work, src, out)
 }
 
-// Likewise with what gives a block its parity, and what reads it.
+// Likewise with what gives a block its parity, and what reads it: closures, whose types have no names.
 fn follow_by<
     'a,
     'r,
@@ -340,7 +340,8 @@ fn load_hurt(block: &Block, rand: &mut Rand, work: &mut Work)
     hurt(rand, work);
 }
 
-// Reads a block and counts what is found of it. Here it has no cause, and its sectors are those that were drawn.
+// Reads a block and counts what is found of it. Its damage is within the bound, so that the reading finds no cause
+// (`right`) and its sectors are those that were drawn.
 fn read_back<F: Fn(&mut Work, &BlockPlan) -> Result<Fixed, Cause>>(
     entry: &BlockPlan,
     image: &[u8],

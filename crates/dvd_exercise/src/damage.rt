@@ -58,6 +58,7 @@ impl Plan {
         ensures start { result.start ≡ start_row (state_of rand.old) }
         ensures state { state_of rand.new ≡ state_after (state_of rand.old) 3 }
     {
+        // A bad row takes two of the sixteen parity bytes of a column, and a lost one takes one.
         let bad = rand.word() % 9;
         let lost = rand.word() % (17 - 2 * bad);
         let start = rand.word() % 208;
@@ -68,7 +69,8 @@ impl Plan {
         }
     }
 
-    // The bad or lost row with the number `turn`; the bad rows come first.
+    // The bad or lost row with the number `turn`; the bad rows come first. 5 and 208 have no factor in common, so that
+    // none comes twice.
     fn row(&self, turn: usize) -> usize
         requires { turn < 208 }
         ensures row { result ≡ damaged_row self.now.start turn }
@@ -128,7 +130,8 @@ fn lose_row(work: &mut Work, i: usize)
     }
 }
 
-// Sets up to 5 bytes of a row to their exclusive or with drawn ones that aren't 0.
+// Sets up to 5 bytes of a row to their exclusive or with drawn ones, made odd so that none is 0. 31 and 182 have no
+// factor in common, so that no place comes twice.
 fn hurt_row(rand: &mut Rand, work: &mut Work, i: usize)
     requires stage { stage_of work.old ≡ Fetched }
     requires row { i < 208 }

@@ -1,4 +1,5 @@
-//! How a loop ends, what kind a unit is, and what comes after the last one.
+//! How a loop ends, what kind a unit is, and what comes after the last one. A unit is what a command reads at a time: a
+//! sector, a block or a recording frame. One answers if it is what the command looks for.
 ghost use Rattle.std.specs.Prelude.{◌≡◌, ◌≢◌, true, false};
 ghost use Rattle.dvd_loop.specs.declared.ends.LoopEnd.TheVariants.{ReadFault as read_fault, WriteFault as write_fault};
 ghost use Rattle.dvd_loop.specs.declared.ends.UnitKind.TheVariants.{Last as last};
@@ -25,7 +26,7 @@ pub enum LoopEnd {
     Damaged { blocks: u32 },
     /// No unit answered.
     NoControl,
-    /// This unit breaks a rule of its form at this byte.
+    /// The marks of this unit break a rule of the listed form, at this byte of it.
     BadMarks { block: u32, at: u32 },
     /// The input ended in the header before its first unit, after this number of its bytes.
     /// No loop ends in this way, or as `BadHeader`. Both are here because a run has one end, with its status and its

@@ -12,7 +12,9 @@ use std::marker::Model;
 #[derive(Drop)]
 pub struct SliceSource<'a> {
     rest: &'a [u8],
+    // How many calls met the end.
     ends: u64,
+    // Whether the last call, of those whose buffer had room, gave nothing.
     stopped: bool,
 }
 
@@ -74,11 +76,14 @@ impl<'a> Source for SliceSource<'a> {
 pub struct MemSource {
     bytes: Vec<u8>,
     at: usize,
+    // The most bytes a call, and the numbers of the calls that fail, from 0 on.
     step: usize,
     fails: Vec<u64>,
+    // How many calls there were, how many failed, and how many met the end.
     calls: u64,
     faults: u64,
     ends: u64,
+    // Whether the last call, of those whose buffer had room, gave nothing.
     stopped: bool,
 }
 

@@ -67,6 +67,8 @@ pub fn refused_line(fault: LayoutFault) -> Line
     line
 }
 
+// Puts the rule that is broken, after `setting: `, with its number in decimal: a layer, 0 or 1, sectors, blocks of a
+// zone, or the sector number after a layer.
 fn put_fault(line: &mut Line, fault: LayoutFault)
     requires { length line.old ≡ 9 }
     ensures items { line.new ≡ line.old ++ fault_text fault }

@@ -1,5 +1,5 @@
-//! Sums of elements, and products, quotients, inverses and powers by logarithms: to multiply is to add exponents of
-//! alpha.
+//! Sums of elements of the field of 256, with x^8 + x^4 + x^3 + x^2 + 1, and products, quotients, inverses and powers
+//! by logarithms: to multiply is to add exponents of alpha. 0 has no logarithm.
 ghost use Rattle.std.specs.Prelude.{◌≡◌, ◌≢◌, ◌<◌};
 ghost use Rattle.coding.specs.Field.{alpha, plus, product, power};
 
@@ -80,7 +80,7 @@ fn exponent(a: u8) -> usize
     LOGARITHMS[a as usize] as usize
 }
 
-/// The power of alpha at a place of the table.
+/// The power of alpha at a place of the table, which has all powers twice: a sum of two exponents needs no remainder.
 #[inline]
 #[tactic(auto, using(crate::proofs::Logarithms::POWERS_at))]
 fn power_at(place: usize) -> u8
