@@ -182,12 +182,12 @@ impl Marks {
     }
 
     /// Sets the marks of row `i` to those in a recorded row by itself, and no others.
-    pub(crate) fn set_record(&mut self, i: usize, form: Form, record: &[u8])
+    pub(crate) fn set_record(&mut self, i: usize, form: Form, bytes: &[u8])
         requires row { i < 208 }
-        requires size { length record.now ≡ record_size form }
-        ensures { marks_rows self.new ≡ slice_set (marks_rows self.old) i (marks_in form record.now) }
+        requires size { length bytes.now ≡ record_size form }
+        ensures { marks_rows self.new ≡ slice_set (marks_rows self.old) i (marks_in form bytes.now) }
     {
-        self.rows[i].copy_from_record(form, record);
+        self.rows[i].copy_from_record(form, bytes);
     }
 
     /// Takes all marks away.
