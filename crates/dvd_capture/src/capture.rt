@@ -17,6 +17,9 @@ use crate::work::Work;
 use dvd_block::row_of_record;
 use dvd_ports::{Failed, Source, read_whole};
 
+// The bytes of a block in the form that has most, of those that give each block as many.
+const MOST_BLOCK: usize = 208 * 205;
+
 /// What a source gave for one block.
 #[derive(Clone, Copy, Debug, PartialEq, Eq)]
 pub enum FetchAnswer {
@@ -75,10 +78,9 @@ pub(crate) fn fetch_rows<S: Source>(
     ensures fetches { Fetches form (S.seen src.old) (S.seen src.new) (received_rows received.new) (marks_rows marks.new) result }
     ensures never { (at : ℕ) → result ≢ BadMarks at }
 {
-    match form {
-        Form::Plain | Form::Listed => fetch_by(src, form, &mut [0; 37_856], received, marks),
-        Form::Marked => fetch_by(src, form, &mut [0; 42_640], received, marks),
-    }
+    // One buffer serves both forms: two would take twice the stack.
+    let mut buffer = [0; MOST_BLOCK];
+    fetch_by(src, form, &mut buffer[..form.size()], received, marks)
 }
 
 // Reads the 208 recorded rows of a block by a buffer of its size.
