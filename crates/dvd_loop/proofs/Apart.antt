@@ -21,8 +21,8 @@ pub record BeginWith (units : Units) (own from : ℕ → List ℕ) (count : ℕ)
   pub next : (j : ℕ) → j < count → from j ≡ own j ++ from (suc j)
   pub whole : (j : ℕ) → j < count → units.begins j (own j) ≡ Whole (length (own j))
 
--- A run over units with these bytes takes unit k, with those steps: they stand behind what the k units before it do alone, and
--- together that is what the first k + 1 do.
+-- A run over units with these bytes takes unit k, with those steps: they come after what the k units before it do
+-- alone, and together that is what the first k + 1 do.
 pub record TakesUnit (units : Units) (own : ℕ → List ℕ) (bytes : List ℕ) (a : Outcome) (k : ℕ) (steps : List Step) (kind : UnitKind) : Type 0 where
   pub before : List (List ℕ)
   pub number : length before ≡ k
@@ -35,27 +35,27 @@ pub record TakesUnit (units : Units) (own : ℕ → List ℕ) (bytes : List ℕ)
   pub out : IsFrontOf (alone.out ++ written steps) a.out
   pub lines : IsFrontOf (alone.lines ++ told steps) a.lines
 
--- an outcome with one unit more behind it
+-- an outcome with one unit more after it
 abbrev and_unit : List ℕ → List Step → Outcome → Outcome
 and_unit own steps outcome = record outcome { taken = outcome.taken ++ own; out = outcome.out ++ written steps; lines = outcome.lines ++ told steps }
 
--- where nothing else was taken or done, a unit before the end is one behind it
+-- where nothing else was taken or done, a unit before the end is one after it
 onto_done : (own : List ℕ) (steps : List Step) → onto own (written steps) (told steps) (ended Done) ≡ and_unit own steps (ended Done)
 onto_done own steps = simp append-nil
 
--- it is the same whether what came before or the unit behind is put on first
+-- it is the same whether what came before or the unit after it is put on first
 onto_and : (taken out lines own : List ℕ) (steps : List Step) (outcome : Outcome)
     → onto taken out lines (and_unit own steps outcome) ≡ and_unit own steps (onto taken out lines outcome)
 onto_and taken out lines own steps outcome = simp append_assoc
 
--- units that are parts 1, 2 and so on, behind one that is part 0, are all parts in order
+-- units that are parts 1, 2 and so on, after one that is part 0, are all parts in order
 each_later : (k : ℕ) (own : List ℕ) (more : List (List ℕ)) (parts : ℕ → List ℕ) → own ≡ parts 0
     → ((j : ℕ) → j < k → get_or more j [] ≡ parts (suc j))
     → (j : ℕ) → j < suc k → get_or (own ∷ more) j [] ≡ parts j
 each_later k own more parts is each zero lt = is
 each_later k own more parts is each (suc j) lt = each j (omega arith)
 
--- a front of what comes behind a piece is, behind that piece, a front of all
+-- a front of what comes after a piece is, after that piece, a front of all
 front_later : (own front more whole all : List ℕ) → all ≡ own ++ whole → IsFrontOf (front ++ more) whole
     → IsFrontOf ((own ++ front) ++ more) all
 front_later own front more whole all is (left, so) = (left, is ∙ ap (λ l. own ++ l) so ∙ simp append_assoc)
@@ -63,7 +63,7 @@ front_later own front more whole all is (left, so) = (left, is ∙ ap (λ l. own
 module _ (units : Units) (never : IsNever units Last)
     (stays : (k : ℕ) (own more : List ℕ) → units.begins k own ≡ Whole (length own) → units.begins k (own ++ more) ≡ Whole (length own))
     (breaks : (k at : ℕ) (own more : List ℕ) → units.begins k own ≡ Broken at → units.begins k (own ++ more) ≡ Broken at) where
-  -- The unit behind those, of these bytes, is taken and done without a fault, and then the units to come.
+  -- The unit after those, of these bytes, is taken and done without a fault, and then the units to come.
   record TakesOne (n : ℕ) (before : List (List ℕ)) (bad : ℕ) (own left : List ℕ) (outcome : Outcome) : Type 0 where
     steps : List Step
     kind : UnitKind
@@ -128,12 +128,12 @@ module _ (units : Units) (never : IsNever units Last)
       taken_unit (first count units) m before own left t.steps t.kind bad after (record { whole = t.unit.whole; does = t.unit.does })
       (goes_on t.kind (Continues (first count units) m (before ++ own ∷ []) (bad + bad_of t.kind) left) after (not_last before own t.steps t.kind t.unit) goes)
 
-  -- behind the first units alone nothing comes
+  -- after the first units alone nothing comes
   nothing_more : (count : ℕ) (before : List (List ℕ)) (bad : ℕ) (bytes : List ℕ) → Continues (first count units) 0 before bad bytes (ended Done)
   unfolding Continues
   nothing_more count before bad bytes = ([], refl, refl)
 
-  -- the k-th of the units to come, behind those that were taken
+  -- the k-th of the units to come, after those that were taken
   record Reaches (own : ℕ → List ℕ) (before : List (List ℕ)) (bad : ℕ) (bytes : List ℕ) (a : Outcome) (k : ℕ) : Type 0 where
     more : List (List ℕ)
     number : length more ≡ k
@@ -169,7 +169,7 @@ module _ (units : Units) (never : IsNever units Last)
     lines = (t.after.lines, ap (λ (o : Outcome). o.lines) t.is);
   }
 
-  -- a unit behind it
+  -- a unit after it
   reaches_later : (own : ℕ → List ℕ) (n k : ℕ) (before : List (List ℕ)) (bad : ℕ) (left : List ℕ) (a : Outcome) (t : TakesOne n before bad (own 0) left a)
       → Reaches (λ j. own (suc j)) (before ++ own 0 ∷ []) (bad + bad_of t.kind) left t.after k
       → Reaches own before bad (own 0 ++ left) a (suc k)
@@ -203,7 +203,7 @@ module _ (units : Units) (never : IsNever units Last)
       takes_one n before bad (own 0) (from 1) a (subst (λ i. units.begins i (own 0) ≡ Whole (length (own 0))) here (come.whole 0 (omega arith)))
       (subst (λ l. Continues units (suc n) before bad l a) (come.next 0 (omega arith)) goes) none
 
-  -- and there are those behind it
+  -- and there are those after it
   come_later : (k : ℕ) (own from : ℕ → List ℕ) (before : List (List ℕ)) → ComeOn (length before) own from (suc (suc k))
       → ComeOn (length (before ++ own 0 ∷ [])) (λ j. own (suc j)) (λ j. from (suc j)) (suc k)
   come_later k own from before come = record {

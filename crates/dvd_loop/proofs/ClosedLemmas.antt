@@ -7,7 +7,7 @@ use Rattle.dvd_loop.specs.declared.ends.LoopEnd.{LoopEnd}
 use Rattle.dvd_loop.specs.declared.ends.LoopEnd.TheVariants.{ReportFault}
 use Rattle.dvd_loop.proofs.StepLemmas.{and_then}
 
--- a line that is told takes nothing of the input
+-- a line that is reported takes nothing of the input
 line_takes : (line : List ℕ) (end : LoopEnd) (outcome : Outcome) → Performs (Tell line ∷ []) (λ after. after ≡ ended end) outcome → outcome.taken ≡ []
 line_takes line end outcome does = elim does [
   | inl (front, left, whole, some, is) ↦ ap (λ (o : Outcome). o.taken) is
@@ -19,7 +19,7 @@ pub closes_takes : (closing : LoopEnd → List ℕ) (end : LoopEnd) (outcome : O
 closes_takes closing ReportFault outcome is = ap (λ (o : Outcome). o.taken) is
 closes_takes closing end outcome does = line_takes (closing end) end outcome does
 
--- a loop, and its closing line behind it
+-- a loop, and its closing line after it
 pub closed : (closing : LoopEnd → List ℕ) (May : Outcome → Type 0) (within : LoopEnd) (loop line : Outcome) → May loop
     → loop.end ≡ within → Closes closing within line → IsClosed closing May within (and_then loop line)
 closed closing May within loop line runs ends closes = record { loop = loop; runs = runs; ends = ends; line = line; closes = closes; all = refl }

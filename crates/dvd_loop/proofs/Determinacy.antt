@@ -33,7 +33,7 @@ same_agree a b is = record {
   taken = λ not. ap (λ (o : Outcome). o.taken) is;
 }
 
--- outcomes that agree do so behind the same bytes and steps
+-- outcomes that agree do so after the same bytes and steps
 onto_agree : (own w t : List ℕ) (a b : Outcome) → Agree a b → Agree (onto own w t a) (onto own w t b)
 onto_agree own w t a b agree = record {
   out = ap (λ l. w ++ l) agree.out;
@@ -46,14 +46,14 @@ onto_agree own w t a b agree = record {
 agree_as : (a b x y : Outcome) → a ≡ x → b ≡ y → Agree x y → Agree a b
 agree_as a b x y p q agree = subst (λ o. Agree o b) (sym p) (subst (Agree x) (sym q) agree)
 
--- outcomes behind the same steps agree where those behind all steps do
+-- outcomes after the same steps agree where those after all steps do
 steps_agree : (steps : List Step) (A B : Outcome → Type 0) → AllAgree A B → AllAgree (Performs steps A) (Performs steps B)
 steps_agree steps A B agree a b does others p q =
     let x = all_done steps A a does p in
     let y = all_done steps B b others q in
     agree_as a b _ _ x.is y.is (onto_agree [] (written steps) (told steps) x.after y.after (agree x.after y.after x.holds y.holds (faultless_behind steps A a x p) (faultless_behind steps B b y q)))
 
--- whether the unit was the last or not, outcomes behind it agree where those of the units to come do
+-- whether the unit was the last or not, outcomes after it agree where those of the units to come do
 kinds_agree : (kind : UnitKind) (A : Outcome → Type 0) → AllAgree A A → AllAgree (ContinuesAfter kind A) (ContinuesAfter kind A)
 kinds_agree Good A agree = agree
 kinds_agree Bad A agree = agree
@@ -70,7 +70,7 @@ by_no_fault x a b p q none other = elim p [
   ]
 ]
 
--- outcomes behind the last unit agree
+-- outcomes after the last unit agree
 behind_agree : (stands : AfterLast) (bad : ℕ) (left : List ℕ) → AllAgree (EndsAfterLast stands bad left) (EndsAfterLast stands bad left)
 behind_agree after_last.Done bad left a b p q none other = same_agree a b (p ∙ sym q)
 behind_agree after_last.NoControl bad left a b p q none other = same_agree a b (p ∙ sym q)

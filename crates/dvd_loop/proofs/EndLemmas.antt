@@ -94,12 +94,12 @@ pub not_report : (end : LoopEnd) → end ≢ ReportFault → (old new : Seen) �
 not_report ReportFault not old new same = absurd (not refl)
 not_report end not old new same = same
 
--- behind a fault of the report no closing line is tried
+-- after a fault of the report no closing line is tried
 pub closed_none : (closing : LoopEnd → List ℕ) (old : Streams) → HaveReached (λ bytes. Closes closing ReportFault) old old ReportFault
 closed_none closing old = comes_of_none (Closes closing ReportFault) old old (ended ReportFault) refl (stays old)
 
 module _ (closing : LoopEnd → List ℕ) (end : LoopEnd) (not : end ≢ ReportFault) (source output report new_report : Seen) where
-  -- the closing line was told: the loop ends as it did before it
+  -- the closing line was reported: the loop ends as it did before it
   pub closed_line : Appends report.bytes new_report.bytes (closing end)
       → HaveReached (λ bytes. Closes closing end) (streams source output report) (streams source output new_report) end
   closed_line tells =

@@ -14,13 +14,13 @@ use Rattle.dvd_loop.proofs.Faultless.{all_done, faultless_behind, not_by_fault}
 use Rattle.dvd_loop.proofs.Sizes.{goes_one}
 use Rattle.dvd_loop.proofs.StepLemmas.{onto}
 
--- How it ends with n units to come behind so many: within the j-th of them, behind the last, or with a byte more.
+-- How it ends with n units to come after so many: within the j-th of them, after the last, or with a byte more.
 record Ends (n size before : ℕ) (bytes : List ℕ) (a : Outcome) : Type 0 where
   taken : a.taken ≡ take (n * size + 1) bytes
   by : ((j held : ℕ) × (j < n) × (held < size) × (length bytes ≡ j * size + held) × (a.end ≡ Short (before + j) held))
       ⊎ ((length bytes ≡ n * size) × IsOver a.end) ⊎ ((n * size < length bytes) × (a.end ≡ Long))
 
--- an input that ended behind the last unit is over
+-- an input that ended after the last unit is over
 end_by_over : (bad : ℕ) → IsOver (end_by bad)
 end_by_over zero = tt
 end_by_over (suc bad) = tt
@@ -30,7 +30,7 @@ module _ (size before : ℕ) where
   ends_as : (n : ℕ) (bytes : List ℕ) (a x : Outcome) → a ≡ x → Ends n size before bytes x → Ends n size before bytes a
   ends_as n bytes a x is ends = subst (Ends n size before bytes) (sym is) ends
 
-  -- behind the last unit the input is over, or has a byte more
+  -- after the last unit the input is over, or has a byte more
   ends_behind : (bad : ℕ) (bytes : List ℕ) (a : Outcome) → EndsAfterLast EndOfInput bad bytes a → IsFaultless a.end → Ends 0 size before bytes a
   ends_behind bad [] a ends none = elim ends [
     | inr fault ↦ absurd (not_by_fault a _ fault (λ f. f) none)
@@ -53,7 +53,7 @@ module _ (size before : ℕ) where
         by = inl (0, length bytes, omega arith, fewer, omega (arith, zero-mul size), ap (λ k. Short k (length bytes)) zeroth);
       })
 
-  -- behind one unit that was taken, what ends the units to come ends it with these, one further on
+  -- after one unit that was taken, what ends the units to come ends it with these, one further on
   ends_later : (n : ℕ) (own left w t : List ℕ) (a after : Outcome) → length own ≡ size → a ≡ onto own w t after
       → Ends n size (before + 1) left after → Ends (suc n) size before (own ++ left) a
   ends_later n own left w t a after whole is r =
@@ -71,7 +71,7 @@ module _ (size before : ℕ) where
       })
 
 module _ (units : Units) (size : ℕ) (are : AreOfOneSize units size) where
-  -- with n units to come, a run that no fault ended ends as the length of the bytes left tells
+  -- with n units to come, a run that no fault ended ends as the length of the bytes left requires
   goes_end : (n : ℕ) (before : List (List ℕ)) (bad : ℕ) (bytes : List ℕ) (a : Outcome) → Continues units n before bad bytes a → IsFaultless a.end
       → Ends n size (length before) bytes a
   unfolding Continues
@@ -111,7 +111,7 @@ short_is j k held other is =
     let unit : 0 + j ≡ k = cc in
     (omega arith, cc)
 
--- such an end tells how long the input is
+-- such an end says how long the input is
 tells : (count size : ℕ) (bytes : List ℕ) (a : Outcome) → Ends count size 0 bytes a → TellsLength count size bytes a
 tells count size bytes a ends =
     let Within : ℕ → ℕ → Type 0 = λ k held. (k < count) × (held < size) × (length bytes ≡ k * size + held) in record {

@@ -25,13 +25,13 @@ no_step_fault WriteFault none = absurd none
 no_step_fault ReportFault none = absurd none
 no_step_fault end none = tt
 
--- what is behind steps that were all taken
+-- what is after steps that were all taken
 pub record AllDone (steps : List Step) (After : Outcome → Type 0) (outcome : Outcome) : Type 0 where
   pub after : Outcome
   pub holds : After after
   pub is : outcome ≡ onto [] (written steps) (told steps) after
 
--- a step that was taken, and all those behind it, are all taken
+-- a step that was taken, and all those after it, are all taken
 done_first : (step : Step) (steps : List Step) (After : Outcome → Type 0) (outcome after : Outcome) → outcome ≡ stepping step after
     → AllDone steps After after → AllDone (step ∷ steps) After outcome
 done_first (Write bytes) steps After outcome after is rest = record {
@@ -69,7 +69,7 @@ pub all_done : (steps : List Step) (After : Outcome → Type 0) (outcome : Outco
     → AllDone steps After outcome
 all_done steps After outcome does none = all_done_but steps After outcome does (no_step_fault outcome.end none)
 
--- where there is no fault, there is none behind the steps
+-- where there is no fault, there is none after the steps
 pub faultless_behind : (steps : List Step) (After : Outcome → Type 0) (outcome : Outcome) (done : AllDone steps After outcome)
     → IsFaultless outcome.end → IsFaultless done.after.end
 faultless_behind steps After outcome done none = subst (λ (o : Outcome). IsFaultless o.end) done.is none

@@ -15,7 +15,7 @@ use Rattle.dvd_loop.proofs.Faultless.{IsNoStepFault, all_done_but}
 use Rattle.dvd_loop.proofs.StepLemmas.{does_all, onto, taken_then}
 use Rattle.dvd_loop.proofs.Totality.{Exists, all_exist, behind_exists, end_by_none, goes_exist, one_fewer, steps_exist, kinds_exist}
 
--- an outcome over the bytes that were taken, which no fault ends: it takes, writes and tells as much
+-- an outcome over the bytes that were taken, which no fault ends: it takes, writes and reports as much
 pub record EndsAsTaken (A : List ℕ → Outcome → Type 0) (a : Outcome) : Type 0 where
   pub outcome : Outcome
   pub holds : A a.taken outcome
@@ -79,7 +79,7 @@ end_by_not : (bad : ℕ) → end_by bad ≡ ReadFault → ⊥
 end_by_not zero is = cc
 end_by_not (suc bad) is = cc
 
--- so it is behind the last unit
+-- so it is after the last unit
 behind_there : (stands : AfterLast) (bad : ℕ) (bytes : List ℕ) → LeaveThat (EndsAfterLast stands bad) bytes
 behind_there after_last.Done bad bytes a is fault = absurd (let no : Done ≡ ReadFault = sym (ap (λ (o : Outcome). o.end) is) ∙ fault in cc)
 behind_there after_last.NoControl bad bytes a is fault = absurd (let no : NoControl ≡ ReadFault = sym (ap (λ (o : Outcome). o.end) is) ∙ fault in cc)
@@ -171,7 +171,7 @@ beyond_none A a (outcome, holds, none) out lines = record {
 front_longer : (own front whole : List ℕ) → IsFrontOf front whole → IsFrontOf (own ++ front) (own ++ whole)
 front_longer own front whole (left, is) = (left, ap (λ l. own ++ l) is ∙ sym (append_assoc own front left))
 
--- what was done of a step that failed, with nothing behind it
+-- what was done of a step that failed, with nothing after it
 front_cut : (own front left more : List ℕ) → own ≡ front ++ left → IsFrontOf (front ++ []) (own ++ more)
 front_cut own front left more is = (left ++ more, ap (λ l. l ++ more) is ∙ append_assoc front left more ∙ ap (λ l. l ++ (left ++ more)) (sym (append-nil front)))
 
@@ -198,7 +198,7 @@ failed_beyond (Tell line) After a (front, left, whole, some, fails) (after, hold
       lines = front_cut line front left after.lines whole;
     })
 
--- behind a step that was taken there are fronts as before
+-- after a step that was taken there are fronts as before
 stepped_beyond : (step : Step) (After : Outcome → Type 0) (after : Outcome) → Beyond After after → Beyond (Stepped step After) (stepping step after)
 stepped_beyond (Write bytes) After after beyond = record {
   outcome = stepping (Write bytes) beyond.outcome;
@@ -219,7 +219,7 @@ stepped_beyond (Tell line) After after beyond = record {
 beyond_by : (A B : Outcome → Type 0) (a : Outcome) → ((o : Outcome) → A o → B o) → Beyond A a → Beyond B a
 beyond_by A B a to beyond = record { outcome = beyond.outcome; holds = to beyond.outcome beyond.holds; faultless = beyond.faultless; out = beyond.out; lines = beyond.lines }
 
--- steps leave fronts where what comes behind them does
+-- steps leave fronts where what comes after them does
 steps_beyond : (steps : List Step) (A : Outcome → Type 0) → Exists A → LeaveFronts A → LeaveFronts (Performs steps A)
 steps_beyond [] A exists leaves a does = leaves a does
 steps_beyond (step ∷ steps) A exists leaves a does = elim does [
@@ -235,7 +235,7 @@ kinds_beyond Good A leaves a goes = leaves a goes
 kinds_beyond Bad A leaves a goes = leaves a goes
 kinds_beyond Last A leaves a is = beyond_as (ContinuesAfter Last A) a (ended Done) is (record { outcome = ended Done; holds = refl; faultless = tt; out = ([], refl); lines = ([], refl) })
 
--- behind the last unit nothing is written or told
+-- after the last unit nothing is written or reported
 pub nothing_behind : (stands : AfterLast) (bad : ℕ) (left : List ℕ) (a : Outcome) → EndsAfterLast stands bad left a → (a.out ≡ []) × (a.lines ≡ [])
 nothing_behind after_last.Done bad left a is = (ap (λ (o : Outcome). o.out) is, ap (λ (o : Outcome). o.lines) is)
 nothing_behind after_last.NoControl bad left a is = (ap (λ (o : Outcome). o.out) is, ap (λ (o : Outcome). o.lines) is)

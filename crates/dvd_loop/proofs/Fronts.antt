@@ -8,6 +8,6 @@ pub same_front : (own other left rest : List ℕ) → own ++ left ≡ other ++ r
 same_front own other left rest is same =
     sym (take-append_seam own left) ∙ ap (λ n. take n (own ++ left)) same ∙ ap (take (length other)) is ∙ take-append_seam other rest
 
--- and so is what is left behind them
+-- and so is what is left after them
 pub same_left : (own other left rest : List ℕ) → own ++ left ≡ other ++ rest → own ≡ other → left ≡ rest
 same_left own other left rest is same = append_cancel_left own left rest (is ∙ ap (λ l. l ++ rest) (sym same))

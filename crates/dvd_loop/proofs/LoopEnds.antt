@@ -11,7 +11,7 @@ use Rattle.dvd_loop.proofs.PlainEnds.{damaged_at_most, never_bad_header, never_b
 use Rattle.dvd_loop.proofs.Sizes.{sized_never_broken}
 
 module _ (units : Units) (size : ℕ → ℕ) (begins : (k : ℕ) (own : List ℕ) → units.begins k own ≡ sized (size k) own) (asks : units.after_last ≡ EndOfInput) (bytes : List ℕ) (outcome : Outcome) (runs : IsOutcome units bytes outcome) where
-  -- units behind which one byte more is asked for don't end for want of control data
+  -- units after which one byte more is asked for don't end for want of control data
   no_control : outcome.end ≢ NoControl
   no_control = never_no_control units bytes outcome runs (λ stands. let no : EndOfInput ≡ StopsNoControl = sym asks ∙ stands in cc)
 
@@ -47,7 +47,7 @@ module _ (units : Units) (size : ℕ → ℕ) (begins : (k : ℕ) (own : List �
   damage_end (ShortHeader held) is = absurd (never_short_header units bytes outcome runs held is)
   damage_end (BadHeader at) is = absurd (never_bad_header units bytes outcome runs at is)
 
--- where no unit is bad, and behind the last NoControl stands in place of one byte more
+-- where no unit is bad, and after the last one NoControl takes the place of one byte more
 pub search_end : (units : Units) (size : ℕ → ℕ) → ((k : ℕ) (own : List ℕ) → units.begins k own ≡ sized (size k) own) → units.after_last ≡ StopsNoControl
     → IsNever units Bad
     → (bytes : List ℕ) (outcome : Outcome) → IsOutcome units bytes outcome → (end : LoopEnd) → outcome.end ≡ end → end ≢ ReportFault

@@ -15,7 +15,7 @@ use Rattle.dvd_loop.proofs.Faultless.{not_by_fault}
 use Rattle.dvd_loop.proofs.Sizes.{goes_one}
 use Rattle.dvd_loop.proofs.StepLemmas.{onto}
 
--- where unit k begins, behind units of those sizes
+-- where unit k begins, after units of those sizes
 unfoldable pub start : (ℕ → ℕ) → ℕ → ℕ
 start size zero = 0
 start size (suc k) = start size k + size k
@@ -25,7 +25,7 @@ pub start-zero : (size : ℕ → ℕ) → start size 0 ≡ 0
 unfolding start
 start-zero size = refl
 
--- the next unit begins behind unit k
+-- the next unit begins after unit k
 pub start-suc : (size : ℕ → ℕ) (k : ℕ) → start size (suc k) ≡ start size k + size k
 unfolding start
 start-suc size k = refl
@@ -53,7 +53,7 @@ with_piece k piece others j = cond (nat_eq j k) piece (others j)
 piece_at : (k : ℕ) (piece : List ℕ) (others : ℕ → List ℕ) → with_piece k piece others k ≡ piece
 piece_at k piece others = ap (λ b. cond b piece (others k)) (eq-eqb k k refl)
 
--- and behind k it is one of the others
+-- and after k it is one of the others
 other_piece : (k : ℕ) (piece : List ℕ) (others : ℕ → List ℕ) (j : ℕ) → k < j → with_piece k piece others j ≡ others j
 other_piece k piece others j lt = ap (λ b. cond b piece (others j)) (ne_eqb j k (λ is. omega arith))
 
@@ -64,7 +64,7 @@ first_piece k piece others n all is =
     is ∙ ap (λ l. l ++ flat_map others (range_with_len (k + 1) n)) (sym (piece_at k piece others))
     ∙ ap (λ l. with_piece k piece others k ++ l) (same_pieces others (with_piece k piece others) (k + 1) n (λ j le lt. sym (other_piece k piece others j (omega arith))))
 
--- For units of known sizes, all good, each with P of its own bytes, of what it writes and of what it tells.
+-- For units of known sizes, all good, each with P of its own bytes, of what it writes and of what it reports.
 pub record AreGood (units : Units) (size : ℕ → ℕ) (P : ℕ → List ℕ → List ℕ → List ℕ → Type 0) : Type 0 where
   pub begins : (k : ℕ) (bytes : List ℕ) → units.begins k bytes ≡ sized (size k) bytes
   pub opens : units.opens ≡ []
@@ -74,7 +74,8 @@ pub record AreGood (units : Units) (size : ℕ → ℕ) (P : ℕ → List ℕ �
   pub closes : (before : List (List ℕ)) (steps : List Step) → units.closes before steps → steps ≡ []
   pub asks : units.after_last ≡ EndOfInput
 
--- What n units from unit k on write and tell, piece by piece: these are the bytes of all units, and those left from unit k on.
+-- What n units from unit k on write and report, piece by piece: these are the bytes of all units, and those left from
+-- unit k on.
 pub record InPieces (size : ℕ → ℕ) (P : ℕ → List ℕ → List ℕ → List ℕ → Type 0) (k n : ℕ) (all left : List ℕ) (outcome : Outcome) : Type 0 where
   pub outs : ℕ → List ℕ
   pub lines : ℕ → List ℕ
@@ -104,7 +105,7 @@ module _ (units : Units) (size : ℕ → ℕ) (P : ℕ → List ℕ → List ℕ
     })
   ]
 
-  -- the bytes of unit k, behind those of the units before it
+  -- the bytes of unit k, after those of the units before it
   own_bytes : (k : ℕ) (all front own left : List ℕ) → all ≡ front ++ (own ++ left) → length front ≡ start size k → length own ≡ size k
       → own ≡ take (size k) (drop (start size k) all)
   own_bytes k all front own left is at whole =
@@ -135,7 +136,7 @@ module _ (units : Units) (size : ℕ → ℕ) (P : ℕ → List ℕ → List ℕ
     taken = ap (λ l. own ++ l) r.taken;
   }
 
-  -- with n units to come and their bytes left, each writes and tells its piece, and the run is done
+  -- with n units to come and their bytes left, each writes and reports its piece, and the run is done
   goes_over : (n : ℕ) (before : List (List ℕ)) (all front left : List ℕ) (a : Outcome) → all ≡ front ++ left
       → length front ≡ start size (length before) → length before + n ≡ units.count
       → length all ≡ start size units.count → Continues units n before 0 left a → IsFaultless a.end → InPieces size P (length before) n all left a

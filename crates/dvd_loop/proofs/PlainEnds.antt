@@ -15,7 +15,7 @@ use Rattle.dvd_loop.proofs.Totality.{one_fewer}
 abbrev HasLast : Units → Type 0
 HasLast units = (k : ℕ) × (before : List (List ℕ)) × (own : List ℕ) × (steps : List Step) × units.does k before own steps Last
 
--- Why a run of these units ends so, where Many tells how many of the first k units may be bad. None ends in a header.
+-- Why a run of these units ends so, where Many says how many of the first k units may be bad. None ends in a header.
 abbrev HasReason : Units → (ℕ → ℕ → Type 0) → LoopEnd → Type 0
 HasReason units Many Done = HasLast units ⊎ ((units.after_last ≡ after_last.Done) ⊎ ((units.after_last ≡ after_last.EndOfInput) × Many units.count 0))
 HasReason units Many ReadFault = Unit {0}
@@ -43,7 +43,7 @@ AllEndSo May A = (a : Outcome) → A a → May a.end
 end_as : (May : LoopEnd → Type 0) (a b : Outcome) → a ≡ b → May b.end → May a.end
 end_as May a b is may = subst (λ (o : Outcome). May o.end) (sym is) may
 
--- behind steps a run ends as it may, and so where a step fails
+-- after steps a run ends as it may, and so where a step fails
 steps_end : (May : LoopEnd → Type 0) → May WriteFault → May ReportFault → (steps : List Step) (A : Outcome → Type 0) → AllEndSo May A
     → AllEndSo May (Performs steps A)
 steps_end May write report [] A so a does = so a does
@@ -56,7 +56,7 @@ steps_end May write report (Tell line ∷ steps) A so a does = elim does [
   | inr (after, does, is) ↦ end_as May a _ is (steps_end May write report steps A so after does)
 ]
 
--- the end of an input behind the last unit, so many being bad
+-- the end of an input after the last unit, so many being bad
 counted_end : (units : Units) (Many : ℕ → ℕ → Type 0) (bad : ℕ) → units.after_last ≡ after_last.EndOfInput → Many units.count bad → HasReason units Many (end_by bad)
 counted_end units Many zero asks are = inr (inr (asks, are))
 counted_end units Many (suc bad) asks are = (asks, are, λ no. cc)
@@ -74,7 +74,7 @@ module _ (units : Units) (Many : ℕ → ℕ → Type 0) (are : IsCount units Ma
     | inr is ↦ end_as (HasReason units Many) a _ is tt
   ]
 
-  -- behind the last unit
+  -- after the last unit
   behind_end : (bad : ℕ) → Many units.count bad → (left : List ℕ) → AllEndSo (HasReason units Many) (EndsAfterLast units.after_last bad left)
   behind_end bad many left a ends =
       elim units.after_last as (λ stands. units.after_last ≡ stands → EndsAfterLast stands bad left a → HasReason units Many a.end) [
@@ -98,7 +98,7 @@ module _ (units : Units) (Many : ℕ → ℕ → Type 0) (are : IsCount units Ma
         ]
       ] refl w.ends
 
-  -- behind a unit
+  -- after a unit
   kinds_end : (k : ℕ) (before : List (List ℕ)) (own : List ℕ) (steps : List Step) (kind : UnitKind) → units.does k before own steps kind
       → (A : Outcome → Type 0) → AllEndSo (HasReason units Many) A → AllEndSo (HasReason units Many) (ContinuesAfter kind A)
   kinds_end k before own steps Good does A so a goes = so a goes
@@ -169,11 +169,11 @@ module _ (units : Units) (bytes : List ℕ) (outcome : Outcome) (runs : IsOutcom
   pub marks_below : (k at : ℕ) → outcome.end ≡ BadMarks k at → k < units.count
   marks_below k at is = (reason (BadMarks k at) is).1
 
-  -- a run ends as NoControl only where that stands behind its units
+  -- a run ends as NoControl only where that comes after its units
   pub never_no_control : units.after_last ≢ after_last.NoControl → outcome.end ≢ NoControl
   never_no_control not is = not (reason NoControl is)
 
-  -- where nothing is asked for behind the units, nothing is found there
+  -- where nothing is asked for after the units, nothing is found there
   pub never_long : units.after_last ≢ after_last.EndOfInput → outcome.end ≢ Long
   never_long not is = not (reason Long is)
 

@@ -22,7 +22,7 @@ pub record Reached (units : Units) (k : ℕ) (before : List (List ℕ)) (old now
   pub reaches : (left : List ℕ) (after : Outcome) → Continues units to_come before bad left after
       → IsOutcome units (taken ++ left) (onto taken out lines after)
 
--- the steps of a unit, behind what was done before it
+-- the steps of a unit, after what was done before it
 onto_unit : (taken out lines own w t : List ℕ) (after : Outcome)
     → onto taken out lines (taking own (onto [] w t after)) ≡ onto (taken ++ own) (out ++ w) (lines ++ t) after
 onto_unit taken out lines own w t after = simp append_assoc
@@ -33,7 +33,7 @@ goes_on Good Continues outcome not goes = goes
 goes_on Bad Continues outcome not goes = goes
 goes_on Last Continues outcome not goes = absurd (not refl)
 
--- and what comes behind it is that
+-- and what comes after it is that
 pub goes_further : (kind : UnitKind) (Continues : Outcome → Type 0) (outcome : Outcome) → kind ≢ Last → ContinuesAfter kind Continues outcome → Continues outcome
 goes_further Good Continues outcome not goes = goes
 goes_further Bad Continues outcome not goes = goes
@@ -109,7 +109,7 @@ module _ (units : Units) where
         (reaches_next n is (own ++ left) (taking own (onto [] (written steps) (told steps) after)) (taken_unit n before own left steps kind bad after unit goes)))
 
     module _ (ready : List (List ℕ) → Type 0) (new : Streams) (kind : UnitKind) (t : IsUnitDone units before ready now new kind) (lt : k < units.count) where
-      -- what was taken, written and told up to behind this unit: that before it, and then its own
+      -- what was taken, written and reported up to the end of this unit: that before it, and then its own
       moved_next : HaveMoved old new (r.taken ++ t.own) (r.out ++ written t.steps) (r.lines ++ told t.steps)
       moved_next = moves_on old now new r.taken r.out r.lines t.own (written t.steps) (told t.steps) r.moved t.moved
 
@@ -159,7 +159,7 @@ module _ (units : Units) where
         (λ left after at. reaches_next n.0 n.1 left after (ends_at n.0 before bad left after at)) comes
 
     module _ (all : k ≡ units.count) (steps : List Step) (closes : units.closes before steps) where
-      -- behind all units and the closing steps, what comes of the bytes left is an outcome of all
+      -- after all units and the closing steps, what comes of the bytes left is an outcome of all
       reaches_closed : (left : List ℕ) (after : Outcome) → Performs steps (EndsAfterLast units.after_last bad left) after
           → IsOutcome units (r.taken ++ left) (onto r.taken r.out r.lines after)
       unfolding Continues
@@ -173,7 +173,7 @@ module _ (units : Units) where
           comes_after (λ bytes. Performs steps Nothing) (IsOutcome units) old now new end r.taken r.out r.lines r.moved
           (λ left after does. reaches_closed left after (does_as steps Nothing (EndsAfterLast units.after_last bad left) (λ o none. absurd none) after does)) comes
 
-      -- what stands behind the closing ended it
+      -- what comes after the closing ended it
       pub behind_ends : (mid new : Streams) (end : LoopEnd) → HaveMoved now mid [] (written steps) (told steps)
           → HaveReached (EndsAfterLast units.after_last bad) mid new end → HaveReached (IsOutcome units) old new end
       behind_ends mid new end moved comes =

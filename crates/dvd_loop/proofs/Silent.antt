@@ -19,7 +19,7 @@ AreWrites [] = Unit {0}
 AreWrites (Write bytes ∷ steps) = AreWrites steps
 AreWrites (Tell line ∷ steps) = ⊥
 
--- no step of these units tells a line
+-- no step of these units reports a line
 pub record AreSilent (units : Units) : Type 0 where
   pub opens : AreWrites units.opens
   pub does : (k : ℕ) (before : List (List ℕ)) (own : List ℕ) (steps : List Step) (kind : UnitKind) → units.does k before own steps kind → AreWrites steps
@@ -46,7 +46,7 @@ HaveNoLines A = (a : Outcome) → A a → a.lines ≡ []
 no_lines : (a b : Outcome) → a ≡ b → b.lines ≡ [] → a.lines ≡ []
 no_lines a b is none = ap (λ (o : Outcome). o.lines) is ∙ none
 
--- behind steps that write, and where one of them fails
+-- after steps that write, and where one of them fails
 steps_silent : (steps : List Step) → AreWrites steps → (A : Outcome → Type 0) → HaveNoLines A → HaveNoLines (Performs steps A)
 steps_silent [] are A none a does = none a does
 steps_silent (Write bytes ∷ steps) are A none a does = elim does [
@@ -55,7 +55,7 @@ steps_silent (Write bytes ∷ steps) are A none a does = elim does [
 ]
 steps_silent (Tell line ∷ steps) are A none a does = absurd are
 
--- behind the last unit
+-- after the last unit
 behind_silent : (stands : AfterLast) (bad : ℕ) (left : List ℕ) → HaveNoLines (EndsAfterLast stands bad left)
 behind_silent after_last.Done bad left a is = no_lines a _ is refl
 behind_silent after_last.NoControl bad left a is = no_lines a _ is refl
@@ -68,7 +68,7 @@ behind_silent after_last.EndOfInput bad (byte ∷ left) a ends = elim ends [
   | inr is ↦ no_lines a _ is refl
 ]
 
--- behind a unit
+-- after a unit
 kind_silent : (kind : UnitKind) (A : Outcome → Type 0) → HaveNoLines A → HaveNoLines (ContinuesAfter kind A)
 kind_silent Good A none a goes = none a goes
 kind_silent Bad A none a goes = none a goes

@@ -87,7 +87,7 @@ module _ (units : Units) (size : ℕ → ℕ) (begins : (k : ℕ) (bytes : List 
     | inr (at, own, left, front, broken, is) ↦ absurd (sized_never_broken (size k) at own (sym (begins k own) ∙ broken))
   ]
 
-  -- The unit behind those is taken and done without a fault, and then the units to come.
+  -- The unit after those is taken and done without a fault, and then the units to come.
   pub record TakesOne (n : ℕ) (before : List (List ℕ)) (bad : ℕ) (bytes : List ℕ) (outcome : Outcome) : Type 0 where
     pub own : List ℕ
     pub left : List ℕ

@@ -5,7 +5,7 @@ use Rattle.dvd_loop.specs.Machine.Step.{Write, Tell}
 use Rattle.dvd_loop.specs.UnitCommand.{told, written}
 use Rattle.dvd_loop.specs.declared.ends.UnitKind.{UnitKind}
 
--- so much was taken, written and told, and then what came after
+-- so much was taken, written and reported, and then what came after
 abbrev pub onto : List ℕ → List ℕ → List ℕ → Outcome → Outcome
 onto taken out lines after = record { taken = taken ++ after.taken; out = out ++ after.out; lines = lines ++ after.lines; end = after.end }
 
@@ -28,7 +28,7 @@ does_all (Tell line ∷ steps) After after holds = inr (
   ap (λ l. record after { out = written steps ++ after.out; lines = l }) (append_assoc line (told steps) after.lines),
 )
 
--- what holds of what comes behind steps may be said otherwise
+-- what holds of what comes after steps may be said otherwise
 pub does_as : (steps : List Step) (A B : Outcome → Type 0) → ((after : Outcome) → A after → B after) → (outcome : Outcome) → Performs steps A outcome
     → Performs steps B outcome
 does_as [] A B to outcome does = to outcome does
@@ -37,7 +37,7 @@ does_as (step ∷ steps) A B to outcome does = elim does [
   | inr (after, does, is) ↦ inr (after, does_as steps A B to after does, is)
 ]
 
--- behind the steps of one list stand those of another
+-- after the steps of one list come those of another
 pub does_then : (steps more : List Step) (After : Outcome → Type 0) (outcome : Outcome) → Performs steps (Performs more After) outcome
     → Performs (steps ++ more) After outcome
 does_then [] more After outcome does = does
@@ -46,7 +46,7 @@ does_then (step ∷ steps) more After outcome does = elim does [
   | inr (after, does, is) ↦ inr (after, does_then steps more After after does, is)
 ]
 
--- a unit whose bytes stand in front is taken with its steps, and then comes what After says
+-- a unit whose bytes come first is taken with its steps, and then comes what After says
 pub taken_then : (units : Units) (before : List (List ℕ)) (After : List ℕ → List ℕ → UnitKind → Outcome → Type 0) (bytes own left : List ℕ) (steps : List Step) (kind : UnitKind) (outcome after : Outcome)
     → bytes ≡ own ++ left → IsUnit units before own steps kind → Performs steps (After own left kind) after → outcome ≡ taking own after
     → IsTaken units before After bytes outcome

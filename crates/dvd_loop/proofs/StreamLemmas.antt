@@ -29,13 +29,13 @@ moves_on a b c taken out lines taken2 out2 lines2 p q = record {
   tells = Appends-then _ _ _ _ _ p.tells q.tells;
 }
 
--- what a source told before it gave these
+-- what a source had before it gave these
 pub told_before : (a b : Option (List ℕ)) (taken bytes : List ℕ) → Consumes a b taken → IsTold b bytes → IsTold a (taken ++ bytes)
 told_before None b taken bytes p t = tt
 told_before (Some xs) None taken bytes p t = absurd p
 told_before (Some xs) (Some ys) taken bytes p t = p ∙ ap (λ l. taken ++ l) t
 
--- what is left of a source, where it tells it
+-- what is left of a source, where its bytes are known
 pub left_of : (a : Option (List ℕ)) → (left : List ℕ) × IsTold a left
 left_of None = ([], tt)
 left_of (Some bytes) = (bytes, refl)

@@ -12,7 +12,7 @@ use Rattle.dvd_loop.proofs.Over.{start, start-suc, start-zero}
 use Rattle.dvd_loop.proofs.Sizes.{goes_one}
 use Rattle.dvd_loop.proofs.StepLemmas.{onto}
 
--- So many bytes are taken, and all of them where one more is asked for behind the last unit.
+-- So many bytes are taken, and all of them where one more is asked for after the last unit.
 record TakesAll (stands : AfterLast) (count : ℕ) (bytes : List ℕ) (a : Outcome) : Type 0 where
   number : length a.taken ≡ count
   all : stands ≡ after_last.EndOfInput → a.taken ≡ bytes
@@ -26,7 +26,7 @@ none_taken : (stands : AfterLast) (bytes : List ℕ) (a x : Outcome) → a ≡ x
     → TakesAll stands 0 bytes a
 none_taken stands bytes a x is none all = subst (TakesAll stands 0 bytes) (sym is) (record { number = ap length none; all = all })
 
--- a run that is done takes nothing behind the last unit, and none is left where one byte more is asked for
+-- a run that is done takes nothing after the last unit, and none is left where one byte more is asked for
 behind_takes : (stands : AfterLast) (bad : ℕ) (bytes : List ℕ) (a : Outcome) → EndsAfterLast stands bad bytes a → a.end ≡ Done → TakesAll stands 0 bytes a
 behind_takes after_last.Done bad bytes a is done = none_taken after_last.Done bytes a _ is refl (λ no. absurd cc)
 behind_takes after_last.NoControl bad bytes a is done = absurd (let no : NoControl ≡ Done = end_is a _ is done in cc)
@@ -98,7 +98,7 @@ module _ (units : Units) (size : ℕ → ℕ) (begins : (k : ℕ) (bytes : List 
       let rest = takes_rest bytes a opens runs done in
       omega (arith, rest.takes.number, rest.further, start-zero size)
 
-  -- They are the whole input, where one byte more is asked for behind them.
+  -- They are the whole input, where one byte more is asked for after them.
   pub taken_all : (bytes : List ℕ) (a : Outcome) → units.opens ≡ [] → units.after_last ≡ after_last.EndOfInput → IsOutcome units bytes a → a.end ≡ Done
       → a.taken ≡ bytes
   taken_all bytes a opens asks runs done = (takes_rest bytes a opens runs done).takes.all asks

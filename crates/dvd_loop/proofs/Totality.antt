@@ -16,7 +16,7 @@ use Rattle.dvd_loop.proofs.StepLemmas.{does_all, onto, taken_then}
 abbrev pub Exists : (Outcome → Type 0) → Type 0
 Exists A = (outcome : Outcome) × A outcome × IsFaultless outcome.end
 
--- steps have an outcome without a fault where what comes behind them does
+-- steps have an outcome without a fault where what comes after them does
 pub steps_exist : (steps : List Step) (A : Outcome → Type 0) → Exists A → Exists (Performs steps A)
 steps_exist steps A (after, holds, none) = (onto [] (written steps) (told steps) after, does_all steps A after holds, none)
 
@@ -31,7 +31,7 @@ pub end_by_none : (bad : ℕ) → IsFaultless (end_by bad)
 end_by_none zero = tt
 end_by_none (suc bad) = tt
 
--- behind the last unit there is an outcome without a fault
+-- after the last unit there is an outcome without a fault
 pub behind_exists : (stands : AfterLast) (bad : ℕ) (left : List ℕ) → Exists (EndsAfterLast stands bad left)
 behind_exists after_last.Done bad left = (ended Done, refl, tt)
 behind_exists after_last.NoControl bad left = (ended NoControl, refl, tt)
@@ -43,7 +43,7 @@ pub one_fewer : (before : List (List ℕ)) (own : List ℕ) (n count : ℕ) → 
 one_fewer before own n count all = omega (arith, length-append before (own ∷ []))
 
 module _ (units : Units) where
-  -- the input ends within the unit behind those
+  -- the input ends within the unit after those
   pub cut_exists : (n : ℕ) (before : List (List ℕ)) (bad : ℕ) (bytes : List ℕ) → units.begins (length before) bytes ≡ Cut
       → Exists (Continues units (suc n) before bad bytes)
   unfolding Continues
@@ -74,7 +74,7 @@ module _ (units : Units) where
         exists.2,
       )
 
-  -- behind the last unit these steps close them
+  -- after the last unit these steps close them
   pub closed_exists : (before : List (List ℕ)) (bad : ℕ) (bytes : List ℕ) (steps : List Step) → units.closes before steps
       → Exists (Continues units 0 before bad bytes)
   unfolding Continues

@@ -87,7 +87,7 @@ module _ (source output new_output report : Seen) where
     tells = Appends-none report.bytes;
   }
 
-  -- the output failed within the write: a front of its bytes came, and no step behind it was taken
+  -- the output failed within the write: a front of its bytes came, and no step after it was taken
   pub step_begun : (bytes : List ℕ) (steps : List Step) → AppendsPrefix output.bytes new_output.bytes bytes
       → HaveReached (λ input. Performs (Write bytes ∷ steps) Nothing) (streams source output report) (streams source new_output report) WriteFault
   step_begun bytes steps begun =
@@ -104,14 +104,14 @@ module _ (source output report new_report : Seen) where
     tells = subst (Appends report.bytes new_report.bytes) (sym (append-nil line)) tells;
   }
 
-  -- the report failed within the line: a front of it came, and no step behind it was taken
+  -- the report failed within the line: a front of it came, and no step after it was taken
   pub line_begun : (line : List ℕ) (steps : List Step) → AppendsPrefix report.bytes new_report.bytes line
       → HaveReached (λ input. Performs (Tell line ∷ steps) Nothing) (streams source output report) (streams source output new_report) ReportFault
   line_begun line steps begun =
       comes_of_none (Performs (Tell line ∷ steps) Nothing) (streams source output report) (streams source output new_report) (stepping (Tell begun.taken) (ended ReportFault))
       (inl (begun.taken, begun.rest, sym begun.whole, begun.more, refl)) (step_told begun.taken begun.grows)
 
--- steps behind a line that was told
+-- steps after a line that was reported
 pub steps_behind_line : (line : List ℕ) (steps : List Step) (old now new : Streams) {A : Type 0} (answer : Result A LoopEnd)
     → HaveMoved old now [] [] (line ++ []) → AreSteps steps now new answer → AreSteps (Tell line ∷ steps) old new answer
 steps_behind_line line steps old now new (Ok value) told_line done =
@@ -120,7 +120,7 @@ steps_behind_line line steps old now new (Err end) told_line done =
     comes_after (λ bytes. Performs steps Nothing) (λ bytes. Performs (Tell line ∷ steps) Nothing) old now new end [] [] (line ++ []) told_line
     (λ left after does. inr (after, does, ap (λ l. onto [] [] l after) (append-nil line))) done
 
--- steps behind bytes that were written
+-- steps after bytes that were written
 pub steps_behind_write : (bytes : List ℕ) (steps : List Step) (old now new : Streams) {A : Type 0} (answer : Result A LoopEnd)
     → HaveMoved old now [] (bytes ++ []) [] → AreSteps steps now new answer → AreSteps (Write bytes ∷ steps) old new answer
 steps_behind_write bytes steps old now new (Ok value) wrote done =
