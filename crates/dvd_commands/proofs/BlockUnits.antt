@@ -25,7 +25,7 @@ use Rattle.dvd_commands.proofs.CapturedBlocks.{begin_blocks, blocks_break, block
 use Rattle.dvd_commands.proofs.PlanBytes.{start-blocks}
 use Rattle.dvd_commands.proofs.RecoveredWidths.{IsWide, block_units, length-first, never_last}
 
--- the image has the bytes that stand in a block
+-- the image has the bytes that a block holds of it
 pub length-part : (layout : Layout) (content : Content) (image : List ℕ) → length image ≡ 2048 * total_sectors layout
     → length (take (2048 * image_sectors layout content) (drop (2048 * image_from content) image)) ≡ 2048 * image_sectors layout content
 length-part layout (Image sector) image size =
@@ -34,7 +34,7 @@ length-part layout Zero image size = refl
 length-part layout Reference image size = refl
 length-part layout Control image size = refl
 
--- a part that stands behind so many bytes
+-- a part that comes after so many bytes
 pub part_there : (a n : ℕ) (before part out : List ℕ) → length before ≡ a → length part ≡ n → IsFrontOf (before ++ (part ++ [])) out
     → take n (drop a out) ≡ part
 part_there a n before part out at size (left, is) =
@@ -44,7 +44,7 @@ part_there a n before part out at size (left, is) =
     ∙ part-behind before (part ++ []) a n at own
     ∙ append-nil part
 
--- Units that are the captured blocks of a plan, and write the image bytes that stand in each.
+-- Units that are the captured blocks of a plan, and write the image bytes that each holds.
 module _ (layout : Layout) (zones : Zones) (form : Form) (May : ℕ → List ℕ → List Step → UnitKind → Type 0)
     (wide : (k : ℕ) (own : List ℕ) (steps : List Step) (kind : UnitKind) → May k own steps kind → IsWide (bytes_of_block layout zones k) steps kind) where
   -- the blocks before a data block write the bytes before its first image sector, or as many zeros
@@ -56,8 +56,8 @@ module _ (layout : Layout) (zones : Zones) (form : Form) (May : ℕ → List ℕ
       ∙ start-blocks layout zones k (omega arith)
       ∙ ap (λ n. 2048 * n) (plan_of-in_order layout zones k entry stands is_image)
 
-  -- In a run whose loop ended without a fault a data block that is whole is processed, and what it writes stands behind the bytes
-  -- before its first image sector.
+  -- In a run whose loop ended without a fault a data block that is whole is processed, and what it writes comes after
+  -- the bytes before its first image sector.
   pub record HasTurn (bytes : List ℕ) (a : Outcome) (k : ℕ) (entry : BlockPlan) : Type 0 where
     pub steps : List Step
     pub kind : UnitKind

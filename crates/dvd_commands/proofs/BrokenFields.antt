@@ -78,7 +78,7 @@ module _ (bytes : List ℕ) where
   abbrev BreaksAmong : ℕ → ℕ → Type 0
   BreaksAmong n offset = ((offset ≡ 37_856) × ((37_858 ≤ length bytes) × BreaksNumber bytes)) ⊎ ((i : ℕ) × (i < n) × BreaksRun i offset)
 
-  -- the start of a run stands before its length
+  -- the start of a run comes before its length
   start_before : (i a b : ℕ) → (a ≡ 37_858 + 4 * i) × ((37_860 + 4 * i ≤ length bytes) × BreaksStart bytes i)
       → (b ≡ 37_860 + 4 * i) × ((37_862 + 4 * i ≤ length bytes) × BreaksLength bytes i) → a ≤ b
   start_before i a b p q = let x = p.0 in let y = q.0 in omega (arith, x, y)
@@ -98,7 +98,7 @@ module _ (bytes : List ℕ) where
       subst (IsLeast (BreaksRun i)) (sym (either_test _ _ (37_858 + 4 * i) (37_860 + 4 * i)))
       (least_either _ _ (start_before i) _ _ (least_one _ (37_858 + 4 * i) _ start) (least_one _ (37_860 + 4 * i) _ long))
 
-  -- a run stands behind the number and the runs before it
+  -- a run comes after the number and the runs before it
   run_after : (n a b : ℕ) → BreaksAmong n a → BreaksRun n b → a ≤ b
   run_after n a b (inl number) (inl start) = let x = number.0 in let y = start.0 in omega (arith, x, y)
   run_after n a b (inl number) (inr long) = let x = number.0 in let y = long.0 in omega (arith, x, y)
@@ -133,7 +133,7 @@ module _ (bytes : List ℕ) where
       none_run offset (inr (i, below, run)) = absurd (omega (arith, below))
   among_least (suc n) = least_as _ (BreaksAmong (suc n)) (more n) (fewer n) _ (least_either _ _ (run_after n) _ _ (among_least n) (run_least n))
 
-  -- such a field is one of the unit's that stands wholly in the bytes
+  -- such a field is one of the unit's that is wholly in the bytes
   is_bad : (offset : ℕ) → BreaksAmong (run_count bytes) offset → HasBadField bytes offset
   is_bad offset (inl (is, (stands, breaks))) = (omega (arith, is, stands), inl (is, breaks))
   is_bad offset (inr (i, below, inl (is, (stands, breaks)))) = (omega (arith, is, stands), inr (i, below, inl (is, breaks)))

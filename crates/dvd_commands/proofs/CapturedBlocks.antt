@@ -20,13 +20,13 @@ pub start-zero : (form : Form) (bytes : List ℕ) → block_start form bytes 0 �
 unfolding block_start
 start-zero form bytes = refl
 
--- the next block begins behind block k
+-- the next block begins after block k
 pub start-suc : (form : Form) (bytes : List ℕ) (k : ℕ)
     → block_start form bytes (suc k) ≡ block_start form bytes k + unit_size form (from_block form bytes k)
 unfolding block_start
 start-suc form bytes k = refl
 
--- in a form of one size each begins behind as many bytes
+-- in a form of one size each begins after as many bytes
 pub start-sized : (form : Form) → HasSize form → (bytes : List ℕ) (k : ℕ) → block_start form bytes k ≡ block_size form * k
 start-sized form one bytes zero = start-zero form bytes ∙ sym (mul-zero (block_size form))
 start-sized form one bytes (suc k) =

@@ -15,26 +15,26 @@ use Rattle.dvd_commands.proofs.BrokenFields.{broken_found}
 
 -- FIELDS of listed bytes, and of more bytes that begin with them.
 module _ (own more : List ℕ) where
-  -- the number of runs, where it stands in the first bytes, is the same in both
+  -- the number of runs, where it is in the first bytes, is the same in both
   number_same : 37_858 ≤ length own → run_count (own ++ more) ≡ run_count own
   number_same enough = field_at-append own more 37_856 (omega (arith, enough))
 
-  -- the start of run i, where it stands in the first bytes, is the same in both
+  -- the start of run i, where it is in the first bytes, is the same in both
   start_same : (i : ℕ) → 37_860 + 4 * i ≤ length own → start_of (own ++ more) i ≡ start_of own i
   start_same i enough = field_at-append own more (37_858 + 4 * i) (omega (arith, enough))
 
-  -- the length of run i, where it stands in the first bytes, is the same in both
+  -- the length of run i, where it is in the first bytes, is the same in both
   length_same : (i : ℕ) → 37_862 + 4 * i ≤ length own → length_of (own ++ more) i ≡ length_of own i
   length_same i enough = field_at-append own more (37_860 + 4 * i) (omega (arith, enough))
 
-  -- the end of the run before one whose start stands in them
+  -- the end of the run before one whose start is in them
   before_same : (i : ℕ) → 0 < i → 37_860 + 4 * i ≤ length own → end_of (own ++ more) (i - 1) ≡ end_of own (i - 1)
   before_same i some enough =
       let start = start_same (i - 1) (omega (arith, some, enough)) in
       let long = length_same (i - 1) (omega (arith, some, enough)) in
       omega (arith, start, long)
 
-  -- the end of a run whose length stands in them
+  -- the end of a run whose length is in them
   end_same : (i : ℕ) → 37_862 + 4 * i ≤ length own → end_of (own ++ more) i ≡ end_of own i
   end_same i enough =
       let start = start_same i (omega (arith, enough)) in
@@ -47,18 +47,18 @@ module _ (own more : List ℕ) where
   start_on i enough (inr (some, touching)) =
       inr (some, let start = start_same i enough in let end = before_same i some enough in omega (arith, touching, start, end))
 
-  -- and the start that breaks a rule with more bytes behind it broke it before
+  -- and the start that breaks a rule with more bytes after it broke it before
   start_back : (i : ℕ) → 37_860 + 4 * i ≤ length own → BreaksStart (own ++ more) i → BreaksStart own i
   start_back i enough (inl high) = inl (subst (λ n. 37_856 ≤ n) (start_same i enough) high)
   start_back i enough (inr (some, touching)) =
       inr (some, let start = start_same i enough in let end = before_same i some enough in omega (arith, touching, start, end))
 
-  -- a length that breaks a rule does so with more bytes behind it
+  -- a length that breaks a rule does so with more bytes after it
   long_on : (i : ℕ) → 37_862 + 4 * i ≤ length own → BreaksLength own i → BreaksLength (own ++ more) i
   long_on i enough (inl none) = inl (length_same i enough ∙ none)
   long_on i enough (inr past) = inr (subst (λ n. 37_856 < n) (sym (end_same i enough)) past)
 
-  -- and the length that breaks a rule with more bytes behind it broke it before
+  -- and the length that breaks a rule with more bytes after it broke it before
   long_back : (i : ℕ) → 37_862 + 4 * i ≤ length own → BreaksLength (own ++ more) i → BreaksLength own i
   long_back i enough (inl none) = inl (sym (length_same i enough) ∙ none)
   long_back i enough (inr past) = inr (subst (λ n. 37_856 < n) (end_same i enough) past)
@@ -76,7 +76,7 @@ module _ (own more : List ℕ) where
     inr (i, subst (λ n. i < n) (sym (number_same (omega (arith, is, stands)))) below, inr (is, long_on i (omega (arith, is, stands)) long)),
   )
 
-  -- and one that stands wholly in the first bytes broke it before
+  -- and one that is wholly in the first bytes broke it before
   bad_back : (offset : ℕ) → offset + 2 ≤ length own → HasBadField (own ++ more) offset → HasBadField own offset
   bad_back offset within (stands, inl (is, number)) = (within, inl (is, subst (λ n. 18_928 < n) (number_same (omega (arith, is, within))) number))
   bad_back offset within (stands, inr (i, below, inl (is, start))) =
@@ -84,7 +84,7 @@ module _ (own more : List ℕ) where
   bad_back offset within (stands, inr (i, below, inr (is, long))) =
       (within, inr (i, subst (λ n. i < n) (number_same (omega (arith, is, within))) below, inr (is, long_back i (omega (arith, is, within)) long)))
 
-  -- the fields of a unit stand before its end
+  -- the fields of a unit come before its end
   inside : listed_size own ≤ length own → (offset : ℕ) → HasBadField (own ++ more) offset → offset + 2 ≤ length own
   inside whole offset (stands, inl (is, number)) = omega (arith, is, whole)
   inside whole offset (stands, inr (i, below, inl (is, start))) =
@@ -165,19 +165,19 @@ size_cut Plain bytes fewer lawful = sized_fewer 37_856 bytes fewer
 size_cut Marked bytes fewer lawful = sized_fewer 42_640 bytes fewer
 size_cut Listed bytes fewer lawful = listed_sized bytes lawful ∙ sized_fewer (listed_size bytes) bytes fewer
 
--- what comes behind a whole block doesn't change its size
+-- what comes after a whole block doesn't change its size
 more_same : (form : Form) (own more : List ℕ) → unit_size form own ≤ length own → unit_size form (own ++ more) ≡ unit_size form own
 more_same Plain own more enough = refl
 more_same Marked own more enough = refl
 more_same Listed own more enough = let same = number_same own more (omega (arith, enough)) in omega (arith, same)
 
--- a block that is lawful is so with more behind it
+-- a block that is valid is so with more after it
 lawful_on : (form : Form) (own more : List ℕ) → unit_size form own ≤ length own → BreaksNoRule form own → BreaksNoRule form (own ++ more)
 lawful_on Plain own more enough lawful = tt
 lawful_on Marked own more enough lawful = tt
 lawful_on Listed own more enough lawful = unbroken_on own more enough lawful
 
--- and so are bytes with which lawful ones begin
+-- and so are bytes with which valid ones begin
 lawful_back : (form : Form) (own more : List ℕ) → BreaksNoRule form (own ++ more) → BreaksNoRule form own
 lawful_back Plain own more lawful = tt
 lawful_back Marked own more lawful = tt

@@ -57,7 +57,7 @@ module _ (entries : List BlockPlan) (Performs : BlockPlan → List (List ℕ) �
         does = subst (λ m. Performs entry (captured_rows form own) m steps kind) marks_are (subst (λ r. Performs entry r marks steps kind) rows_are does);
       })
 
-  -- and what is done for block k is done for the entry that stands there
+  -- and what is done for block k is done for the entry that is there
   pub done_at : (steps : List Step) (kind : UnitKind) → IsDoneByEntry entries Performs form k own steps kind
       → Performs entry (captured_rows form own) (captured_marks form own) steps kind
   done_at steps kind does =

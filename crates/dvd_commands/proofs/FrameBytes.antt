@@ -28,7 +28,7 @@ pub record HasBytes (n : ℕ) (xs : List ℕ) : Type 0 where
 pub bytes-replicate : (n b : ℕ) → b < 256 → HasBytes n (replicate n b)
 bytes-replicate n b is = record { size = length-replicate {A = ℕ} n b; bytes = All-replicate IsByte n b is }
 
--- bytes behind others are as many as both together
+-- bytes and others after them are as many as both together
 pub bytes-append : (m n k : ℕ) (xs ys : List ℕ) → m + n ≡ k → HasBytes m xs → HasBytes n ys → HasBytes k (xs ++ ys)
 bytes-append m n k xs ys is front back = record {
   size = omega (arith, length-append xs ys, front.size, back.size);

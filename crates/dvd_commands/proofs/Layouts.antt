@@ -8,7 +8,7 @@ use Rattle.dvd_layout.specs.declared.layout.Layout.{Layout}
 use Rattle.dvd_words.specs.Settings.{IsLayoutOf, broken_rule}
 use Rattle.dvd_words.specs.declared.settings.Settings.{Settings}
 
--- a rule that is kept, and the rules behind it
+-- a rule that is kept, and the rules after it
 kept : (test : Bool) (fault : LayoutFault) (rest : Option LayoutFault) → cond test (Some fault) rest ≡ None → (test ≡ false) × (rest ≡ None)
 kept true fault rest is = absurd (let no : Some fault ≡ None = is in cc)
 kept false fault rest is = (refl, is)

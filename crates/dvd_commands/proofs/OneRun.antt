@@ -22,7 +22,8 @@ AreSame a b = (a.out ≡ b.out) × (a.lines ≡ b.lines) × (a.end ≡ b.end) ×
 abbrev pub RunsOnce : (Outcome → Type 0) → Type 0
 RunsOnce Runs = (a b : Outcome) → Runs a → Runs b → IsFaultless a.end → IsFaultless b.end → AreSame a b
 
--- Units of given sizes: where one thing alone may be done for each and behind all, two runs without a fault are one.
+-- Units of given sizes: where one thing alone may be done for each and after all of them, two runs without a fault
+-- are one.
 module _ (units : Units) (size : ℕ → ℕ) (begins : (k : ℕ) (own : List ℕ) → units.begins k own ≡ sized (size k) own)
     (one : (before : List (List ℕ)) (own : List ℕ) → MayOne (units.does (length before) before own))
     (closing : (before : List (List ℕ)) (steps others : List Step) → units.closes before steps → units.closes before others → steps ≡ others) where

@@ -27,7 +27,7 @@ length-pieces f size (suc n) each =
     ap length (pieces-more f 0 n n (omega arith)) ∙ length-append (flat_map f (range_with_len 0 n)) (f n)
     ∙ omega (arith, length-pieces f size n (λ k lt. each k (omega arith)), each n (omega arith), start-suc size n)
 
--- piece k stands behind those before it
+-- piece k comes after those before it
 pub piece-at : (f : ℕ → List ℕ) (size : ℕ → ℕ) (n k : ℕ) → ((j : ℕ) → j < n → length (f j) ≡ size j) → k < n
     → take (size k) (drop (start size k) (flat_map f (range_with_len 0 n))) ≡ f k
 piece-at f size zero k each lt = absurd (omega arith)

@@ -26,7 +26,7 @@ start-entries layout (entry ∷ entries) (suc k) within =
     omega (arith, start-suc size k, start-entries layout all k (omega arith), here, more)
 
 module _ (layout : Layout) (zones : Zones) where
-  -- the same for the blocks of a disk: before block k stand 2,048 bytes for each image sector before it
+  -- the same for the blocks of a disk: before block k come 2,048 bytes for each image sector before it
   pub start-blocks : (k : ℕ) → k ≤ length (plan_of layout zones)
       → start (bytes_of_block layout zones) k ≡ 2048 * image_before layout (take k (plan_of layout zones))
   start-blocks k within = start-entries layout (plan_of layout zones) k within

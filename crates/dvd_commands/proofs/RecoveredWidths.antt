@@ -167,7 +167,7 @@ pub deepened-wide : (layout : Layout) (zones : Zones) (form : Form) (k : ℕ) (o
 deepened-wide layout zones form k own steps kind =
     entry-wide layout zones form k own steps kind (λ e. IsImageRead layout k e) (λ e rows marks size marks_size. read-wide layout k e rows marks size marks_size steps kind)
 
--- Units that are the captured blocks of a plan, and write the image bytes that stand in each.
+-- Units that are the captured blocks of a plan, and write the image bytes that each holds.
 abbrev pub block_units : Layout → Zones → Form → (ℕ → List ℕ → List Step → UnitKind → Type 0) → Units
 block_units layout zones form May = captured_units (length (plan_of layout zones)) form May
 

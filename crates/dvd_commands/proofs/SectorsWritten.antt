@@ -19,6 +19,6 @@ one_sector (sector ∷ sectors) zero = append-nil sector
 one_sector [] (suc f) = refl
 one_sector (sector ∷ sectors) (suc f) = one_sector sectors f
 
--- and so f + 1 sectors are f sectors and the one behind them
+-- and so f + 1 sectors are f sectors and the one after them
 pub sectors_more : (sectors : List (List ℕ)) (f : ℕ) → sectors_out f sectors ++ line sectors f ≡ sectors_out (f + 1) sectors
 sectors_more sectors f = ap (λ l. sectors_out f sectors ++ l) (sym (one_sector sectors f)) ∙ sectors_front sectors f 1

@@ -17,8 +17,8 @@ use Rattle.dvd_commands.proofs.SomeThing.{MaySome}
 use Rattle.dvd_words.specs.Settings.{broken_rule}
 use Rattle.dvd_words.specs.declared.settings.Settings.{Settings}
 
--- Units of given sizes: where something may be done for each unit of bytes and behind all, every input of bytes has an
--- outcome without a fault.
+-- Units of given sizes: where something may be done for each unit of bytes and after all of them, every input of
+-- bytes has an outcome without a fault.
 module _ (units : Units) (size : ℕ → ℕ) (begins : (k : ℕ) (own : List ℕ) → units.begins k own ≡ sized (size k) own)
     (may : (before : List (List ℕ)) (own : List ℕ) → length before < units.count → HasBytes (size (length before)) own → MaySome (units.does (length before) before own))
     (closing : (before : List (List ℕ)) → length before ≡ units.count → (steps : List Step) × units.closes before steps) where
@@ -41,7 +41,8 @@ module _ (units : Units) (size : ℕ → ℕ) (begins : (k : ℕ) (own : List �
   pub runs_exist : (bytes : List ℕ) → All IsByte bytes → Exists (IsOutcome units bytes)
   runs_exist bytes are = steps_exist units.opens (Continues units units.count [] 0 bytes) (goes_exist units.count [] 0 bytes (omega arith) are)
 
--- Captured blocks: where something may be done for each block and behind all, every input has an outcome without a fault.
+-- Captured blocks: where something may be done for each block and after all of them, every input has an outcome
+-- without a fault.
 pub captures_exist : (units : Units) (form : Form) → ((k : ℕ) (own : List ℕ) → units.begins k own ≡ captured_part form own)
     → ((before : List (List ℕ)) (own : List ℕ) → length before < units.count → MaySome (units.does (length before) before own))
     → ((before : List (List ℕ)) → length before ≡ units.count → (steps : List Step) × units.closes before steps)

@@ -48,7 +48,7 @@ module _ (May : List Step → UnitKind → Type 0) (line bytes : List ℕ) (kind
       })
 
   module _ (source output new_output report new_report : Seen) (tells : Appends report.bytes new_report.bytes line) (steady : HasGoneOn report new_report) where
-    -- the line was told, and the output failed within the bytes
+    -- the line was reported, and the output failed within the bytes
     pub bytes_fail : (answer : Result UnitKind LoopEnd) → answer ≡ Err WriteFault → AppendsPrefix output.bytes new_output.bytes bytes → HasFailed output new_output
         → AreDone May (streams source output report) (streams source new_output new_report) answer
     bytes_fail answer is begun failed =

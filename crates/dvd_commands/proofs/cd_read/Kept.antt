@@ -32,7 +32,7 @@ use Rattle.dvd_commands.proofs.AnyEnd.{at_any_end, part-begun}
 use Rattle.dvd_commands.proofs.Pieces.{start-same}
 use Rattle.dvd_commands.proofs.Written.{length-written}
 
--- THE USER DATA of a sector that was made stand behind sixteen bytes.
+-- THE USER DATA of a sector that was made come after sixteen bytes.
 data_of : (address : ℕ) (user rest : List ℕ) → length user ≡ 2048 → user_data (covered address user ++ rest) ≡ user
 unfolding covered
 data_of address user rest size = take_at user rest 2048 size
@@ -43,7 +43,7 @@ made_data address user sector size made =
     let rest : List ℕ = cd_edc_of (covered address user) ++ (replicate 8 0 ++ drop 2076 sector) in
     ap user_data (made_whole address user sector made) ∙ data_of address user rest size
 
--- ONE SECTOR. Damage that is borne is repaired, and what was made has no cause.
+-- ONE SECTOR. Damage that can be corrected is repaired, and what was made has no cause.
 pub borne_given : (address k : ℕ) (user sector read : List ℕ) (steps : List Step) (kind : UnitKind) → length user ≡ 2048 → IsSector address user sector
     → length read ≡ 2352 → IsBorne 0 sector read → IsBorne 1 sector read → IsSectorRead address k read steps kind → (steps ≡ Write user ∷ []) × (kind ≡ Good)
 borne_given address k user sector read steps kind user_size made size low high does =
@@ -57,7 +57,7 @@ borne_given address k user sector read steps kind user_size made size low high d
 length-own : (k : ℕ) (bytes : List ℕ) → 2352 * (k + 1) ≤ length bytes → length (cd_sector_bytes bytes k) ≡ 2352
 length-own k bytes there = length-take-le 2352 (drop (2352 * k) bytes) (omega (arith, there, length-drop (2352 * k) bytes))
 
--- for a sector whose damage is borne its user data are written, and nothing else
+-- for a sector whose damage can be corrected its user data are written, and nothing else
 alone : (settings : Settings) (bytes user : List ℕ) (k : ℕ) → IsBorneSector settings bytes user k
     → (steps : List Step) (kind : UnitKind) → IsSectorRead (settings.address + k) k (cd_sector_bytes bytes k) steps kind
     → (steps ≡ Write user ∷ []) × (kind ≡ Good)
@@ -123,7 +123,7 @@ module _ (address sectors : ℕ) where
       }) bytes a runs done
       ∙ start-same 2048 k
 
--- in a run whose loop ended without a fault the user data of a borne sector stand at its place
+-- in a run whose loop ended without a fault the user data of a sector that can be corrected are at its place
 at_place : (settings : Settings) (bytes : List ℕ) (a : Outcome) → IsOutcome (cdread_units settings.address settings.sectors) bytes a
     → IsFaultless a.end
     → (user : List ℕ) (k : ℕ) → IsBorneSector settings bytes user k → take 2048 (drop (2048 * k) a.out) ≡ user
@@ -143,7 +143,7 @@ cdread_total address sectors = record {
   closes = λ before all. ([], refl);
 }
 
--- the law: a loop of `cdread` gives back the user data of each sector that is borne
+-- the law: a loop of `cdread` gives back the user data of each sector whose damage can be corrected
 pub kept_sectors : BorneSectorsAreKept
 kept_sectors settings bytes loop is goes =
     let units = cdread_units settings.address settings.sectors in

@@ -67,8 +67,8 @@ read_is_one address k read steps others kind other p q = elim p [
   ]
 ]
 
--- SOMETHING. It can be told of lists whether they are the same, of numbers whether they are bytes, and of words whether they
--- are codewords.
+-- SOMETHING. It can be found out of lists whether they are the same, of numbers whether they are bytes, and of words
+-- whether they are codewords.
 same_or_not : (xs ys : List ℕ) → (xs ≡ ys) ⊎ (xs ≢ ys)
 same_or_not [] [] = inl refl
 same_or_not [] (y ∷ ys) = inr (λ is. cc)

@@ -29,11 +29,11 @@ use Rattle.dvd_commands.proofs.SectorsWritten.{sectors_front}
 use Rattle.dvd_commands.proofs.RecoveredWidths.{length-sectors_out}
 use Rattle.dvd_commands.proofs.ImageInBlocks.{few-sectors}
 
--- no line of a round is told where the two passes have no cause
+-- no line of a round is reported where the two passes have no cause
 pub told_none : (k : ℕ) (entry : BlockPlan) (round : ℕ) (cause : Option Cause) → cause ≡ None → round_told cause k entry round ≡ []
 told_none k entry round cause is = ap (λ c. round_told c k entry round) is
 
--- and it is told where they have one
+-- and it is reported where they have one
 pub told_some : (k : ℕ) (entry : BlockPlan) (round : ℕ) (cause : Option Cause) → is_some cause ≡ true → round_told cause k entry round ≡ Tell (round_line k entry round) ∷ []
 told_some k entry round (Some cause) is = refl
 told_some k entry round None is = cc

@@ -22,7 +22,7 @@ use Rattle.dvd_commands.proofs.SomeThing.{MaySome, if_image_some, entry_some, re
 
 -- What rounds read of a block is one, and it has no cause.
 module _ (layout : Layout) (k : ℕ) (entry : BlockPlan) (rows : List (List ℕ)) (marks : List (List Bool)) where
-  -- what rounds give back of a block is one set of sectors, and the round whose line is told is one
+  -- what rounds give back of a block is one set of sectors, and the round whose line is reported is one
   given_back_is_one : MayOne (IsGivenBack layout k entry rows marks)
   given_back_is_one steps others kind other p q =
       let same = deep-once rows marks entry p.round q.round p.sectors q.sectors p.read q.read in (

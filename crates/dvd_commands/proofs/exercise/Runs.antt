@@ -18,7 +18,7 @@ use Rattle.dvd_commands.proofs.exercise.Blocks.{line-drawn}
 use Rattle.dvd_commands.proofs.exercise.Trials.{trials_more}
 use Rattle.dvd_commands.proofs.FrameBytes.{HasBytes, IsByte, bytes-frame, bytes-part, bytes-replicate}
 
--- a block that stands nowhere
+-- a block that is used nowhere
 no_trial : Trial
 no_trial = record { block = []; rows = []; marks = [] }
 

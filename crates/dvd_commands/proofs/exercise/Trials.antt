@@ -25,7 +25,7 @@ pub state_first : (seed : ℕ) → seed < 2 ^ 32 → seed + 1 ≡ state_at seed 
 unfolding state_at
 state_first seed below = omega arith
 
--- the state behind block k is the one that the next block begins with
+-- the state after block k is the one that the next block begins with
 pub state_next : (seed k : ℕ) → hurt_state (state_after (state_at seed k) 32768) ≡ state_at seed (k + 1)
 unfolding state_at
 state_next seed k = ap (state_at seed) (sym (add-one k))
@@ -78,7 +78,7 @@ module _ (seed n : ℕ) (old_state new_state : ℕ) (old new : Counts) (old_work
     (trial : Trial) (drawn : IsTrial seed n trial) (state_is : new_state ≡ hurt_state (state_after old_state 32768))
     (found : block_in trial.rows trial.marks ≡ trial.block) (counted : CountsOne trial.rows trial.marks old new)
     (fixed_most : new.fixed ≤ old.fixed + 2 ^ 32) (failed_most : new.failed ≤ old.failed + 2 ^ 16) (left : IsLeft seed n new_work) where
-  -- so block n is behind as well: its trial is one more, and what is counted of it is added
+  -- so block n is counted as well: its trial is one more, and what is counted of it is added
   pub one_more : IsBehind seed (n + 1) new_state new new_work
   one_more = record {
     state_is = state_is ∙ ap (λ x. hurt_state (state_after x 32768)) before.state_is ∙ state_next seed n;
@@ -106,7 +106,7 @@ module _ (seed n : ℕ) (old_state new_state : ℕ) (old new : Counts) (old_work
     left = λ k is. subst (λ (j : ℕ). IsLeft seed j new_work) (omega (arith, is)) left;
   }
 
--- behind the last block the line is written
+-- after the last block the line is written
 pub exercised : (seed blocks n state : ℕ) (counts : Counts) (work : Work) (line : List ℕ) → n ≡ blocks → IsBehind seed n state counts work
     → line ≡ exercise_line seed blocks counts.whole counts.fixed counts.failed → IsExercised seed blocks (Write line ∷ [])
 exercised seed blocks n state counts work line all after_last is = record {

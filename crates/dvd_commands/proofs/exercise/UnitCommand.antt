@@ -78,7 +78,7 @@ module _ (blocks k x : ℕ) (layout : Layout) (single : layout.shape ≡ Single)
       sectors = sectors_are ∙ ap (λ y. drawn_sectors (bytes_from y 32768)) before.state_is;
     }
 
-    -- so the unit has come behind block k
+    -- so the unit has come after block k
     pub moved_on : IsBehind seed (k + 1) new_state new new_work
     moved_on =
         one_more seed k x new_state old new old_work new_work before

@@ -30,14 +30,14 @@ pub on_ok : {A B : Type 0} (r : Result A B) (P : Type 0) (value : A) → result_
 on_ok (Ok own) P value some holds = holds
 on_ok (Err e) P value some holds = absurd (let no : None ≡ Some value = some in cc)
 
--- a format that is told is an answer
+-- a format that is found is an answer
 pub answers : (entry : BlockPlan) (rows : List (List ℕ)) (marks : List (List Bool)) (format : Fields) → Tells entry rows marks format
     → IsControlDone entry rows marks (Write (format_lines format) ∷ []) Last
 answers entry rows marks format tells =
     subst (λ f. IsControlDone entry rows marks (Write (format_lines f) ∷ []) Last) (sym tells.fields)
     (inl (record { sectors = tells.sectors; read = tells.read; lawful = tells.lawful; writes = refl; last = refl }))
 
--- where none is told nothing is done
+-- where none is found nothing is done
 pub silent : (entry : BlockPlan) (rows : List (List ℕ)) (marks : List (List Bool)) (old : Streams) → AnswersNothing entry rows marks
     → AreDone (IsControlDone entry rows marks) old old (Ok Good)
 silent entry rows marks old none = nothing_done (IsControlDone entry rows marks) Good (inr none) old
@@ -66,7 +66,7 @@ pub never_bad : (initial : ℕ) (form : Form) → IsNever (info_units initial fo
 never_bad initial form k before own steps does =
     asked_never_bad does.entry.content does.entry (captured_rows form own) (captured_marks form own) steps does.does
 
--- no line is told for a block
+-- no line is reported for a block
 pub asked_silent : (content : Content) (entry : BlockPlan) (rows : List (List ℕ)) (marks : List (List Bool)) (steps : List Step) (kind : UnitKind)
     → IsAsked content entry rows marks steps kind → AreWrites steps
 asked_silent Control entry rows marks steps kind does = elim does [

@@ -40,7 +40,7 @@ tells_or_passes Zero entry rows marks steps kind does = inl does
 tells_or_passes Reference entry rows marks steps kind does = inl does
 tells_or_passes (Image sector) entry rows marks steps kind does = inl does
 
--- it ends with so much taken and written, and nothing told
+-- it ends with so much taken and written, and nothing reported
 abbrev ends_with : List ℕ → List ℕ → LoopEnd → Outcome
 ends_with taken out end = record { taken = taken; out = out; lines = []; end = end }
 
@@ -68,7 +68,7 @@ module _ (initial : ℕ) (form : Form) (all : List ℕ) where
   abbrev Finds : Outcome → Type 0
   Finds a = FindsTheFirst initial form all a ⊎ FindsNone initial form all a
 
-  -- behind all blocks none has answered
+  -- after all blocks none has answered
   behind_all : (front left : List ℕ) (a : Outcome) → IsPast form all (initial + 224) front left → AreSilent (initial + 224) → a ≡ ended NoControl
       → Finds (onto front [] [] a)
   behind_all front left a past silent ends = inr (record {
@@ -149,7 +149,7 @@ module _ (initial : ℕ) (form : Form) (all : List ℕ) where
           is = ap (onto front [] []) (takes ∙ ap (taking own) (done.is ∙ ap (onto [] (lines ++ []) []) done.holds)) ∙ (λ i. ends_with (taken i) (out i) Done);
         })
 
-  -- what n blocks more find, behind a front of the input with blocks that answer nothing
+  -- what n blocks more find, after a front of the input with blocks that answer nothing
   finds : (n : ℕ) (before : List (List ℕ)) (bad : ℕ) (front left : List ℕ) (a : Outcome) → IsPast form all (length before) front left
       → length before + n ≡ initial + 224 → AreSilent (length before)
       → Continues (info_units initial form) n before bad left a → IsFaultless a.end → Finds (onto front [] [] a)

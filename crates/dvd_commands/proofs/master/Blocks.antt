@@ -11,7 +11,7 @@ use Rattle.dvd_loop.specs.Machine.Step.{Write}
 use Rattle.dvd_loop.specs.declared.ends.UnitKind.TheVariants.{Good}
 use Rattle.dvd_commands.specs.Master.{IsMastered, bytes_of_block, bytes_of_entry, filled_block, frames_of, image_bytes}
 
--- the image bytes of a piece, and the zeros behind them, are the piece
+-- the image bytes of a piece, and the zeros after them, are the piece
 filled_is : (piece : List ℕ) (size : ℕ) → length piece ≡ 32768 → size ≤ 32768 → drop size piece ≡ replicate (32768 - size) 0
     → filled_block (take size piece) ≡ piece
 filled_is piece size long most zeros =

@@ -22,7 +22,7 @@ layer_number : (layout : Layout) (first : Bool) → 0x30000 + padded (cond first
 layer_number layout true = omega (arith, layout.end0)
 layer_number layout false = omega (arith, layout.end1)
 
--- the last sector that the lead-in of a layer tells has 24 bits
+-- the last sector that the lead-in of a layer names has 24 bits
 last_number : (layout : Layout) (shape : Shape) (layer : ℕ) → layout.shape ≡ shape → last_by shape layout layer < 2 ^ 24
 last_number layout Single layer is = layer_number layout (layer == 0)
 last_number layout Parallel layer is = layer_number layout (layer == 0)
@@ -98,7 +98,7 @@ bytes-cpr LeadIn cpr six = bytes-replicate 6 0 (omega arith)
 bytes-cpr LeadOut cpr six = bytes-replicate 6 0 (omega arith)
 bytes-cpr Middle cpr six = bytes-replicate 6 0 (omega arith)
 
--- the image bytes of a block, with the zeros behind them, are sixteen sectors
+-- the image bytes of a block, with the zeros after them, are sixteen sectors
 pub bytes-filled_block : (layout : Layout) (content : Content) (own : List ℕ) → HasBytes (2048 * image_sectors layout content) own
     → HasBytes 32768 (filled_block own)
 bytes-filled_block layout content own all =

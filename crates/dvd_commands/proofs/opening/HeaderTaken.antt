@@ -67,7 +67,8 @@ looped_by_words settings sized old new end gone = record {
   loop = ended_as (GoesOver settings) (Opens settings.form GoesOver settings) old new end (opens_by_words settings.form sized GoesOver settings) gone.loop;
 }
 
--- A HEADER was taken, and behind it came a loop over the units that the command has by the settings that the header states.
+-- A HEADER was taken, and after it came a loop over the units that the command has by the settings that the header
+-- states.
 pub opened_over : (command : Command) (settings stated : Settings) (layout : Layout) → settings.command ≡ command
     → (old read output report : Seen) (new : Streams) (end : LoopEnd) → HasOpened settings old read stated layout
     → HaveGoneOn (streams old output report) (streams read output report)
@@ -90,7 +91,7 @@ opened_over command settings stated layout is old read output report new end ope
       causes = causes_first (streams old output report) (streams read output report) new end end causes over.causes;
     }
 
--- what comes behind a header where no loop does may come whatever the loops are
+-- what comes after a header where no loop does may come whatever the loops are
 behind_none : (Loops : Settings → List ℕ → Outcome → Type 0) (settings : Settings) (own left : List ℕ) (after : Outcome)
     → ComesBehind NoLoop settings own left after → ComesBehind Loops settings own left after
 behind_none Loops settings own left after (inl early) = inl early

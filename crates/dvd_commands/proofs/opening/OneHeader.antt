@@ -21,7 +21,7 @@ pub length-header : (header : Header) → length (header_bytes header) ≡ 32
 unfolding header_bytes
 length-header header = refl
 
--- each of its bytes may stand at its place
+-- each of its bytes is allowed at its place
 all-allowed : (header : Header) → list_all (λ k. may_stand k (slice_index (header_bytes header) k)) (range_with_len 0 32) ≡ true
 unfolding header_bytes may_stand
 all-allowed header =
@@ -51,7 +51,7 @@ first_wrong_once own a b p q = elim (cases_lt a b) [
   ]
 ]
 
--- a shape is told by its number
+-- a shape is known by its number
 shape_same : (a b : Shape) → shape_number a ≡ shape_number b → a ≡ b
 shape_same Single Single is = refl
 shape_same Single Parallel is = absurd (omega (arith, is))

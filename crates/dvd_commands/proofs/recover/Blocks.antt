@@ -20,7 +20,7 @@ use Rattle.dvd_report.specs.Lines.{damage_line}
 use Rattle.dvd_commands.specs.Recover.{IsImageDone, IsRefused}
 use Rattle.dvd_commands.specs.Inner.Performing.{IsRefusedFor, sectors_out}
 
--- the line of a refused block and its sectors, by the numbers that were told
+-- the line of a refused block and its sectors, by the numbers that were given
 pub line_same : (k number : ℕ) (entry : BlockPlan) (cause : Cause) (saved frames : ℕ) → number ≡ k → saved ≡ frames
     → damage_line number entry cause saved ≡ damage_line k entry cause frames
 line_same k number entry cause saved frames is saved_is = ap (λ n. damage_line n entry cause saved) is ∙ ap (damage_line k entry cause) saved_is

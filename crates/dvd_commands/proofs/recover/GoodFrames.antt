@@ -42,7 +42,7 @@ part-further xs ys left out a b n size inside is =
     ∙ part-append (xs ++ ys) left (a + b) n (omega (arith, length-append xs ys))
     ∙ ap (take n) (sym (drop-drop b a (xs ++ ys)) ∙ ap (drop b) (ap (λ k. drop k (xs ++ ys)) (sym size) ∙ drop-append_seam xs ys))
 
--- in a run whose loop ended without a fault the sector of a good frame stands at its place
+-- in a run whose loop ended without a fault the sector of a good frame is at its place
 at_place : (layout : Layout) (zones : Zones) (form : Form) (bytes : List ℕ) (a : Outcome) → IsOutcome (recover_units layout zones form) bytes a
     → IsFaultless a.end
     → (cpr image : List ℕ) (k f : ℕ) (entry : BlockPlan) (b : IsBeyond layout zones form bytes cpr image k entry) → f < image_sectors layout entry.content

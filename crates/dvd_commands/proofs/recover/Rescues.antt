@@ -43,7 +43,7 @@ weightless price lost is = elim (leb_tells price 10) [
     heavy true none = omega (arith, none)
     heavy false none = omega (arith, none)
 
--- sector f stands behind those before it
+-- sector f comes after those before it
 sector-at : (sectors : List (List ℕ)) (count f : ℕ) → f < count → ((g : ℕ) → g < count → length (line sectors g) ≡ 2048)
     → take 2048 (drop (2048 * f) (sectors_out count sectors)) ≡ line sectors f
 sector-at sectors count f below widths =

@@ -23,7 +23,7 @@ use Rattle.dvd_report.specs.declared.counts.Surveyed.{Surveyed}
 use Rattle.dvd_commands.specs.Survey.{IsSurveyed, found_in, found_of, kind_by}
 use Rattle.dvd_commands.specs.Inner.Performing.{IsLineDone}
 
--- one more beside the one that stands at its place
+-- one more beside the one at its place
 zip_more : {A B : Type 0} (xs : List A) (ys : List B) (n : ℕ) (x : A) (y : B) → length xs ≡ n → slice_get ys n ≡ Some y
     → zip (xs ++ x ∷ []) ys ≡ zip xs ys ++ (x, y) ∷ []
 zip_more [] [] n x y size at = absurd (let no : None ≡ Some y = at in cc)
@@ -77,7 +77,7 @@ stands_more after old new entry answer blocks stands received marks right refuse
     (cause_is answer (block_cause (rows_of old) (marks_of_work old) entry) right refused))
     stands
 
--- Block k of a plan, behind those before it, whose captured bytes have these rows and marks.
+-- Block k of a plan, after those before it, whose captured bytes have these rows and marks.
 module _ (layout : Layout) (zones : Zones) (form : Form) (k : ℕ) (before : List (List ℕ)) (number : length before ≡ k) (own : List ℕ) (entry : BlockPlan)
     (stands : slice_get (plan_of layout zones) k ≡ Some entry)
     (rows : List (List ℕ)) (marks : List (List Bool)) (rows_are : rows ≡ captured_rows form own) (marks_are : marks ≡ captured_marks form own) where
@@ -88,7 +88,7 @@ module _ (layout : Layout) (zones : Zones) (form : Form) (k : ℕ) (before : Lis
       ∙ ap (λ r. found_in layout zones form before ++ surveyed r (captured_marks form own) entry ∷ []) (sym rows_are)
       ∙ ap (λ m. found_in layout zones form before ++ surveyed rows m entry ∷ []) (sym marks_are)
 
-  -- a state that stands for the blocks found before and for this one stands for all found up to block k
+  -- a state of the survey of the blocks found before and of this one is that of all found up to block k
   pub next_stands : (after : SurveyState) → StandsFor after (found_in layout zones form before ++ surveyed rows marks entry ∷ [])
       → StandsFor after (found_in layout zones form (before ++ own ∷ []))
   next_stands after is = subst (StandsFor after) (sym found_with) is

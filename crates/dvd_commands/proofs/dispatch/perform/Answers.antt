@@ -14,7 +14,7 @@ use Rattle.dvd_words.specs.declared.settings.Settings.{Settings}
 use Rattle.dvd_commands.proofs.opening.HeaderTaken.{breaks_by_words, gone_over, looped_by_words}
 use Rattle.dvd_commands.proofs.dispatch.perform.Goals as goal
 
--- a command that reads no listed captures is told no such form
+-- a command that reads no listed captures is given no such form
 sized : (settings : Settings) (command : Command) → IsLawful settings → settings.command ≡ command → takes_listed command ≡ false → HasSize settings.form
 sized settings command lawful is not listed =
     let takes : takes_listed command ≡ true = subst (λ c. takes_listed c ≡ true) is (lawful.listed listed) in

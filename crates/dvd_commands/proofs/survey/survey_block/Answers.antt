@@ -9,7 +9,7 @@ use Rattle.dvd_commands.specs.Survey.{kind_by}
 use Rattle.dvd_commands.proofs.survey.Blocks.{cause_is, stands_more}
 use Rattle.dvd_commands.proofs.survey.survey_block.Goals as goal
 
--- the line of a block is told behind as many as were before it
+-- the number of the last block's line is how many came before it
 last_is : (blocks : List Surveyed) (block : Surveyed) → length (blocks ++ block ∷ []) - 1 ≡ length blocks
 last_is blocks block = let size = length-append blocks (block ∷ []) in omega arith
 
