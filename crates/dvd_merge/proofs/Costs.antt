@@ -29,7 +29,7 @@ same_row zero i row none j = refl
 same_row (suc n) zero row none j = none j
 same_row (suc n) (suc i) row none j = same_row n i row none j
 
--- each place of a row that isn't seen is unseen, also behind its end
+-- each place of a row that isn't seen is unseen, also after its end
 pub unseen_place : (n j : ℕ) → get_or (replicate n Unseen) j Unseen ≡ Unseen
 unseen_place zero j = refl
 unseen_place (suc n) zero = refl

@@ -20,7 +20,7 @@ module _ {A : Type 0} (f : A → A → A) (comm : (x y : A) → f x y ≡ f y x)
   fold_out a x (y ∷ ys) =
       ap (λ b. fold f b ys) (assoc a x y ∙ ap (f a) (comm x y) ∙ sym (assoc a y x)) ∙ fold_out (f a y) x ys
 
-  -- a member that stands in the middle can be joined last
+  -- a member that is in the middle can be joined last
   pub fold_middle : (a x : A) (xs ys : List A) → fold f a (xs ++ x ∷ ys) ≡ f x (fold f a (xs ++ ys))
   fold_middle a x xs ys =
       fold-append f a xs (x ∷ ys) ∙ fold_out (fold f a xs) x ys ∙ ap (f x) (sym (fold-append f a xs ys))
@@ -77,14 +77,14 @@ module _ {A : Type 0} (f : A → A → A) where
   zip2-idem idem [] = refl
   zip2-idem idem (x ∷ xs) = ap (λ y. y ∷ zip2 f xs xs) (idem x) ∙ ap (λ ys. x ∷ ys) (zip2-idem idem xs)
 
--- what stands behind the end of a list stands behind the end of its joins
+-- what is after the end of a list is after the end of its joins
 module _ {A B C : Type 0} (g : A → B → C) where
   -- with an empty list the join is empty
   zip2-none : (xs : List A) → zip2 g xs [] ≡ []
   zip2-none [] = refl
   zip2-none (x ∷ xs) = refl
 
-  -- row i of two joined tables is the join of their rows i, also behind the end of either
+  -- row i of two joined tables is the join of their rows i, also after the end of either
   pub zip2-row : (xs : List (List A)) (ys : List (List B)) (i : ℕ) → get_or (zip2 (zip2 g) xs ys) i [] ≡ zip2 g (get_or xs i []) (get_or ys i [])
   zip2-row [] ys i = refl
   zip2-row (x ∷ xs) [] i = sym (zip2-none (get_or (x ∷ xs) i []))

@@ -126,12 +126,12 @@ pub row-join : (a b : Table) (i : ℕ) → known_row (join_tables a b) i ≡ joi
 unfolding join_tables
 row-join = zip2-row join
 
--- row i of the table of a captured block is what its bytes and marks tell
+-- row i of the table of a captured block is what its bytes and marks say
 pub row-seen : (rows : List (List ℕ)) (marks : List (List Bool)) (i : ℕ) → known_row (seen_table rows marks) i ≡ seen_row (get_or rows i []) (get_or marks i [])
 unfolding seen_table
 row-seen = zip2-row seen
 
--- place by place: behind the end of a row nothing is seen
+-- place by place: after the end of a row nothing is seen
 pub place-join : (a b : List Place) (j : ℕ)
     → (get_or (zip2 join a b) j Unseen ≡ Unseen) ⊎ (get_or (zip2 join a b) j Unseen ≡ join (get_or a j Unseen) (get_or b j Unseen))
 place-join [] b j = inl refl

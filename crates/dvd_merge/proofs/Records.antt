@@ -34,7 +34,7 @@ cell_more f places cells j cell in_places in_cells before is =
     take_more_set cells j cell in_cells ∙ ap (λ front. front ++ cell ∷ []) before ∙ ap (λ c. map f (take j places) ++ c ∷ []) is
     ∙ sym (map-append f (take j places) (get_or places j Unseen ∷ [])) ∙ ap (map f) (sym (take_more places j Unseen in_places))
 
--- all cells, and what stands behind them
+-- all cells, and what is after them
 pub cells_all : {B : Type 0} (f : Place → B) (places : List Place) (cells old : List B) (j n : ℕ) → n ≤ j → j ≤ n → length places ≡ n
     → take j cells ≡ map f (take j places) → drop n cells ≡ drop n old → cells ≡ map f places ++ drop n old
 cells_all f places cells old j n least most size front behind =

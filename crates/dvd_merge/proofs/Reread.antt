@@ -142,7 +142,7 @@ module _ (table : Table) (height : length table ≡ 208) (widths : All (λ row. 
   unfolding marked_row
   front i below = part-append (map byte_of (known_row table i)) (mark_bytes (map joined_mark (known_row table i))) 0 182 (omega (arith, bytes_long i below)) ∙ take_all 182 (map byte_of (known_row table i)) (omega (arith, bytes_long i below))
 
-  -- and the 23 behind them are read as its marks
+  -- and the 23 after them are read as its marks
   behind : (i : ℕ) → i < 208 → marks_in Marked (marked_row (known_row table i)) ≡ map joined_mark (known_row table i)
   unfolding marked_row
   behind i below =

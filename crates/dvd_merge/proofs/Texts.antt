@@ -1,4 +1,4 @@
--- A marked text as its recorded rows are put one behind the other.
+-- A marked text as its recorded rows are put one after the other.
 use Rattle.std.proofs.Common.{◌≡◌, ℕ, ◌+◌, ◌<◌, List, [], ◌++◌, length, get_or, map, sym, ◌∙◌, ap, arith}
 use Rattle.std.proofs.lemmas.List.{get_or-map}
 use Rattle.coding.specs.Product.{line}
@@ -7,7 +7,7 @@ use Rattle.dvd_block.proofs.Recorded.{recorded, recorded-more}
 use Rattle.dvd_merge.specs.Join.{Table}
 use Rattle.dvd_merge.specs.MarkedText.{marked_row}
 
--- the row that stands at a recorded row
+-- which row a recorded row is
 pub record_is : (table : Table) (m i : ℕ) (bytes : List ℕ) → length table ≡ 208 → i < 208 → i ≡ row_at m
     → bytes ≡ marked_row (get_or table i []) → bytes ≡ line (map marked_row table) (row_at m)
 record_is table m i bytes height below is filled =

@@ -1,4 +1,5 @@
-//! 32 places of a row at once, a lane for each.
+//! 32 places of a row at once, a lane for each. Lanes have no branches: both cases are computed for all, and `pick`
+//! chooses.
 ghost use Rattle.std.specs.Prelude.{◌==◌, if◌then◌else◌, slice_index};
 ghost use Rattle.dvd_merge.specs.Inner.Rows.{HasLanes, HasPlaces, at_place, joined_at};
 ghost use Rattle.dvd_merge.specs.Join.{byte_of, join};
@@ -25,6 +26,8 @@ pub(crate) fn joined(values: u8x32, codes: u8x32, bytes: u8x32, marks: u8x32) ->
 fn joined_bytes(values: u8x32, codes: u8x32, bytes: u8x32) -> (u8x32, u8x32)
     ensures { HasPlaces result.0 result.1 (λ k. join (at_place values codes k) (Value (slice_index bytes k))) }
 {
+    // A place that was unseen has the byte now, so the last comparison finds it equal. A conflict stays one there, even
+    // where its old value is the byte.
     let unseen = u8x32::splat(UNSEEN);
     let new_values = pick(codes, unseen, bytes, values);
     let seen_codes = pick(codes, unseen, u8x32::splat(SEEN), codes);

@@ -1,5 +1,6 @@
-//! Captures of one ECC block of a DVD (ECMA-267, clause 18) joined place by place: what one capture has lost another may
-//! have received, and where two received different bytes neither is believed.
+//! Captures of one ECC block of a DVD (ECMA-267, clause 18), joined place by place. What one capture has lost another
+//! may have received, and where two received different bytes neither is believed. `dvdecc merge` joins whole blocks
+//! here, and dvd_assemble the rows of scattered recording frames.
 #![tactic(auto)]
 
 pub mod laws; // what holds of every join, as contracts alone

@@ -1,4 +1,4 @@
-//! What captures of a block know of each of its places.
+//! What captures of a block know of each of its places, and how it is written.
 ghost use Rattle.std.specs.Prelude.{◌≡◌, ◌<◌, vec_len, slice_set, IfOk};
 ghost use Rattle.dvd_capture.specs.Parts.{marks_of_row};
 ghost use Rattle.dvd_capture.specs.Rule.{HasBlock};
@@ -15,7 +15,8 @@ use dvd_capture::{RowMarks, Work};
 use dvd_ports::{NoMemory, Sink, WriteFault, write_whole};
 use std::alloc::Global;
 
-/// What captures of a block know of its places, in two planes of 37,856 bytes: 208 rows of 182.
+/// What captures of a block know of its places, in two planes of 37,856 bytes: 208 rows of 182. Values and codes are
+/// apart, so that 32 of each fill a vector.
 #[derive(Drop)]
 pub struct Merge {
     /// The byte of each place. Where no one byte is known it doesn't count.
@@ -40,7 +41,7 @@ impl Merge {
         Ok(Merge { values, codes })
     }
 
-    /// Forgets all places.
+    /// Forgets all places, so that one table serves each block of a run.
     pub fn clear(&mut self)
         ensures { table_of self.new ≡ unseen }
     {
@@ -48,7 +49,7 @@ impl Merge {
         self.codes.fill([UNSEEN; 182]);
     }
 
-    /// Joins a byte into row `i` at place `j`. All else stays.
+    /// Joins a byte into row `i` at place `j`. All else stays. One byte by itself: whole rows go by `take_row`.
     pub fn see(&mut self, i: usize, j: usize, byte: u8)
         requires row { i < 208 }
         requires place { j < 182 }
@@ -79,11 +80,12 @@ impl Merge {
         Place::new(self.values[i][j], self.codes[i][j])
     }
 
-    /// Writes the block in the marked form, 42,640 bytes: a place with no known byte is 0 and marked. After a fault a prefix
-    /// of them was taken.
+    /// Writes the block in the marked form, 42,640 bytes: a place with no known byte is 0 and marked. After a fault a
+    /// prefix of them was taken.
     pub fn write_marked<K: Sink>(&self, out: &mut K) -> Result<(), WriteFault>
         ensures { IsWritten (marked_text (table_of self.now)) (K.seen out.old) (K.seen out.new) result }
     {
+        // The whole text first, so that a block goes out as one piece.
         let mut text = [0; TEXT];
         fill_text(&self.values, &self.codes, &mut text);
         write_whole(out, &text)

@@ -1,4 +1,4 @@
-//! What is known of a place of a block.
+//! What is known of a place of a block: by itself, and as the two bytes that a block keeps of each place.
 ghost use Rattle.std.specs.Prelude.{◌≡◌};
 ghost use Rattle.dvd_merge.specs.Join.{byte_of, join};
 ghost use Rattle.dvd_merge.specs.Planes.{code_of, place_of};
@@ -10,7 +10,7 @@ pub enum Place {
     Unseen,
     /// All that have one have this byte.
     Value(u8),
-    /// Two have different bytes.
+    /// Two have different bytes. It stays so whatever others have, since a vote could be wrong.
     Conflict,
 }
 
@@ -33,7 +33,7 @@ impl Place {
         }
     }
 
-    // What both know.
+    // What both know. Neither the order of the two nor their repetition counts.
     #[tactic(auto, unfolding(crate::specs::Join::join))]
     pub(crate) fn join(self, other: Place) -> Place
         ensures { result ≡ join self other }
@@ -46,7 +46,7 @@ impl Place {
         }
     }
 
-    // Its byte, 0 where none is known.
+    // Its byte, 0 where none is known. Such a place is written as 0 and marked.
     pub(crate) fn byte(self) -> u8
         ensures { result ≡ byte_of self }
     {

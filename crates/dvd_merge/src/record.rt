@@ -1,4 +1,4 @@
-//! Rows in the marked form.
+//! Rows in the marked form: 182 bytes, and 23 bytes with a bit for each place, set where no one byte is known.
 ghost use Rattle.std.specs.Prelude.{◌≡◌, length, map};
 ghost use Rattle.dvd_merge.specs.Join.{byte_of};
 ghost use Rattle.dvd_merge.specs.MarkedText.{mark_bytes, marked_row, marked_text, number_of_marks};
@@ -24,6 +24,7 @@ pub(crate) fn fill_text(values: &[[u8; 182]], codes: &[[u8; 182]], text: &mut [u
     requires codes { length codes.now ≡ 208 }
     ensures { text.new ≡ marked_text (table_in values.now codes.now) }
 {
+    // One buffer for all rows: each fills all of it.
     let mut record = [0; RECORD];
     for m in 0..208 {
         let i = row_of_record(m);
@@ -60,7 +61,8 @@ fn fill_bits(codes: &[u8; 182], bits: &mut [u8])
     for k in 0..22 {
         bits[k] = marks_byte(u8x8::from_slice(&codes[8 * k..]));
     }
-    // The last byte has six places, which are moved to its front. The two bits after them are 0.
+    // The last byte has six places, 176 to 181. Eight are read, to fill a vector. The shift drops the two before them,
+    // and leaves two bits of 0.
     bits[22] = marks_byte(u8x8::from_slice(&codes[174..])) << 2;
 }
 
@@ -69,5 +71,6 @@ fn fill_bits(codes: &[u8; 182], bits: &mut [u8])
 fn marks_byte(codes: u8x8) -> u8
     ensures { result ≡ number_of_marks (map is_unknown codes) }
 {
+    // `to_bitmask` makes the first lane the lowest bit. A place in conflict isn't seen, and so is marked too.
     codes.reverse().simd_ne(u8x8::splat(SEEN)).to_bitmask() as u8
 }

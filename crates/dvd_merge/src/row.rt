@@ -1,4 +1,4 @@
-//! A row of a block, joined 32 places at a time.
+//! A row of a block, joined 32 places at a time: a vector has 32 bytes, and each of its lanes is one place.
 ghost use Rattle.std.specs.Prelude.{◌≡◌, ℕ, ◌+◌, ◌*◌, ◌<◌, ◌≤◌};
 ghost use Rattle.dvd_capture.specs.Parts.{marks_of_row};
 ghost use Rattle.dvd_merge.specs.Inner.Rows.{AreJoined, at_place, joined_at};
@@ -18,6 +18,7 @@ pub(crate) fn take_row(
 )
     ensures { row_of values.new codes.new ≡ join_rows (row_of values.old codes.old) (seen_row bytes.now (marks_of_row marks.now)) }
 {
+    // Most rows have no mark, and then none has to be spread to a byte for each place.
     if marks.is_clear() {
         join_row(values, codes, bytes, &[0; SPREAD]);
     } else {
@@ -30,7 +31,7 @@ pub(crate) fn take_row(
 fn join_row(values: &mut [u8; 182], codes: &mut [u8; 182], bytes: &[u8; 182], marks: &[u8; SPREAD])
     ensures { (k : ℕ) → k < 182 → at_place values.new codes.new k ≡ joined_at values.old codes.old bytes.now marks.now k }
 {
-    // Ten places are joined twice, which changes nothing.
+    // Places 150 to 159 are joined twice by the same bytes, which changes nothing.
     for group in 0..6 {
         join_at(values, codes, bytes, marks, start_of(group));
     }
@@ -58,7 +59,8 @@ fn join_at(
     store(new_codes, codes, at);
 }
 
-/// Where a group of 32 places begins, of the six that have all places of a row. The last begins within the one before it.
+/// Where a group of 32 places begins, of the six that have all places of a row. 182 is no multiple of 32. So that the
+/// last group is full too, it begins within the one before it.
 #[inline(always)]
 pub(crate) fn start_of(group: usize) -> usize
     requires { group < 6 }

@@ -11,8 +11,8 @@ use dvd_ports::{MemSink, MemSource};
 use std::alloc::Global;
 use std::test::Fail;
 
-// A place: its row and its place there, the bytes of three captures there, their marks, and what is known of it after one,
-// two and three of them.
+// A place: its row and its place there, the bytes of three captures there, their marks, and what is known of it after
+// one, two and three of them.
 type Case = (usize, usize, [u8; 3], [bool; 3], (Place, Place, Place));
 
 static CASES: [Case; 6] = [
@@ -155,8 +155,8 @@ fn captures_are_joined_place_by_place(rt: HostRuntime) -> Result<(), Fail> {
 
 const MARKED: usize = 42_640;
 
-// The bytes of the captures joined that aren't 0: row 0 begins with 01 and has a mark at 181, the last before the two spare
-// bits; row 12 comes after row 192.
+// The bytes of the captures joined that aren't 0: row 0 begins with 01 and has a mark at 181, the last before the two
+// spare bits; row 12 comes after row 192.
 static WRITTEN: [(usize, u8); 5] = [
     (0, 1),
     (204, 0b100),
