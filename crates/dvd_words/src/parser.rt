@@ -15,7 +15,8 @@ use clap::error::ErrorKind;
 use clap::{Arg, ArgAction, ArgMatches};
 use std::alloc::{AllocError, Global};
 
-/// The options in the arguments of a command, with their values.
+/// The options in the arguments of a command, with their values. Why clap refuses arguments isn't handed on: all of it
+/// is a usage error.
 pub fn parse<'a>(
     alloc: Global,
     command: Command,
@@ -32,7 +33,7 @@ pub fn parse<'a>(
     }
 }
 
-// The command's name, its options and nothing else, without a flag for help.
+// The command's name, its options and nothing else. It has no flag for help, since the output is never a page of text.
 fn parser_for<'a>(alloc: Global, command: Command) -> Result<clap::Command<'a>, AllocError>
     ensures { IfOk result (λ parser. app_of parser ≡ app_for command) }
 {
@@ -56,6 +57,7 @@ fn with_options<'a>(
     Ok(parser)
 }
 
+// `Set` refuses an option that is given twice: a second value would have to win or lose.
 fn with_option<'a>(
     alloc: Global,
     parser: clap::Command<'a>,

@@ -1,4 +1,4 @@
-//! What the arguments of a command line ask for.
+//! What the arguments of a command line ask for. One struct serves all commands, so that what they share has one name.
 
 use dvd_capture::Form;
 use dvd_layout::{Layout, LayoutFault, Shape, Zones};
@@ -73,7 +73,8 @@ impl Settings {
     ghost use Rattle.std.specs.Prelude.{◌≡◌, None, Some, IsOk, IfErr, IfOk};
     ghost use Rattle.dvd_words.specs.Settings.{IsLayoutOf, broken_rule};
 
-    /// The layout of these lengths, or the first rule that they break.
+    /// The layout of these lengths, or the first rule that they break. `Layout::new` tries the rules in one order, so
+    /// that the same lengths break the same first rule.
     pub fn layout(&self) -> Result<Layout, LayoutFault>
         ensures lengths { IfOk result (IsLayoutOf self.now) }
         ensures lawful { IsOk result → broken_rule self.now ≡ None }

@@ -1,4 +1,5 @@
-//! The table of the commands: what each is called, and which options and limits it has. A command is one row.
+//! The table of the commands: what each is called, and which options and limits it has. A command is one row, and all
+//! code that asks what a command allows asks here.
 
 ghost use Rattle.std.specs.Prelude.{◌≡◌};
 ghost use Rattle.dvd_words.specs.Inner.Rows.{entry, named_in};
@@ -49,9 +50,9 @@ pub enum Unit {
 pub enum Limit {
     /// Nothing.
     Any,
-    /// There is at least one sector, and none beyond number FFFFFF.
+    /// There is at least one sector, and none beyond number FFFFFF: a sector number has 24 bits.
     Numbers,
-    /// There is at least one sector, and none beyond address 449,999.
+    /// There is at least one sector, and none beyond address 449,999: a CD-ROM has addresses below minute 100.
     Addresses,
     /// There is at least one block.
     Blocks,
@@ -59,6 +60,7 @@ pub enum Limit {
     WholeDisk,
 }
 
+// A row in one line, as in specs/Table.antt, so that both can be compared by eye.
 macro_rules! rows {
     ($(
         $command:ident $name:ident $unit:ident $takes_listed:literal $sectors_or_listed:literal $limit:ident
@@ -83,7 +85,7 @@ macro_rules! is_must {
 
 // Command, word, unit, takes_listed, sectors_or_listed, limit, and the options: required ones and others.
 // A definition can't name a constant that holds references. So specs/Table.antt has the same rows, and `spec_of` is
-// proved to give these.
+// proved to give these. The rows are in the order of `Command`, since the number of a command is the place of its row.
 static COMMANDS: [CommandSpec<'static>; 12] = rows! {
     Frames   frames   Sector false false Numbers   must [first sectors];
     Master   master   Block  false false Any       must [sectors] may [sectors1 shape zones initial tail workers cpr];
@@ -120,7 +122,7 @@ pub fn command_named(word: &str) -> Option<Command>
     find_named(&COMMANDS, word)
 }
 
-// The command of the first row with this name.
+// The command of the first row with this name. Twelve rows are few enough to look through.
 fn find_named(specs: &[CommandSpec<'_>], word: &str) -> Option<Command>
     ensures { result ≡ named_in word.now specs.now }
 {

@@ -1,4 +1,5 @@
-//! The values of options.
+//! The values of options. A reader gives the default where there is no text, and `None` for a text that is no such
+//! value.
 
 ghost use Rattle.std.specs.Prelude.{◌≡◌, ◌≤◌, max, min, option_map, replicate, IfSome};
 ghost use Rattle.std.specs.Char.{is_digit};
@@ -20,6 +21,8 @@ pub fn read_number(text: Option<&str>, default: u32) -> Option<u32>
     }
 }
 
+// `from_str_radix` reads a sign too, and any number of leading zeros, so the text is tested first. Ten digits write
+// each number below 2^32.
 fn number(text: &str) -> Option<u32>
     ensures { result ≡ number_in text.now }
 {
@@ -35,7 +38,8 @@ fn has_digits_alone(text: &[u8]) -> bool
     text.iter().all(|byte| byte.is_ascii_digit())
 }
 
-/// A number from `least` to `most`, or the default where there is no text. `None`: another text.
+/// A number from `least` to `most`, or the default where there is no text. `None`: another text. The default needn't be
+/// within the bounds: it is what a command without the option has.
 pub fn read_within(text: Option<&str>, least: u32, most: u32, default: u32) -> Option<u32>
     ensures value { result ≡ value_or default (number_within least most) (option_map (λ s. s.now) text.entry) }
     ensures bounds { IfSome result (λ n. (min least default ≤ n) × (n ≤ max most default)) }

@@ -1,4 +1,5 @@
-//! Reads the arguments of the command line.
+//! Reads the arguments of the command line: the word of the command, its options by clap, their values, and what these
+//! need together. Whatever is wrong is one usage error, so `None` says enough.
 
 ghost use Rattle.std.specs.Prelude.{◌≡◌, ◌+◌, None, IfOk, IfSome, map, option_map, string_bytes};
 ghost use Rattle.clap.specs.Words.{first_of, found_of, rows_of};
@@ -29,11 +30,13 @@ pub fn read(alloc: Global, words: &[String]) -> Result<Settings, WordsFault>
     let Some(command) = command_named(word.as_str()) else {
         return Err(WordsFault::Usage);
     };
+    // The word of the command is handed on too: clap passes over it, as over a program's name.
     let matches = parse(alloc, command, words)?;
     settings(command, &matches).ok_or(WordsFault::Usage)
 }
 
-// Each option by its form.
+// Each option by its form. All options are read whatever the command is: one that it doesn't have wasn't accepted by
+// clap, and so has its default.
 #[tactic(auto, unfolding(crate::specs::Reading::settings_of))]
 fn settings(command: Command, matches: &ArgMatches<'_>) -> Option<Settings>
     ensures value { result ≡ settings_of command (rows_of (found_of matches.now)) }
@@ -75,6 +78,7 @@ fn has_layout(command: Command, form: Form, matches: &ArgMatches<'_>) -> bool
     }
 }
 
+// Whether an option states the layout or a part of it.
 fn tells_layout(matches: &ArgMatches<'_>) -> bool
     ensures { result ≡ tells_layout (rows_of (found_of matches.now)) }
 {
@@ -86,10 +90,13 @@ fn tells_layout(matches: &ArgMatches<'_>) -> bool
         || is_given(matches, "tail")
 }
 
+// Whether the command's numbers are within its limit. Each was in its own range before: this asks what they make
+// together.
 fn is_within(limit: Limit, settings: &Settings) -> bool
     ensures { result ≡ is_within limit settings.now.first settings.now.sectors settings.now.sectors1
         settings.now.blocks settings.now.address }
 {
+    // Sums are of 64 bits, since two numbers of 32 bits may add up to more.
     let sectors = u64::from(settings.sectors);
     match limit {
         Limit::Any => true,
@@ -106,6 +113,7 @@ fn is_given(matches: &ArgMatches<'_>, name: &str) -> bool
     given(matches, name).is_some()
 }
 
+// The text of an option's value, if it is given.
 fn given<'a>(matches: &ArgMatches<'a>, name: &str) -> Option<&'a str>
     ensures { option_map (λ s. s.now) result ≡ first_of name.now (rows_of (found_of matches.now)) }
 {
