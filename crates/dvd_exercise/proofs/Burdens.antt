@@ -37,7 +37,7 @@ add_at-grows (x ∷ xs) zero w (suc k) = omega arith
 add_at-grows (x ∷ xs) (suc i) w zero = omega arith
 add_at-grows (x ∷ xs) (suc i) w (suc k) = add_at-grows xs i w k
 
--- at its place stands the number at least
+-- at its place the number is that one at least
 add_at-here : (xs : List ℕ) (i w : ℕ) → i < length xs → w ≤ get_or (add_at xs i w) i 0
 unfolding add_at
 add_at-here [] i w within = absurd (omega arith)
@@ -88,7 +88,7 @@ module _ (place weight : ℕ → ℕ) (size : ℕ) where
 abbrev pub Find : (ℕ → ℕ) → ℕ → ℕ → Type 0
 Find place k n = ((t : ℕ) × (t < n) × (place t ≡ k)) ⊎ ((t : ℕ) → t < n → place t ≢ k)
 
--- which of them is so can be told
+-- which of them is so can be found out
 pub find_place : (place : ℕ → ℕ) (k n : ℕ) → Find place k n
 find_place place k zero = inr (λ t below. absurd (omega arith))
 find_place place k (suc n) = go (find_place place k n) (eqb_tells (place n) k) where

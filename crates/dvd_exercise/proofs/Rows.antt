@@ -8,7 +8,7 @@ use Rattle.coding.specs.Product.{line}
 use Rattle.dvd_exercise.specs.Damage.{HasErrors, combined, drawn_errors, is_hit, damaged_row, row_state}
 use Rattle.dvd_exercise.specs.Generator.{drawn_byte, state_after}
 
--- turn t is that of a bad row, or of one that comes behind these
+-- turn t is that of a bad row, or of one that comes after these
 abbrev pub TurnOf : ℕ → ℕ → Type 0
 TurnOf bad t = ((nat_lt t bad ≡ true) × (t < bad)) ⊎ ((nat_lt t bad ≡ false) × (bad < suc t))
 
@@ -16,7 +16,7 @@ TurnOf bad t = ((nat_lt t bad ≡ true) × (t < bad)) ⊎ ((nat_lt t bad ≡ fal
 pub damaged_row-new : (start n t : ℕ) → n < 208 → t < n → damaged_row start t ≢ damaged_row start n
 damaged_row-new start n t below before same = omega arith
 
--- no two of six errors stand at one place
+-- no two of six errors are at one place
 pub place-new : (first n t : ℕ) → n < 6 → t < n → (first + 31 * t) % 182 ≢ (first + 31 * n) % 182
 place-new first n t below before same = omega arith
 

@@ -1,4 +1,5 @@
-//! Damage to a received block: bad rows, lost rows, and single errors in all other rows.
+//! Damage to a received block: bad rows, lost rows, and single errors in all other rows. All of it is drawn, and never
+//! more than the bound of two-pass decoding allows, so that reading has to give the block back.
 ghost use Rattle.std.specs.Prelude.{◌≡◌, ℕ, ◌+◌, ◌*◌, ◌<◌, ◌≤◌, true, false, [], length, replicate, slice_set, bit_xor};
 ghost use Rattle.coding.specs.Product.{line, place};
 ghost use Rattle.dvd_capture.specs.Kept.{KeepsFound};
@@ -15,13 +16,13 @@ use dvd_capture::Work;
 /// Damages the received block. At most 8 rows are bad: each of their bytes becomes the exclusive or with a drawn one,
 /// and its mark stays. At most 16 rows are lost: all their bytes are 0 and marked. In each other row at most 5 bytes
 /// become the exclusive or with drawn ones that aren't 0, and its marks stay. Twice the bad rows plus the lost rows is
-/// at most 16, so the damage to a block with no marks is within the bound of two-pass decoding.
+/// at most 16. So the damage to a block with no marks is within the bound of two-pass decoding.
 /// No more damage is drawn: what two passes do with more depends on the numbers, and no clause could say it.
 ///
 /// The numbers are drawn in this order. First come the number of bad rows, the number of lost rows, and the first of
-/// these rows, a word each. Then come the bytes for the bad rows. Then comes each other row, from row 0 on: the number
-/// of bytes that are changed and the place of the first, a word each, and then the bytes for the exclusive or. The
-/// stage stays Fetched, and answers, columns and sectors stay.
+/// these rows, a word each. Then come the bytes for the bad rows. Then comes each other row, from row 0 on. It draws
+/// two words, for the number of bytes that are changed and for the place of the first. Then it draws the bytes for the
+/// exclusive or. The stage stays Fetched, and answers, columns and sectors stay.
 pub fn hurt(rand: &mut Rand, work: &mut Work)
     requires stage { stage_of work.old ≡ Fetched }
     ensures hurt { IsHurt (state_of rand.old) (rows_of work.old) (marks_of_work work.old) (rows_of work.new) (marks_of_work work.new) }
@@ -30,6 +31,7 @@ pub fn hurt(rand: &mut Rand, work: &mut Work)
     ensures stage { stage_of work.new ≡ Fetched }
     ensures found { KeepsFound work.old work.new }
 {
+    // The other rows come last: how many bytes they draw depends on what is drawn on the way.
     let plan = Plan::draw(rand);
     combine_rows(&plan, rand, work);
     lose_rows(&plan, work);
@@ -88,7 +90,8 @@ impl Plan {
     }
 }
 
-// Sets one received byte to its exclusive or with another byte. Its mark stays.
+// Sets one received byte to its exclusive or with another byte. Its mark stays. Where the other byte isn't 0 this
+// changes any byte, so that damage doesn't depend on the sectors.
 fn combine(work: &mut Work, i: usize, j: usize, byte: u8)
     requires stage { stage_of work.old ≡ Fetched }
     requires row { i < 208 }
@@ -103,7 +106,8 @@ fn combine(work: &mut Work, i: usize, j: usize, byte: u8)
     work.damage(i, j, received ^ byte, mark);
 }
 
-// Sets each byte of a row to its exclusive or with a drawn one.
+// Sets each byte of a row to its exclusive or with a drawn one. Some drawn bytes may be 0, which change nothing: a bad
+// row may be any row.
 fn combine_row(rand: &mut Rand, work: &mut Work, i: usize)
     requires stage { stage_of work.old ≡ Fetched }
     requires row { i < 208 }
@@ -118,6 +122,7 @@ fn combine_row(rand: &mut Rand, work: &mut Work, i: usize)
     }
 }
 
+// Sets all bytes of a row to 0 and marks them. Nothing is drawn for a lost row.
 fn lose_row(work: &mut Work, i: usize)
     requires stage { stage_of work.old ≡ Fetched }
     requires row { i < 208 }
@@ -141,6 +146,7 @@ fn hurt_row(rand: &mut Rand, work: &mut Work, i: usize)
     ensures marks { marks_of_work work.new ≡ marks_of_work work.old }
     ensures rest { KeepsRest work.old work.new }
 {
+    // At most five, which the ten parity bytes of a row correct.
     let count = (rand.word() % 6) as usize;
     let first = (rand.word() % 182) as usize;
     for u in 0..count {
@@ -174,6 +180,7 @@ fn lose_rows(plan: &Plan, work: &mut Work)
     }
 }
 
+// Damages each row that is neither bad nor lost, in order: each draws on from where the row before it ended.
 fn hurt_others(plan: &Plan, rand: &mut Rand, work: &mut Work)
     requires stage { stage_of work.old ≡ Fetched }
     ensures hit { (row : ℕ) → row < 208 → is_hit plan.now.start (plan.now.bad + plan.now.lost) row ≡ true → line (rows_of work.new) row ≡ line (rows_of work.old) row }

@@ -13,7 +13,7 @@ pub struct Rand {
 }
 
 impl Rand {
-    /// A generator whose state is `seed` + 1.
+    /// A generator whose state is `seed` + 1. Without the 1 seed 0 would make state 0, from which only zeros are drawn.
     pub fn new(seed: u32) -> Rand
         ensures { state_of result ≡ seed + 1 }
     {
@@ -28,6 +28,7 @@ impl Rand {
         ensures word { result ≡ step (state_of self.old) }
         ensures state { state_of self.new ≡ step (state_of self.old) }
     {
+        // By these three shifts a state comes again only after all states but 0.
         self.state ^= self.state << 13;
         self.state ^= self.state >> 7;
         self.state ^= self.state << 17;
