@@ -1,1 +1,1 @@
--- No lemmas of its own: the answers stand on those of the crates below.
+-- No lemmas of its own: the answers rest on those of the crates below.

@@ -45,7 +45,8 @@ impl Gate for Counting {
     }
 }
 
-// Numbers of workers, and the digits of two passes. Of 182 columns fifteen workers have thirteen each, so that one has none.
+// Numbers of workers, and the digits of two passes. Of 182 columns fifteen workers have thirteen each, so that one has
+// none.
 const ASKED: [(u8, u64); 5] = [
     (1, 0x2),
     (3, 0x222),

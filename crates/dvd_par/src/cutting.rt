@@ -1,4 +1,5 @@
-//! How a pass over rows or columns is cut into pieces, one for each worker at most.
+//! How a pass over rows or columns is cut into pieces, one for each worker at most. Each piece is done when the pass
+//! ends, so that the next pass sees all of this one.
 ghost use Rattle.std.specs.Prelude.{ℕ, ◌<◌, ◌≤◌, length};
 ghost use Rattle.std.specs.Fork.{AcceptsAt, AcceptsChunksMut, ChangesAt};
 ghost use Rattle.dvd_par.specs.Cutting.{IsCut, IsPieceSize};
@@ -6,7 +7,8 @@ ghost use Rattle.dvd_par.specs.Cutting.{IsCut, IsPieceSize};
 use crate::gate::Gate;
 use std::thread::{Threads, for_each_chunk_mut};
 
-/// How many of `total` rows or columns a piece has: the least number with which so many workers do them all.
+/// How many of `total` rows or columns a piece has: the least number with which so many workers do them all. It is
+/// rounded up, so that the last piece may be shorter and a worker may have none.
 pub fn piece_size(total: usize, workers: u8) -> usize
     requires workers { 1 ≤ workers }
     requires some { 1 ≤ total }
@@ -15,8 +17,9 @@ pub fn piece_size(total: usize, workers: u8) -> usize
     total.div_ceil(usize::from(workers))
 }
 
-/// Does `work` on each piece of the items, with the place where the piece begins. The last piece is done on this thread, and each
-/// other in a thread of its own where one can be made. The gate is asked once for each piece, by the thread that then does it.
+/// Does `work` on each piece of the items, with the place where the piece begins. The last piece is done on this
+/// thread, and each other in a thread of its own where one can be made. The gate is asked once for each piece, by the
+/// thread that then does it.
 pub fn for_each_piece<R: Threads + Sync, G: Gate, T: Send, F: Fn(usize, &mut [T]) + Sync>(
     rt: &R,
     workers: u8,
@@ -30,6 +33,7 @@ pub fn for_each_piece<R: Threads + Sync, G: Gate, T: Send, F: Fn(usize, &mut [T]
     ensures { IsCut F.Fn work.now workers items.old items.new }
 {
     let size = piece_size(items.len(), workers);
+    // The gate sees the number of a piece, and the work its first item.
     let asked = |start: usize, piece: &mut [T]|
         requires { (0 < size) × AcceptsAt F.Fn work.now start piece.now }
         ensures { ChangesAt F.Fn work.entry.now start piece.entry.now piece.exit.now }

@@ -1,8 +1,8 @@
-//! What is asked before each piece of a pass.
+//! What is asked before each piece of a pass: a test sees by it that pieces are done at once.
 
-/// It is asked once at the start of each piece, in each pass, by the worker that does the piece. It can let a worker wait,
-/// and changes nothing that the work reads.
-/// No contract can say that two threads ran, so a test has to see it: its gate lets two pieces wait for each other.
+/// It is asked once at the start of each piece, in each pass, by the worker that does the piece. It can let a worker
+/// wait, and changes nothing that the work reads. No contract can say that two threads ran, so a test has to see it:
+/// its gate lets two pieces wait for each other.
 pub trait Gate: Sync {
     /// Piece `piece` of a pass begins.
     fn pass(&self, piece: usize);

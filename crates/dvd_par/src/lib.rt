@@ -1,7 +1,8 @@
-//! Work on one captured or mastered block by several workers at once: each pass over its rows or over its columns is cut into
-//! pieces, as many as there are workers at most. The calling thread does the last piece, and each other is done by a thread of
-//! its own where one can be made. The answers are those of one worker.
-//! A piece is a slice that one worker writes and nobody else reads, so that no buffer is copied.
+//! Work on one captured or mastered block by several workers at once. Each pass over its rows or over its columns is
+//! cut into pieces, as many as there are workers at most. The calling thread does the last piece, and each other is
+//! done by a thread of its own where one can be made. The answers are those of one worker. A piece is a slice that one
+//! worker writes and nobody else reads, so that no buffer is copied. Commands with the option `--workers` come here,
+//! also with one worker.
 #![tactic(auto)]
 
 mod cutting; // how a pass is cut into pieces

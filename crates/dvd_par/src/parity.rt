@@ -1,4 +1,4 @@
-//! The parity of a block, with several workers.
+//! The parity of a block, with several workers. Rows and then columns are shared out, as in decoding.
 ghost use Rattle.std.specs.Prelude.{◌≡◌, ℕ, ◌+◌, ◌<◌, ◌≤◌, ◌++◌, length, take, EachIndex, replicate};
 ghost use Rattle.coding.specs.Words.{IsCodeword, IsEncoded};
 ghost use Rattle.dvd_block.specs.Buffers.{block_rows, cells_all, lines_rows};
@@ -10,9 +10,9 @@ use dvd_block::Block;
 use dvd_block::parts::{Cells, Lines, columns_parity, rows_parity};
 use std::thread::Threads;
 
-/// Sets the inner and the outer parity as `Block::add_parity` does, with so many workers. A worker has the rows of a piece in
-/// the first pass, and the columns of a piece in the second, which begins where the first has ended. One worker works on
-/// this thread. The cells are zeros at the end.
+/// Sets the inner and the outer parity as `Block::add_parity` does, with so many workers. A worker has the rows of a
+/// piece in the first pass, and the columns of a piece in the second. The second begins where the first has ended. One
+/// worker works on this thread. The cells are zeros at the end.
 pub fn add_parity_par<R: Threads + Sync, G: Gate>(rt: &R, workers: u8, gate: &G, block: &mut Block)
     requires workers { (1 ≤ workers) × (workers ≤ 16) }
     ensures parity { IsParityAdded (block_rows block.old) (block_rows block.new) }
@@ -25,13 +25,16 @@ pub fn add_parity_par<R: Threads + Sync, G: Gate>(rt: &R, workers: u8, gate: &G,
         block.add_parity();
         return;
     }
+    // The rows first: the columns at places 172 to 181 are made of their parity.
     inner_parity(rt, workers, gate, &mut block.lines);
     outer_parity(rt, workers, gate, &block.lines, &mut block.cells);
     block.place_parity();
+    // Cells are memory for a call alone, and a block is its rows.
     block.cells.clear();
 }
 
-// Sets the inner parity of the upper 192 rows.
+// Sets the inner parity of the upper 192 rows. Rows 192 to 207 get theirs by the outer parity: they are sums of
+// multiples of the rows above, and so codewords too.
 fn inner_parity<R: Threads + Sync, G: Gate>(rt: &R, workers: u8, gate: &G, lines: &mut Lines)
     requires { 1 ≤ workers }
     ensures { (i : ℕ) → i < 192 → IsEncoded 182 10 (take 172 (line (lines_rows lines.old) i)) (line (lines_rows lines.new) i) }
@@ -40,7 +43,7 @@ fn inner_parity<R: Threads + Sync, G: Gate>(rt: &R, workers: u8, gate: &G, lines
     row_pieces(rt, workers, gate, upper);
 }
 
-// Sets the inner parity of these rows, piece by piece.
+// Sets the inner parity of these rows, piece by piece. A piece goes by vectors, in groups of 32 from its first row.
 fn row_pieces<R: Threads + Sync, G: Gate>(rt: &R, workers: u8, gate: &G, rows: &mut [[u8; 182]])
     requires workers { 1 ≤ workers }
     requires rows { length rows.old ≡ 192 }
@@ -55,7 +58,8 @@ fn row_pieces<R: Threads + Sync, G: Gate>(rt: &R, workers: u8, gate: &G, rows: &
     for_each_piece(rt, workers, gate, rows, &encode);
 }
 
-// Sets the outer parity of each column.
+// Sets the outer parity of each column, in a cell of its own. A column's sixteen bytes are in sixteen rows, and a piece
+// has to be one slice.
 fn outer_parity<R: Threads + Sync, G: Gate>(
     rt: &R,
     workers: u8,
@@ -69,7 +73,8 @@ fn outer_parity<R: Threads + Sync, G: Gate>(
     cell_pieces(rt, workers, gate, lines, cells.all_mut());
 }
 
-// Sets these cells to the outer parity of their columns, piece by piece.
+// Sets these cells to the outer parity of their columns, piece by piece. A piece goes by vectors, in groups of 32 from
+// its first column.
 fn cell_pieces<R: Threads + Sync, G: Gate>(
     rt: &R,
     workers: u8,

@@ -1,4 +1,6 @@
-//! Both passes over a captured block, with several workers in each.
+//! Both passes over a captured block, with several workers in each. Rows don't depend on each other, nor do columns, so
+//! a block is shared out. Blocks side by side would need a captured block for each worker, and an order for what they
+//! write.
 ghost use Rattle.std.specs.Prelude.{◌≡◌, ◌+◌, ◌<◌, ◌≤◌, length, map, IsTrue};
 ghost use Rattle.coding.specs.Filling.{marked};
 ghost use Rattle.dvd_capture.specs.Rule.{HasBlock};
@@ -17,8 +19,9 @@ use dvd_read::{Cause, Fixed};
 use rs_code::{Pi, Po};
 use std::thread::Threads;
 
-/// Decodes a captured block as `dvd_read::two_pass` does, with so many workers. A worker has the rows of a piece in the first
-/// pass, and the columns of a piece in the second, which begins where the first has ended. One worker works on this thread.
+/// Decodes a captured block as `dvd_read::two_pass` does, with so many workers. A worker has the rows of a piece in the
+/// first pass, and the columns of a piece in the second. The second begins where the first has ended. One worker works
+/// on this thread.
 pub fn two_pass_par<R: Threads + Sync, G: Gate>(
     rt: &R,
     workers: u8,
@@ -30,10 +33,12 @@ pub fn two_pass_par<R: Threads + Sync, G: Gate>(
     ensures { IsDecoded work.old work.new result }
 {
     let are_kept = answer_block(rt, workers, gate, work);
+    // What the passes came to is asked once all pieces are done.
     settle(work, are_kept)
 }
 
-/// Answers the rows and columns of a captured block. Answers whether the columns are known to correct no row that was answered.
+/// Answers the rows and columns of a captured block. Answers whether the columns are known to correct no row that was
+/// answered. `false` says nothing: then all rows are tested.
 pub(crate) fn answer_block<R: Threads + Sync, G: Gate>(
     rt: &R,
     workers: u8,
@@ -50,6 +55,7 @@ pub(crate) fn answer_block<R: Threads + Sync, G: Gate>(
     ensures marks { work.new.marks ≡ work.old.marks }
     ensures sectors { work.new.sectors ≡ work.old.sectors }
 {
+    // Answers of an earlier reading don't count from here on, since they are overwritten.
     work.set_stage(Stage::Fetched);
     let answers = work.answers.rows_mut();
     row_pass(rt, workers, gate, &work.received, &work.marks, answers);
@@ -57,7 +63,8 @@ pub(crate) fn answer_block<R: Threads + Sync, G: Gate>(
     column_pass(rt, workers, gate, work.answers.rows(), columns)
 }
 
-// The first pass. A single piece is done on this thread.
+// The first pass. A single piece is done on this thread. Rows don't depend on each other, so the answers are the same
+// however they are cut.
 fn row_pass<R: Threads + Sync, G: Gate>(
     rt: &R,
     workers: u8,
@@ -81,8 +88,9 @@ fn row_pass<R: Threads + Sync, G: Gate>(
     for_each_piece(rt, workers, gate, answers, &answer);
 }
 
-// The second pass, where no more rows failed than it can bear. Answers whether it is known to correct no row that was answered:
-// several workers answer their pieces apart from each other, so that the columns are compared with the rows at the end.
+// The second pass, where no more rows failed than the sixteen parity bytes of a column correct. Answers whether it is
+// known to correct no row that was answered. Several workers answer their pieces apart from each other, so the columns
+// are compared with the rows at the end.
 fn column_pass<R: Threads + Sync, G: Gate>(
     rt: &R,
     workers: u8,
@@ -101,6 +109,7 @@ fn column_pass<R: Threads + Sync, G: Gate>(
     if !are_few(&failed) {
         return false;
     }
+    // One worker sees all columns, and so knows by itself whether they keep the rows.
     if workers == 1 {
         gate.pass(0);
         return answer_columns(&Po::new(), answers, &failed, 0, columns);

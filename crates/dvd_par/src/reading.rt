@@ -1,4 +1,5 @@
-//! Reading of a captured block as an entry of a plan, with several workers.
+//! Reading of a captured block as an entry of a plan, with several workers. Only the passes are shared out. The frames
+//! are checked on the calling thread in their order, since the first cause is named.
 ghost use Rattle.std.specs.Prelude.{◌≤◌};
 ghost use Rattle.dvd_capture.specs.Rule.{HasBlock};
 ghost use Rattle.dvd_capture.specs.Works.{stage_of};
@@ -13,8 +14,7 @@ use dvd_read::parts::{Source, sectors_of_block, settle};
 use dvd_read::{Cause, Fixed};
 use std::thread::Threads;
 
-/// Reads a captured block as `dvd_read::read_block` does, with so many workers in both passes. The frames are checked on this
-/// thread.
+/// Reads a captured block as `dvd_read::read_block` does, with so many workers in both passes.
 #[tactic(auto, unfolding(dvd_decoding::specs::Reading::block_cause))]
 pub fn read_block_par<R: Threads + Sync, G: Gate>(
     rt: &R,
@@ -35,6 +35,7 @@ pub fn read_block_par<R: Threads + Sync, G: Gate>(
             Ok(fixed)
         }
         Err(cause) => {
+            // A refused block has no sectors, and none of an earlier block may be taken for its own.
             work.blank();
             Err(cause)
         }

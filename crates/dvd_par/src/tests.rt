@@ -35,8 +35,8 @@ pub(crate) fn frames(alloc: Global) -> Result<Block, Fail> {
     Ok(block)
 }
 
-// The first data block, received so: in each of the `bad` rows from row `from` on, of every `step` rows, eleven bytes are
-// changed, and in each of the `lost` rows after them all places are marked.
+// The first data block, received so: in each of the `bad` rows from row `from` on, of every `step` rows, eleven bytes
+// are changed, and in each of the `lost` rows after them all places are marked.
 pub(crate) fn received(
     alloc: Global,
     from: usize,

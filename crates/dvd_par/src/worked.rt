@@ -85,8 +85,8 @@ fn decode<R: Threads + Sync>(rt: &R, workers: u8, work: &mut Work) -> Option<Res
     Some(two_pass_par(rt, workers, &OpenGate, work))
 }
 
-// What was received: rows that are lost, so many; eight rows of another codeword; these and a lost row; or rows whose columns
-// make one of them no codeword.
+// What was received: rows that are lost, so many; eight rows of another codeword; these and a lost row; or rows whose
+// columns make one of them no codeword.
 enum Received {
     Lost(usize),
     Eight,
