@@ -21,6 +21,6 @@ surveyed-read rows marks entry sectors (Ok fixed) size marks_size read refused =
     ap (surveyed_with rows marks) (sym (read-determined rows marks entry sectors size marks_size read).0)
 surveyed-read rows marks entry sectors (Err cause) size marks_size read refused = ap (surveyed_with rows marks) (sym refused)
 
--- how many blocks a survey stands for
+-- how many blocks the survey of a list has counted
 pub blocks-counted : (survey : SurveyState) (blocks : List Surveyed) → StandsFor survey blocks → survey.totals.blocks ≡ length blocks
 blocks-counted survey blocks stands = ap (λ (totals : Totals). totals.blocks) stands.totals ∙ totals-blocks blocks

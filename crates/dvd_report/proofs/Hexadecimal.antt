@@ -4,7 +4,7 @@ use Rattle.std.specs.Fmt.{digit_glyph}
 use Rattle.std.proofs.Math.Nat.{div-div-eq-div-mul, pow-le-pow_right}
 use Rattle.dvd_report.specs.Lines.{hexadecimal}
 
--- the highest of several digits stands first
+-- the highest of several digits comes first
 pub hexadecimal-first : (width number : ℕ) → hexadecimal (suc width) number ≡ digit_glyph true (number / 16 ^ width % 16) ∷ hexadecimal width number
 unfolding hexadecimal
 hexadecimal-first zero number = ap (λ n. digit_glyph true (n % 16) ∷ []) (omega arith)
@@ -12,7 +12,7 @@ hexadecimal-first (suc width) number =
     ap (λ digits. digits ++ digit_glyph true (number % 16) ∷ []) (hexadecimal-first width (number / 16))
     ∙ ap (λ n. digit_glyph true (n % 16) ∷ hexadecimal (suc width) number) (div-div-eq-div-mul number 16 (16 ^ width) ∙ ap (λ n. number / n) (omega arith))
 
--- so a digit put behind a line leaves the digits of the lower places
+-- so a digit put after a line leaves the digits of the lower places
 pub digit-next : (line : List ℕ) (place number digit : ℕ) → 0 < place → digit ≡ digit_glyph true (number / 16 ^ (place - 1) % 16)
     → (line ++ digit ∷ []) ++ hexadecimal (place - 1) number ≡ line ++ hexadecimal place number
 digit-next line place number digit some is =

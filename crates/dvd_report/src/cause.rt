@@ -1,5 +1,5 @@
-//! The line of a damaged ECC block: its number in the plan and its place on the disk, the first rule that it breaks,
-//! and how many of its sixteen frames were salvaged.
+//! The line of a damaged ECC block: its number in the plan, its place on the disk, and the first rule that it breaks.
+//! At last comes how many of its sixteen frames were salvaged. `dvdcap lost` reads these lines back.
 ghost use Rattle.std.specs.Prelude.{◌≡◌, ◌+◌, ◌≤◌, ◌++◌, length};
 ghost use Rattle.dvd_layout.specs.Place.{HasNumbers};
 ghost use Rattle.dvd_ports.specs.Whole.{IsWritten};
@@ -10,9 +10,9 @@ use dvd_layout::BlockPlan;
 use dvd_ports::{Sink, WriteFault, write_whole};
 use dvd_read::Cause;
 
-/// Writes the line of block `k` of a plan, with this cause and with `saved`, the number of its sixteen frames that were
-/// salvaged: `block K sector H6 layer L: CAUSE saved S` and a line feed, where `H6` is the block's first sector number.
-/// After a fault a prefix of the line was written.
+/// Writes the line of block `k` of a plan: `block K sector H6 layer L: CAUSE saved S` and a line feed. `H6` is the
+/// block's first sector number, and `saved` the number of its sixteen frames that were salvaged. After a fault a prefix
+/// of the line was written.
 pub fn write_cause<E: Sink>(
     k: u64,
     plan: &BlockPlan,
@@ -40,7 +40,8 @@ fn line_of(k: u64, plan: &BlockPlan, cause: &Cause, saved: u8) -> Line
     line
 }
 
-/// Puts block `k` of a plan at the end of a line, with its first sector number and its layer.
+/// Puts block `k` of a plan at the end of a line, with its first sector number and its layer. At most 50 bytes: a
+/// number has up to 20 digits, and a layer 3.
 #[tactic(auto, unfolding(crate::specs::Lines::block_text))]
 pub(crate) fn put_block(line: &mut Line, k: u64, plan: &BlockPlan)
     requires room { length line.old + 50 ≤ 256 }
@@ -55,7 +56,8 @@ pub(crate) fn put_block(line: &mut Line, k: u64, plan: &BlockPlan)
     line.put_byte(plan.layer);
 }
 
-/// Puts a cause at the end of a line.
+/// Puts a cause at the end of a line. At most 43 bytes: the longest is that of an address, with a number of up to 20
+/// digits.
 #[tactic(auto, unfolding(crate::specs::Lines::cause_text))]
 pub(crate) fn put_cause(line: &mut Line, cause: &Cause)
     requires room { length line.old + 43 ≤ 256 }

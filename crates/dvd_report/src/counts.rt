@@ -1,4 +1,4 @@
-//! What a survey counts, of a block and over all blocks.
+//! What a survey counts, of a block and over all blocks. `pi` is what scanning tools print as PIE, and `failed` as PIF.
 use dvd_read::Cause;
 
 /// What a survey keeps of a block.
@@ -23,7 +23,7 @@ pub struct Totals {
     pub failed: u64,
     /// How many blocks have a cause.
     pub damaged: u64,
-    /// The greatest number of PI error rows in a block and the seven before it, at most 1,664.
+    /// The greatest number of PI error rows in a block and the seven before it, at most 1,664: eight times 208.
     pub peak: u32,
     /// The first block that has it; blocks are counted from 0.
     pub peak_at: u64,

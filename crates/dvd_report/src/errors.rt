@@ -1,4 +1,5 @@
-//! The rows of a captured block that have a PI error, and those that failed.
+//! The rows of a captured block that have a PI error, and those that failed. Rows are counted as they were received, so
+//! that a survey shows what decoding hides.
 ghost use Rattle.std.specs.Prelude.{◌≡◌, ◌+◌, nat_lt, true, length, All, IfSome};
 ghost use Rattle.std.specs.Result.{result_err};
 ghost use Rattle.std.specs.declared.option.Option.TheVariants.{None};
@@ -25,7 +26,8 @@ pub(crate) fn survey_block(work: &Work, answer: &Result<Fixed, Cause>) -> Survey
     }
 }
 
-// How many received rows have a PI error, and how many failed.
+// How many received rows have a PI error, and how many failed. The answers are asked and not the rows, which would have
+// to be tested once more.
 fn count_rows(work: &Work) -> (u8, u8)
     requires { HasAnswers (stage_of work.now) }
     ensures pi { result.0 ≡ pi_rows (rows_of work.now) (marks_of_work work.now) }
@@ -42,7 +44,8 @@ fn count_rows(work: &Work) -> (u8, u8)
     (pi, failed)
 }
 
-// Whether a row with this answer was received with a PI error: it failed, or a byte was corrected or marked.
+// Whether a row with this answer was received with a PI error: it failed, or a byte was corrected or marked. A marked
+// row counts even where its bytes are right.
 fn has_pi_error(answer: Option<Fix>) -> bool
     ensures failed { answer ≡ None → result ≡ true }
     ensures answered { IfSome answer (λ fix. result ≡ nat_lt 0 (fix.errors + fix.erased)) }

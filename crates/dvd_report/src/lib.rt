@@ -1,4 +1,4 @@
-//! The lines of a report that name the ECC blocks of a stream that are damaged, or that a round gave back, and the
+//! The lines of a report that name the ECC blocks of a stream that are damaged, or that a round gave back. Also the
 //! survey of a disk's surface: how many rows of its blocks have a PI error (ECMA-267, clause 18).
 #![tactic(auto)]
 

@@ -9,8 +9,8 @@ use crate::text::Line;
 use dvd_layout::BlockPlan;
 use dvd_ports::{Sink, WriteFault, write_whole};
 
-/// Writes the line of block `k` of a plan, which this round gave back: `block K sector H6 layer L: round T` and a line
-/// feed. After a fault a prefix of the line was written.
+/// Writes the line of block `k` of a plan, which this round gave back. It is `block K sector H6 layer L: round T` and a
+/// line feed. After a fault a prefix of the line was written.
 pub fn write_round<E: Sink>(
     k: u64,
     plan: &BlockPlan,
@@ -23,6 +23,7 @@ pub fn write_round<E: Sink>(
     write_whole(report, line_of(k, plan, round).as_slice())
 }
 
+// It begins as a damage line does, so that a rescuer finds the block in the same way.
 #[tactic(auto, unfolding(crate::specs::Lines::round_line))]
 fn line_of(k: u64, plan: &BlockPlan, round: u8) -> Line
     ensures { result ≡ round_line k plan.now round }

@@ -1,4 +1,5 @@
-//! The survey of a disk's surface: how many PI errors its blocks have, singly, in eight together, and in all.
+//! The survey of a disk's surface: how many PI errors its blocks have, singly, in eight together, and in all. ECMA-267
+//! allows 280 in any eight blocks one after the other, so a window of eight goes along.
 ghost use Rattle.std.specs.Prelude.{◌≡◌, ◌+◌, ◌-◌, ◌<◌, ◌≤◌, ◌^◌, List, [], ◌∷◌, ◌++◌, length, sum, IfOk, OnOk, OnErr};
 ghost use Rattle.std.specs.Result.{result_err};
 ghost use Rattle.std.specs.Io.KnownBytes.{Appends};
@@ -29,7 +30,8 @@ const WINDOW: usize = 8;
 const MANY: u32 = 280;
 
 /// A survey: totals over all blocks, the PI error rows of the last eight, and the last block.
-/// It keeps only these of the list of its blocks; a contract sees it as the survey of that list.
+/// It keeps only these of the list of its blocks; a contract sees it as the survey of that list. So a disk of any size
+/// is surveyed in the same memory.
 #[derive(Drop)]
 pub struct Survey {
     totals: Totals,
@@ -71,6 +73,7 @@ impl Survey {
             → StandsFor self.new (blocks ++ surveyed_with (rows_of work.now) (marks_of_work work.now) (result_err answer.now) ∷ []) }
     {
         let block = survey_block(work, answer);
+        // A full window gives its oldest number back, which isn't needed any more.
         let _ = self.window.push_back(block.pi);
         self.totals = totals_with(&self.totals, &block, sum_of(&self.window));
         self.last = Some(block);
@@ -84,8 +87,8 @@ impl Survey {
     }
 
     /// Writes the line of the last block, whose entry of the plan this is:
-    /// `block K sector H6 layer L pi P failed F sum8 S: ANSWER` and a line feed. `K` is the block's number from 0, `P`
-    /// and `F` are its rows with a PI error and its uncorrectable rows, and `S` is the sum of `P` over it and the seven
+    /// `block K sector H6 layer L pi P failed F sum8 S: ANSWER` and a line feed. `K` is the block's number from 0. `P`
+    /// and `F` are its rows with a PI error and its uncorrectable rows. `S` is the sum of `P` over it and the seven
     /// before it. After a fault a prefix of the line was written.
     pub fn write_line<K: Sink>(&self, plan: &BlockPlan, out: &mut K) -> Result<(), WriteFault>
         requires some { 0 < self.now.totals.blocks }
@@ -122,6 +125,7 @@ impl Survey {
                 &block,
                 sum_of(&self.window),
             ),
+            // A block was added, as the clause says.
             None => unreachable!(),
         }
     }
@@ -158,6 +162,7 @@ fn totals_with(totals: &Totals, block: &Surveyed, sum: u32) -> Totals
         failed: totals.failed + u64::from(block.failed),
         damaged: totals.damaged + u64::from(block.cause.is_some()),
         peak: totals.peak.max(sum),
+        // Only a greater sum, so that the first block of several is named.
         peak_at: if sum > totals.peak {
             totals.blocks
         } else {
@@ -172,10 +177,12 @@ fn sum_of(window: &HeapCircularBuffer<u8>) -> u32
     requires { length window.now.items ≤ 8 }
     ensures { result ≡ sum window.now.items }
 {
+    // The window goes round its memory, so that its numbers may be in two parts.
     let (older, newer) = window.as_slices();
     sum_of_part(older) + sum_of_part(newer)
 }
 
+// At most eight numbers of eight bits, so that the sum has a bound.
 fn sum_of_part(numbers: &[u8]) -> u32
     requires { length numbers.now ≤ 8 }
     ensures sum { result ≡ sum numbers.now }

@@ -1,4 +1,5 @@
-//! The lines of a survey.
+//! The lines of a survey: one of each block, and one of totals. They are results and go to the output, not to the
+//! report.
 ghost use Rattle.std.specs.Prelude.{◌≡◌, ◌+◌, ◌≤◌, ◌++◌, length};
 ghost use Rattle.dvd_report.specs.Survey.{answer_text, line_of_totals, surveyed_line};
 
@@ -26,7 +27,7 @@ pub(crate) fn line_of_block(k: u64, plan: &BlockPlan, block: &Surveyed, sum: u32
     line
 }
 
-// Puts a cause at the end of a line, or `whole`.
+// Puts a cause at the end of a line, or `whole`. No cause is longer than 43 bytes.
 fn put_answer(line: &mut Line, cause: Option<Cause>)
     requires room { length line.old + 43 ≤ 256 }
     ensures bytes { line.new ≡ line.old ++ answer_text cause }

@@ -1,4 +1,5 @@
-//! Lines of text, which allocate no memory, and what is put at their end.
+//! Lines of text, which allocate no memory, and what is put at their end. A line is put together first, so that it goes
+//! out as one piece.
 ghost use Rattle.std.specs.Prelude.{◌≡◌, ◌+◌, ◌<◌, ◌≤◌, [], ◌++◌, length, decimal, true};
 ghost use Rattle.std.specs.Fmt.{digit_glyph};
 ghost use Rattle.dvd_report.specs.Lines.{hexadecimal};
@@ -7,7 +8,8 @@ use arrayvec::ArrayVec;
 use itoa::Buffer;
 use std::marker::Model;
 
-/// A line of text, of at most 256 bytes. A contract sees it as the list of its bytes.
+/// A line of text, of at most 256 bytes. A contract sees it as the list of its bytes. No line of a report is longer,
+/// and `room` shows at each call that what is put fits.
 #[derive(Drop)]
 pub struct Line {
     bytes: ArrayVec<u8, 256>,
@@ -40,6 +42,7 @@ impl Line {
         ensures bytes { self.new ≡ self.old ++ text.now }
         ensures len { length self.new ≡ length self.old + length text.now }
     {
+        // It can't fail, by `room`.
         let _ = self.bytes.try_extend_from_slice(text);
     }
 
@@ -52,7 +55,8 @@ impl Line {
         self.put(Buffer::new().format(number).as_bytes());
     }
 
-    /// Puts a number of eight bits in decimal at the end of the line: at most 3 digits.
+    /// Puts a number of eight bits in decimal at the end of the line: at most 3 digits. So it takes less room than
+    /// other numbers.
     pub fn put_byte(&mut self, number: u8)
         requires room { length self.old + 3 ≤ 256 }
         ensures bytes { self.new ≡ self.old ++ decimal number }
