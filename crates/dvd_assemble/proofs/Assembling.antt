@@ -17,7 +17,7 @@ use Rattle.dvd_assemble.specs.Frames.{Frame}
 use Rattle.dvd_assemble.specs.Home.{home}
 use Rattle.dvd_assemble.proofs.Tables.{IsShaped, by_table, join_none, joined-more, joined-shaped, length-frame_table, length-unseen}
 
--- what all these frames tell of block k
+-- what all these frames say of block k
 abbrev pub block_at : Layout → List Frame → ℕ → Table
 block_at layout frames k = joined (map (told_of layout k) frames)
 
@@ -26,7 +26,7 @@ pub length-assembled : (layout : Layout) (frames : List Frame) → length (assem
 unfolding assembled
 length-assembled layout frames = length-map-range_with_len (block_at layout frames) 0 (length (plan_of layout DataOnly))
 
--- and block k is the join of what all frames tell of it
+-- and block k is the join of what all frames say of it
 pub assembled-at : (layout : Layout) (frames : List Frame) (k : ℕ) (d : Table) → k < length (plan_of layout DataOnly)
     → get_or (assembled layout frames) k d ≡ block_at layout frames k
 unfolding assembled
@@ -36,7 +36,7 @@ assembled-at layout frames k d within = get_or-map-range_with_len (block_at layo
 abbrev told_by : ℕ → Frame → Option ℕ → Table
 told_by k frame place = option_map_or (table_for k frame) place unseen
 
--- what a frame tells of a block depends on the frame's home alone
+-- what a frame says of a block depends on the frame's home alone
 told-by : (layout : Layout) (k : ℕ) (frame : Frame) → told_of layout k frame ≡ told_by k frame (home layout frame)
 unfolding told_of
 told-by layout k frame = refl
@@ -50,7 +50,7 @@ settled-by : (layout : Layout) (tables : List Table) (frame : Frame) → settled
 unfolding settled
 settled-by layout tables frame = refl
 
--- what a frame tells of a block has 208 rows, by the home
+-- what a frame says of a block has 208 rows, by the home
 length-told_by : (k : ℕ) (frame : Frame) (place : Option ℕ) → length (told_by k frame place) ≡ 208
 length-told_by k frame None = length-unseen
 length-told_by k frame (Some n) = by_block (eqb_tells (n / 16) k)
@@ -72,7 +72,7 @@ length-settled_by : (tables : List Table) (frame : Frame) (place : Option ℕ) �
 length-settled_by tables frame None = refl
 length-settled_by tables frame (Some n) = length-set tables (n / 16) (with_frame (n % 16) frame (get_or tables (n / 16) unseen))
 
--- each block is joined with what the frame tells of it
+-- each block is joined with what the frame says of it
 settled-at : (tables : List Table) (frame : Frame) (place : Option ℕ) (k : ℕ) → k < length tables → IsShaped (get_or tables k unseen)
     → get_or (settled_by tables frame place) k unseen ≡ join_tables (get_or tables k unseen) (told_by k frame place)
 settled-at tables frame None k within shape = sym (join_none (get_or tables k unseen) shape)
@@ -114,7 +114,7 @@ pub none_yet : (layout : Layout) → assembled layout [] ≡ map (λ k. unseen) 
 unfolding assembled joined
 none_yet layout = refl
 
--- the members of a list tell the members of its images
+-- where a list has the members of another, its images have those of the other's
 told_member : {A B : Type 0} (f : A → B) (xs ys : List A) → ((x : A) → Contains xs x → Contains ys x) → (y : B) → Contains (map f xs) y → Contains (map f ys) y
 told_member f [] ys same y (k, within, is) = absurd (omega (arith, within))
 told_member f (x ∷ xs) ys same y (k, within, is) =

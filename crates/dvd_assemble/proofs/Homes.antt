@@ -35,7 +35,7 @@ use Rattle.dvd_assemble.specs.Home.{block_and_frame, block_words, home_in, id_wo
 no_entries : (layout : Layout) → layout.sectors1 ≡ 0 → entries_of (second_data layout) ≡ []
 no_entries layout none = rw none refl
 
--- the data blocks of a disk of each shape are those of its first Data Zone, and behind them those of its second
+-- the data blocks of a disk of each shape are those of its first Data Zone, and after them those of its second
 plan_by : (layout : Layout) (shape : Shape) → layout.shape ≡ shape
     → flat_map entries_of (filter (λ zone. is_data zone.area) (zones_by layout shape)) ≡ entries_of (first_data layout) ++ entries_of (second_data layout)
 plan_by layout Single is = ap (λ l. entries_of (first_data layout) ++ l) (sym (no_entries layout (layout.one_layer (ap has_two_layers is))))
@@ -53,13 +53,13 @@ length-plan layout =
     ap length (data_plan layout) ∙ length-append (entries_of (first_data layout)) (entries_of (second_data layout))
     ∙ omega (arith, length-entries_of (first_data layout), length-entries_of (second_data layout))
 
--- block k of the plan stands in one of the zones
+-- block k of the plan is in one of the zones
 abbrev pub StandsAt : Layout → ℕ → BlockPlan → Type 0
 StandsAt layout k entry =
     ((entry.layer ≡ 0) × (k < blocks_of layout.sectors0) × (entry.first ≡ 0x30000 + 16 * k))
     ⊎ ((entry.layer ≡ 1) × (blocks_of layout.sectors0 ≤ k) × (entry.first ≡ second_first layout + 16 * (k - blocks_of layout.sectors0)))
 
--- each block of the plan stands in the Data Zone of its layer, at the sector number that its place tells
+-- each block of the plan is in the Data Zone of its layer, at the sector number that its place gives
 pub stands_at : (layout : Layout) (k : ℕ) (d : BlockPlan) → k < length (plan_of layout DataOnly) → StandsAt layout k (get_or (plan_of layout DataOnly) k d)
 stands_at layout k d within = by_side (cases_lt k (blocks_of layout.sectors0))
   where
@@ -144,7 +144,7 @@ same_layer a b same = sym (masked a) ∙ ap (λ n. bit_at n 24) same ∙ masked 
     masked : (n : ℕ) → bit_at (bit_and n 0x0DFFFFFF) 24 ≡ bit_at n 24
     masked n = bit_at_and n 0x0DFFFFFF 24 ∙ omega (arith, bit_at-lt n 24)
 
--- an ID word tells the sector number that it was made for
+-- an ID word has the sector number that it was made for
 word_number : (area : Area) (layer number : ℕ) (dim : Bool) → layer < 2 → number < 2 ^ 24 → id_word area layer dim number % 2 ^ 24 ≡ number
 word_number area layer number true two low = omega arith
 word_number area layer number false two low = omega arith
@@ -154,7 +154,7 @@ word_layer : (area : Area) (layer number : ℕ) (dim : Bool) → layer < 2 → n
 word_layer area layer number true two low = omega arith
 word_layer area layer number false two low = omega arith
 
--- a block of zeros, for a place behind the plan
+-- a block of zeros, for a place after those of the plan
 pub some_entry : BlockPlan
 some_entry = record { first = 0; area = DataZone; layer = 0; content = Zero }
 
@@ -172,13 +172,13 @@ IsAt layout word n = (n < length (id_words layout)) × (is_same_place word (get_
 abbrev pub first_block : Layout → ℕ → ℕ
 first_block layout word = if word / 2 ^ 24 % 2 == 0 then 0 else blocks_of layout.sectors0
 
--- what its place tells of its number
+-- what its place says of its number
 abbrev pub Sides : Layout → ℕ → ℕ → Type 0
 Sides layout word n =
     ((word / 2 ^ 24 % 2 ≡ 0) × (word % 2 ^ 24 ≡ 0x30000 + n))
     ⊎ ((word / 2 ^ 24 % 2 ≡ 1) × (16 * blocks_of layout.sectors0 ≤ n) × (word % 2 ^ 24 ≡ second_first layout + (n - 16 * blocks_of layout.sectors0)))
 
--- a frame with the place of a word is in the Data Zone of the word's layer, as far behind its first as the word says
+-- a frame with the place of a word is in the Data Zone of the word's layer, as far after its first as the word says
 pub sides : (layout : Layout) (word n : ℕ) → IsAt layout word n → Sides layout word n
 sides layout word n at = by_zone (stands_at layout k some_entry within)
   where
@@ -219,7 +219,7 @@ sides layout word n at = by_zone (stands_at layout k some_entry within)
     by_zone (inl first) = inl (layer ∙ first.0, omega (arith, number, first.2))
     by_zone (inr second) = inr (layer ∙ second.0, omega (arith, second.1), omega (arith, number, second.1, second.2))
 
--- it doesn't stand before the first block that may have it
+-- it isn't before the first block that may have it
 pub behind_first : (layout : Layout) (word n : ℕ) → IsAt layout word n → 16 * first_block layout word ≤ n
 behind_first layout word n at = by_side (sides layout word n at)
   where
@@ -227,7 +227,7 @@ behind_first layout word n at = by_side (sides layout word n at)
     by_side (inl first) = rw first.0 (omega arith)
     by_side (inr second) = rw second.0 second.1
 
--- and its sector number tells how far behind
+-- and its sector number says how far after that
 pub number_behind : (layout : Layout) (word n : ℕ) (entry : BlockPlan) → slice_get (plan_of layout DataOnly) (first_block layout word) ≡ Some entry
     → IsAt layout word n → word % 2 ^ 24 ≡ entry.first + (n - 16 * first_block layout word)
 number_behind layout word n entry stands at = by_side (sides layout word n at)
@@ -298,7 +298,8 @@ tells_place answer a b decides = by_test answer (eqb_tells (bit_and a 0x0DFFFFFF
     by_test true (inr is) iff = absurd (is.1 (iff.0 refl))
     by_test false (inr is) iff = sym is.0
 
--- The code's steps: the block `before` from which on the place is looked for, that block's entry, and the sectors behind its first.
+-- The code's steps: the block `before` from which on the place is looked for, that block's entry, and the sectors
+-- after its first.
 pub before_is : (layout : Layout) (word layer before : ℕ) → before ≡ (if layer == 0 then 0 else blocks_of layout.sectors0)
     → layer ≡ word / 2 ^ 24 % 2 → before ≡ first_block layout word
 before_is layout word layer before is layer_is = is ∙ ap (λ (l : ℕ). if l == 0 then 0 else blocks_of layout.sectors0) layer_is

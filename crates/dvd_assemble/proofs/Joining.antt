@@ -46,7 +46,7 @@ row_joined f q frame old before now frames rows part is = record {
     back : record_at at ≡ m
     back = record_at-row_at m (omega arith)
 
-    -- the row stood as it was
+    -- the row is as it was
     first : known_row before at ≡ known_row old at
     first = part.rest at (omega (arith, part.size, within)) (inr (omega (arith, back)))
 

@@ -1,4 +1,4 @@
--- Why the contracts hold: lemmas on scattered recording frames, the blocks that they name, and what they tell of these.
+-- Why the contracts hold: lemmas on scattered recording frames, the blocks that they name, and what they say of these.
 pub mod Assembling
 pub mod FirstRows
 pub mod Homes

@@ -1,4 +1,4 @@
--- Frames that were captured of mastered blocks: their homes, and what they tell.
+-- Frames that were captured of mastered blocks: their homes, and what they say.
 use Rattle.std.proofs.Common.{◌≡◌, ◌⊎◌, inl, inr, ◌∙◌, refl, sym, ap, subst, ℕ, zero, suc, ◌+◌, ◌*◌, ◌/◌, ◌%◌, ◌^◌, ◌<◌, ◌==◌, Bool, true, false, if◌then◌else◌, arith}
 use Rattle.std.proofs.Common.{◌≤◌, List, [], ◌∷◌, ◌++◌, length, map, get_or, take, replicate, All, None, Some, eq-eqb}
 use Rattle.std.specs.Prelude.{bit_and}
@@ -117,7 +117,7 @@ come_home layout k f block frame within below names captured =
     ∙ ap (λ found. option_and_then (home_in layout) found) (word_checked (word_for layout k f) word (word_for-lt layout k f within below) (names.named f below))
     ∙ own_home layout k f within below
 
--- what a row tells whose unmarked places are right
+-- what is known by a row whose unmarked places are right
 row_tells : (bytes : List ℕ) (marks : List Bool) (right : ℕ → ℕ)
     → ((j : ℕ) → j < length marks → get_or marks j false ≡ false → right j ≡ get_or bytes j 0)
     → (j : ℕ) → (get_or (zip2 seen bytes marks) j Unseen ≡ Unseen) ⊎ (get_or (zip2 seen bytes marks) j Unseen ≡ Value (right j))
@@ -130,7 +130,7 @@ row_tells (byte ∷ bytes) (mark ∷ marks) right agrees (suc j) =
 
 -- the table of a captured frame is of the block
 module _ (f : ℕ) (block : List (List ℕ)) (frame : Frame) (captured : IsCaptureOf f block frame) where
-  -- what the frame tells of row i: its own row, or nothing where the row isn't of this frame
+  -- what the frame says of row i: its own row, or nothing where the row isn't of this frame
   abbrev row_told : ℕ → List Place
   row_told i = if record_at i / 13 == f then frame_row frame (record_at i % 13) else replicate 182 Unseen
 
@@ -138,7 +138,7 @@ module _ (f : ℕ) (block : List (List ℕ)) (frame : Frame) (captured : IsCaptu
   abbrev Has : ℕ → ℕ → List Place → Type 0
   Has i j row = (get_or row j Unseen ≡ Unseen) ⊎ (get_or row j Unseen ≡ Value (place block i j))
 
-  -- each place that the frame tells of row i has the byte of the block
+  -- each place of row i of which the frame says something has the byte of the block
   row_has : (i j : ℕ) → i < 208 → Has i j (row_told i)
   row_has i j below = by_frame (eqb_tells (record_at i / 13) f)
     where
@@ -165,7 +165,7 @@ module _ (f : ℕ) (block : List (List ℕ)) (frame : Frame) (captured : IsCaptu
           inl (ap (λ (row : List Place). get_or row j Unseen)
           (get_or_past (map row_told (range_with_len 0 208)) i [] (omega (arith, past, length-map-range_with_len row_told 0 208))))
 
--- what it tells of any block
+-- what it says of any block
 told_has : (layout : Layout) (blocks : ℕ → List (List ℕ)) (k : ℕ) (frame : Frame) → AreNamed layout blocks → IsCaptured layout blocks frame
     → IsOf (blocks k) (told_of layout k frame)
 unfolding told_of
@@ -183,7 +183,7 @@ told_has layout blocks k frame named (at, f, within, below, captured) =
         (subst (λ b. IsOf (blocks b) (frame_table f frame)) block (table_has f (blocks at) frame captured)))
     by_block (inr elsewhere) = rw elsewhere.0 (is_of-unseen (blocks k))
 
--- what all of them tell of a block
+-- what all of them say of a block
 block_has : (layout : Layout) (blocks : ℕ → List (List ℕ)) (frames : List Frame) (k : ℕ) → AreNamed layout blocks → All (IsCaptured layout blocks) frames
     → IsOf (blocks k) (block_at layout frames k)
 unfolding joined

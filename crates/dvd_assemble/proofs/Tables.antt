@@ -100,7 +100,7 @@ pub joined-more : {A : Type 0} (tell : A → Table) (xs : List A) (x : A) → jo
 unfolding joined
 joined-more tell xs x = ap (fold join_tables unseen) (map-more tell xs x) ∙ fold-append join_tables unseen (map tell xs) (tell x ∷ [])
 
--- what a frame tells of its block has 208 rows
+-- what a frame says of its block has 208 rows
 pub length-frame_table : (f : ℕ) (frame : Frame) → length (frame_table f frame) ≡ 208
 unfolding frame_table
 length-frame_table f frame =

@@ -1,4 +1,5 @@
-//! A captured recording frame: thirteen rows with their marks.
+//! A captured recording frame: thirteen rows with their marks. It is read into memory of its own, since only its first
+//! row says to which block it belongs.
 ghost use Rattle.std.specs.Prelude.{◌≡◌, ◌≢◌, ℕ, ◌<◌, false, length, replicate, take};
 ghost use Rattle.coding.specs.Product.{line};
 ghost use Rattle.dvd_capture.specs.Answers.{marks_line};
@@ -22,7 +23,7 @@ const ROW: usize = 182;
 
 const BITS: usize = 23;
 
-// The bytes of a frame in the form that has most.
+// The bytes of a frame in the form that has most. A buffer of this size serves both forms.
 const MOST: usize = 13 * (ROW + BITS);
 
 /// A captured recording frame: thirteen rows of 182 bytes, and 23 bytes of mark bits for each.
@@ -73,7 +74,8 @@ impl FrameWork {
         &self.marks[q]
     }
 
-    // Joins the frame into a block as its recording frame `f`.
+    // Joins the frame into a block as its recording frame `f`. Its rows go to where the order of recording has them,
+    // the last among the rows of outer parity.
     pub(crate) fn join_into(&self, f: usize, merge: &mut Merge)
         requires { f < 16 }
         ensures { table_of merge.new ≡ with_frame f (captured self.now) (table_of merge.old) }
@@ -94,8 +96,8 @@ fn put_row(row: &mut [u8; ROW], marks: &mut RowMarks, form: Form, bytes: &[u8])
     marks.copy_from_record(form, bytes);
 }
 
-/// Reads one recording frame, by as many calls as it takes: 2,366 bytes in the plain form, 2,665 in the marked form.
-/// It is `End` where the source ended before the first, and `Short` where it ended within. One that isn't whole leaves the
+/// Reads one recording frame, by as many calls as it takes: 2,366 bytes in the plain form, 2,665 in the marked form. It
+/// is `End` where the source ended before the first, and `Short` where it ended within. One that isn't whole leaves the
 /// frame as it was. Marks of these forms break no rule (`no_rule`).
 #[tactic(auto, using(dvd_capture::proofs::FetchedCounts::cut_counts))]
 pub fn fetch_frame<S: Source>(src: &mut S, form: Form, frame: &mut FrameWork) -> FetchAnswer
@@ -110,10 +112,12 @@ pub fn fetch_frame<S: Source>(src: &mut S, form: Form, frame: &mut FrameWork) ->
 {
     let size = 13 * form.record_size();
     let mut buffer = [0; MOST];
+    // As many bytes as the form has, so that none of the next frame is read.
     let bytes = &mut buffer[..size];
     match read_whole(src, bytes) {
         Ok(count) if count < size => cut_off(count),
         Ok(_) => {
+            // Only whole frames come here, so that a cut one leaves what was there.
             frame.put(form, bytes);
             FetchAnswer::Full
         }

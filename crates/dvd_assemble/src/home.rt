@@ -1,4 +1,5 @@
-//! Where a captured recording frame belongs.
+//! Where a captured recording frame belongs. Frames come in any order, so only its own first row says it, and
+//! neighbours say nothing.
 ghost use Rattle.std.specs.Prelude.{◌≡◌, ◌+◌, ◌*◌, ◌<◌, ◌≤◌, ◌==◌, if◌then◌else◌, length, slice_index, IfSome};
 ghost use Rattle.std.specs.Option.{option_map};
 ghost use Rattle.coding.specs.Nearest.{near_of};
@@ -17,7 +18,8 @@ use dvd_layout::{Layout, Zones, id_of};
 use rs_code::Pi;
 use rs_decode::decode;
 
-/// The block of the data zone and the recording frame of it that the first row of a captured frame names, if it names one.
+/// The block of the data zone and the recording frame of it that the first row of a captured frame names, if it names
+/// one.
 pub(crate) fn home_of(layout: &Layout, frame: &FrameWork) -> Option<(u16, u8)>
     requires { length (plan_of layout.now DataOnly) ≤ 1024 }
     ensures home { result ≡ option_map block_and_frame (home layout.now (captured frame.now)) }
@@ -28,7 +30,8 @@ pub(crate) fn home_of(layout: &Layout, frame: &FrameWork) -> Option<(u16, u8)>
     home_of_id(layout, id)
 }
 
-// The ID in the codeword near a received first row, if its check is right.
+// The ID in the codeword near a received first row, if its check is right. A wrong check isn't used to correct an ID:
+// it could become that of another frame.
 fn id_in(row: &[u8; 182], marks: &RowMarks) -> Option<Id>
     ensures { result ≡ id_word_in row.now (marks_of_row marks.now) }
 {
@@ -52,7 +55,7 @@ fn codeword_near(row: &[u8; 182], marks: &RowMarks) -> Option<[u8; 182]>
     }
 }
 
-// The same for any row.
+// Likewise for any row.
 fn decoded(code: &Pi, row: &[u8; 182], marks: &RowMarks) -> Option<[u8; 182]>
     ensures { result ≡ near_of 182 10 row.now (marks_of_row marks.now) }
 {
@@ -63,9 +66,9 @@ fn decoded(code: &Pi, row: &[u8; 182], marks: &RowMarks) -> Option<[u8; 182]>
     Some(word)
 }
 
-// The block and the frame that have the place of this ID: the layer gives the first block that may have it, and the
-// sectors after that block's first one give the block. Only then is the whole ID compared with the plan's.
-// The definition looks through all frames of the zone; no other one than this can have the ID.
+// The block and the frame that have the place of this ID. The layer gives the first block that may have it, and the
+// sectors after that block's first one give the block. Only then is the whole ID compared with the plan's. The
+// definition looks through all frames of the zone; no other one than this can have the ID.
 fn home_of_id(layout: &Layout, id: Id) -> Option<(u16, u8)>
     requires { length (plan_of layout.now DataOnly) ≤ 1024 }
     ensures home { result ≡ option_map block_and_frame (home_in layout.now id) }
@@ -74,10 +77,12 @@ fn home_of_id(layout: &Layout, id: Id) -> Option<(u16, u8)>
 {
     let blocks = layout.blocks(Zones::DataOnly);
     let before = blocks_before(layout, id.layer());
+    // A disk of one layer has no block of layer 1.
     if before >= blocks {
         return None;
     }
     let first = layout.plan(Zones::DataOnly, before).first;
+    // An ID before the first sector of that block names no frame of the layer.
     let behind = id.number().checked_sub(first)?;
     let k = before + u64::from(behind / 16);
     let f = behind % 16;
@@ -99,7 +104,8 @@ fn blocks_before(layout: &Layout, layer: u8) -> u64
     }
 }
 
-// Whether frame `f` of block `k` has the place of this ID.
+// Whether frame `f` of block `k` has the place of this ID. The sector number alone isn't enough: area and layer have to
+// be right too.
 fn has_frame(layout: &Layout, k: u64, f: usize, id: Id) -> bool
     requires block { k < length (plan_of layout.now DataOnly) }
     requires frame { f < 16 }

@@ -1,5 +1,5 @@
-//! Scattered recording frames of a DVD (ECMA-267, clause 19) put in order: each is joined to the block that its own first
-//! row names, whatever frames came before it.
+//! Scattered recording frames of a DVD (ECMA-267, clause 19) put in order. Each is joined to the block that its own
+//! first row names, whatever frames came before it.
 #![tactic(auto)]
 
 mod frame; // a captured recording frame

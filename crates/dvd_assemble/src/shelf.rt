@@ -1,4 +1,5 @@
-//! The blocks of a data zone, to which recording frames are joined.
+//! The blocks of a data zone, to which recording frames are joined. All are kept until the last frame came, since that
+//! may belong to the first block.
 ghost use Rattle.std.specs.Prelude.{◌≡◌, ℕ, ◌<◌, ◌≤◌, length, replicate, slice_index_or, vec_len, IfOk};
 ghost use Rattle.std.specs.Option.{option_map};
 ghost use Rattle.dvd_layout.specs.Plan.{plan_of};
@@ -16,7 +17,8 @@ use dvd_merge::Merge;
 use dvd_ports::NoMemory;
 use std::alloc::Global;
 
-/// What scattered frames said of the blocks of a data zone, up to 1,024: 75,712 bytes for each.
+/// What scattered frames said of the blocks of a data zone, up to 1,024: 75,712 bytes for each. They hold 16,384
+/// sectors, the most that `assemble` allows.
 #[derive(Drop)]
 pub struct Shelf {
     blocks: Vec<Merge>,
@@ -27,8 +29,8 @@ pub struct Shelf {
 impl Shelf {
     ghost use Rattle.dvd_assemble.specs.Shelves.{tables_of};
 
-    /// So many blocks of which no place is seen. All memory is taken here. `NoMemory` may come at any time, and nothing is
-    /// taken then.
+    /// So many blocks of which no place is seen. All memory is taken here. `NoMemory` may come at any time, and nothing
+    /// is taken then.
     pub fn new(alloc: Global, blocks: u16) -> Result<Shelf, NoMemory>
         requires some { 0 < blocks }
         requires few { blocks ≤ 1024 }
@@ -41,8 +43,9 @@ impl Shelf {
         Ok(Shelf { blocks: merges })
     }
 
-    /// Joins a captured frame to its home, and answers that: the block, and the frame of it. Where a frame has none nothing
-    /// changes. It takes one row's decoding, and the frame's bytes.
+    /// Joins a captured frame to its home, and answers that: the block, and the frame of it. Where a frame has none
+    /// nothing changes. It takes one row's decoding, and the frame's bytes. At a wrong place a frame would spoil
+    /// another, so one without a home is put nowhere.
     pub fn settle(&mut self, layout: &Layout, frame: &FrameWork) -> Option<(u16, u8)>
         requires { length (tables_of self.old) ≡ length (plan_of layout.now DataOnly) }
         ensures home { result ≡ option_map block_and_frame (home layout.now (captured frame.now)) }

@@ -7,9 +7,9 @@ use dvd_ports::MemSource;
 use std::alloc::{AllocError, Global};
 use std::test::Fail;
 
-// First rows of recording frames of zeros, by their ID, its check, and the ten bytes of parity: frame 1 of the first block,
-// frame 15 of the last block of a disk with 32 and 16 sectors on the opposite track path, the same without b29, and the frame
-// after that block.
+// First rows of recording frames of zeros, by their ID, its check, and the ten bytes of parity: frame 1 of the first
+// block, frame 15 of the last block of a disk with 32 and 16 sectors on the opposite track path, the same without b29,
+// and the frame after that block.
 const FIRST_ROWS: [([u8; 6], [u8; 10]); 4] = [
     (
         [0x00, 0x03, 0x00, 0x01, 0x12, 0x10],
