@@ -1,4 +1,5 @@
-//! Whole blocks (ECMA-267, 18): their parity, and two passes over a captured one.
+//! Whole blocks (ECMA-267, 18): their parity, and two passes over a captured one. A capture is in the marked form, so
+//! that one call takes bytes and marks.
 ghost use Rattle.std.specs.Prelude.{◌≡◌, ◌≢◌, ◌↔◌, ◌<◌, IsTrue};
 ghost use Rattle.coding.specs.Product.{IsParityAdded, IsProduct, line};
 ghost use Rattle.coding.specs.TwoPass.{answers_of};
@@ -17,7 +18,7 @@ use dvd_ports::SliceSource;
 use dvd_read::{Fixed, two_pass};
 use std::alloc::Global;
 
-/// What two passes over a captured block came to.
+/// What two passes over a captured block came to. C sees its fields in this order, as include/dvdecc.h declares them.
 #[repr(C)]
 #[derive(Clone, Copy)]
 pub struct Report {
@@ -45,7 +46,8 @@ pub extern "C" fn dvdecc_block_is_codeword(rows: &[[u8; 182]; 208]) -> bool
     is_product(rows)
 }
 
-/// Decodes a captured block by two passes, and writes its rows in the order of the block.
+/// Decodes a captured block by two passes, and writes its rows in the order of the block. After a cause the caller's
+/// rows stay as they were.
 #[unsafe(no_mangle)]
 pub extern "C" fn dvdecc_two_pass(
     alloc: Global,
@@ -135,7 +137,7 @@ fn put_block(work: &Work, rows: &mut [[u8; 182]; 208])
     }
 }
 
-// Writes one of them.
+// Writes one of them. Byte by byte, since the found block is kept by columns.
 fn put_row(work: &Work, i: usize, row: &mut [u8; 182])
     requires stage { stage_of work.now ≡ StageFixed }
     requires row { i < 208 }

@@ -1,4 +1,5 @@
-//! The codes that detect errors: of data frames (ECMA-267, 16.2 and 16.4) and of CD-ROM sectors (ECMA-130, 14.3).
+//! The codes that detect errors: of data frames (ECMA-267, 16.2 and 16.4) and of CD-ROM sectors (ECMA-130, 14.3). Any
+//! bytes have one, so that these calls have no status.
 ghost use Rattle.std.specs.Prelude.{◌≡◌};
 ghost use Rattle.cd_sector.specs.Edc.{cd_edc_of};
 ghost use Rattle.dvd_frame.specs.Edc.{edc_of};

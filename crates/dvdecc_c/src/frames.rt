@@ -1,4 +1,5 @@
-//! Scrambling (ECMA-267, 17) and data frames (16).
+//! Scrambling (ECMA-267, 17) and data frames (16). A rule is given by its number, and one that isn't known is refused
+//! before anything is written.
 ghost use Rattle.std.specs.Prelude.{◌≡◌};
 ghost use Rattle.dvdecc_c.specs.Frames.{rule_numbered, rule_status, with_scrambling, with_frame, reading_status, with_main, with_found};
 
@@ -37,7 +38,8 @@ pub extern "C" fn dvdecc_make_frame(
     status::OK
 }
 
-/// Checks a data frame, and writes its Main Data unscrambled. Where it names another place, `found` is the ID word that it has.
+/// Checks a data frame, and writes its Main Data unscrambled. Where it names another place, `found` is the ID word that
+/// it has. After any cause Main Data stay as they were.
 #[unsafe(no_mangle)]
 pub extern "C" fn dvdecc_read_frame(
     frame: &[u8; 2064],
@@ -64,7 +66,7 @@ pub extern "C" fn dvdecc_read_frame(
     }
 }
 
-// The rule of a number.
+// The rule of a number. The numbers are those of `dvdecc_rule` in include/dvdecc.h.
 fn numbered(rule: u32) -> Option<Rule>
     ensures { result ≡ rule_numbered rule }
 {

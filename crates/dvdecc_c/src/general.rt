@@ -1,5 +1,5 @@
-//! Words of any length up to 255 with 1 to 32 parity bytes. Such a word is the end of one of 255 bytes that begins with zeros,
-//! and whose first bytes have to stay zeros.
+//! Words of any length up to 255 with 1 to 32 parity bytes. Such a word is the end of one of 255 bytes that begins with
+//! zeros, and whose first bytes have to stay zeros.
 ghost use Rattle.std.specs.Prelude.{◌≡◌, ◌≢◌, ◌↔◌, ◌+◌, ◌-◌, ◌<◌, ◌≤◌, ◌++◌, IsTrue, length, replicate, take, unwrap_or};
 ghost use Rattle.coding.specs.Nearest.{near_of};
 ghost use Rattle.coding.specs.Words.{IsEncoded};
@@ -10,7 +10,8 @@ use crate::status;
 use crate::words::{Correction, decode_word};
 use rs_code::Code;
 
-// Calls a function that has the number of parity bytes as a parameter of its type, for the number that is at hand.
+// Calls a function that has the number of parity bytes as a parameter of its type, for the number that is at hand. A
+// type can't be chosen by a number when the call comes, so all of them are compared with it in turn.
 macro_rules! by_parity {
     ($parity:ident, $call:ident, $given:tt: $($most:literal)*; $last:literal) => {{
         $(if $parity <= $most {
@@ -20,7 +21,8 @@ macro_rules! by_parity {
     }};
 }
 
-/// Sets the last bytes of a word, as many as `parity`, so that it is a codeword.
+/// Sets the last bytes of a word, as many as `parity`, so that it is a codeword. They are 1 to 32, with at least one
+/// byte before them, and at most 255 bytes in all. Else the word stays, and the status is BAD_LENGTH.
 #[unsafe(no_mangle)]
 pub extern "C" fn dvdecc_rs_parity(word: &mut [u8], parity: u32) -> u32
     ensures status { result ≡ code_status (length word.old) parity }
@@ -34,7 +36,8 @@ pub extern "C" fn dvdecc_rs_parity(word: &mut [u8], parity: u32) -> u32
     status::OK
 }
 
-/// Sets a word with as many parity bytes to the codeword near it.
+/// Sets a word with as many parity bytes to the codeword near it. Where none is near, or the lengths don't fit, word
+/// and correction stay.
 #[unsafe(no_mangle)]
 pub extern "C" fn dvdecc_rs_decode(
     word: &mut [u8],
@@ -90,7 +93,8 @@ fn decode_any(word: &mut [u8], lost: &[u8], parity: u32, correction: &mut Correc
         1 2 3 4 5 6 7 8 9 10 11 12 13 14 15 16 17 18 19 20 21 22 23 24 25 26 27 28 29 30 31; 32)
 }
 
-// Sets the parity of a word, as the end of one of 255 bytes.
+// Sets the parity of a word, as the end of one of 255 bytes. Zeros before a word change none of its values, so the
+// parity is that of the word.
 fn encode_behind_zeros<const R: usize>(word: &mut [u8], parity: u32)
     requires parity { parity ≡ R }
     requires some { 1 ≤ R }
@@ -105,7 +109,8 @@ fn encode_behind_zeros<const R: usize>(word: &mut [u8], parity: u32)
     word.copy_from_slice(&whole[front..]);
 }
 
-// Decodes a word, as the end of one of 255 bytes. A codeword near that one is near the word only where it begins with zeros.
+// Decodes a word, as the end of one of 255 bytes. A codeword near that one is near the word only where it begins with
+// zeros.
 fn decode_behind_zeros<const R: usize>(
     word: &mut [u8],
     lost: &[u8],
@@ -125,11 +130,13 @@ fn decode_behind_zeros<const R: usize>(
 {
     let front = 255 - word.len();
     let mut whole = behind_zeros(word);
+    // A copy, since the caller's correction stays where no codeword is near.
     let mut fix = *correction;
     let status = decode_word::<255, R>(&mut whole, &behind_zeros(lost), &mut fix);
     if status != status::OK {
         return status::UNCORRECTABLE;
     }
+    // A codeword that has other bytes there is none of the word's length.
     if !are_zeros(&whole[..front]) {
         return status::UNCORRECTABLE;
     }

@@ -1,9 +1,11 @@
 //! The codec as functions for C: each export does what a call of the crates below does, and its contract says so again.
 //!
-//! Nothing here is required of a caller but that memory is as include/dvdecc.h declares it: what can be tested has a status.
-//! A status is a function of the definitions, and after another status than 0 each buffer of the caller is as it was.
+//! Nothing here is required of a caller but that memory is as include/dvdecc.h declares it: what can be tested has a
+//! status. A status is a function of the definitions, and after another status than 0 each buffer of the caller is as
+//! it was.
 //!
-//! The tests are those of checks/c_library, which calls each export from C. Tests here would have the whole crate proved twice.
+//! The tests are those of checks/c_library, which calls each export from C. Tests here would have the whole crate
+//! proved twice.
 #![tactic(auto)]
 
 mod blocks; // whole blocks: their parity, and two passes over a captured one

@@ -8,7 +8,7 @@ ghost use Rattle.dvdecc_c.specs.declared.lists.Answer.{Answer};
 use crate::status;
 use crate::words::{Correction, dvdecc_row_decode, dvdecc_row_parity};
 
-/// What the decoding of one of many words came to.
+/// What the decoding of one of many words came to. C sees its fields in this order, as include/dvdecc.h declares them.
 #[repr(C)]
 #[derive(Clone, Copy)]
 pub struct Answer {
@@ -28,7 +28,8 @@ pub extern "C" fn dvdecc_rows_parity(rows: &mut [[u8; 182]])
     }
 }
 
-/// Sets each row to the codeword near it, if there is one, and answers for each.
+/// Sets each row to the codeword near it, if there is one, and answers for each. Where the three lists differ in
+/// length, nothing changes and the status is BAD_LENGTH.
 #[unsafe(no_mangle)]
 pub extern "C" fn dvdecc_rows_decode(
     rows: &mut [[u8; 182]],
@@ -42,6 +43,7 @@ pub extern "C" fn dvdecc_rows_decode(
     ensures same_rows { result ≢ 0 → rows.new ≡ rows.old }
     ensures same_answers { result ≢ 0 → answers.new ≡ answers.old }
 {
+    // All lengths are compared before the first row changes.
     if lost.len() != rows.len() || answers.len() != rows.len() {
         return status::BAD_LENGTH;
     }
@@ -67,6 +69,7 @@ fn decode_one(row: &mut [u8; 182], lost: &[u8; 182]) -> Answer
     ensures row { row.new ≡ row_decoded row.old lost.now }
     ensures answer { result ≡ answer_to row.old lost.now }
 {
+    // Where no codeword is near the call for one row leaves these zeros.
     let mut correction = Correction {
         errors: 0,
         erasures: 0,

@@ -1,4 +1,5 @@
-//! Captured blocks (ECMA-267, 16 to 18): their sixteen sectors, and what is salvaged of them.
+//! Captured blocks (ECMA-267, 16 to 18): their sixteen sectors, and what is salvaged of them. Each call takes the
+//! memory of one block and gives it back: no call hands out an object.
 ghost use Rattle.std.specs.Prelude.{◌≡◌, ◌≢◌, Ok, Err};
 ghost use Rattle.coding.specs.TwoPass.{answers_of};
 ghost use Rattle.dvd_capture.specs.Captured.{captured_marks, captured_rows};
@@ -25,7 +26,8 @@ use std::alloc::Global;
 /// The most that the first sector number of a block may be: its sixteen have 24 bits.
 const LAST_FIRST: u32 = (1 << 24) - 16;
 
-/// Decodes a captured block, checks its sixteen data frames, and writes its sectors. `id` names the first frame.
+/// Decodes a captured block, checks its sixteen data frames, and writes its sectors. `id` names the first frame, and
+/// `rule` is that of the first frame. Only a block that is right gives its sectors.
 #[unsafe(no_mangle)]
 pub extern "C" fn dvdecc_read_block(
     alloc: Global,
@@ -42,6 +44,7 @@ pub extern "C" fn dvdecc_read_block(
     ensures same_report { result ≡ 2 → report.new ≡ report.old }
     ensures asked { result ≡ 2 → asked_status (asked_block id rule) ≡ 0 }
 {
+    // What can be refused without memory is refused first.
     let plan = match plan_of(id, rule) {
         Ok(plan) => plan,
         Err(status) => return status,
@@ -53,8 +56,8 @@ pub extern "C" fn dvdecc_read_block(
     read_received(&mut work, &plan, sectors, report)
 }
 
-/// Writes the sectors of a captured block whose data frames can be known to be right, and zeros for the others. `id` names
-/// the first frame. A byte of `saved` is 1 where the frame is salvaged, else 0.
+/// Writes the sectors of a captured block whose data frames can be known to be right, and zeros for the others. `id`
+/// names the first frame. A byte of `saved` is 1 where the frame is salvaged, else 0.
 #[unsafe(no_mangle)]
 pub extern "C" fn dvdecc_salvage_block(
     alloc: Global,
@@ -88,6 +91,7 @@ fn plan_of(id: u32, rule: u32) -> Result<BlockPlan, u32>
     ensures asked { result ≡ asked_block id rule }
     ensures numbers { HasAsked result }
 {
+    // A block has one of two rules: all of its frames are scrambled, or the first 160 bytes of the first frame alone.
     let content = match rule {
         0 => Content::Zero,
         2 => Content::Reference,
@@ -145,7 +149,7 @@ fn salvage_received(
     salvage_each(work, plan, sectors, saved);
 }
 
-// Salvages each frame of a block whose rows are answered.
+// Salvages each frame of a block whose rows are answered. Each by itself: a wrong frame costs no other.
 fn salvage_each(work: &Work, plan: &BlockPlan, sectors: &mut [[u8; 2048]; 16], saved: &mut [u8; 16])
     requires stage { HasAnswers (stage_of work.now) }
     requires numbers { HasNumbers plan.now }
@@ -157,7 +161,8 @@ fn salvage_each(work: &Work, plan: &BlockPlan, sectors: &mut [[u8; 2048]; 16], s
     }
 }
 
-// Writes the sixteen sectors.
+// Writes the sixteen sectors. They are copied only once the block is right, so that a refused one leaves the caller's
+// buffer.
 fn put_sectors(work: &Work, sectors: &mut [[u8; 2048]; 16])
     ensures { sectors.new ≡ sectors_of work.now }
 {

@@ -1,4 +1,5 @@
-//! CD-ROM sectors of Mode 1 (ECMA-130, 14).
+//! CD-ROM sectors of Mode 1 (ECMA-130, 14). An address is tested first: two digits of the header have its minute, so
+//! there is none beyond 99.
 ghost use Rattle.std.specs.Prelude.{◌≡◌, ◌<◌, ◌≤◌, ◌≢◌, drop};
 ghost use Rattle.coding.specs.Distance.{distance};
 ghost use Rattle.cd_sector.specs.Repair.{repaired};
@@ -11,7 +12,8 @@ use cd_sector::CdCause;
 /// Addresses are below this one, which has minute 100.
 const ADDRESSES: u32 = 450_000;
 
-/// Writes the sector of an address: sync, header, mode, user data, EDC, eight zeros, P and Q parity.
+/// Writes the sector of an address: sync, header, mode, user data, EDC, eight zeros, P and Q parity. From address
+/// 450,000 on the sector stays.
 #[unsafe(no_mangle)]
 pub extern "C" fn dvdecc_cd_make(address: u32, user: &[u8; 2048], sector: &mut [u8; 2352]) -> u32
     ensures status { result ≡ address_status address }
@@ -41,8 +43,8 @@ pub extern "C" fn dvdecc_cd_check(sector: &[u8; 2352], address: u32, number: &mu
     }
 }
 
-/// Repairs a sector that was read. Where it is right then, `number` is how many bytes after the sync changed. Else the sector is
-/// as it was, and `number` is the word, the mode or the address that is still wrong.
+/// Repairs a sector that was read. Where it is right then, `number` is how many bytes after the sync changed. Else the
+/// sector is as it was, and `number` is the word, the mode or the address that is still wrong.
 #[unsafe(no_mangle)]
 pub extern "C" fn dvdecc_cd_repair(sector: &mut [u8; 2352], address: u32, number: &mut u32) -> u32
     ensures refused { 450000 ≤ address → result ≡ 4 }
@@ -64,7 +66,7 @@ pub extern "C" fn dvdecc_cd_repair(sector: &mut [u8; 2352], address: u32, number
     }
 }
 
-// The status of a cause, and its number where it has one.
+// The status of a cause, and its number where it has one. A wrong EDC has no number, and leaves the caller's.
 fn told(cause: CdCause, number: &mut u32) -> u32
     ensures told { answered result number.new ≡ Some (Some cause) }
     ensures number { number.new ≡ with_number result number.new number.old }

@@ -1,4 +1,5 @@
-//! Rows and columns of a block (ECMA-267, 18): their parity, whether they are codewords, and their decoding.
+//! Rows and columns of a block (ECMA-267, 18): their parity, whether they are codewords, and their decoding. Lost
+//! places are bytes, 0 where a place isn't lost, since C may write any byte.
 ghost use Rattle.std.specs.Prelude.{◌≡◌, ◌<◌, ◌≤◌, ◌↔◌, IsTrue, take, unwrap_or};
 ghost use Rattle.coding.specs.Words.{IsCodeword, IsEncoded};
 ghost use Rattle.coding.specs.Nearest.{near_of};
@@ -8,7 +9,7 @@ use crate::status;
 use rs_code::{Code, Pi, Po};
 use rs_decode::decode;
 
-/// What the decoding of a word corrected.
+/// What the decoding of a word corrected. C sees its fields in this order, as include/dvdecc.h declares them.
 #[repr(C)]
 #[derive(Clone, Copy)]
 pub struct Correction {
@@ -34,7 +35,8 @@ pub extern "C" fn dvdecc_row_is_codeword(row: &[u8; 182]) -> bool
     Pi::new().is_codeword(row)
 }
 
-/// Sets a row to the codeword near it.
+/// Sets a row to the codeword near it. Each byte of `lost` but 0 marks its place. Where none is near, row and
+/// correction stay.
 #[unsafe(no_mangle)]
 pub extern "C" fn dvdecc_row_decode(
     row: &mut [u8; 182],
@@ -65,7 +67,8 @@ pub extern "C" fn dvdecc_column_is_codeword(column: &[u8; 208]) -> bool
     Po::new().is_codeword(column)
 }
 
-/// Sets a column to the codeword near it.
+/// Sets a column to the codeword near it. Each byte of `lost` but 0 marks its place. Where none is near, column and
+/// correction stay.
 #[unsafe(no_mangle)]
 pub extern "C" fn dvdecc_column_decode(
     column: &mut [u8; 208],
@@ -80,7 +83,8 @@ pub extern "C" fn dvdecc_column_decode(
     decode_word::<208, 16>(column, lost, correction)
 }
 
-// Sets a word to the codeword near it.
+// Sets a word to the codeword near it. The lengths of a code are parameters of its type. Where none is near, word and
+// correction stay.
 pub(crate) fn decode_word<const N: usize, const R: usize>(
     word: &mut [u8; N],
     lost: &[u8; N],
@@ -106,7 +110,7 @@ pub(crate) fn decode_word<const N: usize, const R: usize>(
     }
 }
 
-// The marks of a word. C writes bytes, since one that is neither 0 nor 1 isn't a `bool`.
+// The marks of a word. A byte that is neither 0 nor 1 is no `bool`, so each but 0 marks its place.
 fn marks_of<const N: usize>(lost: &[u8; N]) -> [bool; N]
     ensures { result ≡ lost_marks lost.now }
 {

@@ -50,7 +50,7 @@ refused-front k n r word lost whole whole_lost full sum size lost_size is lost_i
     full_is ∙ ap (λ near. unwrap_or near whole) (longer k n r word lost whole whole_lost sum is lost_is ∙ there) in
     front (ap (take k) full_ends ∙ take_at (replicate {A = ℕ} k 0) other k (length-replicate {A = ℕ} k 0)))
 
--- what is told of the longer word is told of the word
+-- what is reported of the longer word is reported of the word
 told-front : (k n r : ℕ) (word lost whole whole_lost full : List ℕ) (before : Correction) → 255 ≡ k + n → length word ≡ n → length lost ≡ n
     → whole ≡ zeros_and k word → whole_lost ≡ zeros_and k lost
     → word_status (near_of 255 r whole (lost_marks whole_lost)) ≡ 0 → full ≡ unwrap_or (near_of 255 r whole (lost_marks whole_lost)) whole
