@@ -31,7 +31,7 @@ use Rattle.dvd_commands.proofs.BorneBlocks.{RepairsBy, repaired, repaired_deep}
 use Rattle.dvd_commands.proofs.ForRuns.{deep_total, loops_keep_good, recover_total}
 use Rattle.dvd_commands.proofs.BlockUnits.{has_unit, length-part, part_there}
 
--- what may be done for a block that is borne, where damage within the bound is repaired
+-- what may be done for a block within the bound, where such damage is repaired
 alone : (Performs : Layout → Zones → Form → ℕ → List ℕ → List Step → UnitKind → Type 0) → RepairsBy Performs
     → (layout : Layout) (zones : Zones) (form : Form) (bytes cpr image : List ℕ) (k : ℕ) (entry : BlockPlan)
     → IsBorneBlock layout zones form bytes cpr image k entry
@@ -42,13 +42,13 @@ alone Performs repairs layout zones form bytes cpr image k entry b steps kind do
     repairs layout zones form cpr k entry (image_part layout entry image) (block_bytes form bytes k) m.block steps kind m.stands m.is_image m.cpr_size
     (length-part layout entry.content image m.image_size) m.is_block (block-whole form bytes (k + 1) m.whole k (omega arith)) b.within does
 
--- Units that are the captured blocks of a plan, and write the image bytes that stand in each.
+-- Units that are the captured blocks of a plan, and write the image bytes that each holds.
 module _ (layout : Layout) (zones : Zones) (form : Form) (May : ℕ → List ℕ → List Step → UnitKind → Type 0)
     (wide : (k : ℕ) (own : List ℕ) (steps : List Step) (kind : UnitKind) → May k own steps kind → IsWide (bytes_of_block layout zones k) steps kind) where
-  -- Where its image sectors alone may be written of a block that is borne, they stand at their place.
+  -- Where its image sectors alone may be written of a block within the bound, they are at their place.
   module _ (cpr image : List ℕ) (bytes : List ℕ) (k : ℕ) (entry : BlockPlan) (b : IsBorneBlock layout zones form bytes cpr image k entry)
       (alone : (steps : List Step) (kind : UnitKind) → May k (block_bytes form bytes k) steps kind → (steps ≡ Write (image_part layout entry image) ∷ []) × (kind ≡ Good)) where
-    -- in a run that no fault ended, the image sectors of the block are written where they stand in the image
+    -- in a run that no fault ended, the image sectors of the block are written where they are in the image
     at_place : (a : Outcome) → IsOutcome (block_units layout zones form May) bytes a → IsFaultless a.end
         → take (image_bytes layout entry) (drop (2048 * image_from entry.content) a.out) ≡ image_part layout entry image
     at_place a runs none =
@@ -58,7 +58,7 @@ module _ (layout : Layout) (zones : Zones) (form : Form) (May : ℕ → List ℕ
         part_there (2048 * image_from entry.content) (image_bytes layout entry) t.before (image_part layout entry image) a.out t.size
         (length-part layout entry.content image m.image_size) (subst (λ s. IsFrontOf (t.before ++ written s) a.out) back.0 t.out)
 
--- The bound is kept by units that write, of a block that is borne, its image sectors alone.
+-- The bound is kept by units that write, of a block within the bound, its image sectors alone.
 units_keep : (settings : Settings) (command : Command) (layout : Layout) → IsLayoutOf settings layout
     → ((k : ℕ) (own : List ℕ) (steps : List Step) (kind : UnitKind) → IsRescued command layout settings.zones settings.form k own steps kind → IsWide (bytes_of_block layout settings.zones k) steps kind)
     → AreTotal (block_units layout settings.zones settings.form (IsRescued command layout settings.zones settings.form))
@@ -96,7 +96,7 @@ kept_by settings bytes loop (inr is) goes =
     units_keep settings Deep layout is_layout (deepened-wide layout settings.zones settings.form) (deep_total layout settings.zones settings.form)
     (alone IsDeepened repaired_deep layout settings.zones settings.form) is bytes loop runs
 
--- the law: a loop over the blocks gives back the image sectors of each block that is borne
+-- the law: a loop over the blocks gives back the image sectors of each block within the bound
 pub loops_keep : LoopsKeepTheBound
 loops_keep = kept_by
 

@@ -103,7 +103,7 @@ module _ (layout : Layout) (zones : Zones) (form : Form) (has : HasSize form) (o
     unit : List ℕ
     unit = t.unit.does.unit
 
-    -- it stands before what is written of the blocks to come
+    -- it comes before what is written of the blocks to come
     out_is : c.out ≡ unit ++ t.after.out
     unfolding unit
     out_is =

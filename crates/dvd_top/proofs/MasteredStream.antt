@@ -106,7 +106,7 @@ record IsRecorded (layout : Layout) (zones : Zones) (cpr : List ℕ) (k : ℕ) (
   is_block : IsBlockOf (frames_of layout entry cpr (filled_block own)) block
   writes : out ≡ recording block
 
--- what mastering does for a block records it, and tells nothing
+-- what mastering does for a block records it, and reports nothing
 recorded : (layout : Layout) (zones : Zones) (cpr : List ℕ) (k : ℕ) (own : List ℕ) (steps : List Step) (kind : UnitKind)
     → IsMastered layout zones cpr k own steps kind
     → IsRecorded layout zones cpr k own (written steps) × (told steps ≡ [])
@@ -132,7 +132,7 @@ masters_good layout zones cpr = record {
   asks = refl;
 }
 
--- nothing is told where nothing is told for each
+-- nothing is reported where nothing is reported for each
 none_told : (ks : List ℕ) → flat_map (λ (k : ℕ). let none : List ℕ = [] in none) ks ≡ []
 none_told [] = refl
 none_told (k ∷ ks) = none_told ks
@@ -216,7 +216,7 @@ module _ (layout : Layout) (zones : Zones) (cpr image : List ℕ) (image_size : 
       each = recorded-block;
     }
 
-    -- and nothing was told
+    -- and nothing was reported
     silent-all : mastered.lines ≡ []
     silent-all =
         pieces.lines_are ∙ same_pieces pieces.lines (λ (k : ℕ). let none : List ℕ = [] in none) 0 count (λ k le lt. (pieces.each k le lt).1)

@@ -15,7 +15,7 @@ goes_on_as Good A B to after goes = to after goes
 goes_on_as Bad A B to after goes = to after goes
 goes_on_as Last A B to after goes = goes
 
--- the bytes behind those of the units before
+-- the bytes after those of the units before
 pub own_is : (all front own left : List ℕ) (a n : ℕ) → all ≡ (front ++ own) ++ left → length front ≡ a → length own ≡ n → own ≡ take n (drop a all)
 own_is all front own left a n is at size =
     sym (part-behind front own a n at size)
@@ -23,11 +23,11 @@ own_is all front own left a n is at size =
     ∙ ap (λ l. take n (drop a l)) (sym is)
 
 module _ (units : Units) (size : ℕ → ℕ) (begins : (k : ℕ) (bytes : List ℕ) → units.begins k bytes ≡ sized (size k) bytes) (all : List ℕ) where
-  -- the units, whose bytes are those that stand at their places
+  -- the units, whose bytes are those at their places
   abbrev pub only_these : Units
   only_these = record units { does = λ k before own steps kind. units.does k before own steps kind × (own ≡ take (size k) (drop (start size k) all)) }
 
-  -- a run behind some of the units, over what is left of the bytes, is one of units that may have no others
+  -- a run after some of the units, over what is left of the bytes, is one of units that may have no others
   goes_only : (n : ℕ) (before : List (List ℕ)) (bad : ℕ) (front left : List ℕ) (a : Outcome) → all ≡ front ++ left
       → length front ≡ start size (length before)
       → Continues units n before bad left a → Continues only_these n before bad left a

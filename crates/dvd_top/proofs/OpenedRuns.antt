@@ -29,7 +29,7 @@ use Rattle.dvd_commands.proofs.ForRuns.{breaks_once, breaks_or_states, header-si
 pub same_as : (a b : Outcome) → a ≡ b → AreSame a b
 same_as a b is = (ap (λ (o : Outcome). o.out) is, ap (λ (o : Outcome). o.lines) is, ap (λ (o : Outcome). o.end) is, λ not. ap (λ (o : Outcome). o.taken) is)
 
--- outcomes that are the same are so behind the same bytes
+-- outcomes that are the same are so after the same bytes
 same_onto : (own : List ℕ) (a b x y : Outcome) → a ≡ taking own x → b ≡ taking own y → AreSame x y → AreSame a b
 same_onto own a b x y is so same =
     subst (λ o. AreSame o b) (sym is) (subst (AreSame (taking own x)) (sym so) (same.0, same.1, same.2, λ not. ap (λ l. own ++ l) (same.3 not)))
@@ -53,7 +53,7 @@ record OpensBad (settings : Settings) (bytes : List ℕ) (a : Outcome) : Type 0 
   breaks : BreaksHeader settings own at
   is : a ≡ taking own (ended (BadHeader at))
 
--- or there is a run over the blocks behind it
+-- or there is a run over the blocks after it
 record OpensOnto (Loops : Runs) (settings : Settings) (bytes : List ℕ) (a : Outcome) : Type 0 where
   own : List ℕ
   left : List ℕ
@@ -100,7 +100,7 @@ opened_as Loops settings bytes a o none =
 too_few : (bytes own left : List ℕ) → length bytes < 32 → bytes ≡ own ++ left → length own ≡ 32 → ⊥
 too_few bytes own left fewer front full = omega (arith, fewer, ap length front, length-append own left, full)
 
--- What is done is determined, where it is so behind the header.
+-- What is done is determined, where it is so after the header.
 module _ (Loops : Runs)
     (once : (stated : Settings) (left : List ℕ) → RunsOnce (Loops stated left))
     (settings : Settings) (bytes : List ℕ) (a b : Outcome) (none : IsFaultless a.end) (other : IsFaultless b.end) where
@@ -111,7 +111,7 @@ module _ (Loops : Runs)
       let at = breaks_once settings q.own p.at q.at (subst (λ l. BreaksHeader settings l p.at) own p.breaks) q.breaks in
       same_as a b (p.is ∙ ap (λ l. taking l (ended (BadHeader p.at))) own ∙ ap (λ n. taking q.own (ended (BadHeader n))) at ∙ sym q.is)
 
-  -- two runs behind a header are over the same bytes by the same settings
+  -- two runs after a header are over the same bytes by the same settings
   both_onto : OpensOnto Loops settings bytes a → OpensOnto Loops settings bytes b → AreSame a b
   both_onto p q =
       let own = same_front p.own q.own p.left q.left (sym p.front ∙ q.front) (p.full ∙ sym q.full) in
@@ -153,7 +153,7 @@ module _ (Loops : Runs)
   opens_once Marked p q = once settings bytes a b p q none other
   opens_once Listed p q = opened_once p q
 
--- the words' command stands in the settings that a header states
+-- the words' command is in the settings that a header states
 pub stated-command : (settings stated : Settings) (own : List ℕ) → IsHeaderOf settings stated own → stated.command ≡ settings.command
 stated-command settings stated own is = ap (λ (s : Settings). s.command) is.states.all
 
@@ -196,7 +196,7 @@ after_header Loops Keeps loop Listed settings bytes law o = λ own left stated a
           law stated left after (stated-command settings stated own header) (subst (Loops stated left) whole goes)
     ]
 
--- AFTER A FAILED READ all is as if the input had ended there, where it is so behind the header.
+-- AFTER A FAILED READ all is as if the input had ended there, where it is so after the header.
 abbrev pub IsAsEnded : Runs → Settings → Outcome → Type 0
 IsAsEnded Loops settings a = (b : Outcome) × Loops settings a.taken b × IsFaultless b.end × (b.taken ≡ a.taken) × (b.out ≡ a.out) × (b.lines ≡ a.lines)
 
@@ -243,14 +243,14 @@ module _ (Loops : Runs) (there : (stated : Settings) (left : List ℕ) (a : Outc
   opens_there Marked opens = there settings bytes a opens failed
   opens_there Listed opens = opened_there opens
 
--- SOMETHING IS DONE, where it is so behind the header. Some shape has each number below 3.
+-- SOMETHING IS DONE, where it is so after the header. Some shape has each number below 3.
 shape_of : (n : ℕ) → n < 3 → (shape : Shape) × (shape_number shape ≡ n)
 shape_of zero below = (Single, refl)
 shape_of (suc zero) below = (Parallel, refl)
 shape_of (suc (suc zero)) below = (Opposite, refl)
 shape_of (suc (suc (suc n))) below = absurd (omega (arith, below))
 
--- the first of n bytes that may not stand, or all may
+-- the first of n bytes that a header can't have at its place, or it can have all
 first_or_none : (own : List ℕ) (n : ℕ) → n ≤ 32
     → ((at : ℕ) × IsFirstWrongByte own at) ⊎ ((place : ℕ) → place < n → may_stand place (slice_index own place) ≡ true)
 first_or_none own zero within = inr (λ place below. absurd (omega (arith, below)))
@@ -286,7 +286,7 @@ module _ (own : List ℕ) (size : length own ≡ 32) (are : All IsByte own) (may
       number-small (slice_index own k) (slice_index own (k + 1)) (slice_index own (k + 2)) (slice_index own (k + 3))
       (small k (omega (arith, within))) (small (k + 1) (omega (arith, within))) (small (k + 2) (omega (arith, within))) (small (k + 3) (omega (arith, within)))
 
-  -- 32 bytes that may all stand are those of a header
+  -- 32 bytes that a header can have at their places are those of a header
   abbrev the_header : Header
   the_header = record {
     shape = slice_index own 8;
@@ -322,7 +322,7 @@ module _ (own : List ℕ) (size : length own ≡ 32) (are : All IsByte own) (may
 
 module _ (Loops : Runs) (settings : Settings) (bytes : List ℕ) (are : All IsByte bytes)
     (some : (stated : Settings) (left : List ℕ) → All IsByte left → (own : List ℕ) → IsHeaderOf settings stated own → broken_rule stated ≡ None → Exists (Loops stated left)) where
-  -- behind a header the run is that over the blocks, or a rule of layouts is broken
+  -- after a header the run is that over the blocks, or a rule of layouts is broken
   onto_exists : (own left : List ℕ) → bytes ≡ own ++ left → length own ≡ 32 → All IsByte left → (stated : Settings)
       → IsHeaderOf settings stated own
       → (broken : Option LayoutFault) → broken_rule stated ≡ broken → Exists (IsOpened Loops settings bytes)

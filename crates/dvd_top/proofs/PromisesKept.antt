@@ -64,11 +64,11 @@ module _ (settings : Settings) (old new : Streams) (result : Status) (run : IsRu
       let is : bytes ≡ run.bytes = subst (λ b. IsTold b run.bytes) known run.told in
       in_words settings.form settings bytes run.loop plain (subst (λ b. IsLoop settings b run.loop) (sym is) run.is_loop)
 
-  -- its closing line is told whole
+  -- its closing line is reported whole
   closed : run.line.lines ≡ closing_line settings.command run.loop.end
   closed = ap (λ (o : Outcome). o.lines) (closes_is (closing_line settings.command) run.loop.end run.line run.closes (λ is. subst IsFaultless is (run.complete none).0))
 
-  -- where the loop is done, `done` is reported behind its lines
+  -- where the loop is done, `done` is reported after its lines
   done-moved : (taken out : List ℕ) → run.loop ≡ record { taken = taken; out = out; lines = []; end = Done }
       → (result ≡ status.Done) × HaveMoved old new taken out (codes "done\n")
   done-moved taken out all =
@@ -140,7 +140,7 @@ run_gives settings old new result run layout cpr image stream is plain is_layout
     (subst (λ f. IsOutcome (recover_units layout settings.zones f) stream run.loop) plain over) (faultless settings old new result run stream known none) in
     inr (done-moved settings old new result run stream known none stream image back)
 
--- A line that no failed call cut is told, and its status is the wanted one.
+-- A line that no failed call cut is reported, and its status is the wanted one.
 pub reported : (wanted : Status) (line : List ℕ) (old new : Seen) (result : Status) → Reports wanted line old new result → (Rose old.faults new.faults → ⊥)
     → result ≡ wanted
 reported wanted line old new result reports none = elim reports [

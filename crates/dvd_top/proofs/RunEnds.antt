@@ -24,7 +24,7 @@ use Rattle.dvd_top.specs.declared.status.Status.TheVariants as status
 use Rattle.dvd_top.proofs.MasteredStream.{outcome_is}
 use Rattle.dvd_top.proofs.OpenedRuns.{IsAsEnded, opens_there}
 
--- a closing line behind which the end isn't a fault of the report was told whole
+-- a closing line after which the end isn't a fault of the report was reported whole
 line_is : (closing : LoopEnd → List ℕ) (end : LoopEnd) (line : Outcome) → Performs (Tell (closing end) ∷ []) (λ after. after ≡ ended end) line
     → line.end ≢ ReportFault
     → line ≡ record { taken = []; out = []; lines = closing end; end = end }
@@ -35,7 +35,7 @@ line_is closing end line does sound = elim does [
       ∙ ap (λ l. record { taken = []; out = []; lines = l; end = end }) (append-nil (closing end))
 ]
 
--- so it is behind any loop
+-- so it is after any loop
 pub closes_is : (closing : LoopEnd → List ℕ) (within : LoopEnd) (line : Outcome) → Closes closing within line → line.end ≢ ReportFault
     → line ≡ record { taken = []; out = []; lines = closing within; end = within }
 closes_is closing ReportFault line is sound = absurd (sound (ap (λ (o : Outcome). o.end) is))

@@ -26,7 +26,7 @@ goes_some settings = (facts_of settings.command).some settings
 
 module _ (settings : Settings) (bytes : List ℕ) (six : HasBytes 6 settings.cpr) (are : All IsByte bytes)
     (addresses : settings.command ≡ command.CdMake → HasAddresses settings × (settings.form ≡ Plain)) where
-  -- behind the header of a listed capture
+  -- after the header of a listed capture
   stated_some : settings.form ≡ Listed → (stated : Settings) (left : List ℕ) → All IsByte left → (own : List ℕ) → IsHeaderOf settings stated own
       → broken_rule stated ≡ None → Exists (GoesOver stated left)
   stated_some listed stated left rest own header none =
@@ -35,7 +35,7 @@ module _ (settings : Settings) (bytes : List ℕ) (six : HasBytes 6 settings.cpr
       goes_some stated left (subst (HasBytes 6) (sym cpr) six) rest ((facts_of stated.command).lawful stated none)
       (λ is. absurd (not_made settings.form settings.command listed (λ so. (addresses so).1) (sym same ∙ is)))
 
-  -- so every form has one: over the blocks of a plain or a marked stream, and behind the header of a listed one
+  -- so every form has one: over the blocks of a plain or a marked stream, and after the header of a listed one
   by_form : (form : Form) → settings.form ≡ form → breaks_in form settings ≡ None → Exists (Opens form GoesOver settings bytes)
   by_form Plain is none = goes_some settings bytes six are none (λ so. (addresses so).0)
   by_form Marked is none = goes_some settings bytes six are none (λ so. (addresses so).0)

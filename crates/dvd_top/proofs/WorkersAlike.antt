@@ -56,7 +56,7 @@ module _ (workers : ℕ) where
   loop_with : (settings : Settings) (bytes : List ℕ) (outcome : Outcome) → IsLoop settings bytes outcome → IsLoop (set_workers workers settings) bytes outcome
   loop_with settings = opens_with settings.form settings
 
-  -- a CD-ROM sector whose damage is borne is one of theirs
+  -- a CD-ROM sector whose damage can be corrected is one of theirs
   sector_back : {settings : Settings} {bytes user : List ℕ} {k : ℕ} → IsBorneSector (set_workers workers settings) bytes user k → IsBorneSector settings bytes user k
   sector_back b = record {
     asked = b.asked;

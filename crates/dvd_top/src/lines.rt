@@ -1,4 +1,5 @@
-//! The closing lines of the report.
+//! The closing lines of the report, and the line of a layout that is refused. Each is put together first, so that it
+//! goes out as one piece.
 ghost use Rattle.std.specs.Prelude.{◌≡◌, ◌+◌, ◌<◌, ◌≤◌, ◌++◌, length, decimal};
 ghost use Rattle.dvd_top.specs.Lines.{closing_line, setting_line, fault_text, unit_name};
 
@@ -16,6 +17,7 @@ pub fn close_line(command: Command, end: LoopEnd) -> Line
         LoopEnd::Done => line.put(b"done\n"),
         LoopEnd::ReadFault => line.put(b"read fault\n"),
         LoopEnd::WriteFault => line.put(b"write fault\n"),
+        // Nothing is tried again: a report that failed gets no line more.
         LoopEnd::ReportFault => {}
         LoopEnd::Short { unit, bytes } => {
             line.put(b"short: ");
@@ -67,8 +69,8 @@ pub fn refused_line(fault: LayoutFault) -> Line
     line
 }
 
-// Puts the rule that is broken, after `setting: `, with its number in decimal: a layer, 0 or 1, sectors, blocks of a
-// zone, or the sector number after a layer.
+// Puts the rule that is broken, after `setting: `, with its number in decimal. That is a layer, 0 or 1, a number of
+// sectors, of blocks of a zone, or the sector number after a layer.
 fn put_fault(line: &mut Line, fault: LayoutFault)
     requires { length line.old ≡ 9 }
     ensures items { line.new ≡ line.old ++ fault_text fault }
@@ -101,6 +103,7 @@ fn put_fault(line: &mut Line, fault: LayoutFault)
     }
 }
 
+// What a unit is called in a closing line.
 fn name_of(unit: Unit) -> &'static [u8]
     ensures name { result.now ≡ unit_name unit }
     ensures short { length result.now ≤ 6 }

@@ -1,10 +1,10 @@
-//! How a run ends.
+//! How a run ends, as the number that a shell sees. Look here for which end has which number.
 ghost use Rattle.std.specs.Prelude.{◌≡◌};
 ghost use Rattle.dvd_top.specs.Statuses.{status_of};
 
 use dvd_loop::LoopEnd;
 
-/// The exit statuses of the program.
+/// The exit statuses of the program. Scripts ask for the numbers, so each keeps its meaning.
 #[derive(Clone, Copy, Debug, PartialEq, Eq)]
 pub enum Status {
     /// The command ran to its end.
@@ -61,6 +61,7 @@ impl From<LoopEnd> for Status {
             LoopEnd::Damaged { .. } => Status::Damaged,
             LoopEnd::NoControl => Status::NoControl,
             LoopEnd::BadMarks { .. } => Status::BadMarks,
+            // A header is a part of the input like a unit, and the closing line says which it was.
             LoopEnd::ShortHeader { .. } => Status::Short,
             LoopEnd::BadHeader { .. } => Status::BadHeader,
         }

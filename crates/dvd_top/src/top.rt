@@ -1,4 +1,4 @@
-//! The top call, which does all that the program does.
+//! The top call, which does all that the program does. Tests make it over memory, and `main` over the real streams.
 ghost use Rattle.std.specs.Prelude.{map, string_bytes};
 ghost use Rattle.dvd_loop.specs.Streams.{streams};
 ghost use Rattle.dvd_top.specs.Headline.{Headline, Reports};
@@ -30,6 +30,7 @@ pub fn run<R: Threads + Sync, S: Source, K: Sink, E: Sink, G: Gate>(
         (streams (S.seen src.old) (K.seen out.old) (E.seen report.old))
         (streams (S.seen src.new) (K.seen out.new) (E.seen report.new)) result }
 {
+    // What a user can put right comes first: arguments, then the layout, then memory (the last two in `perform`).
     match read(alloc, words) {
         Err(WordsFault::Usage) => refuse(Status::Usage, b"usage\n", report),
         Err(WordsFault::NoMemory) => refuse(Status::NoMemory, b"no memory\n", report),
@@ -45,7 +46,8 @@ pub fn run<R: Threads + Sync, S: Source, K: Sink, E: Sink, G: Gate>(
     }
 }
 
-// The line of a run that doesn't begin, and its status, which is `ReportFault` where the line can't be written.
+// The line of a run that doesn't begin, and its status, which is `ReportFault` where the line can't be written. Neither
+// input nor output is touched.
 fn refuse<E: Sink>(status: Status, line: &[u8], report: &mut E) -> Status
     ensures { Reports status line.now (E.seen report.old) (E.seen report.new) result }
 {
