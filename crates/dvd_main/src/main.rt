@@ -1,4 +1,5 @@
-//! The program dvdecc: it makes the real arguments and streams, and ends with the status of the run.
+//! The program dvdecc: it makes the real arguments and streams, and ends with the status of the run. All else is done
+//! by `run`, whose contract says what it does.
 #![tactic(auto)]
 
 use dvd_par::OpenGate;
@@ -25,6 +26,7 @@ fn main(rt: HostRuntime) -> ExitCode {
                 &mut report,
             )
         }
+        // No run begins, and so no line is written.
         Err(NoMemory) => Status::NoMemory,
     };
     ExitCode::from(status.number())
