@@ -1,4 +1,5 @@
-//! What a map says, as far as it was read.
+//! What a map says, as far as it was read. It goes from the line of the state to blocks, each of which begins where the
+//! one before it ended.
 ghost use Rattle.std.specs.Prelude.{◌≡◌, ◌++◌, [], ◌∷◌, Ok, OnOk, IfOk, IfErr};
 ghost use Rattle.cap_map.specs.Inner.{IsStopOf, read_of};
 ghost use Rattle.cap_map.specs.Lines.{fields_of};
@@ -32,6 +33,7 @@ impl Draft {
         ensures rule { IfErr result (IsStopOf (line_read good.now (read_of self.old) (fields_of line.now))) }
     {
         let fields = fields_of(line);
+        // A comment alone, or an empty line.
         if fields.first.is_empty() {
             return Ok(());
         }
@@ -61,12 +63,14 @@ impl Draft {
         if end < block.position {
             return Err(Stop::Rule(Cause::Gap));
         }
+        // The map says nothing of the bytes before its first block, so they aren't rescued.
         if self.spans.is_empty() && block.position > 0 {
             self.push(block.position, false)?;
         }
         self.push(block.end, is_among(good, block.status))
     }
 
+    // Adds a span. One goes on from the span before it, so only its end is kept.
     fn push(&mut self, end: u64, rescued: bool) -> Result<(), Stop>
         ensures read { OnOk result (self.new.spans.items ≡ self.old.spans.items ++ record { end = end; rescued = rescued } ∷ []) }
         ensures same { OnOk result (self.new.opened ≡ self.old.opened) }
@@ -78,7 +82,7 @@ impl Draft {
         }
     }
 
-    // The end of the last span, or this where there is none.
+    // The end of the last span, or this where there is none. So the first block begins anywhere.
     fn end_after(&self, position: u64) -> u64
         ensures { result ≡ end_after position self.now.spans.items }
     {

@@ -1,10 +1,11 @@
-//! Lines, and the fields of a line between blanks.
+//! Lines, and the fields of a line between blanks. They are slices of the text, so that no memory is taken.
 ghost use Rattle.std.specs.Prelude.{◌≡◌, ◌≤◌, ◌==◌, ◌+◌, not, length};
 ghost use Rattle.cap_map.specs.Fields.{after_field, blanks_of, field_length, first_field, is_blank, line_length, run_of, without_comment};
 ghost use Rattle.cap_map.specs.Inner.{bytes_of};
 ghost use Rattle.cap_map.specs.Lines.{fields_of};
 
-/// The first four fields of a line. Those that it doesn't have are empty.
+/// The first four fields of a line. Those that it doesn't have are empty. No line has more than three that count: the
+/// fourth shows one too many.
 #[derive(Clone, Copy, Drop)]
 pub struct FieldsOf<'a> {
     pub first: &'a [u8],
@@ -38,6 +39,7 @@ fn next_field<'a>(text: &'a [u8]) -> (&'a [u8], &'a [u8])
     text.split_at(count_others(text))
 }
 
+// How many blanks a text begins with.
 fn count_blanks(text: &[u8]) -> usize
     ensures count { result ≡ blanks_of text.now }
     ensures bound { result ≤ length text.now }
@@ -67,6 +69,7 @@ fn count_others(text: &[u8]) -> usize
     count
 }
 
+// Where the comment of a line begins, or where the line ends.
 fn comment_start(line: &[u8]) -> usize
     ensures count { result ≡ run_of (λ c. not (c == 35)) line.now }
     ensures bound { result ≤ length line.now }
@@ -82,6 +85,7 @@ pub fn line_length(text: &[u8]) -> usize
     bytes_before(text, b'\n')
 }
 
+// How many bytes come before the first that is this one: all where none is, so that the last line needs no line feed.
 fn bytes_before(text: &[u8], end: u8) -> usize
     ensures count { result ≡ run_of (λ c. not (c == end)) text.now }
     ensures bound { result ≤ length text.now }

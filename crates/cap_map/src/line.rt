@@ -1,4 +1,5 @@
-//! What one line of a map says.
+//! What one line of a map says: the state of the run of ddrescue, or a block. Whether a block fits the one before it is
+//! asked in `draft`.
 ghost use Rattle.std.specs.Prelude.{◌≡◌, ◌<◌, ◌^◌, IfOk};
 ghost use Rattle.cap_map.specs.Inner.{bytes_of};
 ghost use Rattle.cap_map.specs.Lines.{block_of, is_among, is_number, is_one_of, is_state, sized_block};
@@ -15,7 +16,8 @@ pub struct Block {
     pub status: u8,
 }
 
-/// Whether these are the fields of the state.
+/// Whether these are the fields of the state. A position, a status and perhaps a pass, which a map may lack. A run has
+/// two statuses more than a block, `F` and `G`. Nothing of it is used: it only shows that the text is a map.
 pub fn is_state(fields: &FieldsOf<'_>) -> bool
     ensures { result ≡ is_state (bytes_of fields.now) }
 {
@@ -32,7 +34,8 @@ fn is_number(field: &[u8]) -> bool
     number_of(field).is_some()
 }
 
-/// The block that these fields say, or the first rule that they break.
+/// The block that these fields say, or the first rule that they break. They are tried in the order in which `Cause` has
+/// them.
 pub fn block_of(fields: &FieldsOf<'_>) -> Result<Block, Cause>
     ensures { result ≡ block_of (bytes_of fields.now) }
 {
@@ -48,6 +51,7 @@ pub fn block_of(fields: &FieldsOf<'_>) -> Result<Block, Cause>
     sized_block(position, size, fields.third[0])
 }
 
+// The block of these numbers, if it has a byte and ends where a file can.
 fn sized_block(position: u64, size: u64, status: u8) -> Result<Block, Cause>
     requires position { position < 2 ^ 63 }
     requires size { size < 2 ^ 63 }
@@ -56,6 +60,7 @@ fn sized_block(position: u64, size: u64, status: u8) -> Result<Block, Cause>
     if size == 0 {
         return Err(Cause::Empty);
     }
+    // Both are below 2^63, so that the sum fits 64 bits.
     let end = position + size;
     if end >= 1 << 63 {
         return Err(Cause::TooLong);
@@ -67,7 +72,7 @@ fn sized_block(position: u64, size: u64, status: u8) -> Result<Block, Cause>
     })
 }
 
-// Whether a field is one of these bytes.
+// Whether a field is one of these bytes. A status is one character.
 fn is_one_of(bytes: &[u8], field: &[u8]) -> bool
     ensures { result ≡ is_one_of bytes.now field.now }
 {

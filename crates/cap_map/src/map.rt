@@ -1,4 +1,5 @@
-//! A whole map.
+//! A whole map, line by line. A line that breaks a rule ends it, since marks by a map that was half understood could be
+//! missing.
 ghost use Rattle.std.specs.Prelude.{◌≡◌, ◌+◌, drop, Ok, IfErr, IfOk};
 ghost use Rattle.cap_map.specs.Map.{IsFaultOf, map_of};
 
@@ -30,6 +31,7 @@ pub fn read_map(alloc: Global, text: &[u8], good: &[u8]) -> Result<Vec<Span>, Ma
         rest = after_line(rest, end);
         line += 1;
     }
+    // No line had a field, so the line that is missing is named.
     if !draft.opened {
         return Err(MapFault::Rule {
             line,
@@ -39,7 +41,7 @@ pub fn read_map(alloc: Global, text: &[u8], good: &[u8]) -> Result<Vec<Span>, Ma
     Ok(draft.spans)
 }
 
-// What comes after a line of that length and its line feed.
+// What comes after a line of that length and its line feed. The last line may have none.
 fn after_line<'a>(text: &'a [u8], end: usize) -> &'a [u8]
     ensures { result.now ≡ drop (end + 1) text.now }
 {

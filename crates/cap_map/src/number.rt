@@ -48,5 +48,6 @@ fn with_digit(value: u64, byte: u8, radix: u32) -> Option<u64>
     let number = value
         .checked_mul(u64::from(radix))?
         .checked_add(u64::from(digit))?;
+    // The product may fit 64 bits and still be no position.
     if number < 1 << 63 { Some(number) } else { None }
 }

@@ -1,6 +1,7 @@
 //! What a map says of the bytes of a capture.
 
-/// Bytes from the end of the span before it, or from the first byte of the capture, to this end.
+/// Bytes from the end of the span before it, or from the first byte of the capture, to this end. So there is no gap
+/// between spans that has to be looked for.
 #[derive(Clone, Copy, Debug, PartialEq, Eq, Drop)]
 pub struct Span {
     /// The first byte that is after the span.
