@@ -1,4 +1,5 @@
-//! The loop over the recording frames of a capture.
+//! The loop over the recording frames of a capture. A recording is made of them, so a capture may end after any. One
+//! that ends within a frame is cut.
 ghost use Rattle.std.specs.Prelude.{◌≡◌, ◌<◌, ◌^◌, ◌-◌, ℕ, List, refl};
 ghost use Rattle.cap_map.specs.declared.span.Span.{Span as MapSpan};
 ghost use Rattle.cap_mark.specs.Frames.{IsMarked, mark_units};
@@ -16,7 +17,8 @@ use cap_map::Span;
 use dvd_loop::{LoopEnd, PlainCommand, UnitKind, read_unit, run_owned};
 use dvd_ports::{NullSink, Sink, Source, write_whole};
 
-/// The spans of a map, and those of them that end after byte `place`: where the loop is in the map.
+/// The spans of a map, and those of them that end after byte `place`: where the loop is in the map. So the spans before
+/// it aren't looked at again. They are borrowed, since nothing of a map changes.
 #[derive(Drop)]
 struct Marking<'a> {
     spans: &'a [Span],
@@ -25,7 +27,8 @@ struct Marking<'a> {
 }
 
 impl<'a> Marking<'a> {
-    // The spans to look in for this byte and those after it: those that are left, or all where the loop is past it.
+    // The spans to look in for this byte and those after it: those that are left, or all where the loop is past it. The
+    // loop never goes back, but `process` is proved for any frame.
     fn passed(&self, start: u64) -> &'a [Span]
         requires { AgreeFrom self.now.place self.now.left.now self.now.spans.now }
         ensures { AgreeFrom start result.now self.now.spans.now }
@@ -49,6 +52,7 @@ impl<'a> PlainCommand for Marking<'a> {
 
     ghost alone = { λ _. record { opens = refl; closes = λ _. refl; after_last = refl } };
 
+    // How many frames a capture has isn't known before: its end ends the loop.
     fn count(&self) -> u32 {
         u32::MAX
     }
@@ -60,8 +64,10 @@ impl<'a> PlainCommand for Marking<'a> {
         out: &mut K,
         _report: &mut E,
     ) -> Result<UnitKind, LoopEnd> {
+        // 13 rows of 182 bytes. All of them come before the first is written.
         let mut frame = [0; 2366];
         read_unit(src, k, &mut frame)?;
+        // The place in the map moves only once the frame came whole.
         let start = 2366 * u64::from(k);
         self.left = spans_from(self.passed(start), start);
         self.place = start;
@@ -93,6 +99,7 @@ fn write_frame<K: Sink>(
     ensures { (source report : Seen) → AreDone (IsMarked spans.now k frame.now)
         (streams source (K.seen out.old) report) (streams source (K.seen out.new) report) result }
 {
+    // On the stack, so that a frame goes out as one piece and no memory is taken.
     let mut marked = ArrayVec::new();
     put_rows(spans, 2366 * u64::from(k), frame, &mut marked);
     write_whole(out, marked.as_slice())?;

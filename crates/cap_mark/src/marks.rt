@@ -1,4 +1,5 @@
-//! The mark bits of a row, and the rows of a recording frame.
+//! The mark bits of a row, and the rows of a recording frame. A map speaks of bytes and a mark is a bit, so that eight
+//! bytes of a capture make one byte of marks.
 ghost use Rattle.std.specs.Prelude.{◌≡◌, ◌<◌, ◌≤◌, ◌+◌, ◌*◌, ◌^◌, ◌++◌, ◌&&◌, [], ◌∷◌, nat_lt, not, length};
 ghost use Rattle.arrayvec.specs.ArrayVec.{array_vec_len};
 ghost use Rattle.cap_mark.specs.Frames.{marked_rows};
@@ -11,7 +12,8 @@ use cap_map::Span;
 /// A recording frame with its marks: thirteen rows of 205 bytes.
 pub type MarkedFrame = ArrayVec<u8, 2665>;
 
-/// The mark bytes of a row of which no byte is rescued. The last two bits are spare.
+/// The mark bytes of a row of which no byte is rescued. The last two bits are spare. 182 places fill 22 bytes and six
+/// bits.
 static LOST: [u8; 23] = [
     255, 255, 255, 255, 255, 255, 255, 255, 255, 255, 255, 255, 255, 255, 255, 255, 255, 255, 255,
     255, 255, 255, 252,
@@ -37,10 +39,12 @@ fn put(out: &mut MarkedFrame, bytes: &[u8])
     ensures items { out.new.items ≡ out.old.items ++ bytes.now }
     ensures len { array_vec_len out.new ≡ array_vec_len out.old + length bytes.now }
 {
+    // It can't fail: the clause says that there is room.
     let _ = out.try_extend_from_slice(bytes);
 }
 
-// Puts the mark bytes of a row, at once where its bytes are all rescued or all lost.
+// Puts the mark bytes of a row, at once where its bytes are all rescued or all lost. Nearly all rows are, so that few
+// go bit by bit.
 fn put_marks(spans: &[Span], start: u64, out: &mut MarkedFrame)
     requires room { array_vec_len out.old + 23 ≤ 2665 }
     requires start { start + 182 < 2 ^ 64 }
@@ -81,6 +85,7 @@ fn mark_byte(spans: &[Span], start: u64, place: u64) -> u8
     byte as u8
 }
 
+// The first place of eight is the highest bit.
 fn with_mark(byte: u16, mark: bool) -> u16
     requires { byte < 2 ^ 15 }
     ensures { result ≡ 2 * byte + bit_of mark }

@@ -5,7 +5,8 @@ ghost use Rattle.cap_mark.specs.Walk.{AgreeFrom};
 
 use cap_map::Span;
 
-/// The spans without those before them that end at or before byte `place`. They say the same from that byte on.
+/// The spans without those before them that end at or before byte `place`. They say the same from that byte on. The
+/// loop goes up, so that few are passed each time.
 pub fn spans_from<'a>(spans: &'a [Span], place: u64) -> &'a [Span]
     ensures { AgreeFrom place result.now spans.now }
 {
@@ -22,13 +23,14 @@ pub fn whole_row(spans: &[Span], start: u64) -> Option<bool>
     ensures { IfSome result (λ rescued. (j : ℕ) → j < 182 → is_rescued spans.now (start + j) ≡ rescued) }
 {
     match spans.first() {
+        // The map ends before this row.
         None => Some(false),
         Some(span) if start + 182 <= span.end => Some(span.rescued),
         Some(_) => None,
     }
 }
 
-/// Whether a byte is rescued.
+/// Whether a byte is rescued. A byte after all spans isn't: the map says nothing of it.
 pub fn is_rescued(spans: &[Span], byte: u64) -> bool
     ensures { result ≡ is_rescued spans.now byte }
 {
