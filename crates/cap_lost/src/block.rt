@@ -1,4 +1,5 @@
-//! The lines that `recover` and `deep` write of blocks.
+//! The lines that `recover` and `deep` write of blocks. Each is compared to the byte with what they write, so that a
+//! line of another layout or program isn't believed.
 ghost use Rattle.std.specs.Prelude.{◌≡◌, ◌<◌, codes, option_map, IfOk};
 ghost use Rattle.dvd_layout.specs.Place.{HasNumbers};
 ghost use Rattle.cap_lost.specs.Blocks.{after_address, after_front, block_said, entry_said, extent_of, front_of, is_numbered, is_refusal, is_round, is_saved, is_some_and, what_said};
@@ -23,6 +24,7 @@ pub fn block_said(layout: &Layout, zones: Zones, line: &[u8], rest: &[u8]) -> Re
     if k >= layout.blocks(zones) {
         return Err(Cause::Block);
     }
+    // The number alone is read. What comes after it has to be what `dvdecc` writes of that block.
     place_said(layout, k, &layout.plan(zones, k), line)
 }
 
@@ -43,7 +45,8 @@ fn place_said(layout: &Layout, k: u64, plan: &BlockPlan, line: &[u8]) -> Result<
     what_said(extent, what)
 }
 
-// What each line of block `k` begins with: its number, its first sector number and its layer.
+// What each line of block `k` begins with: its number, its first sector number and its layer. It is made and compared
+// with the line, so that no part of it needs a reader.
 #[tactic(auto, unfolding(dvd_report::specs::Lines::block_text))]
 fn front_of(k: u64, plan: &BlockPlan) -> Line
     requires { HasNumbers plan.now }
@@ -60,6 +63,7 @@ fn front_of(k: u64, plan: &BlockPlan) -> Line
     line
 }
 
+// The image sectors of a block: none in a block of another zone, and fewer than sixteen in the last of the image.
 fn extent_of(layout: &Layout, content: Content) -> Extent
     ensures { result ≡ extent_of layout.now content }
 {
@@ -72,6 +76,7 @@ fn extent_of(layout: &Layout, content: Content) -> Extent
     }
 }
 
+// `recover` writes the first kind alone, and `deep` both.
 fn what_said(extent: Extent, what: &[u8]) -> Result<Said, Cause>
     requires { extent.from < extent.to }
     ensures said { result ≡ what_said extent what.now }
@@ -86,7 +91,8 @@ fn what_said(extent: Extent, what: &[u8]) -> Result<Said, Cause>
     }
 }
 
-// Whether this is the cause of a refused block, and how many of its frames were salvaged.
+// Whether this is the cause of a refused block, and how many of its frames were salvaged. A number is below the count
+// of what it numbers: 182 columns, 208 rows, 16 frames. Of failed rows there may be 208.
 fn is_refusal(what: &[u8]) -> bool
     ensures { result ≡ is_refusal what.now }
 {
@@ -118,6 +124,7 @@ fn is_address(what: &[u8]) -> bool
     }
 }
 
+// What comes after the frame that names another place, and the ID found in it. Neither is used.
 fn after_address<'a>(what: &'a [u8]) -> Option<&'a [u8]>
     ensures { option_map (λ rest. rest.now) result ≡ after_address what.now }
 {
@@ -127,7 +134,8 @@ fn after_address<'a>(what: &'a [u8]) -> Option<&'a [u8]>
     after_word(rest)
 }
 
-// Whether this is how many of sixteen frames were salvaged, and nothing more.
+// Whether this is how many of sixteen frames were salvaged, and nothing more. Which frames these are isn't said, so all
+// sectors of the block count as lost.
 fn is_saved(rest: &[u8]) -> bool
     ensures { result ≡ is_saved rest.now }
 {
@@ -137,7 +145,7 @@ fn is_saved(rest: &[u8]) -> bool
     }
 }
 
-// Whether this is the round that gave a block back.
+// Whether this is the round that gave a block back. `deep` has at most four.
 fn is_round(what: &[u8]) -> bool
     ensures { result ≡ is_round what.now }
 {

@@ -1,4 +1,4 @@
-//! The line that closes a report.
+//! The line that closes a report. It says how far the run came, and so how much of the image was written.
 ghost use Rattle.std.specs.Prelude.{◌≡◌, ◌<◌, length, take, IfOk, IfSome, IfNone};
 ghost use Rattle.dvd_layout.specs.Place.{image_before, image_sectors};
 ghost use Rattle.dvd_layout.specs.Plan.{plan_of};
@@ -10,7 +10,8 @@ use crate::fault::Cause;
 use crate::fronts::{after, is_text, number_first};
 use dvd_layout::{Content, Layout, Zones};
 
-/// What a line that names no block says, if it closes the report of an image.
+/// What a line that names no block says, if it closes the report of an image. A run that went on to the last block
+/// wrote the whole image. One that stopped wrote the sectors before that block.
 pub fn closing_said(layout: &Layout, zones: Zones, line: &[u8]) -> Result<Said, Cause>
     ensures said { result ≡ closing_said layout.now zones line.now }
     ensures some { IfOk result NamesSectors }
@@ -36,6 +37,7 @@ pub fn closing_said(layout: &Layout, zones: Zones, line: &[u8]) -> Result<Said, 
     }
 }
 
+// Whether a fault ended the run: how much it wrote isn't known then.
 fn is_fault(line: &[u8]) -> bool
     ensures { result ≡ is_fault line.now }
 {
@@ -57,7 +59,7 @@ fn counted_in(line: &[u8]) -> Option<u64>
     }
 }
 
-// The block in which the run stopped: it wasn't whole, or its marks broke a rule.
+// The block in which the run stopped: it wasn't whole, or its marks broke a rule. How many bytes came of it isn't used.
 fn stopped_in(line: &[u8]) -> Option<u64>
     ensures { result ≡ stopped_in line.now }
 {
@@ -101,7 +103,8 @@ fn stopped_at(layout: &Layout, zones: Zones, k: u64) -> Result<Said, Cause>
     })
 }
 
-// How many image sectors the blocks before one hold: the first of the next block that has any, or all.
+// How many image sectors the blocks before one hold: the first of the next block that has any, or all. Blocks of the
+// lead-in and other zones hold none, so the next that holds some is looked for.
 fn written_before(layout: &Layout, zones: Zones, k: u64) -> u32
     requires { k < length (plan_of layout.now zones) }
     ensures { result ≡ image_before layout.now (take k (plan_of layout.now zones)) }

@@ -1,4 +1,4 @@
-//! What the lines of a report say together.
+//! What the lines of a report say together: extents of lost sectors, in order and joined where they touch.
 ghost use Rattle.std.specs.Prelude.{◌≡◌, ◌+◌, ◌≤◌, ◌<◌, None, Some, Ok, OnOk, IfErr};
 ghost use Rattle.cap_lost.specs.Inner.{IsCounted, IsStopOf, NamesSectors, ended, sayings_of};
 ghost use Rattle.cap_lost.specs.Report.{is_count, is_end, last_of, nothing, with_end, with_extent, with_said};
@@ -38,7 +38,8 @@ pub struct Lost {
 }
 
 /// What was said so far: the sectors of refused blocks, and the sector after those of the last block that was named.
-/// How many blocks were refused, and, once that is said, how many sectors were written.
+/// How many blocks were refused, and, once that is said, how many sectors were written. Blocks are named in their
+/// order, so one sector number says which may still come.
 #[derive(Drop)]
 pub struct Draft {
     pub extents: Vec<Extent>,
@@ -108,7 +109,8 @@ impl Draft {
         Ok(())
     }
 
-    // Adds an extent, to the last one where that ends at its first sector.
+    // Adds an extent, to the last one where that ends at its first sector. So the map has one line for sectors that are
+    // lost together.
     fn lose(&mut self, extent: Extent) -> Result<(), Stop>
         ensures added { OnOk result (self.new.extents.items ≡ with_extent self.old.extents.items extent) }
         ensures memory { IfErr result (λ stop. stop ≡ Stop.NoMemory) }
@@ -148,7 +150,8 @@ impl Draft {
         }
     }
 
-    // Ends with this number of written sectors.
+    // Ends with this number of written sectors. The count of damage lines is compared, so that a report with a line
+    // missing isn't believed.
     fn end(&mut self, refused: Option<u64>, written: u32) -> Result<(), Stop>
         ensures added { OnOk result (with_said (sayings_of self.old) (Said.Ended refused written) ≡ Ok (sayings_of self.new)) }
         ensures rule { IfErr result (IsStopOf (with_said (sayings_of self.old) (Said.Ended refused written))) }

@@ -1,4 +1,4 @@
-//! Texts and numbers at the beginning of a text.
+//! Texts and numbers at the beginning of a text: the parts of which lines are read.
 ghost use Rattle.std.specs.Prelude.{◌≡◌, ◌≤◌, length, bytes_eq, option_map};
 ghost use Rattle.std.specs.List.{list_all};
 ghost use Rattle.cap_lost.specs.Fronts.{after, after_number, after_word, digits_of, is_capital_digit, number_first};
@@ -20,7 +20,8 @@ pub fn after<'a>(text: &'a [u8], front: &[u8]) -> Option<&'a [u8]>
     text.strip_prefix(front)
 }
 
-/// The number that a text begins with, as `dvdecc` writes it, and what comes after its digits.
+/// The number that a text begins with, as `dvdecc` writes it, and what comes after its digits. Zeros before other
+/// digits aren't so written: the number is written again and compared.
 pub fn number_first<'a>(text: &'a [u8]) -> Option<(u64, &'a [u8])>
     ensures { option_map (λ found. (found.0, found.1.now)) result ≡ number_first text.now }
 {
@@ -55,7 +56,7 @@ pub fn after_number<'a>(text: &'a [u8], bound: u64) -> Option<&'a [u8]>
     if number < bound { Some(rest) } else { None }
 }
 
-/// What comes after eight hexadecimal digits with capitals, if a text begins with them.
+/// What comes after eight hexadecimal digits with capitals, if a text begins with them. An ID is so written.
 pub fn after_word<'a>(text: &'a [u8]) -> Option<&'a [u8]>
     ensures { option_map (λ rest. rest.now) result ≡ after_word text.now }
 {

@@ -1,4 +1,5 @@
-//! The map of an image.
+//! The map of an image. A `+` is for sectors that were written and not lost, a `-` for those of refused blocks. The
+//! sectors after the end of the run have a `?`: they weren't tried.
 ghost use Rattle.std.specs.Prelude.{◌≡◌, ◌+◌, ◌*◌, ◌≤◌, ◌<◌, ◌^◌, ◌++◌, [], ◌∷◌, length, true, IfOk, OnOk, OnErr};
 ghost use Rattle.std.specs.Fmt.{digit_glyph};
 ghost use Rattle.arrayvec.specs.ArrayVec.{array_vec_len};
@@ -13,12 +14,14 @@ use crate::extent::Extent;
 use arrayvec::ArrayVec;
 use dvd_ports::{Sink, WriteFault, write_whole};
 
-// How many extents are written together.
+// How many extents are written together. So the memory is the same for any map, and a line isn't a write of its own.
 const TOGETHER: usize = 64;
 
-// The lines of that many extents: two for each, of at most 28 bytes.
+// The lines of that many extents: two for each, of at most 28 bytes. A line has two numbers of at most 11 bytes, four
+// spaces, a status and a line feed.
 type Lines = ArrayVec<u8, 3584>;
 
+// What comes before the blocks. Its state is that of a run of ddrescue that is done.
 static HEAD: &[u8] =
     b"# Mapfile. Created by dvdcap\n# current_pos  current_status  current_pass\n0x00000000     +               1\n#      pos        size  status\n";
 
@@ -93,13 +96,15 @@ fn put_line(lines: &mut Lines, from: u32, to: u32, status: u8)
     }
 }
 
+// A map counts bytes, and a sector of an image has 2,048.
 fn bytes_of(sectors: u32) -> u64
     ensures { result ≡ 2048 * sectors }
 {
     2048 * u64::from(sectors)
 }
 
-// Puts a number in hexadecimal, of eight digits or nine.
+// Puts a number in hexadecimal, of eight digits or nine. An image has fewer than 2^36 bytes, since each of two layers
+// has sector numbers of 24 bits.
 fn put_number(lines: &mut Lines, number: u64)
     requires room { array_vec_len lines.old + 11 ≤ 3584 }
     ensures items { lines.new.items ≡ lines.old.items ++ number_text number }
@@ -109,7 +114,8 @@ fn put_number(lines: &mut Lines, number: u64)
     put_digits(lines, number, if number < 1 << 32 { 8 } else { 9 });
 }
 
-// Puts the last `width` hexadecimal digits of a number, the highest first.
+// Puts the last `width` hexadecimal digits of a number, the highest first. As `put_hexadecimal` of a `Line`, which has
+// numbers of 32 bits alone.
 fn put_digits(lines: &mut Lines, number: u64, width: u32)
     requires digits { width ≤ 9 }
     requires room { array_vec_len lines.old + width ≤ 3584 }
@@ -133,5 +139,6 @@ fn put(lines: &mut Lines, bytes: &[u8])
     ensures items { lines.new.items ≡ lines.old.items ++ bytes.now }
     ensures len { array_vec_len lines.new ≡ array_vec_len lines.old + length bytes.now }
 {
+    // It can't fail: the clause says that there is room.
     let _ = lines.try_extend_from_slice(bytes);
 }

@@ -1,4 +1,5 @@
-//! Lines out of bytes that come in pieces.
+//! Lines out of bytes that come in pieces. One line is kept at a time, so that a report of any length needs no memory
+//! but for its extents.
 ghost use Rattle.std.specs.Prelude.{◌≡◌, ◌+◌, ◌<◌, ◌≤◌, ◌++◌, [], ◌∷◌, ℕ, List, Ok, codes, length, IfOk, OnOk, IfErr};
 ghost use Rattle.cap_lost.specs.Inner.{HasMoved, IsCounted, IsSound, IsStopOf, NamesSectors, StopsAs, ended, goes_on, sayings_of};
 ghost use Rattle.cap_lost.specs.Report.{IsFaultOf, line_read, losses_of, word_said};
@@ -14,7 +15,8 @@ use arrayvec::ArrayVec;
 use dvd_layout::{Layout, Zones};
 use std::alloc::Global;
 
-// No line that is read has more bytes.
+// No line that is read has more bytes. What `dvdecc` writes of a block is shorter, so a longer line is refused before
+// it ends.
 const LONGEST: usize = 128;
 
 /// A report of this layout, as far as it came: what its whole lines say, and the number and the bytes of the next line.
@@ -56,6 +58,7 @@ impl Reader {
         Ok(())
     }
 
+    // Byte by byte, since a piece may begin and end within a line.
     fn take_byte(&mut self, byte: u8) -> Result<(), ReportFault>
         requires sound { IsSound self.old }
         ensures read { OnOk result ((rest : List ℕ) → goes_on self.old (byte ∷ rest) ≡ goes_on self.new rest) }
@@ -110,7 +113,8 @@ impl Reader {
         }
     }
 
-    /// What the report says, if it ends here.
+    /// What the report says, if it ends here. The last line may lack its line feed. Without a closing line how much was
+    /// written isn't known.
     pub fn finish(mut self) -> Result<Lost, ReportFault>
         requires sound { IsSound self }
         ensures read { IfOk result (λ lost. goes_on self [] ≡ Ok (losses_in lost)) }
@@ -140,6 +144,7 @@ impl Reader {
     }
 }
 
+// Nothing may come after the closing line, whatever it says.
 fn read_line(layout: &Layout, zones: Zones, draft: &mut Draft, line: &[u8]) -> Result<(), Stop>
     requires short { length line.now ≤ 128 }
     requires counted { IsCounted draft.old }
@@ -157,6 +162,7 @@ fn read_line(layout: &Layout, zones: Zones, draft: &mut Draft, line: &[u8]) -> R
     }
 }
 
+// A line of a block begins with that word, and no closing line does.
 fn said_by(layout: &Layout, zones: Zones, line: &[u8]) -> Result<Said, Cause>
     ensures said { result ≡ word_said layout.now zones line.now (after (codes "block ") line.now) }
     ensures some { IfOk result NamesSectors }

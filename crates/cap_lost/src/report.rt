@@ -1,4 +1,5 @@
-//! A whole report.
+//! A whole report, read as it comes. Nothing is written before its last line, which says how much of the image there
+//! is.
 ghost use Rattle.std.specs.Prelude.{IfOk, IfErr};
 ghost use Rattle.cap_lost.specs.Lost.{losses_in};
 ghost use Rattle.cap_lost.specs.Reads.{IsRefused, Reads};
@@ -22,6 +23,7 @@ pub fn read_report<S: Source>(
     ensures refused { IfErr result (IsRefused layout zones (S.seen src.old) (S.seen src.new)) }
 {
     let mut reader = Reader::new(alloc, layout, zones);
+    // A piece may end within a line: the reader puts lines together.
     let mut piece = [0; 4096];
     loop {
         match src.read(&mut piece) {
