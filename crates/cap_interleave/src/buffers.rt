@@ -1,4 +1,5 @@
-//! The buffers of a unit, which is one block of each capture.
+//! The buffers of a unit, which is one block of each capture. All of it is kept until the last block came, since none
+//! is written before.
 ghost use Rattle.std.specs.Prelude.{◌≡◌, ◌+◌, ◌*◌, ◌<◌, ◌≤◌, ◌++◌, ◌==◌, [], length, take, slice_index, nat_lt, position, true, is_some, vec_len, vec_capacity, IfOk, IfSome, OnErr, OnOk};
 ghost use Rattle.std.specs.List.{list_all};
 ghost use Rattle.dvd_capture.specs.Captured.{block_size, HasSize};
@@ -13,7 +14,8 @@ use dvd_ports::{Failed, NoMemory, Sink, Source, WriteFault, read_whole, write_wh
 use std::alloc::{AllocError, Global};
 use std::marker::Model;
 
-// The bytes of a unit at most: sixteen blocks in the marked form.
+// The bytes of a unit at most: sixteen blocks in the marked form. It is reserved for any number of captures, so that
+// adding a block never needs memory.
 const MOST_BYTES: usize = 16 * 42_640;
 
 /// A unit, a block, and how many bytes there were in the last block of each capture. Where blocks are filled, there is
@@ -48,6 +50,7 @@ impl Buffers {
         requires few { captures ≤ 16 }
         ensures { IfOk result (λ buffers. buffers ≡ fresh (record { size = block_size form; fill = fill; count = captures })) }
     {
+        // At first `held` says that each capture's last block came whole, so that block 0 is read.
         let size = form.size();
         let lost = if fill { Some(lost_block(alloc)?) } else { None };
         Ok(Buffers {
@@ -78,8 +81,8 @@ impl Buffers {
         Ok(())
     }
 
-    /// How the loop ends after block `k` of each capture was read, where the captures don't all have it: as `Done` where
-    /// none has a byte of it, and else, unless blocks are filled, as `Short` in the first capture that lacks some.
+    /// How the loop ends after block `k` of each capture was read, where the captures don't all have it. It is `Done`
+    /// where none has a byte of it. Else it is `Short` in the first capture that lacks some, unless blocks are filled.
     pub(crate) fn check(&self, k: u32) -> Result<(), InterleaveEnd>
         ensures { ChecksTo self.now k result }
     {
@@ -107,19 +110,22 @@ impl Buffers {
     }
 }
 
+// Whether no capture has a byte more: then the output is whole.
 fn are_empty(held: &[usize]) -> bool
     ensures { result ≡ list_all (λ h. h == 0) held.now }
 {
     held.iter().all(|held| *held == 0)
 }
 
+// The first capture whose last block has fewer bytes than a whole one.
 fn first_short(held: &[usize], size: usize) -> Option<usize>
     ensures { result ≡ position (λ h. nat_lt h size) held.now }
 {
     held.iter().position(|held| *held < size)
 }
 
-// Reads a block, if the last one came whole, and answers how many bytes came.
+// Reads a block, if the last one came whole, and answers how many bytes came. A capture whose last block was cut has
+// ended: a terminal would give more after its end, and isn't asked again.
 fn fetch<S: Source>(block: &mut [u8], before: usize, src: &mut S) -> Result<usize, Failed>
     ensures size { length block.new ≡ length block.old }
     ensures bound { IfOk result (λ held. held ≤ length block.old) }
@@ -160,6 +166,7 @@ fn put(unit: &mut Vec<u8>, bytes: &[u8])
     }
 }
 
+// A block in the marked form of which nothing came. It is made once, and copied where it is needed.
 #[tactic(auto, using(crate::proofs::BlockLemmas::rows_none, crate::proofs::BlockLemmas::rows_more))]
 fn lost_block(alloc: Global) -> Result<Vec<u8>, NoMemory>
     ensures block { IfOk result (λ block. block.items ≡ lost_block) }
@@ -172,6 +179,7 @@ fn lost_block(alloc: Global) -> Result<Vec<u8>, NoMemory>
     Ok(block)
 }
 
+// Adds a row of zeros, and a mark for each of its bytes.
 fn put_lost_row(block: &mut Vec<u8>) -> Result<(), AllocError>
     ensures row { OnOk result (block.new.items ≡ block.old.items ++ lost_row) }
     ensures len { OnOk result (vec_len block.new ≡ vec_len block.old + 205) }

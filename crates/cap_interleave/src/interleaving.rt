@@ -1,4 +1,4 @@
-//! The loop over the blocks of several captures.
+//! The loop over the blocks of several captures. It has several inputs, so that the loop of dvd_loop doesn't serve it.
 ghost use Rattle.std.specs.Prelude.{◌≡◌, ◌≤◌, length, IfErr, OnOk};
 ghost use Rattle.cap_interleave.specs.Inner.{AreReadTo, EndsBroken, IsTurn, fresh, task_of};
 ghost use Rattle.cap_interleave.specs.Interleaved.{IsInterleaved};
@@ -27,7 +27,8 @@ pub fn interleave_loop<S: Source, K: Sink>(
     InterleaveEnd::Long
 }
 
-// Writes block `k` of each capture, or answers how the loop ends.
+// Writes block `k` of each capture, or answers how the loop ends. All are read and compared before anything is written,
+// so that the output has a block of each or of none.
 fn turn<S: Source, K: Sink>(
     k: u32,
     buffers: &mut Buffers,
@@ -46,6 +47,7 @@ fn turn<S: Source, K: Sink>(
     }
 }
 
+// Reads the next block of each capture, in their order. A failed read ends it there.
 fn read_unit<S: Source>(buffers: &mut Buffers, captures: &mut [S]) -> Result<(), InterleaveEnd>
     requires count { length captures.old ≡ length buffers.old.held }
     requires few { length captures.old ≤ 16 }
