@@ -1,10 +1,10 @@
-//! The line of a block.
+//! The line of a block, read part by part in the order in which `dvdecc survey` writes it.
 ghost use Rattle.std.specs.Prelude.{◌≡◌, option_map};
 ghost use Rattle.cap_survey.specs.Lines.{after_sector, block_of, is_address, is_alone, is_cause, is_empty, is_found, refused_by};
 
 use crate::number::{after_text, are_hexadecimal, number_after};
 
-/// What the line of a block says.
+/// What the line of a block says. Its numbers are as they came: whether they can be those of a block is asked later.
 #[derive(Clone, Copy, Debug, PartialEq, Eq, Drop)]
 pub struct BlockLine {
     pub block: u64,
@@ -35,7 +35,8 @@ pub fn block_of(line: &[u8]) -> Option<BlockLine>
     })
 }
 
-// What comes after ` sector ` and its six digits.
+// What comes after ` sector ` and its six digits. Where the block is on the disk isn't drawn, so the digits are only
+// tested.
 fn after_sector<'a>(text: &'a [u8]) -> Option<&'a [u8]>
     ensures { option_map (λ s. s.now) result ≡ after_sector text.now }
 {
@@ -70,6 +71,7 @@ fn is_empty(text: Option<&[u8]>) -> bool
     }
 }
 
+// Whether a text is one of the causes for which a block is refused. Which one isn't kept.
 fn is_cause(text: &[u8]) -> bool
     ensures { result ≡ is_cause text.now }
 {

@@ -1,6 +1,6 @@
-//! What is kept of a block.
+//! What is kept of a block: only what is drawn or counted.
 
-/// The counts in the line of a block.
+/// The counts in the line of a block. They are as small as they can be, since a survey may have two million blocks.
 #[derive(Clone, Copy, Debug, PartialEq, Eq, Drop)]
 pub struct Cell {
     /// The PI error rows of the block and the seven before it.

@@ -1,4 +1,4 @@
-//! Texts and numbers at the beginning of a text.
+//! Texts and numbers at the beginning of a text: the parts of which lines are read.
 ghost use Rattle.std.specs.Prelude.{◌≡◌, ◌<◌, ◌≤◌, ◌^◌, length, option_map, IfSome};
 ghost use Rattle.std.specs.List.{list_all};
 ghost use Rattle.cap_survey.specs.Numbers.{after_text, are_hexadecimal, digit_count, is_hexadecimal, number_after, number_at, number_of, with_digit, with_digits};
@@ -24,7 +24,8 @@ pub fn number_after<'a>(text: &'a [u8], name: &[u8]) -> Option<Number<'a>>
     number_at(after_text(text, name)?)
 }
 
-// The number in decimal at the beginning of a text: below 10^18, and without a zero before other digits.
+// The number in decimal at the beginning of a text: below 10^18, and without a zero before other digits. So each number
+// has one spelling, which is the one that `dvdecc` writes.
 fn number_at<'a>(text: &'a [u8]) -> Option<Number<'a>>
     ensures { option_map number_of result ≡ number_at text.now }
 {
@@ -63,7 +64,7 @@ fn value_of(digits: &[u8]) -> Option<u64>
     Some(value)
 }
 
-// A number with one digit more at its end.
+// A number with one digit more at its end. 10^18 times ten still fits 64 bits, and no count of a survey is as great.
 fn with_digit(value: u64, byte: u8) -> Option<u64>
     requires { value < 10 ^ 18 }
     ensures value { result ≡ with_digit value byte }

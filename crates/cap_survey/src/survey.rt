@@ -1,4 +1,4 @@
-//! What was read so far of a survey.
+//! What was read so far of a survey. A line is believed only where it goes on from those before it.
 ghost use Rattle.std.specs.Prelude.{◌≡◌, ◌≤◌, ◌+◌, [], length, false, sum_by, Ok, Err, IfOk, IfErr, OnOk, OnErr};
 ghost use Rattle.cap_survey.specs.Survey.{cell_of, last_seven, line_read, next_line, with_block, with_totals};
 ghost use Rattle.cap_survey.specs.Totals.{pi_of};
@@ -10,7 +10,8 @@ use crate::totals::{Totals, sum_pi, totals_in, totals_of};
 use std::alloc::{AllocError, Global};
 use std::marker::Model;
 
-// The most blocks of a survey: more than twice those of the greatest disk.
+// The most blocks of a survey: more than twice those of the greatest disk. Their memory is taken at once, so that no
+// line ends a run for want of it.
 const ROOM: usize = 2_097_152;
 
 // No line of a survey is longer.
@@ -57,6 +58,7 @@ impl Survey {
         if line.len() > LINE {
             return Err(Cause::Form);
         }
+        // The totals end a survey.
         if self.closed {
             return Err(Cause::After);
         }
@@ -79,6 +81,7 @@ impl Survey {
         let cell = cell_of(&self.cells, block)?;
         match self.cells.push(cell) {
             Ok(()) => Ok(()),
+            // `cell_of` found room.
             Err(_) => unreachable!(),
         }
     }
@@ -91,6 +94,7 @@ impl Survey {
         ensures same { OnErr result (self.new ≡ self.old) }
         ensures next { OnOk result (next_line self.new ≡ next_line self.old + 1) }
     {
+        // So a survey that lost a line isn't drawn as a whole one.
         if *totals != totals_of(&self.cells) {
             return Err(Cause::Totals);
         }
@@ -136,6 +140,7 @@ fn cell_of(cells: &[Cell], block: &BlockLine) -> Result<Cell, Cause>
     if block.block != cells.len() as u64 {
         return Err(Cause::Order);
     }
+    // A block has 208 rows, and a failed row has a PI error.
     if block.layer > 1 || pi > 208 || failed > pi {
         return Err(Cause::Range);
     }
@@ -154,7 +159,7 @@ fn cell_of(cells: &[Cell], block: &BlockLine) -> Result<Cell, Cause>
     })
 }
 
-// The PI error rows of the last seven blocks.
+// The PI error rows of the last seven blocks. At the beginning there are fewer.
 fn sum_of_seven(cells: &[Cell]) -> u64
     requires { length cells.now ≤ 2097152 }
     ensures sum { result ≡ sum_by pi_of (last_seven cells.now) }

@@ -1,4 +1,4 @@
-//! A survey that comes in pieces of any length.
+//! A survey that comes in pieces of any length, put together line by line.
 ghost use Rattle.std.specs.Prelude.{◌≡◌, ◌<◌, ◌≤◌, ◌+◌, ◌^◌, ℕ, List, [], ◌∷◌, ◌++◌, length, Ok, Err, IfOk, IfErr, OnOk};
 ghost use Rattle.cap_survey.specs.Survey.{fault_at, nothing, progress, reading};
 
@@ -9,7 +9,7 @@ use std::alloc::{AllocError, Global};
 use std::marker::Model;
 
 /// A survey of which some bytes were read: its whole lines, and the bytes of a line that has begun. Contracts see it as
-/// these two.
+/// these two. A line is kept until its end came, since a piece may end within it.
 #[derive(Drop)]
 pub struct Reading {
     survey: Survey,
@@ -60,6 +60,7 @@ impl Reading {
         if byte == b'\n' {
             return self.end_line();
         }
+        // No line of a survey is longer, so that the rest of it needn't come.
         if self.line.is_full() {
             return Err(self.fault(Cause::Form));
         }
@@ -88,6 +89,7 @@ impl Reading {
         ensures read { IfOk result (λ left. reading self.now [] ≡ Ok (record { read = self.now.read; left = left })) }
         ensures rule { IfErr result (λ fault. reading self.now [] ≡ Err fault) }
     {
+        // Before the line of totals they are a line that was cut, and no fault.
         let left = self.line.len();
         if self.survey.is_closed() && left > 0 {
             return Err(self.fault(Cause::After));

@@ -1,4 +1,4 @@
-//! Totals over blocks, and the line of totals.
+//! Totals over blocks, and the line of totals. They are counted anew, so that the line can be compared with them.
 ghost use Rattle.std.specs.Prelude.{◌≡◌, ◌≤◌, ◌*◌, ◌==◌, length, sum_by, count_by};
 ghost use Rattle.cap_survey.specs.Lines.{totals_in};
 ghost use Rattle.cap_survey.specs.Totals.{before_first, failed_of, greatest_of, is_over, pi_of, refused_of, sum8_of, totals_of};
@@ -91,6 +91,7 @@ fn sum_failed(cells: &[Cell]) -> u64
     sum
 }
 
+// A count of rows in 64 bits. By itself, so that its clause gives the bound that a sum needs.
 fn widened(rows: u8) -> u64
     ensures same { result ≡ rows }
     ensures bound { result ≤ 255 }
@@ -117,6 +118,7 @@ fn count_over(cells: &[Cell]) -> u64
 {
     let mut count = 0;
     for cell in cells {
+        // ECMA-267 allows 280.
         if cell.sum8 > 280 {
             count += 1;
         }
