@@ -1,4 +1,5 @@
-//! The axes of a picture, and what frames its parts.
+//! The axes of a picture, and what frames its parts. All is in units of the picture. The plot of sums begins at 64 from
+//! the left and 100 from the top, and ends at 540.
 ghost use Rattle.std.specs.Prelude.{◌≡◌, ◌≤◌, ◌<◌, ◌+◌, ◌*◌, ◌++◌, length};
 ghost use Rattle.cap_draw.specs.Axes.{block_axis, block_tick, block_ticks, is_on_layer_1, layer_at, layer_mark, limit_line, lower_frame, marks_frame, marks_line, plot_frame, place_of, row_line, row_lines, tick_at};
 ghost use Rattle.cap_survey.specs.Totals.{before_first};
@@ -20,6 +21,7 @@ pub fn put_row_lines(page: &mut Page, plot: &Plot)
     }
 }
 
+// A line of the axis of rows, 70 units above the one before it: seven of them reach 420.
 fn put_row_line(page: &mut Page, plot: &Plot, i: u16)
     requires room { length page.old ≤ 5000 }
     requires width { plot.now.width ≤ 4999 }
@@ -35,7 +37,8 @@ fn put_row_line(page: &mut Page, plot: &Plot, i: u16)
     page.put(b"</text>\n");
 }
 
-/// Puts what opens the plot of sums. It counts PI error rows from its lower edge up.
+/// Puts what opens the plot of sums. It counts PI error rows from its lower edge up. So a bar is drawn by its own
+/// number, whatever the scale is.
 pub fn put_plot_frame(page: &mut Page, plot: &Plot)
     requires room { length page.old ≤ 5000 }
     requires rows { plot.now.rows ≤ 4 }
@@ -52,7 +55,8 @@ pub fn put_plot_frame(page: &mut Page, plot: &Plot)
     page.put(b")'>\n");
 }
 
-/// Puts the line at 280, and closes the plot of sums.
+/// Puts the line at 280, and closes the plot of sums. Within the plot heights are rows, so a stroke of 2 × `rows` is 2
+/// units of the picture.
 pub fn put_limit(page: &mut Page, plot: &Plot)
     requires room { length page.old ≤ 802500 }
     requires rows { plot.now.rows ≤ 4 }
@@ -135,7 +139,7 @@ fn first_on_layer_1(cells: &[Cell]) -> u32
     place
 }
 
-// The ticks of the axis: at most six.
+// The ticks of the axis: at most six. At the ends of five parts, or at each block where there are fewer.
 fn put_block_ticks(page: &mut Page, blocks: u32, width: u16)
     requires room { length page.old ≤ 802900 }
     requires some { 0 < blocks }
@@ -173,7 +177,7 @@ fn put_tick_at(page: &mut Page, x: u16, block: u32)
     page.put(b"</text>\n");
 }
 
-/// Puts what opens the band of failed rows.
+/// Puts what opens the band of failed rows. It has 208 rows, a quarter of a unit each, with room for the marks below.
 pub fn put_lower_frame(page: &mut Page, plot: &Plot)
     requires room { length page.old ≤ 804000 }
     ensures bytes { page.new ≡ page.old ++ lower_frame plot.now }

@@ -1,4 +1,5 @@
-//! The columns of a picture, as rectangles and marks.
+//! The columns of a picture, as rectangles and marks. The clauses say how many bytes each has at most, of which the
+//! bound of the whole picture is made.
 ghost use Rattle.std.specs.Prelude.{◌≡◌, ◌≤◌, ◌+◌, ◌*◌, ◌++◌, length};
 ghost use Rattle.cap_draw.specs.Bars.{bar, bars, failed_bar, failed_bars, failed_rows, mark_at, middle_of, over_class, over_mark, refused_mark, refused_marks, title, triangle};
 ghost use Rattle.cap_draw.specs.Columns.{column_of};
@@ -24,6 +25,7 @@ pub fn put_bars(page: &mut Page, cells: &[Cell], plot: &Plot)
     }
 }
 
+// Puts a bar. It has no `y`: the plot counts upwards, so that a bar begins at the lower edge.
 fn put_bar(page: &mut Page, column: &Column, rows: u16)
     requires room { length page.old + 200 ≤ 2000000 }
     requires rows { rows ≤ 4 }
@@ -52,7 +54,7 @@ fn put_class(page: &mut Page, sum8: u16)
     }
 }
 
-// Which blocks a column has.
+// Which blocks a column has. A browser shows it where the mouse is.
 fn put_title(page: &mut Page, column: &Column)
     requires room { length page.old + 44 ≤ 2000000 }
     ensures bytes { page.new ≡ page.old ++ title column.now }
@@ -63,7 +65,7 @@ fn put_title(page: &mut Page, column: &Column)
     page.put(b": ");
 }
 
-// The mark of a column above the limit, at the upper edge of the plot.
+// The mark of a column above the limit, at the upper edge of the plot. So the picture can be read without colour.
 fn put_mark(page: &mut Page, column: &Column, rows: u16)
     requires room { length page.old + 60 ≤ 2000000 }
     requires rows { rows ≤ 4 }
@@ -75,6 +77,7 @@ fn put_mark(page: &mut Page, column: &Column, rows: u16)
     }
 }
 
+// Heights in the plot are rows: it is 440 × `rows` high, and the mark 14 × `rows`.
 fn put_mark_at(page: &mut Page, column: &Column, rows: u16)
     requires room { length page.old + 60 ≤ 2000000 }
     requires rows { rows ≤ 4 }
@@ -114,6 +117,7 @@ fn put_failed_bar(page: &mut Page, column: &Column)
     }
 }
 
+// The mark is below the bar, since the bar of one row is hardly seen.
 fn put_failed_rows(page: &mut Page, column: &Column)
     requires room { length page.old + 170 ≤ 2000000 }
     ensures bytes { page.new ≡ page.old ++ failed_rows column.now }
@@ -130,7 +134,8 @@ fn put_failed_rows(page: &mut Page, column: &Column)
     page.put(b"z'/>\n");
 }
 
-/// Puts a mark for each column that has a refused block.
+/// Puts a mark for each column that has a refused block. A triangle, whose width doesn't depend on the columns, so that
+/// one of a narrow column is seen.
 pub fn put_refused_marks(page: &mut Page, cells: &[Cell], plot: &Plot)
     requires room { length page.old ≤ 1486000 }
     requires few { length cells.now ≤ 2097152 }

@@ -1,4 +1,4 @@
-//! The blocks that share a column of a picture.
+//! The blocks that share a column of a picture. A disk has more blocks than a picture has columns.
 ghost use Rattle.std.specs.Prelude.{◌≡◌, ◌<◌, ◌≤◌, ◌+◌, length};
 ghost use Rattle.cap_draw.specs.Columns.{column_of};
 ghost use Rattle.cap_draw.specs.Plot.{share};
@@ -6,7 +6,8 @@ ghost use Rattle.cap_draw.specs.Plot.{share};
 use crate::plot::{Plot, share};
 use cap_survey::{Cell, count_refused, greatest_failed, greatest_sum8};
 
-/// A column: its blocks, its position and width, and what is drawn of it.
+/// A column: its blocks, its position and width, and what is drawn of it. The greatest of each number, so that no bad
+/// block is too small to be seen.
 #[derive(Clone, Copy, Debug, PartialEq, Eq, Drop)]
 pub struct Column {
     /// The first of its blocks, and how many there are.
@@ -45,7 +46,8 @@ pub fn column_of(cells: &[Cell], plot: &Plot, c: u16) -> Column
     }
 }
 
-// Where part `k` of a whole begins and ends.
+// Where part `k` of a whole begins and ends. A part ends where the next begins, so that each block is in one column and
+// no width is lost.
 fn part(k: u32, whole: u32, parts: u32) -> (u32, u32)
     requires within { k < parts }
     requires few { parts ≤ 2097152 }

@@ -1,4 +1,5 @@
-//! Reads a survey, and writes its picture.
+//! Reads a survey, and writes its picture. Nothing is written before the last line was read, so that a survey that
+//! breaks a rule leaves no picture.
 ghost use Rattle.std.specs.Prelude.{◌≡◌, ◌<◌, ◌≤◌, [], IfOk, IfErr};
 ghost use Rattle.cap_draw.specs.Drawn.{HasDrawn, HasRead, HasWritten, IsStop};
 ghost use Rattle.cap_survey.specs.Survey.{nothing};
@@ -49,6 +50,7 @@ fn read_survey<S: Source>(reading: &mut Reading, src: &mut S) -> Result<usize, D
     ensures read { IfOk result (λ left. HasRead (S.seen src.old) (S.seen src.new) (record { read = reading.new.read; left = left })) }
     ensures stop { IfErr result (IsStop (S.seen src.old) (S.seen src.new)) }
 {
+    // A piece may end within a line: `Reading` puts lines together.
     let mut piece = [0; 32768];
     loop {
         match src.read(&mut piece) {
@@ -67,6 +69,7 @@ fn read_survey<S: Source>(reading: &mut Reading, src: &mut S) -> Result<usize, D
     }
 }
 
+// Writes the picture of what was read. A cut survey is drawn too, so that its user sees how far it went.
 fn write_picture<K: Sink>(
     reading: &Reading,
     left: usize,

@@ -1,11 +1,11 @@
-//! The bytes of a picture.
+//! The bytes of a picture. They are put together in memory and go out as one piece.
 ghost use Rattle.std.specs.Prelude.{◌≡◌, ◌+◌, ◌≤◌, [], ◌++◌, length, decimal, IfOk};
 
 use itoa::Buffer;
 use std::alloc::{AllocError, Global};
 use std::marker::Model;
 
-// No picture is greater.
+// No picture is greater. 4,000 columns have at most 480 bytes each, and the rest is for frames, axes and texts.
 const ROOM: usize = 2_000_000;
 
 /// The bytes of a picture as far as it was made: at most 2,000,000. Contracts see it as their list.
@@ -45,11 +45,13 @@ impl Page {
     {
         match self.bytes.extend_from_slice(text) {
             Ok(()) => {}
+            // All memory was taken by `new`, and `room` says that the text fits.
             Err(_) => unreachable!(),
         }
     }
 
-    /// Puts a text and a number of 16 bits: at most 5 digits.
+    /// Puts a text and a number of 16 bits: at most 5 digits. A bound for each width of number keeps the bound of the
+    /// whole picture low.
     pub fn put_short(&mut self, text: &[u8], number: u16)
         requires room { length self.old + length text.now + 5 ≤ 2000000 }
         ensures bytes { self.new ≡ self.old ++ text.now ++ decimal number }

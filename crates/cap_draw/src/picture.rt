@@ -1,4 +1,4 @@
-//! A whole picture.
+//! A whole picture, part by part from top to bottom. It is made in two halves, each with a bound on its bytes.
 ghost use Rattle.std.specs.Prelude.{◌≡◌, ◌≤◌, ◌<◌, [], ◌++◌, length};
 ghost use Rattle.cap_draw.specs.Picture.{lower_part, picture, upper_part};
 
@@ -13,7 +13,8 @@ use crate::words::{put_head, put_legend, put_totals};
 use cap_survey::Cell;
 
 /// Puts the picture of these blocks in at most `most` columns; a survey that isn't closed is cut. It has at most
-/// 2,000,000 bytes.
+/// 2,000,000 bytes. That holds by what each part has at most: with 4,000 columns the bars, failed rows and marks have
+/// 1,920,000 bytes.
 pub fn put_picture(page: &mut Page, cells: &[Cell], closed: bool, most: u16)
     requires empty { page.old ≡ [] }
     requires few { length cells.now ≤ 2097152 }
@@ -27,7 +28,8 @@ pub fn put_picture(page: &mut Page, cells: &[Cell], closed: bool, most: u16)
     put_lower_part(page, cells, &plot);
 }
 
-// The heading, the totals, and the plot of sums with its axes.
+// The heading, the totals, and the plot of sums with its axes. What is put later lies over what came before: bars over
+// the lines of the axis, the line at 280 over the bars.
 fn put_upper_part(page: &mut Page, cells: &[Cell], closed: bool, plot: &Plot)
     requires empty { page.old ≡ [] }
     requires few { length cells.now ≤ 2097152 }

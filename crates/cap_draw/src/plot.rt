@@ -1,11 +1,13 @@
-//! How wide and how high the parts of a picture are.
+//! How wide and how high the parts of a picture are. All numbers are whole, so that each byte of the picture is
+//! determined.
 ghost use Rattle.std.specs.Prelude.{◌≡◌, ◌<◌, ◌≤◌, ◌+◌, min, length};
 ghost use Rattle.cap_draw.specs.Plot.{plot_of, plot_width, rows_by, share};
 ghost use Rattle.cap_survey.specs.Totals.{greatest_of, sum8_of};
 
 use cap_survey::{Cell, greatest_sum8};
 
-/// How wide a plot is, how many PI error rows are as high as one unit of it, and how many columns share its width.
+/// How wide a plot is, how many PI error rows are as high as one unit of it, and how many columns share its width. A
+/// plot is 440 units high, so that a great peak needs more rows to a unit.
 #[derive(Clone, Copy, Debug, PartialEq, Eq, Drop)]
 pub struct Plot {
     pub width: u16,
@@ -30,7 +32,7 @@ pub fn plot_of(cells: &[Cell], most: u16) -> Plot
     }
 }
 
-// A whole number of units for each column, together at least 1,000.
+// A whole number of units for each column, together at least 1,000: a plot of few columns isn't narrow.
 fn plot_width(most: u16) -> u16
     requires some { 0 < most }
     requires most { most ≤ 4000 }
@@ -40,6 +42,7 @@ fn plot_width(most: u16) -> u16
     most * ((999 + most) / most)
 }
 
+// How many PI error rows are a unit: as few as show the peak in 420 units. The greatest peak, 1,664, needs four.
 fn rows_by(peak: u16) -> u16
     ensures rows { result ≡ rows_by peak }
     ensures bound { result ≤ 4 }
@@ -53,7 +56,8 @@ fn rows_by(peak: u16) -> u16
     }
 }
 
-/// Where part `k` begins, if a whole is shared among `parts` parts.
+/// Where part `k` begins, if a whole is shared among `parts` parts. The product is of 64 bits, since each factor may be
+/// 2^21.
 pub fn share(k: u32, whole: u32, parts: u32) -> u32
     requires some { 0 < parts }
     requires within { k ≤ parts }

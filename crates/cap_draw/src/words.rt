@@ -1,11 +1,12 @@
-//! The totals in words, and the legend.
+//! The totals in words, and the legend. With them the picture needs no page beside it.
 ghost use Rattle.std.specs.Prelude.{◌≡◌, ◌≤◌, ◌+◌, ◌++◌, length};
 ghost use Rattle.cap_draw.specs.Words.{counts_text, cut_line, cut_text, head, legend, lower_legend, peak_text, totals_text};
 
 use crate::page::Page;
 use cap_survey::{Cell, Totals, totals_of};
 
-/// Puts what a picture begins with: its size, its classes, a white ground and its heading.
+/// Puts what a picture begins with: its size, its classes, a white ground and its heading. 64 units on the left and 44
+/// on the right are for axes and numbers.
 pub fn put_head(page: &mut Page, width: u16)
     requires room { length page.old ≤ 100 }
     requires width { width ≤ 4999 }
@@ -43,6 +44,7 @@ pub fn put_totals(page: &mut Page, cells: &[Cell], columns: u16, closed: bool)
     put_cut(page, totals.blocks, closed);
 }
 
+// Without the line of totals nothing shows that these are all the lines, so the picture says it.
 fn put_cut(page: &mut Page, blocks: u64, closed: bool)
     requires { length page.old ≤ 2000 }
     ensures bytes { page.new ≡ page.old ++ cut_text blocks closed }
@@ -89,7 +91,7 @@ fn put_peak(page: &mut Page, totals: &Totals)
     page.put(b".</text>\n");
 }
 
-/// Puts what the colours and the marks mean.
+/// Puts what the colours and the marks mean. Its pieces of colour are drawn by the classes of the picture itself.
 pub fn put_legend(page: &mut Page)
     requires room { length page.old ≤ 1940000 }
     ensures bytes { page.new ≡ page.old ++ legend }
@@ -106,6 +108,7 @@ pub fn put_legend(page: &mut Page)
     put_lower_legend(page);
 }
 
+// Puts what the bands below the plot show.
 fn put_lower_legend(page: &mut Page)
     requires room { length page.old ≤ 1991000 }
     ensures bytes { page.new ≡ page.old ++ lower_legend }
