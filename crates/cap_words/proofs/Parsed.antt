@@ -9,7 +9,7 @@ use Rattle.cap_words.specs.Reading.{rows_for}
 use Rattle.cap_words.specs.declared.settings.Command.{Command}
 use Rattle.cap_words.specs.declared.settings.Command.TheVariants.{Mark, Interleave, Lost, Draw}
 
--- clap tells of each command exactly what it makes of words
+-- clap says exactly, of each command, what it makes of words
 pub free : (command : Command) → is_simple_and_free (app_for command) ≡ true
 free Mark = refl
 free Interleave = refl
@@ -25,7 +25,7 @@ pub rows_taken : (command : Command) (words : List Text) (rows : List Row) → f
     → rows_for command words ≡ Some rows
 rows_taken command words rows none are = rw (none, are) refl
 
--- kinds among which one stands aren't empty
+-- kinds that have one among them aren't empty
 some_kind : (kind : ErrorKind) (kinds : Kinds) → IsAmong kind kinds → is_empty kinds ≡ false
 some_kind kind [] among = absurd among
 some_kind kind (k ∷ ks) among = grind arith

@@ -8,7 +8,8 @@ use crate::settings::DrawSettings;
 use clap::ArgMatches;
 use dvd_words::read_within;
 
-/// Each option by its form.
+/// Each option by its form. A picture of 4,000 columns has at most 2,000,000 bytes, which is the memory that is taken
+/// for one.
 pub fn draw_settings(matches: &ArgMatches<'_>) -> Option<DrawSettings>
     ensures value { result ≡ draw_of (rows_of (found_of matches.now)) }
     ensures bounds { IfSome result (λ settings. (100 ≤ settings.width) × (settings.width ≤ 4000)) }

@@ -1,4 +1,4 @@
-//! Why arguments give no settings.
+//! Why arguments give no settings. Memory is apart from usage, since the same arguments may be read later.
 ghost use Rattle.std.specs.Prelude.{◌≡◌};
 ghost use Rattle.cap_words.specs.declared.fault.WordsFault.TheVariants.{NoMemory};
 

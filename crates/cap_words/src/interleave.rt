@@ -1,4 +1,4 @@
-//! The values of `interleave`.
+//! The values of `interleave`. The files are only named here: they are opened by `main`.
 ghost use Rattle.std.specs.Prelude.{◌≡◌, codes, map, option_map, IfSome};
 ghost use Rattle.clap.specs.Words.{all_of, found_of, rows_of};
 ghost use Rattle.cap_words.specs.Interleave.{IsLawful, are_few, files_in, form_in, interleave_asked, interleave_of, is_set, may_fill};
@@ -25,7 +25,8 @@ pub fn interleave_settings<'a>(matches: &ArgMatches<'a>) -> Option<InterleaveSet
     }
 }
 
-// The form that is named, whose blocks all have the same number of bytes.
+// The form that is named, whose blocks all have the same number of bytes. A listed capture begins with a header, and
+// isn't cut into blocks of one size.
 fn form_in(text: Option<&str>) -> Option<Form>
     ensures { result ≡ form_in (option_map (λ s. s.now) text.entry) }
 {
@@ -42,6 +43,7 @@ fn may_fill(form: Form, fill: bool) -> bool
     form == Form::Marked || !fill
 }
 
+// clap gives each flag a value, which is a text like others.
 fn is_set(matches: &ArgMatches<'_>, name: &str) -> bool
     ensures { result ≡ is_set name.now (rows_of (found_of matches.now)) }
 {
@@ -62,6 +64,7 @@ fn given_files<'m, 'a>(matches: &'m ArgMatches<'a>) -> Option<&'m [&'a str]>
     matches.get_strs("file")
 }
 
+// `merge` joins from 2 to 16 captures.
 fn few_files<'a>(names: &[&'a str]) -> Option<ArrayVec<&'a str, 16>>
     ensures { option_map (λ files. map (λ file. file.now) files.items) result ≡ are_few (map (λ name. name.now) names.now) }
 {
@@ -69,6 +72,7 @@ fn few_files<'a>(names: &[&'a str]) -> Option<ArrayVec<&'a str, 16>>
         return None;
     }
     let mut files = ArrayVec::new();
+    // There is room for sixteen, so that more of them are refused here.
     files.try_extend_from_slice(names).ok()?;
     Some(files)
 }

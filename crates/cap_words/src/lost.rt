@@ -1,4 +1,5 @@
-//! The values of `lost`.
+//! The values of `lost`. They are those of `dvdecc recover`, read by the same functions, so that the same words mean
+//! one layout.
 ghost use Rattle.std.specs.Prelude.{◌≡◌};
 ghost use Rattle.clap.specs.Words.{found_of, rows_of};
 ghost use Rattle.cap_words.specs.Lost.{lost_of};

@@ -1,4 +1,4 @@
-//! The values of `mark`.
+//! The values of `mark`. A file is opened by `main`: here its name is a text.
 ghost use Rattle.std.specs.Prelude.{◌≡◌, option_map};
 ghost use Rattle.std.specs.List.{list_all};
 ghost use Rattle.clap.specs.Words.{found_of, rows_of};
@@ -17,7 +17,8 @@ pub fn mark_settings<'a>(matches: &ArgMatches<'a>) -> Option<MarkSettings<'a>>
     Some(MarkSettings { map, good })
 }
 
-// The statuses that are trusted: those that are given, each of which a block can have, or `+`.
+// The statuses that are trusted: those that are given, each of which a block can have, or `+` alone. A missing mark
+// costs more than one too many.
 fn good_in<'a>(text: Option<&'a str>) -> Option<&'a str>
     ensures { option_map (λ s. s.now) result ≡ good_in (option_map (λ s. s.now) text.entry) }
 {
@@ -40,6 +41,7 @@ fn are_statuses(text: &[u8]) -> bool
     text.iter().all(|status| is_good_status(*status))
 }
 
+// The five statuses that a block of a map has; `F` and `G` are of a whole run.
 fn is_good_status(status: u8) -> bool
     ensures { result ≡ is_good_status status }
 {

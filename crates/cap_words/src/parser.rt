@@ -1,4 +1,5 @@
-//! The clap command of each command. Values are texts to clap, and the module of their command reads them by their forms.
+//! The clap command of each command. Values are texts to clap, and the module of their command reads them by their
+//! forms.
 ghost use Rattle.std.specs.Prelude.{◌≡◌, codes, false, true, None, Some, IfOk, map, option_map, string_bytes};
 ghost use Rattle.clap.specs.Words.{app_of, first_of, found_of, rows_of, with_rule};
 ghost use Rattle.cap_words.specs.Apps.{app_for, bare_app, file_rule, flag_rule, option_rule, with_options};
@@ -34,6 +35,7 @@ pub fn given<'a>(matches: &ArgMatches<'a>, name: &str) -> Option<&'a str>
     matches.get_str(name)
 }
 
+// Each command has its own parser, so that an option of another one is refused.
 fn parser_for<'a>(alloc: Global, command: Command) -> Result<clap::Command<'a>, AllocError>
     ensures { IfOk result (λ parser. app_of parser ≡ app_for command) }
 {
@@ -62,7 +64,7 @@ fn bare_parser<'a>(alloc: Global, name: &'a str) -> clap::Command<'a>
     clap::Command::new(alloc, name).disable_help_flag(true)
 }
 
-// The command with one more option, which has one value.
+// The command with one more option, which has one value. `Set` refuses one that is given twice.
 fn with_option<'a>(
     alloc: Global,
     parser: clap::Command<'a>,

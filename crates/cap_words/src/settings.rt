@@ -1,4 +1,4 @@
-//! What the arguments of a command line ask for.
+//! What the arguments of a command line ask for. The commands share few options, so that each has its own struct.
 
 use arrayvec::ArrayVec;
 use dvd_capture::Form;
@@ -17,7 +17,7 @@ pub enum Command {
     Draw,
 }
 
-/// A command with its options.
+/// A command with its options. Texts in them are borrowed from the arguments, and no memory is taken.
 #[derive(Debug, Drop)]
 pub enum Settings<'a> {
     /// `mark`, with a map and the statuses that are trusted.

@@ -1,4 +1,5 @@
-//! Reads the arguments of the command line.
+//! Reads the arguments of the command line: the word of the command, its options by clap, and their values. Whatever is
+//! wrong is one usage error, so `None` says enough.
 ghost use Rattle.std.specs.Prelude.{◌≡◌, None, IfOk, IfSome, map, option_map, string_bytes};
 ghost use Rattle.clap.specs.Words.{found_of, rows_of};
 ghost use Rattle.cap_words.specs.Reading.{Asks, AreLawful, asked_by, command_of, reading, settings_of};
@@ -26,6 +27,7 @@ pub fn read<'a>(alloc: Global, words: &'a [String]) -> Result<Settings<'a>, Word
     let Some(command) = command_named(word.as_str()) else {
         return Err(WordsFault::Usage);
     };
+    // The word of the command is handed on too: clap passes over it, as over a program's name.
     let matches = parse(alloc, command, words)?;
     settings(command, &matches).ok_or(WordsFault::Usage)
 }
