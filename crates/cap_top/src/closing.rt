@@ -1,4 +1,5 @@
-//! The line that closes a report, and the status that goes with it.
+//! The line that closes a report, and the status that goes with it. A run whose closing line fails has the status
+//! ReportFault, whatever else it did: silence isn't success.
 ghost use Rattle.std.specs.Prelude.{◌≡◌, codes};
 ghost use Rattle.cap_top.specs.Closing.{EndsWith, words_line, words_status};
 

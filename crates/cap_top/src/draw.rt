@@ -1,4 +1,5 @@
-//! A run of `draw`.
+//! A run of `draw`: a survey in, its picture out. The end of `draw` says all, so that only its status and its line are
+//! made here.
 ghost use Rattle.std.specs.Prelude.{◌≡◌, ◌≤◌};
 ghost use Rattle.cap_top.specs.Draw.{Runs, draw_status};
 
@@ -26,6 +27,7 @@ pub fn run_draw<S: Source, K: Sink, E: Sink>(
     ensures { Runs settings.now.width (S.seen src.old) (S.seen src.new) (K.seen out.old) (K.seen out.new) (src.new ≡ src.old) (out.new ≡ out.old)
         (E.seen report.old) (E.seen report.new) result }
 {
+    // A width of at most 4,000 fits 16 bits.
     let end = draw(alloc, settings.width as u16, src, out);
     end_with(draw_status(end), draw_line(end).as_slice(), report)
 }

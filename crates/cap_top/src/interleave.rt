@@ -1,4 +1,4 @@
-//! A run of `interleave`.
+//! A run of `interleave`: several captures in, their blocks in turn out.
 ghost use Rattle.std.specs.Prelude.{◌≡◌, ◌≤◌, length};
 ghost use Rattle.cap_top.specs.Interleave.{Headline, status_of};
 ghost use Rattle.cap_words.specs.Interleave.{IsLawful};
@@ -27,6 +27,7 @@ pub fn run_interleave<S: Source, K: Sink, E: Sink>(
     ensures { Headline S.seen settings.now captures.old captures.new ((captures.new ≡ captures.old) × (out.new ≡ out.old))
         (K.seen out.old) (K.seen out.new) (E.seen report.old) (E.seen report.new) result }
 {
+    // Memory is taken for all captures before any is read, so that no run ends for want of it in the middle.
     match Buffers::new(alloc, settings.form, settings.fill, captures.len()) {
         Ok(mut buffers) => {
             let end = interleave_loop(&mut buffers, captures, out);

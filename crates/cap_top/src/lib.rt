@@ -1,4 +1,5 @@
-//! What one run of `dvdcap` does: a command, and each line of its report.
+//! What one run of `dvdcap` does: a command, and each line of its report. Streams are parameters, so that tests run
+//! over memory and cap_main over files.
 #![tactic(auto)]
 
 mod closing; // the line that closes a report

@@ -1,4 +1,4 @@
-//! A run of `lost`.
+//! A run of `lost`: a report of `dvdecc` in, a map of the image out.
 ghost use Rattle.std.specs.Prelude.{◌≡◌};
 ghost use Rattle.cap_top.specs.Lost.{Headline, HasEnded, refusal_status};
 ghost use Rattle.dvd_loop.specs.Streams.{streams};
@@ -47,6 +47,7 @@ fn map_image<S: Source, K: Sink, E: Sink>(
         (streams (S.seen src.old) (K.seen out.old) (E.seen report.old))
         (streams (S.seen src.new) (K.seen out.new) (E.seen report.new)) result }
 {
+    // The whole report first: how much was written is in its last line.
     match read_report(alloc, layout, zones, src) {
         Ok(lost) => match write_map(&lost, layout.total(), out) {
             Ok(()) => end_with(Status::Done, b"done\n", report),

@@ -1,4 +1,4 @@
-//! A run of `mark`.
+//! A run of `mark`: a map and a plain capture in, the capture in the marked form out.
 ghost use Rattle.std.specs.Prelude.{◌≡◌};
 ghost use Rattle.cap_top.specs.Mark.{Headline};
 ghost use Rattle.cap_top.specs.Mark.Statuses.{refusal_status, status_of};
@@ -44,6 +44,7 @@ pub fn run_mark<M: Source, S: Source, K: Sink, E: Sink>(
     }
 }
 
+// A capture may end after any frame: an end within one of which no byte came is no fault.
 fn status_of(end: LoopEnd) -> Status
     ensures { result ≡ status_of end }
 {

@@ -1,7 +1,8 @@
-//! How a run ends.
+//! How a run ends, as the number that a shell sees.
 ghost use Rattle.std.specs.Prelude.{◌≡◌};
 
-/// The exit statuses of the program, with the numbers that `dvdecc` has for them.
+/// The exit statuses of the program, with the numbers that `dvdecc` has for them. 7 is missing, since no command here
+/// refuses blocks.
 #[derive(Clone, Copy, Debug, PartialEq, Eq)]
 pub enum Status {
     /// The command ran to its end.

@@ -1,4 +1,4 @@
-//! The lines of the report of `draw`.
+//! The lines of the report of `draw`. Each run has one, which closes it, and scripts may look for its text.
 ghost use Rattle.std.specs.Prelude.{◌≡◌, ◌≤◌, length};
 ghost use Rattle.cap_top.specs.Draw.{draw_line, rule_text};
 

@@ -17,6 +17,7 @@ pub fn setting_line(fault: LayoutFault) -> Line
     line
 }
 
+// Puts the rule that is broken, after `setting: `. dvd_top has it too, but isn't used by `dvdcap`.
 fn put_fault(line: &mut Line, fault: LayoutFault)
     requires { length line.old ≡ 9 }
     ensures bytes { line.new ≡ line.old ++ fault_text fault }

@@ -7,7 +7,7 @@ use cap_map::Cause;
 use dvd_loop::LoopEnd;
 use dvd_report::Line;
 
-/// The line that closes the report of a run. The number of recording frames of a capture isn't known before, so an end
+/// The line that closes the report of a run. The number of recording frames of a capture isn't known before. So an end
 /// within a frame none of whose bytes came is that of a whole capture. The line is empty after a fault of the report,
 /// and for an end that no run has.
 pub fn close_line(end: LoopEnd) -> Line
@@ -26,6 +26,7 @@ pub fn close_line(end: LoopEnd) -> Line
             line.put(b" bytes\n");
         }
         LoopEnd::Long => line.put(b"long\n"),
+        // A report that failed gets no line more, and the other ends are none of `mark`.
         _ => {}
     }
     line

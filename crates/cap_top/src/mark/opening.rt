@@ -1,4 +1,4 @@
-//! The map of a run, which is read whole before the capture is touched.
+//! The map of a run, which is read whole before the capture is touched: a wrong map then costs no output.
 ghost use Rattle.std.specs.Prelude.{◌≡◌, IfOk, IfErr};
 ghost use Rattle.cap_top.specs.Mark.Opening.{IsRefused, IsTextFault, Opens, TextIs};
 
@@ -17,7 +17,8 @@ pub enum Refusal {
     Rule { line: u64, cause: Cause },
 }
 
-/// Reads a map in which these statuses are trusted, to its end.
+/// Reads a map in which these statuses are trusted, to its end. No span is used before the last line was read, since
+/// one that breaks a rule ends the run.
 pub fn open_map<M: Source>(alloc: Global, good: &[u8], map: &mut M) -> Result<Vec<Span>, Refusal>
     ensures opened { IfOk result (λ spans. Opens good.now (M.seen map.old) (M.seen map.new) spans.items) }
     ensures refused { IfErr result (IsRefused good.now (M.seen map.old) (M.seen map.new)) }
@@ -30,6 +31,7 @@ pub fn open_map<M: Source>(alloc: Global, good: &[u8], map: &mut M) -> Result<Ve
     }
 }
 
+// Reads the text of a map by pieces. Its length isn't known before, so the text grows.
 fn read_text<M: Source>(alloc: Global, map: &mut M) -> Result<Vec<u8>, Refusal>
     ensures read { IfOk result (λ text. TextIs (M.seen map.old) (M.seen map.new) text.items) }
     ensures refused { IfErr result (IsTextFault (M.seen map.old) (M.seen map.new)) }
