@@ -1,4 +1,5 @@
-//! The program dvdcap: it makes the real arguments, files and streams, and ends with the status of the run.
+//! The program dvdcap: it makes the real arguments, files and streams, and ends with the status of the run. All else is
+//! in cap_words and cap_top, whose calls have contracts.
 #![tactic(auto)]
 
 ghost use Rattle.std.specs.Prelude.{◌≡◌, ◌≤◌, length, vec_len, IfOk};
@@ -17,6 +18,7 @@ use std::process::ExitCode;
 use std::rt::Env;
 
 fn main(rt: HostRuntime) -> ExitCode {
+    // The report is first, since refused arguments have a line too.
     let mut report = StdSink::new(rt.stderr());
     let status = match words(&rt) {
         Ok(words) => match read(rt.alloc(), &words) {
@@ -28,6 +30,7 @@ fn main(rt: HostRuntime) -> ExitCode {
     ExitCode::from(status.number())
 }
 
+// Each command has streams of its own: `mark` a file and the input, `interleave` several files, the others the input.
 fn run<E: Sink>(rt: &HostRuntime, settings: &Settings<'_>, report: &mut E) -> Status
     requires { AreLawful settings.now }
 {
@@ -60,7 +63,7 @@ fn interleave<E: Sink>(
     run_interleave(rt.alloc(), settings, &mut captures, &mut out, report)
 }
 
-// Opens the files of these names, in order.
+// Opens the files of these names, in order. All are opened before anything is written.
 fn open_all(rt: &HostRuntime, names: &[&str]) -> Result<Vec<StdSource<Opened>>, NoMemory>
     ensures { IfOk result (λ files. vec_len files ≡ length names.now) }
 {
@@ -87,13 +90,15 @@ fn draw<E: Sink>(rt: &HostRuntime, settings: &DrawSettings, report: &mut E) -> S
     run_draw(rt.alloc(), settings, &mut src, &mut out, report)
 }
 
-// A file. One that couldn't be opened can't be read.
+// A file. One that couldn't be opened can't be read. So a run names it as it names a read that fails, and needs no
+// other way to end.
 #[derive(Drop)]
 struct Opened {
     file: Option<File>,
 }
 
 impl Opened {
+    // A name that can't be opened isn't refused here: the first read of it fails.
     fn new(rt: &HostRuntime, name: &str) -> Opened {
         Opened {
             file: File::open(rt, name).ok(),
