@@ -1,5 +1,6 @@
 //! Sums of elements of the field of 256, with x^8 + x^4 + x^3 + x^2 + 1, and products, quotients, inverses and powers
-//! by logarithms: to multiply is to add exponents of alpha. 0 has no logarithm.
+//! by logarithms: to multiply is to add exponents of alpha. 0 has no logarithm, so it is treated apart, or a contract
+//! refuses it.
 ghost use Rattle.std.specs.Prelude.{◌≡◌, ◌≢◌, ◌<◌};
 ghost use Rattle.coding.specs.Field.{alpha, plus, product, power};
 
@@ -28,7 +29,7 @@ pub fn mul(a: u8, b: u8) -> u8
     power_at(exponent(a) + exponent(b))
 }
 
-/// The inverse of an element that isn't 0.
+/// The inverse of an element that isn't 0. The exponents of both add up to 255, as alpha^255 is 1.
 #[inline]
 #[tactic(auto, using(crate::proofs::Logarithms::inverse_by_powers))]
 pub fn inv(a: u8) -> u8
@@ -48,10 +49,11 @@ pub fn div(a: u8, b: u8) -> u8
     if a == 0 {
         return 0;
     }
+    // 255 more leaves the power as it is, and the difference is then not below 0.
     power_at(exponent(a) + 255 - exponent(b))
 }
 
-/// The element alpha = 02 to the power k.
+/// The element alpha = 02 to the power k. Any k is allowed: the powers repeat after 255.
 #[inline]
 #[tactic(auto, using(crate::proofs::Logarithms::exponents))]
 pub fn alpha_pow(k: u32) -> u8
@@ -70,7 +72,8 @@ pub fn log(a: u8) -> u8
     exponent(a) as u8
 }
 
-/// The exponent of alpha whose power is an element that isn't 0: a place in the table of powers.
+/// The exponent of alpha whose power is an element that isn't 0: a place in the table of powers. It is a `usize`, so
+/// that the sum of two fits and is a place.
 #[inline]
 fn exponent(a: u8) -> usize
     requires { a ≢ 0 }

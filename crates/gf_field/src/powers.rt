@@ -1,7 +1,9 @@
 //! The tables of powers of alpha and of logarithms, from which products, quotients and inverses are read.
 //! The definitions use shifts alone: the checker computes from them that each entry is right.
 
-/// alpha^k at place k. The sum of two logarithms, or of one and 255, is a place.
+/// alpha^k at place k. There are 510 entries since a place is the sum of two logarithms, or of one and 255. A logarithm
+/// is at most 254, so no place is above 509.
+/// Both tables are statics, which no call copies.
 pub static POWERS: [u8; 510] = [
     0x01, 0x02, 0x04, 0x08, 0x10, 0x20, 0x40, 0x80, 0x1D, 0x3A, 0x74, 0xE8, 0xCD, 0x87, 0x13, 0x26,
     0x4C, 0x98, 0x2D, 0x5A, 0xB4, 0x75, 0xEA, 0xC9, 0x8F, 0x03, 0x06, 0x0C, 0x18, 0x30, 0x60, 0xC0,
