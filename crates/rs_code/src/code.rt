@@ -22,7 +22,8 @@ pub type Ied = Code<6, 2>;
 /// The code of words of `N` bytes that end with `R` parity bytes.
 #[derive(Drop)]
 pub struct Code<const N: usize, const R: usize> {
-    /// The generator polynomial without its leading 1, the highest power first.
+    /// The generator polynomial without its leading 1, the highest power first. Codes with 10 or 16 parity bytes divide
+    /// by tables and don't use it.
     generator: ArrayVec<u8, 32>,
     /// A word has 1 to 32 parity bytes, at least one byte more, and at most 255 in all.
     pub ghost bounds: { (1 ≤ R) × (R < N) × (N ≤ 255) × (R ≤ 32) },
@@ -43,7 +44,8 @@ impl<const N: usize, const R: usize> Code<N, R> {
         }
     }
 
-    /// Sets the last `R` bytes of `word` so that it is a codeword, and keeps the others.
+    /// Sets the last `R` bytes of `word` so that it is a codeword, and keeps the others. The parity is the remainder of
+    /// the other bytes by the generator, so that the whole is a multiple of it.
     pub fn encode(&self, word: &mut [u8; N])
         ensures { IsEncoded N R (take (N - R) word.old) word.new }
     {
@@ -51,14 +53,15 @@ impl<const N: usize, const R: usize> Code<N, R> {
         self.divide(message, parity);
     }
 
-    /// The values of `word` at alpha^0 to alpha^(R-1), in this order.
+    /// The values of `word` at alpha^0 to alpha^(R-1), in this order. They are those of its remainder, which has the
+    /// same values and is shorter.
     pub fn syndromes(&self, word: &[u8; N]) -> ArrayVec<u8, 32>
         ensures { result.items ≡ syndromes_of R word.now }
     {
         evaluation::syndromes(&self.remainder(word), R)
     }
 
-    /// Whether `word` is a codeword.
+    /// Whether `word` is a codeword. A codeword is a multiple of the generator, so that no remainder is left.
     pub fn is_codeword(&self, word: &[u8; N]) -> bool
         ensures { IsTrue result ↔ IsCodeword N R word.now }
     {
@@ -75,6 +78,7 @@ impl<const N: usize, const R: usize> Code<N, R> {
         let (message, parity) = word.split_at(N - R);
         let mut remainder = [0; R];
         self.divide(message, &mut remainder);
+        // The last `R` bytes are below the generator's degree: they are their own remainder.
         division::add_word(&mut remainder, parity);
         remainder
     }
@@ -87,6 +91,7 @@ impl<const N: usize, const R: usize> Code<N, R> {
         ensures message_bytes { All IsByte message.now }
         ensures parity_bytes { All IsByte parity.new }
     {
+        // `R` is a constant of the type, so the choice is made before the program runs.
         if R == 10 {
             register::divide(&PI_TABLES, message, parity);
         } else if R == 16 {

@@ -49,6 +49,7 @@ fn product_of_factors(parity: u8) -> ArrayVec<u8, 32>
 fn multiply_by_root(coefficients: &mut [u8], root: u8)
     ensures { (polynomial : List ℕ) → coefficients.old ≡ polynomial ++ 0 ∷ [] → coefficients.new ≡ times_root polynomial root }
 {
+    // The leading 1, which isn't stored.
     let mut before = 1;
     for coefficient in coefficients.iter_mut() {
         let current = *coefficient;
@@ -58,7 +59,8 @@ fn multiply_by_root(coefficients: &mut [u8], root: u8)
 }
 
 /// Sets `register` to the remainder of `message` by the generator, which is its parity. Also ensures that the elements
-/// of `message` are bytes.
+/// of `message` are bytes. In this field a sum is a difference too: the message, followed by its remainder, is a
+/// multiple of the generator.
 pub fn divide(generator: &[u8], message: &[u8], register: &mut [u8])
     requires some_degree { 0 < length generator.now }
     requires fits { length register.old ≡ length generator.now }
@@ -71,7 +73,8 @@ pub fn divide(generator: &[u8], message: &[u8], register: &mut [u8])
     }
 }
 
-/// One step of the division: reads one more byte.
+/// One step of the division: reads one more byte. The sum of the byte and the one that leaves the register is the
+/// leading coefficient. The multiple of the generator that has the same one is added, which cancels it.
 fn read_byte(generator: &[u8], register: &mut [u8], byte: u8)
     requires some_degree { 0 < length generator.now }
     requires fits { length register.old ≡ length generator.now }

@@ -33,7 +33,8 @@ pub fn is_zero(word: &[u8]) -> bool
 }
 
 /// The value of a word of at most 33 bytes at alpha to a power below 255, term by term. A term's logarithm is that of
-/// its byte plus a multiple of the exponent, so that no term depends on another.
+/// its byte plus a multiple of the exponent, so that no term depends on another. Logarithms and multiples are summed up
+/// in 32 bits: with so few bytes no sum is too great.
 pub fn value_at(word: &[u8], exponent: u32) -> u8
     requires few { length word.now ≤ 33 }
     requires below { exponent < 255 }

@@ -1,6 +1,7 @@
 //! Division by a generator of at most sixteen coefficients: the remainder is one number of 128 bits, its first byte
 //! highest. A byte is read by one look-up, of the generator times the sum of that byte and the one that leaves the
-//! register. Four bytes are read by four look-ups at once.
+//! register. Four bytes are read by four look-ups at once. The remainder is at the upper end whatever its length is, so
+//! that the byte that leaves is always the highest one.
 ghost use Rattle.std.specs.Prelude.{◌≡◌, ℕ, ◌<◌, ◌≤◌, List, [], ◌∷◌, ◌++◌, length, slice_index_or, take, All};
 ghost use Rattle.std.specs.List.{concat};
 ghost use Rattle.coding.specs.Words.{IsByte};
@@ -8,7 +9,7 @@ ghost use Rattle.rs_code.specs.Inner.Polynomials.{IsRemainder};
 ghost use Rattle.rs_code.specs.Inner.Registers.{AreTables, after_bytes, register_bytes};
 
 /// Sets `parity` to the remainder of `message` by the generator whose tables these are. Also ensures that the elements
-/// of `message` are bytes.
+/// of `message` are bytes. The messages of both codes of a block, 172 and 192 bytes, are whole words of four.
 #[inline]
 pub fn divide(tables: &[[u128; 256]; 4], message: &[u8], parity: &mut [u8])
     requires some_parity { 0 < length parity.old }
@@ -58,7 +59,8 @@ fn with_bytes(tables: &[[u128; 256]; 4], register: u128, bytes: &[u8]) -> u128
     next
 }
 
-/// Four steps of the division in one. No look-up depends on another.
+/// Four steps of the division in one. No look-up depends on another. The first of the four goes through three more
+/// steps than the last, so each has a table of its own.
 #[inline]
 fn with_word(tables: &[[u128; 256]; 4], register: u128, word: [u8; 4]) -> u128
     ensures { (generator : List ℕ) → AreTables generator tables.now → (rest : List ℕ)
@@ -70,7 +72,8 @@ fn with_word(tables: &[[u128; 256]; 4], register: u128, word: [u8; 4]) -> u128
     (register << 32) ^ front ^ back
 }
 
-/// One step of the division: reads one more byte.
+/// One step of the division: reads one more byte. The upper byte leaves. Its sum with the byte that is read says which
+/// multiple of the generator cancels it.
 #[inline]
 #[tactic(auto, unfolding(crate::specs::Inner::Registers::after_byte, crate::specs::Inner::Registers::after_bytes))]
 fn with_byte(table: &[u128; 256], register: u128, byte: u8) -> u128
