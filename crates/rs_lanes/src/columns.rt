@@ -1,4 +1,5 @@
-//! The columns of an ECC block, 32 at once.
+//! The columns of an ECC block, 32 at once. A vector has the bytes of one row in 32 columns, so that the rows needn't
+//! be transposed.
 ghost use Rattle.std.specs.Prelude.{◌≡◌, ℕ, ◌+◌, ◌<◌, ◌≤◌, List, ◌++◌, length, map, slice_index, EachIndex, All};
 ghost use Rattle.coding.specs.Field.{alpha, power};
 ghost use Rattle.coding.specs.Words.{IsByte, IsEncoded, value};
@@ -25,6 +26,7 @@ pub fn outer_parity(rows: &[[u8; 182]], parity: &mut [[u8; 182]])
     for group in 0..5 {
         put_parity(rows, 32 * group, parity);
     }
+    // 182 is no multiple of 32: the last 32 columns repeat ten of the group before.
     put_parity(rows, 150, parity);
 }
 
@@ -42,8 +44,9 @@ pub fn column_values<T: Row>(rows: &[T], at: usize) -> [u8x32; 16]
     values_of(&thirds)
 }
 
-/// The outer parity of the 32 columns from `at` on of 192 rows, a vector for each of its sixteen bytes: that of column `at + n`
-/// is in lane `n`.
+/// The outer parity of the 32 columns from `at` on of 192 rows, a vector for each of its sixteen bytes. Lane `n` is for
+/// column `at + n`. A parity has the same values as its column with zeros in its place: the sum of both is then 0 at
+/// each root.
 pub fn parity_of_columns(rows: &[[u8; 182]], at: usize) -> [u8x32; 16]
     requires at { at + 32 ≤ 182 }
     requires rows { length rows.now ≡ 192 }
@@ -85,7 +88,8 @@ fn put_vectors(vectors: &[u8x32; 16], at: usize, parity: &mut [[u8; 182]])
     }
 }
 
-// Sets the 32 places from `at` on in a row. Also ensures that the row has 182 places.
+// Sets the 32 places from `at` on in a row. Also ensures that the row has 182 places. It is passed by itself, since of
+// a row in a list this isn't known.
 #[inline(always)]
 fn put_lanes(lanes: u8x32, row: &mut [u8; 182], at: usize)
     requires { at + 32 ≤ 182 }
@@ -124,7 +128,8 @@ fn put_thirds<T: Row>(rows: &[T], at: usize, thirds: &mut [[u8x32; 3]; 85])
     }
 }
 
-// A place of these columns after 47 zeros are put before each.
+// A place of these columns after 47 zeros are put before each. A column has 208 bytes and three pieces 255. Zeros in
+// front of a word change none of its values.
 #[inline(always)]
 fn padded<T: Row>(rows: &[T], at: usize, place: usize) -> u8x32
     requires at { at + 32 ≤ 182 }
@@ -139,7 +144,8 @@ fn padded<T: Row>(rows: &[T], at: usize, place: usize) -> u8x32
     }
 }
 
-// The 32 bytes of row `i` from place `at` on, or zeros below the last row.
+// The 32 bytes of row `i` from place `at` on, or zeros below the last row. Rows that are missing are those of the
+// parity, in whose place zeros are read.
 #[inline(always)]
 fn lanes_or_zeros<T: Row>(rows: &[T], i: usize, at: usize) -> u8x32
     requires { at + 32 ≤ 182 }

@@ -12,7 +12,9 @@ use crate::lanes::{mixed, times};
 use std::simd::prelude::*;
 
 /// One place of the five pieces of the third with number `i`, added up to one by Horner's rule in the 17th power of
-/// alpha^k: result `m` for the exponent k with number `m`.
+/// alpha^k: result `m` for the exponent k with number `m`. With k = 10 i + 3 m the 17th power of alpha^k is
+/// alpha^(170 i) times alpha^(51 m). So piece j is multiplied by alpha^(170 i j) first, in 2 i j turns. What is left
+/// for each m is a fifth root of one.
 #[inline(always)]
 pub fn folded_places(thirds: &[[u8x32; 3]; 85], i: usize, place: usize) -> [u8x32; 5]
     requires third { i < 3 }

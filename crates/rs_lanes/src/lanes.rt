@@ -1,4 +1,5 @@
-//! Vectors of 32 bytes, lane by lane.
+//! Vectors of 32 bytes, lane by lane. Each operation is a function of its own, so that a contract says once what
+//! happens in each lane.
 ghost use Rattle.std.specs.Prelude.{◌≡◌, ◌↔◌, ℕ, IsTrue, ◌+◌, ◌*◌, ◌/◌, ◌%◌, ◌<◌, ◌≤◌, length, slice_index};
 ghost use Rattle.coding.specs.Field.{plus, product};
 ghost use Rattle.coding.specs.Rows.{place};
@@ -16,7 +17,8 @@ pub fn mixed(a: u8x32, b: u8x32) -> u8x32
     a ^ b
 }
 
-/// Lanes that are zero exactly where those of every vector are.
+/// Lanes that are zero exactly where those of every vector are. So 32 words are tested by one vector: a lane is zero
+/// only where all values of its word are.
 #[inline(always)]
 pub fn any_of<const R: usize>(vectors: &[u8x32; R]) -> u8x32
     ensures size { length result ≡ 32 }
@@ -60,7 +62,8 @@ pub fn store(lanes: u8x32, row: &mut [u8], at: usize)
     lanes.copy_to_slice(&mut row[at..]);
 }
 
-/// The product of each lane and the factor of the table.
+/// The product of each lane and the factor of the table. A product is linear: it is the sum of those with the low and
+/// with the high half of the lane.
 #[inline(always)]
 pub fn times(table: &[[u8; 16]; 2], lanes: u8x32) -> u8x32
     ensures { (factor : ℕ) → IsTable factor table.now → HasLanes result (λ k. product (slice_index lanes k) factor) }
@@ -114,7 +117,7 @@ fn by_high_nibble(table: &[u8; 16], lanes: u8x32) -> u8x32
     twice(table).swizzle_dyn_within::<16>(lanes >> u8x32::splat(4))
 }
 
-// The table in both halves of a vector.
+// The table in both halves of a vector. A look-up reaches the sixteen entries in its own half alone.
 #[inline(always)]
 fn twice(table: &[u8; 16]) -> u8x32
     ensures { HasLanes result (λ k. slice_index table.now (k % 16)) }

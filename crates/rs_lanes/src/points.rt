@@ -1,4 +1,5 @@
-//! Vectors of sixteen bytes, where each lane has a point of its own.
+//! Vectors of sixteen bytes, where each lane has a point of its own. Sixteen are enough for the values of one word,
+//! since no code of a block has more parity bytes.
 ghost use Rattle.std.specs.Prelude.{◌≡◌, ℕ, ◌*◌, ◌/◌, ◌%◌, ◌<◌, length, slice_index};
 ghost use Rattle.coding.specs.Field.{alpha, product, power};
 ghost use Rattle.rs_lanes.specs.Inner.Lanes.{HoldsLanes};

@@ -1,4 +1,5 @@
-//! The rows of an ECC block, 32 at once.
+//! The rows of an ECC block, 32 at once. They are transposed first, so that each lane has a row of its own and one step
+//! is done for 32 rows at once.
 ghost use Rattle.std.specs.Prelude.{◌≡◌, ℕ, ◌+◌, ◌<◌, ◌≤◌, List, ◌++◌, length, take, slice_index, EachIndex, All};
 ghost use Rattle.coding.specs.Field.{alpha, power};
 ghost use Rattle.coding.specs.Words.{IsByte, IsEncoded, value};
@@ -23,6 +24,7 @@ pub fn inner_parity(rows: &mut [[u8; 182]], top: usize)
     let mut turned = [u8x32::splat(0); 182];
     turn(rows, top, &mut turned);
     let mut thirds = [[u8x32::splat(0); 3]; 85];
+    // With zeros in place of the parity, the values are those that the parity needs.
     put_thirds(&turned, 172, &mut thirds);
     let parity = parity_of(&PI_MATRIX, &values_of(&thirds));
     for n in 0..32 {
@@ -56,7 +58,8 @@ pub fn turned_values(turned: &[u8x32; 182]) -> [u8x32; 10]
     values_of(&thirds)
 }
 
-// Sets the last ten bytes of a row to lane `n` of these vectors.
+// Sets the last ten bytes of a row to lane `n` of these vectors. They are set one by one, since a vector has one byte
+// of each row.
 #[inline(always)]
 fn put_end(parity: &[u8x32; 10], n: usize, row: &mut [u8; 182])
     requires lane { n < 32 }
@@ -85,7 +88,8 @@ fn put_thirds(turned: &[u8x32; 182], count: usize, thirds: &mut [[u8x32; 3]; 85]
     }
 }
 
-// A place of these words after 73 zeros are put before each.
+// A place of these words after 73 zeros are put before each. A row has 182 bytes and three pieces 255. Zeros in front
+// of a word change none of its values.
 #[inline(always)]
 fn padded(turned: &[u8x32; 182], count: usize, at: usize) -> u8x32
     requires count { count ≤ 182 }

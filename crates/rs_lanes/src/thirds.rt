@@ -61,7 +61,8 @@ fn put_values<const R: usize>(values: &[u8x32; 5], i: usize, all: &mut [u8x32; R
     }
 }
 
-// Sets the value at alpha^15, if there are sixteen values. All others stay.
+// Sets the value at alpha^15, if there are sixteen values. All others stay. The three thirds serve five exponents each,
+// so the sixteenth value has steps of its own.
 #[inline(always)]
 fn put_last_value<const R: usize>(thirds: &[[u8x32; 3]; 85], all: &mut [u8x32; R])
     ensures set { R ≡ 16 → HasLanes (line all.new 15) (λ j. value (third thirds.now 0 j) (power alpha 15)) }
@@ -72,7 +73,8 @@ fn put_last_value<const R: usize>(thirds: &[[u8x32; 3]; 85], all: &mut [u8x32; R
     }
 }
 
-// The values of each lane's third with number `i` at its powers of alpha that are below alpha^`count`.
+// The values of each lane's third with number `i` at its powers of alpha that are below alpha^`count`. The others stay
+// zeros: a row needs ten values, and a column sixteen. A third has five pieces of seventeen places.
 #[inline(always)]
 fn values(thirds: &[[u8x32; 3]; 85], i: usize, count: usize) -> [u8x32; 5]
     requires { i < 3 }
@@ -127,7 +129,8 @@ fn next_value(k: usize, count: usize, value: u8x32, next: u8x32) -> u8x32
     }
 }
 
-// The exponent with number `m` of a third.
+// The exponent with number `m` of a third. The five are those with the remainder `i` by 3, in the order in which
+// `fifths` has their values.
 #[inline(always)]
 fn exponent(i: usize, m: usize) -> usize
     requires third { i < 3 }

@@ -1,4 +1,5 @@
-//! 32 rows, transposed: vector `k` has place `k` of each row.
+//! 32 rows, transposed: vector `k` has place `k` of each row. Bytes of one row are then in one lane, and a step for all
+//! 32 rows is a step for one vector.
 ghost use Rattle.std.specs.Prelude.{◌≡◌, ℕ, ◌+◌, ◌*◌, ◌/◌, ◌%◌, ◌<◌, ◌≤◌, length, map, slice_index, EachIndex};
 ghost use Rattle.coding.specs.Rows.{line, place};
 ghost use Rattle.rs_lanes.specs.Inner.Turning.{IsRiffled, IsTurned};
@@ -16,6 +17,7 @@ pub(crate) fn turn<T: Row>(rows: &[T], top: usize, turned: &mut [u8x32; 182])
     for tile in 0..11 {
         put_tile(&load_turned(rows, top, 16 * tile), 16 * tile, turned);
     }
+    // 182 is no multiple of sixteen: the last tile repeats ten places of the one before.
     put_tile(&load_turned(rows, top, 166), 166, turned);
 }
 
@@ -47,7 +49,7 @@ pub fn load_turned<T: Row>(rows: &[T], top: usize, at: usize) -> [u8x32; 16]
 }
 
 // Sixteen places of 32 rows: the upper sixteen rows in the lower halves of the vectors, and the others in the upper
-// halves.
+// halves. Sixteen bytes of a row are one load. So each half is a square of sixteen, which is transposed by itself.
 #[inline(always)]
 fn load_tile<T: Row>(rows: &[T], top: usize, at: usize) -> [u8x32; 16]
     requires top { top + 32 ≤ length rows.now }
@@ -63,7 +65,8 @@ fn load_tile<T: Row>(rows: &[T], top: usize, at: usize) -> [u8x32; 16]
     tile
 }
 
-// Sixteen places of two rows. Also ensures that these have 182 places.
+// Sixteen places of two rows. Also ensures that these have 182 places. They are passed by themselves, since of rows in
+// a list this isn't known.
 #[inline(always)]
 fn pair_at(one: &[u8; 182], other: &[u8; 182], at: usize) -> u8x32
     requires { at + 16 ≤ 182 }
@@ -94,7 +97,8 @@ fn load_pair(one: &[u8], other: &[u8], at: usize) -> u8x32
     )
 }
 
-// Transposes both halves of a tile.
+// Transposes both halves of a tile. Within a half, the numbers of vector and lane are eight bits together, which each
+// step rotates by one. After four steps the two have changed places.
 #[inline(always)]
 fn turn_tile(tile: &[u8x32; 16]) -> [u8x32; 16]
     requires { EachIndex tile.now (λ k. length (line tile.now k) ≡ 32) }
@@ -104,7 +108,8 @@ fn turn_tile(tile: &[u8x32; 16]) -> [u8x32; 16]
     riffle(&riffle(&riffle(&riffle(tile))))
 }
 
-// One of four equal steps: the vectors of the upper half alternate with those of the lower half, lane by lane.
+// One of four equal steps: the vectors of the upper half alternate with those of the lower half, lane by lane. No lane
+// leaves its half, so that both halves are transposed at once.
 #[inline(always)]
 fn riffle(tile: &[u8x32; 16]) -> [u8x32; 16]
     requires { EachIndex tile.now (λ k. length (line tile.now k) ≡ 32) }
