@@ -35,7 +35,8 @@ pub fn fill<const N: usize, const R: usize>(
     Ok(erasures.points.len() as u16)
 }
 
-/// Sets the bytes in the same way, by the marked places and the word's syndromes.
+/// Sets the bytes in the same way, by the marked places and the word's syndromes. After an error the word is unchanged
+/// too.
 pub fn fill_from<const N: usize, const R: usize>(
     code: &Code<N, R>,
     erasures: &Erasures<N>,

@@ -62,6 +62,7 @@ pub fn decode_from<const N: usize, const R: usize>(
     ensures beyond { OnErr result (HasNoneNear N R word.old erasures.now.marks) }
     ensures same { OnErr result (word.new ≡ word.old) }
 {
+    // For the prover: nothing else says that the elements of this array are bytes.
     tell_bytes(word);
     let erased = erasures.points.len();
     if erased > R {
@@ -73,11 +74,13 @@ pub fn decode_from<const N: usize, const R: usize>(
             erased: 0,
         });
     }
+    // The errors are counted against it, and a refused word is given back by it.
     let received = *word;
     let Ok(()) = fill_located(code, erasures, syndromes, word) else {
         return Err(Beyond);
     };
     let errors = count_errors(&received, word, &erasures.marks);
+    // A codeword was made, but it may differ in too many places to be near.
     if 2 * errors as usize + erased > R {
         *word = received;
         return Err(Beyond);
@@ -111,6 +114,7 @@ fn fill_located<const N: usize, const R: usize>(
     }
     let mut doubtful = erasures.marks;
     mark_zeros(locator.taps, &mut doubtful);
+    // With a near codeword there are no more such places than the code has parity bytes.
     match Erasures::new(&doubtful, R) {
         Some(places) => fill_from(code, &places, syndromes, word),
         None => Err(NoCodeword),

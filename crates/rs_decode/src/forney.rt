@@ -29,12 +29,14 @@ pub fn bytes_at(points: &[u8], sums: &[u8]) -> ArrayVec<u8, 32>
     let mut bytes = ArrayVec::new();
     for i in 0..points.len() {
         let value = value_at(&evaluator[..points.len()], points[i]);
+        // No two points are equal, so that no derivative is 0.
         bytes.push(div(value, derivative(points, i)));
     }
     bytes
 }
 
-/// The derivative of the locator at a point: the product of its distances to the others.
+/// The derivative of the locator at a point: the product of its distances to the others. It is a sum of logarithms, so
+/// that only one power is looked up.
 pub fn derivative(points: &[u8], i: usize) -> u8
     requires distinct { AreDistinct points.now }
     requires inside { i < length points.now }
@@ -48,7 +50,8 @@ pub fn derivative(points: &[u8], i: usize) -> u8
     alpha_pow(before + after)
 }
 
-// The logarithm of the product of a point's distances to others, or that and a multiple of 255.
+// The logarithm of the product of a point's distances to others, or that and a multiple of 255. No remainder is taken,
+// as `alpha_pow` takes any number.
 fn distance_exponent(point: u8, others: &[u8]) -> u32
     requires apart { All (λ other. point ≢ other) others.now }
     requires few { length others.now ≤ 32 }
@@ -78,7 +81,8 @@ fn evaluator(points: &[u8], sums: &[u8]) -> u8x32
     lanes
 }
 
-/// A polynomial times (x + `point`), where the highest power of both is in the first lane.
+/// A polynomial times (x + `point`), where the highest power of both is in the first lane. What leaves the last lane is
+/// lost, but callers use the first lanes alone.
 #[inline(always)]
 pub fn times_distance(lanes: u8x32, point: u8) -> u8x32
     requires { length lanes ≡ 32 }

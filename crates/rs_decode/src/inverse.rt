@@ -24,7 +24,7 @@ use std::simd::prelude::*;
 pub struct Inverse {
     /// The points, none of which comes twice.
     pub(crate) points: ArrayVec<u8, 32>,
-    /// Its columns: byte i of column k is in row i.
+    /// Its columns: byte i of column k is in row i. A column is one vector, to be multiplied by the k-th power sum.
     pub(crate) columns: [[u8; 16]; 16],
     /// They are as many as a vector has lanes, or fewer.
     pub ghost few: { length points.items ≤ 16 },
@@ -66,7 +66,8 @@ fn inverse_columns(points: &[u8]) -> [[u8; 16]; 16]
     columns
 }
 
-// The polynomial that is 1 at point `i` and 0 at all others, the highest power in the first lane.
+// The polynomial that is 1 at point `i` and 0 at all others, the highest power in the first lane. It is the product of
+// the distances to the others, divided by its value at that point.
 fn basis(points: &[u8], i: usize) -> [u8; 32]
     requires distinct { AreDistinct points.now }
     requires inside { i < length points.now }

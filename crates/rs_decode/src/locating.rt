@@ -16,6 +16,7 @@ use gf_field::mul;
 
 /// The power sums with points taken out, one after the other, which leaves as many sums less.
 /// The sums that are left are those of the bytes multiplied by their points' distances to those that were taken out.
+/// Lost bytes so count for nothing in them: a locator of these sums shows errors alone.
 pub fn sums_without(points: &[u8], sums: &[u8]) -> ArrayVec<u8, 32>
     requires enough { length points.now ≤ length sums.now }
     requires room { length sums.now ≤ 32 }
@@ -26,6 +27,7 @@ pub fn sums_without(points: &[u8], sums: &[u8]) -> ArrayVec<u8, 32>
     if points.len() == sums.len() {
         return ArrayVec::new();
     }
+    // One vector has room for the sums of the codes of a block.
     if sums.len() <= 16 {
         return front(without_points(points, sums), sums.len() - points.len());
     }
@@ -46,7 +48,8 @@ fn take_out_point(sums: &mut [u8], point: u8)
     }
 }
 
-/// Marks each place whose point is a zero of the locator.
+/// Marks each place whose point is a zero of the locator. Marks that are there stay. The last place of a word has the
+/// point alpha^0.
 pub fn mark_zeros(locator: ArrayVec<u8, 33>, marks: &mut [bool])
     requires short { length marks.now ≤ 255 }
     ensures { marks.new ≡ with_zeros locator.items marks.old (points_of (length marks.old)) }

@@ -27,7 +27,7 @@ pub struct Patches {
 }
 
 impl Patches {
-    /// Those for no word.
+    /// Those for no word. Each word is noted as wrong, so that none is filled.
     pub fn none() -> Self
         ensures { (n : ℕ) (marks : List Bool) (word : List ℕ) → n < 32 → Completes result marks n word }
     {
@@ -66,6 +66,7 @@ impl Patches {
         ensures same { result ≡ false → word.new ≡ word.old }
     {
         let count = erasures.points.len();
+        // Where there is no inverse, the places aren't listed either.
         if self.wrong[n] != 0 || count > 16 || erasures.inverse.is_none() {
             return false;
         }
@@ -74,7 +75,8 @@ impl Patches {
         true
     }
 
-    // Adds the bytes for word `n` at its marked places.
+    // Adds the bytes for word `n` at its marked places. That a place is one of the word is tested, since the type of
+    // the list doesn't say so.
     #[inline(always)]
     fn add_to(&self, places: &[u8], n: usize, word: &mut [u8])
         requires lane { n < 32 }
@@ -101,7 +103,8 @@ fn proposed(inverse: &Inverse, values: &[u8x32; 16]) -> [u8x32; 16] {
     bytes
 }
 
-// Lanes that are zero only where bytes at points have these values as their power sums.
+// Lanes that are zero only where bytes at points have these values as their power sums. They are added to the values,
+// and leave zeros where both are equal: how the bytes were found doesn't count.
 fn left_over(points: &[u8], bytes: &[u8x32; 16], values: &[u8x32; 16]) -> u8x32
     requires nonzero { All (λ point. point ≢ 0) points.now }
     requires few { length points.now ≤ 16 }

@@ -25,6 +25,7 @@ pub struct Erasures<const N: usize> {
     // The inverse of their powers, where many words are to be filled at them.
     pub(crate) inverse: Option<Inverse>,
     // The marked places in order, there too: as many as there are points, and zeros or others after them.
+    // A word has at most 255 places, so that each is a byte.
     pub(crate) places: [u8; 256],
     /// A word of `N` bytes has as many places.
     pub ghost size: { length marks ≡ N },
@@ -110,6 +111,7 @@ fn marked_points(marks: &[bool], most: usize) -> Option<ArrayVec<u8, 32>>
     requires short { length marks.now ≤ 255 }
     ensures { MatchOption result (most < marked marks.now) (λ points. (marked marks.now ≤ most) × (points.items ≡ picked marks.now (points_of (length marks.now)))) }
 {
+    // They are counted before they are gathered, so that too many cost no more.
     let count = usize::from(count_marks(marks));
     if count > most {
         return None;
@@ -140,7 +142,8 @@ fn count_marks(marks: &[bool]) -> u16
     count
 }
 
-// The power of alpha that a place of a word of this size is at.
+// The power of alpha that a place of a word of this size is at. The first byte of a word is the coefficient of its
+// highest power.
 fn point_of(size: usize, place: usize) -> u8
     requires short { size ≤ 255 }
     requires inside { place < size }
@@ -163,7 +166,8 @@ fn gather_places(marks: &[bool], places: &mut [u8; 256])
 }
 
 /// Adds each byte to the place that has its point. Where the points are those of marked places, these are patched in order.
-/// Also ensures that its elements are bytes.
+/// Also ensures that its elements are bytes. A point that no place of the word has is passed over, as the type of the
+/// points allows any byte.
 pub fn patch(word: &mut [u8], points: &[u8], bytes: &[u8])
     requires short { length word.old ≤ 255 }
     requires fits { length bytes.now ≡ length points.now }

@@ -26,7 +26,7 @@ pub struct Register {
 // A register on the way to the shortest one.
 #[derive(Clone, Copy)]
 struct Candidate {
-    // Its taps but for the first, which is 1 at the register at hand and 0 at the earlier one.
+    // Its taps but for the first, which is 1 at the register at hand and 0 at the earlier one. So 32 are enough.
     taps: u8x32,
     // Lane k is its connection k places after the place at hand, where the list has such a place.
     connections: u8x32,

@@ -1,4 +1,5 @@
-//! Power sums of bytes at points: the k-th is the sum of each byte times its point to the power k.
+//! Power sums of bytes at points: the k-th is the sum of each byte times its point to the power k. To take out a point
+//! cancels the byte at it, whatever it is, and costs one sum.
 ghost use Rattle.std.specs.Prelude.{◌≡◌, ℕ, ◌+◌, ◌-◌, ◌<◌, ◌≤◌, List, length, take, slice_index};
 ghost use Rattle.coding.specs.Field.{plus, product};
 ghost use Rattle.rs_decode.specs.Inner.Locator.{at_points, distances};

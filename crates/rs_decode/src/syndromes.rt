@@ -51,7 +51,8 @@ pub fn front(lanes: u8x16, count: usize) -> ArrayVec<u8, 32>
     ArrayVec::try_from(&lanes.to_array()[..count]).unwrap()
 }
 
-/// The first sixteen power sums of bytes at points.
+/// The first sixteen power sums of bytes at points. They are added from the last byte on, as the definition adds a byte
+/// to the sum of those after it.
 pub fn power_sums(points: &[u8], bytes: &[u8]) -> u8x16
     requires nonzero { All (λ point. point ≢ 0) points.now }
     requires fits { length bytes.now ≡ length points.now }
