@@ -28,7 +28,8 @@ pub fn put_amounts(
     }
 }
 
-// The numerator at a point, divided by the derivative there, x^4 + `quadratic` x^2 + `last`.
+// The numerator at a point, divided by the derivative there, x^4 + `quadratic` x^2 + `last`. Even powers vanish in a
+// derivative, since a sum of two equal terms is 0.
 #[inline(always)]
 fn amount_at(point: u8x32, numerator: &[u8x32; 5], quadratic: &Logs, last: u8x32) -> u8x32 {
     let point_logs = logs(point);

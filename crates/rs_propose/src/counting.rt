@@ -1,4 +1,5 @@
-//! A byte added to a row, and the number of places that then differ from the received row.
+//! A byte added to a row, and the number of places that then differ from the received row. Nothing is proved of a
+//! proposal: it may name a place twice. So the errors are counted by the row itself.
 ghost use Rattle.std.specs.Prelude.{◌≡◌, ◌+◌, ◌<◌, ◌≤◌, false, replicate, slice_index, slice_set};
 ghost use Rattle.coding.specs.Field.{plus};
 ghost use Rattle.rs_decode.specs.Errors.{error_count};

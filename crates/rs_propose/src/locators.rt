@@ -1,6 +1,6 @@
 //! The locators of 32 rows, by their syndromes: the algorithm of Berlekamp and Massey in each lane, without a branch.
 //! The first coefficient is 1 and isn't stored. A row with more than five errors gets some locator too, and its
-//! proposal isn't believed.
+//! proposal isn't believed. Five coefficients are kept, since ten parity bytes correct at most five errors.
 ghost use Rattle.std.specs.Prelude.{◌<◌};
 
 use crate::tower::{Logs, chosen, inverse, logs, logs_of_one, logs_of_zero, product};
@@ -29,7 +29,7 @@ pub fn locators(syndromes: &[u8x32; 10], syndrome_logs: &[Logs; 10]) -> [u8x32; 
     taps
 }
 
-/// The logarithms of all coefficients.
+/// The logarithms of all coefficients. Each coefficient has several factors, and its logarithms are looked up once.
 #[inline(always)]
 pub fn logs_of_all(taps: &[u8x32; 5]) -> [Logs; 5] {
     let mut all = [logs_of_zero(); 5];

@@ -4,6 +4,7 @@ use std::simd::prelude::*;
 /// The table's entry at each lane, and 0 at lanes from 128 on. Lanes from 16 to 127 count by their low four bits.
 #[inline(always)]
 pub fn look_up(table: &[u8; 16], places: u8x32) -> u8x32 {
+    // A look-up asks for lanes below sixteen, or from 128 on. The mask makes sure of it without a clause.
     twice(table).swizzle_dyn_within::<16>(places & u8x32::splat(0x8F))
 }
 
@@ -25,7 +26,7 @@ pub fn mapped(tables: &[[u8; 16]; 2], lanes: u8x32) -> u8x32 {
     at_low_nibbles(&tables[0], lanes) ^ at_high_nibbles(&tables[1], lanes)
 }
 
-// The table in both halves of a vector.
+// The table in both halves of a vector. A look-up reaches the sixteen entries in its own half alone.
 #[inline(always)]
 fn twice(table: &[u8; 16]) -> u8x32 {
     u8x16::from_slice(table).swizzle([

@@ -17,7 +17,8 @@ use rs_lanes::{powers, scaled};
 use std::simd::prelude::*;
 
 /// What is proposed for each of 32 rows of 182 bytes, ten of them parity: up to five bytes to add, and the powers of
-/// alpha at their places. A byte 0 at the point 1 is none.
+/// alpha at their places. A byte 0 at the point 1 is none. They are bytes and not vectors, since they are read row by
+/// row.
 #[derive(Drop)]
 pub struct Proposals {
     points: [[u8; 32]; 5],
@@ -34,7 +35,8 @@ impl Proposals {
     }
 
     /// Makes proposals for rows that have these values at alpha^0 to alpha^9: lane `n` has those of row `n`. They are
-    /// right for rows with at most five errors; tests show this, and no contract says it.
+    /// right for rows with at most five errors; tests show this, and no contract says it. All go through all steps,
+    /// codewords too, since lanes can't branch.
     pub fn propose(&mut self, values: &[u8x32; 10]) {
         let mut syndromes = [u8x32::splat(0); 10];
         let mut syndrome_logs = [logs_of_zero(); 10];
@@ -78,6 +80,7 @@ impl Proposals {
         let mut sums = u8x16::splat(0);
         for k in 0..5 {
             let place = place_of(self.points[k][n])?;
+            // A byte 0 is added like any other, so that no branch hangs on the number of errors.
             errors = add_at(received, row, place, self.bytes[k][n], errors);
             sums = with_byte(sums, place, self.bytes[k][n]);
         }
@@ -88,7 +91,7 @@ impl Proposals {
     }
 }
 
-// The place in a row whose power of alpha this is, if there is one.
+// The place in a row whose power of alpha this is, if there is one. A row with at most five errors has no other points.
 #[inline(always)]
 fn place_of(point: u8) -> Option<usize>
     ensures { IfSome result (λ place. place < 182) }

@@ -45,7 +45,7 @@ static FIFTH_PAIRS: [[u8; 8]; 8] = [
 ];
 
 /// The zeros of each polynomial that aren't 0, in no order: the last five found. Where fewer are found, the others are
-/// 0.
+/// 0. There are no more than five.
 pub fn roots(taps: &[u8x32; 5]) -> [u8x32; 5] {
     let mut lower = [u8x16::splat(0); 5];
     let mut upper = [u8x16::splat(0); 5];
@@ -97,7 +97,8 @@ fn joined(lower: u8x16, upper: u8x16) -> u8x32 {
     )
 }
 
-// The bit that changes with a step in Gray's order.
+// The bit that changes with a step in Gray's order. A step is below sixteen, so that the remainder changes nothing: it
+// shows that the bit is below four.
 #[inline(always)]
 fn flipped(step: u32) -> usize
     ensures { result < 4 }
@@ -133,7 +134,8 @@ fn pairs_of(cubic: u8x16) -> [[u8x16; 8]; 8] {
     pairs
 }
 
-// The changes of the values with each step over the lower four bits, where no upper one is set.
+// The changes of the values with each step over the lower four bits, where no upper one is set. They are the same for
+// all upper bits, but for what a bit shares with those. So they are computed once.
 #[inline(always)]
 fn inner_changes(singles: &[u8x16; 8], pairs: &[[u8x16; 8]; 8]) -> [u8x16; 16] {
     let mut changes = *singles;
@@ -195,7 +197,8 @@ fn walk_four(
     }
 }
 
-// Puts a point before those found, in each lane where the value is 0.
+// Puts a point before those found, in each lane where the value is 0. All five move up in each lane alike, without a
+// branch or a place that is counted.
 #[inline(always)]
 fn note(found: &mut [u8x16; 5], value: u8x16, point: u8x16) {
     let here = value.simd_eq(u8x16::splat(0));

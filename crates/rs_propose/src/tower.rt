@@ -6,7 +6,8 @@ use crate::nibbles::{at_high_nibbles, at_low_nibbles, look_up, mapped};
 use std::simd::prelude::*;
 
 /// The logarithms of a vector's high nibbles, of its low ones, and of the sums of both. The logarithm of 0 is 240: with
-/// another added to it, it is still 128 or more, and a look-up there gives 0.
+/// another added to it, it is still 128 or more, and a look-up there gives 0. A number that has several factors is
+/// looked up once.
 pub type Logs = [u8x32; 3];
 
 /// The number that is used as the logarithm of 0.
@@ -155,7 +156,8 @@ pub fn chosen(choice: mask8x32, first: &Logs, second: &Logs) -> Logs {
     ]
 }
 
-// The logarithms of products, by those of the factors: their sums, less fifteen where these aren't below fifteen.
+// The logarithms of products, by those of the factors: their sums, less fifteen where these aren't below fifteen. Below
+// fifteen the subtraction wraps round to more than the sum itself, so that the least is the right one.
 #[inline(always)]
 fn joined(a: u8x32, b: u8x32) -> u8x32 {
     let sums = a + b;
