@@ -42,7 +42,7 @@ pub fn check(sector: &[u8; 2352], address: u32) -> Result<(), CdCause>
     check_contents(sector, address)
 }
 
-/// Likewise for a sector whose words are all codewords.
+/// Likewise for a sector whose words are all codewords. `repair` calls it so, since it has tested the words before.
 pub(crate) fn check_contents(sector: &[u8; 2352], address: u32) -> Result<(), CdCause>
     requires address { address < 450000 }
     requires words { AreRightBelow 138 sector.now }
@@ -67,6 +67,7 @@ pub(crate) fn first_wrong_word(sector: &[u8; 2352]) -> Option<u16>
     ensures some { IfSome result (λ word. (word < 138) × (IsRight sector.now word → ⊥) × AreRightBelow word sector.now) }
     ensures none { result ≡ None → AreRightBelow 138 sector.now }
 {
+    // P words have the lower numbers.
     if let Some(word) = first_fault(&p_faults(sector)) {
         return Some(word as u16);
     }
@@ -96,7 +97,8 @@ fn has_header(sector: &[u8; 2352], address: u32) -> bool
     sector[12..15] == header(address)[..]
 }
 
-// Whether the EDC is right, with the right sync in place of the first twelve bytes.
+// Whether the EDC is right, with the right sync in place of the first twelve bytes. The sync is in no word, so a wrong
+// one can't be corrected, and it says nothing of the data.
 fn has_right_edc(sector: &[u8; 2352]) -> bool
     ensures { IsTrue result ↔ HasRightEdc sector.now }
 {

@@ -19,6 +19,7 @@ pub(crate) fn faults<const W: usize>(rows: &[[u8; W]]) -> [u8; W]
     for group in 0..W / 32 {
         put_faults(rows, 32 * group, &mut faults);
     }
+    // Neither kind of row is a multiple of 32 bytes long: the last 32 columns repeat some of those before.
     put_faults(rows, W - 32, &mut faults);
     faults
 }
@@ -36,6 +37,7 @@ pub(crate) fn parity<const W: usize>(rows: &[[u8; W]]) -> [[u8; W]; 2]
     for group in 0..W / 32 {
         put_parity(rows, 32 * group, &mut first, &mut second);
     }
+    // The last 32 columns, as above.
     put_parity(rows, W - 32, &mut first, &mut second);
     [first, second]
 }

@@ -16,14 +16,16 @@ pub fn cd_edc(bytes: &[u8]) -> [u8; 4]
     edc_of_parts(&[], bytes)
 }
 
-/// The EDC of two lists of bytes, as if the second followed the first.
+/// The EDC of two lists of bytes, as if the second followed the first. So the sync can be put before a sector's other
+/// bytes without a copy.
 pub(crate) fn edc_of_parts(front: &[u8], back: &[u8]) -> [u8; 4]
     ensures { result ≡ cd_edc_of (front.now ++ back.now) }
 {
     with_bytes(with_bytes(0, front), back).to_le_bytes()
 }
 
-// The register after these bytes are read.
+// The register after these bytes are read. Sixteen are read at once, of which only the first four wait for the
+// register.
 fn with_bytes(register: u32, bytes: &[u8]) -> u32
     ensures { result ≡ after_reading bytes.now register }
 {

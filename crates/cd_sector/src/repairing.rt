@@ -25,6 +25,7 @@ pub fn repair(sector: &mut [u8; 2352], address: u32) -> Result<u16, CdCause>
     ensures cause { IfErr result (λ cause. IsCause (repaired sector.old) address cause) }
     ensures same { OnErr result (sector.new ≡ sector.old) }
 {
+    // A copy is repaired, so that a sector that can't be is left as it was.
     let mut fixed = *sector;
     if let Some(word) = repair_words(&mut fixed) {
         return Err(CdCause::Parity { word });
@@ -43,6 +44,7 @@ fn repair_words(sector: &mut [u8; 2352]) -> Option<u16>
     ensures some { IfSome result (λ word. (word < 138) × (IsRight sector.new word → ⊥) × AreRightBelow word sector.new) }
     ensures none { result ≡ None → AreRightBelow 138 sector.new }
 {
+    // Most sectors are right as they were read.
     if first_wrong_word(sector).is_none() {
         return None;
     }
@@ -51,7 +53,8 @@ fn repair_words(sector: &mut [u8; 2352]) -> Option<u16>
     first_wrong_word(sector)
 }
 
-// Repairs the P words, and returns which of them are lost: those with no codeword near them.
+// Repairs the P words, and returns which of them are lost: those with no codeword near them. P words have no byte in
+// common: all are tested first, and none that is repaired changes another.
 fn repair_p_words(sector: &mut [u8; 2352]) -> [bool; 86]
     ensures words { sector.new ≡ with_p_words sector.old 86 }
     ensures size { length sector.new ≡ 2352 }
@@ -69,7 +72,8 @@ fn repair_p_words(sector: &mut [u8; 2352]) -> [bool; 86]
     lost
 }
 
-// Repairs the Q words, in which bytes of lost P words are marked.
+// Repairs the Q words, in which bytes of lost P words are marked. They are tested after the P words are repaired. They
+// have no byte in common either.
 fn repair_q_words(lost: &[bool; 86], sector: &mut [u8; 2352])
     ensures words { (read : List ℕ) → ((word : ℕ) → word < 86 → slice_index_or lost.now word false ≡ is_lost read word) → sector.new ≡ with_q_words read sector.old 52 }
     ensures size { length sector.new ≡ 2352 }
@@ -83,7 +87,7 @@ fn repair_q_words(lost: &[bool; 86], sector: &mut [u8; 2352])
     }
 }
 
-// The marks of a Q word: its bytes in lost P words.
+// The marks of a Q word: its bytes in lost P words. Its two parity bytes are in no P word.
 fn marks(lost: &[bool; 86], word: usize) -> [bool; 45]
     requires q_word { 86 ≤ word }
     requires word { word < 138 }
@@ -96,7 +100,8 @@ fn marks(lost: &[bool; 86], word: usize) -> [bool; 45]
     marks
 }
 
-// Sets a word to the codeword near it. Returns whether there is none.
+// Sets a word to the codeword near it. Returns whether there is none. It is gathered into an array and written back,
+// since its bytes are far from each other.
 fn repair_word<const N: usize>(
     code: &Code<N, 2>,
     word: usize,
@@ -118,6 +123,7 @@ fn repair_word<const N: usize>(
     false
 }
 
+// Writes a word back to its places in the sector. All others stay.
 fn write_word(bytes: &[u8], word: usize, sector: &mut [u8; 2352])
     requires word { word < 138 }
     requires bytes { length bytes.now ≡ word_size word }
@@ -129,7 +135,7 @@ fn write_word(bytes: &[u8], word: usize, sector: &mut [u8; 2352])
     }
 }
 
-// The number of bytes after the sync that differ.
+// The number of bytes after the sync that differ. The sync isn't counted: it is set whatever it was.
 fn count_changes(old: &[u8; 2352], new: &[u8; 2352]) -> u16
     ensures { result ≡ distance (drop 12 old.now) (drop 12 new.now) }
 {

@@ -1,4 +1,5 @@
 //! The words of a sector as the columns of rows: a row has the m-th bytes of all P words, or of all Q words, in order.
+//! Columns of rows are tested and encoded 32 at once.
 ghost use Rattle.std.specs.Prelude.{◌≡◌, ◌↔◌, ℕ, ◌+◌, ◌*◌, ◌/◌, ◌%◌, ◌<◌, length, slice_index};
 ghost use Rattle.coding.specs.Rows.{place};
 ghost use Rattle.cd_sector.specs.Words.{sector_place, IsRight};
@@ -22,7 +23,7 @@ pub(crate) fn q_faults(sector: &[u8; 2352]) -> [u8; 52]
     faults(&q_rows(sector))
 }
 
-/// The rows of P words, as they are in a sector.
+/// The rows of P words, as they are in a sector. They needn't be copied: the bytes of a P word are 86 bytes apart.
 pub(crate) fn p_rows(sector: &[u8; 2352]) -> &[[u8; 86]]
     ensures size { length result.now ≡ 26 }
     ensures bytes { (m j : ℕ) → m < 26 → j < 86 → place result.now m j ≡ slice_index sector.now (sector_place j m) }
@@ -30,7 +31,8 @@ pub(crate) fn p_rows(sector: &[u8; 2352]) -> &[[u8; 86]]
     sector[12..2248].as_chunks::<86>().0
 }
 
-/// The rows of Q words. All but the last two are gathered from the diagonals.
+/// The rows of Q words. All but the last two are gathered from the diagonals. Those two are the parity, whose bytes are
+/// in order.
 pub(crate) fn q_rows(sector: &[u8; 2352]) -> [[u8; 52]; 45]
     ensures size { length result ≡ 45 }
     ensures bytes { (m n : ℕ) → m < 45 → n < 52 → place result m n ≡ slice_index sector.now (sector_place (86 + n) m) }

@@ -55,6 +55,7 @@ fn set_data(address: u32, user: &[u8; 2048], out: &mut [u8; 2352])
     put(out, 12, &header(address));
     put(out, 15, &[1]);
     put(out, 16, user);
+    // The EDC covers all that comes before it, the sync too.
     let check = cd_edc(&out[..2064]);
     put(out, 2064, &check);
     put(out, 2068, &[0; 8]);
@@ -75,6 +76,7 @@ fn set_p_words(sector: &mut [u8; 2352])
     ensures size { length sector.new ≡ 2352 }
 {
     let [first, second] = parity(&p_rows(sector)[..24]);
+    // After 24 rows of 86 bytes from place 12 on come the two rows of P parity.
     put(sector, 2076, &first);
     put(sector, 2162, &second);
 }
@@ -86,6 +88,7 @@ fn set_q_words(sector: &mut [u8; 2352])
     ensures size { length sector.new ≡ 2352 }
 {
     let [first, second] = parity(&q_rows(sector)[..43]);
+    // After all 26 rows come the two of Q parity, 52 bytes each.
     put(sector, 2248, &first);
     put(sector, 2300, &second);
 }

@@ -28,7 +28,8 @@ pub(crate) fn read_word(sector: &[u8; 2352], word: usize, bytes: &mut [u8])
     }
 }
 
-/// The place in the sector of byte `m` of a word.
+/// The place in the sector of byte `m` of a word. A P word goes down a column of rows of 86 bytes. A Q word goes down a
+/// diagonal: one row and two bytes further for each place, round the end. Its parity follows after all of these.
 pub(crate) fn place(word: usize, m: usize) -> usize
     requires word { word < 138 }
     requires byte { m < word_size word }
