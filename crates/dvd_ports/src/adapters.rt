@@ -1,5 +1,6 @@
 //! Sources and sinks over std's readers and writers. Each counts its own errors, and a source also how often its input
-//! ended. The counts have 64 bits and stay at their greatest number.
+//! ended. The counts have 64 bits and stay at their greatest number. They begin at 0 and never fall, so that a caller
+//! sees by them whether a call failed.
 ghost use Rattle.std.specs.Prelude.{◌≡◌, ◌<◌, length, take, None, IfOk, OnErr, is_ok, false, if◌then◌else◌};
 ghost use Rattle.std.specs.Io.KnownBytes.{Appends};
 ghost use Rattle.dvd_ports.specs.Calls.{IsRead, IsWrite};
@@ -50,9 +51,11 @@ impl<R: Read> Source for StdSource<R> {
         ensures call { IsRead (⟦<StdSource<R> as Source>⟧.seen self.old) (⟦<StdSource<R> as Source>⟧.seen self.new) result buf.new }
         ensures empty { length buf.old ≡ 0 → (result ≡ Ok 0) × (self.new ≡ self.old) }
     {
+        // The reader isn't asked: its 0 would be taken for the end of the input.
         if buf.is_empty() {
             return Ok(0);
         }
+        // Set first, and taken back only where bytes came: no other way out can miss it.
         self.stopped = true;
         match self.reader.read(buf) {
             Ok(0) => {
@@ -117,9 +120,11 @@ impl<W: Write> Sink for StdSink<W> {
         ensures call { IsWrite (⟦<StdSink<W> as Sink>⟧.seen self.old) (⟦<StdSink<W> as Sink>⟧.seen self.new) result buf.now }
         ensures empty { length buf.now ≡ 0 → (result ≡ Ok 0) × (self.new ≡ self.old) }
     {
+        // The writer isn't asked: to accept no byte of none isn't a fault.
         if buf.is_empty() {
             return Ok(0);
         }
+        // Likewise: taken back only where bytes were written and flushed.
         self.stopped = true;
         match self.writer.write(buf) {
             Ok(count) if count > 0 => match self.writer.flush() {

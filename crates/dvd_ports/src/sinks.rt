@@ -95,6 +95,7 @@ impl Sink for MemSink {
         let count = self.step.min(buf.len().min(self.room - self.held.len()));
         match self.held.extend_from_slice(&buf[..count]) {
             Ok(()) => Ok(count),
+            // Room was allocated by `new`, and no more is written than there is room for.
             Err(_) => unreachable!(),
         }
     }

@@ -1,4 +1,5 @@
-//! Whole pieces: a write of all bytes, and a read that fills a buffer.
+//! Whole pieces: a write of all bytes, and a read that fills a buffer. A call may move fewer bytes than it is asked to.
+//! Who uses these two needn't know how many calls a piece took.
 ghost use Rattle.std.specs.Prelude.{◌<◌, length, take, IfOk, OnErr};
 ghost use Rattle.std.specs.Io.{ReadsAtMost};
 ghost use Rattle.std.specs.Io.KnownBytes.{Consumes, IsAtEnd};
@@ -17,6 +18,7 @@ pub fn write_whole<K: Sink>(out: &mut K, buf: &[u8]) -> Result<(), WriteFault>
     while written < buf.len() {
         match out.write(&buf[written..]) {
             Ok(count) => written += count,
+            // Nothing is tried again: a second call would hide that one failed.
             Err(Failed) => return Err(WriteFault),
         }
     }
@@ -37,6 +39,7 @@ pub fn read_whole<S: Source>(src: &mut S, buf: &mut [u8]) -> Result<usize, Faile
     let mut filled = 0;
     while filled < buf.len() {
         let count = src.read(&mut buf[filled..])?;
+        // There was room, so the input ended. To read once more could wait for a terminal.
         if count == 0 {
             return Ok(filled);
         }
