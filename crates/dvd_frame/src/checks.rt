@@ -49,15 +49,17 @@ pub(crate) fn edc_of_parts(front: &[u8], back: &[u8]) -> [u8; 4]
 fn divide_parts(front: &[u8], back: &[u8]) -> u32
     ensures { divided_from result [] ≡ divided_from 0 (front.now ++ back.now) }
 {
+    // The bytes of a frame before its EDC are 2,060. Only longer lists are divided word by word.
     if front.len() <= 2080 && back.len() <= 2080 - front.len() {
         return folded(front, back);
     }
     with_bytes(with_bytes(0, front), back)
 }
 
-// The remainder of at most 2,080 bytes, as many as 65 chunks of 32: zeros in front of them change nothing. Four folds by
-// vectors leave the last 128 bytes to divide. All is inlined, since where the lengths are known no
-// byte of the buffer is blanked but those in front.
+// The remainder of at most 2,080 bytes, as many as 65 chunks of 32: zeros in front of them change nothing. Each fold
+// needs 32 chunks after those that it leaves out. So the first leaves 32 chunks, which are 64 of half the size for the
+// next. After four folds by vectors 128 bytes are left to divide.
+// All is inlined: where the lengths are known, only the bytes in front are blanked.
 #[inline(always)]
 fn folded(front: &[u8], back: &[u8]) -> u32
     requires { length front.now + length back.now ≤ 2080 }

@@ -11,7 +11,8 @@ use crate::parts::load;
 use std::simd::prelude::*;
 
 /// Folds away as many chunks of W bytes, from a place on: what division leaves of the bytes after them is then what it left of
-/// all from there on.
+/// all from there on. What is added to the next chunk is carried in a register: it is read at once, and needn't be
+/// stored before.
 #[inline(always)]
 pub(crate) fn fold<const W: usize>(bytes: &mut [u8], from: usize, count: usize)
     requires { from + W * count + 32 * W ≤ length bytes.old }

@@ -29,6 +29,7 @@ pub fn make_frame_with(
     put(out, 0, &id.bytes());
     put(out, 4, &ied(id));
     put(out, 6, cpr);
+    // The EDC is of the bytes before scrambling, so it comes first.
     let check = edc_of_parts(&out[..12], main);
     put(out, 12, main);
     put(out, 2060, &check);

@@ -5,7 +5,8 @@ ghost use Rattle.dvd_frame.specs.Id.{area_number, id_word, word_bytes, IsSamePla
 use byteorder::{BigEndian, ByteOrder};
 use std::marker::Model;
 
-/// The bits that two IDs of the same place share: those of area, layer and sector number.
+/// The bits that two IDs of the same place share: those of area, layer and sector number. The other bits don't name a
+/// place: a disk that sets them otherwise is still read.
 const PLACE_BITS: u32 = 0x0DFF_FFFF;
 
 /// The part of the disk that a sector belongs to, b27 and b26 of its ID.
@@ -43,11 +44,12 @@ impl Id {
             Area::LeadOut => 2 << 26,
             Area::Middle => 3 << 26,
         };
+        // The fields have no bit in common, so that they can be added up.
         let dim_bit = if dim { 1 << 29 } else { 0 };
         Id(dim_bit + area_bits + u32::from(layer) * (1 << 24) + number)
     }
 
-    /// The ID of a word as it is on a disk; all 32 bits are kept.
+    /// The ID of a word as it is on a disk; all 32 bits are kept. So a cause can report it as it was read.
     pub fn from_word(word: u32) -> Id
         ensures { result ≡ word }
     {

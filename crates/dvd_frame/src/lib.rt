@@ -10,7 +10,7 @@ pub mod laws; // what holds of every data frame
 mod parts; // parts of lists: written, or read as vectors
 mod reading; // a frame that was read, checked
 mod remainders; // what dividing each byte leaves, for the EDC
-mod scrambling; // which Main Data bytes are combined with which bytes
+mod scrambling; // which bytes are added to which Main Data bytes
 
 pub use checks::{edc, ied};
 pub use frame::{make_frame, make_frame_with};

@@ -57,7 +57,8 @@ pub fn read_frame_with(
     Ok(())
 }
 
-/// Reads a frame as `read_frame_with` does, straight into `out`: what that is after a cause isn't said.
+/// Reads a frame as `read_frame_with` does, straight into `out`: what that is after a cause isn't said. So nothing is
+/// copied for a caller that blanks `out` itself.
 #[tactic(auto, using(std::proofs::lemmas::Bool::Decides::nat_tests), unfolding(crate::specs::Frame::frame_cause))]
 pub fn read_frame_into(
     scrambler: &mut Scrambler,
@@ -70,6 +71,8 @@ pub fn read_frame_into(
     ensures right { OnOk result (frame_cause frame.now want rule ≡ None) }
     ensures main { OnOk result (out.new ≡ main_in frame.now rule) }
 {
+    // In this order: a wrong ID names no place, and the ID selects the scrambling bytes without which the EDC means
+    // nothing.
     if !has_right_ied(frame) {
         return Err(FrameCause::Ied);
     }
@@ -92,7 +95,8 @@ pub fn found_id(bytes: &[u8]) -> Id
     Id::from_word(BigEndian::read_u32(bytes))
 }
 
-/// Whether the first six bytes are an ID with its right check.
+/// Whether the first six bytes are an ID with its right check. The two bytes could correct one of the ID, but that
+/// would hide that the frame is another one.
 pub fn has_right_ied(bytes: &[u8]) -> bool
     requires { 6 ≤ length bytes.now }
     ensures { result ≡ has_check (take 6 bytes.now) }

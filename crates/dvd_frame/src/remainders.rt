@@ -1,4 +1,5 @@
-//! Division for the EDC (ECMA-267, 16.4), a byte or four at once.
+//! Division for the EDC (ECMA-267, 16.4), a byte or four at once. The remainder of a sum is the sum of the remainders,
+//! so that four bytes are looked up apart from each other.
 ghost use Rattle.std.specs.Prelude.{◌≡◌, ℕ, ◌++◌, map, replicate};
 ghost use Rattle.std.specs.List.{range_with_len};
 ghost use Rattle.coding.specs.Bits.{bits, bits_of};

@@ -1,4 +1,4 @@
-//! Scrambling of Main Data (ECMA-267, 17): each byte is combined with a byte of a sequence that the ID selects.
+//! Scrambling of Main Data (ECMA-267, 17): to each byte one of a sequence is added, which the ID selects.
 ghost use Rattle.std.specs.Prelude.{◌≡◌, ℕ, ◌+◌, ◌^◌, ◌<◌, ◌≤◌, List, bit_xor, slice_index, length, take};
 ghost use Rattle.std.specs.Int.{to_be_bytes, w64};
 ghost use Rattle.coding.specs.Bits.{bits};
@@ -126,7 +126,7 @@ impl Scrambler {
     }
 }
 
-// The initial value of the register that an ID selects.
+// The initial value of the register that an ID selects. Bits b7 to b4 are the same for the sixteen sectors of a block.
 fn preset_for(id: Id) -> u16
     ensures value { result ≡ preset_of id }
     ensures within { result < 2 ^ 15 }
@@ -134,7 +134,7 @@ fn preset_for(id: Id) -> u16
     preset((id.word() >> 4 & 15) as u8)
 }
 
-/// Combines Main Data with the scrambling bytes of the ID, as far as the rule says. Twice is once undone.
+/// Adds to Main Data the scrambling bytes of the ID, as far as the rule says. Twice is once undone.
 pub fn scramble(rule: Rule, id: Id, main: &mut [u8; 2048])
     ensures masked { main.new ≡ masked id rule main.old }
     ensures undone { masked id rule main.new ≡ main.old }
@@ -151,7 +151,7 @@ pub(crate) fn scramble_slice(scrambler: &mut Scrambler, rule: Rule, id: Id, main
     combine(&mut main[..rule.count()], &scrambler.bytes);
 }
 
-// Combines each byte with the key at its place.
+// Adds to each byte the key at its place. It is an exclusive or, so that a second time undoes it.
 fn combine(bytes: &mut [u8], keys: &[u8])
     requires { length bytes.old ≤ length keys.now }
     ensures { (k : ℕ) → k < length bytes.old → slice_index bytes.new k ≡ bit_xor (slice_index bytes.old k) (slice_index keys.now k) }
@@ -162,7 +162,7 @@ fn combine(bytes: &mut [u8], keys: &[u8])
 }
 
 // Sets the scrambling bytes of a preset, as many as a frame has Main Data bytes: eight at a time, and after the first 256
-// by vectors.
+// by vectors. A vector needs keys from 240 places before it, and 256 is the first place after that where one begins.
 fn set_keys(preset: u16, keys: &mut [u8; 2048])
     requires { preset < 2 ^ 15 }
     ensures { keys.new ≡ keys_from preset 0 2048 }
