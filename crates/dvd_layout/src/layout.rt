@@ -6,13 +6,16 @@ ghost use Rattle.dvd_layout.specs.Lengths.{blocks_of, first_fault, has_two_layer
 use crate::fault::LayoutFault;
 use crate::plan::DATA_FIRST;
 
-// The longest Initial Zone, in ECC blocks: no sector has the number 0.
+// The longest Initial Zone, in ECC blocks: no sector has the number 0. It ends before 02F000, so that one block more
+// would begin at 0.
 const MAX_INITIAL: u32 = 12_031;
 
-// The longest zone after the data, in ECC blocks.
+// The longest zone after the data, in ECC blocks. They are 030000 sectors: on the opposite path data end at FD0000 at
+// the latest, and no sector number passes FFFFFF.
 const MAX_TAIL: u32 = 12_288;
 
-// The highest sector number that may follow a layer that begins at 030000 and the zone after its data.
+// The highest sector number that may follow a layer that begins at 030000 and the zone after its data. On the opposite
+// path, layer 1 has the numbers from 1000000 less this end on: none is one of layer 0.
 const LAST_END: u64 = 0x80_0000;
 
 /// Checks that an Initial Zone may have `initial` ECC blocks, or returns the rule that it breaks.
@@ -135,6 +138,7 @@ impl Layout {
         ensures initial { IfOk result (λ layout. layout.initial ≡ initial) }
         ensures tail { IfOk result (λ layout. layout.tail ≡ tail) }
     {
+        // The order is that in which rules are reported: the first broken one is named.
         let two_layers = shape.has_two_layers();
         if sectors0 == 0 {
             return Err(LayoutFault::EmptyLayer { layer: 0 });

@@ -22,7 +22,8 @@ impl Layout {
         self.shape.has_two_layers()
     }
 
-    /// The number of image sectors that a block of this content holds.
+    /// The number of image sectors that a block of this content holds. The last block of an image may have fewer than
+    /// sixteen: zero sectors fill it.
     pub fn image_sectors(&self, content: Content) -> usize
         ensures value { result ≡ image_sectors self.now content }
         ensures most { result ≤ 16 }
@@ -33,7 +34,8 @@ impl Layout {
         }
     }
 
-    /// The layer and the sector number of an image sector.
+    /// The layer and the sector number of an image sector. The image goes on with layer 1 where the data of layer 0
+    /// end.
     pub fn sector_of(&self, lba: u32) -> (u8, u32)
         requires { lba < total_sectors self.now }
         ensures { result ≡ place_of self.now lba }
@@ -45,7 +47,8 @@ impl Layout {
         }
     }
 
-    /// The image sector at a layer and a sector number, or `None` where there is no image sector.
+    /// The image sector at a layer and a sector number, or `None` where there is no image sector. On the parallel path
+    /// both layers have the same numbers, so the layer is needed too.
     pub fn lba_of(&self, layer: u8, number: u32) -> Option<u32>
         ensures within { IfSome result (λ lba. lba < total_sectors self.now) }
         ensures exact { (lba : ℕ) → lba < total_sectors self.now → (result ≡ Some lba) ↔ (place_of self.now lba ≡ (layer, number)) }

@@ -48,6 +48,7 @@ impl Layout {
         }
     }
 
+    // Every zone, in the order in which a stream has them.
     fn all_zones(&self) -> ZoneTable
         ensures { result.items ≡ zones_by self.now self.now.shape }
     {
@@ -63,6 +64,7 @@ impl Layout {
         table
     }
 
+    // The Data Zones alone, in the order of the image.
     fn data_zones(&self) -> ZoneTable
         ensures { result.items ≡ zone_table self.now Zones.DataOnly }
     {
@@ -86,7 +88,8 @@ impl Layout {
         table.push(behind(&image, self.tail, Area::LeadOut));
     }
 
-    // Adds both layers of the opposite track path.
+    // Adds both layers of the opposite track path. Layer 1 is read inwards from where layer 0 ended: its middle zone
+    // comes before its data.
     fn push_opposite(&self, table: &mut ZoneTable)
         requires room { array_vec_len table.old ≤ 4 }
         requires shape { self.now.shape ≡ Shape.Opposite }
@@ -139,7 +142,8 @@ pub fn lead_in_block(initial: u32, k: u32) -> BlockPlan
     block_at(&table, u64::from(k))
 }
 
-// Adds the zones of the lead-in of a layer.
+// Adds the zones of the lead-in of a layer. All sector numbers but the first are the standard's: a longer Initial Zone
+// begins earlier.
 fn push_lead_in(table: &mut ZoneTable, initial: u32, layer: u8)
     requires room { array_vec_len table.old ≤ 9 }
     requires initial { initial ≤ most_initial }
@@ -172,6 +176,7 @@ fn data_zone(first: u32, sectors: u32, layer: u8, from: u32) -> Zone
     }
 }
 
+// A zone of which all Main Data are zeros.
 fn zeros(first: u32, blocks: u32, area: Area, layer: u8) -> Zone
     ensures { result ≡ zone_of first blocks area layer Content.Zero }
 {

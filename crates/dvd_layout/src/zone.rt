@@ -80,5 +80,6 @@ pub(crate) fn block_at(zones: &[Zone], k: u64) -> BlockPlan
         }
         left -= zone.blocks as u64;
     }
+    // The contract has `k` below the number of blocks, so a zone was found.
     unreachable!()
 }
