@@ -107,9 +107,11 @@ impl PhysicalFormat {
         out[..17].copy_from_slice(&self.head());
     }
 
+    // Its 17 bytes. Before each sector number, three bytes, comes one that is 0.
     fn head(&self) -> [u8; 17]
         ensures { result ≡ head_bytes (fields_of self.now) }
     {
+        // Byte 2 has the number of layers in bits 6 and 5, the track path in bit 4, and the kind below.
         let layers = if self.two_layers { 32 } else { 0 };
         let path = if self.opposite { 16 } else { 0 };
         let [first2, first1, first0] = three_bytes(self.first);
@@ -138,6 +140,7 @@ impl PhysicalFormat {
 
     #[tactic(auto, using(std::proofs::lemmas::Bool::Decides::nat_tests), unfolding(crate::specs::Format::control_fault, crate::specs::Format::fields_in))]
     /// The format in bytes 0 to 16 of a sector, or the first rule that these break. The rest of the sector isn't read.
+    /// Reserved bits are passed over.
     pub fn from_bytes(bytes: &[u8; 2048]) -> Result<PhysicalFormat, ControlFault>
         ensures refused { IfErr result (λ fault. control_fault bytes.now ≡ Some fault) }
         ensures lawful { IfOk result (λ format. control_fault bytes.now ≡ None) }

@@ -25,6 +25,7 @@ pub fn main_of(layout: &Layout, plan: &BlockPlan, f: usize, out: &mut [u8; 2048]
             PhysicalFormat::of_layout(layout, plan.layer).to_bytes(out);
         }
         Content::Control => *out = [0; 2048],
+        // The contract excludes it: image sectors come from the input.
         Content::Image(_) => unreachable!(),
     }
 }

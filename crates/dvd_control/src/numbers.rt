@@ -6,7 +6,8 @@ ghost use Rattle.dvd_control.specs.Format.{HasLeadIn, fields_for, number_at, thr
 use byteorder::{BigEndian, ByteOrder};
 use dvd_layout::{DATA_FIRST, Layout, Shape};
 
-// The last of `sectors` data sectors, which fill whole ECC blocks from `first` on.
+// The last of `sectors` data sectors, which fill whole ECC blocks from `first` on. Zero sectors fill the last block, so
+// the Data Zone ends with it.
 fn last_from(first: u32, sectors: u32) -> u32
     requires begins { 0 < first }
     requires ends { first + padded sectors ≤ 2 ^ 24 }
@@ -15,13 +16,15 @@ fn last_from(first: u32, sectors: u32) -> u32
     first + 16 * sectors.div_ceil(16) - 1
 }
 
+// The last sector of the data of layer 0.
 pub(crate) fn last_of_layer_0(layout: &Layout) -> u32
     ensures { result ≡ data_first + padded layout.now.sectors0 - 1 }
 {
     last_from(DATA_FIRST, layout.sectors0)
 }
 
-// The last sector of the Data Zone that the lead-in of a layer names.
+// The last sector of the Data Zone that the lead-in of a layer names. On the parallel path each layer has a Data Zone
+// of its own. On the opposite path one goes over both.
 #[tactic(auto, unfolding(crate::specs::Format::fields_for))]
 pub(crate) fn last_of(layout: &Layout, layer: u8) -> u32
     requires { HasLeadIn layout.now.shape layer }
