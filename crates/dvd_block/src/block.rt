@@ -13,7 +13,8 @@ use std::alloc::Global;
 /// The bytes of a recorded block: 208 rows of 182 (ECMA-267, 19).
 const RECORDING: usize = 37_856;
 
-/// The rows of a block, with cells for its outer parity. Both are lent apart from each other.
+/// The rows of a block, with cells for its outer parity. Both are lent apart from each other. So one can be read while
+/// the other is written.
 #[derive(Drop)]
 pub struct Block {
     pub lines: Lines,
@@ -25,7 +26,8 @@ impl Block {
     ghost use Rattle.coding.specs.Product.{line, place, IsProduct, IsParityAdded, HoldsFrame};
     ghost use Rattle.coding.specs.Recording.{recording};
 
-    /// Zeros. `NoMemory` may come at any time, and nothing is taken then.
+    /// Zeros. `NoMemory` may come at any time, and nothing is taken then. A run takes this memory once, and each block
+    /// is made in it.
     pub fn new(alloc: Global) -> Result<Block, NoMemory>
         ensures rows { IfOk result (λ block. block_rows block ≡ replicate 208 (replicate 182 0)) }
         ensures cells { IfOk result (λ block. cells_all block.cells ≡ replicate 182 (replicate 16 0)) }
@@ -87,7 +89,8 @@ impl Block {
         write_rows(self.lines.rows(), out)
     }
 
-    /// Sets place j of row 192+t to byte t of cell j, for all t below 16 and j below 182. All else stays.
+    /// Sets place j of row 192+t to byte t of cell j, for all t below 16 and j below 182. All else stays. The cells
+    /// have it by columns, as it was computed, and the rows need it by rows.
     pub fn place_parity(&mut self)
         ensures placed { (t j : ℕ) → t < 16 → j < 182 → place (block_rows self.new) (192 + t) j ≡ place (cells_all self.old.cells) j t }
         ensures sizes { (t : ℕ) → t < 16 → length (line (block_rows self.new) (192 + t)) ≡ 182 }
@@ -104,6 +107,7 @@ pub fn write_rows<K: Sink>(rows: &[[u8; 182]], out: &mut K) -> Result<(), WriteF
     requires { length rows.now ≡ 208 }
     ensures { IsWritten (recording rows.now) (K.seen out.old) (K.seen out.new) result }
 {
+    // The rows are gathered, so that a block is one write where the sink accepts it whole.
     let mut bytes = [0; RECORDING];
     record_rows(rows, &mut bytes);
     write_whole(out, &bytes)
@@ -140,7 +144,7 @@ fn put_rows(rows: &mut [[u8; 182]], frame: &[u8; 2064])
     }
 }
 
-// Sets the first 172 bytes of a row.
+// Sets the first 172 bytes of a row. Its parity stays.
 fn put_front(row: &mut [u8; 182], front: &[u8])
     requires { length front.now ≡ 172 }
     ensures { row.new ≡ front.now ++ drop 172 row.old }

@@ -13,7 +13,8 @@ pub struct Lines {
     pub ghost size: { vec_len rows ≡ 208 },
 }
 
-/// A cell of 16 bytes for each of the 182 columns, for its outer parity while it is computed; 2,912 bytes in sum.
+/// A cell of 16 bytes for each of the 182 columns, for its outer parity while it is computed; 2,912 bytes in sum. So
+/// rows can be read while columns are encoded, and the rows of outer parity are set afterwards.
 #[derive(Drop)]
 pub struct Cells {
     cells: Vec<[u8; 16]>,

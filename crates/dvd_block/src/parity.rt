@@ -49,6 +49,7 @@ fn group_parity(rows: &mut [[u8; 182]])
     ensures size { length rows.new ≡ length rows.old }
     ensures encoded { EachIndex rows.new (λ i. IsEncoded 182 10 (take 172 (line rows.old i)) (line rows.new i)) }
 {
+    // A whole group is encoded where it is.
     if rows.len() == 32 {
         inner_parity(rows, 0);
     } else {
@@ -56,7 +57,7 @@ fn group_parity(rows: &mut [[u8; 182]])
     }
 }
 
-// The same in a buffer of 32 rows.
+// The same in a buffer of 32 rows. The vectors need 32 rows, and a row of zeros is a codeword already.
 fn few_rows_parity(rows: &mut [[u8; 182]])
     requires { length rows.old ≤ 32 }
     ensures size { length rows.new ≡ length rows.old }
@@ -137,6 +138,7 @@ pub fn is_product(rows: &[[u8; 182]]) -> bool
     requires { length rows.now ≡ 208 }
     ensures { IsTrue result ↔ IsProduct rows.now }
 {
+    // Neither follows from the other: rows that are codewords may make any columns.
     rows_are_codewords(rows) && columns_are_codewords(rows)
 }
 
