@@ -45,6 +45,7 @@ pub fn fetch<S: Source>(src: &mut S, form: Form, work: &mut Work) -> FetchAnswer
     ensures sectors { work.new.sectors ≡ work.old.sectors }
 {
     work.set_stage(Stage::Empty);
+    // At stage Empty nothing is said of the buffers, so they may be written in part.
     let answer = fetch_parts(src, form, &mut work.received, &mut work.marks);
     if answer == FetchAnswer::Full {
         work.set_stage(Stage::Fetched);
@@ -83,7 +84,8 @@ pub(crate) fn fetch_rows<S: Source>(
     fetch_by(src, form, &mut buffer[..form.size()], received, marks)
 }
 
-// Reads the 208 recorded rows of a block by a buffer of its size.
+// Reads the 208 recorded rows of a block by a buffer of its size. They are read as one list and then put in their
+// places, since one read can't fill rows that are apart.
 #[tactic(auto, using(crate::proofs::FetchedCounts::cut_counts))]
 fn fetch_by<S: Source>(
     src: &mut S,

@@ -7,7 +7,7 @@ ghost use Rattle.dvd_capture.specs.Captured.{HasSize, block_size, record_size};
 pub enum Form {
     /// The 182 bytes of each row. No place is marked.
     Plain,
-    /// After the 182 bytes of each row 23 bytes of mark bits.
+    /// After the 182 bytes of each row 23 bytes of mark bits: a bit for each place, and two that are spare.
     Marked,
     /// The bytes of the plain form, and after those of all rows the runs of marked places.
     Listed,

@@ -41,6 +41,7 @@ impl Header {
     pub fn to_bytes(&self, out: &mut [u8; 32])
         ensures { out.new ≡ header_bytes self.now }
     {
+        // Bytes that no field uses are 0.
         *out = [0; 32];
         out[..8].copy_from_slice(&INITIAL);
         out[8] = self.shape;
@@ -57,6 +58,7 @@ impl Header {
         ensures fields { IfOk result (λ header. header_bytes header ≡ bytes.now) }
         ensures refused { (at : ℕ) → result ≡ Err (Place at) → IsFirstWrongByte bytes.now at }
     {
+        // Byte by byte from the first on, so that the first wrong one is reported. Whatever passes is a header.
         for (at, byte) in bytes.iter().enumerate() {
             if !Header::is_allowed(at, *byte) {
                 return Err(HeaderFault::Place { at: at as u8 });
@@ -72,7 +74,7 @@ impl Header {
         })
     }
 
-    // Whether a header may have this byte at a place.
+    // Whether a header may have this byte at a place. A byte that no field uses is 0.
     #[tactic(auto, unfolding(crate::specs::Header::may_stand))]
     fn is_allowed(place: usize, byte: u8) -> bool
         requires { place < 32 }

@@ -44,7 +44,8 @@ fn write_unit<K: Sink>(rows: &[[u8; 182]], marks: &Marks, out: &mut K) -> Result
     write_runs(marks, out)
 }
 
-// Writes the number of runs and then each run, after the bytes of the rows, as one piece.
+// Writes the number of runs and then each run, after the bytes of the rows, as one piece. So the fields are one write,
+// where the sink accepts them whole.
 fn write_runs<K: Sink>(marks: &Marks, out: &mut K) -> Result<(), WriteFault>
     ensures written { (before : List ℕ) → length before ≡ 37_856
         → OnOk result (AppendsAll before (mark_of (marks_rows marks.now)) (K.seen out.old).bytes (K.seen out.new).bytes) }
@@ -57,7 +58,7 @@ fn write_runs<K: Sink>(marks: &Marks, out: &mut K) -> Result<(), WriteFault>
     write_whole(out, fields.as_slice())
 }
 
-/// Reads a unit into its buffers.
+/// Reads a unit into its buffers. The rows come as in the plain form.
 pub(crate) fn fetch_listed<S: Source>(
     src: &mut S,
     received: &mut Received,
@@ -71,7 +72,8 @@ pub(crate) fn fetch_listed<S: Source>(
     }
 }
 
-// Reads the number of runs and then each run, after the bytes of the rows.
+// Reads the number of runs and then each run, after the bytes of the rows. What `fetch_runs` has as an error is an
+// answer too.
 fn fetch_marks<S: Source>(src: &mut S, marks: &mut Marks) -> FetchAnswer
     ensures fetched { (before : List ℕ) → AreRows before (mark_of (marks_rows marks.old))
         → IsFetched before (mark_of (marks_rows marks.new)) (S.seen src.old).bytes (S.seen src.new).bytes result }
@@ -93,6 +95,7 @@ fn fetch_runs<S: Source>(src: &mut S, marks: &mut Marks) -> Result<(), FetchAnsw
     ensures cause { HasFetchCause result (S.seen src.old) (S.seen src.new) }
 {
     let number = fetch_field(src, PLACES)?;
+    // Refused before more is read, and so the fields have room for all that follow.
     if number > MOST_RUNS {
         return Err(FetchAnswer::BadMarks { at: PLACES as u32 });
     }
@@ -113,6 +116,7 @@ fn read_fields<S: Source>(src: &mut S, fields: &mut Fields, most: usize) -> Resu
     ensures none { IfErr result (TakesNone (37_858 + length fields.old.items) (S.seen src.old).bytes (S.seen src.new).bytes) }
     ensures cause { HasFetchCause result (S.seen src.old) (S.seen src.new) }
 {
+    // A read goes into an array first, since the list of fields lends only what it holds.
     let mut piece = [0; 4096];
     let room = piece.len().min(most - fields.len());
     match src.read(&mut piece[..room]) {
@@ -120,6 +124,7 @@ fn read_fields<S: Source>(src: &mut S, fields: &mut Fields, most: usize) -> Resu
             bytes: (PLACES + 2 + fields.len()) as u32,
         }),
         Ok(count) => {
+            // There is room: no more is asked for than the number of runs allows.
             let _ = fields.try_extend_from_slice(&piece[..count]);
             Ok(())
         }

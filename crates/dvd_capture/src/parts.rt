@@ -1,4 +1,5 @@
-//! The buffers of a captured block. Whoever decodes several rows or columns at once lends them one by one.
+//! The buffers of a captured block. Whoever decodes several rows or columns at once lends them one by one. They are on
+//! the heap and apart from each other, so that one can be read while another is written.
 ghost use Rattle.std.specs.Prelude.{◌≡◌, ◌↔◌, ◌<◌, ◌≤◌, false, length, take, vec_len, IfOk, IsTrue, replicate, slice_index_or, slice_set};
 ghost use Rattle.std.specs.List.{flat_map};
 ghost use Rattle.std.specs.declared.option.Option.TheVariants.{None};
@@ -336,7 +337,7 @@ impl Sectors {
         &self.all[f]
     }
 
-    /// The first `count` sectors, one after the other.
+    /// The first `count` sectors, one after the other. The last block of an image may have fewer than sixteen.
     pub(crate) fn first(&self, count: usize) -> &[u8]
         requires { count ≤ 16 }
         ensures { result.now ≡ flat_map (λ sector. sector) (take count (sector_bytes self.now)) }

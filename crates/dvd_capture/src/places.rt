@@ -37,6 +37,7 @@ pub(crate) fn next_place(marks: &Marks, from: usize, marked: bool) -> usize
     ensures { IsFound (mark_of (marks_rows marks.now)) marked from 37_856 result }
 {
     let mut start = from % 182;
+    // Row by row: within one, eight places alike are passed at once.
     for m in from / 182..208 {
         let place = marks.next(row_of_record(m), start, marked);
         if place < 182 {
@@ -47,7 +48,8 @@ pub(crate) fn next_place(marks: &Marks, from: usize, marked: bool) -> usize
     PLACES
 }
 
-/// How many runs the marked places are: at each that has no marked place before it one starts.
+/// How many runs the marked places are: at each that has no marked place before it one starts. They are counted before
+/// they are written, since their number comes first.
 pub(crate) fn count_runs(marks: &Marks) -> usize
     ensures { result ≡ starts_below (mark_of (marks_rows marks.now)) 37_856 }
 {

@@ -8,7 +8,7 @@ ghost use Rattle.dvd_capture.specs.MarkBits.{is_set, mark_at, marks_of};
 use crate::form::Form;
 use std::simd::prelude::*;
 
-/// A byte for each place of a row, and two that are spare, as a byte of mark bits has eight places.
+/// A byte for each place of a row, and two that are spare: the 23 bytes of mark bits have 184 bits.
 pub const SPREAD: usize = 184;
 
 // The bit of each of eight places in their byte of mark bits.
@@ -96,6 +96,7 @@ impl RowMarks {
 fn has_no_mark(row: &[u8; 23]) -> bool
     ensures { IsTrue result ↔ (marks_of row.now ≡ replicate 182 false) }
 {
+    // The last byte has six places, in its upper bits.
     row[..22] == [0; 22] && row[22] < 4
 }
 
@@ -137,7 +138,8 @@ fn spread_bits(bits: &[u8; 23]) -> [u8; SPREAD]
     marks
 }
 
-// Sets eight bytes from place `at` on: the first is 0 where the highest bit is, and so on.
+// Sets eight bytes from place `at` on: the first is 0 where the highest bit is, and so on. All eight are set at once,
+// without a test of each bit.
 #[inline(always)]
 fn put_bits(bits: u8, marks: &mut [u8], at: usize)
     requires { at + 8 ≤ length marks.old }

@@ -13,10 +13,12 @@ use crate::places::{PLACES, count_runs, mark_places, next_place};
 use arrayvec::ArrayVec;
 use byteorder::{BigEndian, ByteOrder};
 
-/// The most runs that a block has: every other place is marked.
+/// The most runs that a block has: every other place is marked. Two runs have an unmarked place between them, so there
+/// are at most half as many as places.
 pub(crate) const MOST_RUNS: usize = 18_928;
 
-/// The fields after the rows of a block: the number of its runs, and two for each.
+/// The fields after the rows of a block: the number of its runs, and two for each. Each field is two bytes: 2 and 4 ×
+/// 18,928.
 pub(crate) type Fields = ArrayVec<u8, 75_714>;
 
 /// How many runs were taken, and where the last of them ends.
@@ -49,6 +51,7 @@ fn put_field(fields: &mut Fields, value: usize)
     ensures items { fields.new.items ≡ fields.old.items ++ to_be_bytes w16 value }
     ensures len { array_vec_len fields.new ≡ array_vec_len fields.old + 2 }
 {
+    // There is room for the most runs. Each value is below 37,857, which two bytes hold.
     let _ = fields.try_extend_from_slice(&(value as u16).to_be_bytes());
 }
 
@@ -81,6 +84,7 @@ pub(crate) fn take_runs(
             end: start + length,
         };
     }
+    // So a wrong start is reported before its length has come.
     if fields.len() % 4 >= 2 {
         check_start(taken.runs, field(fields, 4 * taken.runs), taken.end)?;
     }
@@ -96,7 +100,8 @@ fn field(fields: &[u8], offset: usize) -> usize
     usize::from(BigEndian::read_u16(&fields[offset..offset + 2]))
 }
 
-// Run `i` starts at a place of the block, above the end of the one before.
+// Run `i` starts at a place of the block, above the end of the one before. A run that goes on where the one before ends
+// would be a second spelling of the same marks.
 fn check_start(i: usize, start: usize, end: usize) -> Result<(), FetchAnswer>
     requires { i < 18_928 }
     ensures lawful { OnOk result ((start < 37_856) × (0 < i → end < start)) }

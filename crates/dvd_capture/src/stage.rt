@@ -1,4 +1,5 @@
-//! How far a captured block is.
+//! How far a captured block is. What a buffer holds is a clause of its stage, so no reader takes an old answer for a
+//! new one.
 
 /// What a `Work` holds.
 #[derive(Clone, Copy, Debug, PartialEq, Eq)]

@@ -19,7 +19,7 @@ use rs_decode::Fix;
 use std::alloc::Global;
 
 /// A received block with its marks, what was found of it, and its sixteen sectors. The five buffers are lent apart from
-/// each other.
+/// each other. Their memory is taken once, before anything is read, and serves each block in turn.
 #[derive(Drop)]
 pub struct Work {
     pub received: Received,
@@ -113,6 +113,7 @@ impl Work {
         ensures columns { self.new.columns ≡ self.old.columns }
         ensures sectors { self.new.sectors ≡ self.old.sectors }
     {
+        // Answers to the row as it was no longer count.
         self.stage = Stage::Fetched;
         self.received.set(i, j, byte);
         self.marks.set(i, j, mark);
