@@ -1,4 +1,5 @@
 //! The second pass: each column of the rows' answers is answered by the codeword near it, the failed rows being marked.
+//! The failed rows are the same in all columns, so what is computed of their places serves all.
 ghost use Rattle.std.specs.Prelude.{◌≡◌, ℕ, ◌+◌, ◌<◌, ◌≤◌, List, IsTrue, true, false, length, map, slice_index, slice_index_or, position, not, MatchOption};
 ghost use Rattle.coding.specs.Field.{alpha, power};
 ghost use Rattle.coding.specs.Words.{IsCodeword, value};
@@ -71,6 +72,7 @@ fn copy_tile(answers: &[AnswerRow], start: usize, piece: &mut [ColumnAnswer])
     for group in 0..6 {
         copy_rows(answers, 32 * group, start, piece);
     }
+    // 208 is no multiple of 32: the last 32 rows repeat sixteen of the group before.
     copy_rows(answers, 176, start, piece);
 }
 
@@ -102,7 +104,7 @@ fn put_lanes(lanes: u8x32, at: usize, word: &mut [u8; 208])
     store(lanes, word, at);
 }
 
-// Notes that no column is answered.
+// Notes that no column is answered. Of a block that was read before, some may be noted as answered.
 fn leave_unanswered(piece: &mut [ColumnAnswer])
     ensures { (k : ℕ) (default : ColumnAnswer) → k < length piece.new → (slice_index_or piece.new k default).answered ≡ false }
 {
@@ -165,6 +167,7 @@ fn answer_group(
     let mut are_kept = true;
     for (k, column) in piece.iter_mut().enumerate() {
         let n = start - left + k;
+        // What is proposed is tested. Where it isn't right, the column is decoded by itself.
         let is_kept = fill_column(erasures, &patches, n, wrong[n], column)
             || decode_column(code, erasures, lane_of(&values, n), column);
         are_kept = are_kept && is_kept;
@@ -211,7 +214,8 @@ fn fill_column(
     column.answered
 }
 
-// Answers one column by its syndromes, in its place. Answers whether nothing is corrected in rows that aren't marked.
+// Answers one column by its syndromes, in its place. Answers whether nothing is corrected in rows that aren't marked. A
+// codeword that differs in a row that was answered is an answer too, but then the rows have to be tested.
 fn decode_column(
     code: &Po,
     erasures: &Erasures<208>,
@@ -234,7 +238,7 @@ fn decode_column(
     }
 }
 
-/// The first column that has no answer.
+/// The first column that has no answer. A refusal names it, so the order is that of the columns.
 pub(crate) fn first_missing(columns: &[ColumnAnswer]) -> Option<u16>
     requires { length columns.now ≡ 182 }
     ensures { result ≡ position (λ column. not column.answered) columns.now }
@@ -247,7 +251,8 @@ pub(crate) fn first_missing(columns: &[ColumnAnswer]) -> Option<u16>
     None
 }
 
-/// The first row of the columns' words that isn't a codeword.
+/// The first row of the columns' words that isn't a codeword. The groups are in rising order, and rows that two of them
+/// share were right in the first.
 pub(crate) fn first_wrong(columns: &[ColumnAnswer]) -> Option<u16>
     requires { length columns.now ≡ 182 }
     ensures { result ≡ position (λ row. not (vanishes_at_all 10 row)) (from_columns (words_of_columns columns.now)) }
@@ -277,7 +282,8 @@ fn first_wrong_from(columns: &[ColumnAnswer], top: usize) -> Option<u16>
     None
 }
 
-// The 32 rows of the columns' words from `top` on, a vector for each place.
+// The 32 rows of the columns' words from `top` on, a vector for each place. Columns are stored as such, so that each
+// gives a vector without being transposed.
 fn turned_rows(columns: &[ColumnAnswer], top: usize) -> [u8x32; 182]
     requires columns { length columns.now ≡ 182 }
     requires top { top + 32 ≤ 208 }

@@ -27,11 +27,12 @@ pub fn sectors(work: &mut Work, plan: &BlockPlan) -> Result<(), Cause>
     requires numbers { HasNumbers plan.now }
     ensures { AreFramesChecked work.old work.new plan.now result }
 {
+    // The columns have the whole block, whichever rows the passes changed.
     sectors_of_block(work, plan, Source::Columns)
 }
 
 /// Where the rows of a block that two passes fixed are read. They are whole in the received rows and in the rows' answers, and
-/// spread over all columns.
+/// spread over all columns. The columns have a byte of a row each, so whole rows are read where there are any.
 #[derive(Clone, Copy, Debug, PartialEq, Eq)]
 pub enum Source {
     /// In what was received, where the block is that.
@@ -72,6 +73,7 @@ pub fn sectors_of_block(work: &mut Work, plan: &BlockPlan, source: Source) -> Re
     match read_frames(&work.received, answers, columns, source, plan, sectors) {
         Ok(()) => Ok(()),
         Err(cause) => {
+            // Frames before the cause are written already.
             work.blank();
             Err(cause)
         }
@@ -101,6 +103,7 @@ fn read_frames(
     let mut frame = [0; 2064];
     for f in 0..16usize {
         get_frame(received, answers, columns, source, f, &mut frame);
+        // An ID is compared without b29, so that this needn't be known here.
         let want = id_of(plan, false, f);
         let rule = rule_of(plan.content, f);
         let main = sectors.sector_mut(f);
@@ -135,6 +138,7 @@ pub fn read_frame_at(
     }
 }
 
+// A cause of a frame, as that of a block: with the frame's number.
 fn cause_of(f: u8, cause: FrameCause) -> Cause
     ensures { result ≡ cause_in f cause }
 {
@@ -181,7 +185,8 @@ fn copy_kept(answers: &[AnswerRow], columns: &[ColumnAnswer], f: usize, frame: &
     }
 }
 
-// Writes the first 172 bytes of row `i` after what comes before them.
+// Writes the first 172 bytes of row `i` after what comes before them. A failed row has no answer of its own: the
+// columns alone have its bytes.
 fn put_kept_row(
     answers: &[AnswerRow],
     columns: &[ColumnAnswer],

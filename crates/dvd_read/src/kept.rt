@@ -40,6 +40,7 @@ fn are_rows_kept(
 {
     let changed = rows_changed(answers, columns, top);
     for n in 0..32usize {
+        // Failed rows may differ: no codeword is near them, and the columns give their bytes.
         if changed[n] != 0 && !failed[top + n] {
             return false;
         }

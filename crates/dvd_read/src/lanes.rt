@@ -8,7 +8,8 @@ ghost use Rattle.coding.specs.Product.{column, place};
 use arrayvec::ArrayVec;
 use std::simd::prelude::*;
 
-/// Lane `n` of each vector: where these are the values of a word, its syndromes.
+/// Lane `n` of each vector: where these are the values of a word, its syndromes. It is a list, as a decoder takes the
+/// syndromes of a code of any length.
 pub(crate) fn lane_of<const R: usize>(vectors: &[u8x32; R], n: usize) -> ArrayVec<u8, 32>
     requires few { R ≤ 32 }
     requires lane { n < 32 }

@@ -47,6 +47,7 @@ pub(crate) fn answer_block(work: &mut Work) -> bool
     ensures marks { work.new.marks ≡ work.old.marks }
     ensures sectors { work.new.sectors ≡ work.old.sectors }
 {
+    // The answers are about to be overwritten, and at this stage nothing is said of them.
     work.set_stage(Stage::Fetched);
     answer_rows(
         &Pi::new(),
@@ -58,7 +59,7 @@ pub(crate) fn answer_block(work: &mut Work) -> bool
     answer_all_columns(work.answers.rows(), work.columns.all_mut())
 }
 
-// The second pass, where no more rows failed than it can bear. Answers whether it corrects no row that was answered.
+// The second pass, where no more rows failed than it can correct. Answers whether it corrects no row that was answered.
 fn answer_all_columns(answers: &[AnswerRow], columns: &mut [ColumnAnswer]) -> bool
     requires rows { length answers.now ≡ 208 }
     requires columns { length columns.old ≡ 182 }
@@ -190,7 +191,8 @@ fn count_corrections(work: &Work) -> u32
     count
 }
 
-// In how many places row `i` of the block differs from what was received: where nothing was marked, at its errors.
+// In how many places row `i` of the block differs from what was received: where nothing was marked, at its errors. A
+// mark on a right byte is no correction, so rows with marks are compared.
 fn row_corrections(
     received: &[u8; 182],
     answer: &AnswerRow,
@@ -215,7 +217,8 @@ fn row_corrections(
     }
 }
 
-// In how many places the block of the columns differs from what was received.
+// In how many places the block of the columns differs from what was received. The columns may have changed rows that
+// were answered, so all places are compared.
 fn count_differences(received: &Received, columns: &[ColumnAnswer]) -> u32
     requires { length columns.now ≡ 182 }
     ensures { result ≡ block_differences (received_rows received.now) (from_columns (words_of_columns columns.now)) }

@@ -26,6 +26,7 @@ pub fn read_block(work: &mut Work, plan: &BlockPlan) -> Result<Fixed, Cause>
             Ok(fixed)
         }
         Err(cause) => {
+            // So no sector of an earlier block is left.
             work.blank();
             Err(cause)
         }

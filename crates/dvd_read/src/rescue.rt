@@ -18,6 +18,7 @@ use dvd_frame::{Scrambler, read_frame_into};
 use dvd_layout::{BlockPlan, id_of, rule_of};
 
 // Of what frames are saved: the columns, where they hold the block that two passes fixed, or else the rows' answers.
+// They are borrowed apart from the sectors, which are written meanwhile.
 #[derive(Drop)]
 struct Held<'a> {
     fixed: bool,
@@ -93,7 +94,8 @@ fn save_frames(held: &Held<'_>, plan: &BlockPlan, sectors: &mut Sectors) -> u8
     saved
 }
 
-// Writes the Main Data of frame `f` if it is rescued, or else zeros. Answers whether it is.
+// Writes the Main Data of frame `f` if it is salvaged, or else zeros. Answers whether it is. `main` may have
+// been written before a check failed.
 fn save_frame(
     held: &Held<'_>,
     plan: &BlockPlan,
@@ -150,7 +152,8 @@ fn copy_candidate(held: &Held<'_>, f: usize, frame: &mut [u8; 2064]) -> bool
     }
 }
 
-// Writes frame `f` of the rows' answers, if all twelve rows have one. Answers whether they have.
+// Writes frame `f` of the rows' answers, if all twelve rows have one. Answers whether they have. A failed row leaves
+// 172 bytes unknown, so that the frame can't be known to be right.
 fn copy_answered(answers: &[AnswerRow], f: usize, frame: &mut [u8; 2064]) -> bool
     requires rows { length answers.now ≡ 208 }
     requires frame { f < 16 }

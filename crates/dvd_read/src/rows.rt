@@ -19,7 +19,7 @@ use rs_lanes::{any_of, row_values};
 use rs_propose::Proposals;
 use std::simd::prelude::*;
 
-// More failed rows than this leave no column an answer.
+// More failed rows than this leave no column an answer. Each costs one of the sixteen bytes of outer parity.
 pub(crate) const MOST_FAILED: u16 = 16;
 
 // For fewer rows than this, to decode each takes less time than to propose for 32.
@@ -74,6 +74,7 @@ fn answer_group(
     for (k, answer) in piece.iter_mut().enumerate() {
         let i = start + k;
         let row = received.row(i);
+        // Marked rows go by themselves: each has its own marks, which are counted even where it is a codeword.
         if !marks.is_clear(i) {
             marks.row(i, &mut row_marks);
             answer_marked(code, row, &row_marks, lane_of(&values, i - top), answer);
@@ -149,13 +150,15 @@ fn answer_marked(
     requires { syndromes.items ≡ syndromes_of 10 row.now }
     ensures { IsAnswer row.now marks.now answer.new }
 {
+    // With more marks than ten parity bytes no codeword is near.
     match Erasures::new(marks, 10) {
         Some(erasures) => answer_erased(code, row, &erasures, syndromes, answer),
         None => answer.set(row, None),
     }
 }
 
-// Answers one row by its marked places and its syndromes, in the place of its answer.
+// Answers one row by its marked places and its syndromes, in the place of its answer. The received row stays, so a copy
+// of it is decoded.
 fn answer_erased(
     code: &Pi,
     row: &[u8; 182],
@@ -180,7 +183,7 @@ pub(crate) fn is_codeword(code: &Pi, row: &[u8; 182]) -> bool
     code.is_codeword(row)
 }
 
-/// Notes which rows failed.
+/// Notes which rows failed. They are the marks of all columns.
 pub fn mark_failed(answers: &[AnswerRow], failed: &mut [bool; 208])
     requires { length answers.now ≡ 208 }
     ensures { failed.new ≡ failed_of (map answer_word answers.now) }
@@ -190,7 +193,7 @@ pub fn mark_failed(answers: &[AnswerRow], failed: &mut [bool; 208])
     }
 }
 
-/// Whether no more rows failed than the second pass can bear: sixteen.
+/// Whether no more rows failed than the second pass can correct: sixteen.
 pub fn are_few(failed: &[bool; 208]) -> bool
     ensures { IsTrue result ↔ marked failed.now ≤ 16 }
 {
