@@ -22,10 +22,10 @@ pub(crate) type Rows = [[u8; 182]; 208];
 /// The marks of these rows: 4,784 bytes.
 pub(crate) type Marks = [RowMarks; 208];
 
-// The most rounds of a search.
+// The most rounds of a search. Each is two passes more, so that their number bounds the work for a block.
 const MOST_ROUNDS: u8 = 4;
 
-/// Sets rows and marks to those of a received block.
+/// Sets rows and marks to those of a received block. They are copies, since rounds change both.
 pub(crate) fn read_block(work: &Work, rows: &mut Rows, marks: &mut Marks)
     requires { HasBlock (stage_of work.now) }
     ensures { buffered_state rows.new marks.new ≡ state_in (rows_of work.now) (marks_of_work work.now) }
@@ -104,6 +104,7 @@ fn answer_word<const N: usize, const R: usize>(
     ensures word { word.new ≡ unwrap_or (near_of N R word.old marks.now) word.old }
     ensures size { length word.new ≡ N }
 {
+    // A word with more marks than parity bytes isn't answered, even if it is a codeword.
     if Erasures::new(marks, R).is_none() {
         return false;
     }
@@ -137,7 +138,7 @@ fn answer_columns(rows: &mut Rows, marks: &mut Marks, failed: &[bool; 208]) -> b
     all
 }
 
-// The rows that have a mark.
+// The rows that have a mark. They are found once, so that columns needn't look at rows without marks.
 fn marked_rows(marks: &Marks) -> [bool; 208]
     ensures { TellsMarked (marks_of_rows marks.now) result }
 {
@@ -174,7 +175,8 @@ fn answer_column(
     true
 }
 
-// Answers the word of column `j`: with the failed rows as its marks, or else with its own marks.
+// Answers the word of column `j`: with the failed rows as its marks, or else with its own marks. The first try believes
+// no byte of a failed row. Where these are too many, its own marks may be fewer.
 fn answer_column_word(
     code: &Po,
     word: &mut [u8; 208],
@@ -191,6 +193,7 @@ fn answer_column_word(
     answer_word(code, word, failed) || answer_word(code, word, &own_marks(marks, marked, j))
 }
 
+// Copies column `j`, whose bytes are one in each row.
 fn read_column(rows: &Rows, j: usize, word: &mut [u8; 208])
     requires { j < 182 }
     ensures { word.new ≡ column rows.now j }
@@ -224,6 +227,7 @@ fn own_mark(marks: &Marks, marked: &[bool; 208], i: usize, j: usize) -> bool
     marked[i] && marks[i].get(j)
 }
 
+// Sets column `j`, and nothing else.
 fn put_column(rows: &mut Rows, j: usize, word: &[u8; 208])
     requires place { j < 182 }
     requires wide { AreWide rows.old }
@@ -249,6 +253,7 @@ fn take_marks(marks: &mut Marks, answered: &[bool; 182])
 fn take_row_marks(row: &mut RowMarks, answered: &[bool; 182])
     ensures { (j : ℕ) → j < 182 → slice_index_or (marks_of_row row.new) j false ≡ mark_left answered.now (marks_of_row row.old) j }
 {
+    // Most rows have no mark.
     if row.is_clear() {
         return;
     }
@@ -259,6 +264,7 @@ fn take_row_marks(row: &mut RowMarks, answered: &[bool; 182])
     }
 }
 
+// Whether all rows are codewords. Columns are answered after rows, and may change a row that was a codeword.
 fn are_codewords(rows: &Rows) -> bool
     ensures { result ≡ list_all (vanishes_at_all 10) rows.now }
 {

@@ -29,7 +29,8 @@ impl Deep {
     }
 }
 
-// Writes the Main Data of the frames of a block, or zeros if there is a cause.
+// Writes the Main Data of the frames of a block, or zeros if there is a cause. So no sector is given of a block with a
+// wrong frame.
 fn read_frames(rows: &Rows, plan: &BlockPlan, out: &mut [u8]) -> Result<(), Cause>
     requires size { length out.old ≡ 32768 }
     requires numbers { HasNumbers plan.now }
