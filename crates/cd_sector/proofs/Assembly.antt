@@ -7,7 +7,7 @@ use Rattle.std.proofs.lemmas.Grind.{same_number_lists}
 use Rattle.cd_sector.specs.Edc.{cd_edc_of}
 use Rattle.cd_sector.specs.Sector.{sync, header, covered, data_part}
 
--- what stands before a place, once a part is written there
+-- what is before a place, once a part is written there
 put_part : (before part old new : List ℕ) (place after : ℕ) → take (place + length part) new ≡ take place old ++ part
     → take place old ≡ before → place + length part ≡ after → take after new ≡ before ++ part
 put_part before part old new place after put was size =

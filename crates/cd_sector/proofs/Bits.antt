@@ -59,7 +59,7 @@ plus_front-zeros zero number = refl
 plus_front-zeros (suc n) number =
     ap₂ (λ (b : ℕ) (l : List ℕ). b ∷ l) (xor_zero_l (number % 2)) (plus_front-zeros n (number / 2))
 
--- a number's bits stand for it
+-- a number is what its bits say
 pub rising_number-rising_bits : (n number : ℕ) → number < 2 ^ n → rising_number (rising_bits n number) ≡ number
 unfolding rising_number rising_bits
 rising_number-rising_bits zero number below = omega arith

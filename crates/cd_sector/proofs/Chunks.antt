@@ -21,7 +21,7 @@ after_steps-twice m (suc n) register =
     let count : suc (n + m) ≡ suc n + m = omega arith in
     after_steps-twice m n (stepped register) ∙ ap (λ (k : ℕ). after_steps k register) count
 
--- what stands in the register besides goes through all steps by itself
+-- what is in the register besides goes through all steps by itself
 reading_sum : (bytes : List ℕ) (a register : ℕ)
     → after_reading bytes (bit_xor a register) ≡ bit_xor (after_steps (8 * length bytes) a) (after_reading bytes register)
 unfolding after_reading after_steps
@@ -34,7 +34,7 @@ reading_sum (byte ∷ bytes) a register =
     ∙ ap (λ (x : ℕ). bit_xor x (after_reading bytes (after_steps 8 (bit_xor register byte))))
     (after_steps-twice (8 * length bytes) 8 a ∙ ap (λ (k : ℕ). after_steps k a) count)
 
--- the first byte meets the register's lowest, and the others meet what stands above it
+-- the first byte meets the register's lowest, and the others meet what is above it
 reading_first : (byte : ℕ) (bytes : List ℕ) (register : ℕ)
     → after_reading (byte ∷ bytes) register ≡ bit_xor (after_steps (8 + 8 * length bytes) (bit_xor byte (register % 256))) (after_reading bytes (register / 256))
 unfolding after_reading
@@ -144,7 +144,7 @@ chunk_read register chunk four fits size is =
     register fits
     ∙ ap (λ (l : List ℕ). after_reading l register) (sixteen_bytes chunk size))
 
--- the whole chunks and the bytes behind them, joined, are all the bytes
+-- the whole chunks and the bytes after them, joined, are all the bytes
 pub chunks_joined : (count : ℕ) (bytes : List ℕ) → concat (first_chunks 16 count bytes) ++ drop (count * 16) bytes ≡ bytes
 chunks_joined zero bytes = refl
 chunks_joined (suc count) bytes =

@@ -17,7 +17,7 @@ use Rattle.cd_sector.specs.Inner.Register.{stepped, after_steps, after_reading}
 use Rattle.cd_sector.proofs.Bits.{xor_half, xor_lowest, plus_front-rising_bits, plus_front_halved, plus_front_none, plus_front-zeros, rising_number-rising_bits}
 use Rattle.cd_sector.proofs.Steps.{taken, stepped_is, added-lt, after_steps-lt, after_reading-lt, met-lt}
 
--- what the leading bit adds behind it, with the register's other bits
+-- what the leading bit adds after it, with the register's other bits
 bit_taken : (half : ℕ) (rest : List ℕ) (leaves : Bool) → half < 2 ^ 31
     → cond leaves (plus_front (plus_front rest (rising_bits 31 half)) cd_divisor) (plus_front rest (rising_bits 31 half)) ≡ plus_front rest (rising_bits 32 (bit_xor half (cond leaves 0xD8018001 0)))
 unfolding rising_bits
@@ -39,7 +39,7 @@ one_step n bit register rest fits =
 xor_last : (a b c : ℕ) → bit_xor (bit_xor a b) c ≡ bit_xor (bit_xor a c) b
 xor_last a b c = same_from_bits _ _ (λ i. simp bit_at_xor (omega arith))
 
--- the bits behind the leading one are met after the step as well as before it
+-- the bits after the leading one are met after the step as well as before it
 met_later : (register byte : ℕ) → bit_xor (bit_xor (register / 2) (taken (bit_xor (byte % 2) (register % 2)))) (byte / 2) ≡ stepped (bit_xor register byte)
 met_later register byte =
     xor_last (register / 2) (taken (bit_xor (byte % 2) (register % 2))) (byte / 2)

@@ -7,7 +7,7 @@ use Rattle.cd_sector.specs.Words.{sector_place, word_size, sector_word, IsRight}
 use Rattle.cd_sector.proofs.Spread.{distinct}
 use Rattle.cd_sector.proofs.Places.{whole_word}
 
--- a codeword that stands in a sector
+-- a codeword that is in a sector
 pub right_word : (n word : ℕ) (sector bytes : List ℕ) → n ≡ word_size word → bytes ≡ sector_word sector word → IsCodeword n 2 bytes → IsRight sector word
 unfolding IsRight
 right_word n word sector bytes size is right = subst (λ (k : ℕ). IsCodeword k 2 (sector_word sector word)) size (subst (IsCodeword n 2) is right)
@@ -18,7 +18,7 @@ unfolding IsRight
 word_right n word sector bytes size is right =
     subst (IsCodeword n 2) (sym is) (subst (λ (k : ℕ). IsCodeword k 2 (sector_word sector word)) (sym size) right)
 
--- A word is encoded where it stands: its front is as it was read, and its last two bytes are written.
+-- A word is encoded where it is: its front is as it was read, and its last two bytes are written.
 pub encoded_right : (n word p q : ℕ) (sector bytes behind whole : List ℕ) → n ≡ word_size word → 2 < n → word < 138
     → length bytes ≡ n - 2 → ((m : ℕ) → m < length bytes → get_or bytes m 0 ≡ get_or sector (sector_place word m) 0)
     → IsEncoded n 2 (take (n - 2) (bytes ++ behind)) whole → p ≡ sector_place word (n - 2) → q ≡ sector_place word (n - 1) → p < length sector → q < length sector

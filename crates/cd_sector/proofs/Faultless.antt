@@ -16,7 +16,7 @@ pub length-covered : (address : ℕ) (user : List ℕ) → length (covered addre
 unfolding covered
 length-covered address user = omega arith
 
--- what stands behind the sync of a list that begins with the bytes that the EDC covers
+-- what comes after the sync of a list that begins with the bytes that the EDC covers
 behind_sync : (address : ℕ) (user rest : List ℕ) → length user ≡ 2048
     → sync ++ take 2052 (drop 12 (covered address user ++ rest)) ≡ covered address user
 unfolding covered
@@ -33,7 +33,7 @@ header_of : (address : ℕ) (user rest : List ℕ) → take 3 (drop 12 (covered 
 unfolding covered
 header_of address user rest = refl
 
--- a sector that was made begins with the bytes that the EDC covers, and behind them stand the EDC and eight zeros
+-- a sector that was made begins with the bytes that the EDC covers, and after them come the EDC and eight zeros
 pub made_whole : (address : ℕ) (user sector : List ℕ) → IsSector address user sector
     → sector ≡ covered address user ++ (cd_edc_of (covered address user) ++ (replicate 8 0 ++ drop 2076 sector))
 unfolding data_part

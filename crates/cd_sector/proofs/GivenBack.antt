@@ -118,7 +118,7 @@ q_near sector read word j size above below right found first second =
         marked m (is_lost read ((sector_place word m - 12) % 86)) covered ∙ not_lost sector read ((sector_place word m - 12) % 86) (found_at m covered other)
     mark m (inr from) other = unmarked m (is_lost read ((sector_place word m - 12) % 86)) from
 
--- a Q word of a half whose damage is borne is found
+-- a Q word of a half whose damage can be corrected is found
 q_borne : (sector read : List ℕ) (word : ℕ) → length read ≡ 2352 → ((k : ℕ) → k < 138 → IsRight sector k) → 86 ≤ word → word < 138 → IsBorne (word % 2) sector read
     → near_word (with_p_words read 86) word (word_marks read word) ≡ Some (sector_word sector word)
 q_borne sector read word size right above below (inl scattered) = either (scattered.q_words word above below refl)
@@ -139,7 +139,7 @@ q_borne sector read word size right above below (inr (bad, burst)) =
     (burst.p_words (2 * m + word % 2) (omega arith) (omega arith) (λ is. other (omega (arith, is)))))
     (λ _. burst.first_own word above below refl) (λ _. burst.second_own word above below refl)
 
--- where the damage of both halves is borne, that of either is
+-- where the damage of both halves can be corrected, that of either can be
 of_half : (sector read : List ℕ) (half : ℕ) → half < 2 → IsBorne 0 sector read → IsBorne 1 sector read → IsBorne half sector read
 of_half sector read half below low high = either (cases_lt half 1)
   where
@@ -147,7 +147,7 @@ of_half sector read half below low high = either (cases_lt half 1)
     either (inl zero_half) = let is : 0 ≡ half = omega arith in subst (λ (h : ℕ). IsBorne h sector read) is low
     either (inr one_half) = let is : 1 ≡ half = omega arith in subst (λ (h : ℕ). IsBorne h sector read) is high
 
--- sectors that have all Q words in common have all bytes behind the sync in common
+-- sectors that have all Q words in common have all bytes after the sync in common
 pub all_bytes : (a b : List ℕ) → ((word : ℕ) → 86 ≤ word → word < 138 → sector_word a word ≡ sector_word b word)
     → (at : ℕ) → 12 ≤ at → at < 2352 → get_or a at 0 ≡ get_or b at 0
 all_bytes a b same at behind inside = either (cases_lt at 2248)
@@ -176,7 +176,7 @@ begins_with_sync address user sector made =
     let front : take 12 sector ≡ sync = ap (λ (l : List ℕ). take 12 l) (sym whole) in
     ap (λ (l : List ℕ). l ++ drop 12 sector) (sym front) ∙ take-append-drop 12 sector
 
--- Damage that is borne is repaired.
+-- Damage that the words can correct is repaired.
 pub given_back : (address : ℕ) (user sector read : List ℕ) → IsSector address user sector → length read ≡ 2352
     → IsBorne 0 sector read → IsBorne 1 sector read → repaired read ≡ sector
 unfolding repaired

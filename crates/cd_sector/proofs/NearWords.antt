@@ -29,7 +29,7 @@ pub with_word_bytes-none : (sector : List ℕ) (word : ℕ) (bytes : List ℕ) �
 unfolding with_word_bytes
 with_word_bytes-none sector word bytes = refl
 
--- setting bytes of a word leaves a place where none of them stands
+-- setting bytes of a word leaves a place where none of them is
 with_word_bytes-other : (sector : List ℕ) (word : ℕ) (bytes : List ℕ) (count at : ℕ) → ((m : ℕ) → m < count → at ≢ sector_place word m)
     → get_or (with_word_bytes sector word bytes count) at 0 ≡ get_or sector at 0
 unfolding with_word_bytes
@@ -38,7 +38,7 @@ with_word_bytes-other sector word bytes (suc m) at apart =
     get_or-set_other (with_word_bytes sector word bytes m) (sector_place word m) at (get_or bytes m 0) 0 (apart m (omega arith))
     ∙ with_word_bytes-other sector word bytes m at (λ k below. apart k (omega arith))
 
--- a word that was set leaves all places as they were where none of its bytes stand
+-- a word that was set leaves all places as they were where none of its bytes are
 pub with_word-other : (sector : List ℕ) (word : ℕ) (found : Option (List ℕ)) (at : ℕ) → ((m : ℕ) → m < word_size word → at ≢ sector_place word m)
     → get_or (with_word sector word found) at 0 ≡ get_or sector at 0
 unfolding with_word
@@ -138,7 +138,7 @@ marks_told read word lost marks size lost_are told rest =
         told m below ∙ lost_are ((sector_place word m - 12) % 86) (omega arith) ∙ sym (marked m (is_lost read ((sector_place word m - 12) % 86)) below)
     either m (inr own) = rest m own ∙ sym (unmarked m (is_lost read ((sector_place word m - 12) % 86)) own)
 
--- no place of a list without marks has one, nor any behind it
+-- no place of a list without marks has one, nor any after it
 pub no_mark : (n m : ℕ) → get_or (replicate n false) m false ≡ false
 no_mark zero m = refl
 no_mark (suc n) zero = refl

@@ -35,7 +35,7 @@ same_encoded n word a b size some short a_right b_right same =
     encoded_once n 2 (take (n - 2) a_word) a_word b_word short (omega arith)
     (record { codeword = a_code; begins = refl }) (record { codeword = b_code; begins = message })
 
--- all that stands before the parity
+-- all that is before the parity
 same_data : (address : ℕ) (user a b : List ℕ) → IsSector address user a → IsSector address user b → (at : ℕ) → at < 2076 → get_or a at 0 ≡ get_or b at 0
 same_data address user a b is_a is_b at before =
     sym (get_or-take 2076 a at 0 before) ∙ ap (λ (l : List ℕ). get_or l at 0) (is_a.begins ∙ sym is_b.begins) ∙ get_or-take 2076 b at 0 before

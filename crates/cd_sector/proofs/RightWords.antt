@@ -113,7 +113,7 @@ pub all_kept : (sector : List ℕ) → length sector ≡ 2352 → AreRightBelow 
 all_kept sector size right =
     sym (ap (λ (l : List ℕ). with_q_words sector l 52) (all_p sector 86 size right (omega arith)) ∙ all_q sector sector 52 size right (omega arith))
 
--- behind another sync all bytes are the same
+-- after another sync all bytes are the same
 behind_sync : (sector : List ℕ) (at : ℕ) → 12 ≤ at → get_or (sync ++ drop 12 sector) at 0 ≡ get_or sector at 0
 behind_sync sector at behind =
     let there : 12 + (at - 12) ≡ at = omega arith in

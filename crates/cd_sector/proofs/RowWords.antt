@@ -22,7 +22,7 @@ chunk_place (suc count) (suc m) j bytes inside below =
     ∙ get_or-drop 86 bytes (86 * m + j) 0
     ∙ ap (λ (at : ℕ). get_or bytes at 0) (omega arith)
 
--- a column whose bytes stand at the places of a word is this word
+-- a column whose bytes are at the places of a word is this word
 pub column_word : (sector : List ℕ) (rows : List (List ℕ)) (word j : ℕ) → length rows ≡ word_size word
     → ((m : ℕ) → m < length rows → place rows m j ≡ get_or sector (sector_place word m) 0) → column rows j ≡ sector_word sector word
 column_word sector rows word j size same =
@@ -36,7 +36,7 @@ column_right sector rows word j size same =
     let is = column_word sector rows word j size same in
     (right_word (length rows) word sector (column rows j) size is, word_right (length rows) word sector (column rows j) size is)
 
--- a list that stands twice
+-- a list, twice one after the other
 pub twice_place : (bytes whole : List ℕ) (at : ℕ) → length bytes ≡ 2236 → whole ≡ bytes ++ bytes → at < 4472 → get_or whole at 0 ≡ get_or bytes (at % 2236) 0
 twice_place bytes whole at size is below =
     elim (cases_lt at 2236) [
@@ -92,7 +92,7 @@ last_rows rows x y n f size before x_is y_is m inside =
           ∙ ap (λ (row : List ℕ). get_or row n 0) (get_or-set_same (set rows 43 x) 44 y [] (omega (arith, length-set rows 43 x))) ∙ y_is ∙ ap f (sym is)
     ]
 
--- what stands before a part that was put stays
+-- what is before a part that was put stays
 pub put_below : (old new part : List ℕ) (from at : ℕ) → take (from + length part) new ≡ take from old ++ part → from ≤ length old → at < from → get_or new at 0 ≡ get_or old at 0
 put_below old new part from at put inside below =
     sym (get_or-take (from + length part) new at 0 (omega arith))
@@ -100,7 +100,7 @@ put_below old new part from at put inside below =
     ∙ get_or_append_left (take from old) part 0 at (omega (arith, length-take-le from old inside))
     ∙ get_or-take from old at 0 below
 
--- and the part stands there
+-- and the part is there
 pub put_at : (old new part : List ℕ) (from j : ℕ) → take (from + length part) new ≡ take from old ++ part → from ≤ length old → j < length part
     → get_or new (from + j) 0 ≡ get_or part j 0
 put_at old new part from j put inside below =

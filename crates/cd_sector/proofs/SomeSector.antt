@@ -25,7 +25,7 @@ pub record IsEncodedTo (from count limit : ℕ) (old sector : List ℕ) : Type 0
   pub kept : (at : ℕ) → at < limit → get_or sector at 0 ≡ get_or old at 0
   pub right : (word : ℕ) → from ≤ word → word < from + count → IsRight sector word
 
--- one word encoded where it stands
+-- one word encoded where it is
 pub record IsOneMore (word : ℕ) (old sector : List ℕ) : Type 0 where
   pub size : length sector ≡ 2352
   pub bytes : All IsByte sector
@@ -38,7 +38,7 @@ bytes-sector_word sector word below size bytes = All-from_get_or IsByte (sector_
     (λ m inside. let within : m < word_size word = omega (arith, length-sector_word sector word) in
     subst IsByte (sym (get_or-sector_word sector word m within)) (bytes (sector_place word m) 0 (omega (arith, size, (sector_place-inside word m below within).1))))
 
--- each word of at least three bytes can be encoded where it stands
+-- each word of at least three bytes can be encoded where it is
 one_more : (word : ℕ) (old : List ℕ) → word < 138 → 2 < word_size word → length old ≡ 2352 → All IsByte old → (sector : List ℕ) × IsOneMore word old sector
 one_more word old below some size bytes = (
   new,
@@ -84,7 +84,7 @@ one_more word old below some size bytes = (
     new : List ℕ
     new = set (set old p x) q y
 
--- words of one kind, whose parity stands behind a place, and which have no byte in common
+-- words of one kind, whose parity comes after a place, and which have no byte in common
 record AreApart (from count limit : ℕ) : Type 0 where
   pub few : from + count ≤ 138
   pub some : (n : ℕ) → from ≤ n → n < from + count → 2 < word_size n

@@ -8,7 +8,7 @@ use Rattle.cd_sector.proofs.Places.{word_size-p, word_size-q, sector_place-p, se
 pub apart-p : (v word m k : ℕ) → v < 86 → word < 86 → v ≢ word → sector_place v m ≢ sector_place word k
 apart-p v word m k v_below below other same = other (omega (arith, same, sector_place-p v m v_below, sector_place-p word k below))
 
--- what Q words cover stands before their parity
+-- what Q words cover is before their parity
 pub covered-q : (word m : ℕ) → 86 ≤ word → m < 43 → sector_place word m < 2248
 covered-q word m above below = omega (arith, sector_place-q word m above below)
 
@@ -20,7 +20,7 @@ apart-q v word m k v_above v_below above below own other same = either (cases_lt
     either (inl covered) = omega (arith, same, covered-q v m v_above covered, sector_place-own word k above own)
     either (inr also) = other (omega (arith, same, sector_place-own v m v_above also, sector_place-own word k above own))
 
--- a byte of a Q word on its diagonal stands in this P word
+-- a byte of a Q word on its diagonal is in this P word
 pub p_of_q : (word m : ℕ) → 86 ≤ word → m < 43 → (sector_place word m - 12) % 86 ≡ 2 * m + word % 2
 p_of_q word m above below =
     let at : sector_place word m ≡ 12 + (88 * m + 86 * ((word - 86) / 2)) % 2236 + (word - 86) % 2 = sector_place-q word m above below in
@@ -67,7 +67,7 @@ distinct word i k below before same = either (cases_lt word 86)
     either (inl p) = omega (arith, same, sector_place-p word i p, sector_place-p word k p)
     either (inr q) = of_q q (cases_lt k 43)
 
--- all places of words are behind the sync, and in the sector
+-- all places of words are after the sync, and in the sector
 pub sector_place-inside : (word m : ℕ) → word < 138 → m < word_size word → (12 ≤ sector_place word m) × (sector_place word m < 2352)
 sector_place-inside word m below within = either (cases_lt word 86)
   where
@@ -79,15 +79,15 @@ sector_place-inside word m below within = either (cases_lt word 86)
     either (inl p) = (omega (arith, sector_place-p word m p), omega (arith, sector_place-p word m p, word_size-p word p))
     either (inr q) = of_q q (cases_lt m 43)
 
--- a byte stands at this place of its P word
+-- a byte is at this place of its P word
 pub p_place : (at : ℕ) → 12 ≤ at → sector_place ((at - 12) % 86) ((at - 12) / 86) ≡ at
 p_place at behind = omega (arith, sector_place-p ((at - 12) % 86) ((at - 12) / 86) (omega arith))
 
--- the number of the Q word that a byte before the Q parity stands in
+-- the number of the Q word that a byte before the Q parity is in
 unfoldable pub q_word : ℕ → ℕ
 q_word at = 86 + 2 * (((at - 12) / 86 + 52 - (at - 12) / 2 % 43) % 26) + at % 2
 
--- a byte before the Q parity stands at this place of its Q word
+-- a byte before the Q parity is at this place of its Q word
 pub q_place : (at : ℕ) → 12 ≤ at → at < 2248 → sector_place (q_word at) ((at - 12) / 2 % 43) ≡ at
 unfolding q_word
 q_place at behind before =

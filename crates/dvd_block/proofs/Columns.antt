@@ -1,4 +1,5 @@
--- Columns of a block: their bytes, and words that agree with one place by place or are encoded in it; how long one is stands in rs_lanes.
+-- Columns of a block: their bytes, and words that agree with one place by place or are encoded in it; the length of
+-- one is in rs_lanes.
 use Rattle.std.proofs.Common.{◌≡◌, ℕ, ◌<◌, ◌≤◌, List, ◌++◌, length, get_or, take, drop, sym, ◌∙◌, ap, subst, arith}
 use Rattle.std.proofs.lemmas.List.{get_or-take, length-take, take_at, take-append-drop}
 use Rattle.std.proofs.lemmas.Grind.{same_number_lists}

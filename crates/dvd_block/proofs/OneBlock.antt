@@ -221,7 +221,7 @@ module _ (frames : List (List ℕ)) (sizes : (f : ℕ) → f < 16 → length (li
     sizes = λ t below. (lines.each (192 + t) (omega arith)).width;
   }
 
-  -- frame f stands in rows 12 f to 12 f + 11 of the block
+  -- frame f is in rows 12 f to 12 f + 11 of the block
   holds : (f : ℕ) → f < 16 → HoldsFrame f (line frames f) lines.list
   unfolding HoldsFrame upper
   holds f below = λ q p within inside.

@@ -1,4 +1,4 @@
--- Rows in the order of recording, one behind the other.
+-- Rows in the order of recording, one after the other.
 use Rattle.std.proofs.Common.{◌≡◌, ℕ, zero, suc, ◌+◌, List, [], ◌++◌, Result, Ok, Err, OnErr, refl, sym, ◌∙◌, ap, append_assoc, arith}
 use Rattle.std.proofs.lemmas.List.{append-nil}
 use Rattle.coding.specs.Product.{line}
@@ -19,12 +19,12 @@ pub recorded-none : (m : ℕ) (block : List (List ℕ)) → recorded m 0 block �
 unfolding recorded
 recorded-none m block = refl
 
--- the first of the rows, and those behind it
+-- the first of the rows, and those after it
 recorded-first : (m n : ℕ) (block : List (List ℕ)) → recorded m (suc n) block ≡ line block (row_at m) ++ recorded (m + 1) n block
 unfolding recorded
 recorded-first m n block = refl
 
--- n rows, and k rows behind them
+-- n rows, and k rows after them
 pub recorded-add : (m n k : ℕ) (block : List (List ℕ)) → recorded m (n + k) block ≡ recorded m n block ++ recorded (m + n) k block
 recorded-add m zero k block =
     let here : m + 0 ≡ m = omega arith in

@@ -34,7 +34,7 @@ module _ {X : Type 0} (a k : ℕ) (was part : List X) where
       ∙ ap (λ (i : ℕ). get_or (part ++ drop k (drop a was)) i d) place
       ∙ get_or_append_left part (drop k (drop a was)) d q (omega arith)
 
-  -- before the part and behind it the elements are as they were
+  -- before the part and after it the elements are as they were
   pub get_or-part_kept : (d : X) (i : ℕ) → a + k ≤ length was → length part ≡ k → (i < a) ⊎ (a + k ≤ i) → get_or part_written i d ≡ get_or was i d
   get_or-part_kept d i inside size (inl before) =
       let front : length (take a was) ≡ a = length-take-le a was (omega arith) in
@@ -68,7 +68,7 @@ front_set frame was now q p size fronts below within =
     ∙ get_or-take 172 (drop (172 * q) frame) p 0 within
     ∙ get_or-drop (172 * q) frame p 0
 
--- behind their fronts the rows are as they were
+-- after their fronts the rows are as they were
 pub behind_front : (frame : List ℕ) (was now : List (List ℕ)) (q j : ℕ) → length frame ≡ 2064 → FrontsSet frame was now → q < 12 → 172 ≤ j
     → place now q j ≡ place was q j
 behind_front frame was now q j size fronts below behind =
@@ -95,7 +95,7 @@ module _ (a k n : ℕ) (rows part old : List (List ℕ)) where
   back_written inside size number q within =
       ap (λ (b : List (List ℕ)). line b (a + q)) (back_is inside size number) ∙ get_or-part_written a k rows part [] q inside size within
 
-  -- a row before the part or behind it is as it was
+  -- a row before the part or after it is as it was
   pub back_kept : a + k ≤ length rows → length part ≡ k → length rows ≡ n → (i : ℕ) → (i < a) ⊎ (a + k ≤ i) → line rows_back i ≡ line rows i
   back_kept inside size number i elsewhere =
       ap (λ (b : List (List ℕ)). line b i) (back_is inside size number) ∙ get_or-part_kept a k rows part [] i inside size elsewhere
@@ -134,7 +134,7 @@ module _ (f k n : ℕ) (frame : List ℕ) (rows part old : List (List ℕ)) wher
       ap (λ (row : List ℕ). get_or row p 0) (row_written below twelve height number fronts.size q within)
       ∙ front_set frame (take k (drop (12 * f) rows)) part q p long fronts within inside
 
-  -- behind their fronts all rows, those of frame f too, are as they were
+  -- after their fronts all rows, those of frame f too, are as they were
   pub inner_parity_kept : f < 16 → k ≡ 12 → length rows ≡ 208 → n ≡ 208 → length frame ≡ 2064 → FrontsSet frame (take k (drop (12 * f) rows)) part → rows ≡ old
       → (i j : ℕ) → 172 ≤ j → place frame_rows i j ≡ place old i j
   inner_parity_kept below twelve height number long fronts same i j behind =

@@ -1,4 +1,4 @@
--- Memory that was taken: what stands behind an error that was turned into another.
+-- Memory that was taken: what an error was before it was turned into another.
 use Rattle.std.proofs.Common.{◌≡◌, ℕ, List, length, arith, Result, Ok, Err, MatchResult, is_ok, sym, ◌∙◌, ap}
 use Rattle.std.proofs.lemmas.Bool.{false≢true}
 use Rattle.std.proofs.lemmas.Grind.{same_number_lists}

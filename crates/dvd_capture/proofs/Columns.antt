@@ -34,7 +34,7 @@ pub column-answered : (answers : List (Option (List ℕ))) (block : List (List �
 column-answered answers block j size agrees below =
     near_of-some 208 16 (answer_column answers j) (column block j) (failed_of answers) (omega arith) (column-near answers block j size agrees below)
 
--- byte i of column j stands in row i at place j
+-- byte i of column j is in row i at place j
 column-at : (block : List (List ℕ)) (i j : ℕ) → i < length block → slice_index (column block j) i ≡ place block i j
 column-at block i j within = get_or-map (λ row. slice_index row j) block i [] 0 within
 

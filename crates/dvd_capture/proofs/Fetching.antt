@@ -40,7 +40,7 @@ pub part-append : (xs ys : List ℕ) (a n : ℕ) → a + n ≤ length xs → tak
 part-append xs ys a n inside =
     ap (take n) (drop-append-le a xs ys (omega arith)) ∙ take-append-le n (drop a xs) ys (omega (arith, length-drop a xs))
 
--- what stands behind so many bytes is the second of two lists
+-- what comes after so many bytes is the second of two lists
 pub part-behind : (xs ys : List ℕ) (a n : ℕ) → length xs ≡ a → length ys ≡ n → take n (drop a (xs ++ ys)) ≡ ys
 part-behind xs ys a n size more = subst (λ k. take n (drop k (xs ++ ys)) ≡ ys) size (ap (take n) (drop-append_seam xs ys) ∙ take_all n ys (omega arith))
 
@@ -100,7 +100,7 @@ sized-lawful Plain sized bytes = tt
 sized-lawful Marked sized bytes = tt
 sized-lawful Listed sized bytes = absurd (sized refl)
 
--- and the marks stand in the recorded rows
+-- and the marks are in the recorded rows
 sized-marks : (form : Form) → HasSize form → (bytes : List ℕ) (m : ℕ) → record_marks form bytes m ≡ marks_in form (record_of form bytes m)
 sized-marks Plain sized bytes m = refl
 sized-marks Marked sized bytes m = refl

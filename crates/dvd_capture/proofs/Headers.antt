@@ -29,12 +29,12 @@ four_bytes a b c d n sa sb sc sd is = be_bytes_4 (a ∷ b ∷ c ∷ d ∷ []) n 
 below_by : (b n : ℕ) → nat_lt b n ≡ true → b < n
 below_by b n is = grind (arith, nat_tests)
 
--- a byte that may stand at place 8 of a header names one of the three shapes
+-- a byte that may be at place 8 of a header names one of the three shapes
 pub shape-known : (b : ℕ) → may_stand 8 b ≡ true → b < 3
 unfolding may_stand
 shape-known b is = below_by b 3 is
 
--- a byte that may stand at place 9 of a header names one of the two zones
+-- a byte that may be at place 9 of a header names one of the two zones
 pub zones-known : (b : ℕ) → may_stand 9 b ≡ true → b < 2
 unfolding may_stand
 zones-known b is = below_by b 2 is
@@ -55,7 +55,7 @@ module _ (b : ℕ → ℕ) (may : (k : ℕ) → k < 32 → may_stand k (b k) ≡
   fixed : (k n : ℕ) → (b k == n) ≡ true → b k ≡ n
   fixed k n is = equal_by (b k) n is
 
-  -- 32 bytes that may all stand at their places are those of the header that was read from them
+  -- 32 bytes that may all be at their places are those of the header that was read from them
   pub header-is : header_bytes header ≡ map b (range_with_len 0 32)
   unfolding header_bytes may_stand
   header-is =

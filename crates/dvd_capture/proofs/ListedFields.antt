@@ -5,7 +5,7 @@ use Rattle.std.proofs.lemmas.List.{get_or_append_left, get_or-append-add}
 use Rattle.dvd_capture.specs.Listed.{BreaksLength, BreaksStart, HasBadField, IsBrokenAt, IsUnbroken, end_of, field_at, length_of, listed_size, marked_by, run_count, start_of}
 use Rattle.dvd_capture.specs.Inner.Listing.{HasRuns, IsCut}
 
--- a field that stands wholly in bytes stays when they grow
+-- a field that is wholly in bytes stays when they grow
 pub field_at-append : (a b : List ℕ) (offset : ℕ) → offset + 2 ≤ length a → field_at (a ++ b) offset ≡ field_at a offset
 unfolding field_at
 field_at-append a b offset within =
@@ -13,7 +13,7 @@ field_at-append a b offset within =
     let second : slice_index (a ++ b) (offset + 1) ≡ slice_index a (offset + 1) = get_or_append_left a b 0 (offset + 1) (omega arith) in
     omega (arith, first, second)
 
--- the field that stands so far behind them
+-- the field that is so far after them
 pub field_at-behind : (a b : List ℕ) (offset k : ℕ) → length a + k ≡ offset → field_at (a ++ b) offset ≡ field_at b k
 unfolding field_at
 field_at-behind a b offset k size =
@@ -22,9 +22,9 @@ field_at-behind a b offset k size =
     let second : get_or (a ++ b) (offset + 1) 0 ≡ get_or b (k + 1) 0 = ap (λ n. get_or (a ++ b) n 0) next ∙ get_or-append-add a b (k + 1) 0 in
     omega (arith, first, second)
 
--- MORE BYTES behind bytes in which a field breaks a rule.
+-- MORE BYTES after bytes in which a field breaks a rule.
 module _ (a b : List ℕ) where
-  -- the rules of a field that stands wholly in the first bytes speak of these alone
+  -- the rules of a field that is wholly in the first bytes speak of these alone
   count-kept : 37_858 ≤ length a → run_count (a ++ b) ≡ run_count a
   count-kept within = field_at-append a b 37_856 within
 
@@ -94,7 +94,7 @@ early-unbroken bytes few offset (stands, inr (i, below, inr (is, long))) = omega
 pub early-cut : (bytes : List ℕ) → length bytes < 37_858 → IsCut bytes
 early-cut bytes few = record { fewer = omega arith; unbroken = early-unbroken bytes few }
 
--- where only the number of runs stands, only it may break a rule
+-- where only the number of runs has come, only it may break a rule
 module _ (bytes : List ℕ) (size : length bytes ≡ 37_858) where
   -- with at most 18,928 runs no rule is broken
   pub number-unbroken : run_count bytes ≤ 18_928 → IsUnbroken bytes
@@ -102,7 +102,7 @@ module _ (bytes : List ℕ) (size : length bytes ≡ 37_858) where
   number-unbroken few offset (stands, inr (i, below, inl (is, start))) = omega arith
   number-unbroken few offset (stands, inr (i, below, inr (is, long))) = omega arith
 
-  -- a field that breaks a rule is the number of runs, or stands behind it
+  -- a field that breaks a rule is the number of runs, or comes after it
   number-first : (offset : ℕ) → HasBadField bytes offset → 37_856 ≤ offset
   number-first offset (stands, inl (is, number)) = omega arith
   number-first offset (stands, inr (i, below, inl (is, start))) = omega arith
@@ -112,7 +112,7 @@ module _ (bytes : List ℕ) (size : length bytes ≡ 37_858) where
   pub number-broken : 18_928 < run_count bytes → IsBrokenAt bytes 37_856
   number-broken many = record { bad = (omega arith, inl (refl, many)); first = number-first }
 
--- a place is marked by n + 1 runs if it is by the first n, or stands in run n
+-- a place is marked by n + 1 runs if it is by the first n, or is in run n
 pub marked_by-suc : (bytes : List ℕ) (n place : ℕ) → marked_by bytes (suc n) place ≡ (marked_by bytes n place || (nat_le (start_of bytes n) place && nat_lt place (end_of bytes n)))
 unfolding marked_by
 marked_by-suc bytes n place = refl
@@ -127,7 +127,7 @@ marked_by-append a b (suc n) place within =
     let long : length_of (a ++ b) n ≡ length_of a n = field_at-append a b (37_860 + 4 * n) (omega arith) in
     rw (before, start, long) refl
 
--- BEHIND n runs. What may break a rule in more bytes is the start of run n and its length.
+-- AFTER n runs. What may break a rule in more bytes is the start of run n and its length.
 module _ (bytes own : List ℕ) (count n end : ℕ) (mark : ℕ → Bool) (has : HasRuns bytes count n end mark) where
   -- their number of runs stays when more bytes come
   pub same-count : run_count (bytes ++ own) ≡ count
@@ -176,7 +176,7 @@ module _ (bytes own : List ℕ) (count n end : ℕ) (mark : ℕ → Bool) (has :
   run-is Breaks fine i few stands inside breaks (inl below) = absurd (fine i (omega (arith, below.1)) inside breaks)
   run-is Breaks fine i few stands inside breaks (inr above) = omega (arith, above.1, grown)
 
-  -- at most four bytes behind n runs, a field that breaks a rule is the start of run n or its length
+  -- at most four bytes after n runs, a field that breaks a rule is the start of run n or its length
   pub next-bad : length own ≤ 4 → (offset : ℕ) → HasBadField (bytes ++ own) offset → IsNext offset
   next-bad few offset (stands, inl (is, number)) =
       let s = has.size in let same = same-count in
@@ -194,7 +194,7 @@ module _ (bytes own : List ℕ) (count n end : ℕ) (mark : ℕ → Bool) (has :
   start-is : start_of (bytes ++ own) n ≡ field_at own 0
   start-is = field_at-behind bytes own (37_858 + 4 * n) 0 (let s = has.size in omega arith)
 
-  -- its length is the second field behind the n runs
+  -- its length is the second field after the n runs
   length-is : length_of (bytes ++ own) n ≡ field_at own 2
   length-is = field_at-behind bytes own (37_860 + 4 * n) 2 (let s = has.size in omega arith)
 
@@ -208,7 +208,7 @@ module _ (bytes own : List ℕ) (count n end : ℕ) (mark : ℕ → Bool) (has :
   start-lawful fine (inr (some, touching)) = let is = start-is in let f = fine.1 some in let e = end-same some in omega (arith, is, f, e, touching)
 
   module _ (below : n < count) where
-    -- a unit with a run n has more bytes, while fewer than four came behind the runs before
+    -- a unit with a run n has more bytes, while fewer than four came after the runs before
     more-to-come : length own < 4 → length (bytes ++ own) < listed_size (bytes ++ own)
     more-to-come few = let g = grown in let c = same-count in omega (arith, g, c)
 
@@ -236,7 +236,7 @@ module _ (bytes own : List ℕ) (count n end : ℕ) (mark : ℕ → Bool) (has :
       unbroken = λ offset bad. no-length few fine offset (next-bad (omega arith) offset bad);
     }
 
-    -- a start behind the block's last place, or not above the end of the run before, breaks a rule
+    -- a start after the block's last place, or not above the end of the run before, breaks a rule
     breaks-start : (37_856 ≤ field_at own 0) ⊎ ((0 < n) × (field_at own 0 ≤ end)) → BreaksStart (bytes ++ own) n
     breaks-start (inl high) = let is = start-is in inl (omega (arith, is, high))
     breaks-start (inr (some, touching)) = let is = start-is in let e = end-same some in inr (some, omega (arith, is, e, touching))

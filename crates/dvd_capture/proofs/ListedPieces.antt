@@ -151,7 +151,8 @@ module _ (head fields : List ℕ) (count : ℕ) (mark : ℕ → Bool) (taken : T
 pub length-grow : (more fields own : List ℕ) (most : ℕ) → more ≡ fields ++ own → length fields + length own ≤ most → length more ≤ most
 length-grow more fields own most is within = omega (arith, ap length is, length-append fields own, within)
 
--- FIELDS BY PIECES. Behind the bytes of the rows the number of runs came, and then these fields, of which so many runs are whole.
+-- FIELDS BY PIECES. After the bytes of the rows the number of runs came, and then these fields, of which so many runs
+-- are whole.
 pub record TakesFields (rows : List ℕ) (count : ℕ) (fields : List ℕ) (mark : ℕ → Bool) (taken : Taken) (old new : Option (List ℕ)) : Type 0 where
   pub number : List ℕ
   pub consumed : Consumes old new (number ++ fields)
@@ -232,7 +233,7 @@ stopped-at-field rows number fields old new came (BadMarks at) breaks = record {
   stops = subst (λ l. IsBrokenAt l at) (append_assoc rows number fields) breaks;
 }
 
--- it is told as that, with the counts as they were
+-- it is reported as that, with the counts as they were
 pub bad-counts : (answer : FetchAnswer) (old new : Seen) → IsBadMarks answer → HasGoneOn old new → FetchCounts answer old new
 bad-counts Full old new is steady = absurd is
 bad-counts End old new is steady = absurd is

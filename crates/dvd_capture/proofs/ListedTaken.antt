@@ -11,7 +11,7 @@ use Rattle.dvd_capture.specs.declared.capture.FetchAnswer.{FetchAnswer}
 use Rattle.dvd_capture.specs.declared.capture.FetchAnswer.TheVariants.{Full, End, Short, ReadFault, BadMarks}
 use Rattle.dvd_capture.proofs.ListedFields.{early-cut, field_at-append, field_at-behind, number-broken, number-unbroken}
 
--- two fields behind each other
+-- two fields one after the other
 pub first-field : (start long : List ℕ) → length start ≡ 2 → field_at (start ++ long) 0 ≡ field_at start 0
 first-field start long size = field_at-append start long 0 (omega arith)
 
@@ -34,7 +34,7 @@ pub field-number : (bytes : List ℕ) → big_number 2 bytes ≡ field_at bytes 
 unfolding field_at
 field-number bytes = omega arith
 
--- THE NUMBER OF RUNS, behind the bytes of the rows.
+-- THE NUMBER OF RUNS, after the bytes of the rows.
 module _ (rows : List ℕ) (mark : ℕ → Bool) (are : AreRows rows mark) (old : Option (List ℕ)) where
   -- the unit isn't fetched for want of it
   pub stopped-in-number : (new : Option (List ℕ)) (answer : FetchAnswer) → IsNoField 37_856 old new answer → IsStopped rows old new answer
@@ -89,7 +89,7 @@ module _ (rows : List ℕ) (mark : ℕ → Bool) (are : AreRows rows mark) (old 
       };
     }
 
--- what is taken behind what was taken
+-- what is taken after what was taken
 pub runs-behind : (bytes : List ℕ) (old mid new : Option (List ℕ)) (count n end next_end m : ℕ) (mark mark_now : ℕ → Bool)
     → (t : TakesRuns bytes count n end mark old mid) → TakesRuns (bytes ++ t.own) count m next_end mark_now mid new → TakesRuns bytes count m next_end mark_now old new
 runs-behind bytes old mid new count n end next_end m mark mark_now t more = record {
@@ -98,7 +98,7 @@ runs-behind bytes old mid new count n end next_end m mark mark_now t more = reco
   runs = subst (λ l. HasRuns l count m next_end mark_now) (append_assoc bytes t.own more.own) more.runs;
 }
 
--- a unit that isn't fetched behind more of its bytes isn't fetched behind these either
+-- a unit that isn't fetched after more of its bytes isn't fetched after these either
 pub stopped-behind : (bytes own : List ℕ) (old mid new : Option (List ℕ)) (answer : FetchAnswer) → Consumes old mid own → IsStopped (bytes ++ own) mid new answer → IsStopped bytes old new answer
 stopped-behind bytes own old mid new answer takes more = record {
   own = own ++ more.own;

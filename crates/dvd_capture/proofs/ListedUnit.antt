@@ -16,7 +16,7 @@ use Rattle.dvd_capture.proofs.ListedFields.{early-unbroken}
 use Rattle.dvd_capture.proofs.Fetching.{part-append, record_at-lt, row_at-lt, row_at-record_at}
 use Rattle.dvd_capture.proofs.Mapped.{mapped}
 
--- the rows stand in the first bytes
+-- the rows are in the first bytes
 pub rows-listed : (rows_bytes own : List ℕ) → length rows_bytes ≡ 37_856 → captured_rows Listed (rows_bytes ++ own) ≡ captured_rows Plain rows_bytes
 unfolding captured_rows
 rows-listed rows_bytes own size =
@@ -75,7 +75,7 @@ rows-unmarked old new rows marks c = (
 -- THE WHOLE UNIT, whose rows were captured before.
 module _ (old mid new : Option (List ℕ)) (rows : List (List ℕ)) (marks marks_now : List (List Bool)) (c : Captures Plain old mid rows marks)
     (height : length marks_now ≡ 208) (width : (i : ℕ) → i < 208 → length (marks_line marks_now i) ≡ 182) where
-  -- all runs taken behind the rows: the listed unit is captured, with the rows and with the marks of its runs
+  -- all runs taken after the rows: the listed unit is captured, with the rows and with the marks of its runs
   unit-captured : TakesAll c.bytes (mark_of marks_now) mid new → Captures Listed old new rows marks_now
   unit-captured all = let runs = all.takes.runs in record {
     bytes = c.bytes ++ all.takes.own;
@@ -90,7 +90,7 @@ module _ (old mid new : Option (List ℕ)) (rows : List (List ℕ)) (marks marks
   pub unit-full : (answer : FetchAnswer) → IsFetched c.bytes (mark_of marks_now) mid new answer → answer ≡ Full → Captures Listed old new rows marks_now
   unit-full answer fetched is = unit-captured (subst (IsFetched c.bytes (mark_of marks_now) mid new) is fetched)
 
-  -- no answer behind the rows says that the source ended before the unit
+  -- no answer after the rows says that the source ended before the unit
   pub unit-end : (answer : FetchAnswer) → IsFetched c.bytes (mark_of marks_now) mid new answer → answer ≡ End → ⊥
   unit-end answer fetched is = subst (IsFetched c.bytes (mark_of marks_now) mid new) is fetched
 
@@ -119,7 +119,7 @@ module _ (old mid new : Option (List ℕ)) (rows : List (List ℕ)) (marks marks
         fewer = stop.stops.fewer;
       }
 
-  -- the answer that the marks are bad: the first field of the unit that breaks a rule stands there
+  -- the answer that the marks are bad: the first field of the unit that breaks a rule is there
   pub unit-broken : (answer : FetchAnswer) (at : ℕ) → IsFetched c.bytes (mark_of marks_now) mid new answer → answer ≡ BadMarks at → BreaksAt Listed old new at
   unit-broken answer at fetched is =
       let stop : IsStopped c.bytes mid new (BadMarks at) = subst (IsFetched c.bytes (mark_of marks_now) mid new) is fetched in record {

@@ -59,7 +59,7 @@ pub record IsBegun (bytes : List ℕ) (mark : ℕ → Bool) (n end : ℕ) : Type
   pub clear : 0 < end → end < 37_856 → mark end ≡ false
   pub counted : starts_below mark end ≡ n
 
--- no mark stands between the runs
+-- no mark is between the runs
 between : (mark : ℕ → Bool) (place end start next : ℕ) → end ≤ start → start ≤ next → (end ≤ place → place < start → mark place ≡ false)
     → (start ≤ place → place < next → mark place ≡ true)
     → below mark next place ≡ (below mark end place || (nat_le start place && nat_lt place next))
@@ -116,7 +116,7 @@ module _ (bytes : List ℕ) (mark : ℕ → Bool) (n end start next : ℕ) (begu
   length_field : field_at run_bytes 2 ≡ next - start
   length_field = second-field (to_be_bytes w16 start) (to_be_bytes w16 (next - start)) refl ∙ field-written (next - start) (let w = run.ends.within in omega (arith, w))
 
-  -- with these behind the others, the first n + 1 runs are written
+  -- with these after the others, the first n + 1 runs are written
   pub run-written : IsBegun (bytes ++ run_bytes) mark (n + 1) next
   run-written =
       let sf = start_field in let lf = length_field in let inside = start-inside in let some = some-length mark n end start next begun.clear begun.counted run start-inside in let w = run.ends.within in
@@ -158,7 +158,7 @@ all-written bytes mark n end begun all = record {
   by_place place inside (inl is) = let none = left place is.1 inside in let high = is.1 in grind (arith, nat_tests)
   by_place place inside (inr is) = let near = is.1 in grind (arith, nat_tests)
 
--- THE NUMBER is written behind the bytes of the rows.
+-- THE NUMBER is written after the bytes of the rows.
 pub none-written : (rows : List ℕ) (mark : ℕ → Bool) → length rows ≡ 37_856 → IsBegun (rows ++ to_be_bytes w16 (starts_below mark 37_856)) mark 0 0
 unfolding marked_by
 none-written rows mark size =
@@ -190,13 +190,13 @@ other_mark true false = inr refl
 other_mark false true = inr refl
 other_mark false false = inl refl
 
--- no place from this one to below `at` has the mark sought, where neither it has nor those behind it
+-- no place from this one to below `at` has the mark sought, where neither it has nor those after it
 one_passed : (mark : ℕ → Bool) (value : Bool) (from at place : ℕ) → mark from ≡ not value → AreMarked mark (not value) (suc from) at
     → from ≤ place → place < at → (((nat_le (suc from) place ≡ true) × (suc from ≤ place)) ⊎ ((nat_le (suc from) place ≡ false) × (place < suc from))) → mark place ≡ not value
 one_passed mark value from at place here rest least inside (inl is) = rest place is.1 inside
 one_passed mark value from at place here rest least inside (inr is) = let same : place ≡ from = omega (arith, is.1, least) in ap mark same ∙ here
 
--- the search is over at this place, if it has the mark sought, or goes on behind it
+-- the search is over at this place, if it has the mark sought, or goes on after it
 further : (mark : ℕ → Bool) (value : Bool) (from k at : ℕ) → (mark from ≡ value) ⊎ (mark from ≡ not value) → IsFound mark value (suc from) (suc from + k) at
     → (place : ℕ) × IsFound mark value from (from + suc k) place
 further mark value from k at (inl is) rest = (
@@ -218,7 +218,7 @@ further mark value from k at (inr is) rest = (
   },
 )
 
--- the first of k places from one on that has this mark, or the place behind them all
+-- the first of k places from one on that has this mark, or the place after them all
 find_place : (mark : ℕ → Bool) (value : Bool) (from k : ℕ) → (place : ℕ) × IsFound mark value from (from + k) place
 find_place mark value from zero = (
   from,
@@ -232,7 +232,7 @@ find_place mark value from zero = (
 find_place mark value from (suc k) =
     let (at, rest) = find_place mark value (suc from) k in further mark value from k at (other_mark value (mark from)) rest
 
--- the bytes that are left to be written, with which all runs of the unit stand
+-- the bytes that are left to be written, with which all runs of the unit are there
 pub record HasRest (bytes : List ℕ) (mark : ℕ → Bool) : Type 0 where
   pub rest : List ℕ
   pub small : (k : ℕ) → slice_index rest k < 256
@@ -270,7 +270,7 @@ rest-exists (suc d) bytes mark n end begun all =
       runs = subst (λ l. HasRuns l after.count after.count after.end mark) (append_assoc bytes own after.rest) after.runs;
     }
 
--- PUTTING fields, run by run: these bytes, behind those of the rows, are the number and the first n runs.
+-- PUTTING fields, run by run: these bytes, after those of the rows, are the number and the first n runs.
 pub record ArePut (rows : List ℕ) (mark : ℕ → Bool) (n end : ℕ) (own : List ℕ) : Type 0 where
   pub bytes : (k : ℕ) → slice_index own k < 256
   pub begun : IsBegun (rows ++ own) mark n end
@@ -296,7 +296,7 @@ module _ (rows : List ℕ) (mark : ℕ → Bool) (size : length rows ≡ 37_856)
   pub all-put : (n end : ℕ) (own : List ℕ) → n ≡ starts_below mark 37_856 → ArePut rows mark n end own → AreFields rows mark own
   all-put n end own all put = record { bytes = put.bytes; count = n; end = end; runs = all-written (rows ++ own) mark n end put.begun all }
 
--- a piece of which a front was written, and what is written before and behind it
+-- a piece of which a front was written, and what is written before and after it
 pub prefix-behind : (old mid new : Option (List ℕ)) (own piece rest : List ℕ) → Appends old mid own → AppendsPrefix mid new piece → AppendsPrefix old new (own ++ (piece ++ rest))
 prefix-behind old mid new own piece rest before part = record {
   taken = own ++ part.taken;
@@ -329,7 +329,7 @@ module _ (rows : List (List ℕ)) (height : length rows ≡ 208) (widths : (i : 
   recording_size = length-recording rows height wide
 
   module _ (marks : List (List Bool)) (marks_height : length marks ≡ 208) (marks_widths : (i : ℕ) → i < 208 → length (marks_line marks i) ≡ 182) where
-    -- the recording of the rows, and behind it all runs of the marks, is the unit of both
+    -- the recording of the rows, and after it all runs of the marks, is the unit of both
     pub unit-of : (own : List ℕ) → ((k : ℕ) → slice_index own k < 256) → (count end : ℕ) → HasRuns (recording rows ++ own) count count end (mark_of marks)
         → IsUnitOf rows marks (recording rows ++ own)
     unit-of own small count end runs = record {

@@ -12,7 +12,7 @@ use Rattle.dvd_capture.specs.declared.form.Form.TheVariants.{Listed}
 use Rattle.dvd_capture.proofs.Fetching.{record_at-row_at, row_at-lt}
 use Rattle.dvd_capture.proofs.ListedFields.{marked_by-suc}
 
--- n runs by their starts and ends: each has a place, and another stands between it and the next
+-- n runs by their starts and ends: each has a place, and another is between it and the next
 pub record AreRuns (start end : ℕ → ℕ) (n : ℕ) : Type 0 where
   pub some : (i : ℕ) → i < n → start i < end i
   pub apart : (i : ℕ) → suc i < n → end i < start (suc i)
@@ -83,7 +83,7 @@ module _ (s e : ℕ → ℕ) (n : ℕ) (are : AreRuns s e n) (t f : ℕ → ℕ)
           let h = there (f k) (omega (arith, longer, w)) (record { run = k; below = in_n; from = omega (arith, starts, o); to = longer }) in
           past_end h (leb_tells (suc h.run) k) (leb_tells (suc k) h.run)
 
-      -- and it ends there or behind
+      -- and it ends there or after
       pub ends-before : e k ≤ f k
       ends-before = by_end (leb_tells (e k) (f k)) where
         by_end : (((nat_le (e k) (f k) ≡ true) × (e k ≤ f k)) ⊎ ((nat_le (e k) (f k) ≡ false) × (f k < e k))) → e k ≤ f k
@@ -180,7 +180,7 @@ module _ (bytes : List ℕ) where
       ∙ by_run n place h (λ before. marks-place n place (record { run = h.run; below = before; from = h.from; to = h.to })) (leb_tells (suc h.run) n)
 
 module _ (rows : List (List ℕ)) (marks : List (List Bool)) (unit : List ℕ) (is : IsUnitOf rows marks unit) where
-  -- the fields of each of its runs stand in the unit
+  -- the fields of each of its runs are in the unit
   stands : (i offset : ℕ) → i < run_count unit → offset ≤ 37_860 + 4 * i → offset + 2 ≤ length unit
   stands i offset below low = let size = is.size in omega (arith, size, below, low)
 
@@ -285,7 +285,7 @@ module _ (rows : List (List ℕ)) (marks : List (List Bool)) (a b : List ℕ)
       let x = is_a.fields offset behind in let y = is_b.fields offset behind in
       let z = is_a.fields (offset + 1) next in let w = is_b.fields (offset + 1) next in omega (arith, same, x, y, z, w)
 
-  -- the byte behind the first one of the field
+  -- the byte after the first one of the field
   second_byte : (offset : ℕ) → 37_856 ≤ offset → field_at a offset ≡ field_at b offset → slice_index a (offset + 1) ≡ slice_index b (offset + 1)
   unfolding field_at
   second_byte offset behind same =
@@ -315,13 +315,13 @@ module _ (rows : List (List ℕ)) (marks : List (List Bool)) (a b : List ℕ)
       let starts = (runs_agree i below).0 in let ends = (runs_agree i below).1 in
       field_byte k (37_860 + 4 * i) (omega arith) is.1 (omega arith) (omega (arith, starts, ends))
 
-  -- a byte behind the number of runs is the same, being one of a run
+  -- a byte after the number of runs is the same, being one of a run
   behind_number : (k : ℕ) → k < length a → 37_858 ≤ k → slice_index a k ≡ slice_index b k
   behind_number k within low =
       let size = is_a.size in
       run_byte k ((k - 37_858) / 4) (omega (arith, size)) (omega arith) (omega arith) (leb_tells (37_860 + 4 * ((k - 37_858) / 4)) k)
 
-  -- a byte behind the rows is the same, being one of the number or of a run
+  -- a byte after the rows is the same, being one of the number or of a run
   by_number : (k : ℕ) → k < length a → 37_856 ≤ k → (((nat_le 37_858 k ≡ true) × (37_858 ≤ k)) ⊎ ((nat_le 37_858 k ≡ false) × (k < 37_858))) → slice_index a k ≡ slice_index b k
   by_number k within low (inl is) = behind_number k within is.1
   by_number k within low (inr is) = field_byte k 37_856 (omega arith) low (omega (arith, is.1)) counts

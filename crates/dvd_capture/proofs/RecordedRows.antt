@@ -12,7 +12,7 @@ use Rattle.dvd_capture.proofs.Mapped.{mapped}
 
 -- Rows of one width, that of the recorded rows of a form.
 module _ (form : Form) (rows : List (List ℕ)) (width : (i : ℕ) → i < 208 → length (line rows i) ≡ record_size form) where
-  -- n + 1 recorded rows are n of them and the row that stands at recorded row n
+  -- n + 1 recorded rows are n of them and the row that is at recorded row n
   one_more : (n : ℕ) → recorded 0 (n + 1) rows ≡ recorded 0 n rows ++ line rows (row_at n)
   one_more n =
       let same : 0 + n ≡ n = omega arith in
@@ -26,14 +26,14 @@ module _ (form : Form) (rows : List (List ℕ)) (width : (i : ℕ) → i < 208 �
       ap (λ k. length (recorded 0 k rows)) (sym more) ∙ ap length (one_more n) ∙ length-append (recorded 0 n rows) (line rows (row_at n))
       ∙ omega (arith, length-recorded n (omega arith), width (row_at n) (row_at-lt n (omega arith)))
 
-  -- recorded row m stands behind m others
+  -- recorded row m comes after m others
   split : (m : ℕ) → m < 208 → recording rows ≡ (recorded 0 m rows ++ line rows (row_at m)) ++ recorded (0 + (m + 1)) (207 - m) rows
   split m below =
       let all : m + 1 + (207 - m) ≡ 208 = omega arith in
       recording-is rows ∙ ap (λ k. recorded 0 k rows) (sym all) ∙ recorded-add 0 (m + 1) (207 - m) rows
       ∙ ap (λ front. front ++ recorded (0 + (m + 1)) (207 - m) rows) (one_more m)
 
-  -- recorded row m is the row that stands there
+  -- recorded row m is the row that is there
   pub record_row : (m : ℕ) → m < 208 → record_of form (recording rows) m ≡ line rows (row_at m)
   record_row m below =
       let size : ℕ = record_size form in

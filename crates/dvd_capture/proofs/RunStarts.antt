@@ -30,7 +30,7 @@ start-by mark n here before is was = rw (is, was) refl
 start-unmarked : (mark : ℕ → Bool) (n : ℕ) → mark n ≡ false → start_at mark n ≡ 0
 start-unmarked mark n none = rw none refl
 
--- no run starts behind a marked place
+-- no run starts after a marked place
 start-inside : (mark : ℕ → Bool) (n : ℕ) → 0 < n → mark (n - 1) ≡ true → start_at mark n ≡ 0
 start-inside mark n behind before = by_mark (mark n) refl where
   by_mark : (here : Bool) → mark n ≡ here → start_at mark n ≡ 0
@@ -63,7 +63,7 @@ starts-unmarked mark from (suc k) none =
     let here = start-unmarked mark (from + k) (none (from + k) (omega arith) (omega arith)) in
     ap (starts_below mark) e ∙ starts-suc mark (from + k) ∙ omega (arith, before, here)
 
--- among marked places, those behind the first start no run
+-- among marked places, those after the first start no run
 pub starts-marked : (mark : ℕ → Bool) (from k : ℕ) → AreMarked mark true from (from + suc k) → starts_below mark (from + suc k) ≡ starts_below mark (from + 1)
 starts-marked mark from zero all = refl
 starts-marked mark from (suc k) all =
@@ -151,7 +151,7 @@ none_left mark from (suc k) begin same place least below =
     let no_start : start_at mark (from + k) ≡ 0 = omega (arith, next, same, order) in
     unmarked-further mark from k begin before no_start place least (omega arith)
 
--- the next run starts at the first marked place from an end on, and ends at the first unmarked one behind it
+-- the next run starts at the first marked place from an end on, and ends at the first unmarked one after it
 pub record IsNextRun (mark : ℕ → Bool) (end start next : ℕ) : Type 0 where
   pub starts : IsFound mark true end 37_856 start
   pub ends : IsFound mark false start 37_856 next
@@ -167,7 +167,7 @@ same_starts-before mark n end start counted starts =
     let k : end + (start - end) ≡ start = let b = starts.least in omega arith in
     ap (starts_below mark) (sym k) ∙ starts-unmarked mark end (start - end) (subst (AreMarked mark false end) (sym k) starts.passed) ∙ counted
 
--- THE NEXT RUN, behind n runs the last of which ends there.
+-- THE NEXT RUN, after n runs the last of which ends there.
 module _ (mark : ℕ → Bool) (n end start next : ℕ) (clear : 0 < end → end < 37_856 → mark end ≡ false) (counted : starts_below mark end ≡ n) (run : IsNextRun mark end start next) where
   module _ (inside : start < 37_856) where
     -- a place is marked where it starts and unmarked where the last one ends, so they differ

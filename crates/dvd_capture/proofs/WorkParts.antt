@@ -24,7 +24,7 @@ marks-height marks = length-map marks.rows.items marks_of_row ∙ sym marks.rows
 pub marks-width : (marks : Marks) (i : ℕ) → i < 208 → length (marks_line (marks_rows marks) i) ≡ 182
 marks-width marks i below = length-line marks.rows.items i (omega (arith, marks.size, marks.rows.ok.0))
 
--- byte i of column j stands in row i of the block at place j
+-- byte i of column j is in row i of the block at place j
 pub block-place : (columns : Columns) (i j : ℕ) → i < 208 → j < 182
     → slice_index (get_or (column_answers columns) j (record { bytes = []; answered = false })).bytes i ≡ place (from_columns (column_words columns)) i j
 block-place columns i j row below =

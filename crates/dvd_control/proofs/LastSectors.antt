@@ -36,7 +36,7 @@ blocks-fail : (layer : ℕ) (zone : Zone) (blocks : List ℕ) → zone_test laye
 blocks-fail layer zone [] fails = refl
 blocks-fail layer zone (b ∷ blocks) fails = rw fails (blocks-fail layer zone blocks fails)
 
--- the blocks of a zone and of the zones behind it that pass
+-- the blocks of a zone and of the zones after it that pass
 zone-passes : (layer : ℕ) (zone : Zone) (rest : List Zone) (test : Bool) → zone_test layer zone ≡ test
     → filter (block_test layer) (entries_of zone) ++ flat_map entries_of rest ≡ flat_map entries_of (cond test (zone ∷ rest) rest)
 zone-passes layer zone rest true is = ap (λ own. own ++ flat_map entries_of rest) (blocks-pass layer zone (range_with_len 0 zone.blocks) is)
@@ -70,7 +70,7 @@ one-zone layer zones zone last alone some ends =
     let number : zone.first + 16 * (zone.blocks - 1) + 15 ≡ last = omega arith in
     ap (option_map (λ entry. entry.first + 15)) block ∙ ap Some number
 
--- the last sector that the lead-in of a layer tells, by the shape
+-- the last sector that the lead-in of a layer names, by the shape
 abbrev pub last_by : Shape → Layout → ℕ → ℕ
 last_by shape layout layer =
     if is_opposite shape then second_first layout + padded layout.sectors1 - 1
@@ -80,7 +80,7 @@ last_by shape layout layer =
 pub opposite-first : (layout : Layout) → layout.shape ≡ Opposite → second_first layout ≡ 0xFD0000 - padded layout.sectors0
 opposite-first layout is = ap (λ s. if is_opposite s then 0xFD0000 - padded layout.sectors0 else data_first) is
 
--- the lead-in of a layer tells the last sector of the Data Zone
+-- the lead-in of a layer names the last sector of the Data Zone
 abbrev IsTold : Layout → Shape → ℕ → Type 0
 IsTold layout shape layer =
     option_map (λ entry. entry.first + 15) (last_block (filter (block_test (ends_on shape layer)) (flat_map entries_of (zones_by layout shape))))
@@ -90,7 +90,7 @@ IsTold layout shape layer =
 single-not_parallel : Single ≡ Parallel → ⊥
 single-not_parallel same = cc
 
--- it is told rightly, since of the zones of a disk one alone is the Data Zone of that layer
+-- it is named rightly, since of the zones of a disk one alone is the Data Zone of that layer
 shape-told : (layout : Layout) (shape : Shape) (layer : ℕ) → layout.shape ≡ shape → HasLeadIn shape layer → IsTold layout shape layer
 shape-told layout Single layer is (inl zero) =
     subst (IsTold layout Single) (sym zero) (one-zone 0 (zones_by layout Single) (first_data layout) _ refl (omega arith) (omega arith))
@@ -106,7 +106,7 @@ shape-told layout Opposite layer is lead_in =
     let begins = opposite-first layout is in
     one-zone 1 (zones_by layout Opposite) (second_data layout) _ refl (omega arith) (omega arith)
 
--- the lead-in of a layer tells the last sector of the last block of the Data Zone that it speaks of
+-- the lead-in of a layer names the last sector of the last block of the Data Zone that it speaks of
 pub last-told : (layout : Layout) (layer : ℕ) → HasLeadIn layout.shape layer
     → option_map (λ entry. entry.first + 15) (last_block (data_blocks layout (ends_on layout.shape layer))) ≡ Some (fields_for layout layer).last
 unfolding plan_of fields_for

@@ -57,7 +57,7 @@ plan_of-right layout zones =
     plan_of-each (IsRightZone layout.shape) (IsRightEntry layout.shape) (entries_of-right layout.shape) layout zones
     (zones_by-right layout layout.shape)
 
--- an entry with control data stands in a lead-in
+-- an entry with control data is in a lead-in
 pub entry-in_lead_in : (layout : Layout) (entry : BlockPlan) → IsEntry layout entry → ControlInLeadIn layout.shape entry.layer entry.content
 entry-in_lead_in layout entry is =
     plan_of-at_place (IsRightEntry layout.shape) layout is.zones is.place entry (plan_of-right layout is.zones) is.stands

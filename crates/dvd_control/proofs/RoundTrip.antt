@@ -16,7 +16,7 @@ is_one n is = ap (λ m. nat_eq m 1) is
 is_not_one : (n : ℕ) → n ≡ 0 → nat_eq n 1 ≡ false
 is_not_one n is = ap (λ m. nat_eq m 1) is
 
--- bits 5 and 6 of byte 2 tell whether there are two layers
+-- bits 5 and 6 of byte 2 say whether there are two layers
 layers-back : (two_layers opposite : Bool) (kind : ℕ) → kind < 16 → nat_eq (byte_2 two_layers opposite kind / 32 % 4) 1 ≡ two_layers
 layers-back true true kind small = is_one _ (omega arith)
 layers-back true false kind small = is_one _ (omega arith)
@@ -30,7 +30,7 @@ layers-few true false kind small = omega arith
 layers-few false true kind small = omega arith
 layers-few false false kind small = omega arith
 
--- bit 4 of byte 2 tells the track path
+-- bit 4 of byte 2 says the track path
 path-back : (two_layers opposite : Bool) (kind : ℕ) → kind < 16 → nat_eq (byte_2 two_layers opposite kind / 16 % 2) 1 ≡ opposite
 path-back true true kind small = is_one _ (omega arith)
 path-back true false kind small = is_not_one _ (omega arith)
@@ -44,7 +44,7 @@ kind-back true false kind small = omega arith
 kind-back false true kind small = omega arith
 kind-back false false kind small = omega arith
 
--- the highest bit of its byte tells whether there is a BCA
+-- the highest bit of its byte says whether there is a BCA
 bca-back : (bca : Bool) → nat_eq (cond bca 128 0 / 128) 1 ≡ bca
 bca-back true = refl
 bca-back false = refl

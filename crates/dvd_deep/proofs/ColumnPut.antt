@@ -12,7 +12,7 @@ pub record IsPutBefore (j : ℕ) (word : List ℕ) (old now : List (List ℕ)) (
   pub put : (k : ℕ) → k < i → place now k j ≡ slice_index word k
   pub others : (k p : ℕ) → k < 208 → p < 182 → p ≢ j → place now k p ≡ place old k p
 
--- a byte that is put at place j of row i stands there
+-- a byte that is put at place j of row i is there
 set-same : {X : Type 0} (rows : List (List X)) (i j : ℕ) (x d : X) → i < length rows → j < length (get_or rows i [])
     → get_or (get_or (set rows i (set (get_or rows i []) j x)) i []) j d ≡ x
 set-same rows i j x d within inside =

@@ -85,7 +85,7 @@ columns-next failed state rows rows_new j height rows_height below put wide part
           put.others i k i_below k_below other ∙ part.left i k i_below (omega arith) k_below;
     }
 
--- whether the columns before column j are answered is told
+-- whether the columns before column j are answered is said
 abbrev pub AreTold : List Bool → State → List Bool → ℕ → Type 0
 AreTold failed state answered j = (k : ℕ) → k < j → slice_index_or answered k false ≡ is_some (column_near failed state k)
 

@@ -14,7 +14,7 @@ use Rattle.dvd_decoding.specs.Frames.{main_at, main_data}
 abbrev pub mains : List (List ℕ) → BlockPlan → ℕ → List ℕ
 mains block entry n = flat_map (λ sector. sector) (map (main_at block entry) (range_with_len 0 n))
 
--- one sector more stands behind those before it
+-- one sector more comes after those before it
 mains-more : (block : List (List ℕ)) (entry : BlockPlan) (f : ℕ) → mains block entry (f + 1) ≡ mains block entry f ++ main_at block entry f
 mains-more block entry f =
     ap (flat_map (λ sector. sector)) (map-range_with_len_more (main_at block entry) 0 f f (omega arith))

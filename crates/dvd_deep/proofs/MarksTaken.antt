@@ -6,7 +6,7 @@ use Rattle.dvd_capture.specs.Answers.{marks_line}
 use Rattle.dvd_deep.specs.Inner.Steps.{TellsMarked, mark_left}
 use Rattle.dvd_deep.specs.Rounds.{mark_in}
 
--- a row that isn't told as marked has no mark
+-- a row that isn't noted as marked has no mark
 pub unmarked : (marks : List (List Bool)) (marked : List Bool) (i j : ℕ) → TellsMarked marks marked → i < 208 → j < 182 → slice_index_or marked i false ≡ false
     → mark_in marks i j ≡ false
 unmarked marks marked i j tells below inside is = ap (λ row. get_or row j false) (tells i below is) ∙ get_or-replicate 182 j false false inside

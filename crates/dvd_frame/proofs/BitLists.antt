@@ -1,4 +1,4 @@
--- Lists of bits: what they stand for, and how they shift and add.
+-- Lists of bits: which numbers they are, and how they shift and add.
 use Rattle.std.proofs.Common.{◌≡◌, ℕ, zero, suc, ◌+◌, ◌*◌, ◌/◌, ◌%◌, ◌^◌, ◌<◌, List, [], ◌∷◌, ◌++◌, length, refl, sym, ◌∙◌, ap, zero-add, arith}
 use Rattle.std.specs.Prelude.{bit_xor, fold}
 use Rattle.std.specs.Int.{bit_at}
@@ -63,11 +63,11 @@ bits-mod n number =
     let shape : 0 + n ≡ n = omega arith in
     ap (λ (m : ℕ). bits n (number % 2 ^ m)) (sym shape) ∙ bits-mod_above 0 n number
 
--- a start with one bit more behind it, times a power of two, part by part
+-- a start with one bit more after it, times a power of two, part by part
 spread : (start bit power : ℕ) → (2 * start + bit) * power ≡ start * (2 * power) + bit * power
 spread start bit power = omega arith
 
--- bits read behind a start: the start moves up by n places, and the number's rest stands behind it
+-- bits read after a start: the start moves up by n places, and the number's rest comes after it
 pub fold-bits : (n number start : ℕ) → fold (λ (a x : ℕ). 2 * a + x) start (bits n number) ≡ start * 2 ^ n + number % 2 ^ n
 unfolding bits
 fold-bits zero number start = omega arith
@@ -78,7 +78,7 @@ fold-bits (suc n) number start =
     let split : number % 2 ^ suc n ≡ bit_at number n * 2 ^ n + number % 2 ^ n = ap (λ (m : ℕ). number % 2 ^ m) (sym shape) ∙ mod-pow-add number 1 n in
     omega (arith, split, ap (λ (p : ℕ). start * p) power, spread start (bit_at number n) (2 ^ n)))
 
--- the lowest n bits of a number stand for its rest modulo 2^n
+-- the lowest n bits of a number are those of its rest modulo 2^n
 pub number_of-bits : (n number : ℕ) → number_of (bits n number) ≡ number % 2 ^ n
 number_of-bits n number = omega (arith, fold-bits n number 0)
 

@@ -1,5 +1,6 @@
--- What division leaves of each byte with more and more bytes of zeros behind it: the rule by which these terms follow from one
--- another. all_left computes its first case for each byte, byte_more leads to the next, and Folds-doubled doubles distances.
+-- What division leaves of each byte with more and more bytes of zeros after it: the rule by which these terms follow
+-- from one another. all_left computes its first case for each byte, byte_more leads to the next, and Folds-doubled
+-- doubles distances.
 use Rattle.std.proofs.Common.{◌≡◌, ℕ, zero, suc, ◌+◌, ◌*◌, ◌%◌, ◌^◌, ◌<◌, ◌≤◌, Bool, true, false, cond, eqb, List, [], ◌∷◌, ◌++◌, length, get_or, map, All, refl, sym, ◌∙◌, ap, zero-add, arith}
 use Rattle.std.specs.Prelude.{bit_xor, replicate}
 use Rattle.std.specs.List.{range_with_len}
@@ -27,7 +28,7 @@ plus_front_within xs ys [] within = refl
 plus_front_within [] ys (z ∷ added) within = absurd (omega arith)
 plus_front_within (x ∷ xs) ys (z ∷ added) within = ap (λ (l : List ℕ). bit_xor x z ∷ l) (plus_front_within xs ys added (omega arith))
 
--- division leaves what stands behind the bits that its steps reach
+-- division leaves what comes after the bits that its steps reach
 remainder_front : (n : ℕ) (xs ys : List ℕ) → n + 32 ≤ length xs → remainder n (xs ++ ys) ≡ remainder n xs ++ ys
 unfolding remainder_by
 remainder_front zero xs ys within = refl
@@ -72,7 +73,7 @@ remainder-sum n xs ys size_xs size_ys all_xs all_ys =
     (omega (arith, length-remainder n ys (omega arith)))
     (bits-remainder n xs all_xs) (bits-remainder n ys all_ys)
 
--- a sum of bits, each with zeros behind it
+-- a sum of bits, each with zeros after it
 padded-sum : (a b n m : ℕ) → plus_front (bits n a ++ replicate m 0) (bits n b ++ replicate m 0) ≡ bits n (bit_xor a b) ++ replicate m 0
 padded-sum a b n m =
     plus_front-append (bits n a) (bits n b) (replicate m 0) (replicate m 0) (length-bits n a ∙ sym (length-bits n b))
@@ -157,7 +158,7 @@ Folds-doubled f a b c folds m =
     ∙ ap (λ (k : ℕ). bit_xor (bit_xor (f k) (f (m + c + c))) (f m)) twice_b
     ∙ ap (λ (k : ℕ). bit_xor (bit_xor (f (m + (b + b))) (f k)) (f m)) twice_c
 
--- the sum of what is left of a byte with 31, with 4 and with no bytes of zeros behind it
+-- the sum of what is left of a byte with 31, with 4 and with no bytes of zeros after it
 three_left : ℕ → ℕ
 three_left byte = bit_xor (bit_xor (byte_remainder 31 byte) (byte_remainder 4 byte)) (byte_remainder 0 byte)
 
@@ -178,7 +179,7 @@ byte_remainder-mod : (m byte : ℕ) → byte_remainder m (byte % 2 ^ 8) ≡ byte
 unfolding byte_remainder
 byte_remainder-mod m byte = ap (λ (l : List ℕ). number_of (remainder (8 * (m + 1)) (l ++ replicate (8 * m + 32) 0))) (bits-mod 8 byte)
 
--- what is left of a byte, by the number of zeros behind it
+-- what is left of a byte, by the number of zeros after it
 abbrev left : ℕ → ℕ → ℕ
 left byte m = byte_remainder m byte
 

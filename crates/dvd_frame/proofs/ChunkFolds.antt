@@ -1,6 +1,7 @@
--- Chunks of bytes that are added to those 1, 28 and 32 chunks behind them and left out: what division leaves of all stays.
+-- Chunks of bytes that are added to those 1, 28 and 32 chunks after them and left out: what division leaves of all
+-- stays.
 -- What is left of bytes is a sum (left_of) over them; chunk_folded is one step, and plus_front-put, plus_front-zip2 and
--- drop-plus_front tell what the operations on vectors do to the list.
+-- drop-plus_front say what the operations on vectors do to the list.
 use Rattle.std.proofs.Common.{◌≡◌, ℕ, zero, suc, ◌+◌, ◌-◌, ◌*◌, ◌^◌, ◌≤◌, List, [], ◌∷◌, ◌++◌, length, take, drop, refl, sym, ◌∙◌, ap, subst, zero-add, arith}
 use Rattle.std.specs.Prelude.{bit_xor, replicate}
 use Rattle.std.specs.Int.Bits.{xor_zero_l, xor_zero_r, xor_assoc, xor_self}
@@ -16,12 +17,12 @@ use Rattle.dvd_frame.proofs.Division.{divided_from_zero}
 use Rattle.dvd_frame.proofs.WordDivision.{remainders_sum, bits-remainders_sum}
 use Rattle.dvd_frame.proofs.ByteFolds.{plus_front_within, byte_remainder-sum, powers_fold}
 
--- what division leaves of bytes with m bytes of zeros behind them
+-- what division leaves of bytes with m bytes of zeros after them
 pub left_of : ℕ → List ℕ → ℕ
 left_of m [] = 0
 left_of m (byte ∷ bytes) = bit_xor (byte_remainder (m + length bytes) byte) (left_of m bytes)
 
--- with none behind them, it is the sum of what is left of each
+-- with none after them, it is the sum of what is left of each
 left_of-none : (bytes : List ℕ) → left_of 0 bytes ≡ remainders_sum bytes
 unfolding left_of remainders_sum
 left_of-none [] = refl
@@ -35,7 +36,7 @@ same_left xs ys same = sym (is xs) ∙ ap (bits 32) same ∙ is ys where
   is : (bytes : List ℕ) → bits 32 (left_of 0 bytes) ≡ divided_from 0 bytes
   is bytes = ap (bits 32) (left_of-none bytes) ∙ bits-remainders_sum bytes ∙ sym (divided_from_zero bytes)
 
--- two lists, one behind the other
+-- two lists, one after the other
 left_of-append : (m : ℕ) (xs ys : List ℕ) → left_of m (xs ++ ys) ≡ bit_xor (left_of (m + length ys) xs) (left_of m ys)
 unfolding left_of
 left_of-append m [] ys = sym (xor_zero_l (left_of m ys))
@@ -78,7 +79,7 @@ xor_triples : (a b c d e f : ℕ)
     → bit_xor (bit_xor (bit_xor a b) c) (bit_xor (bit_xor d e) f) ≡ bit_xor (bit_xor (bit_xor a d) (bit_xor b e)) (bit_xor c f)
 xor_triples a b c d e f = same_from_bits _ _ (λ i. simp bit_at_xor (omega arith))
 
--- what is left of bytes with zeros behind them follows the rule of each byte
+-- what is left of bytes with zeros after them follows the rule of each byte
 left_of-folds : (k m : ℕ) (bytes : List ℕ)
     → left_of (m + 32 * 2 ^ k) bytes ≡ bit_xor (bit_xor (left_of (m + 31 * 2 ^ k) bytes) (left_of (m + 4 * 2 ^ k) bytes)) (left_of m bytes)
 unfolding left_of
@@ -97,7 +98,7 @@ left_of-folds k m (byte ∷ bytes) =
     ∙ ap (bit_xor (bit_xor (bit_xor a b) (byte_remainder (m + n) byte))) (left_of-folds k m bytes)
     ∙ xor_triples a b (byte_remainder (m + n) byte) (left_of (m + 31 * 2 ^ k) bytes) (left_of (m + 4 * 2 ^ k) bytes) (left_of m bytes)
 
--- bytes added to those from place p on, where no zeros stand behind the list
+-- bytes added to those from place p on, where no zeros come after the list
 plus_before : (xs added : List ℕ) (p r : ℕ) → p + length added + r ≡ length xs
     → left_of 0 (plus_front xs (replicate p 0 ++ added)) ≡ bit_xor (left_of 0 xs) (left_of r added)
 plus_before xs added p r size =
@@ -107,7 +108,7 @@ plus_before xs added p r size =
 xor_order : (a b c d : ℕ) → bit_xor (bit_xor (bit_xor a b) c) d ≡ bit_xor (bit_xor (bit_xor d b) c) a
 xor_order a b c d = same_from_bits _ _ (λ i. simp bit_at_xor (omega arith))
 
--- a chunk is added to those 28, 32 and 1 chunks behind it, and left out
+-- a chunk is added to those 28, 32 and 1 chunks after it, and left out
 chunk_left_out : (k w m : ℕ) (chunk rest : List ℕ) → w ≡ 2 ^ k → length chunk ≡ w → length rest ≡ m + 32 * w
     → left_of 0 (chunk ++ rest)
     ≡ left_of 0 (plus_front (plus_front (plus_front rest (replicate (27 * w) 0 ++ chunk)) (replicate (31 * w) 0 ++ chunk)) chunk)
@@ -171,7 +172,7 @@ plus_front-replicate (suc n) [] = refl
 plus_front-replicate (suc n) (x ∷ bytes) =
     ap (λ (b : ℕ). b ∷ plus_front bytes (replicate n 0)) (xor_zero_r x) ∙ ap (λ (l : List ℕ). x ∷ l) (plus_front-replicate n bytes)
 
--- the bytes behind n, once others are added p places behind these
+-- the bytes after n, once others are added p places after these
 pub drop-plus_front : (n p : ℕ) (bytes added : List ℕ)
     → drop n (plus_front bytes (replicate (n + p) 0 ++ added)) ≡ plus_front (drop n bytes) (replicate p 0 ++ added)
 unfolding plus_front
@@ -182,7 +183,8 @@ drop-plus_front (suc n) p (x ∷ bytes) added =
     let more : suc n + p ≡ suc (n + p) = omega arith in
     ap (λ (k : ℕ). drop (suc n) (plus_front (x ∷ bytes) (replicate k 0 ++ added))) more ∙ drop-plus_front n p bytes added
 
--- one step at a place: the chunk there and what is carried to it are added 28 and 32 chunks behind it, and carried to the next
+-- one step at a place: the chunk there and what is carried to it are added 28 and 32 chunks after it, and carried to
+-- the next
 pub chunk_folded : (k w at : ℕ) (bytes carried taken once twice : List ℕ) → w ≡ 2 ^ k → length carried ≡ w → at + 33 * w ≤ length bytes
     → taken ≡ plus_front (take w (drop at bytes)) carried
     → once ≡ plus_front bytes (replicate (at + 28 * w) 0 ++ taken)

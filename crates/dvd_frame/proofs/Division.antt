@@ -90,7 +90,8 @@ added_behind (suc n) (y ∷ ys) rest size =
         ∙ below (plus_front ys by) (omega (arith, length-plus_front ys by))
     each below false = below ys (omega arith)
 
--- bits that are read next, once a register of 32 bits is added: its leading n bits leave, and the others are added behind
+-- bits that are read next, once a register of 32 bits is added: its leading n bits leave, and the others are added at
+-- the end
 leading_met : (n m number register : ℕ) (rest : List ℕ)
     → plus_front (bits n number ++ rest) (bits (n + m) register) ≡ bits n (bit_xor number (register / 2 ^ m)) ++ plus_front rest (bits m register)
 leading_met n m number register rest =
@@ -98,7 +99,7 @@ leading_met n m number register rest =
     ∙ plus_front-append (bits n number) (bits n (register / 2 ^ m)) rest (bits m register) (length-bits n number ∙ sym (length-bits n (register / 2 ^ m)))
     ∙ ap (λ (l : List ℕ). l ++ plus_front rest (bits m register)) (plus_front-bits n number (register / 2 ^ m))
 
--- n steps of the division, that read n bits: what these leave is added to the bits behind
+-- n steps of the division, that read n bits: what these leave is added to the bits after these
 pub front_divided : (n : ℕ) (front rest : List ℕ) → length front ≡ n
     → remainder n (front ++ rest) ≡ plus_front rest (remainder n (front ++ replicate 32 0))
 unfolding bits
@@ -136,7 +137,7 @@ pub bits-byte_remainder : (k byte : ℕ) → bits 32 (byte_remainder k byte) ≡
 unfolding byte_remainder padded
 bits-byte_remainder k byte = bits-left (8 * (k + 1)) (padded k byte) (length-padded k byte) (bits-padded k byte)
 
--- eight steps of the division: what a byte followed by 32 zeros leaves is added behind
+-- eight steps of the division: what a byte followed by 32 zeros leaves is added at the end
 byte_divided : (byte : ℕ) (rest : List ℕ) → remainder 8 (bits 8 byte ++ rest) ≡ plus_front rest (bits 32 (byte_remainder 0 byte))
 unfolding padded
 byte_divided byte rest =

@@ -1,4 +1,4 @@
--- A frame whose parts are written one behind the other.
+-- A frame whose parts are written one after the other.
 use Rattle.std.proofs.Common.{◌≡◌, ℕ, ◌+◌, List, ◌++◌, length, take, drop, sym, ◌∙◌, ap, ap₂, arith}
 use Rattle.std.proofs.lemmas.List.{append_assoc, drop-drop, drop_at, length-append, take_all, take_at}
 use Rattle.dvd_frame.specs.Edc.{edc_of}
@@ -7,13 +7,13 @@ use Rattle.dvd_frame.specs.Id.{word_bytes, ied_of}
 use Rattle.dvd_frame.specs.Scrambling.{masked}
 use Rattle.dvd_frame.specs.declared.scrambling.Rule.{Rule}
 
--- what stands before a place, once a part is written there
+-- what is before a place, once a part is written there
 put_part : (before part old new : List ℕ) (place after : ℕ) → take (place + length part) new ≡ take place old ++ part
     → take place old ≡ before → place + length part ≡ after → take after new ≡ before ++ part
 put_part before part old new place after put was size =
     ap (λ (n : ℕ). take n new) (sym size) ∙ put ∙ ap (λ (l : List ℕ). l ++ part) was
 
--- ID, IED and CPR_MAI, Main Data, and the EDC of all of these; and Main Data scrambled where they stand
+-- ID, IED and CPR_MAI, Main Data, and the EDC of all of these; and Main Data scrambled where they are
 pub frame_written : (word : ℕ) (rule : Rule) (cpr main ied check blank id_put ied_put cpr_put main_put whole scrambled : List ℕ)
     → length cpr ≡ 6 → length ied ≡ 2 → length main ≡ 2048 → length check ≡ 4 → length whole ≡ 2064
     → take (0 + length (word_bytes word)) id_put ≡ take 0 blank ++ word_bytes word

@@ -136,7 +136,7 @@ ied_found word first second byte_first byte_second codeword =
         append_cancel_left id (a ∷ b ∷ []) (first ∷ second ∷ [])
         (encoded_once 6 2 id (id ++ a ∷ b ∷ []) (id ++ first ∷ second ∷ []) (omega arith) (omega arith) encoded_other encoded_first)
 
--- the last two of six bytes stand behind the first four
+-- the last two of six bytes come after the first four
 pub last_two : (six front : List ℕ) → length six ≡ 6 → take 4 six ≡ front → six ≡ front ++ get_or six 4 0 ∷ get_or six 5 0 ∷ []
 last_two six front size begins =
     sym (take-append-drop 4 six)

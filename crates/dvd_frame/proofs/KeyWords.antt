@@ -77,7 +77,7 @@ bytes_summed word next near far fits_word fits_next is_near is_far =
         let of_far : far % 2 ^ 8 ≡ next / 2 ^ 24 % 256 = omega arith in
         xor_mod near far 8 ∙ ap₂ bit_xor of_near of_far
 
--- the word behind two words of keys
+-- the word after two words of keys
 pub word_follows : (preset k word next near far : ℕ) → word < 2 ^ 64 → next < 2 ^ 64
     → near ≡ (word * 2 ^ 64 + next) * 2 ^ 8 % 2 ^ 128 / 2 ^ 64 → far ≡ (word * 2 ^ 64 + next) * 2 ^ 40 % 2 ^ 128 / 2 ^ 64
     → to_be_bytes w64 word ≡ keys_from preset k 8 → to_be_bytes w64 next ≡ keys_from preset (k + 8) 8
@@ -114,7 +114,7 @@ keys_joined preset k word bytes size each is =
     let same : bytes ≡ keys_from preset k 8 = keys_read preset k bytes size each in
     be_bytes_8 (keys_from preset k 8) word (sym (ap length same) ∙ size) (key_fits preset k 8) (is ∙ ap (from_be_bytes w64) same)
 
--- n keys written behind those that stand there
+-- n keys written after those that are there
 pub keys_written : (preset place n : ℕ) (old new part : List ℕ) → take (place + length part) new ≡ take place old ++ part
     → take place old ≡ keys_from preset 0 place → part ≡ keys_from preset place n → take (place + n) new ≡ keys_from preset 0 (place + n)
 keys_written preset place n old new part put was more =
@@ -161,7 +161,7 @@ keys_within preset at a n keys made within =
     ∙ ap (λ (m : ℕ). take n (drop a (take m keys))) whole ∙ ap (λ (l : List ℕ). take n (drop a l)) made
     ∙ keys_part preset 0 at a n within ∙ ap (λ (k : ℕ). keys_from preset k n) (zero-add a)
 
--- the vector behind the keys that were made, of two that stand among them
+-- the vector after the keys that were made, of two that are among them
 pub vector_follows : (preset at far near : ℕ) (keys : List ℕ) → far + 240 ≡ at → near + 176 ≡ at → take at keys ≡ keys_from preset 0 at
     → plus_front (take 32 (drop far keys)) (take 32 (drop near keys)) ≡ keys_from preset at 32
 vector_follows preset at far near keys is_far is_near made =

@@ -91,7 +91,7 @@ bits-remainder (suc n) (y ∷ ys) each = either (λ zs all. bits-remainder n zs 
   either below true = below (plus_front ys (bits 32 divisor)) (bits-plus_front ys (bits 32 divisor) tail (bits-bits 32 divisor))
   either below false = below ys tail
 
--- what is added behind the places that the division takes is added to what it leaves
+-- what is added after the places that the division takes is added to what it leaves
 remainder_behind : (n : ℕ) (ys tail : List ℕ) → n ≤ length ys → remainder n (plus_front ys (replicate n 0 ++ tail)) ≡ plus_front (remainder n ys) tail
 unfolding remainder_by plus_front
 remainder_behind zero ys tail within = refl
@@ -110,7 +110,7 @@ remainder_behind (suc n) (y ∷ ys) tail within =
     each below true = ap (remainder n) (plus_front_swap ys added by) ∙ below (plus_front ys by) (omega (arith, length-plus_front ys by))
     each below false = below ys (omega arith)
 
--- the bits of a number to which bits were read behind a start: those of the start, and the bits read
+-- the bits of a number to which bits were read after a start: those of the start, and the bits read
 bits-fold : (l : List ℕ) (k start : ℕ) → All IsBit l → bits (k + length l) (fold (λ (a x : ℕ). 2 * a + x) start l) ≡ bits k start ++ l
 bits-fold [] k start each =
     let none : k + 0 ≡ k = omega arith in ap (λ (n : ℕ). bits n start) none ∙ sym (append-nil (bits k start))
@@ -121,7 +121,7 @@ bits-fold (b ∷ l) k start each =
     ∙ ap (λ (front : List ℕ). front ++ l) (bits_more k start b (each 0 b (omega arith)))
     ∙ append_assoc (bits k start) (b ∷ []) l
 
--- bits are those of the number that they stand for, as many as there are
+-- bits are those of the number that they make, as many as there are
 pub bits-number_of : (l : List ℕ) (n : ℕ) → length l ≡ n → All IsBit l → bits n (number_of l) ≡ l
 unfolding bits
 bits-number_of l n size each =

@@ -15,7 +15,7 @@ use Rattle.dvd_frame.specs.declared.scrambling.Rule.{Rule}
 use Rattle.dvd_frame.proofs.IdChecks.{ied_right, length-ied_of}
 use Rattle.dvd_frame.proofs.Masking.{masked_twice, length-masked}
 
--- a frame whose parts stand at their places
+-- a frame whose parts are at their places
 record IsLaidOut (word : ℕ) (cpr scrambled check frame : List ℕ) : Type 0 where
   id : take 4 frame ≡ word_bytes word
   six : take 6 frame ≡ word_bytes word ++ ied_of word
@@ -23,7 +23,7 @@ record IsLaidOut (word : ℕ) (cpr scrambled check frame : List ℕ) : Type 0 wh
   main : take 2048 (drop 12 frame) ≡ scrambled
   tail : drop 2060 frame ≡ check
 
--- a head, 2,048 bytes and a check, one behind the other, stand at their places
+-- a head, 2,048 bytes and a check, one after the other, are at their places
 laid_out : (word : ℕ) (cpr scrambled check : List ℕ) → length cpr ≡ 6 → length scrambled ≡ 2048
     → IsLaidOut word cpr scrambled check (frame_head word cpr ++ scrambled ++ check)
 laid_out word cpr scrambled check cpr_size size =

@@ -1,4 +1,4 @@
--- The recurrence of the scrambling bits, and what follows of it for bits and bytes that stand further apart.
+-- The recurrence of the scrambling bits, and what follows of it for bits and bytes that are further apart.
 use Rattle.std.proofs.Common.{◌≡◌, ℕ, zero, suc, ◌+◌, ◌-◌, ◌*◌, ◌<◌, List, [], ◌∷◌, length, get_or, map, drop, All, mod-eq_of_lt, refl, sym, ◌∙◌, ap, arith}
 use Rattle.std.specs.Prelude.{bit_xor}
 use Rattle.std.specs.List.{range_with_len}
@@ -131,7 +131,7 @@ byte_bits preset k =
     bits-number_of shown 8 size (All-drop IsBit (8 * k + 7) (sequence preset (8 * k)) (bits-sequence preset (8 * k)))
     ∙ sequence_end preset (8 * k) (8 * k + 7) 8 (omega arith)
 
--- these eight bits stand for the scrambling byte
+-- these eight bits are those of the scrambling byte
 byte_value : (preset k : ℕ) → number_of (terms (bit_of preset) (8 * k + 7) 8) ≡ scrambling_byte preset k
 unfolding scrambling_byte
 byte_value preset k = ap number_of (sym (sequence_end preset (8 * k) (8 * k + 7) 8 (omega arith)))

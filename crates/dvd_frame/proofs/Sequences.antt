@@ -14,7 +14,7 @@ length-sequence preset zero = length-bits 15 preset
 length-sequence preset (suc n) =
     omega (arith, length_push (sequence preset n) (bit_xor (get_or (sequence preset n) n 0) (get_or (sequence preset n) (n + 4) 0)), length-sequence preset n)
 
--- the bits behind the one that leaves, and the sum of the first and the fifth
+-- the bits after the one that leaves, and the sum of the first and the fifth
 pub sequence_step : (preset n : ℕ)
     → drop (suc n) (sequence preset (suc n))
     ≡ drop 1 (drop n (sequence preset n)) ++ bit_xor (get_or (drop n (sequence preset n)) 0 0) (get_or (drop n (sequence preset n)) 4 0) ∷ []
@@ -57,7 +57,7 @@ window_moves preset k =
     ∙ ap moved (sequence_moves preset (n + 1) (n + 2) (omega arith)
     ∙ ap moved (sequence_moves preset n (n + 1) (omega arith))))))))
 
--- of 15 bits the last seven, and behind them the sums of the first eight with those four places further on
+-- of 15 bits the last seven, and after them the sums of the first eight with those four places further on
 bits_moved : (register : ℕ) → moved_by_byte (bits 15 register) ≡ bits 7 register ++ plus_front (take 8 (bits 15 register)) (take 8 (bits 11 register))
 unfolding moved_by_byte moved bits plus_front
 bits_moved register = refl
@@ -67,7 +67,7 @@ upper_bits : (m register : ℕ) → take 8 (bits (8 + m) register) ≡ bits 8 (r
 upper_bits m register =
     ap (λ (l : List ℕ). take 8 l) (bits-split 8 m register) ∙ take_at (bits 8 (register / 2 ^ m)) (bits m register) 8 (length-bits 8 (register / 2 ^ m))
 
--- a register whose lowest seven bits moved up by eight, with the eight sums behind
+-- a register whose lowest seven bits moved up by eight, with the eight sums at the end
 register_moved : (register next : ℕ) → next ≡ register % 2 ^ 7 * 256 + bit_xor (register / 2 ^ 7) (register / 2 ^ 3) % 2 ^ 8
     → bits 15 next ≡ moved_by_byte (bits 15 register)
 register_moved register next is =

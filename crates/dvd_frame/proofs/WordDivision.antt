@@ -73,7 +73,7 @@ divided_sum (suc n) (x ∷ xs) (y ∷ ys) size_xs size_ys bits_xs bits_ys =
     each below (suc zero) (suc (suc b)) bit_a bit_b = absurd (omega arith)
     each below (suc (suc a)) b bit_a bit_b = absurd (omega arith)
 
--- what division leaves of each byte with the zeros in place of those behind it, added up
+-- what division leaves of each byte with the zeros in place of those after it, added up
 unfoldable pub remainders_sum : List ℕ → ℕ
 remainders_sum [] = 0
 remainders_sum (byte ∷ bytes) = bit_xor (byte_remainder (length bytes) byte) (remainders_sum bytes)

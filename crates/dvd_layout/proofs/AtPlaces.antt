@@ -17,31 +17,31 @@ use Rattle.dvd_layout.specs.Place.{place_of, total_sectors}
 use Rattle.dvd_layout.specs.Plan.{entries_of, plan_of, second_first, zones_by}
 use Rattle.dvd_layout.proofs.Blocks.{entries_of-each, plan_of-at_place, plan_of-each}
 
--- a sector below those of layer 0 stands on that layer
+-- a sector below those of layer 0 is on that layer
 on_layer_0 : (layout : Layout) (sector number : ℕ) → sector < layout.sectors0 → number ≡ 0x30000 + sector → place_of layout sector ≡ (0, number)
 on_layer_0 layout sector number within is =
     let test : nat_lt sector layout.sectors0 ≡ true = grind (arith, nat_tests) in
     rw (is, test) refl
 
--- any other stands on layer 1, as far behind its first as it is behind those of layer 0
+-- any other is on layer 1, as far after its first as it is after those of layer 0
 on_layer_1 : (layout : Layout) (sector number : ℕ) → layout.sectors0 ≤ sector → number ≡ second_first layout + (sector - layout.sectors0)
     → place_of layout sector ≡ (1, number)
 on_layer_1 layout sector number behind is =
     let test : nat_lt sector layout.sectors0 ≡ false = grind (arith, nat_tests) in
     rw (is, test) refl
 
--- the image sectors from this content's first on stand at so many sector numbers from this one on
+-- the image sectors from this content's first on are at so many sector numbers from this one on
 abbrev IsAt : Layout → Content → ℕ → ℕ → ℕ → Type 0
 IsAt layout (Image sector) first count layer = (n : ℕ) → n < count → sector + n < total_sectors layout → place_of layout (sector + n) ≡ (layer, first + n)
 IsAt layout Zero first count layer = Unit {0}
 IsAt layout Reference first count layer = Unit {0}
 IsAt layout Control first count layer = Unit {0}
 
--- the image sectors of a zone stand at its sector numbers
+-- the image sectors of a zone are at its sector numbers
 abbrev IsZoneAt : Layout → Zone → Type 0
 IsZoneAt layout zone = IsAt layout zone.content zone.first (16 * zone.blocks) zone.layer
 
--- the image sectors of a block stand at its sixteen sector numbers
+-- the image sectors of a block are at its sixteen sector numbers
 abbrev IsBlockAt : Layout → BlockPlan → Type 0
 IsBlockAt layout entry = IsAt layout entry.content entry.first 16 entry.layer
 
@@ -89,7 +89,7 @@ plan_of-at : (layout : Layout) (zones : Zones) → All (IsBlockAt layout) (plan_
 plan_of-at layout zones =
     plan_of-each (IsZoneAt layout) (IsBlockAt layout) (entries_of-at layout) layout zones (zones_by-at layout layout.shape refl)
 
--- image sector f of a block of a plan stands at the block's sector number f
+-- image sector f of a block of a plan is at the block's sector number f
 pub plan_of-places : (layout : Layout) (zones : Zones) (k from f : ℕ) (entry : BlockPlan) → slice_get (plan_of layout zones) k ≡ Some entry
     → entry.content ≡ Image from → f < 16 → from + f < total_sectors layout → place_of layout (from + f) ≡ (entry.layer, entry.first + f)
 plan_of-places layout zones k from f entry stands image =

@@ -25,7 +25,7 @@ length-entries_of zone = length-map-range_with_len (entry_of zone) 0 zone.blocks
 abbrev pub blocks_before : List Zone → ℕ → ℕ
 blocks_before zones i = length (flat_map entries_of (take i zones))
 
--- before the next zone stand the blocks of zone i too
+-- before the next zone come the blocks of zone i too
 pub blocks_before-suc : (zones : List Zone) (i : ℕ) (zone : Zone) → i < length zones
     → blocks_before zones (i + 1) ≡ blocks_before zones i + (get_or zones i zone).blocks
 blocks_before-suc zones i zone within =
@@ -42,7 +42,7 @@ blocks_before-le zones i zone within =
     let one = length-entries_of (get_or zones i zone) in
     omega arith
 
--- block b of zone i stands behind the blocks of the zones before it
+-- block b of zone i comes after the blocks of the zones before it
 pub block-at : (zones : List Zone) (i b k : ℕ) (zone : Zone) → i < length zones → b < (get_or zones i zone).blocks
     → blocks_before zones i + b ≡ k → slice_get (flat_map entries_of zones) k ≡ Some (entry_of (get_or zones i zone) b)
 block-at zones i b k zone within inside place =

@@ -65,7 +65,7 @@ abbrev InOrder : Layout → ℕ → List Zone → Type 0
 InOrder layout from [] = from ≡ total_sectors layout
 InOrder layout from (zone ∷ zones) = GoesOn layout from zone.content zone.blocks × InOrder layout (from + held layout zone.content zone.blocks) zones
 
--- block b of a zone holds the image sectors behind those of the blocks before it
+-- block b of a zone holds the image sectors after those of the blocks before it
 block-goes_on : (layout : Layout) (content : Content) (from blocks b : ℕ) → GoesOn layout from content blocks → b < blocks → IsImage (content_at content b)
     → from + held layout content b ≡ image_from (content_at content b)
 block-goes_on layout (Image sector) from blocks b goes within image = let full = goes.1 b within in let begins = goes.0 in omega arith
@@ -101,7 +101,7 @@ in_first layout zone rest from k entry goes within stands image =
     let image_there : IsImage (content_at zone.content k) = subst (λ e. IsImage e.content) (sym is) image in
     ap (λ n. from + n) before ∙ block-goes_on layout zone.content from zone.blocks k goes within image_there ∙ ap (λ e. image_from e.content) is
 
--- an element behind the first list stands in the second
+-- an element after the first list is in the second
 slice_get-behind : {X : Type 0} (xs ys : List X) (k : ℕ) (x : X) → length xs ≤ k → slice_get (xs ++ ys) k ≡ Some x
     → slice_get ys (k - length xs) ≡ Some x
 slice_get-behind xs ys k x behind stands =
@@ -111,7 +111,8 @@ slice_get-behind xs ys k x behind stands =
     slice_get_read ys (length ys) (k - length xs) x refl (omega arith)
     (sym (get_or_from_slice_get (xs ++ ys) k x x stands) ∙ ap (λ n. get_or (xs ++ ys) n x) (sym place) ∙ get_or-append-add xs ys (k - length xs) x)
 
--- the image sectors before a block behind the first zone are those of that zone, and those before the block in the others
+-- the image sectors before a block after the first zone are those of that zone, and those before the block in the
+-- others
 before-behind : (layout : Layout) (zone : Zone) (rest : List BlockPlan) (k : ℕ) → length (entries_of zone) ≤ k
     → image_before layout (take k (entries_of zone ++ rest)) ≡ held layout zone.content zone.blocks + image_before layout (take (k - length (entries_of zone)) rest)
 before-behind layout zone rest k behind =
@@ -145,7 +146,7 @@ in_order-stands layout (zone ∷ zones) from k entry order stands image =
 first-goes_on : (layout : Layout) → GoesOn layout 0 (Image 0) (blocks_of layout.sectors0)
 first-goes_on layout = (refl, λ b within. omega arith)
 
--- that of layer 1 begins behind the last sector of layer 0
+-- that of layer 1 begins after the last sector of layer 0
 second-goes_on : (layout : Layout) (from : ℕ) → layout.sectors0 ≡ from → GoesOn layout from (Image layout.sectors0) (blocks_of layout.sectors1)
 second-goes_on layout from is = (is, λ b within. omega arith)
 

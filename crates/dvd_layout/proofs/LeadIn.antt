@@ -16,7 +16,7 @@ use Rattle.dvd_layout.specs.declared.layout.Shape.TheVariants.{Single, Parallel,
 use Rattle.dvd_layout.specs.declared.zone.Zone.{Zone}
 use Rattle.dvd_layout.proofs.Blocks.{block-at, blocks_before, length-entries_of}
 
--- the blocks of a zone and of those behind it
+-- the blocks of a zone and of those after it
 length-zones : (zone : Zone) (zones : List Zone) → length (flat_map entries_of (zone ∷ zones)) ≡ zone.blocks + length (flat_map entries_of zones)
 length-zones zone zones = ap length (flat_map-cons entries_of zone zones) ∙ length-append (entries_of zone) (flat_map entries_of zones)
     ∙ ap (λ n. n + length (flat_map entries_of zones)) (length-entries_of zone)
@@ -54,14 +54,14 @@ module _ (initial : ℕ) where
       let none : length (flat_map entries_of []) ≡ 0 = refl in
       omega arith
 
-  -- before the reference code stand the blocks of the Initial Zone
+  -- before the reference code come the blocks of the Initial Zone
   before-one : blocks_before (lead_in initial 0) 1 ≡ initial
   before-one =
       let a = length-zones initial_zone [] in
       let none : length (flat_map entries_of []) ≡ 0 = refl in
       omega arith
 
-  -- before Buffer Zone 1 stand two blocks more
+  -- before Buffer Zone 1 come two blocks more
   before-two : blocks_before (lead_in initial 0) 2 ≡ initial + 2
   before-two =
       let a = length-zones initial_zone (reference ∷ []) in
@@ -69,7 +69,7 @@ module _ (initial : ℕ) where
       let none : length (flat_map entries_of []) ≡ 0 = refl in
       omega arith
 
-  -- before the control data stand 30 blocks more, 32 in all behind the Initial Zone
+  -- before the control data come 30 blocks more, 32 in all after the Initial Zone
   before-three : blocks_before (lead_in initial 0) 3 ≡ initial + 32
   before-three =
       let a = length-zones initial_zone (reference ∷ buffer ∷ []) in
@@ -89,15 +89,15 @@ module _ (initial : ℕ) where
   in_initial : (k : ℕ) → k < initial → slice_get (flat_map entries_of (lead_in initial 0)) k ≡ Some (entry_of initial_zone k)
   in_initial k below = block-at (lead_in initial 0) 0 k k control (omega arith) below (let none : length (flat_map entries_of []) ≡ 0 = refl in omega arith)
 
-  -- the two places behind the Initial Zone are the blocks of the reference code
+  -- the two places after the Initial Zone are the blocks of the reference code
   in_reference : (b : ℕ) → b < 2 → slice_get (flat_map entries_of (lead_in initial 0)) (initial + b) ≡ Some (entry_of reference b)
   in_reference b below = block-at (lead_in initial 0) 1 b (initial + b) control (omega arith) below (omega (arith, before-one))
 
-  -- the 30 places behind the reference code are the blocks of Buffer Zone 1
+  -- the 30 places after the reference code are the blocks of Buffer Zone 1
   in_buffer : (b : ℕ) → b < 30 → slice_get (flat_map entries_of (lead_in initial 0)) (initial + 2 + b) ≡ Some (entry_of buffer b)
   in_buffer b below = block-at (lead_in initial 0) 2 b (initial + 2 + b) control (omega arith) below (omega (arith, before-two))
 
-  -- the 192 places behind Buffer Zone 1 are the blocks of the control data
+  -- the 192 places after Buffer Zone 1 are the blocks of the control data
   in_control : (c : ℕ) → c < 192 → slice_get (flat_map entries_of (lead_in initial 0)) (initial + 32 + c) ≡ Some (entry_of control c)
   in_control c below = block-at (lead_in initial 0) 3 c (initial + 32 + c) control (omega arith) below (omega (arith, before-three))
 
@@ -117,7 +117,7 @@ module _ (initial : ℕ) where
     ]
   ]
 
-  -- so the control data stand in 192 blocks of the lead-in, behind 32 and those of the Initial Zone
+  -- so the control data are in 192 blocks of the lead-in, after 32 and those of the Initial Zone
   pub control_data_stand : ControlDataStandInTheLeadIn initial
   unfolding lead_in_blocks
   control_data_stand = record { stand = in_control; none_before = none_before }

@@ -54,7 +54,7 @@ zones-of_lead_in initial fits = All-from_recursion IsInRange (lead_in initial 0)
 first_data-in_range : (layout : Layout) → IsInRange (first_data layout)
 first_data-in_range layout = record { numbers = omega arith; image = omega arith; layers = omega arith }
 
--- the data of layer 1 and the zone behind them end within 24 bits
+-- the data of layer 1 and the zone after them end within 24 bits
 second_first-low : (layout : Layout) → second_first layout + padded layout.sectors1 + 16 * layout.tail ≤ 2 ^ 24
 second_first-low layout = by_path (is_opposite layout.shape) refl where
   by_path : (opposite : Bool) → is_opposite layout.shape ≡ opposite
@@ -68,7 +68,7 @@ second_data-in_range layout =
     let low = second_first-low layout in
     record { numbers = omega arith; image = omega arith; layers = omega arith }
 
--- the zone of zeros behind a Data Zone is in range where its end is
+-- the zone of zeros after a Data Zone is in range where its end is
 behind-in_range : (image : Zone) (blocks : ℕ) (area : Area) → image.first + 16 * image.blocks + 16 * blocks ≤ 2 ^ 24 → image.layer < 2
     → IsInRange (behind image blocks area)
 behind-in_range image blocks area numbers two = zeros-in_range (behind image blocks area) refl numbers two

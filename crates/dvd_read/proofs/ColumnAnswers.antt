@@ -16,7 +16,7 @@ use Rattle.dvd_read.specs.Parts.{AreColumnsFrom, column_word}
 use Rattle.dvd_read.specs.Inner.Found.{words_of_columns}
 use Rattle.dvd_read.proofs.Positions.{first_passes, none_passes}
 
--- a column that stands nowhere
+-- a column that isn't there
 abbrev pub blank_column : ColumnAnswer
 blank_column = record { bytes = []; answered = false }
 
@@ -59,7 +59,7 @@ codeword_tested false row size bytes decides = refused (vanishes_at_all 10 row) 
   refused true passes = decides.1 (vanishing-codeword 182 10 row size bytes passes)
   refused false fails = refl
 
--- a test of the flags passes first where the first column without an answer stands
+-- a test of the flags passes first where the first column without an answer is
 pub missing_first : (columns : List ColumnAnswer) (j : ℕ) → j < length columns → ((k : ℕ) (d : ColumnAnswer) → k < j → (get_or columns k d).answered ≡ true)
     → (get_or columns j blank_column).answered ≡ false → position (λ (column : ColumnAnswer). not column.answered) columns ≡ Some j
 missing_first columns j within before here =
@@ -71,7 +71,7 @@ pub missing_none : (columns : List ColumnAnswer) → ((k : ℕ) (d : ColumnAnswe
     → position (λ (column : ColumnAnswer). not column.answered) columns ≡ None
 missing_none columns all = none_passes (λ (column : ColumnAnswer). not column.answered) columns blank_column (λ k within. ap not (all k blank_column within))
 
--- the first row of a block that doesn't vanish is found where it stands
+-- the first row of a block that doesn't vanish is found where it is
 pub wrong_first : (block : List (List ℕ)) (i : ℕ) → i < length block → ((k : ℕ) → k < i → vanishes_at_all 10 (line block k) ≡ true)
     → vanishes_at_all 10 (line block i) ≡ false → position (λ row. not (vanishes_at_all 10 row)) block ≡ Some i
 wrong_first block i within before here =

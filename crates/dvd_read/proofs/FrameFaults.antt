@@ -27,7 +27,7 @@ flat_map-next h n =
     sym (map-id (range_with_len 0 (n + 1))) ∙ map-range_with_len_more (λ k. k) 0 n n (omega arith) ∙ ap (λ l. l ++ n ∷ []) (map-id (range_with_len 0 n)) in
     ap (flat_map h) more ∙ flat_map-append h (range_with_len 0 n) (n ∷ []) ∙ ap (λ l. flat_map h (range_with_len 0 n) ++ l) (append-nil (h n))
 
--- the front of one row more comes behind the others
+-- the front of one row more comes after the others
 pub fronts-more : (block : List (List ℕ)) (f q : ℕ) → fronts block f (q + 1) ≡ fronts block f q ++ take 172 (line block (12 * f + q))
 fronts-more block f q = flat_map-next (λ q. take 172 (line block (12 * f + q))) q
 

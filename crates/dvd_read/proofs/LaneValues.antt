@@ -1,4 +1,4 @@
--- The values of 32 words at the powers of alpha, as vectors: what a lane of them tells of its word.
+-- The values of 32 words at the powers of alpha, as vectors: what a lane of them says of its word.
 use Rattle.std.proofs.Common.{◌≡◌, ◌∙◌, ℕ, ◌<◌, false, true, List, length, All, sym, arith}
 use Rattle.std.proofs.lemmas.Grind.{same_number_lists}
 use Rattle.coding.specs.Field.{alpha, power}

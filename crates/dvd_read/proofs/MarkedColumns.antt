@@ -1,4 +1,4 @@
--- Columns of the rows' answers whose failed rows are marked: the bytes that stand at marked places don't count.
+-- Columns of the rows' answers whose failed rows are marked: the bytes that are at marked places don't count.
 use Rattle.std.proofs.Common.{◌≡◌, ◌∙◌, ℕ, ◌<◌, ◌≤◌, Bool, false, if◌then◌else◌, List, [], length, map, get_or, slice_index, All, refl, sym, ap, subst, arith, Some, None, is_none}
 use Rattle.std.specs.declared.option.Option.{Option}
 use Rattle.std.proofs.lemmas.List.{get_or-map, length-map}
@@ -31,12 +31,12 @@ column_vanishes answers j size bytes vanishes = record {
   vanishes = vanishes;
 }
 
--- an answer that isn't missing has the byte that stands in its place
+-- an answer that isn't missing has the byte that is in its place
 byte_answered : (fix : Option Fix) (bytes : List ℕ) (j : ℕ) → is_none (answer_by fix bytes) ≡ false → slice_index bytes j ≡ byte_or_zero j (answer_by fix bytes)
 byte_answered None bytes j answered = cc
 byte_answered (Some fix) bytes j answered = refl
 
--- the bytes that stand in the rows' places are those of the answers but where a row failed
+-- the bytes that are in the rows' places are those of the answers but where a row failed
 bytes-agree : (answers : List AnswerRow) (j : ℕ) → AgreeUnmarked (failed_of (map answer_word answers)) (answer_column (map answer_word answers) j) (column (bytes_of answers) j)
 unfolding answer_column
 bytes-agree answers j k within clear =

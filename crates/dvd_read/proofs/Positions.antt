@@ -22,7 +22,7 @@ none_passes p xs d fails =
 -- where none passes, each fails
 pub none_fails : {X : Type 0} (p : X → Bool) (xs : List X) (k : ℕ) (d : X) → position p xs ≡ None → k < length xs → p (get_or xs k d) ≡ false
 none_fails p xs k d none within = fails_before_first p xs k d (past (nat_lt (position_or_len p xs) (length xs)) refl) where
-  -- a list in which no place is found has none that passes, so every place stands before the first
+  -- a list in which no place is found has none that passes, so every place is before the first
   past : (test : Bool) → nat_lt (position_or_len p xs) (length xs) ≡ test → k < position_or_len p xs
   past true is = let found : cond true (Some (position_or_len p xs)) None ≡ None = subst (λ b. cond b (Some (position_or_len p xs)) None ≡ None) is none in cc
   past false is = grind (arith, nat_tests)

@@ -21,7 +21,7 @@ use Rattle.coding.specs.TwoPass.{answers_of, failed_of}
 use Rattle.dvd_capture.specs.declared.parts.AnswerRow.{AnswerRow}
 use Rattle.dvd_read.specs.Parts.{AreAnswersFrom, answer_by, answer_word}
 
--- what is told of a row's answer by its fix
+-- what is said of a row's answer by its fix
 abbrev AnswerBy : List ℕ → List Bool → List ℕ → Option Fix → Type 0
 AnswerBy row marks bytes fix = MatchOption fix (near_of 182 10 row marks ≡ None) (IsFix row marks bytes)
 
@@ -74,7 +74,7 @@ flag-by bytes (Some fix) = refl
 pub flag-is : (answer : AnswerRow) → is_none answer.fix ≡ is_none (answer_word answer)
 flag-is answer = flag-by answer.bytes answer.fix
 
--- an answer that stands nowhere
+-- an answer that isn't there
 pub blank_answer : AnswerRow
 blank_answer = record { bytes = []; fix = None }
 

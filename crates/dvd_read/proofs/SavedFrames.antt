@@ -43,7 +43,7 @@ answered-line answers i d within has =
 abbrev pub lacks_before : List (Option (List ℕ)) → ℕ → ℕ → Bool
 lacks_before answers f n = list_any is_none (take n (drop (12 * f) answers))
 
--- behind the rows of the frames before frame f its own twelve rows are still to come
+-- after the rows of the frames before frame f its own twelve rows are still to come
 length-rest : (answers : List (Option (List ℕ))) (f q : ℕ) → length answers ≡ 208 → f < 16 → q < 12 → q < length (drop (12 * f) answers)
 length-rest answers f q size f_below q_below = let rest = length-drop (12 * f) answers in omega arith
 
@@ -119,7 +119,7 @@ module _ (answers : List (Option (List ℕ))) (f : ℕ) where
       by_candidate None none = refl
       by_candidate (Some frame) none = cc
 
-    -- what the reading of a candidate tells
+    -- what the reading of a candidate says
     pub read-has : {T : Type 0} (r : Result T FrameCause) (frame : List ℕ) (want : ℕ) (rule : Rule) → candidate answers f ≡ Some frame
         → want ≡ wanted_word entry f → rule ≡ rule_for entry.content f
         → IfErr r (λ cause. frame_cause frame want rule ≡ Some cause) → OnOk r (frame_cause frame want rule ≡ None)
@@ -156,7 +156,7 @@ pub saved-next : (answers : List (Option (List ℕ))) (entry : BlockPlan) (n : �
     → saved_before answers entry (n + 1) ≡ saved_before answers entry n + cond (is_some (rescued answers entry n)) 1 0
 saved-next answers entry n = count-next (λ f. is_some (rescued answers entry f)) n
 
--- the count goes on by the flag that tells whether frame f is rescued
+-- the count goes on by the flag that says whether frame f is rescued
 pub saved-counted : (answers : List (Option (List ℕ))) (entry : BlockPlan) (f count : ℕ) (flag : Bool) → count ≡ saved_before answers entry f
     → flag ≡ is_some (rescued answers entry f) → count + bool_byte flag ≡ saved_before answers entry (f + 1)
 saved-counted answers entry f count flag counted is =

@@ -50,11 +50,11 @@ refused-caused received marks size marks_size none = by_cause (two_pass_cause (a
 
 module _ (received : List (List ℕ)) (marks : List (List Bool)) (size : length received ≡ 208) (marks_size : length marks ≡ 208) (stage : Stage) (fixed : Bool)
     (told : IsTrue fixed ↔ stage ≡ Fixed) where
-  -- the stage tells whether there is a cause
+  -- the stage says whether there is a cause
   pub fixed-told : (block : List (List ℕ)) → HasAnswers stage → (stage ≡ Refused → HasNoTwoPass received marks) → (stage ≡ Fixed → IsTwoPass received marks block)
       → fixed ≡ is_none (two_pass_cause (answers_of received marks))
   fixed-told block = by_stage stage fixed told where
-    -- by the stage, which is Refused or Fixed, and by the flag that tells it
+    -- by the stage, which is Refused or Fixed, and by the flag that says it
     by_stage : (at : Stage) (flag : Bool) → (IsTrue flag ↔ at ≡ Fixed) → HasAnswers at → (at ≡ Refused → HasNoTwoPass received marks)
         → (at ≡ Fixed → IsTwoPass received marks block) → flag ≡ is_none (two_pass_cause (answers_of received marks))
     by_stage Empty flag is has refused agrees = absurd has

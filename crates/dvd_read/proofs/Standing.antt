@@ -50,7 +50,7 @@ own-row row answer codeword bytes_are fix_is =
 
 -- ---- a row where nothing is marked
 
--- a fix that was found tells what was corrected
+-- a fix that was found says what was corrected
 pub fix-told : (row word : List ℕ) (marks : List Bool) (found : Option Fix) (fix : Fix) → found ≡ Some fix
     → MatchOption found (near_of 182 10 row marks ≡ None) (IsFix row marks word) → IsFix row marks word fix
 fix-told row word marks found fix is told =
@@ -111,7 +111,7 @@ fix-by : (fix : Option Fix) (bytes : List ℕ) → is_none (answer_by fix bytes)
 fix-by None bytes answered = cc
 fix-by (Some fix) bytes answered = refl
 
--- the mark of row i tells whether it has an answer
+-- the mark of row i says whether it has an answer
 failed-at : (answers : List AnswerRow) (i : ℕ) (d : AnswerRow) → i < length answers
     → get_or (failed_of (map answer_word answers)) i false ≡ is_none (answer_word (get_or answers i d))
 failed-at answers i d within =

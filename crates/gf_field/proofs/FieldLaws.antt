@@ -20,7 +20,7 @@ plus-comm a b = xor_comm a b
 pub plus-assoc : (a b c : ℕ) → plus (plus a b) c ≡ plus a (plus b c)
 plus-assoc a b c = xor_assoc a b c
 
--- 0 behind a number adds nothing
+-- 0 after a number adds nothing
 pub plus-zero : (a : ℕ) → plus a 0 ≡ a
 plus-zero a = xor_zero_r a
 
@@ -100,7 +100,7 @@ partial_product-plus a b c (suc k) =
 
 -- They are linear in the first factor too: each shift is.
 
--- twice a number is the number shifted by one bit, with 0 behind it
+-- twice a number is the number shifted by one bit, with 0 after it
 twice : (a : ℕ) → a * 2 ^ 1 + 0 ≡ 2 * a
 twice a = omega arith
 

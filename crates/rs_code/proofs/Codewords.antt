@@ -107,7 +107,7 @@ encodable n r message some_parity below size all =
 same_first : (x d n : ℕ) → d ≤ n → (if x == x then 0 else 1) + d ≤ n
 same_first x d n below = grind (arith, nat_tests)
 
--- words with the same front differ at most in the places behind it
+-- words with the same front differ at most in the places after it
 distance-front : (front a b : List ℕ) → length a ≡ length b → distance (front ++ a) (front ++ b) ≤ length a
 unfolding distance
 distance-front [] [] b same = omega arith

@@ -93,7 +93,7 @@ PI-generator = subst (HasRoots 10) PI-same (HasRoots-generator_of 10)
 pub PO-generator : HasRoots 16 PO_GENERATOR
 PO-generator = subst (HasRoots 16) PO-same (HasRoots-generator_of 16)
 
--- a zero behind a list changes nothing at any place, since 0 is read there anyway
+-- a zero after a list changes nothing at any place, since 0 is read there anyway
 pub get_or-padded : (xs : List ℕ) (k : ℕ) → get_or (xs ++ 0 ∷ []) k 0 ≡ get_or xs k 0
 get_or-padded [] zero = refl
 get_or-padded [] (suc k) = refl

@@ -11,7 +11,7 @@ use Rattle.rs_code.specs.Inner.Registers.{register_bytes, HasMultiples, AreLater
 use Rattle.rs_code.specs.declared.tables.TheConstants.{PI_TABLES, PO_TABLES}
 use Rattle.rs_code.proofs.Generator.{generator_of}
 
--- the sixteen bytes of a factor's entry: the generator times the factor, and zeros behind it
+-- the sixteen bytes of a factor's entry: the generator times the factor, and zeros after it
 multiple_at : List ℕ → ℕ → List ℕ
 multiple_at generator factor = scaled factor generator ++ replicate (16 - length (scaled factor generator)) 0
 
@@ -30,7 +30,7 @@ by_entries table entries later long is factor below =
 table_at : List (List ℕ) → ℕ → List ℕ
 table_at tables k = get_or tables k []
 
--- entries that are all below 2^128 are so at each factor, and 0 is read behind them
+-- entries that are all below 2^128 are so at each factor, and 0 is read after them
 all_words : (table : List ℕ) → list_all (λ entry. nat_lt entry (2 ^ 128)) table ≡ true → (factor : ℕ) → get_or table factor 0 < 2 ^ 128
 all_words [] all factor = omega arith
 all_words (entry ∷ table) all zero = ltb-true entry (2 ^ 128) (and_parts (nat_lt entry (2 ^ 128)) (list_all (λ e. nat_lt e (2 ^ 128)) table) all).0

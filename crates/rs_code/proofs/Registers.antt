@@ -21,7 +21,7 @@ unfolding register_bytes
 length-register_bytes zero n = refl
 length-register_bytes (suc k) n = ap suc (length-register_bytes k n)
 
--- a higher byte of a number is the byte below it of what stands above the lowest one
+-- a higher byte of a number is the byte below it of what is above the lowest one
 byte_at-higher : (k n : ℕ) → byte_at (suc k) n ≡ byte_at k (n / 256)
 byte_at-higher zero n = omega arith
 byte_at-higher (suc k) n =
@@ -122,14 +122,14 @@ Holds-zeros n fits =
 
 -- ---- a byte leaves the register
 
--- a number shifted up by one byte loses its first byte and gets a zero behind
+-- a number shifted up by one byte loses its first byte and gets a zero at the end
 register_bytes-left : (n : ℕ) → n < 2 ^ 128 → register_bytes 16 (n * 256 % 2 ^ 128) ≡ register_bytes 15 n ++ 0 ∷ []
 register_bytes-left n is_word =
     let upper : n * 256 % 2 ^ 128 / 256 ≡ n % 2 ^ (8 * 15) = omega arith in
     let lowest : n * 256 % 2 ^ 128 % 256 ≡ 0 = omega arith in
     register_bytes-last 15 (n * 256 % 2 ^ 128) ∙ rw (upper, lowest, register_bytes-rest 15 n) refl
 
--- a register's upper byte is the first that it holds, and its lower fifteen are the others with zeros behind them
+-- a register's upper byte is the first that it holds, and its lower fifteen are the others with zeros after them
 Holds-parts : (n first : ℕ) (rest : List ℕ) → n < 2 ^ 128 → Holds n (first ∷ rest) → (n / 2 ^ 120 ≡ first) × (register_bytes 15 n ≡ rest ++ replicate (16 - length (first ∷ rest)) 0)
 Holds-parts n first rest is_word holds =
     let parts : byte_at 15 n ∷ register_bytes 15 n ≡ first ∷ (rest ++ replicate (16 - length (first ∷ rest)) 0) = sym (register_bytes-first 15 n) ∙ holds in
@@ -138,7 +138,7 @@ Holds-parts n first rest is_word holds =
     let is_rest : register_bytes 15 n ≡ rest ++ replicate (16 - length (first ∷ rest)) 0 = cc in
     (sym top ∙ is_first, is_rest)
 
--- a register shifted up holds its word without the first byte, and a zero behind it
+-- a register shifted up holds its word without the first byte, and a zero after it
 Holds-left : (n first : ℕ) (rest : List ℕ) → n < 2 ^ 128 → Holds n (first ∷ rest) → Holds (n * 256 % 2 ^ 128) (rest ++ 0 ∷ [])
 Holds-left n first rest is_word holds =
     let zeros = 16 - length (first ∷ rest) in

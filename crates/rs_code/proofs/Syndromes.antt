@@ -11,7 +11,7 @@ pub syndromes_of-none : (word : List ℕ) → syndromes_of 0 word ≡ []
 unfolding syndromes_of
 syndromes_of-none word = refl
 
--- one syndrome more comes behind the others
+-- one syndrome more comes after the others
 pub syndromes_of-more : (r : ℕ) (word : List ℕ) → syndromes_of (r + 1) word ≡ syndromes_of r word ++ value word (power alpha r) ∷ []
 unfolding syndromes_of
 syndromes_of-more r word = map-range_with_len_more (λ k. value word (power alpha k)) 0 r r (zero-add r)

@@ -12,7 +12,7 @@ pub value-nil : (x : ℕ) → value [] x ≡ 0
 unfolding value
 value-nil x = refl
 
--- a first byte counts as often as the power of x by the number of bytes behind it
+-- a first byte counts as often as the power of x by the number of bytes after it
 pub value-cons : (byte : ℕ) (rest : List ℕ) (x : ℕ) → value (byte ∷ rest) x ≡ plus (product byte (power x (length rest))) (value rest x)
 unfolding value
 value-cons byte rest x = refl

@@ -219,7 +219,7 @@ pub words_done : (table : List ℕ) (words : List (List ℕ)) (start now i : ℕ
 words_done table words start now i rest behind before =
     sym (ap (λ l. after_bytes table now (concat l ++ rest)) (drop_of_length-le words behind)) ∙ before
 
--- the whole words and the bytes behind them, joined, are all the bytes
+-- the whole words and the bytes after them, joined, are all the bytes
 pub words_joined : (count : ℕ) (bytes : List ℕ) → concat (first_chunks 4 count bytes) ++ drop (count * 4) bytes ≡ bytes
 words_joined zero bytes = refl
 words_joined (suc count) bytes =
@@ -230,7 +230,7 @@ words_joined (suc count) bytes =
     ∙ ap (λ (l : List ℕ). take 4 bytes ++ l) (words_joined count (drop 4 bytes))
     ∙ take-append-drop 4 bytes
 
--- the whole words and the bytes behind them are the message
+-- the whole words and the bytes after them are the message
 pub message_read : (table message others : List ℕ) (words : List (List ℕ)) (middle register : ℕ)
     → words ≡ first_chunks 4 (length message / 4) message → others ≡ drop (length message / 4 * 4) message
     → after_bytes table middle (others ++ []) ≡ after_bytes table 0 (concat words ++ (others ++ []))

@@ -1,5 +1,5 @@
--- Registers whose taps stand in a vector, and their connections from a place on in another: at the start, with a multiple of
--- another added, and shifted.
+-- Registers whose taps are in a vector, and their connections from a place on in another: at the start, with a
+-- multiple of another added, and shifted.
 use Rattle.std.proofs.Common.{◌≡◌, ◌≢◌, ℕ, zero, suc, ◌+◌, ◌-◌, ◌*◌, ◌<◌, ◌≤◌, List, ◌∷◌, length, get_or, get_or-take, replicate, take, refl, sym, ap, subst, ◌∙◌, add-one, arith}
 use Rattle.std.proofs.lemmas.Grind.{same_number_lists}
 use Rattle.coding.specs.Field.{plus, product}
@@ -126,7 +126,7 @@ taps_scaled factor taps multiples byte size is =
     (λ k inside. is.each k (omega (arith, is.size)) ∙ product-comm (get_or taps k 0) factor ∙ sym (get_or-scaled factor taps k)) in
     rw (scaled-cons factor 1 taps, product-one factor byte, rest) refl
 
--- with a byte in front each number stands one place later
+-- with a byte in front each number is one place later
 pub get_or-behind : (first : ℕ) (lanes : List ℕ) (k : ℕ) → get_or (first ∷ lanes) (k + 1) 0 ≡ get_or lanes k 0
 get_or-behind first lanes k = rw (add-one k) refl
 
@@ -203,7 +203,7 @@ module _ (n len : ℕ) (taps earlier seq connections others : List ℕ) (few : l
         (HasConnections-mended n found (1 ∷ taps) (0 ∷ earlier) seq connections others sum_connections few (at.shortest.size ∙ sym at.fails.size)
         at.connections_are at.others_are sum_connections_are)
 
-    -- it is mended, and stays as long
+    -- it is corrected, and stays as long
     pub IsLeft-mended : n < 2 * len → IsLeft n len 0 sums earlier seq sum_connections others
     IsLeft-mended long = record {
       leaves = subst (λ all. Leaves n len all (0 ∷ earlier) seq) taps_are
@@ -212,7 +212,7 @@ module _ (n len : ℕ) (taps earlier seq connections others : List ℕ) (few : l
       others_are = at.others_are;
     }
 
-    -- it is mended, and gets longer; as it was, a multiple of it is the earlier one from now on
+    -- it is corrected, and gets longer; as it was, a multiple of it is the earlier one from now on
     pub IsLeft-longer : (factor : ℕ) (multiples multiple_connections : List ℕ) → product found factor ≡ 1 → factor < 256
         → HasLanes multiples (λ k. product (get_or taps k 0) factor) → HasLanes multiple_connections (λ k. product (get_or connections k 0) factor) → 2 * len ≤ n
         → IsLeft n (n + 1 - len) factor sums multiples seq sum_connections multiple_connections

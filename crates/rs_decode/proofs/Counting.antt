@@ -13,7 +13,7 @@ use Rattle.rs_decode.proofs.ErrorsFound.{cost-parts}
 pub error_at : Bool → ℕ → ℕ → ℕ
 error_at mark byte got = if mark then 0 else if byte == got then 0 else 1
 
--- the errors from a place on are that place's share and the errors behind it
+-- the errors from a place on are that place's share and the errors after it
 pub error_count-next : (received word : List ℕ) (marks : List Bool) (i : ℕ)
     → i < length marks
     → length received ≡ length marks

@@ -1,4 +1,4 @@
--- Values and power sums of sixteen powers at once: what one byte adds in a lane, and what the syndromes tell.
+-- Values and power sums of sixteen powers at once: what one byte adds in a lane, and what the syndromes say.
 use Rattle.std.proofs.Common.{◌≡◌, ◌↔◌, ℕ, suc, ◌-◌, ◌*◌, ◌<◌, ◌≤◌, List, length, drop, drop-cons, take, get_or, get_or-take, length-take-le, All, refl, sym, ap, ◌∙◌, arith}
 use Rattle.std.proofs.lemmas.Grind.{same_number_lists}
 use Rattle.std.proofs.lemmas.List.{drop_all}
@@ -15,7 +15,7 @@ use Rattle.rs_lanes.specs.Inner.Lanes.{HoldsLanes}
 pub power-lane : (e k : ℕ) → power alpha (e * k) ≡ power (power alpha k) e
 power-lane e k = power-mul alpha e k ∙ power-swap alpha e k
 
--- a word's value from a place on, by the one behind it
+-- a word's value from a place on, by the one after it
 pub value-lane : (word : List ℕ) (i k sum term : ℕ) → i < length word → sum ≡ value (drop (suc i) word) (power alpha k)
     → term ≡ product (power alpha ((length word - suc i) * k)) (get_or word i 0) → plus sum term ≡ value (drop i word) (power alpha k)
 value-lane word i k sum term inside so_far is_term =
@@ -27,7 +27,7 @@ value-lane word i k sum term inside so_far is_term =
     ap (plus sum) as_term ∙ ap (λ v. plus v (product byte (power (power alpha k) after))) so_far
     ∙ plus-comm rest (product byte (power (power alpha k) after)) ∙ sym (value-term word i (power alpha k) inside)
 
--- power sums from a place on, by those behind it
+-- power sums from a place on, by those after it
 power_sum-term : (bytes points : List ℕ) (i k : ℕ) → i < length bytes → i < length points
     → power_sum (drop i bytes) (drop i points) k ≡ plus (product (get_or bytes i 0) (power (get_or points i 0) k)) (power_sum (drop (suc i) bytes) (drop (suc i) points) k)
 unfolding power_sum

@@ -25,7 +25,7 @@ product_of : List ℕ → List ℕ
 product_of [] = []
 product_of (a ∷ points) = times_root (product_of points) a
 
--- the product has as many coefficients behind the leading 1 as there are points
+-- the product has as many coefficients after the leading 1 as there are points
 length-product_of : (points : List ℕ) → length (product_of points) ≡ length points
 unfolding product_of
 length-product_of [] = refl

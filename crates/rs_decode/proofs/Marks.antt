@@ -103,7 +103,7 @@ picked-at (true ∷ marks) (x ∷ xs) zero size below = refl
 picked-at (true ∷ marks) (x ∷ xs) (suc i) size below = picked-at marks xs i (omega arith) (omega arith)
 picked-at (false ∷ marks) (x ∷ xs) i size below = picked-at marks xs i (omega arith) (omega arith)
 
--- the mark at a marked place stands behind those in front of it
+-- the mark at a marked place comes after those in front of it
 place_of_mark-at : (marks : List Bool) (place : ℕ) → place < length marks → get_or marks place false ≡ true → place_of_mark marks (marked (take place marks)) ≡ place
 unfolding place_of_mark marked
 place_of_mark-at [] place below is = absurd (omega arith)
@@ -115,7 +115,7 @@ place_of_mark-at (true ∷ marks) (suc place) below is =
 place_of_mark-at (false ∷ marks) (suc place) below is =
     ap (λ i. suc (place_of_mark marks i)) (zero-add (marked (take place marks))) ∙ ap suc (place_of_mark-at marks place (omega arith) is)
 
--- a place that is written behind those of the marks in front of it stays where it is marked itself
+-- a place that is written after those of the marks in front of it stays where it is marked itself
 pub ArePlaces-next : (marks : List Bool) (place count : ℕ) (places : List ℕ) → place < length marks → count < length places → count ≡ marked (take place marks)
     → ArePlaces marks count places
     → (mark : Bool) → get_or marks place false ≡ mark → ArePlaces marks (count + bool_byte mark) (set places count place)

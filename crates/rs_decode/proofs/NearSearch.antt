@@ -42,7 +42,7 @@ member-flat_map f x y (z ∷ xs) (inl same) inner =
     member-append_left y (f z) (flat_map f xs) (subst (λ w. Member (f w) y) (sym same) inner)
 member-flat_map f x y (z ∷ xs) (inr later) inner = member-append_right y (f z) (flat_map f xs) (member-flat_map f x y xs later inner)
 
--- what stands at a place of a list is an element of it
+-- what is at a place of a list is an element of it
 member-at : {X : Type 0} (xs : List X) (i : ℕ) (d : X) → i < length xs → Member xs (get_or xs i d)
 member-at [] i d within = absurd (omega arith)
 member-at (x ∷ xs) zero d within = inl refl

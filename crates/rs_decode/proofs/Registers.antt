@@ -1,4 +1,5 @@
--- The steps of Berlekamp and Massey: a register stays, or is mended by a multiple of an earlier one, and is the shortest.
+-- The steps of Berlekamp and Massey: a register stays, or is corrected by a multiple of an earlier one, and is the
+-- shortest.
 use Rattle.std.proofs.Common.{◌≡◌, ◌≢◌, ℕ, zero, suc, ◌+◌, ◌-◌, ◌*◌, ◌<◌, ◌≤◌, List, ◌∷◌, length, get_or, take, replicate, refl, sym, ap, subst, ◌∙◌, arith, inl, inr, below_more, get_or-take, length-take}
 use Rattle.std.specs.Prelude.{All, slice_index}
 use Rattle.std.proofs.lemmas.Bool.{cases_lt}
@@ -15,7 +16,7 @@ use Rattle.rs_lanes.proofs.ParityLemmas.{get_or-zeros}
 use Rattle.rs_decode.specs.Register.{Generates, IsLeast, connection}
 use Rattle.rs_decode.proofs.Connections.{Makes, connection-byte, connection-same, connection-longer, connection-later, connection-sum_of, connection-scaled, connections-agree}
 
--- behind the first tap at the start there are zeros
+-- after the first tap at the start there are zeros
 pub zeros-start : (c : ℕ) → 0 < c → get_or {A = ℕ} (1 ∷ replicate 32 0) c 0 ≡ 0
 zeros-start zero above = absurd (omega arith)
 zeros-start (suc c) above = get_or-zeros 32 c
@@ -49,7 +50,7 @@ IsShortestTo-start seq = record {
   least = λ other others within first makes. omega arith;
 }
 
--- x stands for an earlier register; it reaches no number
+-- x takes the place of an earlier register; it reaches no number
 pub FailsAt-start : (taps seq : List ℕ) → length taps ≡ 33 → ((k : ℕ) → k + 1 < 33 → get_or taps (k + 1) 0 ≡ get_or {A = ℕ} (1 ∷ replicate 32 0) k 0)
     → FailsAt 0 1 1 taps seq
 FailsAt-start taps seq size moved = record {
@@ -182,11 +183,11 @@ module _ (n len : ℕ) (taps earlier seq : List ℕ) (is : IsShortestTo n len ta
   Leaves-stays made = (IsShortestTo-stays n len taps seq is made, fails)
 
   module _ (found : ℕ) (starts : get_or earlier 0 0 ≡ 0) (discrepancy : found ≡ connection len taps seq n) (nonzero : found ≢ 0) where
-    -- the multiple of the earlier one that mends it
+    -- the multiple of the earlier one that corrects it
     by_itself : product found 1 ≡ found
     by_itself = product-one found (subst (λ x. x < 256) (sym discrepancy) (connection-byte len taps seq n))
 
-    -- it is mended, and stays as long
+    -- it is corrected, and stays as long
     pub Leaves-mended : n < 2 * len → Leaves n len (sum_of taps (scaled found earlier)) earlier seq
     Leaves-mended long = (
       IsShortestTo-mended n len (n + 1 - len) len found 1 found taps earlier seq is fails (omega (arith, is.within)) starts
@@ -194,7 +195,7 @@ module _ (n len : ℕ) (taps earlier seq : List ℕ) (is : IsShortestTo n len ta
       fails,
     )
 
-    -- it is mended, and gets longer; as it was, a multiple of it is the earlier one from now on
+    -- it is corrected, and gets longer; as it was, a multiple of it is the earlier one from now on
     pub Leaves-longer : (factor : ℕ) → product found factor ≡ 1 → 2 * len ≤ n
         → Leaves n (n + 1 - len) (sum_of taps (scaled found earlier)) (scaled factor taps) seq
     Leaves-longer factor inverse short =

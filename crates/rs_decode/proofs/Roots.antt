@@ -1,6 +1,6 @@
 -- A polynomial that isn't 0 has fewer zeros than coefficients.
 -- With a zero a taken out by division by (x + a), it has one coefficient less and its other zeros. The division is plain where
--- the lowest power stands first, so the polynomial is turned round for it.
+-- the lowest power is first, so the polynomial is turned round for it.
 use Rattle.std.proofs.Common.{◌≡◌, ◌≢◌, ℕ, zero, suc, ◌+◌, ◌-◌, ◌<◌, ◌≤◌, List, [], ◌∷◌, ◌++◌, length, get_or, reverse, All, replicate, refl, sym, ap, subst, ◌∙◌, arith, inl, inr, ◌==◌, if◌then◌else◌}
 use Rattle.std.proofs.lemmas.List.{length-reverse, get_or-reverse, get_or-replicate}
 use Rattle.std.proofs.lemmas.Grind.{reverse_onto}

@@ -48,7 +48,7 @@ POWERS-made : POWERS ≡ map powers_in (range_with_len 0 255)
 unfolding powers_in
 POWERS-made = refl
 
--- so byte k of a row is the power of alpha that the two tell
+-- so byte k of a row is the power of alpha that the two give
 pub POWERS-power : (e k : ℕ) (row : List ℕ) → e < 255 → k < 16 → row ≡ get_or POWERS e [] → get_or row k 0 ≡ power alpha (e * k)
 unfolding powers_in
 POWERS-power e k row below lane is =

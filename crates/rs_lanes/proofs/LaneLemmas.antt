@@ -81,7 +81,7 @@ HasLanes-zeros count m inside =
 pub either-zero : (a b : ℕ) → (bit_or a b ≡ 0) ↔ ((a ≡ 0) × (b ≡ 0))
 either-zero a b = ((λ zero_is. (omega (arith, le_or_l a b), omega (arith, le_or_r a b))), (λ both. rw (both.0, both.1) (or_zero_r 0)))
 
--- the first of several lanes, and those behind it
+-- the first of several lanes, and those after it
 first_and_behind : (x : ℕ) (xs : List ℕ) → x ≡ 0 → ((k : ℕ) → k < length xs → get_or xs k 0 ≡ 0) → (k : ℕ) → k < length (x ∷ xs) → get_or (x ∷ xs) k 0 ≡ 0
 first_and_behind x xs first behind zero below = first
 first_and_behind x xs first behind (suc k) below = behind k (omega arith)

@@ -106,7 +106,7 @@ module _ (r : ℕ) (matrix : List (List ℕ)) (values : ℕ → ℕ) (k : ℕ) (
       let apart : k ≢ n = λ same. absurd (omega arith) in
       value-other n (omega arith) apart ∙ value-before n (omega arith)
 
-  -- and all up to one behind it have its value
+  -- and all up to one after it have its value
   value-after : (n : ℕ) → k < n → n ≤ r → values k < 256 → value (word_of matrix values n) (power alpha k) ≡ values k
   value-after zero late fits byte = absurd (omega arith)
   value-after (suc n) late fits byte =
@@ -148,7 +148,7 @@ combined_values r matrix values parity j k is size within byte sums =
     ap (λ word. value word (power alpha k)) (combined-word r matrix values parity j (size ∙ sym is.size) sums)
     ∙ value-after r matrix values k is within r within (omega arith) byte
 
--- ---- zeros behind a word
+-- ---- zeros after a word
 
 -- a word that is as long already stays
 pub filled-whole : (size : ℕ) (word : List ℕ) → length word ≡ size → filled size word ≡ word
@@ -171,7 +171,7 @@ get_or-zeros n k =
       | inr past ↦ get_or_past (replicate {A = ℕ} n 0) k 0 (omega (arith, length-replicate {A = ℕ} n 0))
     ]
 
--- a place of a filled word is that of the word: it is 0 past the word's end, as behind any word
+-- a place of a filled word is that of the word: it is 0 past the word's end, as after any word
 pub get_or-filled : (size : ℕ) (word : List ℕ) (k : ℕ) → get_or (filled size word) k 0 ≡ get_or word k 0
 unfolding filled
 get_or-filled size word k =
@@ -182,7 +182,7 @@ get_or-filled size word k =
           get_or-append_right word zeros (length word) k 0 refl past ∙ get_or-zeros (size - length word) (k - length word) ∙ sym (get_or_past word k 0 past)
     ]
 
--- a place of a filled word that stands behind other zeros
+-- a place of a filled word that comes after other zeros
 pub get_or-filled_back : (zeros size : ℕ) (word : List ℕ) (p : ℕ) → zeros ≤ p → get_or (behind_zeros zeros (filled size word)) p 0 ≡ get_or word (p - zeros) 0
 get_or-filled_back zeros size word p behind = get_or-behind_zeros_back zeros (filled size word) p behind ∙ get_or-filled size word (p - zeros)
 
@@ -192,7 +192,7 @@ filled-bytes size word fits bytes =
     All-from_get_or IsByte word 0
     (λ i inside. subst (λ b. b < 256) (get_or-filled size word i) (All-get_or IsByte (filled size word) i 0 (omega (arith, length-filled size word fits)) bytes))
 
--- zeros behind a word raise its powers
+-- zeros after a word raise its powers
 value-filled : (size : ℕ) (word : List ℕ) (x : ℕ) → value (filled size word) x ≡ product (value word x) (power x (size - length word))
 unfolding filled
 value-filled size word x =

@@ -111,7 +111,7 @@ pub zeros_in_front : (count : ℕ) (word lanes : List ℕ) (p j : ℕ) → lanes
 zeros_in_front count word lanes p j zeros under below =
     ap (λ l. get_or l j 0) zeros ∙ get_or-replicate {A = ℕ} 32 j 0 0 below ∙ sym (get_or-behind_zeros_front count word p under)
 
--- a place of the word behind them
+-- a place of the word after them
 pub get_or-behind_zeros_back : (count : ℕ) (word : List ℕ) (p : ℕ) → count ≤ p → get_or (behind_zeros count word) p 0 ≡ get_or word (p - count) 0
 unfolding behind_zeros
 get_or-behind_zeros_back count word p over = get_or-append_right (replicate {A = ℕ} count 0) word count p 0 (length-replicate {A = ℕ} count 0) over
@@ -216,7 +216,7 @@ IsThird-folded zeros i word sums whole size same =
 pub get_or-third : (thirds : List (List (List ℕ))) (i j q : ℕ) → get_or (third thirds i j) q 0 ≡ place (get_or thirds q []) i j
 get_or-third thirds i j q = get_or-map (λ vectors. place vectors i j) thirds q []
 
--- the places below `to` of 32 words behind zeros are added up to thirds, and are bytes
+-- the places below `to` of 32 words after zeros are added up to thirds, and are bytes
 pub record HasThirds (zeros : ℕ) (word : ℕ → List ℕ) (to : ℕ) (thirds : List (List (List ℕ))) : Type 0 where
   pub size : length thirds ≡ 85
   pub set : (q i j : ℕ) → q < to → i < 3 → j < 32
@@ -272,7 +272,7 @@ thirds_more zeros word q thirds a b c three inside whole has is_a is_b is_c byte
       ];
 }
 
--- a word whose places behind zeros were all added up has bytes
+-- a word whose places after zeros were all added up has bytes
 pub thirds_bytes : (zeros : ℕ) (word : ℕ → List ℕ) (thirds : List (List (List ℕ))) (j : ℕ) → zeros + length (word j) ≡ 255 → HasThirds zeros word 85 thirds → j < 32
     → All IsByte (word j)
 thirds_bytes zeros word thirds j whole has lane =

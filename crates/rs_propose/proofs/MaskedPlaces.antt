@@ -23,7 +23,7 @@ every-at test (suc n) k holds below = elim (cases_eq k n) [
   | inr differ ↦ every-at test n k (and_parts _ _ holds).1 (omega (arith, differ))
 ]
 
--- a place is told 0 by its highest bit, or is below sixteen
+-- a place gives 0 by its highest bit, or is below sixteen
 is_place : ℕ → Bool
 is_place j = zeroes 16 w8 j || ltb j 16
 

@@ -4,7 +4,7 @@ use Rattle.dvd_capture.specs.Answers.{marks_line}
 use Rattle.dvd_deep.specs.Inner.Buffers.{marks_of_rows}
 use Rattle.dvd_deep.proofs.rounds.marked_rows.Given as goal
 
--- the rows so far that aren't told as marked have no marks
+-- the rows so far that aren't noted as marked have no marks
 abbrev pub invariant-loop-i : goal.invariant-loop-i
 invariant-loop-i l = record {
   size : length l.marked ≡ 208;

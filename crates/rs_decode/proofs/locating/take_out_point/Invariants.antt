@@ -3,7 +3,7 @@ use Rattle.std.proofs.Common.{◌≡◌, ℕ, ◌+◌, ◌<◌, ◌≤◌, get_o
 use Rattle.coding.specs.Field.{plus, product}
 use Rattle.rs_decode.proofs.locating.take_out_point.Given as goal
 
--- one place before k and lower the new sums stand; from there on nothing changed
+-- one place before k and lower are the new sums; from there on nothing changed
 abbrev pub invariant-loop-k : goal.invariant-loop-k
 invariant-loop-k l = record {
   shifted : (j : ℕ) → j + 1 < l.k → get_or l.sums j 0 ≡ plus (get_or l.initial.sums (j + 1) 0) (product l.point (get_or l.initial.sums j 0));

@@ -10,7 +10,7 @@ use Rattle.rs_decode.proofs.Marks.{length-picked, picked-none, point-next}
 use Rattle.rs_decode.proofs.places.marked_points.Goals as goal
 use Rattle.rs_decode.proofs.places.marked_points.Goals.{After-from}
 
--- the place that is read is one of the word, and the points up to it have its power of alpha behind them
+-- the place that is read is one of the word, and the points up to it have its power of alpha after them
 next : (c : After-from) → (c.from.result < length c.args.marks.now)
     × (take (c.loop-place.place-index + 1) (picked c.args.marks.now (points_of (length c.args.marks.now)))
     ≡ take c.loop-place.place-index (picked c.args.marks.now (points_of (length c.args.marks.now))) ++ power alpha (length c.args.marks.now - 1 - c.from.result) ∷ [])

@@ -3,7 +3,8 @@ use Rattle.std.proofs.Common.{◌≡◌, ℕ, ◌+◌, ◌*◌, ◌<◌, ◌≤�
 use Rattle.coding.specs.Field.{alpha, plus, product, power}
 use Rattle.rs_decode.proofs.values.add_term.Given as goal
 
--- the groups before this one have the term's values, those of this one stand in the lanes, and from there on nothing changed
+-- the groups before this one have the term's values, those of this one are in the lanes, and from there on nothing
+-- changed
 abbrev pub invariant-loop-group : goal.invariant-loop-group
 invariant-loop-group l = record {
   size : length l.values ≡ length l.initial.values;

@@ -3,7 +3,7 @@ use Rattle.std.proofs.Common.{◌≡◌, ℕ, ◌+◌, ◌<◌, length, get_or}
 use Rattle.coding.specs.Rows.{place}
 use Rattle.rs_lanes.proofs.rows.put_end.Given as goal
 
--- the first 172 bytes are as they were, and k bytes behind them are set
+-- the first 172 bytes are as they were, and k bytes after them are set
 abbrev pub invariant-loop-k : goal.invariant-loop-k
 invariant-loop-k l = record {
   size : length l.row ≡ 182;

@@ -11,7 +11,7 @@ use Rattle.rs_lanes.proofs.rows.put_thirds.Goals as goal
 short : (turned : List (List ℕ)) (count n : ℕ) → length turned ≡ 182 → count ≤ 182 → length (take count (column turned n)) ≤ 182
 short turned count n many few = omega (arith, length-take-le count (column turned n) (omega (arith, length-column turned n)))
 
--- with zeros put behind and in front of them, they are 255 places
+-- with zeros put after and in front of them, they are 255 places
 whole : (turned : List (List ℕ)) (count n : ℕ) → length turned ≡ 182 → count ≤ 182 → 73 + length (filled 182 (take count (column turned n))) ≡ 255
 whole turned count n many few = omega (arith, length-filled 182 (take count (column turned n)) (short turned count n many few))
 

@@ -11,7 +11,7 @@ use Rattle.rs_decode.specs.Patches.{patched}
 use Rattle.rs_decode.proofs.Fillings.{AgreeUnmarked-patched, points-few}
 use Rattle.rs_decode.proofs.patches.Patches.fill.Goals as goal
 
--- what is told where there is something holds if there is
+-- what is said where there is something holds if there is
 where-some : {X : Type 0} (found : Option X) (P : Type 0) → is_some found ≡ true → ForSome found (λ _. P) → P
 where-some None P is told = cc
 where-some (Some x) P is told = told x refl
