@@ -1,4 +1,5 @@
-//! Why a block is refused.
+//! Why a block is refused. The rules have one order, so that two readers of one capture name the same: rows, columns,
+//! the test of the rows. Then each frame is checked in turn.
 
 use thiserror::Error;
 
