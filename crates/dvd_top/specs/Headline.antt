@@ -1,5 +1,4 @@
--- What one call of `run` does, given its arguments, the streams before and after it, and its status. The contract of
--- `run` is the record `Headline` at the end. The page goes in the order of a call.
+-- What one call of `run` does, in the order of a call. Its contract is the record `Headline` at the end.
 use Rattle.std.specs.Prelude.{◌≡◌, ◌≢◌, ◌⊎◌, List, ℕ, ◌++◌, Some, None, codes}
 use Rattle.std.specs.Io.KnownBytes.{Appends}
 use Rattle.dvd_layout.specs.declared.fault.LayoutFault.{LayoutFault}
@@ -24,9 +23,8 @@ use Rattle.dvd_words.specs.declared.settings.Settings.{Settings}
 use Rattle.dvd_top.specs.declared.status.Status.{Status}
 use Rattle.dvd_top.specs.declared.status.Status.TheVariants as status
 
--- ARGUMENTS AND LAYOUT. `reading` gives the settings that the arguments ask for, and None where they are invalid.
--- `breaks` gives the first rule of layouts that these break. A listed capture states its layout in a header, which is
--- read later.
+-- ARGUMENTS AND LAYOUT. `reading` gives the settings that the arguments ask for, or None where they are invalid, and
+-- `breaks` the first rule of layouts that these break. A listed capture states its layout in a header, read later.
 
 -- LOOP. A command cuts its input into units, as `recover` and `master` into blocks, and says on its page of
 -- dvd_commands what is done for each. A unit is acted on only when all its bytes have come. Its steps are done in
@@ -53,7 +51,8 @@ pub record IsRun (settings : Settings) (old new : Streams) (result : Status) : T
   pub moved : HaveMoved old new loop.taken loop.out (loop.lines ++ line.lines)
   pub is_status : result ≡ status_of line.end
   pub memory : result ≢ status.NoMemory
-  -- each fault is one failed call, the last of its stream; only the closing line may fail after another fault
+  -- each fault is one failed call, the last of its stream; only the closing line may fail after another fault; Short
+  -- and Damaged, of a pipe too, come only after a read that met the end of the input
   pub causes : HaveCauses loop.end line.end old new
   pub complete : NoneFailed old new → IsFaultless line.end × (line.end ≡ loop.end)
   -- a failed read: the output, and the report up to the closing line, are those of an input that ends there
@@ -103,8 +102,8 @@ HaveFailed other old new =
     × HasGoneOn old.output new.output × HasGoneOn old.report new.report
 
 -- THE HEADLINE. The last three say the promise again with no loop or unit, on the page Promises, of streams whose bytes
--- are known. `master` rests on `reading`, and on `plan_of`, `data_frame`, `IsBlockOf` and `recording`, to which
--- docs/DEFINITIONS leads from the standard; the others also on what two passes and salvage give.
+-- are known, and nothing of a pipe. `master` rests on `reading`, and on `plan_of`, `data_frame`, `IsBlockOf` and
+-- `recording`, to which docs/DEFINITIONS leads from the standard; the others also on what two passes and salvage give.
 pub record Headline {S K : Type 0} (src src_now : S) (out out_now : K)
     (words : List (List ℕ)) (old new : Streams) (result : Status) : Type 0 where
   pub call : Call (Untouched src src_now out out_now) words old new result
