@@ -1,6 +1,6 @@
 -- Words cut into pieces of one size that are added up (length-folded, get_or-folded_zero, get_or-folded_suc,
--- value-folded), zeros before a word (behind_zeros, zeros_in_front), and the thirds of words in 32 lanes (third-zero,
--- third-one, third-two, each_of_three, HasThirds with thirds_more, thirds_bytes, thirds_told).
+-- value-folded), zeros before a word (`behind_zeros`, zeros_in_front), and the thirds of words in 32 lanes (third-zero,
+-- third-one, third-two, each_of_three, HasThirds with thirds_more, thirds_bytes, `thirds_told`).
 use Rattle.std.proofs.Common.{◌≡◌, ℕ, zero, suc, ◌+◌, ◌-◌, ◌*◌, ◌/◌, ◌%◌, ◌<◌, ◌≤◌, List, [], length, get_or, set, take, drop, replicate, All, refl, sym, ap, subst, ◌∙◌, inl, inr, arith, length-append, length-take-le, length-set, get_or-take, get_or-drop, get_or-set_other}
 use Rattle.std.proofs.Math.ListN.{get_or-map}
 use Rattle.std.proofs.Math.Seq.{take-add, take-length}
