@@ -7,6 +7,7 @@ pub mod MarkLists
 pub mod WorkParts
 pub mod FetchedCounts
 pub mod Fetching
+pub mod RecordedFrames
 pub mod RecordedRows
 pub mod Headers
 pub mod ListedFields

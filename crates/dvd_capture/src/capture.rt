@@ -128,6 +128,21 @@ fn put_rows(received: &mut Received, marks: &mut Marks, form: Form, bytes: &[u8]
     requires { length bytes.now ≡ record_size form * 208 }
     ensures { ArePut form bytes.now (received_rows received.new) (marks_rows marks.new) 208 }
 {
+    match form {
+        Form::Plain | Form::Listed => {
+            let (records, _) = bytes.as_chunks::<182>();
+            received.set_recorded(records);
+            marks.clear();
+        }
+        Form::Marked => put_records(received, marks, form, bytes),
+    }
+}
+
+// The same where each recorded row has its marks after it.
+fn put_records(received: &mut Received, marks: &mut Marks, form: Form, bytes: &[u8])
+    requires { length bytes.now ≡ record_size form * 208 }
+    ensures { ArePut form bytes.now (received_rows received.new) (marks_rows marks.new) 208 }
+{
     let size = form.record_size();
     for m in 0..208 {
         let record = &bytes[size * m..size * m + size];

@@ -1,9 +1,10 @@
 //! The buffers of a captured block. Whoever decodes several rows or columns at once lends them one by one. They are on
 //! the heap and apart from each other, so that one can be read while another is written.
-ghost use Rattle.std.specs.Prelude.{◌≡◌, ◌↔◌, ◌<◌, ◌≤◌, false, length, take, vec_len, IfOk, IsTrue, replicate, slice_index_or, slice_set};
+ghost use Rattle.std.specs.Prelude.{◌≡◌, ℕ, ◌↔◌, ◌+◌, ◌*◌, ◌<◌, ◌≤◌, false, length, take, vec_len, IfOk, IsTrue, replicate, slice_index_or, slice_set};
 ghost use Rattle.std.specs.List.{flat_map};
 ghost use Rattle.std.specs.declared.option.Option.TheVariants.{None};
 ghost use Rattle.coding.specs.Product.{line};
+ghost use Rattle.coding.specs.Recording.{record_at};
 ghost use Rattle.dvd_capture.specs.Inner.Listing.{IsFound};
 ghost use Rattle.dvd_capture.specs.Captured.{marks_in, record_size};
 
@@ -97,6 +98,17 @@ impl Received {
         ensures { received_rows self.new ≡ rows.now }
     {
         self.rows.copy_from_slice(rows);
+    }
+
+    /// Sets all rows to these in the order of recording: the twelve rows of each data frame as one piece, and then a row of
+    /// outer parity.
+    pub(crate) fn set_recorded(&mut self, records: &[[u8; 182]])
+        requires { length records.now ≡ 208 }
+        ensures { (i : ℕ) → i < 208 → line (received_rows self.new) i ≡ line records.now (record_at i) }
+    {
+        for f in 0..16usize {
+            put_frame(&mut self.rows, f, &records[13 * f..13 * f + 13]);
+        }
     }
 
     /// Sets row `i`, and nothing else.
@@ -351,4 +363,19 @@ impl Sectors {
     {
         self.all.fill([0; 2048]);
     }
+}
+
+// Sets the rows of a block that are the thirteen recorded rows of frame `f`, and no others.
+fn put_frame(rows: &mut [[u8; 182]], f: usize, records: &[[u8; 182]])
+    requires frame { f < 16 }
+    requires rows { length rows.old ≡ 208 }
+    requires records { length records.now ≡ 13 }
+    ensures size { length rows.new ≡ 208 }
+    ensures inner { (k : ℕ) → k < 12 → line rows.new (12 * f + k) ≡ line records.now k }
+    ensures parity { line rows.new (192 + f) ≡ line records.now 12 }
+    ensures others { (i : ℕ) → i < 12 * f → line rows.new i ≡ line rows.old i }
+    ensures parity_others { (i : ℕ) → 192 ≤ i → i < 192 + f → line rows.new i ≡ line rows.old i }
+{
+    rows[12 * f..12 * f + 12].copy_from_slice(&records[..12]);
+    rows[192 + f] = records[12];
 }
