@@ -8,7 +8,7 @@ ghost use Rattle.dvd_frame.specs.Id.{has_check};
 
 use crate::checks::edc_of_parts;
 use crate::id::Id;
-use crate::scrambling::{Rule, Scrambler, scramble_slice};
+use crate::scrambling::{Rule, Scrambler, scramble_into};
 use byteorder::{BigEndian, ByteOrder};
 use rs_code::Ied;
 use thiserror::Error;
@@ -116,8 +116,7 @@ fn unscramble(
 )
     ensures { main.new ≡ masked id rule (take 2048 (drop 12 frame.now)) }
 {
-    main.copy_from_slice(&frame[12..2060]);
-    scramble_slice(scrambler, rule, id, main);
+    scramble_into(scrambler, rule, id, &frame[12..2060], main);
 }
 
 // Whether the last four bytes are the EDC of the first twelve and of the unscrambled Main Data.

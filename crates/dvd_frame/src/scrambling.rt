@@ -151,6 +151,35 @@ pub(crate) fn scramble_slice(scrambler: &mut Scrambler, rule: Rule, id: Id, main
     combine(&mut main[..rule.count()], &scrambler.bytes);
 }
 
+// The same where Main Data are written to another place than they are read from: each byte is written once.
+pub(crate) fn scramble_into(
+    scrambler: &mut Scrambler,
+    rule: Rule,
+    id: Id,
+    bytes: &[u8],
+    main: &mut [u8; 2048],
+)
+    requires { length bytes.now ≡ 2048 }
+    ensures { main.new ≡ masked id rule bytes.now }
+{
+    scrambler.select(id);
+    let count = rule.count();
+    combine_into(&bytes[..count], &scrambler.bytes, &mut main[..count]);
+    put(main, count, &bytes[count..]);
+}
+
+// Sets each byte to the sum of another and the key at its place.
+fn combine_into(bytes: &[u8], keys: &[u8], out: &mut [u8])
+    requires bytes { length bytes.now ≡ length out.old }
+    requires keys { length out.old ≤ length keys.now }
+    ensures size { length out.new ≡ length out.old }
+    ensures each { (k : ℕ) → k < length out.old → slice_index out.new k ≡ bit_xor (slice_index bytes.now k) (slice_index keys.now k) }
+{
+    for (k, byte) in out.iter_mut().enumerate() {
+        *byte = bytes[k] ^ keys[k];
+    }
+}
+
 // Adds to each byte the key at its place. It is an exclusive or, so that a second time undoes it.
 fn combine(bytes: &mut [u8], keys: &[u8])
     requires { length bytes.old ≤ length keys.now }
