@@ -15,6 +15,7 @@ ghost use Rattle.dvd_read.specs.Inner.Standing.{AreCopied, AreOwnFrom};
 
 use crate::lanes::lane_of;
 use crate::rows::MOST_FAILED;
+use crate::squares::copy_squares;
 use arrayvec::ArrayVec;
 use dvd_capture::parts::{AnswerRow, ColumnAnswer};
 use rs_code::Po;
@@ -61,8 +62,24 @@ fn copy_columns(answers: &[AnswerRow], start: usize, piece: &mut [ColumnAnswer])
     }
 }
 
-// Writes at most sixteen columns.
+// Writes at most sixteen columns. Where there are sixteen, their number is a constant: squares of their bytes stay in
+// registers.
 fn copy_tile(answers: &[AnswerRow], start: usize, piece: &mut [ColumnAnswer])
+    requires rows { length answers.now ≡ 208 }
+    requires few { length piece.old ≤ 16 }
+    requires columns { start + length piece.old ≤ 182 }
+    ensures size { length piece.new ≡ length piece.old }
+    ensures own { AreOwnFrom answers.now start piece.new }
+{
+    if piece.len() == 16 {
+        copy_squares(answers, start, piece);
+    } else {
+        copy_few(answers, start, piece);
+    }
+}
+
+// The same for any number of them.
+fn copy_few(answers: &[AnswerRow], start: usize, piece: &mut [ColumnAnswer])
     requires rows { length answers.now ≡ 208 }
     requires few { length piece.old ≤ 16 }
     requires columns { start + length piece.old ≤ 182 }

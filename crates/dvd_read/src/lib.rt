@@ -13,6 +13,7 @@ mod passes; // both passes, and the test of the rows
 mod reading; // a captured block read as an entry of a plan
 mod rescue; // the frames that can be saved, of a refused block too
 mod rows; // the first pass: rows
+mod squares; // squares of rows' answers, transposed
 
 pub use dvd_decoding::Cause;
 pub use fixed::Fixed;
