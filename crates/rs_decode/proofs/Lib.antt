@@ -7,6 +7,7 @@ pub mod Counting
 pub mod ErrorsFound
 pub mod Evaluator
 pub mod Fillings
+pub mod InverseSums
 pub mod Inverses
 pub mod LaneSums
 pub mod Locators

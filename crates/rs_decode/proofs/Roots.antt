@@ -13,6 +13,8 @@ use Rattle.gf_field.proofs.FieldLaws.{plus-byte, plus-comm, plus-zero, plus-zero
 use Rattle.rs_code.proofs.Ring.{ring}
 use Rattle.rs_code.proofs.Values.{value-nil, value-cons}
 use Rattle.rs_code.specs.Inner.PowerSums.{AreDistinct}
+use Rattle.rs_decode.specs.Register.{total}
+use Rattle.rs_decode.proofs.Totals.{total-front, total-none, total-product, total-same}
 
 -- the polynomial's value at x, the lowest power first
 polynomial_at : List ℕ → ℕ → ℕ
@@ -212,3 +214,76 @@ pub few_zeros : (points taps : List ℕ) → AreDistinct points → All IsByte p
 few_zeros points taps distinct all_points all some first =
     let few = few_lowest_first points (reverse taps) distinct all_points (All-reverse taps all) (led-nonzero taps some first) in
     omega (arith, length-reverse taps, zeros_among-alike (value taps) (polynomial_at (reverse taps)) points (λ x. value-reverse taps x all))
+
+-- one zero more is counted
+counted : (p n m : ℕ) → p ≡ 0 → n ≡ m → (if p == 0 then 1 else 0) + n ≡ suc m
+counted p n m is_zero same = grind (arith, nat_tests)
+
+-- where a function vanishes at all points, all are zeros
+zeros_among-all : (f : ℕ → ℕ) (points : List ℕ) → ((j : ℕ) → j < length points → f (get_or points j 0) ≡ 0) → zeros_among f points ≡ length points
+unfolding zeros_among
+zeros_among-all f [] vanishes = refl
+zeros_among-all f (x ∷ points) vanishes =
+    counted (f x) (zeros_among f points) (length points) (vanishes 0 (omega arith)) (zeros_among-all f points (λ j below. vanishes (suc j) (omega arith)))
+
+-- the first values of a function
+values_of : ℕ → (ℕ → ℕ) → List ℕ
+values_of zero f = []
+values_of (suc n) f = f 0 ∷ values_of n (λ k. f (suc k))
+
+-- so many
+length-values_of : (n : ℕ) (f : ℕ → ℕ) → length (values_of n f) ≡ n
+unfolding values_of
+length-values_of zero f = refl
+length-values_of (suc n) f = ap suc (length-values_of n (λ k. f (suc k)))
+
+-- each in its place
+get_or-values_of : (n : ℕ) (f : ℕ → ℕ) (k : ℕ) → k < n → get_or (values_of n f) k 0 ≡ f k
+unfolding values_of
+get_or-values_of zero f k below = absurd (omega arith)
+get_or-values_of (suc n) f zero below = refl
+get_or-values_of (suc n) f (suc k) below = get_or-values_of n (λ m. f (suc m)) k (omega arith)
+
+-- they are bytes if the function's values are
+All-values_of : (n : ℕ) (f : ℕ → ℕ) → ((k : ℕ) → f k < 256) → All IsByte (values_of n f)
+unfolding values_of
+All-values_of zero f bytes = All-nil IsByte
+All-values_of (suc n) f bytes = All-cons IsByte (f 0) (values_of n (λ k. f (suc k))) (bytes 0) (All-values_of n (λ k. f (suc k)) (λ k. bytes (suc k)))
+
+-- one factor more, from the other side
+one_factor : (x c p : ℕ) → product c (product p x) ≡ product x (product c p)
+one_factor x c p = simp ring
+
+-- a polynomial of these coefficients, as a sum from the power 0 on
+polynomial_at-values_of : (n : ℕ) (f : ℕ → ℕ) (x : ℕ) → ((k : ℕ) → f k < 256) → polynomial_at (values_of n f) x ≡ total n (λ k. product (f k) (power x k))
+unfolding values_of polynomial_at
+polynomial_at-values_of zero f x bytes = sym (total-none (λ k. product (f k) (power x k)))
+polynomial_at-values_of (suc n) f x bytes =
+    let term : ℕ → ℕ = λ k. product (f k) (power x k) in
+    let next : ℕ → ℕ = λ k. product (f (suc k)) (power x k) in
+    let first : f 0 ≡ term 0 = sym (ap (product (f 0)) (power-zero x) ∙ product-one (f 0) (bytes 0)) in
+    let rest : product x (polynomial_at (values_of n (λ k. f (suc k))) x) ≡ total n (λ k. term (suc k)) =
+    ap (product x) (polynomial_at-values_of n (λ k. f (suc k)) x (λ k. bytes (suc k)))
+    ∙ sym (total-product n x next)
+    ∙ total-same n (λ k. product x (next k)) (λ k. term (suc k)) (λ k below.
+    sym (ap (product (f (suc k))) (power-suc x k) ∙ one_factor x (f (suc k)) (power x k))) in
+    ap (λ v. plus v (product x (polynomial_at (values_of n (λ k. f (suc k))) x))) first ∙ ap (plus (term 0)) rest ∙ sym (total-front n term)
+
+-- a polynomial that vanishes at as many points as it has coefficients has none but zeros
+pub no_coefficient : (n : ℕ) (f : ℕ → ℕ) (points : List ℕ) → AreDistinct points → All IsByte points → n ≤ length points → ((k : ℕ) → f k < 256)
+    → ((j : ℕ) → j < length points → total n (λ k. product (f k) (power (get_or points j 0) k)) ≡ 0)
+    → (k : ℕ) → k < n → f k ≡ 0
+no_coefficient n f points distinct all_points enough bytes vanishes k below =
+    let coefficients = values_of n f in
+    let size : length coefficients ≡ n = length-values_of n f in
+    let here : get_or coefficients k 0 ≡ f k = get_or-values_of n f k below in
+    let many : zeros_among (polynomial_at coefficients) points ≡ length points =
+    zeros_among-all (polynomial_at coefficients) points (λ j inside. polynomial_at-values_of n f (get_or points j 0) bytes ∙ vanishes j inside) in
+    elim (cases_eq (f k) 0) [
+      | inl none ↦ none
+      | inr some ↦
+          let nonzero : coefficients ≡ replicate (length coefficients) 0 → ⊥ =
+          λ zeros. some (sym here ∙ ap (λ xs. get_or xs k 0) zeros ∙ get_or-replicate (length coefficients) k 0 0 (omega (arith, size))) in
+          let few = few_lowest_first points coefficients distinct all_points (All-values_of n f bytes) nonzero in
+          absurd (omega (arith, few, many, size, enough))
+    ]

@@ -1,5 +1,6 @@
 -- Sums of a function's first values: functions that agree, zeros left out, sums and multiples, and sums of sums.
-use Rattle.std.proofs.Common.{◌≡◌, ℕ, zero, suc, ◌+◌, ◌<◌, ◌≤◌, refl, sym, ap, ◌∙◌, arith, add-one}
+use Rattle.std.proofs.Common.{◌≡◌, ◌≢◌, ℕ, zero, suc, ◌+◌, ◌<◌, ◌≤◌, refl, sym, ap, ◌∙◌, arith, add-one, inl, inr}
+use Rattle.std.proofs.lemmas.Bool.{cases_eq}
 use Rattle.coding.specs.Field.{plus, product}
 use Rattle.gf_field.proofs.FieldLaws.{plus-assoc, plus-byte, plus-pairs, plus-zero, zero-plus, product-plus, product-zero}
 use Rattle.rs_decode.specs.Register.{total}
@@ -66,6 +67,21 @@ total-first (suc n) f zeros =
     total-more (suc n) f
     ∙ rw (zeros (suc n) (omega arith) (omega arith)) (plus-zero (total (suc n) f))
     ∙ ap (λ k. total k f) (sym (add-one n)) ∙ total-first n f (λ i above below. zeros i above (omega arith))
+
+-- zeros but for one value
+pub total-single : (n j : ℕ) (f : ℕ → ℕ) → j < n → ((i : ℕ) → i < n → i ≢ j → f i ≡ 0) → total n f ≡ f j
+total-single zero j f inside zeros = absurd (omega arith)
+total-single (suc n) j f inside zeros =
+    elim (cases_eq j n) [
+      | inl same ↦
+          total-next n f
+          ∙ ap (λ x. plus x (f n)) (total-zeros n f (λ i below. let other : i ≢ j = omega arith in zeros i (omega arith) other))
+          ∙ zero-plus (f n) ∙ ap f (sym same)
+      | inr differ ↦
+          let other : n ≢ j = λ same. differ (sym same) in
+          total-next n f
+          ∙ rw (total-single n j f (omega arith) (λ i below. zeros i (omega arith)), zeros n (omega arith) other) (plus-zero (f j))
+    ]
 
 -- the sum of sums
 pub total-plus : (n : ℕ) (f g : ℕ → ℕ) → total n (λ i. plus (f i) (g i)) ≡ plus (total n f) (total n g)

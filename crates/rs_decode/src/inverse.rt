@@ -5,7 +5,7 @@ ghost use Rattle.coding.specs.Field.{product};
 ghost use Rattle.coding.specs.Words.{value};
 ghost use Rattle.rs_code.specs.Inner.PowerSums.{AreDistinct};
 ghost use Rattle.coding.specs.Rows.{place};
-ghost use Rattle.rs_decode.specs.Inner.Inverse.{IsInverse, IsPolynomial, row_at};
+ghost use Rattle.rs_decode.specs.Inner.Inverse.{HasSums, IsInverse, IsPolynomial, row_at};
 ghost use Rattle.rs_decode.specs.Inner.Locator.{distances};
 ghost use Rattle.rs_decode.specs.Register.{total};
 ghost use Rattle.rs_lanes.specs.Inner.Lanes.{HoldsLanes};
@@ -30,6 +30,8 @@ pub struct Inverse {
     pub ghost few: { length points.items ≤ 16 },
     /// It is the inverse.
     pub ghost inverse: { IsInverse points.items columns },
+    /// From the other side too.
+    pub ghost sums: { HasSums points.items columns },
 }
 
 impl Inverse {
@@ -57,7 +59,8 @@ impl Inverse {
 fn inverse_columns(points: &[u8]) -> [[u8; 16]; 16]
     requires distinct { AreDistinct points.now }
     requires few { length points.now ≤ 16 }
-    ensures { IsInverse points.now result }
+    ensures inverse { IsInverse points.now result }
+    ensures sums { HasSums points.now result }
 {
     let mut columns = [[0; 16]; 16];
     for i in 0..points.len() {

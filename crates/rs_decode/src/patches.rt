@@ -1,6 +1,6 @@
 //! What 32 words with the same marks lack at their marked places, for all at once: proposed in the lanes of vectors by the
-//! inverse of the places' powers, and tested there. Nothing is proved of how the bytes come about, but of the test alone: so
-//! wrong ones cost the time of decoding a word by itself, and no more.
+//! inverse of the places' powers. The bytes have the right power sums, as many as there are marked places. Whether the further
+//! sums are right too, as they are where a word has no errors, is tested there: with sixteen marked places none is left.
 ghost use Rattle.std.specs.Prelude.{◌≡◌, ◌≢◌, ℕ, ◌<◌, ◌≤◌, Bool, List, false, length, slice_index, take, All, IsTrue};
 ghost use Rattle.coding.specs.Field.{alpha, plus, power, product};
 ghost use Rattle.coding.specs.Words.{value};
@@ -93,9 +93,12 @@ impl Patches {
     }
 }
 
-// The bytes that words with these values need at the points, in the lanes of a vector for each point. Those past the last
-// point are zeros.
-fn proposed(inverse: &Inverse, values: &[u8x32; 16]) -> [u8x32; 16] {
+// The bytes that words with these values need at the points, in the lanes of a vector for each point: their first power
+// sums, as many as there are points, are the values. Those past the last point are zeros.
+fn proposed(inverse: &Inverse, values: &[u8x32; 16]) -> [u8x32; 16]
+    ensures { (k n : ℕ) → k < length inverse.now.points.items → n < 32 → place values.now k n < 256
+        → place values.now k n ≡ power_sum (take (length inverse.now.points.items) (column result n)) inverse.now.points.items k }
+{
     let mut bytes = [u8x32::splat(0); 16];
     for k in 0..inverse.points.len() {
         add_multiples(&mut bytes, values[k], &inverse.columns[k]);
@@ -103,21 +106,36 @@ fn proposed(inverse: &Inverse, values: &[u8x32; 16]) -> [u8x32; 16] {
     bytes
 }
 
-// Lanes that are zero only where bytes at points have these values as their power sums. They are added to the values,
-// and leave zeros where both are equal: how the bytes were found doesn't count.
+// Lanes that are zero only where bytes at points have these values as their further power sums: none is left where there
+// are sixteen points. They are added to the values, and leave zeros where both are equal.
 fn left_over(points: &[u8], bytes: &[u8x32; 16], values: &[u8x32; 16]) -> u8x32
     requires nonzero { All (λ point. point ≢ 0) points.now }
     requires few { length points.now ≤ 16 }
     ensures size { length result ≡ 32 }
-    ensures sums { (k n : ℕ) → k < 16 → n < 32 → slice_index result n ≡ 0
+    ensures sums { (k n : ℕ) → length points.now ≤ k → k < 16 → n < 32 → slice_index result n ≡ 0
         → place values.now k n ≡ power_sum (take (length points.now) (column bytes.now n)) points.now k }
 {
-    let mut left = *values;
-    for i in (0..points.len()).rev() {
-        let powers = powers(log(points[i]) as usize).to_array();
-        add_multiples(&mut left, bytes[i], &powers);
+    let mut left = [u8x32::splat(0); 16];
+    for k in points.len()..16 {
+        left[k] = with_sum(points, bytes, values[k], k);
     }
     any_of(&left)
+}
+
+// Adds to each lane the power sum with the number `k` of its bytes at the points.
+fn with_sum(points: &[u8], bytes: &[u8x32; 16], value: u8x32, k: usize) -> u8x32
+    requires nonzero { All (λ point. point ≢ 0) points.now }
+    requires few { length points.now ≤ 16 }
+    requires inside { k < 16 }
+    ensures { (n : ℕ) → n < 32 → slice_index result n
+        ≡ plus (slice_index value n) (power_sum (take (length points.now) (column bytes.now n)) points.now k) }
+{
+    let mut sum = value;
+    for i in (0..points.len()).rev() {
+        let powers = powers(log(points[i]) as usize).to_array();
+        sum = with_multiple(sum, bytes[i], powers[k]);
+    }
+    sum
 }
 
 // Adds to each of sixteen vectors its multiple of one vector.

@@ -1,6 +1,9 @@
 -- The proof of `inverse_columns` in src/inverse.rt.
 use Rattle.std.proofs.Common.{◌≡◌, ◌≢◌, ◌<◌, ℕ, length, length-take-le, take, get_or, below_more, ap, sym, ◌∙◌, arith, ◌==◌, if◌then◌else◌}
+use Rattle.std.proofs.lemmas.List.Elements.{All-from_get_or}
+use Rattle.coding.specs.Words.{IsByte}
 use Rattle.rs_decode.specs.Inner.Inverse.{row_at}
+use Rattle.rs_decode.proofs.InverseSums.{HasSums-inverse}
 use Rattle.rs_decode.proofs.Inverses.{row_at-same}
 use Rattle.rs_decode.proofs.inverse.inverse_columns.Goals as goal
 
@@ -21,3 +24,8 @@ loop-i-preserved c =
           ap (λ m. row_at m new i (get_or points l 0)) (sym taken) ∙ c.set_row.ensures.row (get_or points l 0) ∙ c.basis.ensures.values l inside)
           r below j within;
     }
+
+pub returns-clause-sums : goal.returns-clause-sums
+returns-clause-sums c =
+    HasSums-inverse c.args.points.now c.loop-i.columns c.requires.distinct (All-from_get_or IsByte c.args.points.now 0 (λ k below. omega (arith, c.type_inv.points k)))
+    (record { identity = λ i j inside within. c.loop-i.invariant.rows i j (omega arith) within })

@@ -1,53 +1,36 @@
 -- The proof of `left_over` in src/patches.rt.
-use Rattle.std.proofs.Common.{◌≡◌, ◌-◌, ◌*◌, ◌∙◌, ℕ, suc, List, length, drop, take, get_or, get_or-take, length-take-le, sym, ap, arith}
-use Rattle.coding.specs.Field.{alpha, plus, power, product}
+use Rattle.std.proofs.Common.{◌≡◌, ◌≢◌, ◌∙◌, ◌<◌, ◌≤◌, length, length-set, set, take, get_or-set_other, get_or-set_same, below_more, sym, refl, arith}
+use Rattle.coding.specs.Field.{plus}
 use Rattle.coding.specs.Rows.{column, place}
-use Rattle.gf_field.proofs.FieldLaws.{plus-assoc, plus-zero, plus-zero_same, product-comm}
+use Rattle.gf_field.proofs.FieldLaws.{plus-zero_same}
 use Rattle.rs_code.specs.Inner.PowerSums.{power_sum}
-use Rattle.rs_lanes.proofs.ColumnLemmas.{get_or-column, length-column}
-use Rattle.rs_decode.proofs.LaneSums.{power_sum-end, power_sum-lane}
 use Rattle.rs_decode.proofs.patches.left_over.Goals as goal
 
-pub loop-i-init : goal.loop-i-init
-loop-i-init c = record {
-  size = c.told-values;
-  sums = λ k n below inside.
-      let points = c.args.points.now in
-      let all = column c.args.bytes.now n in
-      let fits : length (take (length points) all) ≡ length points =
-      length-take-le (length points) all (omega (arith, length-column c.args.bytes.now n, c.told-bytes, c.requires.few)) in
-      let v : ℕ = place c.args.values.now k n in
-      sym (ap (plus v) (power_sum-end (take (length points) all) points k fits) ∙ plus-zero v);
+pub loop-k-init : goal.loop-k-init
+loop-k-init c = record {
+  size = refl;
+  sums = λ k n reached below inside. absurd (omega arith);
 }
 
-pub loop-i-preserved : goal.loop-i-preserved
-loop-i-preserved c = record {
-  size = c.add_multiples.ensures.size;
-  sums = λ k n below inside.
-      let points = c.args.points.now in
-      let all = column c.args.bytes.now n in
-      let front : List ℕ = take (length points) all in
-      let i = c.loop-i.i - 1 in
-      let up : suc i ≡ c.loop-i.i = omega arith in
-      let v : ℕ = place c.args.values.now k n in
-      let sum : ℕ = power_sum (drop c.loop-i.i front) (drop c.loop-i.i points) k in
-      let term : ℕ = product (place c.args.bytes.now i n) (get_or c.powers.result k 0) in
-      let fits : length front ≡ length points =
-      length-take-le (length points) all (omega (arith, length-column c.args.bytes.now n, c.told-bytes, c.requires.few)) in
-      let here : get_or front i 0 ≡ place c.args.bytes.now i n = get_or-take (length points) all i 0 (omega arith) ∙ get_or-column c.args.bytes.now n i in
-      let is_term : term ≡ product (power alpha (c.log.result * k)) (get_or front i 0) =
-      product-comm (place c.args.bytes.now i n) (get_or c.powers.result k 0)
-      ∙ ap (λ p. product p (place c.args.bytes.now i n)) (c.powers.ensures.each k below) ∙ ap (product (power alpha (c.log.result * k))) (sym here) in
-      c.add_multiples.ensures.added k n below inside ∙ ap (λ s. plus s term) (c.loop-i.invariant.sums k n below inside) ∙ plus-assoc v sum term
-      ∙ ap (plus v)
-      (power_sum-lane front points i k c.log.result sum term (omega (arith, fits)) (omega arith) c.log.ensures.reaches
-      (ap (λ m. power_sum (drop m front) (drop m points) k) (sym up)) is_term);
-}
+pub loop-k-preserved : goal.loop-k-preserved
+loop-k-preserved c =
+    let at = c.loop-k.k in
+    let points = c.args.points.now in
+    let values = c.args.values.now in
+    let bytes = c.args.bytes.now in
+    let left = c.loop-k.left in
+    let before = c.loop-k.invariant in
+    let within : at < length left = omega arith in
+    record {
+      size = length-set left at c.with_sum.result ∙ before.size;
+      sums = λ k n reached below inside.
+          below_more (λ m. length points ≤ m → place (set left at c.with_sum.result) m n ≡ plus (place values m n) (power_sum (take (length points) (column bytes n)) points m)) at
+          (λ m earlier from. let other : m ≢ at = omega arith in rw get_or-set_other (before.sums m n from earlier inside))
+          (λ from. rw get_or-set_same (c.with_sum.ensures n inside))
+          k below reached;
+    }
 
 pub returns-clause-sums : goal.returns-clause-sums
-returns-clause-sums c = λ k n below inside zero_is.
-    let front : List ℕ = take (length c.args.points.now) (column c.args.bytes.now n) in
-    let done : c.loop-i.i ≡ 0 = omega arith in
-    plus-zero_same (place c.args.values.now k n) (power_sum front c.args.points.now k)
-    (ap (λ m. plus (place c.args.values.now k n) (power_sum (drop m front) (drop m c.args.points.now) k)) (sym done)
-    ∙ sym (c.loop-i.invariant.sums k n below inside) ∙ (c.any_of.ensures.zeros n inside).0 zero_is k below)
+returns-clause-sums c = λ k n reached below inside zero_is.
+    plus-zero_same (place c.args.values.now k n) (power_sum (take (length c.args.points.now) (column c.args.bytes.now n)) c.args.points.now k)
+    (sym (c.loop-k.invariant.sums k n reached (omega arith) inside) ∙ (c.any_of.ensures.zeros n inside).0 zero_is k below)

@@ -1,11 +1,14 @@
 -- The proof of `new` in src/patches.rt.
-use Rattle.std.proofs.Common.{◌≡◌, ◌≢◌, ◌≤◌, ◌∙◌, List, ℕ, length, take, get_or, sym, ap, arith, rules, length-take-le}
+use Rattle.std.proofs.Common.{◌≡◌, ◌≢◌, ◌≤◌, ◌∙◌, List, ℕ, length, take, get_or, sym, ap, subst, arith, rules, inl, inr, ◌<◌, length-take-le}
 use Rattle.std.proofs.lemmas.List.Elements.{All-from_get_or}
+use Rattle.std.proofs.lemmas.Bool.{cases_lt}
 use Rattle.coding.specs.Field.{alpha, power}
 use Rattle.coding.specs.Filling.{marked}
-use Rattle.coding.specs.Rows.{column}
+use Rattle.coding.specs.Rows.{column, place}
 use Rattle.coding.specs.Words.{value}
 use Rattle.rs_decode.specs.Patches.{patched}
+use Rattle.rs_code.specs.Inner.PowerSums.{power_sum}
+use Rattle.rs_code.proofs.Values.{value-byte}
 use Rattle.rs_lanes.proofs.ColumnLemmas.{length-column, same_columns}
 use Rattle.rs_decode.proofs.Fillings.{points-few, value-completed}
 use Rattle.rs_decode.proofs.Marks.{point-nonzero}
@@ -25,6 +28,7 @@ returns g c = λ n word inside size same told k below.
     let proposed = c.proposed-proposed.result in
     let points_are = c.deref.ensures.0 ∙ erasures.gathered in
     let count : length points ≡ marked erasures.marks = points-few erasures.marks points points_are in
+    let points_same : c.in-Some.inverse.points.items ≡ points = erasures.same_points c.in-Some.inverse c.in-Some.is ∙ sym c.deref.ensures.0 in
     let few : length points ≤ 16 = search rules in
     let long : length proposed ≡ 16 = search rules in
     let bytes : List ℕ = take (length points) (column proposed n) in
@@ -35,4 +39,10 @@ returns g c = λ n word inside size same told k below.
     ap (λ (m : ℕ). value (patched word erasures.marks (take m (column stored n))) (power alpha k)) (sym count)
     ∙ ap (λ (all : List ℕ). value (patched word erasures.marks (take (length points) all)) (power alpha k)) alike
     ∙ value-completed word erasures.marks bytes points k (size ∙ sym erasures.size) fits points_are
-    (sym (same k below) ∙ c.left_over.ensures.sums k n below inside told)
+    (elim (cases_lt k (length points)) [
+      | inl first ↦
+          let byte : place c.args.values.now k n < 256 = subst (λ v. v < 256) (sym (same k below)) (value-byte word (power alpha k)) in
+          sym (same k below) ∙ c.proposed-proposed.ensures k n (omega (arith, ap length points_same)) inside byte
+          ∙ ap (λ (xs : List ℕ). power_sum (take (length xs) (column proposed n)) xs k) points_same
+      | inr further ↦ sym (same k below) ∙ c.left_over.ensures.sums k n (omega arith) below inside told
+    ])
