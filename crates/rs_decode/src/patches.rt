@@ -81,14 +81,12 @@ impl Patches {
     fn add_to(&self, places: &[u8], n: usize, word: &mut [u8])
         requires lane { n < 32 }
         requires few { length places.now ≤ 16 }
+        requires inside { (i : ℕ) → i < length places.now → slice_index places.now i < length word.old }
         ensures { (marks : List Bool) → length marks ≡ length word.old → marked marks ≡ length places.now → ArePlaces marks (marked marks) places.now
             → word.new ≡ patched word.old marks (take (marked marks) (column self.now.bytes n)) }
     {
         for (i, place) in places.iter().enumerate() {
-            let place = usize::from(*place);
-            if place < word.len() {
-                word[place] ^= self.bytes[i][n];
-            }
+            word[usize::from(*place)] ^= self.bytes[i][n];
         }
     }
 }

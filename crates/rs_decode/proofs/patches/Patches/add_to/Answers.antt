@@ -5,9 +5,8 @@ use Rattle.coding.specs.Filling.{marked}
 use Rattle.coding.specs.Rows.{column, place}
 use Rattle.rs_lanes.proofs.ColumnLemmas.{get_or-column, length-column}
 use Rattle.rs_decode.specs.Patches.{patched}
-use Rattle.rs_decode.proofs.Marks.{patched-none, patched-placed, place_of_mark-inside}
+use Rattle.rs_decode.proofs.Marks.{patched-none, patched-placed}
 use Rattle.rs_decode.proofs.patches.Patches.add_to.Goals as goal
-use Rattle.rs_decode.proofs.patches.Patches.add_to.Goals.{then-place-word, else-place-word}
 
 pub loop-i-init : goal.loop-i-init
 loop-i-init c = record {
@@ -24,23 +23,14 @@ loop-i-preserved c =
     let here : byte ≡ get_or all i 0 = sym (get_or-column c.args.self.now.bytes c.args.n i) in
     let inside : i < length all = omega (arith, length-column c.args.self.now.bytes c.args.n, c.loop-i-test.true, c.requires.few) in
     let before = c.loop-i.invariant in
-    elim c.if-place-word.branch [
-      | then-place-word w ↦ record {
-        size = ap length w.word-is ∙ length-set word c.from-place.result (plus (get_or word c.from-place.result 0) byte) ∙ before.size;
-        patched = λ marks size count are.
-            w.word-is
-            ∙ ap (λ b. set word c.from-place.result (plus (get_or word c.from-place.result 0) b)) here
-            ∙ ap (λ p. set word p (plus (get_or word p 0) (get_or all i 0))) c.from-place.ensures
-            ∙ patched-placed c.args.word.now word marks c.args.places.now all i (sym size) inside (omega (arith, count)) are
-            (before.patched marks size count are);
-      }
-      | else-place-word w ↦ record {
-        size = ap length w.word-is ∙ before.size;
-        patched = λ marks size count are.
-            let below : i < marked marks = omega (arith, count) in
-            absurd (omega (arith, place_of_mark-inside marks i below, are i below, c.from-place.ensures, before.size, size, w.if-place-word.false));
-      }
-    ]
+    record {
+      size = length-set word c.from.result (plus (get_or word c.from.result 0) byte) ∙ before.size;
+      patched = λ marks size count are.
+          ap (λ b. set word c.from.result (plus (get_or word c.from.result 0) b)) here
+          ∙ ap (λ p. set word p (plus (get_or word p 0) (get_or all i 0))) c.from.ensures
+          ∙ patched-placed c.args.word.now word marks c.args.places.now all i (sym size) inside (omega (arith, count)) are
+          (before.patched marks size count are);
+    }
 
 pub returns : goal.returns
 returns c = λ marks size count are.

@@ -1,5 +1,5 @@
 -- The proof of `fill` in src/patches.rt.
-use Rattle.std.proofs.Common.{◌≡◌, true, not, refl, Some, None, is_some, ◌∙◌, length, length-take-le, take, get_or-take, sym, rules, ap, subst, arith}
+use Rattle.std.proofs.Common.{◌≡◌, ◌<◌, ℕ, Bool, List, true, not, refl, Some, None, is_some, ◌∙◌, length, length-take-le, take, get_or-take, sym, rules, ap, subst, arith}
 use Rattle.std.specs.Option.{ForSome}
 use Rattle.std.specs.declared.option.Option.{Option}
 use Rattle.coding.specs.Field.{alpha, power}
@@ -9,12 +9,28 @@ use Rattle.coding.specs.Words.{value}
 use Rattle.rs_decode.specs.Inner.Places.{ArePlaces}
 use Rattle.rs_decode.specs.Patches.{patched}
 use Rattle.rs_decode.proofs.Fillings.{AgreeUnmarked-patched, points-few}
+use Rattle.rs_decode.proofs.Marks.{place_of_mark-inside}
 use Rattle.rs_decode.proofs.patches.Patches.fill.Goals as goal
 
 -- what is said where there is something holds if there is
 where-some : {X : Type 0} (found : Option X) (P : Type 0) → is_some found ≡ true → ForSome found (λ _. P) → P
 where-some None P is told = cc
 where-some (Some x) P is told = told x refl
+
+-- the first places are those of the marks
+placed : (marks : List Bool) (places : List ℕ) (count : ℕ) → count ≡ marked marks → ArePlaces marks count places → ArePlaces marks (marked marks) (take count places)
+placed marks places count is are = λ i below. get_or-take count places i 0 (omega (arith, is, below)) ∙ are i (omega (arith, is, below))
+
+pub add_to-requires-clause-inside : goal.add_to-requires-clause-inside
+add_to-requires-clause-inside g c = λ i below.
+    let erasures = c.args.erasures.now in
+    let count : c.len-count.result ≡ marked erasures.marks = c.len-count.ensures.value ∙ points-few erasures.marks erasures.points.items erasures.gathered in
+    let few : length erasures.places ≡ 256 = search rules in
+    let within : i < marked erasures.marks = omega (arith, count, length-take-le c.len-count.result erasures.places (omega (arith, few, c.if-count-gt16.false))) in
+    let all = where-some erasures.inverse (ArePlaces erasures.marks (length erasures.points.items) erasures.places)
+    (c.is_none.ensures ∙ ap not c.if-is_none.false) erasures.located in
+    let located = placed erasures.marks erasures.places c.len-count.result count (subst (λ n. ArePlaces erasures.marks n erasures.places) (sym c.len-count.ensures.value) all) in
+    omega (arith, located i within, place_of_mark-inside erasures.marks i within, c.told-word, erasures.size)
 
 pub returns-clause-filled : goal.returns-clause-filled
 returns-clause-filled g c = λ _.
@@ -28,8 +44,7 @@ returns-clause-filled g c = λ _.
     let long : length first ≡ marked erasures.marks = length-take-le c.len-count.result erasures.places (omega (arith, few, c.if-count-gt16.false)) ∙ count in
     let all = where-some erasures.inverse (ArePlaces erasures.marks (length erasures.points.items) erasures.places)
     (c.is_none.ensures ∙ ap not c.if-is_none.false) erasures.located in
-    let located : ArePlaces erasures.marks (marked erasures.marks) first = λ i below.
-    get_or-take c.len-count.result erasures.places i 0 (omega (arith, count, below)) ∙ all i (omega (arith, count, below, c.len-count.ensures.value)) in
+    let located = placed erasures.marks erasures.places c.len-count.result count (subst (λ n. ArePlaces erasures.marks n erasures.places) (sym c.len-count.ensures.value) all) in
     let filled_is : c.add_to.new.word ≡ patched word erasures.marks bytes = c.add_to.ensures erasures.marks (sym alike) (sym long) located in
     record {
       codeword = record {
