@@ -15,9 +15,7 @@ mod scrambling; // which bytes are added to which Main Data bytes
 pub use checks::{edc, ied};
 pub use frame::{make_frame, make_frame_with};
 pub use id::{Area, Id};
-pub use reading::{
-    FrameCause, found_id, has_right_ied, read_frame, read_frame_into, read_frame_with,
-};
+pub use reading::{FrameCause, found_id, has_right_ied, read_frame, read_frame_into};
 pub use scrambling::{Keystream, Rule, Scrambler, preset, scramble};
 
 #[cfg(test)]

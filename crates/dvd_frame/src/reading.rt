@@ -37,28 +37,15 @@ pub fn read_frame(
 ) -> Result<(), FrameCause>
     ensures { IsFrameRead frame.now want rule out.old out.new result }
 {
-    read_frame_with(&mut Scrambler::new(), frame, want, rule, out)
-}
-
-/// Reads a frame as `read_frame` does, with scrambling bytes that are kept from one frame to the next.
-pub fn read_frame_with(
-    scrambler: &mut Scrambler,
-    frame: &[u8; 2064],
-    want: Id,
-    rule: Rule,
-    out: &mut [u8; 2048],
-) -> Result<(), FrameCause>
-    ensures { IsFrameRead frame.now want rule out.old out.new result }
-{
     // Read apart and then moved, since `out` stays as it is after a cause.
     let mut main = [0; 2048];
-    read_frame_into(scrambler, frame, want, rule, &mut main)?;
+    read_frame_into(&mut Scrambler::new(), frame, want, rule, &mut main)?;
     *out = main;
     Ok(())
 }
 
-/// Reads a frame as `read_frame_with` does, straight into `out`: what that is after a cause isn't said. So nothing is
-/// copied for a caller that blanks `out` itself.
+/// Reads a frame as `read_frame` does, straight into `out`: what that is after a cause isn't said. So nothing is copied
+/// for a caller that blanks `out` itself. The scrambling bytes are kept from one frame to the next.
 #[tactic(auto, using(std::proofs::lemmas::Bool::Decides::nat_tests), unfolding(crate::specs::Frame::frame_cause))]
 pub fn read_frame_into(
     scrambler: &mut Scrambler,
