@@ -2,4 +2,5 @@
 pub mod Examples
 pub mod Inner
 pub mod Lines
+pub mod Setting
 pub mod Survey

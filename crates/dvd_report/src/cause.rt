@@ -43,7 +43,7 @@ fn line_of(k: u64, plan: &BlockPlan, cause: &Cause, saved: u8) -> Line
 /// Puts block `k` of a plan at the end of a line, with its first sector number and its layer. At most 50 bytes: a
 /// number has up to 20 digits, and a layer 3.
 #[tactic(auto, unfolding(crate::specs::Lines::block_text))]
-pub(crate) fn put_block(line: &mut Line, k: u64, plan: &BlockPlan)
+pub fn put_block(line: &mut Line, k: u64, plan: &BlockPlan)
     requires room { length line.old + 50 ≤ 256 }
     ensures bytes { line.new ≡ line.old ++ block_text k plan.now }
     ensures len { length line.new ≤ length line.old + 50 }
