@@ -1,6 +1,7 @@
 -- Why the contracts hold: lemmas on a CD-ROM sector, what is wrong with one, and how it is repaired.
 pub mod Bits
 pub mod Steps
+pub mod Tables
 pub mod Division
 pub mod Chunks
 pub mod ColumnWords

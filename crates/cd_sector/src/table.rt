@@ -1,7 +1,6 @@
 //! Division for the EDC (ECMA-130, 14.3), a byte or sixteen at once.
-ghost use Rattle.std.specs.Prelude.{◌≡◌, ℕ, map};
-ghost use Rattle.std.specs.List.{range_with_len};
-ghost use Rattle.cd_sector.specs.Inner.Register.{after_steps, after_word};
+ghost use Rattle.std.specs.Prelude.{◌≡◌, ℕ};
+ghost use Rattle.cd_sector.specs.Inner.Register.{after_steps, after_word, table_after, tables_from};
 
 // The sums of all choices of numbers, in the order of the bytes whose bits choose them.
 macro_rules! sums {
@@ -53,41 +52,42 @@ pub(crate) fn remainder_of(byte: u8) -> u32
 pub(crate) fn remainder_of_fourth(word: [u8; 4]) -> u32
     ensures { result ≡ after_word 8 word }
 {
-    let front = entry(&NEAR[3], word[0]) ^ entry(&NEAR[2], word[1]);
-    let back = entry(&NEAR[1], word[2]) ^ entry(&NEAR[0], word[3]);
-    front ^ back
+    remainder_by(&NEAR, word)
 }
 
 /// Likewise for bytes 8 to 11, with 32 more steps.
 pub(crate) fn remainder_of_third(word: [u8; 4]) -> u32
     ensures { result ≡ after_word 40 word }
 {
-    let front = entry(&THIRD[3], word[0]) ^ entry(&THIRD[2], word[1]);
-    let back = entry(&THIRD[1], word[2]) ^ entry(&THIRD[0], word[3]);
-    front ^ back
+    remainder_by(&THIRD, word)
 }
 
 /// Likewise for bytes 4 to 7, with 64 more steps.
 pub(crate) fn remainder_of_second(word: [u8; 4]) -> u32
     ensures { result ≡ after_word 72 word }
 {
-    let front = entry(&SECOND[3], word[0]) ^ entry(&SECOND[2], word[1]);
-    let back = entry(&SECOND[1], word[2]) ^ entry(&SECOND[0], word[3]);
-    front ^ back
+    remainder_by(&SECOND, word)
 }
 
 /// Likewise for bytes 0 to 3, with 96 more steps.
 pub(crate) fn remainder_of_first(word: [u8; 4]) -> u32
     ensures { result ≡ after_word 104 word }
 {
-    let front = entry(&FIRST[3], word[0]) ^ entry(&FIRST[2], word[1]);
-    let back = entry(&FIRST[1], word[2]) ^ entry(&FIRST[0], word[3]);
+    remainder_by(&FIRST, word)
+}
+
+// What is left of four bytes, by the tables of four steps of eight.
+fn remainder_by(tables: &[[u32; 256]; 4], word: [u8; 4]) -> u32
+    ensures { (n : ℕ) → tables.now ≡ tables_from n → result ≡ after_word n word }
+{
+    let front = entry(&tables[3], word[0]) ^ entry(&tables[2], word[1]);
+    let back = entry(&tables[1], word[2]) ^ entry(&tables[0], word[3]);
     front ^ back
 }
 
 // An entry of a table of what a fixed number of steps leave of each byte.
 fn entry(table: &[u32; 256], byte: u8) -> u32
-    ensures { (n : ℕ) → table.now ≡ map (after_steps n) (range_with_len 0 256) → result ≡ after_steps n byte }
+    ensures { (n : ℕ) → table.now ≡ table_after n → result ≡ after_steps n byte }
 {
     table[byte as usize]
 }

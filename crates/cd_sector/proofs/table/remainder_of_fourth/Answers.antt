@@ -1,19 +1,10 @@
 -- The proof of `remainder_of_fourth` in src/table.rt.
-use Rattle.std.proofs.Common.{refl, map, ap₂}
-use Rattle.std.specs.Prelude.{bit_xor}
-use Rattle.std.specs.List.{range_with_len}
-use Rattle.std.proofs.lemmas.Slice.Eq.{bytes_eq-Decides}
+use Rattle.std.proofs.Common.{refl}
 use Rattle.cd_sector.specs.Inner.Register.{after_steps, stepped}
+use Rattle.cd_sector.proofs.Tables.{are_tables}
 use Rattle.cd_sector.proofs.table.remainder_of_fourth.Goals as goal
 
 -- computed over all 256 entries of each table
 pub returns : goal.returns
 unfolding after_steps stepped
-returns c =
-    ap₂ bit_xor
-    (ap₂ bit_xor
-    (c.entry.ensures 32 ((bytes_eq-Decides _ (map (after_steps 32) (range_with_len 0 256))).0 refl))
-    (c.entry-2.ensures 24 ((bytes_eq-Decides _ (map (after_steps 24) (range_with_len 0 256))).0 refl)))
-    (ap₂ bit_xor
-    (c.entry-3.ensures 16 ((bytes_eq-Decides _ (map (after_steps 16) (range_with_len 0 256))).0 refl))
-    (c.entry-4.ensures 8 ((bytes_eq-Decides _ (map (after_steps 8) (range_with_len 0 256))).0 refl)))
+returns c = c.remainder_by.ensures 8 (are_tables 8 refl refl refl refl)
