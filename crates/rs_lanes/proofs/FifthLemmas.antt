@@ -44,12 +44,15 @@ pub record FifthSums (a0 a1 a2 a3 a4 : ℕ) : Type 0 where
       ≡ value (a4 ∷ a3 ∷ a2 ∷ a1 ∷ a0 ∷ []) (power alpha 204)
 
 module _ (a0 a1 a2 a3 a4 : ℕ) (byte0 : a0 < 256) (byte1 : a1 < 256) (byte2 : a2 < 256) (byte3 : a3 < 256) (byte4 : a4 < 256) where
+  -- the value where the powers are these
+  abbrev sum_at : ℕ → ℕ → ℕ → ℕ → ℕ
+  sum_at x1 x2 x3 x4 = plus (product a4 x4) (plus (product a3 x3) (plus (product a2 x2) (plus (product a1 x1) a0)))
+
   -- the value at alpha^(51 m), whose powers are roots again
   at-root : (m x1 x2 x3 x4 : ℕ)
       → power alpha (51 * m * 1 % 255) ≡ x1 → power alpha (51 * m * 2 % 255) ≡ x2
       → power alpha (51 * m * 3 % 255) ≡ x3 → power alpha (51 * m * 4 % 255) ≡ x4
-      → value (a4 ∷ a3 ∷ a2 ∷ a1 ∷ a0 ∷ []) (power alpha (51 * m))
-      ≡ plus (product a4 x4) (plus (product a3 x3) (plus (product a2 x2) (plus (product a1 x1) a0)))
+      → value (a4 ∷ a3 ∷ a2 ∷ a1 ∷ a0 ∷ []) (power alpha (51 * m)) ≡ sum_at x1 x2 x3 x4
   at-root m x1 x2 x3 x4 one two three four =
       let root : (n x : ℕ) → power alpha (51 * m * n % 255) ≡ x → power (power alpha (51 * m)) n ≡ x = λ n x is.
       sym (power-alpha-mod (51 * m * n) ∙ power-mul alpha (51 * m) n) ∙ is in
@@ -62,23 +65,19 @@ module _ (a0 a1 a2 a3 a4 : ℕ) (byte0 : a0 < 256) (byte1 : a1 < 256) (byte2 : a
       ∙ rw (product-one a4 byte4, product-one a3 byte3, product-one a2 byte2, product-one a1 byte1) refl
 
   -- the value at 0x0A
-  value-one : value (a4 ∷ a3 ∷ a2 ∷ a1 ∷ a0 ∷ []) (power alpha 51)
-      ≡ plus (product a4 0xDD) (plus (product a3 0x92) (plus (product a2 0x44) (plus (product a1 0x0A) a0)))
+  value-one : value (a4 ∷ a3 ∷ a2 ∷ a1 ∷ a0 ∷ []) (power alpha 51) ≡ sum_at 0x0A 0x44 0x92 0xDD
   value-one = at-root 1 0x0A 0x44 0x92 0xDD roots.0 roots.1 roots.2 roots.3
 
   -- the value at 0x44
-  value-two : value (a4 ∷ a3 ∷ a2 ∷ a1 ∷ a0 ∷ []) (power alpha 102)
-      ≡ plus (product a4 0x92) (plus (product a3 0x0A) (plus (product a2 0xDD) (plus (product a1 0x44) a0)))
+  value-two : value (a4 ∷ a3 ∷ a2 ∷ a1 ∷ a0 ∷ []) (power alpha 102) ≡ sum_at 0x44 0xDD 0x0A 0x92
   value-two = at-root 2 0x44 0xDD 0x0A 0x92 roots.1 roots.3 roots.0 roots.2
 
   -- the value at 0x92
-  value-three : value (a4 ∷ a3 ∷ a2 ∷ a1 ∷ a0 ∷ []) (power alpha 153)
-      ≡ plus (product a4 0x44) (plus (product a3 0xDD) (plus (product a2 0x0A) (plus (product a1 0x92) a0)))
+  value-three : value (a4 ∷ a3 ∷ a2 ∷ a1 ∷ a0 ∷ []) (power alpha 153) ≡ sum_at 0x92 0x0A 0xDD 0x44
   value-three = at-root 3 0x92 0x0A 0xDD 0x44 roots.2 roots.0 roots.3 roots.1
 
   -- the value at 0xDD
-  value-four : value (a4 ∷ a3 ∷ a2 ∷ a1 ∷ a0 ∷ []) (power alpha 204)
-      ≡ plus (product a4 0x0A) (plus (product a3 0x44) (plus (product a2 0x92) (plus (product a1 0xDD) a0)))
+  value-four : value (a4 ∷ a3 ∷ a2 ∷ a1 ∷ a0 ∷ []) (power alpha 204) ≡ sum_at 0xDD 0x92 0x44 0x0A
   value-four = at-root 4 0xDD 0x92 0x44 0x0A roots.3 roots.2 roots.1 roots.0
 
   -- the sums are these values
