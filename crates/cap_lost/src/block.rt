@@ -11,7 +11,7 @@ use crate::extent::Extent;
 use crate::fault::Cause;
 use crate::fronts::{after, after_number, after_word, is_text, number_first};
 use dvd_layout::{BlockPlan, Content, Layout, Zones};
-use dvd_report::Line;
+use dvd_report::{Line, put_block};
 
 /// What a line that begins with the word `block` says.
 pub fn block_said(layout: &Layout, zones: Zones, line: &[u8], rest: &[u8]) -> Result<Said, Cause>
@@ -47,18 +47,12 @@ fn place_said(layout: &Layout, k: u64, plan: &BlockPlan, line: &[u8]) -> Result<
 
 // What each line of block `k` begins with: its number, its first sector number and its layer. It is made and compared
 // with the line, so that no part of it needs a reader.
-#[tactic(auto, unfolding(dvd_report::specs::Lines::block_text))]
 fn front_of(k: u64, plan: &BlockPlan) -> Line
     requires { HasNumbers plan.now }
     ensures { result ≡ front_of k plan.now }
 {
     let mut line = Line::new();
-    line.put(b"block ");
-    line.put_number(k);
-    line.put(b" sector ");
-    line.put_hexadecimal(plan.first, 6);
-    line.put(b" layer ");
-    line.put_byte(plan.layer);
+    put_block(&mut line, k, plan);
     line.put(b": ");
     line
 }
