@@ -13,7 +13,8 @@ use Rattle.dvd_ports.specs.Whole.{AppendsPrefix}
 use Rattle.dvd_commands.specs.Bound.{KeepsBound, KeepsGoodFrames, Rescues}
 use Rattle.dvd_commands.specs.CdBound.{KeepsSectors}
 use Rattle.dvd_commands.specs.Commands.{GoesOver, breaks}
-use Rattle.dvd_top.specs.Lines.{closing_line, setting_line}
+use Rattle.dvd_report.specs.Setting.{setting_line}
+use Rattle.dvd_top.specs.Lines.{closing_line}
 use Rattle.dvd_commands.specs.Opening.{AfterHeader, Opens}
 use Rattle.dvd_top.specs.Promises.{GivesImage, Masters, NoneFailed, Recovers}
 use Rattle.dvd_top.specs.Statuses.{status_of}

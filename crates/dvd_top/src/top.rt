@@ -3,12 +3,13 @@ ghost use Rattle.std.specs.Prelude.{map, string_bytes};
 ghost use Rattle.dvd_loop.specs.Streams.{streams};
 ghost use Rattle.dvd_top.specs.Headline.{Headline, Reports};
 
-use crate::lines::{close_line, refused_line};
+use crate::lines::close_line;
 use crate::status::Status;
 use dvd_commands::{Refusal, Workers, perform};
 use dvd_loop::close;
 use dvd_par::Gate;
 use dvd_ports::{Sink, Source, WriteFault, write_whole};
+use dvd_report::setting_line;
 use dvd_words::{WordsFault, read};
 use std::alloc::Global;
 use std::thread::Threads;
@@ -38,7 +39,7 @@ pub fn run<R: Threads + Sync, S: Source, K: Sink, E: Sink, G: Gate>(
             Ok(end) => close(end, close_line(settings.command, end).as_slice(), report).into(),
             Err(Refusal::Setting(fault)) => refuse(
                 Status::Setting,
-                refused_line(fault).as_slice(),
+                setting_line(fault).as_slice(),
                 report,
             ),
             Err(Refusal::NoMemory) => refuse(Status::NoMemory, b"no memory\n", report),

@@ -10,7 +10,8 @@ use Rattle.dvd_commands.specs.Commands.{breaks, meaning}
 use Rattle.dvd_top.specs.Headline.{HaveFailed, IsRun, Reports}
 use Rattle.dvd_top.specs.Headline.Call.{IsRunOf, IsSetting}
 use Rattle.dvd_commands.specs.Performed.{IsRefusal}
-use Rattle.dvd_top.specs.Lines.{closing_line, setting_line}
+use Rattle.dvd_report.specs.Setting.{setting_line}
+use Rattle.dvd_top.specs.Lines.{closing_line}
 use Rattle.dvd_top.specs.Promises.{GivesImage, Masters, Recovers}
 use Rattle.dvd_top.specs.declared.status.Status.TheVariants as status
 use Rattle.dvd_top.proofs.PromisesKept.{no_run_failed, no_setting, run_gives, run_masters, run_recovers}
@@ -60,7 +61,7 @@ returns-in-Err-Setting g c =
     λ settings reads. same_settings _ _ _ c.in-Ok.ensures.read reads in
     let untouched = c.in-Err-Setting.ensures.untouched refl in
     let refuse = c.refuse-in-Err-Setting in
-    let line : c.as_slice-in-Err-Setting.result.now ≡ setting_line fault = c.as_slice-in-Err-Setting.ensures.bytes ∙ c.refused_line.ensures ∙ ap setting_line c.in-Err-Setting.fault-is in
+    let line : c.as_slice-in-Err-Setting.result.now ≡ setting_line fault = c.as_slice-in-Err-Setting.ensures.bytes ∙ c.setting_line.ensures ∙ ap setting_line c.in-Err-Setting.fault-is in
     let new = streams (g.S.Source.seen c.perform.new.src) (g.K.Sink.seen c.perform.new.out) (g.E.Sink.seen refuse.new.report) in
     let old = streams (g.S.Source.seen c.args.src.now) (g.K.Sink.seen c.args.out.now) (g.E.Sink.seen c.args.report.now) in
     let reports : Reports status.Setting (setting_line fault) old.report new.report refuse.result =
