@@ -11,8 +11,8 @@ use Rattle.dvd_commands.proofs.merge.Facts as merge
 use Rattle.dvd_commands.proofs.recover.Facts as recover
 use Rattle.dvd_commands.proofs.survey.Facts as survey
 use Rattle.dvd_commands.proofs.RunFacts.{RunFacts}
-use Rattle.dvd_words.specs.declared.settings.Command.{Command}
-use Rattle.dvd_words.specs.declared.settings.Command.TheVariants.{Frames, Master, Recover, Info, Survey, Exercise, CdMake, CdRead, Merge, Deep, Assemble, Convert}
+use Rattle.dvd_words.specs.declared.table.Command.{Command}
+use Rattle.dvd_words.specs.declared.table.Command.TheVariants.{Frames, Master, Recover, Info, Survey, Exercise, CdMake, CdRead, Merge, Deep, Assemble, Convert}
 
 pub facts_of : (command : Command) → RunFacts command
 facts_of Frames = making.frames_facts

@@ -9,8 +9,8 @@ use Rattle.dvd_commands.proofs.FrameBytes.{HasBytes, IsByte}
 use Rattle.dvd_commands.proofs.OneRun.{RunsOnce}
 use Rattle.dvd_commands.proofs.OtherWorkers.{set_workers}
 use Rattle.dvd_words.specs.Settings.{broken_rule}
-use Rattle.dvd_words.specs.declared.settings.Command.{Command}
-use Rattle.dvd_words.specs.declared.settings.Command.TheVariants.{CdMake}
+use Rattle.dvd_words.specs.declared.table.Command.{Command}
+use Rattle.dvd_words.specs.declared.table.Command.TheVariants.{CdMake}
 use Rattle.dvd_words.specs.declared.settings.Settings.{Settings}
 
 -- Its runs over the same bytes do the same; over bytes it has one, where no rule is broken and the addresses of the sectors

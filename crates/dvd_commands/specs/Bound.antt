@@ -24,8 +24,8 @@ use Rattle.dvd_commands.specs.Master.{filled_block, frames_of, image_part}
 use Rattle.dvd_commands.specs.Deep.{IsDeepened}
 use Rattle.dvd_commands.specs.Recover.{HasGoodRows, IsRecovered}
 use Rattle.dvd_words.specs.Settings.{IsLayoutOf}
-use Rattle.dvd_words.specs.declared.settings.Command.{Command}
-use Rattle.dvd_words.specs.declared.settings.Command.TheVariants.{Recover, Deep}
+use Rattle.dvd_words.specs.declared.table.Command.{Command}
+use Rattle.dvd_words.specs.declared.table.Command.TheVariants.{Recover, Deep}
 use Rattle.dvd_words.specs.declared.settings.Settings.{Settings}
 
 -- the commands that write the image sectors of captured blocks

@@ -17,8 +17,8 @@ use Rattle.dvd_commands.specs.Merge.{merge_meaning}
 use Rattle.dvd_commands.specs.Deep.{deep_meaning}
 use Rattle.dvd_commands.specs.Assemble.{assemble_meaning}
 use Rattle.dvd_commands.specs.Convert.{convert_meaning}
-use Rattle.dvd_words.specs.declared.settings.Command.{Command}
-use Rattle.dvd_words.specs.declared.settings.Command.TheVariants as command
+use Rattle.dvd_words.specs.declared.table.Command.{Command}
+use Rattle.dvd_words.specs.declared.table.Command.TheVariants as command
 use Rattle.dvd_words.specs.declared.settings.Settings.{Settings}
 
 -- what each command does

@@ -38,7 +38,7 @@ use Rattle.dvd_commands.specs.Exercise.{drawn_frames}
 use Rattle.dvd_commands.specs.Info.{IsSought, format_lines, info_units}
 use Rattle.dvd_commands.specs.Master.{filled_block, frames_of, image_bytes, master_units}
 use Rattle.dvd_commands.specs.Commands.{GoesOver}
-use Rattle.dvd_words.specs.declared.settings.Command.TheVariants.{CdRead}
+use Rattle.dvd_words.specs.declared.table.Command.TheVariants.{CdRead}
 use Rattle.dvd_words.specs.declared.settings.Settings.{Settings}
 
 -- The blocks before a data block read all bytes that the image has before its first sector.

@@ -20,8 +20,8 @@ use Rattle.dvd_commands.specs.Master.{bytes_of_block, image_bytes, image_part}
 use Rattle.dvd_commands.specs.Recover.{IsRecovered}
 use Rattle.dvd_top.specs.Laws.{BoundIsKept, GoodFramesAreKept, LoopsKeepTheBound}
 use Rattle.dvd_words.specs.Settings.{IsLayoutOf}
-use Rattle.dvd_words.specs.declared.settings.Command.{Command}
-use Rattle.dvd_words.specs.declared.settings.Command.TheVariants.{Recover, Deep}
+use Rattle.dvd_words.specs.declared.table.Command.{Command}
+use Rattle.dvd_words.specs.declared.table.Command.TheVariants.{Recover, Deep}
 use Rattle.dvd_words.specs.declared.settings.Settings.{Settings}
 use Rattle.dvd_commands.proofs.CapturedBlocks.{block-whole}
 use Rattle.dvd_top.proofs.OpenedRuns.{after_header}

@@ -31,7 +31,7 @@ use Rattle.dvd_commands.specs.Opening.{IsHeaderOf, IsOpened, Opens}
 use Rattle.dvd_commands.proofs.CapturedUnits.{captured_whole}
 use Rattle.dvd_commands.proofs.ForRuns.{breaks_by_words, header-size, sized_part, words_of}
 use Rattle.dvd_words.specs.Settings.{IsLayoutOf, broken_rule}
-use Rattle.dvd_words.specs.declared.settings.Command.TheVariants.{Recover}
+use Rattle.dvd_words.specs.declared.table.Command.TheVariants.{Recover}
 use Rattle.dvd_words.specs.declared.settings.Settings.{Settings}
 
 -- no block that is recovered is the last

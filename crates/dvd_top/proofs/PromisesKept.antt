@@ -26,7 +26,7 @@ use Rattle.dvd_top.specs.Statuses.{status_of}
 use Rattle.dvd_top.specs.declared.status.Status.{Status}
 use Rattle.dvd_top.specs.declared.status.Status.TheVariants as status
 use Rattle.dvd_words.specs.Settings.{IsLayoutOf, broken_rule}
-use Rattle.dvd_words.specs.declared.settings.Command.TheVariants.{Master}
+use Rattle.dvd_words.specs.declared.table.Command.TheVariants.{Master}
 use Rattle.dvd_words.specs.declared.settings.Settings.{Settings}
 use Rattle.dvd_commands.proofs.OneRun.{one_layout}
 use Rattle.dvd_commands.specs.Meaning.{GoesBy}

@@ -15,7 +15,7 @@ use Rattle.dvd_top.specs.Headline.{HaveFailed, IsRun}
 use Rattle.dvd_top.specs.Statuses.{status_of}
 use Rattle.dvd_top.specs.Lines.{closing_line}
 use Rattle.dvd_commands.specs.Performed.{HasLooped}
-use Rattle.dvd_words.specs.declared.settings.Command.TheVariants.{CdRead}
+use Rattle.dvd_words.specs.declared.table.Command.TheVariants.{CdRead}
 use Rattle.dvd_words.specs.declared.settings.Settings.{Settings}
 use Rattle.dvd_top.specs.declared.status.Status.{Status}
 use Rattle.dvd_top.proofs.BoundKept.{kept}

@@ -11,8 +11,8 @@ use Rattle.dvd_commands.proofs.FrameBytes.{HasBytes, IsByte}
 use Rattle.dvd_top.specs.Laws.{SomethingIsDone}
 use Rattle.dvd_top.proofs.OpenedRuns.{opened_exists, stated-command}
 use Rattle.dvd_words.specs.Settings.{broken_rule}
-use Rattle.dvd_words.specs.declared.settings.Command.{Command}
-use Rattle.dvd_words.specs.declared.settings.Command.TheVariants as command
+use Rattle.dvd_words.specs.declared.table.Command.{Command}
+use Rattle.dvd_words.specs.declared.table.Command.TheVariants as command
 use Rattle.dvd_words.specs.declared.settings.Settings.{Settings}
 
 -- what a listed capture states is of other commands than that which makes CD-ROM sectors

@@ -19,7 +19,7 @@ use Rattle.dvd_commands.specs.Opening.{AfterHeader, Opens}
 use Rattle.dvd_top.specs.Promises.{GivesImage, Masters, NoneFailed, Recovers}
 use Rattle.dvd_top.specs.Statuses.{status_of}
 use Rattle.dvd_words.specs.Reading.{reading}
-use Rattle.dvd_words.specs.declared.settings.Command.TheVariants.{CdRead, Recover}
+use Rattle.dvd_words.specs.declared.table.Command.TheVariants.{CdRead, Recover}
 use Rattle.dvd_words.specs.declared.settings.Settings.{Settings}
 use Rattle.dvd_top.specs.declared.status.Status.{Status}
 use Rattle.dvd_top.specs.declared.status.Status.TheVariants as status

@@ -20,7 +20,7 @@ use Rattle.dvd_top.specs.Headline.{IsLoop, IsRun}
 use Rattle.dvd_commands.specs.Opening.{AfterHeader}
 use Rattle.dvd_top.specs.Promises.{IsImageOf, IsStreamOf}
 use Rattle.dvd_top.specs.declared.status.Status.{Status}
-use Rattle.dvd_words.specs.declared.settings.Command.TheVariants.{CdMake, Convert, Recover}
+use Rattle.dvd_words.specs.declared.table.Command.TheVariants.{CdMake, Convert, Recover}
 use Rattle.dvd_words.specs.declared.settings.Settings.{Settings}
 
 -- What is done for an input is determined: the same settings and bytes have one outcome, where no fault ends it. But

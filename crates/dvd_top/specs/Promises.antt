@@ -20,7 +20,7 @@ use Rattle.dvd_commands.specs.Master.{filled_block, frames_of, image_part}
 use Rattle.dvd_top.specs.declared.status.Status.{Status}
 use Rattle.dvd_top.specs.declared.status.Status.TheVariants as status
 use Rattle.dvd_words.specs.Settings.{IsLayoutOf}
-use Rattle.dvd_words.specs.declared.settings.Command.TheVariants.{Master, Recover}
+use Rattle.dvd_words.specs.declared.table.Command.TheVariants.{Master, Recover}
 use Rattle.dvd_words.specs.declared.settings.Settings.{Settings}
 
 -- no call of a stream failed: no count of failed calls rose

@@ -6,27 +6,11 @@ use Rattle.clap.specs.Walk.{is_empty}
 use Rattle.clap.specs.declared.error.kind.ErrorKind.{ErrorKind}
 use Rattle.dvd_words.specs.Table.{app_for}
 use Rattle.dvd_words.specs.Reading.{rows_for}
-use Rattle.dvd_words.specs.declared.settings.Command.{Command}
-use Rattle.dvd_words.specs.declared.settings.Command.TheVariants.{Frames, Master, Recover, Info, Survey, Exercise, CdMake, CdRead, Merge, Deep, Assemble, Convert}
+use Rattle.dvd_words.specs.declared.table.Command.{Command}
 
--- clap says exactly, of each command, what it makes of words
-pub free : (command : Command) → is_simple_and_free (app_for command) ≡ true
-free Frames = refl
-free Master = refl
-free Recover = refl
-free Info = refl
-free Survey = refl
-free Exercise = refl
-free CdMake = refl
-free CdRead = refl
-free Merge = refl
-free Deep = refl
-free Assemble = refl
-free Convert = refl
-
--- and, where it finds no fault, which options the words give
-pub simple : (command : Command) → is_simple (app_for command) ≡ true
-simple command = (and_parts (is_simple (app_for command)) _ (free command)).0
+-- clap says which options the words give, where it says exactly what it makes of them
+pub simple : (command : Command) → is_simple_and_free (app_for command) ≡ true → is_simple (app_for command) ≡ true
+simple command free = (and_parts (is_simple (app_for command)) _ free).0
 
 -- words with no fault have these rows
 pub rows_taken : (command : Command) (words : List Text) (rows : List Row) → fault_of (app_for command) words ≡ [] → rows ≡ matches_of (app_for command) words

@@ -9,8 +9,8 @@ use Rattle.dvd_layout.specs.declared.layout.Shape.TheVariants.{Single}
 use Rattle.dvd_layout.specs.declared.layout.Zones.TheVariants.{DataOnly}
 use Rattle.dvd_words.specs.Table.{all, app_for, entry_of}
 use Rattle.dvd_words.specs.Words.{hex_bytes, form_of, number_in, number_within, sector_number_of, shape_of, zones_of}
-use Rattle.dvd_words.specs.declared.settings.Command.{Command}
-use Rattle.dvd_words.specs.declared.settings.Command.TheVariants.{Frames, Exercise, CdMake, CdRead, Assemble}
+use Rattle.dvd_words.specs.declared.table.Command.{Command}
+use Rattle.dvd_words.specs.declared.table.Command.TheVariants.{Frames, Exercise, CdMake, CdRead, Assemble}
 use Rattle.dvd_words.specs.declared.settings.Settings.{Settings}
 use Rattle.dvd_words.specs.declared.table.Limit.{Limit}
 use Rattle.dvd_words.specs.declared.table.Limit.TheVariants.{Any, Numbers, Addresses, Blocks, WholeDisk}

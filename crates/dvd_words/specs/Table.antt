@@ -5,8 +5,8 @@ use Rattle.std.specs.Prelude.{Bool, true, false, List, [], ◌∷◌, ◌++◌, 
 use Rattle.clap.specs.Words.{App, Rule, Text, new_rule}
 use Rattle.clap.specs.Simple.{new_shape}
 use Rattle.clap.specs.declared.builder.action.ArgAction.TheVariants.{Set}
-use Rattle.dvd_words.specs.declared.settings.Command.{Command}
-use Rattle.dvd_words.specs.declared.settings.Command.TheVariants.{Frames, Master, Recover, Info, Survey, Exercise, CdMake, CdRead, Merge, Deep, Assemble, Convert}
+use Rattle.dvd_words.specs.declared.table.Command.{Command}
+use Rattle.dvd_words.specs.declared.table.Command.TheVariants.{Frames, Master, Recover, Info, Survey, Exercise, CdMake, CdRead, Merge, Deep, Assemble, Convert}
 use Rattle.dvd_words.specs.declared.table.Limit.{Limit}
 use Rattle.dvd_words.specs.declared.table.Limit.TheVariants.{Any, Numbers, Addresses, Blocks, WholeDisk}
 use Rattle.dvd_words.specs.declared.table.Unit.{Unit}

@@ -18,7 +18,7 @@ mod values;
 mod words;
 
 pub use fault::WordsFault;
-pub use settings::{Command, Settings};
-pub use table::{Unit, unit_of};
+pub use settings::Settings;
+pub use table::{Command, Unit, unit_of};
 pub use values::{read_form, read_number, read_shape, read_within, read_zones};
 pub use words::read;

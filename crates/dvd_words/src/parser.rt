@@ -1,16 +1,15 @@
 //! The clap command of each command of the program.
 //! Values are texts to clap and are read by their forms in `values`, so that each refusal of a value is one of ours.
 
-ghost use Rattle.std.specs.Prelude.{◌≡◌, None, Some, IfOk, map, string_bytes};
-ghost use Rattle.clap.specs.Words.{app_of, found_of, rows_of, with_rule};
+ghost use Rattle.std.specs.Prelude.{◌≡◌, None, Some, IfOk, map, string_bytes, true};
+ghost use Rattle.clap.specs.Words.{app_of, found_of, is_simple_and_free, rows_of, with_rule};
 ghost use Rattle.dvd_words.specs.Table.{app_for};
 ghost use Rattle.dvd_words.specs.Inner.Options.{with_options};
 ghost use Rattle.dvd_words.specs.Inner.Rows.{rule};
 ghost use Rattle.dvd_words.specs.Reading.{rows_for};
 
 use crate::fault::WordsFault;
-use crate::settings::Command;
-use crate::table::{OptionSpec, spec_of};
+use crate::table::{Command, OptionSpec, spec_of};
 use clap::error::ErrorKind;
 use clap::{Arg, ArgAction, ArgMatches};
 use std::alloc::{AllocError, Global};
@@ -35,7 +34,8 @@ pub fn parse<'a>(
 
 // The command's name, its options and nothing else. It has no flag for help, since the output is never a page of text.
 fn parser_for<'a>(alloc: Global, command: Command) -> Result<clap::Command<'a>, AllocError>
-    ensures { IfOk result (λ parser. app_of parser ≡ app_for command) }
+    ensures app { IfOk result (λ parser. app_of parser ≡ app_for command) }
+    ensures free { is_simple_and_free (app_for command) ≡ true }
 {
     let spec = spec_of(command);
     let parser = clap::Command::new(alloc, spec.name).disable_help_flag(true);

@@ -1,36 +1,8 @@
 //! What the arguments of a command line ask for. One struct serves all commands, so that what they share has one name.
 
+use crate::table::Command;
 use dvd_capture::Form;
 use dvd_layout::{Layout, LayoutFault, Shape, Zones};
-
-/// The commands of the program.
-#[derive(Clone, Copy, Debug, PartialEq, Eq)]
-pub enum Command {
-    /// A scrambled data frame for each sector.
-    Frames,
-    /// The recording frames of each ECC block of a disk.
-    Master,
-    /// The image sectors that are read from a stream of captured blocks.
-    Recover,
-    /// The physical format in the lead-in of a disk.
-    Info,
-    /// How many rows of each captured block have errors.
-    Survey,
-    /// Blocks that are drawn from a number, damaged up to the bound, and read back.
-    Exercise,
-    /// A CD-ROM sector of Mode 1 for each sector.
-    CdMake,
-    /// The user data of CD-ROM sectors of Mode 1.
-    CdRead,
-    /// One stream of captured blocks, joined of several captures of one disk.
-    Merge,
-    /// The image sectors that are read by rounds, where two passes refuse a block.
-    Deep,
-    /// Scattered recording frames put in order.
-    Assemble,
-    /// Captured blocks in the listed form.
-    Convert,
-}
 
 /// A command with its options. A field without an option in its command has its default, or 0.
 #[derive(Clone, Copy, Debug, PartialEq, Eq)]

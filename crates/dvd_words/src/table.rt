@@ -1,12 +1,40 @@
 //! The table of the commands: what each is called, and which options and limits it has. A command is one row, and all
 //! code that asks what a command allows asks here.
 
-ghost use Rattle.std.specs.Prelude.{◌≡◌};
+ghost use Rattle.std.specs.Prelude.{◌≡◌, true};
+ghost use Rattle.clap.specs.Words.{is_simple_and_free};
 ghost use Rattle.dvd_words.specs.Inner.Rows.{entry, named_in};
 ghost use Rattle.dvd_words.specs.Reading.{command_of};
-ghost use Rattle.dvd_words.specs.Table.{entry_of};
+ghost use Rattle.dvd_words.specs.Table.{app_for, entry_of};
 
-use crate::settings::Command;
+/// The commands of the program.
+#[derive(Clone, Copy, Debug, PartialEq, Eq)]
+pub enum Command {
+    /// A scrambled data frame for each sector.
+    Frames,
+    /// The recording frames of each ECC block of a disk.
+    Master,
+    /// The image sectors that are read from a stream of captured blocks.
+    Recover,
+    /// The physical format in the lead-in of a disk.
+    Info,
+    /// How many rows of each captured block have errors.
+    Survey,
+    /// Blocks that are drawn from a number, damaged up to the bound, and read back.
+    Exercise,
+    /// A CD-ROM sector of Mode 1 for each sector.
+    CdMake,
+    /// The user data of CD-ROM sectors of Mode 1.
+    CdRead,
+    /// One stream of captured blocks, joined of several captures of one disk.
+    Merge,
+    /// The image sectors that are read by rounds, where two passes refuse a block.
+    Deep,
+    /// Scattered recording frames put in order.
+    Assemble,
+    /// Captured blocks in the listed form.
+    Convert,
+}
 
 /// A row of the table.
 pub struct CommandSpec<'a> {
@@ -101,9 +129,10 @@ static COMMANDS: [CommandSpec<'static>; 12] = rows! {
     Convert  convert  Block  false false Any       must [sectors] may [sectors1 shape zones initial tail form];
 };
 
-/// The row of a command.
+/// The row of a command. That clap reads each row exactly is ensured here, where it is proved by computing.
 pub fn spec_of<'a>(command: Command) -> &'a CommandSpec<'a>
-    ensures { entry result.now ≡ entry_of command }
+    ensures row { entry result.now ≡ entry_of command }
+    ensures free { is_simple_and_free (app_for command) ≡ true }
 {
     &COMMANDS[command as usize]
 }

@@ -7,8 +7,8 @@ ghost use Rattle.dvd_words.specs.Reading.{IsLawful, Reads, has_layout, is_given,
 
 use crate::fault::WordsFault;
 use crate::parser::parse;
-use crate::settings::{Command, Settings};
-use crate::table::{Limit, command_named, spec_of};
+use crate::settings::Settings;
+use crate::table::{Command, Limit, command_named, spec_of};
 use crate::values::{
     read_cpr, read_form, read_number, read_sector_number, read_shape, read_within, read_workers,
     read_zones,

@@ -9,7 +9,7 @@ use Rattle.dvd_commands.proofs.RunFacts.{RunFacts}
 use Rattle.dvd_commands.proofs.SomeRun.{runs_exist, some_by_layout}
 use Rattle.dvd_loop.specs.Machine.{Units}
 use Rattle.dvd_loop.specs.declared.ends.UnitKind.TheVariants.{Good}
-use Rattle.dvd_words.specs.declared.settings.Command.TheVariants.{Assemble}
+use Rattle.dvd_words.specs.declared.table.Command.TheVariants.{Assemble}
 use Rattle.dvd_words.specs.declared.settings.Settings.{Settings}
 
 -- its units, by its settings and their layout

@@ -7,7 +7,7 @@ use Rattle.dvd_commands.proofs.RunFacts.{RunFacts}
 use Rattle.dvd_commands.proofs.SomeRun.{runs_exist}
 use Rattle.dvd_commands.proofs.SomeThing.{no_closing}
 use Rattle.dvd_commands.proofs.cd_read.Sectors.{read_is_one, read_some}
-use Rattle.dvd_words.specs.declared.settings.Command.TheVariants.{CdRead}
+use Rattle.dvd_words.specs.declared.table.Command.TheVariants.{CdRead}
 use Rattle.dvd_words.specs.declared.settings.Settings.{Settings}
 
 -- its units, by its settings

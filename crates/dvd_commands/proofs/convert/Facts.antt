@@ -11,7 +11,7 @@ use Rattle.dvd_commands.proofs.OtherWorkers.{header_with, layout_with}
 use Rattle.dvd_commands.proofs.RunFacts.{RunFacts}
 use Rattle.dvd_commands.proofs.SomeThing.{no_closing}
 use Rattle.dvd_commands.proofs.convert.Blocks.{converted_is_one, converted_some, opening_once, some_opening}
-use Rattle.dvd_words.specs.declared.settings.Command.TheVariants.{Convert}
+use Rattle.dvd_words.specs.declared.table.Command.TheVariants.{Convert}
 use Rattle.dvd_words.specs.declared.settings.Settings.{Settings}
 
 -- its units, by its settings, their layout and the header

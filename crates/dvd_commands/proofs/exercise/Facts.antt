@@ -7,7 +7,7 @@ use Rattle.dvd_commands.proofs.OneRun.{one_run}
 use Rattle.dvd_commands.proofs.RunFacts.{RunFacts}
 use Rattle.dvd_commands.proofs.SomeRun.{runs_exist}
 use Rattle.dvd_commands.proofs.exercise.Runs.{exercised_is_one, exercised_some}
-use Rattle.dvd_words.specs.declared.settings.Command.TheVariants.{Exercise}
+use Rattle.dvd_words.specs.declared.table.Command.TheVariants.{Exercise}
 use Rattle.dvd_words.specs.declared.settings.Settings.{Settings}
 
 -- its units, by its settings

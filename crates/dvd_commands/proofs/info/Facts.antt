@@ -11,7 +11,7 @@ use Rattle.dvd_commands.proofs.SomeRun.{captures_exist}
 use Rattle.dvd_commands.proofs.SomeThing.{no_closing}
 use Rattle.dvd_commands.proofs.info.Done.{sought_is_one, sought_some}
 use Rattle.dvd_words.specs.Settings.{broken_rule}
-use Rattle.dvd_words.specs.declared.settings.Command.TheVariants.{Info}
+use Rattle.dvd_words.specs.declared.table.Command.TheVariants.{Info}
 use Rattle.dvd_words.specs.declared.settings.Settings.{Settings}
 
 -- its units, by its settings

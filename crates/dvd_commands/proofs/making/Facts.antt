@@ -11,7 +11,7 @@ use Rattle.dvd_commands.proofs.RunFacts.{RunFacts}
 use Rattle.dvd_commands.proofs.SomeRun.{runs_exist}
 use Rattle.dvd_commands.proofs.SomeThing.{no_closing}
 use Rattle.dvd_commands.proofs.making.Done.{made_is_one, made_some}
-use Rattle.dvd_words.specs.declared.settings.Command.TheVariants.{CdMake, Frames}
+use Rattle.dvd_words.specs.declared.table.Command.TheVariants.{CdMake, Frames}
 use Rattle.dvd_words.specs.declared.settings.Settings.{Settings}
 
 -- the units of `frames`, by its settings

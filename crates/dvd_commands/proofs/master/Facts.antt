@@ -9,7 +9,7 @@ use Rattle.dvd_commands.proofs.SomeRun.{runs_exist, some_by_layout}
 use Rattle.dvd_commands.proofs.SomeThing.{no_closing}
 use Rattle.dvd_commands.proofs.master.Done.{mastered_is_one, mastered_some}
 use Rattle.dvd_loop.specs.Machine.{Units}
-use Rattle.dvd_words.specs.declared.settings.Command.TheVariants.{Master}
+use Rattle.dvd_words.specs.declared.table.Command.TheVariants.{Master}
 use Rattle.dvd_words.specs.declared.settings.Settings.{Settings}
 
 -- its units, by its settings and their layout

@@ -13,7 +13,7 @@ use Rattle.dvd_commands.proofs.SomeThing.{no_closing}
 use Rattle.dvd_loop.specs.Machine.{Units}
 use Rattle.dvd_loop.specs.Machine.Step.{Write}
 use Rattle.dvd_loop.specs.declared.ends.UnitKind.TheVariants.{Good}
-use Rattle.dvd_words.specs.declared.settings.Command.TheVariants.{Merge}
+use Rattle.dvd_words.specs.declared.table.Command.TheVariants.{Merge}
 use Rattle.dvd_words.specs.declared.settings.Settings.{Settings}
 
 -- its units, by its settings and their layout

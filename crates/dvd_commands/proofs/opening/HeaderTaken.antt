@@ -17,7 +17,7 @@ use Rattle.dvd_commands.specs.Inner.Opened.{EndsInHeader, HasBegun, HasOpened, N
 use Rattle.dvd_commands.specs.Performed.{HasGoneOver, HasLooped}
 use Rattle.dvd_commands.specs.Opening.{ComesBehind, IsOpened, Opens}
 use Rattle.dvd_words.specs.Settings.{broken_rule}
-use Rattle.dvd_words.specs.declared.settings.Command.{Command}
+use Rattle.dvd_words.specs.declared.table.Command.{Command}
 use Rattle.dvd_words.specs.declared.settings.Settings.{Settings}
 
 -- WORDS. What holds of a command by its words alone holds of its run, where no header comes first.

@@ -20,7 +20,7 @@ use Rattle.dvd_commands.specs.Meaning.{GoesBy}
 use Rattle.dvd_commands.specs.Master.{image_bytes, image_part}
 use Rattle.dvd_commands.specs.Recover.{HasGoodRows, IsRecovered, recover_units}
 use Rattle.dvd_words.specs.Settings.{IsLayoutOf}
-use Rattle.dvd_words.specs.declared.settings.Command.TheVariants.{Recover}
+use Rattle.dvd_words.specs.declared.table.Command.TheVariants.{Recover}
 use Rattle.dvd_words.specs.declared.settings.Settings.{Settings}
 use Rattle.dvd_commands.proofs.AnyEnd.{at_any_end, part-begun}
 use Rattle.dvd_commands.proofs.master.Blocks.{size_is}

@@ -8,7 +8,7 @@ use Rattle.dvd_commands.proofs.RunFacts.{RunFacts}
 use Rattle.dvd_commands.proofs.SomeRun.{captures_exist, some_by_layout}
 use Rattle.dvd_commands.proofs.survey.Done.{surveyed_is_one, surveyed_some}
 use Rattle.dvd_loop.specs.Machine.{Units}
-use Rattle.dvd_words.specs.declared.settings.Command.TheVariants.{Survey}
+use Rattle.dvd_words.specs.declared.table.Command.TheVariants.{Survey}
 use Rattle.dvd_words.specs.declared.settings.Settings.{Settings}
 
 -- its units, by its settings and their layout

@@ -3,7 +3,7 @@ use Rattle.std.specs.Prelude.{List, [], ◌∷◌, map, Option, Some, None, if�
 use Rattle.std.specs.Str.{bytes_eq}
 use Rattle.clap.specs.Words.{Rule, Text}
 use Rattle.dvd_words.specs.Table.{Entry, option_rule}
-use Rattle.dvd_words.specs.declared.settings.Command.{Command}
+use Rattle.dvd_words.specs.declared.table.Command.{Command}
 use Rattle.dvd_words.specs.declared.table.CommandSpec.{CommandSpec}
 use Rattle.dvd_words.specs.declared.table.OptionSpec.{OptionSpec}
 

@@ -1,7 +1,7 @@
 -- The proof of `run_assemble` in src/assemble.rt.
 use Rattle.std.proofs.Common.{refl, arith}
 use Rattle.dvd_commands.proofs.assemble.Frames.{blocks_few}
-use Rattle.dvd_words.specs.declared.settings.Command.TheVariants.{Assemble}
+use Rattle.dvd_words.specs.declared.table.Command.TheVariants.{Assemble}
 use Rattle.dvd_commands.proofs.opening.HeaderTaken.{gone_over}
 use Rattle.dvd_commands.proofs.assemble.run_assemble.Goals as goal
 

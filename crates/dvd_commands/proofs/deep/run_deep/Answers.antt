@@ -1,5 +1,5 @@
 -- The proof of `run_deep` in src/deep.rt.
-use Rattle.dvd_words.specs.declared.settings.Command.TheVariants.{Deep}
+use Rattle.dvd_words.specs.declared.table.Command.TheVariants.{Deep}
 use Rattle.dvd_commands.proofs.opening.HeaderTaken.{looped_no_further, looped_over}
 use Rattle.dvd_commands.proofs.deep.run_deep.Goals as goal
 

@@ -8,8 +8,8 @@ use Rattle.dvd_commands.specs.Performed.{IsPerformed, IsPerformedByWords}
 use Rattle.dvd_commands.specs.declared.refusal.Refusal.{Refusal}
 use Rattle.dvd_commands.specs.declared.refusal.Refusal.TheVariants.{NoMemory, Setting}
 use Rattle.dvd_words.specs.Reading.{IsLawful, takes_listed}
-use Rattle.dvd_words.specs.declared.settings.Command.{Command}
-use Rattle.dvd_words.specs.declared.settings.Command.TheVariants.{CdMake, CdRead, Convert, Exercise, Frames, Master, Merge}
+use Rattle.dvd_words.specs.declared.table.Command.{Command}
+use Rattle.dvd_words.specs.declared.table.Command.TheVariants.{CdMake, CdRead, Convert, Exercise, Frames, Master, Merge}
 use Rattle.dvd_words.specs.declared.settings.Settings.{Settings}
 use Rattle.dvd_commands.proofs.opening.HeaderTaken.{breaks_by_words, gone_over, looped_by_words}
 use Rattle.dvd_commands.proofs.dispatch.perform.Goals as goal

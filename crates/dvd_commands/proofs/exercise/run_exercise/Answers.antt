@@ -1,6 +1,6 @@
 -- The proof of `run_exercise` in src/exercise.rt.
 use Rattle.std.proofs.Common.{refl}
-use Rattle.dvd_words.specs.declared.settings.Command.TheVariants.{Exercise}
+use Rattle.dvd_words.specs.declared.table.Command.TheVariants.{Exercise}
 use Rattle.dvd_commands.proofs.opening.HeaderTaken.{gone_over}
 use Rattle.dvd_commands.proofs.exercise.run_exercise.Goals as goal
 

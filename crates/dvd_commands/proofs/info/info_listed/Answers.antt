@@ -1,6 +1,6 @@
 -- The proof of `info_listed` in src/info.rt.
 use Rattle.dvd_commands.specs.Commands.{GoesOver}
-use Rattle.dvd_words.specs.declared.settings.Command.TheVariants.{Info}
+use Rattle.dvd_words.specs.declared.table.Command.TheVariants.{Info}
 use Rattle.dvd_commands.proofs.opening.HeaderTaken.{opened_ended, opened_over}
 use Rattle.dvd_commands.proofs.info.info_listed.Goals as goal
 

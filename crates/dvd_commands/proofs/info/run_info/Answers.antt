@@ -1,7 +1,7 @@
 -- The proof of `run_info` in src/info.rt.
 use Rattle.std.proofs.Common.{subst}
 use Rattle.dvd_commands.specs.Inner.Opened.{IsWordedInitial}
-use Rattle.dvd_words.specs.declared.settings.Command.TheVariants.{Info}
+use Rattle.dvd_words.specs.declared.table.Command.TheVariants.{Info}
 use Rattle.dvd_commands.proofs.opening.HeaderTaken.{gone_over, looped_by_words, looped_listed}
 use Rattle.dvd_commands.proofs.info.run_info.Goals as goal
 

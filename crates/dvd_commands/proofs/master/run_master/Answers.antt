@@ -1,6 +1,6 @@
 -- The proof of `run_master` in src/master.rt.
 use Rattle.std.proofs.Common.{refl}
-use Rattle.dvd_words.specs.declared.settings.Command.TheVariants.{Master}
+use Rattle.dvd_words.specs.declared.table.Command.TheVariants.{Master}
 use Rattle.dvd_commands.proofs.opening.HeaderTaken.{gone_over}
 use Rattle.dvd_commands.proofs.master.run_master.Goals as goal
 

@@ -1,6 +1,6 @@
 -- The proof of `run_merge` in src/merge.rt.
 use Rattle.std.proofs.Common.{refl}
-use Rattle.dvd_words.specs.declared.settings.Command.TheVariants.{Merge}
+use Rattle.dvd_words.specs.declared.table.Command.TheVariants.{Merge}
 use Rattle.dvd_commands.proofs.opening.HeaderTaken.{gone_over}
 use Rattle.dvd_commands.proofs.merge.run_merge.Goals as goal
 

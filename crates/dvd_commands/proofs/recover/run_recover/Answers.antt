@@ -1,5 +1,5 @@
 -- The proof of `run_recover` in src/recover.rt.
-use Rattle.dvd_words.specs.declared.settings.Command.TheVariants.{Recover}
+use Rattle.dvd_words.specs.declared.table.Command.TheVariants.{Recover}
 use Rattle.dvd_commands.proofs.opening.HeaderTaken.{looped_no_further, looped_over}
 use Rattle.dvd_commands.proofs.recover.run_recover.Goals as goal
 

@@ -1,5 +1,5 @@
 -- The proof of `run_survey` in src/survey.rt.
-use Rattle.dvd_words.specs.declared.settings.Command.TheVariants.{Survey}
+use Rattle.dvd_words.specs.declared.table.Command.TheVariants.{Survey}
 use Rattle.dvd_commands.proofs.opening.HeaderTaken.{looped_no_further, looped_over}
 use Rattle.dvd_commands.proofs.survey.run_survey.Goals as goal
 

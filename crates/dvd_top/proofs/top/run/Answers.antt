@@ -3,8 +3,8 @@ use Rattle.std.proofs.Common.{◌≡◌, ◌≢◌, true, false, inr, Some, map,
 use Rattle.dvd_capture.specs.declared.form.Form.TheVariants.{Listed}
 use Rattle.dvd_loop.specs.Streams.{streams}
 use Rattle.dvd_words.specs.Reading.{IsLawful, reading, takes_listed}
-use Rattle.dvd_words.specs.declared.settings.Command.{Command}
-use Rattle.dvd_words.specs.declared.settings.Command.TheVariants.{CdRead, Master}
+use Rattle.dvd_words.specs.declared.table.Command.{Command}
+use Rattle.dvd_words.specs.declared.table.Command.TheVariants.{CdRead, Master}
 use Rattle.dvd_words.specs.declared.settings.Settings.{Settings}
 use Rattle.dvd_commands.specs.Commands.{breaks, meaning}
 use Rattle.dvd_top.specs.Headline.{HaveFailed, IsRun, Reports}
