@@ -14,7 +14,7 @@ use crate::marks::put_rows;
 use crate::walk::spans_from;
 use arrayvec::ArrayVec;
 use cap_map::Span;
-use dvd_loop::{LoopEnd, PlainCommand, UnitKind, read_unit, run_owned};
+use dvd_loop::{Answer, LoopEnd, PlainCommand, UnitKind, read_unit, run_plain};
 use dvd_ports::{NullSink, Sink, Source, write_whole};
 
 /// The spans of a map, and those of them that end after byte `place`: where the loop is in the map. So the spans before
@@ -41,7 +41,7 @@ impl<'a> Marking<'a> {
     }
 }
 
-impl<'a> PlainCommand for Marking<'a> {
+impl<'a, S: Source, K: Sink, E: Sink> PlainCommand<S, K, E> for Marking<'a> {
     ghost Key = { List MapSpan };
 
     ghost key = { λ m. m.spans.now };
@@ -57,13 +57,7 @@ impl<'a> PlainCommand for Marking<'a> {
         u32::MAX
     }
 
-    fn process<S: Source, K: Sink, E: Sink>(
-        &mut self,
-        k: u32,
-        src: &mut S,
-        out: &mut K,
-        _report: &mut E,
-    ) -> Result<UnitKind, LoopEnd> {
+    fn process(&mut self, k: u32, src: &mut S, out: &mut K, _report: &mut E) -> Answer {
         // 13 rows of 182 bytes. All of them come before the first is written.
         let mut frame = [0; 2366];
         read_unit(src, k, &mut frame)?;
@@ -86,16 +80,11 @@ pub fn mark_loop<S: Source, K: Sink>(spans: &[Span], src: &mut S, out: &mut K) -
         left: spans,
         place: 0,
     };
-    run_owned(marking, src, out, &mut NullSink::new())
+    run_plain(marking, src, out, &mut NullSink::new())
 }
 
 // Writes frame `k` with the marks of its rows.
-fn write_frame<K: Sink>(
-    spans: &[Span],
-    k: u32,
-    frame: &[u8; 2366],
-    out: &mut K,
-) -> Result<UnitKind, LoopEnd>
+fn write_frame<K: Sink>(spans: &[Span], k: u32, frame: &[u8; 2366], out: &mut K) -> Answer
     ensures { (source report : Seen) → AreDone (IsMarked spans.now k frame.now)
         (streams source (K.seen out.old) report) (streams source (K.seen out.new) report) result }
 {

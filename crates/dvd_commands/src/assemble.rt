@@ -21,14 +21,14 @@ ghost use Rattle.dvd_commands.specs.Performed.{IsPerformedByWords};
 ghost use Rattle.dvd_words.specs.Settings.{IsLayoutOf};
 
 use crate::refusal::Refusal;
+use crate::start::Start;
 use dvd_assemble::{FrameWork, Shelf, fetch_frame};
 use dvd_capture::{FetchAnswer, Form};
 use dvd_layout::{Layout, Zones};
-use dvd_loop::{AfterLast, LoopEnd, UnitCommand, UnitKind, run_units};
+use dvd_loop::{AfterLast, Answer, LoopEnd, UnitCommand, UnitKind, run_units};
 use dvd_ports::{Sink, Source, WriteFault, write_whole};
 use dvd_report::Line;
 use dvd_words::{Command, Settings};
-use std::alloc::Global;
 
 /// How many frames there are, how many of those that came have a home, and the memory of one frame and of all blocks.
 #[derive(Drop)]
@@ -43,7 +43,7 @@ struct Assembling<'a> {
     ghost sized: { HasSize form },
 }
 
-impl<'a> UnitCommand for Assembling<'a> {
+impl<'a, S: Source, K: Sink, E: Sink> UnitCommand<S, K, E> for Assembling<'a> {
     ghost Key = { DiskLayout × CaptureForm × ℕ };
 
     ghost key = { λ a. (a.layout, a.form, a.frames) };
@@ -62,24 +62,19 @@ impl<'a> UnitCommand for Assembling<'a> {
         AfterLast::EndOfInput
     }
 
-    fn open<K: Sink, E: Sink>(&self, _out: &mut K, _report: &mut E) -> Result<(), LoopEnd> {
+    fn open(&self, _out: &mut K, _report: &mut E) -> Result<(), LoopEnd> {
         Ok(())
     }
 
-    fn process<S: Source, K: Sink, E: Sink>(
-        &mut self,
-        k: u32,
-        src: &mut S,
-        _out: &mut K,
-        _report: &mut E,
-    ) -> Result<UnitKind, LoopEnd> {
+    // Nothing is written yet: a frame of any block may come last.
+    fn process(&mut self, k: u32, src: &mut S, _out: &mut K, _report: &mut E) -> Answer {
         read_frame(src, k, self.form, self.frame)?;
         self.placed += settle_frame(&self.layout, self.frame, self.shelf);
         Ok(UnitKind::Good)
     }
 
     // Before one more byte is requested, so that the line is true of what was written even if the input is too long.
-    fn close<K: Sink, E: Sink>(&self, out: &mut K, report: &mut E) -> Result<(), LoopEnd> {
+    fn close(&self, out: &mut K, report: &mut E) -> Result<(), LoopEnd> {
         write_blocks(self.shelf, out)?;
         let line = placed_line(self.placed, self.frames.saturating_sub(self.placed));
         match write_whole(report, line.as_slice()) {
@@ -121,27 +116,28 @@ pub fn assemble_loop<S: Source, K: Sink, E: Sink>(
 
 /// The command with its buffers, or why it doesn't begin.
 pub(crate) fn run_assemble<S: Source, K: Sink, E: Sink>(
-    alloc: Global,
-    settings: &Settings,
+    start: &Start<'_>,
     src: &mut S,
     out: &mut K,
     report: &mut E,
 ) -> Result<LoopEnd, Refusal>
-    requires command { settings.now.command ≡ Command.Assemble }
-    requires form { HasSize settings.now.form }
-    requires few { settings.now.sectors + settings.now.sectors1 ≤ 16384 }
-    ensures performed { IsPerformedByWords settings.now
+    requires command { start.now.settings.now.command ≡ Command.Assemble }
+    requires form { HasSize start.now.settings.now.form }
+    requires few { start.now.settings.now.sectors + start.now.settings.now.sectors1 ≤ 16384 }
+    ensures performed { IsPerformedByWords start.now.settings.now
         (streams (S.seen src.old) (K.seen out.old) (E.seen report.old))
         (streams (S.seen src.new) (K.seen out.new) (E.seen report.new)) result }
     ensures untouched { IsErr result → (src.new ≡ src.old) × (out.new ≡ out.old) × (report.new ≡ report.old) }
 {
+    let settings = start.settings;
     let layout = settings.layout()?;
-    let mut shelf = Shelf::new(alloc, layout.blocks(Zones::DataOnly) as u16)?;
+    let mut shelf = Shelf::new(start.alloc, layout.blocks(Zones::DataOnly) as u16)?;
     let mut frame = FrameWork::new();
     Ok(assemble_loop(settings, &layout, &mut shelf, &mut frame, src, out, report))
 }
 
 // Reads frame `k`, or answers how the loop ends within it.
+// `fetch_frame` knows no loop, so its answers become ends here, which name the frame.
 fn read_frame<S: Source>(
     src: &mut S,
     k: u32,
@@ -174,6 +170,7 @@ fn settle_frame(layout: &Layout, frame: &FrameWork, shelf: &mut Shelf) -> u32
     }
 }
 
+// In the order of the plan, whatever the order of the frames was, and marked where no frame gave a row.
 fn write_blocks<K: Sink>(shelf: &Shelf, out: &mut K) -> Result<(), WriteFault>
     ensures { IsWritten (text_of (tables_of shelf.now)) (K.seen out.old) (K.seen out.new) result }
 {

@@ -12,7 +12,7 @@ ghost use Rattle.dvd_commands.specs.Inner.Performing.{EndsCaptured, IsRefusedFor
 
 use dvd_capture::{FetchAnswer, Form, Work, fetch};
 use dvd_layout::{BlockPlan, Layout};
-use dvd_loop::{LoopEnd, UnitKind};
+use dvd_loop::{Answer, LoopEnd, UnitKind};
 use dvd_ports::{Sink, Source, WriteFault, write_whole};
 use dvd_read::{Cause, salvage};
 use dvd_report::write_cause;
@@ -26,6 +26,7 @@ pub(crate) struct Planned<'a> {
 }
 
 /// Reads captured block `k`, or answers how the loop ends within it.
+/// `fetch` knows no loop, so its answers become ends here, which name the block.
 pub(crate) fn fetch_block<S: Source>(
     src: &mut S,
     k: u32,
@@ -48,13 +49,14 @@ pub(crate) fn fetch_block<S: Source>(
 
 /// Reports the line of a block that is refused for this cause, and writes its image sectors: those that are salvaged,
 /// and zeros for the others.
+/// It salvages first, since the line says how many frames are saved, and the line goes out before any sector.
 pub(crate) fn refuse_block<K: Sink, E: Sink>(
     block: &Planned<'_>,
     cause: &Cause,
     work: &mut Work,
     out: &mut K,
     report: &mut E,
-) -> Result<UnitKind, LoopEnd>
+) -> Answer
     requires numbers { HasNumbers block.now.entry.now }
     requires stage { HasAnswers (stage_of work.old) }
     ensures { (source : Seen) → AreDone (IsRefusedFor block.now.layout.now block.now.k block.now.entry.now (rows_of work.old) (marks_of_work work.old) cause.now)
@@ -69,6 +71,7 @@ pub(crate) fn refuse_block<K: Sink, E: Sink>(
 }
 
 /// Writes the first sectors, one after the other.
+/// Only those of the image: the last block of a layer may have fewer than sixteen.
 pub(crate) fn write_sectors<K: Sink>(
     work: &Work,
     count: usize,

@@ -10,7 +10,7 @@ ghost use Rattle.dvd_commands.specs.CdRead.{IsSectorRead, cdread_units};
 
 use crate::cd_line::damaged_sector_line;
 use cd_sector::repair;
-use dvd_loop::{LoopEnd, PlainCommand, UnitKind, read_unit, run_owned};
+use dvd_loop::{Answer, LoopEnd, PlainCommand, UnitKind, read_unit, run_plain};
 use dvd_ports::{Sink, Source, WriteFault, write_whole};
 use dvd_words::Settings;
 
@@ -22,7 +22,7 @@ struct CdRead {
     ghost within: { address + sectors ≤ 450000 },
 }
 
-impl PlainCommand for CdRead {
+impl<S: Source, K: Sink, E: Sink> PlainCommand<S, K, E> for CdRead {
     ghost Key = { ℕ × ℕ };
 
     ghost key = { λ r. (r.address, r.sectors) };
@@ -35,13 +35,7 @@ impl PlainCommand for CdRead {
         self.sectors
     }
 
-    fn process<S: Source, K: Sink, E: Sink>(
-        &mut self,
-        k: u32,
-        src: &mut S,
-        out: &mut K,
-        report: &mut E,
-    ) -> Result<UnitKind, LoopEnd> {
+    fn process(&mut self, k: u32, src: &mut S, out: &mut K, report: &mut E) -> Answer {
         let mut sector = [0; 2352];
         read_unit(src, k, &mut sector)?;
         give_sector(self.address + k, k, &mut sector, out, report)
@@ -66,17 +60,18 @@ pub fn cdread_loop<S: Source, K: Sink, E: Sink>(
         address: settings.address,
         sectors: settings.sectors,
     };
-    run_owned(reading, src, out, report)
+    run_plain(reading, src, out, report)
 }
 
 // Repairs a sector and writes its user data; or reports its first cause and writes zeros.
+// The line goes first, so that whoever reads the report knows of the zeros.
 fn give_sector<K: Sink, E: Sink>(
     address: u32,
     k: u32,
     sector: &mut [u8; 2352],
     out: &mut K,
     report: &mut E,
-) -> Result<UnitKind, LoopEnd>
+) -> Answer
     requires { address < 450000 }
     ensures { (source : Seen) → AreDone (IsSectorRead address k sector.old)
         (streams source (K.seen out.old) (E.seen report.old)) (streams source (K.seen out.new) (E.seen report.new)) result }

@@ -15,30 +15,30 @@ ghost use Rattle.dvd_commands.specs.Convert.{Converts, convert_units};
 ghost use Rattle.dvd_commands.specs.Performed.{IsPerformedByWords};
 ghost use Rattle.dvd_words.specs.Settings.{IsLayoutOf};
 
+use crate::blocks::Blocks;
 use crate::captured::fetch_block;
 use crate::opening::header_of;
 use crate::refusal::Refusal;
+use crate::start::Start;
 use dvd_capture::{Form, Header, Work, write_listed};
-use dvd_layout::{Layout, Zones};
-use dvd_loop::{AfterLast, LoopEnd, UnitCommand, UnitKind, run_units};
+use dvd_layout::Layout;
+use dvd_loop::{AfterLast, Answer, LoopEnd, UnitCommand, UnitKind, run_units};
 use dvd_ports::{NullSink, Sink, Source, write_whole};
 use dvd_words::{Command, Settings};
-use std::alloc::Global;
 
 /// Its blocks, in the number of the layout, the header that opens them, and the memory of one block.
 #[derive(Drop)]
 struct Converting<'a> {
-    layout: Layout,
-    zones: Zones,
+    blocks: Blocks,
     form: Form,
     header: Header,
     work: &'a mut Work,
 }
 
-impl<'a> UnitCommand for Converting<'a> {
+impl<'a, S: Source, K: Sink, E: Sink> UnitCommand<S, K, E> for Converting<'a> {
     ghost Key = { DiskLayout × WhichZones × CaptureForm × CaptureHeader };
 
-    ghost key = { λ c. (c.layout, c.zones, c.form, c.header) };
+    ghost key = { λ c. (c.blocks.layout, c.blocks.zones, c.form, c.header) };
 
     ghost units = { λ key. convert_units key.0 key.1 key.2 (header_bytes key.3) };
 
@@ -47,33 +47,28 @@ impl<'a> UnitCommand for Converting<'a> {
     ghost left = { λ _ _. Unit {0} };
 
     fn count(&self) -> u32 {
-        self.layout.blocks(self.zones) as u32
+        self.blocks.count()
     }
 
     fn after_last(&self) -> AfterLast {
         AfterLast::EndOfInput
     }
 
-    fn open<K: Sink, E: Sink>(&self, out: &mut K, _report: &mut E) -> Result<(), LoopEnd> {
+    // Before the first block is read, so that the output begins with its header however the run ends.
+    fn open(&self, out: &mut K, _report: &mut E) -> Result<(), LoopEnd> {
         let mut bytes = [0; 32];
         self.header.to_bytes(&mut bytes);
         write_whole(out, &bytes)?;
         Ok(())
     }
 
-    fn process<S: Source, K: Sink, E: Sink>(
-        &mut self,
-        k: u32,
-        src: &mut S,
-        out: &mut K,
-        _report: &mut E,
-    ) -> Result<UnitKind, LoopEnd> {
+    fn process(&mut self, k: u32, src: &mut S, out: &mut K, _report: &mut E) -> Answer {
         fetch_block(src, k, self.form, self.work)?;
         write_listed(self.work, out)?;
         Ok(UnitKind::Good)
     }
 
-    fn close<K: Sink, E: Sink>(&self, _out: &mut K, _report: &mut E) -> Result<(), LoopEnd> {
+    fn close(&self, _out: &mut K, _report: &mut E) -> Result<(), LoopEnd> {
         Ok(())
     }
 }
@@ -94,8 +89,10 @@ pub fn convert_loop<S: Source, K: Sink>(
     ensures ends { IsPlainEnd (length (plan_of layout.now settings.now.zones)) result }
 {
     let mut converting = Converting {
-        layout: *layout,
-        zones: settings.zones,
+        blocks: Blocks {
+            layout: *layout,
+            zones: settings.zones,
+        },
         form: settings.form,
         header: header_of(layout, settings.zones),
         work,
@@ -105,18 +102,18 @@ pub fn convert_loop<S: Source, K: Sink>(
 
 /// The command with its buffers, or why it doesn't begin.
 pub(crate) fn run_convert<S: Source, K: Sink>(
-    alloc: Global,
-    settings: &Settings,
+    start: &Start<'_>,
     src: &mut S,
     out: &mut K,
 ) -> Result<LoopEnd, Refusal>
-    requires command { settings.now.command ≡ Command.Convert }
-    requires form { HasSize settings.now.form }
-    ensures performed { (report : Seen) → IsPerformedByWords settings.now
+    requires command { start.now.settings.now.command ≡ Command.Convert }
+    requires form { HasSize start.now.settings.now.form }
+    ensures performed { (report : Seen) → IsPerformedByWords start.now.settings.now
         (streams (S.seen src.old) (K.seen out.old) report) (streams (S.seen src.new) (K.seen out.new) report) result }
     ensures untouched { IsErr result → (src.new ≡ src.old) × (out.new ≡ out.old) }
 {
+    let settings = start.settings;
     let layout = settings.layout()?;
-    let mut work = Work::new(alloc)?;
+    let mut work = Work::new(start.alloc)?;
     Ok(convert_loop(settings, &layout, &mut work, src, out))
 }

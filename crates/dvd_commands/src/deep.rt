@@ -22,55 +22,50 @@ ghost use Rattle.dvd_commands.specs.Performed.{IsPerformed};
 ghost use Rattle.dvd_commands.specs.Inner.Performing.{IsFoundBy, TellsAndWrites};
 ghost use Rattle.dvd_words.specs.Settings.{IsLayoutOf};
 
+use crate::blocks::Blocks;
 use crate::captured::{Planned, fetch_block, refuse_block, write_each, write_sectors};
 use crate::opening::{layout_from_arguments, open_blocks};
 use crate::refusal::Refusal;
+use crate::start::Start;
 use dvd_block::Piece;
 use dvd_capture::{Form, Work};
 use dvd_deep::Deep;
-use dvd_layout::{BlockPlan, Content, Layout, Zones};
-use dvd_loop::{LoopEnd, PlainCommand, UnitKind, run_owned};
+use dvd_layout::{BlockPlan, Content, Layout};
+use dvd_loop::{Answer, LoopEnd, PlainCommand, UnitKind, run_plain};
 use dvd_ports::{Sink, Source, WriteFault};
 use dvd_read::{Cause, read_block};
 use dvd_report::write_round;
 use dvd_words::{Command, Settings};
-use std::alloc::Global;
 
 /// Its blocks, in the order of the plan, and the memory of one block and of its rounds.
 #[derive(Drop)]
 struct Deepening<'a> {
-    layout: Layout,
-    zones: Zones,
+    blocks: Blocks,
     form: Form,
     deep: &'a mut Deep,
     piece: &'a mut Piece,
     work: &'a mut Work,
 }
 
-impl<'a> PlainCommand for Deepening<'a> {
+impl<'a, S: Source, K: Sink, E: Sink> PlainCommand<S, K, E> for Deepening<'a> {
     ghost Key = { DiskLayout × WhichZones × CaptureForm };
 
-    ghost key = { λ r. (r.layout, r.zones, r.form) };
+    ghost key = { λ r. (r.blocks.layout, r.blocks.zones, r.form) };
 
     ghost units = { λ key. deep_units key.0 key.1 key.2 };
 
     ghost alone = { λ _. record { opens = refl; closes = λ _. refl; after_last = refl } };
 
     fn count(&self) -> u32 {
-        self.layout.blocks(self.zones) as u32
+        self.blocks.count()
     }
 
-    fn process<S: Source, K: Sink, E: Sink>(
-        &mut self,
-        k: u32,
-        src: &mut S,
-        out: &mut K,
-        report: &mut E,
-    ) -> Result<UnitKind, LoopEnd> {
-        let entry = self.layout.plan(self.zones, u64::from(k));
+    // Each block is read whole, even one without image, since the next begins after it.
+    fn process(&mut self, k: u32, src: &mut S, out: &mut K, report: &mut E) -> Answer {
+        let entry = self.blocks.at(k);
         fetch_block(src, k, self.form, self.work)?;
         let block = Planned {
-            layout: &self.layout,
+            layout: &self.blocks.layout,
             k,
             entry: &entry,
         };
@@ -98,34 +93,37 @@ pub fn deep_loop<S: Source, K: Sink, E: Sink>(
     ensures ends { IsCaptureEnd settings.now.form (length (plan_of layout.now settings.now.zones)) result }
 {
     let deepening = Deepening {
-        layout: *layout,
-        zones: settings.zones,
+        blocks: Blocks {
+            layout: *layout,
+            zones: settings.zones,
+        },
         form: settings.form,
         deep,
         piece,
         work,
     };
-    run_owned(deepening, src, out, report)
+    run_plain(deepening, src, out, report)
 }
 
 /// The command with its buffers, or why it doesn't begin.
+/// Memory is taken before the header of a listed capture is read, so a command that doesn't begin has read nothing.
 pub(crate) fn run_deep<S: Source, K: Sink, E: Sink>(
-    alloc: Global,
-    settings: &Settings,
+    start: &Start<'_>,
     src: &mut S,
     out: &mut K,
     report: &mut E,
 ) -> Result<LoopEnd, Refusal>
-    requires { settings.now.command ≡ Command.Deep }
-    ensures performed { IsPerformed settings.now
+    requires { start.now.settings.now.command ≡ Command.Deep }
+    ensures performed { IsPerformed start.now.settings.now
         (streams (S.seen src.old) (K.seen out.old) (E.seen report.old))
         (streams (S.seen src.new) (K.seen out.new) (E.seen report.new)) result }
     ensures untouched { IsErr result → (src.new ≡ src.old) × (out.new ≡ out.old) × (report.new ≡ report.old) }
 {
+    let settings = start.settings;
     let worded = layout_from_arguments(settings)?;
-    let mut deep = Deep::new(alloc)?;
-    let mut piece = Piece::new(alloc)?;
-    let mut work = Work::new(alloc)?;
+    let mut deep = Deep::new(start.alloc)?;
+    let mut piece = Piece::new(start.alloc)?;
+    let mut work = Work::new(start.alloc)?;
     match open_blocks(settings, worded, src) {
         Ok(stated) => Ok(deep_loop(
             &stated.settings,
@@ -150,7 +148,7 @@ fn deep_block<K: Sink, E: Sink>(
     work: &mut Work,
     out: &mut K,
     report: &mut E,
-) -> Result<UnitKind, LoopEnd>
+) -> Answer
     requires numbers { HasNumbers block.now.entry.now }
     requires stage { HasBlock (stage_of work.old) }
     ensures { (source : Seen) → AreDone (IsReadDeep block.now.entry.now.content block.now.layout.now block.now.k block.now.entry.now (rows_of work.old) (marks_of_work work.old))
@@ -183,6 +181,7 @@ fn deep_block<K: Sink, E: Sink>(
 
 // Searches by rounds for a block that was refused for this cause. Answers the round that gave it back with right
 // frames, with its Main Data in the piece; or why it is still refused.
+// Where rounds find nothing the cause of the two passes stays, as `recover` reports it.
 fn search_block(
     entry: &BlockPlan,
     cause: Cause,
@@ -206,6 +205,7 @@ fn search_block(
 }
 
 // Reports the line of a block that a round gave back, and writes its image sectors.
+// The line goes first, so that no sector of a refused block is written before it. The block is good: nothing is lost.
 fn give_back<K: Sink, E: Sink>(
     k: u32,
     entry: &BlockPlan,
@@ -213,7 +213,7 @@ fn give_back<K: Sink, E: Sink>(
     sectors: &[u8],
     out: &mut K,
     report: &mut E,
-) -> Result<UnitKind, LoopEnd>
+) -> Answer
     requires { HasNumbers entry.now }
     ensures { (source : Seen) → AreDone (TellsAndWrites (round_line k entry.now round) sectors.now Good)
         (streams source (K.seen out.old) (E.seen report.old)) (streams source (K.seen out.new) (E.seen report.new)) result }

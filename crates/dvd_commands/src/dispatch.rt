@@ -16,6 +16,7 @@ use crate::master::run_master;
 use crate::merge::run_merge;
 use crate::recover::run_recover;
 use crate::refusal::Refusal;
+use crate::start::Start;
 use crate::survey::run_survey;
 use crate::workers::Workers;
 use dvd_loop::LoopEnd;
@@ -26,6 +27,7 @@ use std::alloc::Global;
 use std::thread::Threads;
 
 /// The loop of the command that the settings name, or why it doesn't begin.
+/// The one place that names every command's function. What all of them begin with is put together here.
 pub fn perform<R: Threads + Sync, S: Source, K: Sink, E: Sink, G: Gate>(
     workers: &Workers<'_, R, G>,
     alloc: Global,
@@ -40,18 +42,19 @@ pub fn perform<R: Threads + Sync, S: Source, K: Sink, E: Sink, G: Gate>(
         (streams (S.seen src.new) (K.seen out.new) (E.seen report.new)) result }
     ensures untouched { IsErr result → (src.new ≡ src.old) × (out.new ≡ out.old) × (report.new ≡ report.old) }
 {
+    let start = Start { alloc, settings };
     match settings.command {
         Command::Frames => Ok(frames_loop(settings, src, out)),
-        Command::Master => run_master(workers, alloc, settings, src, out),
-        Command::Recover => run_recover(workers, alloc, settings, src, out, report),
-        Command::Info => run_info(alloc, settings, src, out),
-        Command::Survey => run_survey(workers, alloc, settings, src, out),
-        Command::Exercise => run_exercise(workers, alloc, settings, src, out),
+        Command::Master => run_master(workers, &start, src, out),
+        Command::Recover => run_recover(workers, &start, src, out, report),
+        Command::Info => run_info(&start, src, out),
+        Command::Survey => run_survey(workers, &start, src, out),
+        Command::Exercise => run_exercise(workers, &start, src, out),
         Command::CdMake => Ok(cdmake_loop(settings, src, out)),
         Command::CdRead => Ok(cdread_loop(settings, src, out, report)),
-        Command::Merge => run_merge(alloc, settings, src, out),
-        Command::Deep => run_deep(alloc, settings, src, out, report),
-        Command::Assemble => run_assemble(alloc, settings, src, out, report),
-        Command::Convert => run_convert(alloc, settings, src, out),
+        Command::Merge => run_merge(&start, src, out),
+        Command::Deep => run_deep(&start, src, out, report),
+        Command::Assemble => run_assemble(&start, src, out, report),
+        Command::Convert => run_convert(&start, src, out),
     }
 }

@@ -21,22 +21,22 @@ ghost use Rattle.dvd_commands.specs.Exercise.{IsLeft, drawn_sector, drawn_sector
 ghost use Rattle.dvd_commands.specs.Master.{frames_of};
 ghost use Rattle.dvd_commands.specs.Inner.Exercising.{CountsOne, IsBehind, IsDiskOf, are_sectors};
 ghost use Rattle.dvd_commands.specs.Performed.{IsPerformedByWords};
-ghost use Rattle.dvd_commands.specs.Inner.Workers.{IsAdder, IsReader};
+ghost use Rattle.dvd_commands.specs.Inner.Workers.{IsAdder, IsReader, MayRead, MayWork};
 
 use crate::master::{Mastered, fill_block};
 use crate::refusal::Refusal;
+use crate::start::Start;
 use crate::workers::{Workers, read_by};
 use dvd_block::{Block, Piece};
 use dvd_capture::{Stage, Work};
 use dvd_exercise::{Rand, fill_piece, hurt};
 use dvd_layout::{BlockPlan, Layout, Shape, Zones};
-use dvd_loop::{AfterLast, LoopEnd, UnitCommand, UnitKind, run_units};
+use dvd_loop::{AfterLast, Answer, LoopEnd, UnitCommand, UnitKind, run_units};
 use dvd_par::{Gate, add_parity_par, read_block_par};
 use dvd_ports::{NullSink, Sink, SliceSource, Source, write_whole};
 use dvd_read::{Cause, Fixed};
 use dvd_report::Line;
 use dvd_words::{Command, Settings};
-use std::alloc::Global;
 use std::thread::Threads;
 
 // What was found of the blocks so far.
@@ -88,8 +88,11 @@ struct Exercise<'a, 'r, A, F> {
     ghost sectors: { layout.sectors0 ≡ 16 * blocks },
 }
 
-impl<'a, 'r, A: Fn(&mut Block), F: Fn(&mut Work, &BlockPlan) -> Result<Fixed, Cause>> UnitCommand
-    for Exercise<'a, 'r, A, F> {
+impl<'a, 'r, A: Fn(&mut Block), F, S: Source, K: Sink, E: Sink> UnitCommand<S, K, E>
+    for Exercise<'a, 'r, A, F>
+where
+    F: Fn(&mut Work, &BlockPlan) -> Result<Fixed, Cause>,
+{
     ghost Key = { ℕ × ℕ × ℕ };
 
     // With the name of the work, since the caller finds there what the last block left.
@@ -110,17 +113,11 @@ impl<'a, 'r, A: Fn(&mut Block), F: Fn(&mut Work, &BlockPlan) -> Result<Fixed, Ca
         AfterLast::Done
     }
 
-    fn open<K: Sink, E: Sink>(&self, _out: &mut K, _report: &mut E) -> Result<(), LoopEnd> {
+    fn open(&self, _out: &mut K, _report: &mut E) -> Result<(), LoopEnd> {
         Ok(())
     }
 
-    fn process<S: Source, K: Sink, E: Sink>(
-        &mut self,
-        k: u32,
-        _src: &mut S,
-        _out: &mut K,
-        _report: &mut E,
-    ) -> Result<UnitKind, LoopEnd> {
+    fn process(&mut self, k: u32, _src: &mut S, _out: &mut K, _report: &mut E) -> Answer {
         let entry = self.layout.plan(Zones::DataOnly, u64::from(k));
         draw_block(
             &self.layout,
@@ -141,11 +138,28 @@ impl<'a, 'r, A: Fn(&mut Block), F: Fn(&mut Work, &BlockPlan) -> Result<Fixed, Ca
         Ok(UnitKind::Good)
     }
 
-    fn close<K: Sink, E: Sink>(&self, out: &mut K, _report: &mut E) -> Result<(), LoopEnd> {
+    fn close(&self, out: &mut K, _report: &mut E) -> Result<(), LoopEnd> {
         let line = exercise_line(self.seed, self.blocks, &self.counts);
         write_whole(out, line.as_slice())?;
         Ok(())
     }
+}
+
+// What the trials of a run go by: what makes its workers, and its settings.
+#[derive(Drop)]
+struct Setup<'a, R, G> {
+    workers: &'a Workers<'a, R, G>,
+    settings: &'a Settings,
+}
+
+// How many blocks are drawn, and from which seed, what gives a block its parity, and what reads it: closures, whose
+// types have no names.
+#[derive(Drop)]
+struct Drawing<'r, A, F> {
+    seed: u32,
+    blocks: u32,
+    add: &'r A,
+    read: &'r F,
 }
 
 /// Draws, damages and reads back `settings.blocks` blocks, from 1 to 4,096. The work then holds the last of them.
@@ -166,91 +180,81 @@ pub fn exercise_loop<R: Threads + Sync, K: Sink, G: Gate>(
     ensures ends { (result ≡ LoopEnd.Done) ⊎ (result ≡ LoopEnd.WriteFault) }
     ensures left { IsLeft settings.now.seed (settings.now.blocks - 1) work.new }
 {
-    follow_trials(
-        rt,
+    let workers = Workers { rt, gate };
+    let setup = Setup {
+        workers: &workers,
         settings,
-        gate,
-        block,
-        piece,
-        work,
-        &mut SliceSource::new(&[]),
-        out,
-    )
+    };
+    follow_trials(&setup, block, piece, work, &mut SliceSource::new(&[]), out)
 }
 
 // Likewise with any source, which stays as it is: the loop takes one, though these units read nothing.
 fn follow_trials<R: Threads + Sync, S: Source, K: Sink, G: Gate>(
-    rt: &R,
-    settings: &Settings,
-    gate: &G,
+    setup: &Setup<'_, R, G>,
     block: &mut Block,
     piece: &mut Piece,
     work: &mut Work,
     src: &mut S,
     out: &mut K,
 ) -> LoopEnd
-    requires some { 1 ≤ settings.now.blocks }
-    requires few { settings.now.blocks ≤ 4096 }
-    requires workers { (1 ≤ settings.now.workers) × (settings.now.workers ≤ 16) }
-    ensures follows { (report : Seen) → HasEnded (IsOutcome (exercise_units settings.now.seed settings.now.blocks))
+    requires some { 1 ≤ setup.now.settings.now.blocks }
+    requires few { setup.now.settings.now.blocks ≤ 4096 }
+    requires workers { (1 ≤ setup.now.settings.now.workers) × (setup.now.settings.now.workers ≤ 16) }
+    ensures follows { (report : Seen) → HasEnded (IsOutcome (exercise_units setup.now.settings.now.seed setup.now.settings.now.blocks))
         (streams (S.seen src.old) (K.seen out.old) report) (streams (S.seen src.new) (K.seen out.new) report) result }
-    ensures left { IsLeft settings.now.seed (settings.now.blocks - 1) work.new }
+    ensures left { IsLeft setup.now.settings.now.seed (setup.now.settings.now.blocks - 1) work.new }
 {
-    let workers = settings.workers;
+    let rt = setup.workers.rt;
+    let gate = setup.workers.gate;
+    let workers = setup.settings.workers;
     let add = |block: &mut Block|
-        requires { IsSync R.row × IsSync G.row × (1 ≤ workers) × (workers ≤ 16) }
+        requires { MayWork (IsSync R.row) (IsSync G.row) workers }
         ensures { IsParityAdded (block_rows block.entry.now) (block_rows block.exit.now) }
     { add_parity_par(rt, workers, gate, block) };
     let read = |work: &mut Work, plan: &BlockPlan| -> Result<Fixed, Cause>
-        requires { IsSync R.row
-            × IsSync G.row
-            × (1 ≤ workers)
-            × (workers ≤ 16)
-            × HasBlock (stage_of work.now)
-            × HasNumbers plan.now }
+        requires { MayRead (IsSync R.row) (IsSync G.row) workers work.now plan.now }
         ensures { IsBlockRead work.entry.now work.exit.now plan.entry.now result }
     { read_block_par(rt, workers, gate, work, plan) };
-    follow_by(&add, &read, settings, block, piece, work, src, out)
+    let drawing = Drawing {
+        seed: setup.settings.seed,
+        blocks: setup.settings.blocks,
+        add: &add,
+        read: &read,
+    };
+    follow_by(&drawing, block, piece, work, src, out)
 }
 
-// Likewise with what gives a block its parity, and what reads it: closures, whose types have no names.
-fn follow_by<
-    'a,
-    'r,
-    A: Fn(&mut Block),
-    F: Fn(&mut Work, &BlockPlan) -> Result<Fixed, Cause>,
-    S: Source,
-    K: Sink,
->(
-    add: &'r A,
-    read: &'r F,
-    settings: &Settings,
+// Likewise by these closures. A function of its own, since a closure's type has no name where it is made.
+fn follow_by<'a, 'r, A: Fn(&mut Block), F, S: Source, K: Sink>(
+    drawing: &Drawing<'r, A, F>,
     block: &'a mut Block,
     piece: &'a mut Piece,
     work: &'a mut Work,
     src: &mut S,
     out: &mut K,
 ) -> LoopEnd
-    requires adder { IsAdder A.Fn add.now }
-    requires reader { IsReader F.Fn read.now }
-    requires some { 1 ≤ settings.now.blocks }
-    requires few { settings.now.blocks ≤ 4096 }
-    ensures follows { (report : Seen) → HasEnded (IsOutcome (exercise_units settings.now.seed settings.now.blocks))
+where
+    F: Fn(&mut Work, &BlockPlan) -> Result<Fixed, Cause>,
+    requires adder { IsAdder A.Fn drawing.now.add.now }
+    requires reader { IsReader F.Fn drawing.now.read.now }
+    requires some { 1 ≤ drawing.now.blocks }
+    requires few { drawing.now.blocks ≤ 4096 }
+    ensures follows { (report : Seen) → HasEnded (IsOutcome (exercise_units drawing.now.seed drawing.now.blocks))
         (streams (S.seen src.old) (K.seen out.old) report) (streams (S.seen src.new) (K.seen out.new) report) result }
-    ensures left { IsLeft settings.now.seed (settings.now.blocks - 1) work.new }
+    ensures left { IsLeft drawing.now.seed (drawing.now.blocks - 1) work.new }
 {
     let mut exercise = Exercise {
-        seed: settings.seed,
-        blocks: settings.blocks,
-        layout: disk_of(settings.blocks),
-        rand: rand_of(settings.seed),
+        seed: drawing.seed,
+        blocks: drawing.blocks,
+        layout: disk_of(drawing.blocks),
+        rand: rand_of(drawing.seed),
         counts: Counts {
             whole: 0,
             fixed: 0,
             failed: 0,
         },
-        add,
-        read,
+        add: drawing.add,
+        read: drawing.read,
         block,
         piece,
         work,
@@ -261,34 +265,29 @@ fn follow_by<
 /// The command with its buffers, or why it doesn't begin.
 pub(crate) fn run_exercise<R: Threads + Sync, S: Source, K: Sink, G: Gate>(
     workers: &Workers<'_, R, G>,
-    alloc: Global,
-    settings: &Settings,
+    start: &Start<'_>,
     src: &mut S,
     out: &mut K,
 ) -> Result<LoopEnd, Refusal>
-    requires command { settings.now.command ≡ Command.Exercise }
-    requires some { 1 ≤ settings.now.blocks }
-    requires few { settings.now.blocks ≤ 4096 }
-    requires workers { (1 ≤ settings.now.workers) × (settings.now.workers ≤ 16) }
-    ensures performed { (report : Seen) → IsPerformedByWords settings.now
+    requires command { start.now.settings.now.command ≡ Command.Exercise }
+    requires some { 1 ≤ start.now.settings.now.blocks }
+    requires few { start.now.settings.now.blocks ≤ 4096 }
+    requires workers { (1 ≤ start.now.settings.now.workers) × (start.now.settings.now.workers ≤ 16) }
+    ensures performed { (report : Seen) → IsPerformedByWords start.now.settings.now
         (streams (S.seen src.old) (K.seen out.old) report) (streams (S.seen src.new) (K.seen out.new) report) result }
     ensures untouched { IsErr result → (src.new ≡ src.old) × (out.new ≡ out.old) }
 {
-    let mut block = Block::new(alloc)?;
-    let mut piece = Piece::new(alloc)?;
-    let mut work = Work::new(alloc)?;
-    Ok(follow_trials(
-        workers.rt,
-        settings,
-        workers.gate,
-        &mut block,
-        &mut piece,
-        &mut work,
-        src,
-        out,
-    ))
+    let mut block = Block::new(start.alloc)?;
+    let mut piece = Piece::new(start.alloc)?;
+    let mut work = Work::new(start.alloc)?;
+    let setup = Setup {
+        workers,
+        settings: start.settings,
+    };
+    Ok(follow_trials(&setup, &mut block, &mut piece, &mut work, src, out))
 }
 
+// The smallest disk with so many blocks, each at an address of its own. No other zone is needed.
 fn disk_of(blocks: u32) -> Layout
     requires some { 1 ≤ blocks }
     requires few { blocks ≤ 4096 }
@@ -331,6 +330,7 @@ fn draw_block<A: Fn(&mut Block)>(
 }
 
 // Loads a block, and damages it.
+// The block stays as it was made; the damage is done to its copy in the work.
 fn load_hurt(block: &Block, rand: &mut Rand, work: &mut Work)
     ensures hurt { IsHurt (state_of rand.old) (block_rows block.now) no_marks (rows_of work.new) (marks_of_work work.new) }
     ensures state { state_of rand.new ≡ hurt_state (state_of rand.old) }

@@ -21,14 +21,14 @@ use crate::captured::fetch_block;
 use crate::format::format_lines;
 use crate::opening::{open_listed, worded_initial};
 use crate::refusal::Refusal;
+use crate::start::Start;
 use dvd_capture::{Form, Work};
 use dvd_control::PhysicalFormat;
 use dvd_layout::{BlockPlan, Content, lead_in_block};
-use dvd_loop::{AfterLast, LoopEnd, UnitCommand, UnitKind, run_units};
+use dvd_loop::{AfterLast, Answer, LoopEnd, UnitCommand, UnitKind, run_units};
 use dvd_ports::{NullSink, Sink, Source, write_whole};
 use dvd_read::read_block;
 use dvd_words::{Command, Settings};
-use std::alloc::Global;
 
 // The blocks of the lead-in after its Initial Zone, up to the last of control data.
 const BLOCKS_BEHIND_INITIAL: u32 = 224;
@@ -42,7 +42,7 @@ struct Info<'a> {
     ghost fits: { initial ≤ most_initial },
 }
 
-impl<'a> UnitCommand for Info<'a> {
+impl<'a, S: Source, K: Sink, E: Sink> UnitCommand<S, K, E> for Info<'a> {
     ghost Key = { ℕ × CaptureForm };
 
     ghost key = { λ i. (i.initial, i.form) };
@@ -57,27 +57,22 @@ impl<'a> UnitCommand for Info<'a> {
         self.initial + BLOCKS_BEHIND_INITIAL
     }
 
+    // The units run out only where none answered: one that answers ends the run.
     fn after_last(&self) -> AfterLast {
         AfterLast::NoControl
     }
 
-    fn open<K: Sink, E: Sink>(&self, _out: &mut K, _report: &mut E) -> Result<(), LoopEnd> {
+    fn open(&self, _out: &mut K, _report: &mut E) -> Result<(), LoopEnd> {
         Ok(())
     }
 
-    fn process<S: Source, K: Sink, E: Sink>(
-        &mut self,
-        k: u32,
-        src: &mut S,
-        out: &mut K,
-        _report: &mut E,
-    ) -> Result<UnitKind, LoopEnd> {
+    fn process(&mut self, k: u32, src: &mut S, out: &mut K, _report: &mut E) -> Answer {
         let entry = lead_in_block(self.initial, k);
         fetch_block(src, k, self.form, self.work)?;
         ask_block(&entry, self.work, out)
     }
 
-    fn close<K: Sink, E: Sink>(&self, _out: &mut K, _report: &mut E) -> Result<(), LoopEnd> {
+    fn close(&self, _out: &mut K, _report: &mut E) -> Result<(), LoopEnd> {
         Ok(())
     }
 }
@@ -103,19 +98,20 @@ pub fn info_loop<S: Source, K: Sink>(
 }
 
 /// The command with its buffers, or why it doesn't begin.
+/// Memory is taken before the header of a listed capture is read, so a command that doesn't begin has read nothing.
 pub(crate) fn run_info<S: Source, K: Sink>(
-    alloc: Global,
-    settings: &Settings,
+    start: &Start<'_>,
     src: &mut S,
     out: &mut K,
 ) -> Result<LoopEnd, Refusal>
-    requires { settings.now.command ≡ Command.Info }
-    ensures performed { (report : Seen) → IsPerformed settings.now
+    requires { start.now.settings.now.command ≡ Command.Info }
+    ensures performed { (report : Seen) → IsPerformed start.now.settings.now
         (streams (S.seen src.old) (K.seen out.old) report) (streams (S.seen src.new) (K.seen out.new) report) result }
     ensures untouched { IsErr result → (src.new ≡ src.old) × (out.new ≡ out.old) }
 {
+    let settings = start.settings;
     let worded = worded_initial(settings)?;
-    let mut work = Work::new(alloc)?;
+    let mut work = Work::new(start.alloc)?;
     match worded {
         Some(_) => Ok(info_loop(settings, &mut work, src, out)),
         None => Ok(info_listed(settings, &mut work, src, out)),
@@ -123,6 +119,7 @@ pub(crate) fn run_info<S: Source, K: Sink>(
 }
 
 // Likewise for a listed capture: its header, and then its blocks.
+// The header states the length of the Initial Zone, on which the places of the control blocks depend.
 fn info_listed<S: Source, K: Sink>(
     settings: &Settings,
     work: &mut Work,
@@ -140,7 +137,7 @@ fn info_listed<S: Source, K: Sink>(
 }
 
 // Seeks the physical format in a block of control data. Any other block is passed over.
-fn ask_block<K: Sink>(entry: &BlockPlan, work: &mut Work, out: &mut K) -> Result<UnitKind, LoopEnd>
+fn ask_block<K: Sink>(entry: &BlockPlan, work: &mut Work, out: &mut K) -> Answer
     requires numbers { HasNumbers entry.now }
     requires stage { HasBlock (stage_of work.old) }
     ensures { (source report : Seen) → AreDone (IsAsked entry.now.content entry.now (rows_of work.old) (marks_of_work work.old))
@@ -152,11 +149,7 @@ fn ask_block<K: Sink>(entry: &BlockPlan, work: &mut Work, out: &mut K) -> Result
     }
 }
 
-fn ask_control<K: Sink>(
-    entry: &BlockPlan,
-    work: &mut Work,
-    out: &mut K,
-) -> Result<UnitKind, LoopEnd>
+fn ask_control<K: Sink>(entry: &BlockPlan, work: &mut Work, out: &mut K) -> Answer
     requires numbers { HasNumbers entry.now }
     requires stage { HasBlock (stage_of work.old) }
     ensures { (source report : Seen) → AreDone (IsControlDone entry.now (rows_of work.old) (marks_of_work work.old))
@@ -171,6 +164,7 @@ fn ask_control<K: Sink>(
 }
 
 // The physical format in the first sector of a block, if the block is right and the sector is one.
+// A block or a sector that is refused gives none, and the next one is asked.
 fn format_in(entry: &BlockPlan, work: &mut Work) -> Option<PhysicalFormat>
     requires numbers { HasNumbers entry.now }
     requires stage { HasBlock (stage_of work.old) }

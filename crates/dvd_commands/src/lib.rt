@@ -4,6 +4,7 @@
 #![tactic(auto)]
 
 mod assemble; // scattered recording frames put in order
+mod blocks; // the blocks of a plan, as the commands go over them
 mod captured; // captured blocks, as the commands that read a stream of them use them
 mod cd_line; // the line of a damaged CD-ROM sector
 mod cd_make; // a CD-ROM sector for each sector of user data
@@ -22,6 +23,7 @@ mod merge; // one stream of captured blocks, joined of several captures
 mod opening; // the header that a listed capture opens with
 mod recover; // image sectors from a stream of captured blocks
 mod refusal; // why a command doesn't begin
+mod start; // what a command begins with: its memory and its settings
 mod survey; // a line for each captured block, and a line of totals
 mod workers; // what makes the workers, and what they do for a unit of a command
 

@@ -15,37 +15,38 @@ ghost use Rattle.dvd_loop.specs.UnitCommand.{EndsShort, HasReadCause};
 ghost use Rattle.dvd_ports.specs.Seen.{Seen};
 ghost use Rattle.dvd_commands.specs.Master.{cpr_in, frame_for, frames_of, image_bytes, main_for, master_units};
 ghost use Rattle.dvd_commands.specs.Performed.{IsPerformedByWords};
-ghost use Rattle.dvd_commands.specs.Inner.Workers.{IsAdder};
+ghost use Rattle.dvd_commands.specs.Inner.Workers.{IsAdder, MayWork};
 ghost use Rattle.dvd_words.specs.Settings.{IsLayoutOf};
 
+use crate::blocks::Blocks;
 use crate::refusal::Refusal;
+use crate::start::Start;
 use crate::workers::{Workers, add_by};
 use dvd_block::{Block, Piece};
 use dvd_control::main_of;
 use dvd_frame::{Area, Scrambler, make_frame_with};
-use dvd_layout::{BlockPlan, Content, Layout, Zones, id_of, rule_of};
-use dvd_loop::{LoopEnd, PlainCommand, UnitKind, read_unit, run_owned};
+use dvd_layout::{BlockPlan, Content, Layout, id_of, rule_of};
+use dvd_loop::{Answer, LoopEnd, PlainCommand, UnitKind, read_unit, run_plain};
 use dvd_par::{Gate, add_parity_par};
 use dvd_ports::{NullSink, Sink, Source};
 use dvd_words::{Command, Settings};
-use std::alloc::Global;
 use std::thread::Threads;
 
 /// Its blocks, in the order of the plan, how they get their parity, and the buffers of one block.
 #[derive(Drop)]
 struct Master<'a, 'r, F> {
-    layout: Layout,
-    zones: Zones,
+    blocks: Blocks,
     cpr: [u8; 6],
     add: &'r F,
     block: &'a mut Block,
     piece: &'a mut Piece,
 }
 
-impl<'a, 'r, F: Fn(&mut Block)> PlainCommand for Master<'a, 'r, F> {
+impl<'a, 'r, F: Fn(&mut Block), S: Source, K: Sink, E: Sink> PlainCommand<S, K, E>
+    for Master<'a, 'r, F> {
     ghost Key = { DiskLayout × WhichZones × List ℕ };
 
-    ghost key = { λ m. (m.layout, m.zones, m.cpr) };
+    ghost key = { λ m. (m.blocks.layout, m.blocks.zones, m.cpr) };
 
     ghost units = { λ key. master_units key.0 key.1 key.2 };
 
@@ -54,21 +55,15 @@ impl<'a, 'r, F: Fn(&mut Block)> PlainCommand for Master<'a, 'r, F> {
     ghost alone = { λ _. record { opens = refl; closes = λ _. refl; after_last = refl } };
 
     fn count(&self) -> u32 {
-        self.layout.blocks(self.zones) as u32
+        self.blocks.count()
     }
 
-    fn process<S: Source, K: Sink, E: Sink>(
-        &mut self,
-        k: u32,
-        src: &mut S,
-        out: &mut K,
-        _report: &mut E,
-    ) -> Result<UnitKind, LoopEnd> {
-        let entry = self.layout.plan(self.zones, u64::from(k));
-        let size = image_size(&self.layout, &entry);
+    fn process(&mut self, k: u32, src: &mut S, out: &mut K, _report: &mut E) -> Answer {
+        let entry = self.blocks.at(k);
+        let size = image_size(&self.blocks.layout, &entry);
         read_image(src, k, self.piece, size)?;
         let given = Mastered {
-            layout: &self.layout,
+            layout: &self.blocks.layout,
             entry: &entry,
             cpr: &self.cpr,
             sectors: self.piece.bytes(),
@@ -98,37 +93,39 @@ pub fn master_loop<R: Threads + Sync, S: Source, K: Sink, G: Gate>(
 {
     let workers = settings.workers;
     let add = |block: &mut Block|
-        requires { IsSync R.row × IsSync G.row × (1 ≤ workers) × (workers ≤ 16) }
+        requires { MayWork (IsSync R.row) (IsSync G.row) workers }
         ensures { IsParityAdded (block_rows block.entry.now) (block_rows block.exit.now) }
     { add_parity_par(rt, workers, gate, block) };
     let master = Master {
-        layout: *layout,
-        zones: settings.zones,
+        blocks: Blocks {
+            layout: *layout,
+            zones: settings.zones,
+        },
         cpr: settings.cpr,
         add: &add,
         block,
         piece,
     };
-    run_owned(master, src, out, &mut NullSink::new())
+    run_plain(master, src, out, &mut NullSink::new())
 }
 
 /// The command with its buffers, or why it doesn't begin.
 pub(crate) fn run_master<R: Threads + Sync, S: Source, K: Sink, G: Gate>(
     workers: &Workers<'_, R, G>,
-    alloc: Global,
-    settings: &Settings,
+    start: &Start<'_>,
     src: &mut S,
     out: &mut K,
 ) -> Result<LoopEnd, Refusal>
-    requires command { settings.now.command ≡ Command.Master }
-    requires workers { (1 ≤ settings.now.workers) × (settings.now.workers ≤ 16) }
-    ensures performed { (report : Seen) → IsPerformedByWords settings.now
+    requires command { start.now.settings.now.command ≡ Command.Master }
+    requires workers { (1 ≤ start.now.settings.now.workers) × (start.now.settings.now.workers ≤ 16) }
+    ensures performed { (report : Seen) → IsPerformedByWords start.now.settings.now
         (streams (S.seen src.old) (K.seen out.old) report) (streams (S.seen src.new) (K.seen out.new) report) result }
     ensures untouched { IsErr result → (src.new ≡ src.old) × (out.new ≡ out.old) }
 {
+    let settings = start.settings;
     let layout = settings.layout()?;
-    let mut block = Block::new(alloc)?;
-    let mut piece = Piece::new(alloc)?;
+    let mut block = Block::new(start.alloc)?;
+    let mut piece = Piece::new(start.alloc)?;
     Ok(master_loop(
         workers.rt,
         settings,
@@ -149,6 +146,7 @@ fn image_size(layout: &Layout, entry: &BlockPlan) -> usize
 }
 
 // Reads the image bytes of block `k` to the beginning of the piece, and fills the rest with zeros.
+// The piece held the block before, so the rest is filled each time.
 fn read_image<S: Source>(src: &mut S, k: u32, piece: &mut Piece, size: usize) -> Result<(), LoopEnd>
     requires { size ≤ 32768 }
     ensures length { length (piece_bytes piece.new) ≡ 32768 }
@@ -191,6 +189,7 @@ pub(crate) fn fill_block<F: Fn(&mut Block)>(given: &Mastered<'_>, add: &F, block
     add_by(add, block);
 }
 
+// Only image sectors come from the input. The other contents are made here, by the rules of the layout.
 fn write_frame(scrambler: &mut Scrambler, given: &Mastered<'_>, f: usize, frame: &mut [u8; 2064])
     requires size { length given.now.sectors.now ≡ 32768 }
     requires entry { IsEntry given.now.layout.now given.now.entry.now }
@@ -241,6 +240,7 @@ fn make_with(
     );
 }
 
+// Only frames of the Data Zone have the bytes that were asked for.
 fn cpr_of(area: Area, cpr: &[u8; 6]) -> [u8; 6]
     ensures { result ≡ cpr_in area cpr.now }
 {

@@ -18,20 +18,20 @@ ghost use Rattle.dvd_commands.specs.Performed.{IsPerformedByWords};
 ghost use Rattle.dvd_commands.specs.Inner.Performing.{AreTaken, EndsInCapture};
 ghost use Rattle.dvd_words.specs.Settings.{IsLayoutOf};
 
+use crate::blocks::Blocks;
 use crate::refusal::Refusal;
+use crate::start::Start;
 use dvd_capture::{FetchAnswer, Form, Work, fetch};
-use dvd_layout::{Layout, Zones};
-use dvd_loop::{LoopEnd, PlainCommand, UnitKind, run_owned};
+use dvd_layout::Layout;
+use dvd_loop::{Answer, LoopEnd, PlainCommand, UnitKind, run_plain};
 use dvd_merge::Merge;
 use dvd_ports::{NullSink, Sink, Source};
 use dvd_words::{Command, Settings};
-use std::alloc::Global;
 
 /// Its blocks, how many captures there are of each, and the memory of one capture and of the join.
 #[derive(Drop)]
 struct Merging<'a> {
-    layout: Layout,
-    zones: Zones,
+    blocks: Blocks,
     form: Form,
     captures: u32,
     merge: &'a mut Merge,
@@ -41,26 +41,20 @@ struct Merging<'a> {
     ghost sized: { HasSize form },
 }
 
-impl<'a> PlainCommand for Merging<'a> {
+impl<'a, S: Source, K: Sink, E: Sink> PlainCommand<S, K, E> for Merging<'a> {
     ghost Key = { DiskLayout × WhichZones × CaptureForm × ℕ };
 
-    ghost key = { λ m. (m.layout, m.zones, m.form, m.captures) };
+    ghost key = { λ m. (m.blocks.layout, m.blocks.zones, m.form, m.captures) };
 
     ghost units = { λ key. merge_units key.0 key.1 key.2 key.3 };
 
     ghost alone = { λ _. record { opens = refl; closes = λ _. refl; after_last = refl } };
 
     fn count(&self) -> u32 {
-        self.layout.blocks(self.zones) as u32
+        self.blocks.count()
     }
 
-    fn process<S: Source, K: Sink, E: Sink>(
-        &mut self,
-        k: u32,
-        src: &mut S,
-        out: &mut K,
-        _report: &mut E,
-    ) -> Result<UnitKind, LoopEnd> {
+    fn process(&mut self, k: u32, src: &mut S, out: &mut K, _report: &mut E) -> Answer {
         take_captures(src, k, self.form, self.captures, self.merge, self.work)?;
         self.merge.write_marked(out)?;
         Ok(UnitKind::Good)
@@ -85,33 +79,35 @@ pub fn merge_loop<S: Source, K: Sink>(
     ensures ends { IsPlainEnd (length (plan_of layout.now settings.now.zones)) result }
 {
     let merging = Merging {
-        layout: *layout,
-        zones: settings.zones,
+        blocks: Blocks {
+            layout: *layout,
+            zones: settings.zones,
+        },
         form: settings.form,
         captures: settings.captures,
         merge,
         work,
     };
-    run_owned(merging, src, out, &mut NullSink::new())
+    run_plain(merging, src, out, &mut NullSink::new())
 }
 
 /// The command with its buffers, or why it doesn't begin.
 pub(crate) fn run_merge<S: Source, K: Sink>(
-    alloc: Global,
-    settings: &Settings,
+    start: &Start<'_>,
     src: &mut S,
     out: &mut K,
 ) -> Result<LoopEnd, Refusal>
-    requires command { settings.now.command ≡ Command.Merge }
-    requires form { HasSize settings.now.form }
-    requires captures { settings.now.captures ≤ 16 }
-    ensures performed { (report : Seen) → IsPerformedByWords settings.now
+    requires command { start.now.settings.now.command ≡ Command.Merge }
+    requires form { HasSize start.now.settings.now.form }
+    requires captures { start.now.settings.now.captures ≤ 16 }
+    ensures performed { (report : Seen) → IsPerformedByWords start.now.settings.now
         (streams (S.seen src.old) (K.seen out.old) report) (streams (S.seen src.new) (K.seen out.new) report) result }
     ensures untouched { IsErr result → (src.new ≡ src.old) × (out.new ≡ out.old) }
 {
+    let settings = start.settings;
     let layout = settings.layout()?;
-    let mut merge = Merge::new(alloc)?;
-    let mut work = Work::new(alloc)?;
+    let mut merge = Merge::new(start.alloc)?;
+    let mut work = Work::new(start.alloc)?;
     Ok(merge_loop(settings, &layout, &mut merge, &mut work, src, out))
 }
 
@@ -139,6 +135,7 @@ fn take_captures<S: Source>(
 }
 
 // Reads capture `c` of block `k`, or answers how the loop ends within it.
+// A unit is the captures of one block, so an end counts the bytes of those before it too.
 fn fetch_capture<S: Source>(
     src: &mut S,
     k: u32,

@@ -49,6 +49,7 @@ pub fn listed_layout<S: Source>(src: &mut S) -> HeaderEnd
 }
 
 // What 32 bytes state, if they break no rule.
+// A byte that no header has is found first, then a rule of layouts: `Header` knows no layout.
 fn layout_in(bytes: &[u8; 32]) -> HeaderEnd
     ensures { (left : List ℕ) → AnswersHeader result bytes.now left }
 {
@@ -93,6 +94,7 @@ pub(crate) fn header_of(layout: &Layout, zones: Zones) -> Header
     }
 }
 
+// The numbers are those of the format, so the order of the variants doesn't matter.
 fn number_of_shape(shape: Shape) -> u8
     ensures number { shape_number shape ≡ result }
     ensures known { result < 3 }
@@ -136,6 +138,7 @@ fn zones_of(number: u8) -> Zones
 }
 
 // The first byte of the field that a broken rule of layouts names.
+// So the user finds the wrong field in a dump of the capture.
 fn fault_byte(fault: LayoutFault) -> u32
     ensures { result ≡ fault_byte fault }
 {
@@ -157,6 +160,7 @@ fn layer_byte(layer: u8) -> u32
 }
 
 /// The layout that the arguments ask for, or the first rule that it breaks; none where a listed capture states its own.
+/// It is called before any memory is taken, so that a broken rule is the first thing to be found.
 pub(crate) fn layout_from_arguments(settings: &Settings) -> Result<Option<Layout>, LayoutFault>
     ensures worded { IfOk result (IsWorded settings.now) }
     ensures refused { IfErr result (λ fault. HasSize settings.now.form × (broken_rule settings.now ≡ Some fault)) }
@@ -218,6 +222,7 @@ pub(crate) fn open_listed<S: Source>(settings: &Settings, src: &mut S) -> Result
 
 /// The settings and the layout by which a command goes over its blocks: those of its arguments, or those that the
 /// header of a listed capture states, which is read here; or how the run ends in that header.
+/// So a loop is the same for all forms, and knows no header.
 pub(crate) fn open_blocks<S: Source>(
     settings: &Settings,
     worded: Option<Layout>,

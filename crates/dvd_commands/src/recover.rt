@@ -16,38 +16,40 @@ ghost use Rattle.dvd_read.specs.Calls.{IsBlockRead};
 ghost use Rattle.dvd_commands.specs.Captured.{IsCaptureEnd};
 ghost use Rattle.dvd_commands.specs.Recover.{IsDone, recover_units};
 ghost use Rattle.dvd_commands.specs.Performed.{IsPerformed};
-ghost use Rattle.dvd_commands.specs.Inner.Workers.{IsReader};
+ghost use Rattle.dvd_commands.specs.Inner.Workers.{IsReader, MayRead};
 ghost use Rattle.dvd_words.specs.Settings.{IsLayoutOf};
 
+use crate::blocks::Blocks;
 use crate::captured::{Planned, fetch_block, refuse_block, write_sectors};
 use crate::opening::{layout_from_arguments, open_blocks};
 use crate::refusal::Refusal;
+use crate::start::Start;
 use crate::workers::{Workers, read_by};
 use dvd_capture::{Form, Work};
-use dvd_layout::{BlockPlan, Content, Layout, Zones};
-use dvd_loop::{LoopEnd, PlainCommand, UnitKind, run_owned};
+use dvd_layout::{BlockPlan, Content, Layout};
+use dvd_loop::{Answer, LoopEnd, PlainCommand, UnitKind, run_plain};
 use dvd_par::{Gate, read_block_par};
 use dvd_ports::{Sink, Source};
 use dvd_read::{Cause, Fixed};
 use dvd_words::{Command, Settings};
-use std::alloc::Global;
 use std::thread::Threads;
 
 /// Its blocks, in the order of the plan, how they are read, and the memory of one block.
 #[derive(Drop)]
 struct Recover<'a, 'r, F> {
-    layout: Layout,
-    zones: Zones,
+    blocks: Blocks,
     form: Form,
     read: &'r F,
     work: &'a mut Work,
 }
 
-impl<'a, 'r, F: Fn(&mut Work, &BlockPlan) -> Result<Fixed, Cause>> PlainCommand
-    for Recover<'a, 'r, F> {
+impl<'a, 'r, F, S: Source, K: Sink, E: Sink> PlainCommand<S, K, E> for Recover<'a, 'r, F>
+where
+    F: Fn(&mut Work, &BlockPlan) -> Result<Fixed, Cause>,
+{
     ghost Key = { DiskLayout × WhichZones × CaptureForm };
 
-    ghost key = { λ r. (r.layout, r.zones, r.form) };
+    ghost key = { λ r. (r.blocks.layout, r.blocks.zones, r.form) };
 
     ghost units = { λ key. recover_units key.0 key.1 key.2 };
 
@@ -56,20 +58,15 @@ impl<'a, 'r, F: Fn(&mut Work, &BlockPlan) -> Result<Fixed, Cause>> PlainCommand
     ghost alone = { λ _. record { opens = refl; closes = λ _. refl; after_last = refl } };
 
     fn count(&self) -> u32 {
-        self.layout.blocks(self.zones) as u32
+        self.blocks.count()
     }
 
-    fn process<S: Source, K: Sink, E: Sink>(
-        &mut self,
-        k: u32,
-        src: &mut S,
-        out: &mut K,
-        report: &mut E,
-    ) -> Result<UnitKind, LoopEnd> {
-        let entry = self.layout.plan(self.zones, u64::from(k));
+    // Each block is read whole, even one without image, since the next begins after it.
+    fn process(&mut self, k: u32, src: &mut S, out: &mut K, report: &mut E) -> Answer {
+        let entry = self.blocks.at(k);
         fetch_block(src, k, self.form, self.work)?;
         let block = Planned {
-            layout: &self.layout,
+            layout: &self.blocks.layout,
             k,
             entry: &entry,
         };
@@ -98,42 +95,40 @@ pub fn recover_loop<R: Threads + Sync, S: Source, K: Sink, E: Sink, G: Gate>(
 {
     let workers = settings.workers;
     let read = |work: &mut Work, plan: &BlockPlan| -> Result<Fixed, Cause>
-        requires { IsSync R.row
-            × IsSync G.row
-            × (1 ≤ workers)
-            × (workers ≤ 16)
-            × HasBlock (stage_of work.now)
-            × HasNumbers plan.now }
+        requires { MayRead (IsSync R.row) (IsSync G.row) workers work.now plan.now }
         ensures { IsBlockRead work.entry.now work.exit.now plan.entry.now result }
     { read_block_par(rt, workers, gate, work, plan) };
     let recover = Recover {
-        layout: *layout,
-        zones: settings.zones,
+        blocks: Blocks {
+            layout: *layout,
+            zones: settings.zones,
+        },
         form: settings.form,
         read: &read,
         work,
     };
-    run_owned(recover, src, out, report)
+    run_plain(recover, src, out, report)
 }
 
 /// The command with its buffers, or why it doesn't begin.
+/// Memory is taken before the header of a listed capture is read, so a command that doesn't begin has read nothing.
 pub(crate) fn run_recover<R: Threads + Sync, S: Source, K: Sink, E: Sink, G: Gate>(
     workers: &Workers<'_, R, G>,
-    alloc: Global,
-    settings: &Settings,
+    start: &Start<'_>,
     src: &mut S,
     out: &mut K,
     report: &mut E,
 ) -> Result<LoopEnd, Refusal>
-    requires command { settings.now.command ≡ Command.Recover }
-    requires workers { (1 ≤ settings.now.workers) × (settings.now.workers ≤ 16) }
-    ensures performed { IsPerformed settings.now
+    requires command { start.now.settings.now.command ≡ Command.Recover }
+    requires workers { (1 ≤ start.now.settings.now.workers) × (start.now.settings.now.workers ≤ 16) }
+    ensures performed { IsPerformed start.now.settings.now
         (streams (S.seen src.old) (K.seen out.old) (E.seen report.old))
         (streams (S.seen src.new) (K.seen out.new) (E.seen report.new)) result }
     ensures untouched { IsErr result → (src.new ≡ src.old) × (out.new ≡ out.old) × (report.new ≡ report.old) }
 {
+    let settings = start.settings;
     let worded = layout_from_arguments(settings)?;
-    let mut work = Work::new(alloc)?;
+    let mut work = Work::new(start.alloc)?;
     match open_blocks(settings, worded, src) {
         Ok(stated) => Ok(recover_loop(
             workers.rt,
@@ -157,7 +152,7 @@ fn recover_block<F: Fn(&mut Work, &BlockPlan) -> Result<Fixed, Cause>, K: Sink, 
     work: &mut Work,
     out: &mut K,
     report: &mut E,
-) -> Result<UnitKind, LoopEnd>
+) -> Answer
     requires reader { IsReader F.Fn read.now }
     requires numbers { HasNumbers block.now.entry.now }
     requires stage { HasBlock (stage_of work.old) }

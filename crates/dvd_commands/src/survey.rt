@@ -20,73 +20,70 @@ ghost use Rattle.dvd_commands.specs.Captured.{IsCaptureEnd};
 ghost use Rattle.dvd_commands.specs.Survey.{found_in, survey_units, kind_by};
 ghost use Rattle.dvd_commands.specs.Performed.{IsPerformed};
 ghost use Rattle.dvd_commands.specs.Inner.Performing.{IsLineDone};
-ghost use Rattle.dvd_commands.specs.Inner.Workers.{IsReader};
+ghost use Rattle.dvd_commands.specs.Inner.Workers.{IsReader, MayRead};
 ghost use Rattle.dvd_words.specs.Settings.{IsLayoutOf};
 
+use crate::blocks::Blocks;
 use crate::captured::fetch_block;
 use crate::opening::{layout_from_arguments, open_blocks};
 use crate::refusal::Refusal;
+use crate::start::Start;
 use crate::workers::{Workers, read_by};
 use dvd_capture::{Form, Work};
-use dvd_layout::{BlockPlan, Layout, Zones};
-use dvd_loop::{AfterLast, LoopEnd, UnitCommand, UnitKind, run_owned};
+use dvd_layout::{BlockPlan, Layout};
+use dvd_loop::{AfterLast, Answer, LoopEnd, UnitCommand, UnitKind, run_owned};
 use dvd_par::{Gate, read_block_par};
 use dvd_ports::{NullSink, Sink, Source};
 use dvd_read::{Cause, Fixed};
 use dvd_report::Survey;
 use dvd_words::{Command, Settings};
-use std::alloc::Global;
 use std::thread::Threads;
 
 /// Its blocks, in the order of the plan, how they are read, what was found so far, and the memory of one block.
 #[derive(Drop)]
 struct Surveying<'a, 'r, F> {
-    layout: Layout,
-    zones: Zones,
+    blocks: Blocks,
     form: Form,
     read: &'r F,
     survey: &'a mut Survey,
     work: &'a mut Work,
 }
 
-impl<'a, 'r, F: Fn(&mut Work, &BlockPlan) -> Result<Fixed, Cause>> UnitCommand
-    for Surveying<'a, 'r, F> {
+impl<'a, 'r, F, S: Source, K: Sink, E: Sink> UnitCommand<S, K, E> for Surveying<'a, 'r, F>
+where
+    F: Fn(&mut Work, &BlockPlan) -> Result<Fixed, Cause>,
+{
     ghost Key = { DiskLayout × WhichZones × CaptureForm };
 
-    ghost key = { λ s. (s.layout, s.zones, s.form) };
+    ghost key = { λ s. (s.blocks.layout, s.blocks.zones, s.form) };
 
     ghost units = { λ key. survey_units key.0 key.1 key.2 };
 
-    ghost ready = { λ s before. StandsFor s.survey.now (found_in s.layout s.zones s.form before) × IsReader F.Fn s.read.now };
+    ghost ready = { λ s before. StandsFor s.survey.now (found_in s.blocks.layout s.blocks.zones s.form before) × IsReader F.Fn s.read.now };
 
     ghost left = { λ _ _. Unit {0} };
 
     fn count(&self) -> u32 {
-        self.layout.blocks(self.zones) as u32
+        self.blocks.count()
     }
 
     fn after_last(&self) -> AfterLast {
         AfterLast::EndOfInput
     }
 
-    fn open<K: Sink, E: Sink>(&self, _out: &mut K, _report: &mut E) -> Result<(), LoopEnd> {
+    fn open(&self, _out: &mut K, _report: &mut E) -> Result<(), LoopEnd> {
         Ok(())
     }
 
-    fn process<S: Source, K: Sink, E: Sink>(
-        &mut self,
-        k: u32,
-        src: &mut S,
-        out: &mut K,
-        _report: &mut E,
-    ) -> Result<UnitKind, LoopEnd> {
-        let entry = self.layout.plan(self.zones, u64::from(k));
+    // A refused block doesn't end the run: its line and the totals say so.
+    fn process(&mut self, k: u32, src: &mut S, out: &mut K, _report: &mut E) -> Answer {
+        let entry = self.blocks.at(k);
         fetch_block(src, k, self.form, self.work)?;
         survey_block(&entry, self.read, self.survey, self.work, out)
     }
 
     // Before one more byte is requested, so that an input that is too long has its totals too.
-    fn close<K: Sink, E: Sink>(&self, out: &mut K, _report: &mut E) -> Result<(), LoopEnd> {
+    fn close(&self, out: &mut K, _report: &mut E) -> Result<(), LoopEnd> {
         self.survey.write_totals(out)?;
         Ok(())
     }
@@ -115,17 +112,14 @@ pub fn survey_loop<R: Threads + Sync, S: Source, K: Sink, G: Gate>(
 {
     let workers = settings.workers;
     let read = |work: &mut Work, plan: &BlockPlan| -> Result<Fixed, Cause>
-        requires { IsSync R.row
-            × IsSync G.row
-            × (1 ≤ workers)
-            × (workers ≤ 16)
-            × HasBlock (stage_of work.now)
-            × HasNumbers plan.now }
+        requires { MayRead (IsSync R.row) (IsSync G.row) workers work.now plan.now }
         ensures { IsBlockRead work.entry.now work.exit.now plan.entry.now result }
     { read_block_par(rt, workers, gate, work, plan) };
     let surveying = Surveying {
-        layout: *layout,
-        zones: settings.zones,
+        blocks: Blocks {
+            layout: *layout,
+            zones: settings.zones,
+        },
         form: settings.form,
         read: &read,
         survey,
@@ -135,22 +129,23 @@ pub fn survey_loop<R: Threads + Sync, S: Source, K: Sink, G: Gate>(
 }
 
 /// The command with its buffers, or why it doesn't begin.
+/// Memory is taken before the header of a listed capture is read, so a command that doesn't begin has read nothing.
 pub(crate) fn run_survey<R: Threads + Sync, S: Source, K: Sink, G: Gate>(
     workers: &Workers<'_, R, G>,
-    alloc: Global,
-    settings: &Settings,
+    start: &Start<'_>,
     src: &mut S,
     out: &mut K,
 ) -> Result<LoopEnd, Refusal>
-    requires command { settings.now.command ≡ Command.Survey }
-    requires workers { (1 ≤ settings.now.workers) × (settings.now.workers ≤ 16) }
-    ensures performed { (report : Seen) → IsPerformed settings.now
+    requires command { start.now.settings.now.command ≡ Command.Survey }
+    requires workers { (1 ≤ start.now.settings.now.workers) × (start.now.settings.now.workers ≤ 16) }
+    ensures performed { (report : Seen) → IsPerformed start.now.settings.now
         (streams (S.seen src.old) (K.seen out.old) report) (streams (S.seen src.new) (K.seen out.new) report) result }
     ensures untouched { IsErr result → (src.new ≡ src.old) × (out.new ≡ out.old) }
 {
+    let settings = start.settings;
     let worded = layout_from_arguments(settings)?;
-    let mut survey = Survey::new(alloc)?;
-    let mut work = Work::new(alloc)?;
+    let mut survey = Survey::new(start.alloc)?;
+    let mut work = Work::new(start.alloc)?;
     match open_blocks(settings, worded, src) {
         Ok(stated) => Ok(survey_loop(
             workers.rt,
@@ -167,13 +162,14 @@ pub(crate) fn run_survey<R: Threads + Sync, S: Source, K: Sink, G: Gate>(
 }
 
 // Reads a block, adds it to the survey, and writes its line.
+// It is added first, since its line is the last of the survey.
 fn survey_block<F: Fn(&mut Work, &BlockPlan) -> Result<Fixed, Cause>, K: Sink>(
     entry: &BlockPlan,
     read: &F,
     survey: &mut Survey,
     work: &mut Work,
     out: &mut K,
-) -> Result<UnitKind, LoopEnd>
+) -> Answer
     requires reader { IsReader F.Fn read.now }
     requires numbers { HasNumbers entry.now }
     requires stage { HasBlock (stage_of work.old) }

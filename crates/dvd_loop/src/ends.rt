@@ -95,3 +95,6 @@ pub enum AfterLast {
     /// Likewise the end of the loop, where a unit was to answer and none did.
     NoControl,
 }
+
+/// What processing a unit answers: its kind, or how the loop ends within it.
+pub type Answer = Result<UnitKind, LoopEnd>;

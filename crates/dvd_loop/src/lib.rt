@@ -9,8 +9,8 @@ mod plain_command; // a command that neither opens nor closes
 mod reading; // the bytes of one unit
 mod unit_command; // a command, seen from the loop
 
-pub use ends::{AfterLast, LoopEnd, UnitKind};
+pub use ends::{AfterLast, Answer, LoopEnd, UnitKind};
 pub use loops::{close, run_owned, run_units};
-pub use plain_command::PlainCommand;
+pub use plain_command::{PlainCommand, run_plain};
 pub use reading::read_unit;
 pub use unit_command::UnitCommand;

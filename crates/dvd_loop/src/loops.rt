@@ -10,7 +10,7 @@ use dvd_ports::{Failed, Sink, Source, WriteFault, read_whole, write_whole};
 
 /// Opens a command, goes over its units, closes it, and checks what comes after the last unit. Nothing is tried again:
 /// a failed call, and a read that met the end of the input, is the last of its stream.
-pub fn run_units<C: UnitCommand, S: Source, K: Sink, E: Sink>(
+pub fn run_units<C: UnitCommand<S, K, E>, S: Source, K: Sink, E: Sink>(
     command: &mut C,
     src: &mut S,
     out: &mut K,
@@ -41,7 +41,7 @@ pub fn run_units<C: UnitCommand, S: Source, K: Sink, E: Sink>(
 }
 
 /// Likewise for a command that is handed over, where the caller doesn't need what it leaves.
-pub fn run_owned<C: UnitCommand + Drop, S: Source, K: Sink, E: Sink>(
+pub fn run_owned<C: UnitCommand<S, K, E> + Drop, S: Source, K: Sink, E: Sink>(
     command: C,
     src: &mut S,
     out: &mut K,
@@ -56,6 +56,7 @@ pub fn run_owned<C: UnitCommand + Drop, S: Source, K: Sink, E: Sink>(
     run_units(&mut command, src, out, report)
 }
 
+// One byte is requested, since only a read can find the end of the input.
 fn expect_end<S: Source>(after_last: AfterLast, bad: u32, src: &mut S) -> LoopEnd
     ensures comes { (output report : Seen) → HaveReached (EndsAfterLast after_last bad)
         (streams (S.seen src.old) output report) (streams (S.seen src.new) output report) result }

@@ -1,14 +1,14 @@
 //! A command whose units are independent: nothing opens or closes them, and the input has to end after the last.
 ghost use Rattle.std.specs.Prelude.{◌≡◌, ◌<◌};
-ghost use Rattle.dvd_loop.specs.Machine.{Units};
-ghost use Rattle.dvd_loop.specs.Streams.{streams};
+ghost use Rattle.dvd_loop.specs.Machine.{IsOutcome, Units};
+ghost use Rattle.dvd_loop.specs.Streams.{streams, HasEnded};
 ghost use Rattle.dvd_loop.specs.UnitCommand.{ArePlain, ProcessesPlain};
 
-use crate::{AfterLast, LoopEnd, UnitCommand, UnitKind};
+use crate::{AfterLast, Answer, LoopEnd, UnitCommand, run_owned};
 use dvd_ports::{Sink, Source};
 
 /// A command whose units are independent: the processing of one is right whatever came before it.
-pub trait PlainCommand {
+pub trait PlainCommand<S: Source, K: Sink, E: Sink> {
     /// What its units depend on, and the names of what it borrows. No unit changes it.
     ghost Key: { Type 0 };
 
@@ -29,13 +29,7 @@ pub trait PlainCommand {
         ensures { result ≡ (units (key self.now)).count };
 
     /// Reads unit `k`, does its steps in order, and answers the kind of the unit.
-    fn process<S: Source, K: Sink, E: Sink>(
-        &mut self,
-        k: u32,
-        src: &mut S,
-        out: &mut K,
-        report: &mut E,
-    ) -> Result<UnitKind, LoopEnd>
+    fn process(&mut self, k: u32, src: &mut S, out: &mut K, report: &mut E) -> Answer
         requires unit { k < (units (key self.old)).count }
         requires ready { ready self.old }
         ensures same { key self.new ≡ key self.old }
@@ -45,41 +39,56 @@ pub trait PlainCommand {
             (streams (S.seen src.new) (K.seen out.new) (E.seen report.new)) result };
 }
 
-// The loop runs it as any other: it opens and closes with nothing, and one more byte is requested after its last unit.
-impl<P: PlainCommand> UnitCommand for P {
+// As the loop sees it: it opens and closes with nothing, and one more byte is requested after its last unit.
+// A type of its own: where a trait has parameters, an impl for all plain commands could clash with another.
+#[derive(Drop)]
+struct Plain<P> {
+    command: P,
+}
+
+impl<S: Source, K: Sink, E: Sink, P: PlainCommand<S, K, E>> UnitCommand<S, K, E> for Plain<P> {
     ghost Key = { P.PlainCommand.Key };
 
-    ghost key = { P.PlainCommand.key };
+    ghost key = { λ plain. P.PlainCommand.key plain.command };
 
     ghost units = { P.PlainCommand.units };
 
-    ghost ready = { λ command _. P.PlainCommand.ready command };
+    ghost ready = { λ plain _. P.PlainCommand.ready plain.command };
 
     ghost left = { λ _ _. Unit {0} };
 
     fn count(&self) -> u32 {
-        PlainCommand::count(self)
+        self.command.count()
     }
 
     fn after_last(&self) -> AfterLast {
         AfterLast::EndOfInput
     }
 
-    fn open<K: Sink, E: Sink>(&self, _out: &mut K, _report: &mut E) -> Result<(), LoopEnd> {
+    fn open(&self, _out: &mut K, _report: &mut E) -> Result<(), LoopEnd> {
         Ok(())
     }
 
-    fn process<S: Source, K: Sink, E: Sink>(
-        &mut self,
-        k: u32,
-        src: &mut S,
-        out: &mut K,
-        report: &mut E,
-    ) -> Result<UnitKind, LoopEnd> {
-        PlainCommand::process(self, k, src, out, report)
+    fn process(&mut self, k: u32, src: &mut S, out: &mut K, report: &mut E) -> Answer {
+        self.command.process(k, src, out, report)
     }
 
-    fn close<K: Sink, E: Sink>(&self, _out: &mut K, _report: &mut E) -> Result<(), LoopEnd> {
+    fn close(&self, _out: &mut K, _report: &mut E) -> Result<(), LoopEnd> {
         Ok(())
     }
+}
+
+/// Goes over the units of a command, as `run_units` does, and checks that the input ends after the last.
+pub fn run_plain<P: PlainCommand<S, K, E> + Drop, S: Source, K: Sink, E: Sink>(
+    command: P,
+    src: &mut S,
+    out: &mut K,
+    report: &mut E,
+) -> LoopEnd
+    requires { P.ready command }
+    ensures { HasEnded (IsOutcome (P.units (P.key command)))
+        (streams (S.seen src.old) (K.seen out.old) (E.seen report.old))
+        (streams (S.seen src.new) (K.seen out.new) (E.seen report.new)) result }
+{
+    run_owned(Plain { command }, src, out, report)
 }

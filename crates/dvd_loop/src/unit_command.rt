@@ -6,11 +6,11 @@ ghost use Rattle.dvd_loop.specs.Streams.{streams};
 ghost use Rattle.dvd_loop.specs.UnitCommand.{AreSteps, HaveCausesFor, IsReadyFor, ClosesUnits, Processes};
 ghost use Rattle.dvd_loop.specs.declared.ends.LoopEnd.{LoopEnd as HowItEnds};
 
-use crate::{AfterLast, LoopEnd, UnitKind};
+use crate::{AfterLast, Answer, LoopEnd, UnitKind};
 use dvd_ports::{Sink, Source};
 
-/// A command that goes over its input unit by unit.
-pub trait UnitCommand {
+/// A command that goes over its input unit by unit. The streams are parameters, since a run has one of each.
+pub trait UnitCommand<S: Source, K: Sink, E: Sink> {
     /// What its units depend on, and the names of what it borrows. No unit changes it.
     /// Units are too large a thing for a clause to compare before and after a call.
     ghost Key: { Type 0 };
@@ -37,7 +37,7 @@ pub trait UnitCommand {
 
     /// Writes and reports what comes before the first unit. It has no default body: that would have to be proved for
     /// all units, though most commands open with nothing.
-    fn open<K: Sink, E: Sink>(&self, out: &mut K, report: &mut E) -> Result<(), LoopEnd>
+    fn open(&self, out: &mut K, report: &mut E) -> Result<(), LoopEnd>
         ensures opens { (source : Seen) → AreSteps (units (key self.now)).opens
             (streams source (K.seen out.old) (E.seen report.old)) (streams source (K.seen out.new) (E.seen report.new)) result }
         ensures causes { (source : Seen) → HaveCausesFor result
@@ -45,13 +45,7 @@ pub trait UnitCommand {
         ensures left { IfErr result (left self.now) };
 
     /// Reads unit `k`, does its steps in order, and answers the kind of the unit.
-    fn process<S: Source, K: Sink, E: Sink>(
-        &mut self,
-        k: u32,
-        src: &mut S,
-        out: &mut K,
-        report: &mut E,
-    ) -> Result<UnitKind, LoopEnd>
+    fn process(&mut self, k: u32, src: &mut S, out: &mut K, report: &mut E) -> Answer
         requires unit { k < (units (key self.old)).count }
         requires ready { IsReadyFor k (ready self.old) }
         ensures same { key self.new ≡ key self.old }
@@ -62,7 +56,7 @@ pub trait UnitCommand {
         ensures last { result ≡ Ok UnitKind.Last → left self.new LoopEnd.Done };
 
     /// Writes and reports what comes after the last unit, before one more byte is requested.
-    fn close<K: Sink, E: Sink>(&self, out: &mut K, report: &mut E) -> Result<(), LoopEnd>
+    fn close(&self, out: &mut K, report: &mut E) -> Result<(), LoopEnd>
         ensures closes { (source : Seen) → ClosesUnits (units (key self.now)) (ready self.now)
             (streams source (K.seen out.old) (E.seen report.old)) (streams source (K.seen out.new) (E.seen report.new)) result }
         ensures causes { (source : Seen) → HaveCausesFor result

@@ -1,7 +1,7 @@
 -- Ours: how the loops of commands have their blocks read and given their parity. A loop is handed a closure for it,
 -- which holds the workers. A unit is processed knowing that each call of the closure does what the call of one worker
 -- does.
-use Rattle.std.specs.Prelude.{Result}
+use Rattle.std.specs.Prelude.{◌≤◌, ℕ, Result}
 use denote.Ref.{Bor, MutBor}
 use denote.Param.Members.{Shared}
 use Rattle.dvd_block.specs.Buffers.{block_rows}
@@ -26,3 +26,11 @@ pub record IsReader {F : Type 0} (g : Shared F (MutBor Work × (Bor BlockPlan ×
 pub record IsAdder {F : Type 0} (g : Shared F (MutBor Block × Unit {0}) (Unit {0} × (MutBor Block × Unit {0}))) (f : F) : Type 0 where
   pub may : (block : MutBor Block) → g.pre f (block, tt)
   pub does : (block after : MutBor Block) → g.post f (block, tt) (tt, (after, tt)) → IsParityAdded (block_rows block.now) (block_rows after.now)
+
+-- Workers may be at work: the runtime and the gate are shared with threads, and there are 1 to 16 of them.
+abbrev pub MayWork : Type 0 → Type 0 → ℕ → Type 0
+MayWork runtime gate workers = runtime × gate × (1 ≤ workers) × (workers ≤ 16)
+
+-- and they may read this captured block as this entry of a plan
+abbrev pub MayRead : Type 0 → Type 0 → ℕ → Work → BlockPlan → Type 0
+MayRead runtime gate workers work plan = runtime × gate × (1 ≤ workers) × (workers ≤ 16) × HasBlock (stage_of work) × HasNumbers plan

@@ -8,11 +8,11 @@ use Rattle.cap_mark.proofs.marking.mark_loop.Goals as goal
 pub returns-clause-follows : goal.returns-clause-follows
 returns-clause-follows g c = λ report.
     beside (mark_units c.args.spans.now) (plain_silent _ _ _ (λ k own steps kind done. one_write steps _ done.writes))
-    _ _ _ _ report c.run_owned.result c.run_owned.ensures
+    _ _ _ _ report c.run_plain.result c.run_plain.ensures
 
 pub returns-clause-ends : goal.returns-clause-ends
 returns-clause-ends g c =
-    let f = c.run_owned.ensures.comes in
+    let f = c.run_plain.ensures.comes in
     plain_end (mark_units c.args.spans.now) (λ k. 2366) (λ k own. refl) refl f.bytes f.outcome f.holds
-    (λ k before own steps does. let no = does.good in cc) c.run_owned.result f.ends
-    (never_told c.run_owned.result c.run_owned.ensures.causes.report)
+    (λ k before own steps does. let no = does.good in cc) c.run_plain.result f.ends
+    (never_told c.run_plain.result c.run_plain.ensures.causes.report)

@@ -8,7 +8,7 @@ use Rattle.dvd_commands.proofs.convert.run_convert.Goals as goal
 
 pub returns-clause-performed : goal.returns-clause-performed
 returns-clause-performed g c = λ report.
-    let settings = c.args.settings.now in
+    let settings = c.args.start.now.settings.now in
     let layout = c.in_ok-layout.layout in record {
       lawful = subst (λ command. (meaning command).breaks settings ≡ None) (sym c.requires.command) (c.in_ok-layout.ensures.lawful refl);
       loop = ended_as (Converts settings layout) (GoesOver settings) _ _ c.convert_loop.result

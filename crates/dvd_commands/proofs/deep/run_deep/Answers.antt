@@ -8,8 +8,8 @@ returns-in-Ok-clause-performed g c =
     let stated = c.in-Ok.stated.settings in
     let layout = c.in-Ok.stated.layout in
     let e = c.in-Ok.ensures in
-    looped_over Deep c.args.settings.now stated layout c.requires (λ unbroken. unbroken) _ _ _ _ _ c.deep_loop.result e.begun (e.causes _ _)
+    looped_over Deep c.args.start.now.settings.now stated layout c.requires (λ unbroken. unbroken) _ _ _ _ _ c.deep_loop.result e.begun (e.causes _ _)
     layout e.layout c.deep_loop.ensures.follows
 
 pub returns-clause-performed : goal.returns-clause-performed
-returns-clause-performed g c = looped_no_further c.args.settings.now _ _ _ _ c.in-Err.end c.in-Err.ensures.ended (c.in-Err.ensures.causes _ _)
+returns-clause-performed g c = looped_no_further c.args.start.now.settings.now _ _ _ _ c.in-Err.end c.in-Err.ensures.ended (c.in-Err.ensures.causes _ _)

@@ -10,8 +10,8 @@ run_units-requires g c = (none_behind _ _ _ _ c.rand_of.ensures refl refl refl, 
 
 pub returns-clause-follows : goal.returns-clause-follows
 returns-clause-follows g c = λ report.
-    let settings = c.args.settings.now in
-    beside (exercise_units settings.seed settings.blocks)
+    let drawing = c.args.drawing.now in
+    beside (exercise_units drawing.seed drawing.blocks)
     (record {
       opens = tt;
       does = λ k before own steps kind done. subst AreWrites (sym done.0) tt;
@@ -22,8 +22,8 @@ returns-clause-follows g c = λ report.
 pub returns-clause-left : goal.returns-clause-left
 returns-clause-left g c =
     let command = c.run_units.new.command in
-    let seed : command.seed ≡ c.args.settings.now.seed = ap (λ key. key.0) c.run_units.ensures.same in
-    let blocks : command.blocks ≡ c.args.settings.now.blocks = ap (λ key. key.1) c.run_units.ensures.same in
-    subst (IsLeft c.args.settings.now.seed (c.args.settings.now.blocks - 1)) (search rules)
-    (subst (λ n. IsLeft c.args.settings.now.seed (n - 1) command.work.now) blocks
+    let seed : command.seed ≡ c.args.drawing.now.seed = ap (λ key. key.0) c.run_units.ensures.same in
+    let blocks : command.blocks ≡ c.args.drawing.now.blocks = ap (λ key. key.1) c.run_units.ensures.same in
+    subst (IsLeft c.args.drawing.now.seed (c.args.drawing.now.blocks - 1)) (search rules)
+    (subst (λ n. IsLeft c.args.drawing.now.seed (n - 1) command.work.now) blocks
     (subst (λ s. IsLeft s (command.blocks - 1) command.work.now) seed c.run_units.ensures.left))

@@ -6,6 +6,6 @@ use Rattle.dvd_commands.proofs.exercise.run_exercise.Goals as goal
 
 pub returns-clause-performed : goal.returns-clause-performed
 returns-clause-performed g c = λ report.
-    let settings = c.args.settings.now in
+    let settings = c.args.start.now.settings.now in
     gone_over Exercise settings c.requires.command refl tt tt
     _ _ c.follow_trials.result (c.follow_trials.ensures.follows report)

@@ -7,7 +7,7 @@ use Rattle.dvd_commands.proofs.info.run_info.Goals as goal
 
 pub returns-in-Some-clause-performed : goal.returns-in-Some-clause-performed
 returns-in-Some-clause-performed g c = λ report.
-    let settings = c.args.settings.now in
+    let settings = c.args.start.now.settings.now in
     let worded = subst (IsWordedInitial settings) c.in-Some.is c.in_ok-worded.ensures.worded in
     looped_by_words settings worded.0 _ _ c.info_loop.result
     (gone_over Info settings c.requires worded.2 tt tt
@@ -15,5 +15,5 @@ returns-in-Some-clause-performed g c = λ report.
 
 pub returns-clause-performed : goal.returns-clause-performed
 returns-clause-performed g c = λ report.
-    let settings = c.args.settings.now in
+    let settings = c.args.start.now.settings.now in
     looped_listed settings (subst (IsWordedInitial settings) c.in-None.is c.in_ok-worded.ensures.worded) _ _ c.info_listed.result (c.info_listed.ensures report)

@@ -10,11 +10,11 @@ returns-clause-follows g c = λ report.
     let settings = c.args.settings.now in
     beside (master_units c.args.layout.now settings.zones settings.cpr)
     (plain_silent _ _ _ (λ k own steps kind done. one_write steps _ done.writes))
-    _ _ _ _ report c.run_owned.result c.run_owned.ensures
+    _ _ _ _ report c.run_plain.result c.run_plain.ensures
 
 pub returns-clause-ends : goal.returns-clause-ends
 returns-clause-ends g c =
-    let f = c.run_owned.ensures.comes in
+    let f = c.run_plain.ensures.comes in
     let settings = c.args.settings.now in
     plain_end (master_units c.args.layout.now settings.zones settings.cpr) (bytes_of_block c.args.layout.now settings.zones) (λ k own. refl) refl f.bytes f.outcome f.holds
-    (λ k before own steps does. let no = does.good in cc) c.run_owned.result f.ends (never_told c.run_owned.result c.run_owned.ensures.causes.report)
+    (λ k before own steps does. let no = does.good in cc) c.run_plain.result f.ends (never_told c.run_plain.result c.run_plain.ensures.causes.report)

@@ -4,7 +4,6 @@ use Rattle.dvd_layout.specs.Plan.{plan_of}
 use Rattle.dvd_loop.proofs.UnitLemmas.{err_is}
 use Rattle.dvd_commands.specs.Recover.{IsDone}
 use Rattle.dvd_commands.proofs.CapturedUnits.{captured_done, captured_short}
-use Rattle.dvd_commands.proofs.PlanEntries.{has_numbers}
 use Rattle.dvd_commands.proofs.EntryBlocks.{done_by_entry}
 use Rattle.dvd_commands.proofs.recover.RecoverPlainCommand.process.Goals as goal
 
@@ -13,16 +12,11 @@ returns-in_err-fetch_block-clause-processed g c = λ before number.
     captured_short _ c.args.self.now.form (λ k own. refl) c.args.k before number _ _ _ _ _ _ _ (err_is _ _ c.from_residual.ensures.1)
     c.in_err-fetch_block.ensures.ended (c.in_err-fetch_block.ensures.causes _ _)
 
-pub recover_block-requires-clause-numbers : goal.recover_block-requires-clause-numbers
-recover_block-requires-clause-numbers g c =
-    let m = c.args.self.now in
-    has_numbers m.layout m.zones c.from.result c.plan-entry.result c.plan-entry.ensures
-
 pub returns-clause-processed : goal.returns-clause-processed
 returns-clause-processed g c = λ before number.
     let m = c.args.self.now in
     let fetched = c.in_ok-fetch_block.ensures.full in
-    let stands = rw c.from.ensures at c.plan-entry.ensures in
+    let stands = c.at-entry.ensures.stands in
     captured_done _ m.form (λ k own. refl) c.args.k before number _ _ _ _ _ _ _ fetched (c.in_ok-fetch_block.ensures.causes _ _) _ _ _
-    (done_by_entry (plan_of m.layout m.zones) (λ e. IsDone e.content m.layout c.args.k e) m.form c.args.k c.plan-entry.result stands fetched.bytes _ _ fetched.rows_are fetched.marks_are
+    (done_by_entry (plan_of m.blocks.layout m.blocks.zones) (λ e. IsDone e.content m.blocks.layout c.args.k e) m.form c.args.k c.at-entry.result stands fetched.bytes _ _ fetched.rows_are fetched.marks_are
     _ _ _ (c.recover_block.ensures (g.S.Source.seen c.fetch_block.new.src))) tt

@@ -12,7 +12,7 @@ use Rattle.dvd_commands.proofs.survey.SurveyingUnitCommand.close.Goals as goal
 pub returns-in_err-write_totals-clause-closes : goal.returns-in_err-write_totals-clause-closes
 returns-in_err-write_totals-clause-closes g c = λ source before number ready.
     let m = c.args.self.now in
-    let line = totals_line (found_in m.layout m.zones m.form before) in
+    let line = totals_line (found_in m.blocks.layout m.blocks.zones m.form before) in
     let output = g.K.Sink.seen c.args.out.now in
     let new_output = g.K.Sink.seen c.write_totals.new.out in
     let report = g.E.Sink.seen c.args._report.now in
@@ -20,5 +20,5 @@ returns-in_err-write_totals-clause-closes g c = λ source before number ready.
       Write line ∷ [],
       refl,
       subst (AreSteps (Write line ∷ []) (streams source output report) (streams source new_output report)) (sym (err_is answer WriteFault c.from_residual.ensures.1))
-          (step_begun source output new_output report line [] (c.in_err-write_totals.ensures.begun (found_in m.layout m.zones m.form before) ready.0)),
+          (step_begun source output new_output report line [] (c.in_err-write_totals.ensures.begun (found_in m.blocks.layout m.blocks.zones m.form before) ready.0)),
     )

@@ -1,7 +1,0 @@
--- The proof of `count` of `UnitCommand` for `Surveying` in src/survey.rt.
-use Rattle.std.proofs.Common.{arith}
-use Rattle.dvd_commands.proofs.PlanLengths.{plan-few}
-use Rattle.dvd_commands.proofs.survey.SurveyingUnitCommand.count.Goals as goal
-
-pub overflow_cast-result : goal.overflow_cast-result
-overflow_cast-result g c = omega (arith, c.blocks-2.ensures, plan-few c.args.self.now.layout c.args.self.now.zones)
