@@ -1,10 +1,10 @@
--- The line that closes a report, and the status that goes with it.
-use Rattle.std.specs.Prelude.{◌≡◌, ◌⊎◌, ℕ, List, codes}
+-- The lines of reports that several commands have, and the status that goes with the last.
+use Rattle.std.specs.Prelude.{◌≡◌, ◌⊎◌, ℕ, List, ◌++◌, codes, decimal}
 use Rattle.std.specs.Io.KnownBytes.{Appends}
 use Rattle.cap_top.specs.declared.status.Status.{Status}
 use Rattle.cap_top.specs.declared.status.Status.TheVariants as status
-use Rattle.cap_words.specs.declared.fault.WordsFault.{WordsFault}
-use Rattle.cap_words.specs.declared.fault.WordsFault.TheVariants as words
+use Rattle.dvd_words.specs.declared.fault.WordsFault.{WordsFault}
+use Rattle.dvd_words.specs.declared.fault.WordsFault.TheVariants as words
 use Rattle.dvd_ports.specs.Causes.{HasFailed, HasGoneOn}
 use Rattle.dvd_ports.specs.Seen.{Seen}
 use Rattle.dvd_ports.specs.Whole.{AppendsPrefix}
@@ -23,3 +23,7 @@ words_line words.NoMemory = codes "no memory\n"
 abbrev pub words_status : WordsFault → Status
 words_status words.Usage = status.Usage
 words_status words.NoMemory = status.NoMemory
+
+-- the line of an input, a line of which breaks a rule
+abbrev pub rule_line : List ℕ → ℕ → List ℕ → List ℕ
+rule_line front number cause = front ++ decimal number ++ codes ": " ++ cause ++ codes "\n"

@@ -5,7 +5,7 @@ use Rattle.cap_draw.specs.declared.drawing.DrawEnd.{DrawEnd}
 use Rattle.cap_draw.specs.declared.drawing.DrawEnd.TheVariants.{Done, NoMemory, ReadFault, Rule, Short, WriteFault}
 use Rattle.cap_survey.specs.declared.fault.Cause.{Cause}
 use Rattle.cap_survey.specs.declared.fault.Cause.TheVariants as causes
-use Rattle.cap_top.specs.Closing.{EndsWith}
+use Rattle.cap_top.specs.Closing.{EndsWith, rule_line}
 use Rattle.cap_top.specs.declared.status.Status.{Status}
 use Rattle.cap_top.specs.declared.status.Status.TheVariants as status
 use Rattle.dvd_ports.specs.Seen.{Seen}
@@ -26,7 +26,7 @@ draw_line Done = codes "done\n"
 draw_line (Short line bytes) = codes "short: line " ++ decimal line ++ codes ", " ++ decimal bytes ++ codes " bytes\n"
 draw_line ReadFault = codes "read fault\n"
 draw_line WriteFault = codes "write fault\n"
-draw_line (Rule fault) = codes "survey: line " ++ decimal fault.line ++ codes ": " ++ rule_text fault.cause ++ codes "\n"
+draw_line (Rule fault) = rule_line (codes "survey: line ") fault.line (rule_text fault.cause)
 draw_line NoMemory = codes "no memory\n"
 
 -- the status

@@ -8,7 +8,7 @@ use Rattle.cap_lost.specs.Report.{Losses}
 use Rattle.cap_lost.specs.declared.fault.ReportFault.{ReportFault}
 use Rattle.cap_lost.specs.declared.fault.ReportFault.TheVariants.{NoMemory, ReadFault, Rule}
 use Rattle.cap_top.specs.Closing.{EndsWith}
-use Rattle.cap_top.specs.Lost.Lines.{refusal_line, setting_line}
+use Rattle.cap_top.specs.Lost.Lines.{refusal_line}
 use Rattle.cap_top.specs.declared.status.Status.{Status}
 use Rattle.cap_top.specs.declared.status.Status.TheVariants as status
 use Rattle.cap_words.specs.Lost.{IsLayoutOf, broken_rule}
@@ -20,6 +20,7 @@ use Rattle.dvd_layout.specs.declared.layout.Zones.{Zones}
 use Rattle.dvd_loop.specs.Streams.{Streams}
 use Rattle.dvd_ports.specs.Whole.{IsWritten}
 use Rattle.dvd_ports.specs.declared.port.WriteFault.{WriteFault}
+use Rattle.dvd_report.specs.Setting.{setting_line}
 
 -- the status of a run whose report isn't read
 abbrev pub refusal_status : ReportFault → Status

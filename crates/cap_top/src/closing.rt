@@ -1,11 +1,12 @@
-//! The line that closes a report, and the status that goes with it. A run whose closing line fails has the status
-//! ReportFault, whatever else it did: silence isn't success.
-ghost use Rattle.std.specs.Prelude.{◌≡◌, codes};
-ghost use Rattle.cap_top.specs.Closing.{EndsWith, words_line, words_status};
+//! The lines of reports that several commands have, and the status that goes with the last. A run whose closing line
+//! fails has the status ReportFault, whatever else it did: silence isn't success.
+ghost use Rattle.std.specs.Prelude.{◌≡◌, ◌≤◌, codes, length};
+ghost use Rattle.cap_top.specs.Closing.{EndsWith, rule_line, words_line, words_status};
 
 use crate::status::Status;
 use cap_words::WordsFault;
 use dvd_ports::{Sink, WriteFault, write_whole};
+use dvd_report::Line;
 
 /// Writes the closing line, and answers the status of the run, or `ReportFault` where the line can't be written.
 pub fn end_with<E: Sink>(status: Status, line: &[u8], report: &mut E) -> Status
@@ -25,4 +26,28 @@ pub fn refuse_words<E: Sink>(fault: WordsFault, report: &mut E) -> Status
         WordsFault::Usage => end_with(Status::Usage, b"usage\n", report),
         WordsFault::NoMemory => end_with(Status::NoMemory, b"no memory\n", report),
     }
+}
+
+/// A line of fixed text.
+pub fn fixed_line(text: &[u8]) -> Line
+    requires { length text.now ≤ 20 }
+    ensures { result ≡ text.now }
+{
+    let mut line = Line::new();
+    line.put(text);
+    line
+}
+
+/// The line of an input, a line of which breaks a rule.
+pub fn rule_line(front: &[u8], number: u64, cause: &[u8]) -> Line
+    requires front { length front.now ≤ 20 }
+    requires cause { length cause.now ≤ 20 }
+    ensures { result ≡ rule_line front.now number cause.now }
+{
+    let mut line = Line::new();
+    line.put_named(front, number);
+    line.put(b": ");
+    line.put(cause);
+    line.put(b"\n");
+    line
 }

@@ -2,7 +2,7 @@
 //! over memory and cap_main over files.
 #![tactic(auto)]
 
-mod closing; // the line that closes a report
+mod closing; // the lines of reports that several commands have
 mod draw; // a run of `draw`
 mod interleave; // a run of `interleave`
 mod lost; // a run of `lost`

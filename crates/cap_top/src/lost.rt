@@ -1,6 +1,7 @@
 //! A run of `lost`: a report of `dvdecc` in, a map of the image out.
 ghost use Rattle.std.specs.Prelude.{◌≡◌};
-ghost use Rattle.cap_top.specs.Lost.{Headline, HasEnded, refusal_status};
+ghost use Rattle.cap_top.specs.Closing.{EndsWith};
+ghost use Rattle.cap_top.specs.Lost.{Headline, HasEnded, line_by, refusal_status, status_by};
 ghost use Rattle.dvd_loop.specs.Streams.{streams};
 
 mod lines; // the lines of its report
@@ -11,7 +12,8 @@ use cap_lost::{ReportFault, read_report, write_map};
 use cap_words::LostSettings;
 use dvd_layout::{Layout, Zones};
 use dvd_ports::{Sink, Source, WriteFault};
-use lines::{refused_line, setting_line};
+use dvd_report::setting_line;
+use lines::refused_line;
 use std::alloc::Global;
 
 /// Reads the report of a run of `dvdecc` from `src`, line by line, and then writes the map of its image to `out`. The
@@ -49,15 +51,22 @@ fn map_image<S: Source, K: Sink, E: Sink>(
 {
     // The whole report first: how much was written is in its last line.
     match read_report(alloc, layout, zones, src) {
-        Ok(lost) => match write_map(&lost, layout.total(), out) {
-            Ok(()) => end_with(Status::Done, b"done\n", report),
-            Err(WriteFault) => end_with(Status::WriteFault, b"write fault\n", report),
-        },
+        Ok(lost) => end_map(write_map(&lost, layout.total(), out), report),
         Err(fault) => end_with(
             refusal_status(fault),
             refused_line(fault).as_slice(),
             report,
         ),
+    }
+}
+
+// Says whether the map was written.
+fn end_map<E: Sink>(answer: Result<(), WriteFault>, report: &mut E) -> Status
+    ensures { EndsWith (status_by answer) (line_by answer) (E.seen report.old) (E.seen report.new) result }
+{
+    match answer {
+        Ok(()) => end_with(Status::Done, b"done\n", report),
+        Err(WriteFault) => end_with(Status::WriteFault, b"write fault\n", report),
     }
 }
 

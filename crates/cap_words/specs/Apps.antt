@@ -1,14 +1,11 @@
 -- The clap command of each command.
-use Rattle.std.specs.Prelude.{Bool, true, false, List, [], ◌∷◌, ◌++◌, map, codes, Some}
+use Rattle.std.specs.Prelude.{true, false, List, [], ◌∷◌, ◌++◌, map, codes, Some}
 use Rattle.clap.specs.Words.{App, Rule, Text, new_rule}
 use Rattle.clap.specs.Simple.{new_shape}
-use Rattle.clap.specs.declared.builder.action.ArgAction.TheVariants.{Append, Set, SetTrue}
+use Rattle.clap.specs.declared.builder.action.ArgAction.TheVariants.{Append, SetTrue}
+use Rattle.dvd_words.specs.Table.{option_rule}
 use Rattle.cap_words.specs.declared.settings.Command.{Command}
 use Rattle.cap_words.specs.declared.settings.Command.TheVariants.{Mark, Interleave, Lost, Draw}
-
--- `--name` with one value, at most once
-abbrev pub option_rule : Bool → Text → Rule
-option_rule required name = record (new_rule name) { long = Some name; action = Some Set; required = required }
 
 -- `--name` without a value, at most once
 abbrev pub flag_rule : Text → Rule

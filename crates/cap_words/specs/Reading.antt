@@ -1,9 +1,8 @@
 -- What the arguments of a command line ask for.
 use Rattle.std.specs.Prelude.{◌≡◌, ◌≤◌, if◌then◌else◌, List, [], ◌∷◌, codes, Option, Some, None, option_map}
 use Rattle.std.specs.Str.{bytes_eq}
-use Rattle.clap.specs.Words.{Row, Text, fault_of, matches_of}
-use Rattle.clap.specs.Walk.{is_empty}
-use Rattle.dvd_words.specs.Reading.{◌>>=◌}
+use Rattle.clap.specs.Words.{Row, Text}
+use Rattle.dvd_words.specs.Reading.{◌>>=◌, rows_by}
 use Rattle.cap_words.specs.Apps.{app_for}
 use Rattle.cap_words.specs.Draw.{draw_of}
 use Rattle.cap_words.specs.Interleave.{InterleaveAsked, IsLawful, interleave_asked, interleave_of}
@@ -39,7 +38,7 @@ command_of word =
 
 -- the options, the files and their values, where clap finds no fault in the arguments
 abbrev pub rows_for : Command → List Text → Option (List Row)
-rows_for command words = if is_empty (fault_of (app_for command) words) then Some (matches_of (app_for command) words) else None
+rows_for command = rows_by (app_for command)
 
 -- each option by its form
 abbrev pub settings_of : Command → List Row → Option Asked

@@ -3,10 +3,9 @@ ghost use Rattle.std.specs.Prelude.{◌≡◌, ◌≤◌, IfSome};
 ghost use Rattle.clap.specs.Words.{found_of, rows_of};
 ghost use Rattle.cap_words.specs.Draw.{draw_of};
 
-use crate::parser::given;
 use crate::settings::DrawSettings;
 use clap::ArgMatches;
-use dvd_words::read_within;
+use dvd_words::{given, read_within};
 
 /// Each option by its form. A picture of 4,000 columns has at most 2,000,000 bytes, which is the memory that is taken
 /// for one.

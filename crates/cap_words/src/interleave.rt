@@ -3,12 +3,11 @@ ghost use Rattle.std.specs.Prelude.{◌≡◌, codes, map, option_map, IfSome};
 ghost use Rattle.clap.specs.Words.{all_of, found_of, rows_of};
 ghost use Rattle.cap_words.specs.Interleave.{IsLawful, are_few, files_in, form_in, interleave_asked, interleave_of, is_set, may_fill};
 
-use crate::parser::given;
 use crate::settings::InterleaveSettings;
 use arrayvec::ArrayVec;
 use clap::ArgMatches;
 use dvd_capture::Form;
-use dvd_words::read_form;
+use dvd_words::{given, read_form};
 
 /// Each option by its form, and from 2 to 16 files.
 pub fn interleave_settings<'a>(matches: &ArgMatches<'a>) -> Option<InterleaveSettings<'a>>

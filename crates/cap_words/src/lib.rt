@@ -2,7 +2,6 @@
 #![tactic(auto)]
 
 mod draw; // the values of `draw`
-mod fault; // why arguments give no settings
 mod interleave; // the values of `interleave`
 mod lost; // the values of `lost`
 mod mark; // the values of `mark`
@@ -10,7 +9,7 @@ mod parser; // the clap command of each command
 mod settings; // what the arguments ask for
 mod words; // reads the arguments
 
-pub use fault::WordsFault;
+pub use dvd_words::WordsFault;
 pub use settings::{
     Command, DrawSettings, InterleaveSettings, LostSettings, MarkSettings, Settings,
 };

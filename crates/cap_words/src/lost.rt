@@ -4,10 +4,9 @@ ghost use Rattle.std.specs.Prelude.{◌≡◌};
 ghost use Rattle.clap.specs.Words.{found_of, rows_of};
 ghost use Rattle.cap_words.specs.Lost.{lost_of};
 
-use crate::parser::given;
 use crate::settings::LostSettings;
 use clap::ArgMatches;
-use dvd_words::{read_number, read_shape, read_zones};
+use dvd_words::{given, read_number, read_shape, read_zones};
 
 /// Each option by its form.
 #[tactic(auto, unfolding(crate::specs::Lost::lost_of))]

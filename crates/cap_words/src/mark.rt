@@ -4,9 +4,9 @@ ghost use Rattle.std.specs.List.{list_all};
 ghost use Rattle.clap.specs.Words.{found_of, rows_of};
 ghost use Rattle.cap_words.specs.Mark.{good_in, is_good, is_good_status, mark_asked, mark_of};
 
-use crate::parser::given;
 use crate::settings::MarkSettings;
 use clap::ArgMatches;
+use dvd_words::given;
 
 /// Each option by its form.
 pub fn mark_settings<'a>(matches: &ArgMatches<'a>) -> Option<MarkSettings<'a>>

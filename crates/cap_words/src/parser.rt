@@ -1,14 +1,13 @@
 //! The clap command of each command. Values are texts to clap, and the module of their command reads them by their
 //! forms.
-ghost use Rattle.std.specs.Prelude.{◌≡◌, codes, false, true, None, Some, IfOk, map, option_map, string_bytes};
-ghost use Rattle.clap.specs.Words.{app_of, first_of, found_of, rows_of, with_rule};
-ghost use Rattle.cap_words.specs.Apps.{app_for, bare_app, file_rule, flag_rule, option_rule, with_options};
+ghost use Rattle.std.specs.Prelude.{◌≡◌, None, Some, IfOk, map, string_bytes};
+ghost use Rattle.clap.specs.Words.{app_of, found_of, rows_of, with_rule};
+ghost use Rattle.cap_words.specs.Apps.{app_for, bare_app, file_rule, flag_rule, with_options};
 ghost use Rattle.cap_words.specs.Reading.{rows_for};
 
-use crate::fault::WordsFault;
 use crate::settings::Command;
-use clap::error::ErrorKind;
 use clap::{Arg, ArgAction, ArgMatches};
+use dvd_words::{WordsFault, parse_by, with_option};
 use std::alloc::{AllocError, Global};
 
 /// The options and the files in the arguments of a command, with their values.
@@ -20,19 +19,7 @@ pub fn parse<'a>(
     ensures taken { IfOk result (λ matches. rows_for command (map string_bytes words.now) ≡ Some (rows_of (found_of matches))) }
     ensures refused { result ≡ Err WordsFault.Usage → rows_for command (map string_bytes words.now) ≡ None }
 {
-    let parser = parser_for(alloc, command)?;
-    match parser.try_get_matches_from(words) {
-        Ok(matches) => Ok(matches),
-        Err(error) if error.kind() == ErrorKind::OutOfMemory => Err(WordsFault::NoMemory),
-        Err(_) => Err(WordsFault::Usage),
-    }
-}
-
-/// The value of an option, if it is given. A flag always has a value, which says whether it is given.
-pub fn given<'a>(matches: &ArgMatches<'a>, name: &str) -> Option<&'a str>
-    ensures { option_map (λ s. s.now) result ≡ first_of name.now (rows_of (found_of matches.now)) }
-{
-    matches.get_str(name)
+    parse_by(parser_for(alloc, command)?, words)
 }
 
 // Each command has its own parser, so that an option of another one is refused.
@@ -62,22 +49,6 @@ fn bare_parser<'a>(alloc: Global, name: &'a str) -> clap::Command<'a>
     ensures { app_of result ≡ bare_app name.now }
 {
     clap::Command::new(alloc, name).disable_help_flag(true)
-}
-
-// The command with one more option, which has one value. `Set` refuses one that is given twice.
-fn with_option<'a>(
-    alloc: Global,
-    parser: clap::Command<'a>,
-    name: &'a str,
-    is_required: bool,
-) -> Result<clap::Command<'a>, AllocError>
-    ensures { IfOk result (λ r. app_of r ≡ with_rule (app_of parser.entry) (option_rule is_required name.now)) }
-{
-    let option = Arg::new(alloc, name)
-        .long(name)
-        .required(is_required)
-        .action(ArgAction::Set);
-    parser.arg(option)
 }
 
 // The command with these options added, none of which is required.

@@ -5,13 +5,13 @@ ghost use Rattle.clap.specs.Words.{found_of, rows_of};
 ghost use Rattle.cap_words.specs.Reading.{Asks, AreLawful, asked_by, command_of, reading, settings_of};
 
 use crate::draw::draw_settings;
-use crate::fault::WordsFault;
 use crate::interleave::interleave_settings;
 use crate::lost::lost_settings;
 use crate::mark::mark_settings;
 use crate::parser::parse;
 use crate::settings::{Command, Settings};
 use clap::ArgMatches;
+use dvd_words::WordsFault;
 use std::alloc::Global;
 
 /// The settings that the arguments ask for. `NoMemory` comes only where there is no memory to read them with.

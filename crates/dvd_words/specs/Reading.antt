@@ -1,7 +1,7 @@
 -- What the arguments of a command line ask for.
 use Rattle.std.specs.Prelude.{◌≡◌, ◌≤◌, ℕ, ◌+◌, ◌^◌, ◌&&◌, ◌||◌, not, nat_le, Bool, true, if◌then◌else◌, List, [], ◌∷◌, codes, replicate, Option, Some, None, is_some, option_and_then, find}
 use Rattle.std.specs.Str.{bytes_eq}
-use Rattle.clap.specs.Words.{Row, Text, fault_of, first_of, matches_of}
+use Rattle.clap.specs.Words.{App, Row, Text, fault_of, first_of, matches_of}
 use Rattle.clap.specs.Walk.{is_empty}
 use Rattle.dvd_capture.specs.declared.form.Form.{Form}
 use Rattle.dvd_capture.specs.declared.form.Form.TheVariants.{Plain, Listed}
@@ -25,8 +25,11 @@ abbrev pub command_of : Text → Option Command
 command_of word = find (λ command. bytes_eq word (entry_of command).name) all
 
 -- the options and their values, where clap finds no fault in the arguments
+abbrev pub rows_by : App → List Text → Option (List Row)
+rows_by app words = if is_empty (fault_of app words) then Some (matches_of app words) else None
+
 abbrev pub rows_for : Command → List Text → Option (List Row)
-rows_for command words = if is_empty (fault_of (app_for command) words) then Some (matches_of (app_for command) words) else None
+rows_for command = rows_by (app_for command)
 
 -- what the value of an option says, or the default where it isn't given
 abbrev pub value_or : {X : Type 0} → X → (Text → Option X) → Option Text → Option X

@@ -1,12 +1,12 @@
 //! The clap command of each command of the program.
 //! Values are texts to clap and are read by their forms in `values`, so that each refusal of a value is one of ours.
 
-ghost use Rattle.std.specs.Prelude.{◌≡◌, None, Some, IfOk, map, string_bytes, true};
+ghost use Rattle.std.specs.Prelude.{◌≡◌, true, None, Some, IfOk, map, string_bytes};
 ghost use Rattle.clap.specs.Words.{app_of, found_of, is_simple_and_free, rows_of, with_rule};
-ghost use Rattle.dvd_words.specs.Table.{app_for};
+ghost use Rattle.dvd_words.specs.Table.{app_for, option_rule};
 ghost use Rattle.dvd_words.specs.Inner.Options.{with_options};
 ghost use Rattle.dvd_words.specs.Inner.Rows.{rule};
-ghost use Rattle.dvd_words.specs.Reading.{rows_for};
+ghost use Rattle.dvd_words.specs.Reading.{rows_by, rows_for};
 
 use crate::fault::WordsFault;
 use crate::table::{Command, OptionSpec, spec_of};
@@ -24,7 +24,18 @@ pub fn parse<'a>(
     ensures taken { IfOk result (λ matches. rows_for command (map string_bytes words.now) ≡ Some (rows_of (found_of matches))) }
     ensures refused { result ≡ Err WordsFault.Usage → rows_for command (map string_bytes words.now) ≡ None }
 {
-    let parser = parser_for(alloc, command)?;
+    parse_by(parser_for(alloc, command)?, words)
+}
+
+/// What a parser makes of some arguments. `NoMemory` comes only where there is no memory to read them with.
+pub fn parse_by<'a>(
+    parser: clap::Command<'a>,
+    words: &'a [String],
+) -> Result<ArgMatches<'a>, WordsFault>
+    requires { is_simple_and_free (app_of parser) ≡ true }
+    ensures taken { IfOk result (λ matches. rows_by (app_of parser.entry) (map string_bytes words.now) ≡ Some (rows_of (found_of matches))) }
+    ensures refused { result ≡ Err WordsFault.Usage → rows_by (app_of parser.entry) (map string_bytes words.now) ≡ None }
+{
     match parser.try_get_matches_from(words) {
         Ok(matches) => Ok(matches),
         Err(error) if error.kind() == ErrorKind::OutOfMemory => Err(WordsFault::NoMemory),
@@ -52,22 +63,24 @@ fn with_options<'a>(
 {
     let mut parser = parser;
     for option in options {
-        parser = with_option(alloc, parser, option)?;
+        parser = with_option(alloc, parser, option.name, option.is_required)?;
     }
     Ok(parser)
 }
 
-// `Set` refuses an option that is given twice: a second value would have to win or lose.
-fn with_option<'a>(
+/// The command with one more option, which has one value. `Set` refuses one that is given twice: a second value would
+/// have to win or lose.
+pub fn with_option<'a>(
     alloc: Global,
     parser: clap::Command<'a>,
-    option: &OptionSpec<'a>,
+    name: &'a str,
+    is_required: bool,
 ) -> Result<clap::Command<'a>, AllocError>
-    ensures { IfOk result (λ r. app_of r ≡ with_rule (app_of parser.entry) (rule option.now)) }
+    ensures { IfOk result (λ r. app_of r ≡ with_rule (app_of parser.entry) (option_rule is_required name.now)) }
 {
-    let arg = Arg::new(alloc, option.name)
-        .long(option.name)
-        .required(option.is_required)
+    let option = Arg::new(alloc, name)
+        .long(name)
+        .required(is_required)
         .action(ArgAction::Set);
-    parser.arg(arg)
+    parser.arg(option)
 }

@@ -113,8 +113,8 @@ fn is_given(matches: &ArgMatches<'_>, name: &str) -> bool
     given(matches, name).is_some()
 }
 
-// The text of an option's value, if it is given.
-fn given<'a>(matches: &ArgMatches<'a>, name: &str) -> Option<&'a str>
+/// The value of an option, if it is given. A flag always has a value, which says whether it is given.
+pub fn given<'a>(matches: &ArgMatches<'a>, name: &str) -> Option<&'a str>
     ensures { option_map (λ s. s.now) result ≡ first_of name.now (rows_of (found_of matches.now)) }
 {
     matches.get_str(name)

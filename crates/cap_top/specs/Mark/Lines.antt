@@ -2,6 +2,7 @@
 use Rattle.std.specs.Prelude.{ℕ, zero, suc, List, [], ◌++◌, codes, decimal}
 use Rattle.cap_map.specs.declared.fault.Cause.{Cause}
 use Rattle.cap_map.specs.declared.fault.Cause.TheVariants as causes
+use Rattle.cap_top.specs.Closing.{rule_line}
 use Rattle.cap_top.specs.declared.mark.opening.Refusal.{Refusal}
 use Rattle.cap_top.specs.declared.mark.opening.Refusal.TheVariants.{NoMemory, ReadFault, Rule}
 use Rattle.dvd_loop.specs.declared.ends.LoopEnd.{LoopEnd}
@@ -36,4 +37,4 @@ cause_text causes.Overlap = codes "overlap"
 abbrev pub refusal_line : Refusal → List ℕ
 refusal_line NoMemory = codes "no memory\n"
 refusal_line ReadFault = codes "map: read fault\n"
-refusal_line (Rule line cause) = codes "map: line " ++ decimal line ++ codes ": " ++ cause_text cause ++ codes "\n"
+refusal_line (Rule line cause) = rule_line (codes "map: line ") line (cause_text cause)

@@ -1,7 +1,9 @@
 //! The lines of the report of `draw`. Each run has one, which closes it, and scripts may look for its text.
 ghost use Rattle.std.specs.Prelude.{◌≡◌, ◌≤◌, length};
+ghost use Rattle.cap_draw.specs.declared.drawing.DrawEnd.TheVariants.{Short};
 ghost use Rattle.cap_top.specs.Draw.{draw_line, rule_text};
 
+use crate::closing::{fixed_line, rule_line};
 use cap_draw::{Cause, DrawEnd};
 use dvd_report::Line;
 
@@ -9,30 +11,23 @@ use dvd_report::Line;
 pub fn draw_line(end: DrawEnd) -> Line
     ensures { result ≡ draw_line end }
 {
-    let mut line = Line::new();
     match end {
-        DrawEnd::Done => line.put(b"done\n"),
-        DrawEnd::Short {
-            line: number,
-            bytes,
-        } => {
-            line.put(b"short: line ");
-            line.put_number(number);
-            line.put(b", ");
-            line.put_number(bytes);
-            line.put(b" bytes\n");
-        }
-        DrawEnd::ReadFault => line.put(b"read fault\n"),
-        DrawEnd::WriteFault => line.put(b"write fault\n"),
-        DrawEnd::Rule(fault) => {
-            line.put(b"survey: line ");
-            line.put_number(fault.line);
-            line.put(b": ");
-            line.put(rule_text(fault.cause));
-            line.put(b"\n");
-        }
-        DrawEnd::NoMemory => line.put(b"no memory\n"),
+        DrawEnd::Done => fixed_line(b"done\n"),
+        DrawEnd::Short { line, bytes } => short_line(line, bytes),
+        DrawEnd::ReadFault => fixed_line(b"read fault\n"),
+        DrawEnd::WriteFault => fixed_line(b"write fault\n"),
+        DrawEnd::Rule(fault) => rule_line(b"survey: line ", fault.line, rule_text(fault.cause)),
+        DrawEnd::NoMemory => fixed_line(b"no memory\n"),
     }
+}
+
+fn short_line(number: u64, bytes: u64) -> Line
+    ensures { result ≡ draw_line (Short number bytes) }
+{
+    let mut line = Line::new();
+    line.put_named(b"short: line ", number);
+    line.put_named(b", ", bytes);
+    line.put(b" bytes\n");
     line
 }
 

@@ -13,8 +13,7 @@ pub fn close_line(end: InterleaveEnd) -> Line
     match end {
         InterleaveEnd::Done => line.put(b"done\n"),
         InterleaveEnd::ReadFault { capture } => {
-            line.put(b"file ");
-            line.put_number(u64::from(capture) + 1);
+            line.put_named(b"file ", u64::from(capture) + 1);
             line.put(b": read fault\n");
         }
         InterleaveEnd::WriteFault => line.put(b"write fault\n"),
@@ -23,12 +22,9 @@ pub fn close_line(end: InterleaveEnd) -> Line
             block,
             bytes,
         } => {
-            line.put(b"short: file ");
-            line.put_number(u64::from(capture) + 1);
-            line.put(b", block ");
-            line.put_number(u64::from(block));
-            line.put(b", ");
-            line.put_number(u64::from(bytes));
+            line.put_named(b"short: file ", u64::from(capture) + 1);
+            line.put_named(b", block ", u64::from(block));
+            line.put_named(b", ", u64::from(bytes));
             line.put(b" bytes\n");
         }
         InterleaveEnd::Long => line.put(b"long\n"),

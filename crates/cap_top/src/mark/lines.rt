@@ -3,6 +3,7 @@ ghost use Rattle.std.specs.Prelude.{◌≡◌, ◌≤◌, length};
 ghost use Rattle.cap_top.specs.Mark.Lines.{cause_text, closing_line, refusal_line};
 
 use super::opening::Refusal;
+use crate::closing::{fixed_line, rule_line};
 use cap_map::Cause;
 use dvd_loop::LoopEnd;
 use dvd_report::Line;
@@ -19,10 +20,8 @@ pub fn close_line(end: LoopEnd) -> Line
         LoopEnd::ReadFault => line.put(b"read fault\n"),
         LoopEnd::WriteFault => line.put(b"write fault\n"),
         LoopEnd::Short { unit, bytes } => {
-            line.put(b"short: frame ");
-            line.put_number(u64::from(unit));
-            line.put(b", ");
-            line.put_number(u64::from(bytes));
+            line.put_named(b"short: frame ", u64::from(unit));
+            line.put_named(b", ", u64::from(bytes));
             line.put(b" bytes\n");
         }
         LoopEnd::Long => line.put(b"long\n"),
@@ -36,22 +35,11 @@ pub fn close_line(end: LoopEnd) -> Line
 pub fn refused_line(refusal: Refusal) -> Line
     ensures { result ≡ refusal_line refusal }
 {
-    let mut line = Line::new();
     match refusal {
-        Refusal::NoMemory => line.put(b"no memory\n"),
-        Refusal::ReadFault => line.put(b"map: read fault\n"),
-        Refusal::Rule {
-            line: number,
-            cause,
-        } => {
-            line.put(b"map: line ");
-            line.put_number(number);
-            line.put(b": ");
-            line.put(text_of(cause));
-            line.put(b"\n");
-        }
+        Refusal::NoMemory => fixed_line(b"no memory\n"),
+        Refusal::ReadFault => fixed_line(b"map: read fault\n"),
+        Refusal::Rule { line, cause } => rule_line(b"map: line ", line, text_of(cause)),
     }
-    line
 }
 
 fn text_of(cause: Cause) -> &'static [u8]
