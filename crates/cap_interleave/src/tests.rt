@@ -29,181 +29,41 @@ const WIDE: usize = 42_640;
 
 const NONE: u64 = 9999;
 
-static CASES: [Case; 17] = [
-    Case {
-        form: Form::Plain,
-        fill: false,
-        counts: [75_712, 75_712, 75_712],
-        broken_read: NONE,
-        room: 999_999,
-        end: InterleaveEnd::Done,
-        blocks: 2,
-    },
-    Case {
-        form: Form::Marked,
-        fill: false,
-        counts: [42_640, 42_640, 42_640],
-        broken_read: NONE,
-        room: 999_999,
-        end: InterleaveEnd::Done,
-        blocks: 1,
-    },
-    Case {
-        form: Form::Plain,
-        fill: false,
-        counts: [0, 0, 0],
-        broken_read: NONE,
-        room: 0,
-        end: InterleaveEnd::Done,
-        blocks: 0,
-    },
-    Case {
-        form: Form::Plain,
-        fill: false,
-        counts: [75_712, 37_856, 75_712],
-        broken_read: NONE,
-        room: 999_999,
-        end: InterleaveEnd::Short {
-            capture: 1,
-            block: 1,
-            bytes: 0,
-        },
-        blocks: 1,
-    },
-    Case {
-        form: Form::Plain,
-        fill: false,
-        counts: [37_856, 75_712, 75_712],
-        broken_read: NONE,
-        room: 999_999,
-        end: InterleaveEnd::Short {
-            capture: 0,
-            block: 1,
-            bytes: 0,
-        },
-        blocks: 1,
-    },
-    Case {
-        form: Form::Plain,
-        fill: false,
-        counts: [37_856, 37_856, 37_857],
-        broken_read: NONE,
-        room: 999_999,
-        end: InterleaveEnd::Short {
-            capture: 0,
-            block: 1,
-            bytes: 0,
-        },
-        blocks: 1,
-    },
-    Case {
-        form: Form::Plain,
-        fill: false,
-        counts: [75_712, 75_712, 75_711],
-        broken_read: NONE,
-        room: 999_999,
-        end: InterleaveEnd::Short {
-            capture: 2,
-            block: 1,
-            bytes: 37_855,
-        },
-        blocks: 1,
-    },
-    Case {
-        form: Form::Plain,
-        fill: false,
-        counts: [100, 100, 100],
-        broken_read: NONE,
-        room: 999_999,
-        end: InterleaveEnd::Short {
-            capture: 0,
-            block: 0,
-            bytes: 100,
-        },
-        blocks: 0,
-    },
-    Case {
-        form: Form::Marked,
-        fill: true,
-        counts: [85_280, 42_640, 0],
-        broken_read: NONE,
-        room: 999_999,
-        end: InterleaveEnd::Done,
-        blocks: 2,
-    },
-    Case {
-        form: Form::Marked,
-        fill: true,
-        counts: [0, 182, 204],
-        broken_read: NONE,
-        room: 999_999,
-        end: InterleaveEnd::Done,
-        blocks: 1,
-    },
-    Case {
-        form: Form::Marked,
-        fill: true,
-        counts: [0, 0, 0],
-        broken_read: NONE,
-        room: 999_999,
-        end: InterleaveEnd::Done,
-        blocks: 0,
-    },
-    Case {
-        form: Form::Marked,
-        fill: true,
-        counts: [42_641, 42_639, 42_640],
-        broken_read: NONE,
-        room: 999_999,
-        end: InterleaveEnd::Done,
-        blocks: 2,
-    },
-    Case {
-        form: Form::Plain,
-        fill: false,
-        counts: [75_712, 75_712, 75_712],
-        broken_read: 0,
-        room: 999_999,
-        end: InterleaveEnd::ReadFault { capture: 1 },
-        blocks: 0,
-    },
-    Case {
-        form: Form::Plain,
-        fill: false,
-        counts: [75_712, 75_712, 75_712],
-        broken_read: 60,
-        room: 999_999,
-        end: InterleaveEnd::ReadFault { capture: 1 },
-        blocks: 1,
-    },
-    Case {
-        form: Form::Plain,
-        fill: false,
-        counts: [75_712, 75_712, 75_712],
-        broken_read: 76,
-        room: 999_999,
-        end: InterleaveEnd::ReadFault { capture: 1 },
-        blocks: 2,
-    },
-    Case {
-        form: Form::Plain,
-        fill: false,
-        counts: [75_712, 75_712, 75_712],
-        broken_read: NONE,
-        room: 120_000,
-        end: InterleaveEnd::WriteFault,
-        blocks: 2,
-    },
-    Case {
-        form: Form::Plain,
-        fill: false,
-        counts: [75_712, 75_712, 75_712],
-        broken_read: NONE,
-        room: 0,
-        end: InterleaveEnd::WriteFault,
-        blocks: 2,
-    },
-];
+// A run in each row: form, whether blocks are filled, lengths of the captures, the read that fails, and the room. Then
+// its end, and how many blocks are written of each capture.
+macro_rules! cases {
+    ($($form:ident $fill:literal $counts:tt $broken_read:tt $room:literal => $end:expr, $blocks:literal;)*) => {
+        [$(Case {
+            form: Form::$form,
+            fill: $fill,
+            counts: $counts,
+            broken_read: $broken_read,
+            room: $room,
+            end: $end,
+            blocks: $blocks,
+        },)*]
+    };
+}
+
+static CASES: [Case; 17] = cases!(
+    Plain false [75_712, 75_712, 75_712] NONE 999_999 => InterleaveEnd::Done, 2;
+    Marked false [42_640, 42_640, 42_640] NONE 999_999 => InterleaveEnd::Done, 1;
+    Plain false [0, 0, 0] NONE 0 => InterleaveEnd::Done, 0;
+    Plain false [75_712, 37_856, 75_712] NONE 999_999 => InterleaveEnd::Short { capture: 1, block: 1, bytes: 0 }, 1;
+    Plain false [37_856, 75_712, 75_712] NONE 999_999 => InterleaveEnd::Short { capture: 0, block: 1, bytes: 0 }, 1;
+    Plain false [37_856, 37_856, 37_857] NONE 999_999 => InterleaveEnd::Short { capture: 0, block: 1, bytes: 0 }, 1;
+    Plain false [75_712, 75_712, 75_711] NONE 999_999 => InterleaveEnd::Short { capture: 2, block: 1, bytes: 37_855 }, 1;
+    Plain false [100, 100, 100] NONE 999_999 => InterleaveEnd::Short { capture: 0, block: 0, bytes: 100 }, 0;
+    Marked true [85_280, 42_640, 0] NONE 999_999 => InterleaveEnd::Done, 2;
+    Marked true [0, 182, 204] NONE 999_999 => InterleaveEnd::Done, 1;
+    Marked true [0, 0, 0] NONE 999_999 => InterleaveEnd::Done, 0;
+    Marked true [42_641, 42_639, 42_640] NONE 999_999 => InterleaveEnd::Done, 2;
+    Plain false [75_712, 75_712, 75_712] 0 999_999 => InterleaveEnd::ReadFault { capture: 1 }, 0;
+    Plain false [75_712, 75_712, 75_712] 60 999_999 => InterleaveEnd::ReadFault { capture: 1 }, 1;
+    Plain false [75_712, 75_712, 75_712] 76 999_999 => InterleaveEnd::ReadFault { capture: 1 }, 2;
+    Plain false [75_712, 75_712, 75_712] NONE 120_000 => InterleaveEnd::WriteFault, 2;
+    Plain false [75_712, 75_712, 75_712] NONE 0 => InterleaveEnd::WriteFault, 2;
+);
 
 // A byte of a block that is marked whole.
 fn lost(at: usize) -> u8 {
