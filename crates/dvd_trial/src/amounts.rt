@@ -1,4 +1,5 @@
-//! Numbers, amounts of bytes and lists of numbers.
+//! Numbers, amounts of bytes and lists of numbers, and texts that have a value for each of several cases.
+use std::alloc::Global;
 
 /// The bytes of a row, and of a row with its marks.
 pub const ROW: usize = 182;
@@ -10,45 +11,31 @@ pub const BLOCK: usize = 37_856;
 
 pub const MARKED_BLOCK: usize = 42_640;
 
-/// The value for a number that is missing or isn't one.
-pub const NONE: usize = usize::MAX;
-
-pub fn number(text: &str) -> usize {
-    text.parse::<usize>().unwrap_or(NONE)
+/// Whether this holds, for `?`.
+pub fn is(holds: bool) -> Option<()> {
+    if holds { Some(()) } else { None }
 }
 
-/// The numbers among the words of a text, in order; the rest of the twenty are `NONE`.
-pub fn numbers(text: &str) -> [usize; 20] {
-    let mut numbers = [NONE; 20];
-    let mut at: usize = 0;
-    for word in text.split([' ', ':', ',']) {
-        let number = number(word);
-        if number != NONE && at < 20 {
-            numbers[at] = number;
-            at += 1;
-        }
-    }
-    numbers
+pub fn number(text: &str) -> Option<usize> {
+    text.parse::<usize>().ok()
+}
+
+/// A byte, of hexadecimal digits.
+pub fn byte(digits: &str) -> Option<u8> {
+    u8::from_str_radix(digits, 16).ok()
 }
 
 /// How many bytes, as `2 blocks and 5 bytes`.
-pub fn amount(text: &str) -> usize {
-    let (first, second) = text.split_once(" and ").unwrap_or((text, "0 bytes"));
-    term(first).saturating_add(term(second))
+pub fn amount(text: &str) -> Option<usize> {
+    match text.split_once(" and ") {
+        Some((first, second)) => term(first)?.checked_add(term(second)?),
+        None => term(text),
+    }
 }
 
-/// The amount after these words.
-pub fn amount_behind(words: &str, text: &str) -> usize {
-    amount(text.strip_prefix(words).unwrap_or(""))
-}
-
-fn term(text: &str) -> usize {
-    let (count, unit) = text.split_once(' ').unwrap_or((text, ""));
-    number(count).saturating_mul(size(unit))
-}
-
-fn size(unit: &str) -> usize {
-    match unit.strip_suffix('s').unwrap_or(unit) {
+fn term(text: &str) -> Option<usize> {
+    let (count, unit) = text.split_once(' ')?;
+    let size = match unit.strip_suffix('s').unwrap_or(unit) {
         "byte" => 1,
         "row" => ROW,
         "sector" => 2048,
@@ -56,8 +43,9 @@ fn size(unit: &str) -> usize {
         "block" => BLOCK,
         "marked block" => MARKED_BLOCK,
         "cdsector" => 2352,
-        _ => NONE,
-    }
+        _ => return None,
+    };
+    number(count)?.checked_mul(size)
 }
 
 /// Numbers, as `3`, `0 to 15` or `0 to 206 step 2`.
@@ -69,20 +57,53 @@ pub struct Span {
 }
 
 impl Span {
-    /// Those of this text. It has none where it is misspelt.
-    pub fn of(text: &str) -> Span {
+    pub fn of(text: &str) -> Option<Span> {
         let (range, step) = text.split_once(" step ").unwrap_or((text, "1"));
         let (first, last) = range.split_once(" to ").unwrap_or((range, range));
-        let (first, last, step) = (number(first), number(last), number(step));
-        let count = if first > last || last == NONE || step == NONE || step == 0 {
-            0
-        } else {
-            (last - first) / step + 1
-        };
-        Span { first, step, count }
+        let (first, last, step) = (number(first)?, number(last)?, number(step)?);
+        let steps = last.checked_sub(first)?.checked_div(step)?;
+        let count = steps.checked_add(1)?;
+        Some(Span { first, step, count })
     }
 
     pub fn at(self, k: usize) -> usize {
         self.first.saturating_add(k.saturating_mul(self.step))
     }
+}
+
+/// Writes the text with the value of case `k` in place of all values in these brackets. Answers how many cases there
+/// are: as many as the longest list has values. A shorter one fails at its end, so that no case is passed over.
+pub fn spell(
+    alloc: Global,
+    text: &str,
+    brackets: [char; 2],
+    k: usize,
+    spelt: &mut String,
+) -> Option<usize> {
+    let mut cases = 1;
+    spelt.clear();
+    let Some((front, rest)) = text.split_once(brackets[0]) else {
+        spelt.push_str(text).ok()?;
+        return Some(cases);
+    };
+    spelt.push_str(front).ok()?;
+    for part in rest.split(brackets[0]) {
+        let (values, rest) = part.split_once(brackets[1])?;
+        cases = put_value(alloc, values, k, spelt)?.max(cases);
+        spelt.push_str(rest).ok()?;
+    }
+    Some(cases)
+}
+
+// The values are words with commas between them, or numbers, as `{0 to 15}`.
+fn put_value(alloc: Global, values: &str, k: usize, spelt: &mut String) -> Option<usize> {
+    if values.contains(", ") {
+        spelt.push_str(values.split(", ").nth(k)?).ok()?;
+        return Some(values.split(", ").count());
+    }
+    let span = Span::of(values)?;
+    is(k < span.count)?;
+    let number = format!(in alloc; "{}", span.at(k)).ok()?;
+    spelt.push_str(number.as_str()).ok()?;
+    Some(span.count)
 }

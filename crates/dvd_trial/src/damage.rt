@@ -1,5 +1,5 @@
 //! Bytes of a capture that are lost, wrong or doubtful, at places of its blocks.
-use crate::amounts::{BLOCK, MARKED_ROW, ROW, Span, number};
+use crate::amounts::{BLOCK, MARKED_ROW, ROW, Span, byte, is, number};
 
 /// What happens to a byte: these bits of it are kept, and then those inverted. In the marked form it also gets a mark,
 // or none.
@@ -17,86 +17,58 @@ struct Places {
     bytes: Span,
     // How many bytes further the bytes are in each row than in the one before.
     shift: usize,
-    // The size of the sectors that are hit in place of rows, or 0.
+    // The length of the sectors that are hit in place of rows, or 0.
     sector: usize,
 }
 
-/// Does `verb: rest`, as `wrong by 55: block 1, rows 3 to 7, bytes 0 to 9; row 9`. Answers whether that is damage,
-/// and of bytes that have such places.
-pub fn damage(verb: &str, rest: &str, bytes: &mut [u8]) -> bool {
+/// Does `verb: rest`, as `wrong by 55: block 1, rows 3 to 7, bytes 0 to 9; row 9`, where all of it is spelt so.
+pub fn damage(verb: &str, rest: &str, bytes: &mut [u8]) -> Option<()> {
     let valued = verb.split_once(" by ").or(verb.split_once(" as "));
     let (kind, value) = valued.unwrap_or((verb, "00"));
-    let Ok(value) = u8::from_str_radix(value, 16) else {
-        return false;
-    };
+    let turned = byte(value)?;
     let (kept, mark) = match kind {
         "wrong" => (0xFF, None),
-        "zero" => (0, None),
+        "zero" | "set" => (0, None),
         "known" => (0, Some(false)),
         "lost" => (0, Some(true)),
         "doubtful" => (0xFF, Some(true)),
-        _ => return false,
+        _ => return None,
     };
-    let turned = value;
-    hit_all(rest, Hit { kept, turned, mark }, bytes)
-}
-
-fn hit_all(text: &str, hit: Hit, bytes: &mut [u8]) -> bool {
-    let mut are_places = true;
-    for part in text.split("; ") {
-        are_places &= match part.strip_prefix("one byte of each ") {
-            Some(apart) => hit_scattered(number(apart), hit, bytes),
-            None => is_spelt(part) && hit_blocks(&read_places(part), hit, bytes),
-        };
+    for part in rest.split("; ") {
+        hit_places(&read_places(part)?, Hit { kept, turned, mark }, bytes)?;
     }
-    are_places
+    Some(())
 }
 
-fn hit_scattered(apart: usize, hit: Hit, bytes: &mut [u8]) -> bool {
-    for group in bytes.chunks_mut(apart.max(1)) {
-        hit_at(0, 0, 1, hit, group);
-    }
-    apart > 0 && apart < BLOCK
-}
-
-fn read_places(text: &str) -> Places {
-    let (name, sector) = match text.split_once("sector") {
-        Some(("cd", _)) => ("sector", 2352),
-        Some(("", _)) => ("sector", 2048),
-        _ => ("row", 0),
+fn read_places(text: &str) -> Option<Places> {
+    let mut places = Places {
+        blocks: Span::of("0 to 600")?,
+        rows: Span::of("0 to 207")?,
+        bytes: Span::of("0 to 2351")?,
+        shift: 0,
+        sector: 0,
     };
-    let bytes = behind("byte", text, "0 to 2351");
-    let (bytes, shift) = bytes.split_once(" shifted ").unwrap_or((bytes, "0"));
-    Places {
-        blocks: Span::of(behind("block", text, "0 to 600")),
-        rows: Span::of(behind(name, text, "0 to 207")),
-        bytes: Span::of(bytes),
-        shift: number(shift),
-        sector,
-    }
-}
-
-// What comes after this name, or else `all`.
-fn behind<'a>(name: &str, text: &'a str, all: &'a str) -> &'a str {
-    match text.split_once(name) {
-        Some((_, rest)) => {
-            let (rest, _) = rest.split_once(", ").unwrap_or((rest, ""));
-            rest.trim_start_matches('s').trim_start()
+    for part in text.split(", ") {
+        let (name, numbers) = part.split_once(' ')?;
+        let (numbers, shift) = numbers.split_once(" shifted ").unwrap_or((numbers, "0"));
+        let (span, shift) = (Span::of(numbers)?, number(shift)?);
+        places.shift = places.shift.max(shift);
+        match name.strip_suffix('s').unwrap_or(name) {
+            "block" => places.blocks = span,
+            "row" => places.rows = span,
+            "byte" => places.bytes = span,
+            "sector" => (places.rows, places.sector) = (span, 2048),
+            "cdsector" => (places.rows, places.sector) = (span, 2352),
+            "place" => {
+                (places.bytes, places.rows, places.sector) = (span, Span::of("0")?, usize::MAX)
+            }
+            _ => return None,
         }
-        None => all,
     }
+    Some(places)
 }
 
-// Whether each part has a name, so that a misspelt one doesn't count as all.
-fn is_spelt(text: &str) -> bool {
-    let mut names: usize = 0;
-    for name in ["block", "row", "byte", "sector"] {
-        names = names.saturating_add(usize::from(text.contains(name)));
-    }
-    text.split(", ").count() == names
-}
-
-fn hit_blocks(places: &Places, hit: Hit, bytes: &mut [u8]) -> bool {
+fn hit_places(places: &Places, hit: Hit, bytes: &mut [u8]) -> Option<()> {
     let blocks = if places.sector > 0 {
         1
     } else {
@@ -107,9 +79,7 @@ fn hit_blocks(places: &Places, hit: Hit, bytes: &mut [u8]) -> bool {
             hit_row(places, places.blocks.at(k), i, hit, bytes);
         }
     }
-    let is_capture = bytes.len() % ROW == 0 || bytes.len() % MARKED_ROW == 0;
-    let are_told = places.blocks.count > 0 && places.rows.count > 0 && places.bytes.count > 0;
-    are_told && (places.sector > 0 || is_capture)
+    is(places.sector > 0 || bytes.len() % ROW == 0 || bytes.len() % MARKED_ROW == 0)
 }
 
 fn hit_row(places: &Places, block: usize, i: usize, hit: Hit, bytes: &mut [u8]) {
@@ -121,13 +91,15 @@ fn hit_row(places: &Places, block: usize, i: usize, hit: Hit, bytes: &mut [u8]) 
     };
     let shift = i.saturating_mul(places.shift);
     for k in 0..places.bytes.count.min(length) {
-        let at = places.bytes.at(k).saturating_add(shift) % length.max(1);
+        let at = places.bytes.at(k).saturating_add(shift);
+        // The bytes after the last one of a row are the first ones. Two more have marks that no byte of the row has.
+        let at = if shift > 0 { at % length.max(1) } else { at };
         hit_at(row, at, length, hit, bytes);
     }
 }
 
-/// Where a row of a block is recorded: after each twelve rows of data comes one of outer parity.
-pub fn recorded(row: usize) -> usize {
+// Where a row of a block is recorded: after each twelve rows of data comes one of outer parity.
+fn recorded(row: usize) -> usize {
     if row < 192 {
         row + row / 12
     } else {

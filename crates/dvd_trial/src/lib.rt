@@ -3,50 +3,72 @@
 //! that names it. A text is one value, which a few small functions read while the test runs.
 //!
 //! ```text
-//! given: image of 17 sectors | master --sectors 17 makes 2 blocks
+//! given: image of 17 sectors | master --sectors 17 makes 2 blocks | marked
 //! run: recover --sectors 17 --form marked
 //! output: image of 17 sectors | zero: sectors 0 to 1
-//! case: marked | lost: block 0, rows 0 to 16 -> Damaged, 17 sectors: block 0 sector 030000 layer 0: rows 17 saved
-//! 14/..
+//! case: lost: block 0, rows 0 to 16 -> Damaged, 17 sectors: block 0 sector 030000 layer 0: rows 17 saved 14/..
 //! ```
 //!
 //! `given` are the bytes that cases have in common, and `case` is one of them, changed; `also` changes those in common.
 //! `output` is all that a run writes where nothing fails. After `run` come the arguments of a run, and after each `or`
 //! others, which leave the same to the last byte. What must come follows `->`: status, length of the output, a prefix
-//! of the whole one, and the lines of the report, with `/` between them; one that ends in `..` is cut off there. A line
-//! that names nothing else goes on changing the bytes. What is run and the case stay until others take their place;
-//! `given` lets go of the output, which then may be any. Nothing after `#` is read.
+//! of the whole one, and the lines of the report, with `/` between them; one that ends in `..` is cut off there. After
+//! `=>` it comes again where all streams move 1, 7, 2047 or 40,000 bytes a call. What is run and the case stay until
+//! others take their place; `given` lets go of the output, which then may be any, and `given` and `also` of the case.
+//! Nothing after `#` is read. A line with values in braces, as `{3, 5}` or `{0 to 15}`, is tried with each, and so is a
+//! group of lines, up to an empty one, with values in brackets.
 //!
 //! ```text
 //! reads: 700 bytes a call, call 2 fails      the next run reads so; `writes`, `reports`
 //! digest: .., last line: .., read: 2 blocks  of the output that came last, and how much of the input was read
 //! at 2 blocks and 12 bytes: ACA6AD           these bytes are there in it
-//! the same in pieces: 1 7 2047               it comes again where all streams move these numbers of bytes a call
-//! all fail in turn: 9 reads of 5000 bytes, 4 reports of 7 bytes 2 apart
-//!                                            these are all calls of a stream; where one fails, each in turn or, 2
-//!                                            apart, every second one, all that was done before it is left
-//! each of the first calls stops it: 7 calls of 700 bytes
-//!                                            where one fails, of any stream or its flushes, nothing is tried again
-//! the same while these blocks become zeros: 32 to 223
-//! to nothing                                 it comes again with an output that keeps nothing
+//! all fail in turn: 9 reads of 5000 bytes, 4 reports of 7 bytes
+//!                                            these are all calls of a stream; where one fails, each in turn, all that
+//!                                            was done before it is left
+//! each call stops it: 7 calls of 700 bytes   where one of the first 7 fails, of any stream or its flushes, nothing is
+//!                                            tried again
 //! twin: .., alike: A = B                     arguments A leave over the case what arguments B leave over the twin
-//! two workers meet: 2 times                  in that many passes; `pieces ask: 3 pieces, 2 times each`
+//! pieces ask: 3 pieces, 2 times each         a run asks its gate so; `pieces meet`: its workers work at the same time
+//! ```
+//!
+//! Bytes are made in steps with ` | ` between them, each of which adds bytes to those before it or changes them:
+//!
+//! ```text
+//! nothing, as given, given                   none are added; the bytes in common, in an output
+//! image of 17 sectors                        bytes that are drawn; `counted sector`: byte i is 7i + i / 256
+//! 2 blocks of 5A, hex 49F1                   bytes of this value; these bytes. `then 1 byte of 5A` is added to others
+//! lines blocks 1 pi 0/done                   lines of text
+//! master --sectors 17 makes 2 blocks         they become what a run writes over them, 2 blocks
+//! marked                                     they become a capture in the marked form without a mark
+//! listed shape 0 zones 0 sectors 17 and 0 initial 0 tail 16 runs 0:2
+//!                                            they become a listed capture with this header; after each block come the
+//!                                            runs of its marks, first place and length
+//! front 1 block, cut off 1 byte              the first of them alone; all but the last ones
+//! from 2 blocks, repeat the last 1 frame     what is before that comes after the rest; the last ones come once more
+//! reversed frames, woven                     frames in reverse order; marked blocks of both halves in turn
+//! drawn from 2                               about a sixth of the rows are lost, and each other has a wrong byte
+//! wrong by 55: block 1, rows 0 to 19, bytes 0 to 9 shifted 9; row 192
+//!                                            these bits are wrong, in each of the rows nine bytes further, and in all
+//!                                            of row 192
+//! lost: row 3, doubtful by 5A: ..            a zero with a mark; these bits are wrong, with a mark
+//! known as 01: .., set as 01: .., zero: ..   this byte is there, in the marked form without a mark; zeros are there
+//! zero: sectors 0 to 1                       of an image; `cdsectors`: those of a CD-ROM; `places`: all bytes
 //! ```
 //!
 //! Places are those of a block: rows 0 to 191 are its rows of data, rows 192 to 207 those of outer parity, each of 182
 //! bytes; rows, bytes or blocks that aren't named are all. Frame f has rows 12f to 12f + 11 and row 192 + f.
 #![tactic(auto)]
 
-mod amounts; // numbers, amounts and lists of numbers
+mod amounts; // numbers, amounts, lists of numbers and lines of several cases
 mod damage; // bytes that are lost, wrong or doubtful
 mod failure; // what is printed where a result isn't the one expected
+mod gate; // a gate that counts what several workers do
 mod made; // how bytes are made
 mod runs; // one run and what it leaves
 mod streams; // streams that fail or go in pieces, and see that nothing is tried again
 mod trial; // the lines of a text
 mod turns; // runs in which something fails in turn
-mod workers; // gates that see several workers
 
-pub use failure::{Held, fails, hold, hold_over};
-pub use runs::put_words;
+pub use failure::{Held, fails, hold};
+pub use runs::words_of;
 pub use trial::bytes_of;

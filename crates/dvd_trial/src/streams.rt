@@ -1,75 +1,66 @@
-//! Streams that fail at one call or go in pieces, and see that nothing is tried again: after a failed call, and after
+//! Streams that go in pieces and fail at one call, and see that nothing is tried again: after a failed call, and after
 //! a read that met the end of the input, no stream is asked for anything more but the report, for the closing line;
 //! and after a fault of the report not even that.
+use std::cell::Cell;
 use std::io::{self, Error, ErrorKind, Read, Write};
-use std::sync::atomic::{AtomicU64, Ordering};
 
-/// The number of no call.
-pub const NEVER: u64 = u64::MAX;
+/// The kinds of calls, of which one may fail.
+#[derive(Clone, Copy, PartialEq, Eq)]
+pub enum Call {
+    Read,
+    Write,
+    Flush,
+    Report,
+    FlushReport,
+}
 
-/// A stream: the most bytes of one call, the number of the call that fails and of the one whose flush does.
-#[derive(Clone, Copy)]
-pub struct Port {
+/// The most bytes of a call of any stream, and the one call that fails: its kind, and how many come before it.
+#[derive(Clone, Copy, PartialEq, Eq)]
+pub struct Plan {
     pub step: usize,
-    pub call: u64,
-    pub flush: u64,
+    pub call: Call,
+    pub count: u64,
 }
 
-/// A port that never fails.
-pub const SOUND: Port = Port {
+/// No call fails.
+pub const SOUND: Plan = Plan {
     step: 40_000,
-    call: NEVER,
-    flush: NEVER,
-};
-
-/// The input, the output and the report of a run.
-#[derive(Clone, Copy)]
-pub struct Ports {
-    pub input: Port,
-    pub output: Port,
-    pub report: Port,
-}
-
-pub const ALL_SOUND: Ports = Ports {
-    input: SOUND,
-    output: SOUND,
-    report: SOUND,
+    call: Call::Read,
+    count: u64::MAX,
 };
 
 /// What the streams of a run have in common.
 #[derive(Drop)]
 pub struct Watch {
-    read: AtomicU64, // bytes that were read
-    stops: AtomicU64, // calls that failed or met the end of the input
-    late: AtomicU64, // calls after one of these, but those for the closing line
-    lines: AtomicU64, // lines that a report that hasn't failed begins after one of these
+    pub plan: Plan,
+    pub read: Cell<usize>, // the bytes that were read
+    pub has_stopped: Cell<bool>, // a call failed or met the end of the input
+    is_late: Cell<bool>, // and then a call came, but for a closing line
+    lines: Cell<u64>, // the lines of the report that begin then
 }
 
 impl Watch {
-    pub fn new() -> Watch {
+    pub fn new(plan: Plan) -> Watch {
         Watch {
-            read: AtomicU64::new(0),
-            stops: AtomicU64::new(0),
-            late: AtomicU64::new(0),
-            lines: AtomicU64::new(0),
+            plan,
+            read: Cell::new(0),
+            has_stopped: Cell::new(false),
+            is_late: Cell::new(false),
+            lines: Cell::new(0),
         }
-    }
-
-    pub fn read(&self) -> u64 {
-        self.read.load(Ordering::SeqCst)
-    }
-
-    pub fn has_stopped(&self) -> bool {
-        self.stops.load(Ordering::SeqCst) > 0
     }
 
     /// Whether nothing but the closing line came after a call that stopped.
     pub fn is_kept(&self) -> bool {
-        self.late.load(Ordering::SeqCst) == 0 && self.lines.load(Ordering::SeqCst) <= 1
+        !self.is_late.get() && self.lines.get() <= 1
+    }
+
+    fn fails(&self, call: Call, count: u64) -> bool {
+        self.plan.call == call && self.plan.count == count
     }
 
     fn stop(&self) -> Error {
-        self.stops.fetch_add(1, Ordering::SeqCst);
+        self.has_stopped.set(true);
         ErrorKind::Interrupted.into()
     }
 }
@@ -78,28 +69,29 @@ impl Watch {
 #[derive(Drop)]
 pub struct Input<'a> {
     pub watch: &'a Watch,
-    pub port: Port,
     pub rest: &'a [u8],
     pub calls: u64,
 }
 
 impl<'a> Read for Input<'a> {
     fn read(&mut self, buf: &mut [u8]) -> io::Result<usize> {
-        if self.watch.has_stopped() {
-            self.watch.late.fetch_add(1, Ordering::SeqCst);
+        if self.watch.has_stopped.get() {
+            self.watch.is_late.set(true);
         }
         let call = self.calls;
         self.calls = call.saturating_add(1);
-        if call == self.port.call {
+        if self.watch.fails(Call::Read, call) {
             return Err(self.watch.stop());
         }
-        let count = self.port.step.min(buf.len().min(self.rest.len()));
+        let count = self.watch.plan.step.min(buf.len().min(self.rest.len()));
         if count == 0 {
             let _ = self.watch.stop();
         }
         buf[..count].copy_from_slice(&self.rest[..count]);
         self.rest = &self.rest[count..];
-        self.watch.read.fetch_add(count as u64, Ordering::SeqCst);
+        self.watch
+            .read
+            .set(self.watch.read.get().saturating_add(count));
         Ok(count)
     }
 }
@@ -108,23 +100,24 @@ impl<'a> Read for Input<'a> {
 #[derive(Drop)]
 pub struct Output<'a> {
     pub watch: &'a Watch,
-    pub port: Port,
+    pub call: Call,
     pub held: &'a mut Vec<u8>,
-    pub is_report: bool,
     pub has_failed: bool,
     pub calls: u64,
 }
 
 impl<'a> Output<'a> {
-    // Counts a call that comes after one that stopped.
+    // Sees a call that comes after one that stopped.
     fn see(&self) {
-        if !self.watch.has_stopped() {
+        if !self.watch.has_stopped.get() {
             return;
         }
-        if !self.is_report || self.has_failed {
-            self.watch.late.fetch_add(1, Ordering::SeqCst);
+        if self.call == Call::Write || self.has_failed {
+            self.watch.is_late.set(true);
         } else if matches!(self.held.last(), None | Some(b'\n')) {
-            self.watch.lines.fetch_add(1, Ordering::SeqCst);
+            self.watch
+                .lines
+                .set(self.watch.lines.get().saturating_add(1));
         }
     }
 
@@ -139,8 +132,8 @@ impl<'a> Write for Output<'a> {
         self.see();
         let call = self.calls;
         self.calls = call.saturating_add(1);
-        let count = self.port.step.min(buf.len());
-        if call == self.port.call || count == 0 {
+        let count = self.watch.plan.step.min(buf.len());
+        if self.watch.fails(self.call, call) || count == 0 {
             return Err(self.fail());
         }
         match self.held.extend_from_slice(&buf[..count]) {
@@ -149,8 +142,15 @@ impl<'a> Write for Output<'a> {
         }
     }
 
+    // A flush counts as the call of its stream that comes before it.
     fn flush(&mut self) -> io::Result<()> {
-        if self.calls == self.port.flush.saturating_add(1) {
+        let is_output = self.call == Call::Write;
+        let call = if is_output {
+            Call::Flush
+        } else {
+            Call::FlushReport
+        };
+        if self.calls > 0 && self.watch.fails(call, self.calls - 1) {
             return Err(self.fail());
         }
         Ok(())

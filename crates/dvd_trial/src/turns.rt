@@ -1,125 +1,161 @@
-//! Runs in which something fails, is cut or is zero in turn: each leaves what the kept run left, or a
-//! prefix of it.
-use crate::amounts::{BLOCK, NONE, Span, number, numbers};
-use crate::runs::{run_front, run_to_nothing};
-use crate::streams::{ALL_SOUND, NEVER, Port, Ports, SOUND};
-use crate::trial::{Trial, go, ports_with, runs_leave};
+//! Runs that go in pieces, or in which something fails in turn, or whose workers are counted.
+use crate::amounts::{amount, is, number};
+use crate::gate::Counting;
+use crate::runs::{Left, run_over};
+use crate::streams::Call::{self, Flush, FlushReport, Read, Report, Write};
+use crate::streams::{Plan, SOUND};
+use crate::trial::Trial;
+use dvd_par::OpenGate;
 use dvd_top::Status;
 use std::thread::Threads;
 
-/// The runs leave the same where each stream moves a given number of bytes a call, for each of `sizes`.
-pub fn come_in_pieces<R: AllocGlobal + Threads + Sync>(
-    rt: &R,
-    sizes: &str,
-    trial: &mut Trial,
-) -> bool {
-    let mut are_same = true;
-    for size in sizes.split(' ') {
-        let step = number(size).max(1);
-        let port = Port { step, ..SOUND };
-        trial.ports = Ports {
-            input: port,
-            output: port,
-            report: port,
-        };
-        are_same = are_same && step != NONE && runs_leave(rt, None, trial);
-    }
-    are_same
-}
-
-/// The runs leave the same while these blocks become zeros, one after the other.
-pub fn answer_with_zeros<R: AllocGlobal + Threads + Sync>(
-    rt: &R,
-    blocks: &str,
-    trial: &mut Trial,
-) -> bool {
-    let span = Span::of(blocks);
-    let mut are_same = span.count > 0;
-    for k in 0..span.count {
-        are_same = are_same && runs_leave(rt, None, trial);
-        if let Some(block) = trial.case.chunks_exact_mut(BLOCK).nth(span.at(k)) {
-            block.fill(0);
+impl<'a, R: AllocGlobal + Threads + Sync> Trial<'a, R> {
+    /// `700 bytes a call`, which `, call 2 fails` may follow: what the streams of the next run do.
+    pub fn set_plan(&mut self, verb: &str, text: &str) -> Option<()> {
+        let (step, rest) = text.split_once(" a call")?;
+        let (step, call) = (amount(step)?, call_of(verb)?);
+        self.plan = Plan { step, ..SOUND };
+        if !rest.is_empty() {
+            let count = rest.strip_prefix(", call ")?.strip_suffix(" fails")?;
+            let count = number(count)? as u64;
+            self.plan = Plan { step, call, count };
         }
+        Some(())
     }
-    are_same
-}
 
-/// `9 reads of 5000 bytes, 16 writes of 700 bytes 11 apart`: these are all calls of a stream, and where one of them
-/// fails, all that was done before it is left.
-pub fn fail_in_turn<R: AllocGlobal + Threads + Sync>(
-    rt: &R,
-    text: &str,
-    trial: &mut Trial,
-) -> bool {
-    let mut all_leave = true;
-    for part in text.split(", ") {
-        let (_, side) = part.split_once(' ').unwrap_or((part, ""));
-        let (side, _) = side.split_once(" of ").unwrap_or((side, ""));
-        let side = side.strip_suffix('s').unwrap_or(side);
-        all_leave = all_leave && side_fails(rt, side, &numbers(part), trial);
-    }
-    all_leave
-}
-
-fn side_fails<R: AllocGlobal + Threads + Sync>(
-    rt: &R,
-    side: &str,
-    n: &[usize; 20],
-    trial: &mut Trial,
-) -> bool {
-    let (calls, step, apart) = (n[0], n[1], if n[2] == NONE { 1 } else { n[2] });
-    let mut all_leave = calls != NONE && step != NONE;
-    if all_leave {
-        for k in 0..calls {
-            trial.ports = ports_with(side, failing(step, apart.saturating_mul(k)));
-            all_leave = all_leave && go(rt, 0, trial) && leaves_after(rt, side, trial);
+    /// The runs leave the same where each stream moves so many bytes a call.
+    pub fn comes_in_pieces(&mut self) -> Option<()> {
+        for step in &[1, 7, 2047, 40_000] {
+            self.stays(
+                0,
+                Plan {
+                    step: *step,
+                    ..SOUND
+                },
+            )?;
         }
-        trial.ports = ports_with(side, failing(step, apart.saturating_mul(calls)));
+        Some(())
     }
-    all_leave && runs_leave(rt, None, trial)
-}
 
-fn failing(step: usize, call: usize) -> Port {
-    Port {
-        step,
-        call: call as u64,
-        ..SOUND
+    /// `9 reads of 5000 bytes, 16 writes of 700 bytes`: these are all calls of a stream, and where one of them fails,
+    /// all that was done before it is left.
+    pub fn fail_in_turn(&mut self, text: &str) -> Option<()> {
+        for part in text.split(", ") {
+            let (calls, part) = part.split_once(' ')?;
+            let (call, step) = part.split_once(" of ")?;
+            let (calls, call, step) = (number(calls)? as u64, call_of(call)?, amount(step)?);
+            for count in 0..calls {
+                self.go(0, Plan { step, call, count })?;
+                match call {
+                    Read => self.leaves_front_read()?,
+                    Write => self.leaves_front_written()?,
+                    _ => self.leaves_front_reported()?,
+                }
+            }
+            self.stays(
+                0,
+                Plan {
+                    step,
+                    call,
+                    count: calls,
+                },
+            )?;
+        }
+        Some(())
+    }
+
+    // It left what a run over only the bytes that it read leaves, with the fault in place of the closing line.
+    fn leaves_front_read(&self) -> Option<()> {
+        let words = self.words.split(" or ").next()?;
+        let read = self.case.get(..self.left.read)?;
+        let (left, mut front) = (&self.left, Left::new(self.alloc));
+        run_over(self.rt, &OpenGate, words, read, SOUND, &mut front)?;
+        let lines = left.report.strip_suffix(b"read fault\n")?;
+        is(
+            left.status == Status::ReadFault
+                && front.status != Status::NoMemory
+                && left.output.as_slice() == front.output.as_slice()
+                && is_last_line(front.report.strip_prefix(lines)?),
+        )
+    }
+
+    // It wrote a prefix, and reported some of the lines, not the last one, and then the fault.
+    fn leaves_front_written(&self) -> Option<()> {
+        let (left, kept) = (&self.left, &self.kept);
+        let lines = left.report.strip_suffix(b"write fault\n")?;
+        is(
+            left.status == Status::WriteFault
+                && kept.output.starts_with(&left.output)
+                && kept.report.starts_with(lines)
+                && lines.len() < kept.report.len()
+                && (lines.is_empty() || lines.ends_with(b"\n")),
+        )
+    }
+
+    // Its output and its report are prefixes. Where the closing line failed, all was written.
+    fn leaves_front_reported(&self) -> Option<()> {
+        let (left, kept) = (&self.left, &self.kept);
+        let rest = kept.report.strip_prefix(left.report.as_slice())?;
+        is(
+            left.status == Status::ReportFault
+                && kept.output.starts_with(&left.output)
+                && (!is_last_line(rest) || kept.output.len() == left.output.len()),
+        )
+    }
+
+    /// `7 calls of 700 bytes`: nothing is tried again where one of the first 7 calls of a stream or of its flushes
+    /// fails, or the input ends before its last byte.
+    pub fn stop_in_turn(&mut self, text: &str) -> Option<()> {
+        let (calls, step) = text.split_once(" calls of ")?;
+        let (calls, step) = (number(calls)? as u64, amount(step)?);
+        for k in 0..self.words.split(" or ").count() {
+            for count in 0..calls {
+                for call in &[Read, Write, Flush, Report, FlushReport] {
+                    let call = *call;
+                    self.stops(k, Plan { step, call, count })?;
+                }
+            }
+        }
+        Some(())
+    }
+
+    // Over all bytes of the case, and over all but the last one.
+    fn stops(&mut self, k: usize, plan: Plan) -> Option<()> {
+        let words = self.words.split(" or ").nth(k)?;
+        let length = self.case.len();
+        for length in &[length, length.saturating_sub(1)] {
+            let front = self.case.get(..*length)?;
+            run_over(self.rt, &OpenGate, words, front, plan, &mut self.left)?;
+            is(self.left.has_stopped || self.left.status == Status::Done)?;
+        }
+        Some(())
+    }
+
+    /// `3 pieces, 2 times each`: each of the runs asks its gate so often for these pieces, and for no other. Where two
+    /// of them meet, they do in one of five runs.
+    pub fn ask(&mut self, text: &str, meets: bool) -> Option<()> {
+        let (pieces, times) = text.split_once(" pieces, ")?;
+        let (pieces, times) = (number(pieces)?, number(times.strip_suffix(" times each")?)?);
+        for words in self.words.split(" or ") {
+            let mut has_counted = false;
+            for _ in 0..if meets { 5 } else { 1 } {
+                let gate = Counting::new(meets);
+                run_over(self.rt, &gate, words, &self.case, SOUND, &mut self.left)?;
+                let is_done = self.left.status == Status::Done;
+                has_counted = has_counted || is_done && gate.has_counted(pieces, times);
+            }
+            is(has_counted)?;
+        }
+        Some(())
     }
 }
 
-// Whether the last run, in which a call of this stream failed, left what it has to.
-fn leaves_after<R: AllocGlobal + Threads + Sync>(rt: &R, side: &str, trial: &mut Trial) -> bool {
-    match side {
-        "read" => leaves_front_read(rt, trial),
-        "write" => leaves_front_written(trial),
-        "report" => leaves_front_told(trial),
-        _ => false,
-    }
-}
-
-// It left what a run over only the bytes that it read leaves, with the fault in place of the closing line.
-fn leaves_front_read<R: AllocGlobal + Threads + Sync>(rt: &R, trial: &mut Trial) -> bool {
-    let read = trial.left.read;
-    let is_sound = match trial.words.split(" or ").next() {
-        Some(words) => run_front(rt, words, &trial.case, read, &ALL_SOUND, &mut trial.front),
-        None => false,
-    };
-    let (left, front) = (&trial.left, &trial.front);
-    is_sound
-        & (front.status != Status::NoMemory)
-        & (left.status == Status::ReadFault)
-        & (left.output.as_slice() == front.output.as_slice())
-        & has_fault(&left.report, b"read fault\n", &front.report)
-}
-
-// Whether the fault came in place of the closing line.
-fn has_fault(told: &[u8], fault: &[u8], whole: &[u8]) -> bool {
-    let Some(lines) = told.strip_suffix(fault) else {
-        return false;
-    };
-    match whole.strip_prefix(lines) {
-        Some(rest) => is_last_line(rest),
-        None => false,
+fn call_of(name: &str) -> Option<Call> {
+    match name.strip_suffix('s').unwrap_or(name) {
+        "read" => Some(Read),
+        "write" => Some(Write),
+        "report" => Some(Report),
+        _ => None,
     }
 }
 
@@ -129,93 +165,4 @@ fn is_last_line(text: &[u8]) -> bool {
         Some(line) => !line.contains(&b'\n'),
         None => false,
     }
-}
-
-// It wrote a prefix, and reported some of the lines, not the last one, and then the fault.
-fn leaves_front_written(trial: &Trial) -> bool {
-    let (left, kept) = (&trial.left, &trial.kept);
-    let Some(lines) = left.report.strip_suffix(b"write fault\n") else {
-        return false;
-    };
-    (left.status == Status::WriteFault)
-        & kept.output.starts_with(&left.output)
-        & kept.report.starts_with(lines)
-        & (lines.len() < kept.report.len())
-        & (lines.is_empty() | lines.ends_with(b"\n"))
-}
-
-// Its output and its report are prefixes. Where the closing line failed, all was written.
-fn leaves_front_told(trial: &Trial) -> bool {
-    let (left, kept) = (&trial.left, &trial.kept);
-    let Some(rest) = kept.report.strip_prefix(left.report.as_slice()) else {
-        return false;
-    };
-    (left.status == Status::ReportFault)
-        & kept.output.starts_with(&left.output)
-        & (!is_last_line(rest) | (kept.output.len() == left.output.len()))
-}
-
-/// `7 calls of 700 bytes`: nothing is tried again where one of the first 7 calls of a stream or of its flushes
-/// fails, or the input ends before its last byte.
-pub fn stop_in_turn<R: AllocGlobal + Threads + Sync>(
-    rt: &R,
-    n: &[usize; 20],
-    trial: &mut Trial,
-) -> bool {
-    let mut all_stop = n[1] < usize::MAX;
-    if all_stop {
-        for call in 0..n[0].saturating_mul(5) {
-            let ports = stopping(n[1], (call / 5) as u64, call % 5);
-            let rest = trial.case.len().saturating_sub(1);
-            all_stop = all_stop
-                && stops(rt, trial.case.len(), &ports, trial)
-                && stops(rt, rest, &ports, trial);
-        }
-    }
-    all_stop
-}
-
-// One call fails: of the input, of the output, of its flushes, of the report, or of its flushes.
-fn stopping(step: usize, call: u64, side: usize) -> Ports {
-    let moving = Port { step, ..SOUND };
-    let never = |this: usize| if side == this { call } else { NEVER };
-    Ports {
-        input: Port {
-            call: never(0),
-            ..moving
-        },
-        output: Port {
-            call: never(1),
-            flush: never(2),
-            ..moving
-        },
-        report: Port {
-            call: never(3),
-            flush: never(4),
-            ..SOUND
-        },
-    }
-}
-
-// Over the first `length` bytes of the case.
-fn stops<R: AllocGlobal + Threads + Sync>(
-    rt: &R,
-    length: usize,
-    ports: &Ports,
-    trial: &mut Trial,
-) -> bool {
-    let words = trial.words.as_str();
-    run_front(rt, words, &trial.case, length, ports, &mut trial.left)
-        && (trial.left.has_stopped || trial.left.status == Status::Done)
-}
-
-/// Whether a run whose output keeps nothing leaves the same status and report.
-pub fn comes_to_nothing<R: AllocGlobal + Threads + Sync>(rt: &R, trial: &mut Trial) -> bool {
-    let is_sound = match trial.words.split(" or ").next() {
-        Some(words) => run_to_nothing(rt, words, &trial.case, &mut trial.left),
-        None => false,
-    };
-    is_sound
-        & (trial.left.status == trial.kept.status)
-        & (trial.left.report.as_slice() == trial.kept.report.as_slice())
 }

@@ -1,14 +1,14 @@
 //! The loops of `master` and `recover` called by themselves, over a disk of one layer with all of its zones: they
-//! record what the command does, and read it back.
+//! record what the command does, and read it back. And a run whose output keeps nothing.
 ghost use Rattle.std.specs.Prelude.{◌≤◌};
 
 use dvd_block::{Block, Piece};
 use dvd_capture::{Form, Work};
 use dvd_layout::{Shape, Zones};
 use dvd_par::OpenGate;
-use dvd_ports::{MemSink, SliceSource};
-use dvd_top::{Command, LoopEnd, Settings, master_loop, recover_loop};
-use dvd_trial::{Held, bytes_of};
+use dvd_ports::{MemSink, NullSink, SliceSource};
+use dvd_top::{Command, LoopEnd, Settings, Status, master_loop, recover_loop, run};
+use dvd_trial::{Held, bytes_of, words_of};
 use std::thread::Threads;
 
 // Settings of a disk of 17 sectors.
@@ -72,7 +72,21 @@ fn recover<R: AllocGlobal + Threads + Sync>(
     ))
 }
 
-fn both_hold<R: AllocGlobal + Threads + Sync>(rt: &R) -> Option<bool> {
+// The same status and report as of an output that keeps all.
+fn recovers_to_nothing<R: AllocGlobal + Threads + Sync>(rt: &R) -> Option<bool> {
+    let words = words_of(rt.alloc(), "recover --sectors 17")?;
+    let disk = bytes_of(
+        rt,
+        "image of 17 sectors | master --sectors 17 makes 2 blocks",
+    )?;
+    let source = &mut SliceSource::new(&disk);
+    let mut report = MemSink::new(rt.alloc(), 80, 80, Vec::new(rt.alloc())).ok()?;
+    let (sink, lines) = (&mut NullSink::new(), &mut report);
+    let status = run(rt, rt.alloc(), &words, &OpenGate, source, sink, lines);
+    Some(status == Status::Done && report.held() == b"done\n".as_slice())
+}
+
+fn all_hold<R: AllocGlobal + Threads + Sync>(rt: &R) -> Option<bool> {
     let alloc = rt.alloc();
     let image = bytes_of(rt, "image of 17 sectors")?;
     let words = "image of 17 sectors | master --sectors 17 --zones all makes 274 blocks";
@@ -84,12 +98,13 @@ fn both_hold<R: AllocGlobal + Threads + Sync>(rt: &R) -> Option<bool> {
     let are_done = master(rt, &image, &mut recorded)? == LoopEnd::Done
         && recover(rt, &mut work, &disk, &mut output, &mut report)? == LoopEnd::Done;
     let are_right = recorded.held() == disk.as_slice() && output.held() == image.as_slice();
-    Some(are_done && are_right && report.held().is_empty())
+    let are_all = are_done && are_right && report.held().is_empty();
+    Some(are_all && recovers_to_nothing(rt)?)
 }
 
 #[test]
 fn the_loops_record_as_the_command_does_and_read_back(rt: HostRuntime) -> Held {
-    match both_hold(&rt) {
+    match all_hold(&rt) {
         Some(true) => Ok(()),
         Some(false) => Err("a loop ends otherwise, or leaves other bytes"),
         None => Err("no memory, or no such disk"),

@@ -1,6 +1,6 @@
-//! Every command over a small input: in pieces of every kind, and with each call of its input, its output and its
-//! report failing in turn; `survey`, `info` and `exercise` are in `survey`, `info` and `workers`. Each digest was
-//! computed by another program. These are the hostile streams and objects, and the module of each:
+//! Every command over a small input: in pieces of 1, 7, 2047 and 40,000 bytes, where `=>` is written, and with each
+//! call of its input, its output and its report failing in turn; those of `survey`, `info` and `exercise` are in
+//! `survey`, `info` and `workers`. Each digest was computed by another program. What is hostile, and where it is tried:
 //!
 //! | What is hostile | Module |
 //! |---|---|
@@ -8,21 +8,19 @@
 //! | a block of which every byte is marked | `recover` |
 //! | a control block, from a disk with all zones, in the place of a data block | `recover` |
 //! | a block of the first of two layers, in the place of one of a disk of one layer | `recover` |
-//! | an input, an output or a report of which each call fails in turn, over blocks that are whole, cut, long and exchanged | here |
+//! | an input, output or report of which each call fails, over blocks that are whole, cut, long and exchanged | here |
 //! | a report of which the first call fails, before the sectors of a refused block | `faults` |
-//! | an output that keeps nothing | here |
+//! | an output that keeps nothing | `loops` |
 use dvd_trial::{Held, hold};
 
 const STREAMS: &str = "
 # Two blocks, and an image that ends within the second one.
 given: image of 17 sectors
 run: master --sectors 17 or master --sectors 17 --workers 5 or master --sectors 17 --workers 16
-case: as given         -> Done, 2 blocks: done
+=> Done, 2 blocks: done
 digest: E72C18C8A280B741A3163FA45B59ACB1854E77AC43A64B8C23638295A634C02A
-the same in pieces: 1 7 2047 40000
 all fail in turn: 9 reads of 5000 bytes, 16 writes of 5000 bytes, 1 report of 7 bytes
-case: front 32773 bytes  -> Short, 1 block: short: block 1, 5 bytes
-the same in pieces: 1 7 2047 40000
+case: front 32773 bytes  => Short, 1 block: short: block 1, 5 bytes
 all fail in turn: 9 reads of 5000 bytes, 8 writes of 5000 bytes, 4 reports of 7 bytes
 
 # Both blocks, the same without the last byte, and with one more.
@@ -30,146 +28,97 @@ given: image of 17 sectors | master --sectors 17 makes 2 blocks
 run: recover --sectors 17 or recover --form plain --sectors 17
 or: recover --sectors 17 --workers 5 or recover --sectors 17 --workers 16
 output: image of 17 sectors
-case: as given           -> Done, 17 sectors: done
-to nothing
+=> Done, 17 sectors: done
 digest: 821668C219648D7615F82E4B86593C1CF57D7E05FB1A5D71ABEF9E28059A6162
-the same in pieces: 1 7 2047 40000
 all fail in turn: 17 reads of 5000 bytes, 17 writes of 5000 bytes, 1 report of 7 bytes
-case: cut off 1 byte     -> Short, 16 sectors: short: block 1, 37855 bytes
-the same in pieces: 1 7 2047 40000
+case: cut off 1 byte     => Short, 16 sectors: short: block 1, 37855 bytes
 all fail in turn: 17 reads of 5000 bytes, 16 writes of 5000 bytes, 4 reports of 7 bytes
-case: then 1 byte of 55  -> Long, 17 sectors: long
-the same in pieces: 1 7 2047 40000
+case: then 1 byte of 55  => Long, 17 sectors: long
 all fail in turn: 17 reads of 5000 bytes, 17 writes of 5000 bytes, 1 report of 7 bytes
 
 # Two blocks, the second before the first: zeros.
 given: image of 32 sectors | master --sectors 32 makes 2 blocks | from 1 block
 run: recover --sectors 32
 output: 32 sectors of 00
-case: as given -> Damaged, 32 sectors: block 0 sector 030000 layer 0: address 0 found 00030010 saved 0/\
+=> Damaged, 32 sectors: block 0 sector 030000 layer 0: address 0 found 00030010 saved 0/\
 block 1 sector 030010 layer 0: address 0 found 00030000 saved 0/damaged: 2 blocks
-the same in pieces: 1 7 2047 40000
 all fail in turn: 17 reads of 5000 bytes, 32 writes of 5000 bytes, 23 reports of 7 bytes
-";
 
-#[test]
-fn blocks_in_pieces_and_with_each_call_failing(rt: HostRuntime) -> Held {
-    hold(&rt, STREAMS)
-}
-
-const COMMANDS: &str = "
 given: image of 2 sectors
 run: frames --first 030000 --sectors 2
-case: as given -> Done, 4128 bytes: done
+=> Done, 4128 bytes: done
 digest: E5FA46EFBFA66147C8E3190FC0F94B28730E6829799EAA1DFE3EB74B9EDD77DE
-the same in pieces: 1 7 2047 40000
 all fail in turn: 7 reads of 700 bytes, 6 writes of 1000 bytes, 3 reports of 2 bytes
-
-given: image of 2 sectors
 run: cdmake --address 150 --sectors 2
-case: as given -> Done, 4704 bytes: done
+=> Done, 4704 bytes: done
 digest: F0FA618E2827769A710ACCC1A39D65886CFFAB0A3E0B2FF3F214FD80E0C7D321
-the same in pieces: 1 7 2047 40000
 all fail in turn: 7 reads of 700 bytes, 6 writes of 1000 bytes, 3 reports of 2 bytes
 
 # Two sectors of zeros, which are of no mode.
 given: 4704 bytes of 00
 run: cdread --address 150 --sectors 2
 output: 4096 bytes of 00
-case: as given -> Damaged, 4096 bytes: sector 0: mode 0/sector 1: mode 0/damaged: 2 sectors
-the same in pieces: 1 7 2047 40000
+=> Damaged, 4096 bytes: sector 0: mode 0/sector 1: mode 0/damaged: 2 sectors
 all fail in turn: 5 reads of 2000 bytes, 6 writes of 1000 bytes, 9 reports of 7 bytes
 
 # Two blocks that differ nearly everywhere, taken for two captures of one.
 given: image of 17 sectors | master --sectors 17 makes 2 blocks
 run: merge --sectors 16 --captures 2
-case: as given -> Done, 42640 bytes: done
+=> Done, 42640 bytes: done
 digest: E6D85C77DF15C8CA1B9DF398691A564A8521F6F70EE84BE05FC90E6E014EE883
-the same in pieces: 1 7 2047 40000
 all fail in turn: 17 reads of 5000 bytes, 9 writes of 5000 bytes, 1 report of 7 bytes
 
 # The header, and of each block its rows and the number of its runs, none.
 run: convert --sectors 17
-case: as given -> Done, 75748 bytes: done
+=> Done, 75748 bytes: done
 digest: 3788D212632361880B89DAAB4E3124B1534E3A45B743B68D1F122F853966BB4F
-the same in pieces: 1 7 2047 40000
 all fail in turn: 17 reads of 5000 bytes, 19 writes of 5000 bytes, 1 report of 7 bytes
 
 run: deep --sectors 17
 output: image of 17 sectors
-case: as given -> Done, 17 sectors: done
-the same in pieces: 1 7 2047 40000
+=> Done, 17 sectors: done
 all fail in turn: 17 reads of 5000 bytes, 17 writes of 5000 bytes, 1 report of 7 bytes
 
-# The frames of two blocks from the ninth on, those before it behind them; the disk has the first block alone.
+# The frames of two blocks from the ninth on, those before it after them; the disk has the first block alone.
 run: assemble --sectors 16 --frames 32
 output: given | front 1 block | marked
-case: from 8 frames -> Done, 42640 bytes: placed 16 strays 16/done
-the same in pieces: 1 7 2047 40000
+case: from 8 frames => Done, 42640 bytes: placed 16 strays 16/done
 all fail in turn: 33 reads of 5000 bytes, 9 writes of 5000 bytes, 4 reports of 7 bytes
+
+# After a failed call, and after a read that met the end of the input, no stream is asked for anything more but the
+# report, for the closing line; and after a fault of the report not even that.
+given: image of 2 sectors
+run: frames --first 030000 --sectors 2 or cdmake --address 150 --sectors 2
+each call stops it: 7 calls of 700 bytes
+
+given: image of 17 sectors
+run: master --sectors 17
+each call stops it: 8 calls of 5000 bytes
+
+# The second of three blocks is beyond the bound.
+given: image of 33 sectors | master --sectors 33 makes 3 blocks | wrong by 5A: block 1, bytes 0 to 160 step 16
+run: recover --sectors 33 or deep --sectors 33 or survey --sectors 33 or merge --sectors 16 --captures 3
+or: convert --sectors 33 or assemble --sectors 33 --frames 48
+each call stops it: 7 calls of 20000 bytes
+
+given: image of 33 sectors | master --sectors 33 makes 3 blocks | convert --sectors 33 makes 113606 bytes
+run: recover --form listed
+each call stops it: 7 calls of 20000 bytes
+
+given: image of 16 sectors | master --sectors 16 --zones all makes 273 blocks | front 34 blocks
+run: info
+each call stops it: 4 calls of 37856 bytes
+
+given: nothing
+run: exercise --seed 0 --blocks 1
+each call stops it: 7 calls of 9 bytes
+
+given: 4704 bytes of 00
+run: cdread --address 150 --sectors 2
+each call stops it: 6 calls of 2000 bytes
 ";
 
 #[test]
 fn pieces_play_no_part_and_each_call_fails_in_turn(rt: HostRuntime) -> Held {
-    hold(&rt, COMMANDS)
-}
-
-const STOPS: &str = "
-# After a failed call, and after a read that met the end of the input, no stream is asked for anything more but the
-# report, for the closing line; and after a fault of the report not even that.
-given: image of 2 sectors
-run: frames --first 030000 --sectors 2
-case: as given
-each of the first calls stops it: 7 calls of 700 bytes
-
-given: image of 17 sectors
-run: master --sectors 17
-case: as given
-each of the first calls stops it: 8 calls of 5000 bytes
-
-# The second of three blocks is beyond the bound.
-given: image of 33 sectors | master --sectors 33 makes 3 blocks | wrong by 5A: block 1, bytes 0 to 160 step 16
-case: as given
-run: recover --sectors 33
-each of the first calls stops it: 7 calls of 20000 bytes
-run: deep --sectors 33
-each of the first calls stops it: 7 calls of 20000 bytes
-run: survey --sectors 33
-each of the first calls stops it: 7 calls of 20000 bytes
-run: merge --sectors 16 --captures 3
-each of the first calls stops it: 7 calls of 20000 bytes
-run: convert --sectors 33
-each of the first calls stops it: 7 calls of 20000 bytes
-run: assemble --sectors 33 --frames 48
-each of the first calls stops it: 7 calls of 20000 bytes
-
-given: image of 33 sectors | master --sectors 33 makes 3 blocks | convert --sectors 33 makes 113606 bytes
-run: recover --form listed
-case: as given
-each of the first calls stops it: 7 calls of 20000 bytes
-
-given: image of 16 sectors | master --sectors 16 --zones all makes 273 blocks | front 34 blocks
-run: info
-case: as given
-each of the first calls stops it: 4 calls of 37856 bytes
-
-given: nothing
-run: exercise --seed 0 --blocks 1
-case: as given
-each of the first calls stops it: 7 calls of 9 bytes
-
-given: image of 2 sectors
-run: cdmake --address 150 --sectors 2
-case: as given
-each of the first calls stops it: 7 calls of 700 bytes
-
-given: 4704 bytes of 00
-run: cdread --address 150 --sectors 2
-case: as given
-each of the first calls stops it: 6 calls of 2000 bytes
-";
-
-#[test]
-fn nothing_is_tried_again(rt: HostRuntime) -> Held {
-    hold(&rt, STOPS)
+    hold(&rt, STREAMS)
 }

@@ -6,36 +6,25 @@ const JOINED: &str = "
 given: 2 blocks of 00 | marked
 run: merge --sectors 16 --captures 2 --form marked
 output: 1 block of 00 | marked | known as 01: row 0, byte 0
-case: known as 01: block 0, row 0, byte 0 | lost: block 1, row 0, byte 0  -> Done, 1 marked block: done
-case: lost: block 0, row 0, byte 0 | known as 01: block 1, row 0, byte 0  -> Done, 1 marked block: done
+case: known as 01: block {0, 1}, row 0, byte 0 | lost: block {1, 0}, row 0, byte 0  -> Done, 1 marked block: done
 # Of two different bytes neither is believed.
 output: 1 block of 00 | marked | lost: row 0, byte 0
-case: known as 01: block 0, row 0, byte 0                                 -> Done, 1 marked block: done
-case: known as 01: block 1, row 0, byte 0                                 -> Done, 1 marked block: done
+case: known as 01: block {0, 1}, row 0, byte 0                                     -> Done, 1 marked block: done
 output: 1 block of 00 | marked
-case: lost: block 0, row 0, byte 0                                         -> Done, 1 marked block: done
+case: lost: block 0, row 0, byte 0                                                 -> Done, 1 marked block: done
 
 # Of capture c of sixteen there is one byte, c + 1, at place 11c of row 12c of the block. Else nothing is known. The
-# two spare bits of the marks are set too.
-given: 16 blocks of 00 | marked | lost: blocks 0 to 15
-known as 01: block 0, row 0, byte 0 | known as 02: block 1, row 12, byte 11 | known as 03: block 2, row 24, byte 22
-known as 04: block 3, row 36, byte 33 | known as 05: block 4, row 48, byte 44 | known as 06: block 5, row 60, byte 55
-known as 07: block 6, row 72, byte 66 | known as 08: block 7, row 84, byte 77 | known as 09: block 8, row 96, byte 88
-known as 0A: block 9, row 108, byte 99 | known as 0B: block 10, row 120, byte 110
-known as 0C: block 11, row 132, byte 121
-known as 0D: block 12, row 144, byte 132 | known as 0E: block 13, row 156, byte 143
-known as 0F: block 14, row 168, byte 154 | known as 10: block 15, row 180, byte 165 | spare bits
+# two spare bits of the marks, after those of the 182 bytes of a row, are set too. First what comes of them.
+given: 1 block of 00 | marked | lost: block 0
+also: known as {01, 02, 03, 04, 05, 06, 07, 08, 09, 0A, 0B, 0C, 0D, 0E, 0F, 10}: \
+row {0 to 180 step 12}, byte {0 to 165 step 11}
+output: given
+also: front 0 bytes | 16 blocks of 00 | marked | lost: blocks 0 to 15
+also: known as {01, 02, 03, 04, 05, 06, 07, 08, 09, 0A, 0B, 0C, 0D, 0E, 0F, 10}: \
+block {0 to 15}, row {0 to 180 step 12}, byte {0 to 165 step 11}
+also: doubtful by 00: bytes 182 to 183
 run: merge --sectors 16 --captures 16 --form marked
-output: 1 block of 00 | marked | lost: block 0
-known as 01: row 0, byte 0 | known as 02: row 12, byte 11 | known as 03: row 24, byte 22
-known as 04: row 36, byte 33
-known as 05: row 48, byte 44 | known as 06: row 60, byte 55 | known as 07: row 72, byte 66
-known as 08: row 84, byte 77
-known as 09: row 96, byte 88 | known as 0A: row 108, byte 99 | known as 0B: row 120, byte 110
-known as 0C: row 132, byte 121
-known as 0D: row 144, byte 132 | known as 0E: row 156, byte 143 | known as 0F: row 168, byte 154
-known as 10: row 180, byte 165
-case: as given        -> Done, 1 marked block: done
+                      -> Done, 1 marked block: done
 # The same captures are not enough for two blocks.
 run: merge --sectors 17 --captures 16 --form marked
                       -> Short, 1 marked block: short: block 1, 0 bytes

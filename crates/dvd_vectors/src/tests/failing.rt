@@ -1,7 +1,7 @@
 //! Texts that don't hold: what is misspelt isn't passed over, and each part of what comes counts.
 use dvd_trial::{Held, fails};
 
-static FAILING: [&str; 18] = [
+static FAILING: [&str; 22] = [
     "given: 5 bytes of 00 | zeros: sector 0",
     "given: 1 block of 00 | zero: blok 2",
     "given: 1 block of 00 | zero: row 5 too 6",
@@ -11,17 +11,22 @@ static FAILING: [&str; 18] = [
     "given: 5 bites of 00",
     "given: 1 block of 00 | listed shape 0 zones 0 sectors 16 and 0 initial 0",
     "given: 1 block of 00 | listed shape 0 zones 0 sectors 16 and 0 initial 0 tail 16 runs 5",
-    "given: nothing\ncase: as given -> Usage, 0 bytes: usage",
-    "given: nothing\ncase: as given\nrun: x -> Done, 0 bytes: usage",
-    "given: nothing\ncase: as given\nrun: x -> Usage, 1 byte: usage",
-    "given: nothing\ncase: as given\nrun: x -> Usage, 0 bytes: usage..",
-    "given: 5 bytes of 00\ncase: as given\nrun: master --sectors 16 -> Short, 0 bytes: short: block 0, 5 bytes\nread: 4 bytes",
-    "given: nothing\ncase: as given\nrun: x\nreads: 1 byte a call, cal 0 fails -> Usage, 0 bytes: usage",
-    "given: nothing\ncase: as given\nrun: x -> Usage, 0 bytes: usage\nrun: cdread\ndigest: 00",
-    "given: image of 1 sector\noutput: image of 2 sectors\ncase: as given\n\
+    "given: nothing -> Usage, 0 bytes: usage",
+    "given: nothing\nrun: x -> Done, 0 bytes: usage",
+    "given: nothing\nrun: x -> Usage, 1 byte: usage",
+    "given: nothing\nrun: x -> Usage, 0 bytes: usage..",
+    "given: 5 bytes of 00\nrun: master --sectors 16 \
+-> Short, 0 bytes: short: block 0, 5 bytes\nread: 4 bytes",
+    "given: nothing\nrun: x\nreads: 1 byte a call, cal 0 fails -> Usage, 0 bytes: usage",
+    "given: nothing\nrun: x -> Usage, 0 bytes: usage\nrun: cdread\ndigest: 00",
+    "given: image of 1 sector\noutput: image of 2 sectors\n\
 run: frames --first 030000 --sectors 1 -> Done, 2064 bytes: done",
-    "given: image of 1 sector\ncase: as given\nrun: frames --first 030000 --sectors 1 -> Done, 2064 bytes: done\n\
+    "given: image of 1 sector\nrun: frames --first 030000 --sectors 1 -> Done, 2064 bytes: done\n\
 all fail in turn: 3 reads of 700 bytes",
+    "given: {1, 2, 3} bytes of {00, 55}",
+    "given: [1, 2, 3] bytes of [00, 55]",
+    "given: 1 byte of 00 {",
+    "given: nothing\nrun: {x, y} -> Usage, 0 bytes: {usage, none}",
 ];
 
 #[test]

@@ -2,93 +2,67 @@
 //! the same time, and each of three has its piece of each pass.
 use dvd_trial::{Held, hold};
 
-// Numbers that another program computed from the standard.
-const DRAWN: &str = "
-# The input fails at once.
+const WORKERS: &str = "
+# The numbers were computed by another program from the standard. The input fails at once.
 given: nothing
 run: exercise --seed 1 --blocks 3 or exercise --seed 1 --blocks 3 --workers 8
-output: line exercise seed 1 blocks 3 whole 3 fixed 5242 failed 21
-case: as given
+output: lines exercise seed 1 blocks 3 whole 3 fixed 5242 failed 21
 reads: 1 byte a call, call 0 fails -> Done, 54 bytes: done
 
+# The same in pieces of 1, 7, 2047 and 40,000 bytes.
 run: exercise --seed 0 --blocks 1
-output: line exercise seed 0 blocks 1 whole 1 fixed 1397 failed 5
-case: as given                     -> Done, 53 bytes: done
-the same in pieces: 1 7 2047 40000
+output: lines exercise seed 0 blocks 1 whole 1 fixed 1397 failed 5
+                                   => Done, 53 bytes: done
 all fail in turn: 0 reads of 5000 bytes, 6 writes of 9 bytes, 3 reports of 2 bytes
 
 run: exercise --blocks 1 --seed 4294967295
-output: line exercise seed 4294967295 blocks 1 whole 1 fixed 2677 failed 12
-case: as given
+output: lines exercise seed 4294967295 blocks 1 whole 1 fixed 2677 failed 12
 reads: 1 byte a call, call 0 fails -> Done, 63 bytes: done
-";
 
-#[test]
-fn drawn_blocks_are_read_back(rt: HostRuntime) -> Held {
-    hold(&rt, DRAWN)
-}
-
-const WORKERS: &str = "
-# Two workers work at the same time.
+# Two workers work at the same time. Each of three workers has one piece of each pass.
 given: image of 16 sectors | master --sectors 16 makes 1 block
-case: as given
-run: recover --sectors 16 --workers 2
-two workers meet: 2 times
-run: survey --sectors 16 --workers 2
-two workers meet: 2 times
+run: recover --sectors 16 --workers 2 or survey --sectors 16 --workers 2
+pieces meet: 2 pieces, 2 times each
+run: recover --sectors 16 --workers 3 or survey --sectors 16 --workers 3
+pieces ask: 3 pieces, 2 times each
 given: 16 sectors of 00
-case: as given
 run: master --sectors 16 --workers 2
-two workers meet: 2 times
-given: nothing
-case: as given
-run: exercise --seed 1 --blocks 1 --workers 2
-two workers meet: 4 times
-
-# Each of three workers has one piece of each pass.
-given: image of 16 sectors | master --sectors 16 makes 1 block
-case: as given
-run: recover --sectors 16 --workers 3
-pieces ask: 3 pieces, 2 times each
-run: survey --sectors 16 --workers 3
-pieces ask: 3 pieces, 2 times each
-given: 16 sectors of 00
-case: as given
+pieces meet: 2 pieces, 2 times each
 run: master --sectors 16 --workers 3
 pieces ask: 3 pieces, 2 times each
 given: nothing
-case: as given
+run: exercise --seed 1 --blocks 1 --workers 2
+pieces meet: 2 pieces, 4 times each
 run: exercise --seed 1 --blocks 1 --workers 3
 pieces ask: 3 pieces, 4 times each
 
 # Three blocks: five bytes of each row of the first are wrong, more than can be fixed of six rows of the second, and
 # of twenty rows of the third.
-given: image of 33 sectors | master --sectors 33 makes 3 blocks
-wrong by 5A: block 0, bytes 0 to 164 step 41; block 1, rows 3 to 188 step 37, bytes 0 to 175 step 7
+given: image of 33 sectors | master --sectors 33 makes 3 blocks | \
+wrong by 5A: block 0, bytes 0 to 164 step 41; block 1, rows 3 to 188 step 37, bytes 0 to 175 step 7 | \
 wrong by 5A: block 2, rows 0 to 18, bytes 0 to 176 step 11; block 2, row 192, bytes 0 to 176 step 11
-case: as given
 run: recover --sectors 33 or recover --sectors 33 --workers 1 or recover --sectors 33 --workers 8
 output: image of 32 sectors | then 1 sector of 00
 -> Damaged, 33 sectors: block 2 sector 030020 layer 0: rows 20 saved 14/damaged: 1 blocks
 run: survey --sectors 33 or survey --sectors 33 --workers 1 or survey --sectors 33 --workers 8
-output: line block 0 sector 030000 layer 0 pi 208 failed 0 sum8 208: whole
-line block 1 sector 030010 layer 0 pi 6 failed 6 sum8 214: whole
-line block 2 sector 030020 layer 0 pi 20 failed 20 sum8 234: rows 20
-line blocks 3 pi 234 failed 26 damaged 1 peak 234 at 2 over 0
+output: lines block 0 sector 030000 layer 0 pi 208 failed 0 sum8 208: whole/\
+block 1 sector 030010 layer 0 pi 6 failed 6 sum8 214: whole/\
+block 2 sector 030020 layer 0 pi 20 failed 20 sum8 234: rows 20/\
+blocks 3 pi 234 failed 26 damaged 1 peak 234 at 2 over 0
 -> Damaged, 243 bytes: damaged: 1 blocks
 
 given: image of 33 sectors
 run: master --sectors 33 or master --sectors 33 --workers 1 or master --sectors 33 --workers 5
 or: master --sectors 33 --workers 16
-case: as given -> Done, 3 blocks: done
+-> Done, 3 blocks: done
 
 given: nothing
 run: exercise --seed 1 --blocks 2 or exercise --seed 1 --blocks 2 --workers 1
 or: exercise --seed 1 --blocks 2 --workers 3 or exercise --seed 1 --blocks 2 --workers 16
-case: as given -> Done, 54 bytes: done
+-> Done, 54 bytes: done
 ";
 
 #[test]
-fn workers_work_at_the_same_time_and_leave_the_same(rt: HostRuntime) -> Held {
+fn drawn_blocks_are_read_back_and_workers_leave_the_same(rt: HostRuntime) -> Held {
     hold(&rt, WORKERS)
 }
