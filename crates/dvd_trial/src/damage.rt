@@ -98,8 +98,8 @@ fn hit_row(places: &Places, block: usize, i: usize, hit: Hit, bytes: &mut [u8]) 
     }
 }
 
-// Where a row of a block is recorded: after each twelve rows of data comes one of outer parity.
-fn recorded(row: usize) -> usize {
+/// Where a row of a block is recorded: after each twelve rows of data comes one of outer parity.
+pub fn recorded(row: usize) -> usize {
     if row < 192 {
         row + row / 12
     } else {

@@ -1,4 +1,6 @@
 //! What a test ends with, and what is printed where the result isn't the one expected.
+use crate::amounts::{MARKED_ROW, ROW};
+use crate::damage::recorded;
 use crate::trial::Trial;
 use std::thread::Threads;
 
@@ -20,7 +22,8 @@ pub fn fails<R: AllocGlobal + Threads + Sync>(rt: &R, text: &str) -> bool {
     Trial::new(rt).holds(text).is_none()
 }
 
-// The arguments that ran last, their result, and where the output first differs from the wanted one.
+// The arguments that ran last, their result, and where the output first differs from the wanted one: as an image, and as
+// a capture of both forms.
 fn print<R: Eprint>(rt: &R, trial: &Trial<R>) {
     let words = trial.words.split(" or ").nth(trial.last).unwrap_or("");
     let (line, left) = (trial.line.as_str(), &trial.left);
@@ -32,8 +35,20 @@ fn print<R: Eprint>(rt: &R, trial: &Trial<R>) {
     };
     for (at, (wanted, came)) in output.iter().zip(&left.output).enumerate() {
         if *wanted != *came {
-            let _ = eprintln!(rt; "byte {at} is {came} for {wanted}");
+            let (sector, byte) = (at / 2048, at % 2048);
+            let _ = eprintln!(rt; "byte {at} is {came} for {wanted}: sector {sector}, byte {byte}");
+            print_place(rt, "plain", at / ROW, at % ROW);
+            print_place(rt, "marked", at / MARKED_ROW, at % MARKED_ROW);
             return;
         }
     }
+}
+
+// Which row of a block is recorded there.
+fn print_place<R: Eprint>(rt: &R, form: &str, place: usize, byte: usize) {
+    let (block, place) = (place / 208, place % 208);
+    let row = (0..208usize)
+        .position(|row| recorded(row) == place)
+        .unwrap_or(0);
+    let _ = eprintln!(rt; "in the {form} form: block {block}, row {row}, byte {byte}");
 }
