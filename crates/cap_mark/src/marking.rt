@@ -14,7 +14,7 @@ use crate::marks::put_rows;
 use crate::walk::spans_from;
 use arrayvec::ArrayVec;
 use cap_map::Span;
-use dvd_loop::{Answer, LoopEnd, PlainCommand, UnitKind, read_unit, run_plain};
+use dvd_loop::{LoopEnd, PlainCommand, Processed, UnitKind, read_unit, run_plain};
 use dvd_ports::{NullSink, Sink, Source, write_whole};
 
 /// The spans of a map, and those of them that end after byte `place`: where the loop is in the map. So the spans before
@@ -57,7 +57,7 @@ impl<'a, S: Source, K: Sink, E: Sink> PlainCommand<S, K, E> for Marking<'a> {
         u32::MAX
     }
 
-    fn process(&mut self, k: u32, src: &mut S, out: &mut K, _report: &mut E) -> Answer {
+    fn process(&mut self, k: u32, src: &mut S, out: &mut K, _report: &mut E) -> Processed {
         // 13 rows of 182 bytes. All of them come before the first is written.
         let mut frame = [0; 2366];
         read_unit(src, k, &mut frame)?;
@@ -84,7 +84,7 @@ pub fn mark_loop<S: Source, K: Sink>(spans: &[Span], src: &mut S, out: &mut K) -
 }
 
 // Writes frame `k` with the marks of its rows.
-fn write_frame<K: Sink>(spans: &[Span], k: u32, frame: &[u8; 2366], out: &mut K) -> Answer
+fn write_frame<K: Sink>(spans: &[Span], k: u32, frame: &[u8; 2366], out: &mut K) -> Processed
     ensures { (source report : Seen) → AreDone (IsMarked spans.now k frame.now)
         (streams source (K.seen out.old) report) (streams source (K.seen out.new) report) result }
 {

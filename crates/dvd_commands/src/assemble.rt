@@ -25,7 +25,7 @@ use crate::start::Start;
 use dvd_assemble::{FrameWork, Shelf, fetch_frame};
 use dvd_capture::{FetchAnswer, Form};
 use dvd_layout::{Layout, Zones};
-use dvd_loop::{AfterLast, Answer, LoopEnd, UnitCommand, UnitKind, run_units};
+use dvd_loop::{AfterLast, LoopEnd, Processed, UnitCommand, UnitKind, run_units};
 use dvd_ports::{Sink, Source, WriteFault, write_whole};
 use dvd_report::Line;
 use dvd_words::{Command, Settings};
@@ -67,7 +67,7 @@ impl<'a, S: Source, K: Sink, E: Sink> UnitCommand<S, K, E> for Assembling<'a> {
     }
 
     // Nothing is written yet: a frame of any block may come last.
-    fn process(&mut self, k: u32, src: &mut S, _out: &mut K, _report: &mut E) -> Answer {
+    fn process(&mut self, k: u32, src: &mut S, _out: &mut K, _report: &mut E) -> Processed {
         read_frame(src, k, self.form, self.frame)?;
         self.placed += settle_frame(&self.layout, self.frame, self.shelf);
         Ok(UnitKind::Good)

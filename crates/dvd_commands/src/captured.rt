@@ -12,7 +12,7 @@ ghost use Rattle.dvd_commands.specs.Inner.Performing.{EndsCaptured, IsRefusedFor
 
 use dvd_capture::{FetchAnswer, Form, Work, fetch};
 use dvd_layout::{BlockPlan, Layout};
-use dvd_loop::{Answer, LoopEnd, UnitKind};
+use dvd_loop::{LoopEnd, Processed, UnitKind};
 use dvd_ports::{Sink, Source, WriteFault, write_whole};
 use dvd_read::{Cause, salvage};
 use dvd_report::write_cause;
@@ -56,7 +56,7 @@ pub(crate) fn refuse_block<K: Sink, E: Sink>(
     work: &mut Work,
     out: &mut K,
     report: &mut E,
-) -> Answer
+) -> Processed
     requires numbers { HasNumbers block.now.entry.now }
     requires stage { HasAnswers (stage_of work.old) }
     ensures { (source : Seen) → AreDone (IsRefusedFor block.now.layout.now block.now.k block.now.entry.now (rows_of work.old) (marks_of_work work.old) cause.now)

@@ -10,7 +10,7 @@ ghost use Rattle.dvd_commands.specs.CdRead.{IsSectorRead, cdread_units};
 
 use crate::cd_line::damaged_sector_line;
 use cd_sector::repair;
-use dvd_loop::{Answer, LoopEnd, PlainCommand, UnitKind, read_unit, run_plain};
+use dvd_loop::{LoopEnd, PlainCommand, Processed, UnitKind, read_unit, run_plain};
 use dvd_ports::{Sink, Source, WriteFault, write_whole};
 use dvd_words::Settings;
 
@@ -35,7 +35,7 @@ impl<S: Source, K: Sink, E: Sink> PlainCommand<S, K, E> for CdRead {
         self.sectors
     }
 
-    fn process(&mut self, k: u32, src: &mut S, out: &mut K, report: &mut E) -> Answer {
+    fn process(&mut self, k: u32, src: &mut S, out: &mut K, report: &mut E) -> Processed {
         let mut sector = [0; 2352];
         read_unit(src, k, &mut sector)?;
         give_sector(self.address + k, k, &mut sector, out, report)
@@ -71,7 +71,7 @@ fn give_sector<K: Sink, E: Sink>(
     sector: &mut [u8; 2352],
     out: &mut K,
     report: &mut E,
-) -> Answer
+) -> Processed
     requires { address < 450000 }
     ensures { (source : Seen) → AreDone (IsSectorRead address k sector.old)
         (streams source (K.seen out.old) (E.seen report.old)) (streams source (K.seen out.new) (E.seen report.new)) result }

@@ -22,7 +22,7 @@ use crate::refusal::Refusal;
 use crate::start::Start;
 use dvd_capture::{Form, Header, Work, write_listed};
 use dvd_layout::Layout;
-use dvd_loop::{AfterLast, Answer, LoopEnd, UnitCommand, UnitKind, run_units};
+use dvd_loop::{AfterLast, LoopEnd, Processed, UnitCommand, UnitKind, run_units};
 use dvd_ports::{NullSink, Sink, Source, write_whole};
 use dvd_words::{Command, Settings};
 
@@ -62,7 +62,7 @@ impl<'a, S: Source, K: Sink, E: Sink> UnitCommand<S, K, E> for Converting<'a> {
         Ok(())
     }
 
-    fn process(&mut self, k: u32, src: &mut S, out: &mut K, _report: &mut E) -> Answer {
+    fn process(&mut self, k: u32, src: &mut S, out: &mut K, _report: &mut E) -> Processed {
         fetch_block(src, k, self.form, self.work)?;
         write_listed(self.work, out)?;
         Ok(UnitKind::Good)

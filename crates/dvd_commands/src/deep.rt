@@ -31,7 +31,7 @@ use dvd_block::Piece;
 use dvd_capture::{Form, Work};
 use dvd_deep::Deep;
 use dvd_layout::{BlockPlan, Content, Layout};
-use dvd_loop::{Answer, LoopEnd, PlainCommand, UnitKind, run_plain};
+use dvd_loop::{LoopEnd, PlainCommand, Processed, UnitKind, run_plain};
 use dvd_ports::{Sink, Source, WriteFault};
 use dvd_read::{Cause, read_block};
 use dvd_report::write_round;
@@ -61,7 +61,7 @@ impl<'a, S: Source, K: Sink, E: Sink> PlainCommand<S, K, E> for Deepening<'a> {
     }
 
     // Each block is read whole, even one without image, since the next begins after it.
-    fn process(&mut self, k: u32, src: &mut S, out: &mut K, report: &mut E) -> Answer {
+    fn process(&mut self, k: u32, src: &mut S, out: &mut K, report: &mut E) -> Processed {
         let entry = self.blocks.at(k);
         fetch_block(src, k, self.form, self.work)?;
         let block = Planned {
@@ -148,7 +148,7 @@ fn deep_block<K: Sink, E: Sink>(
     work: &mut Work,
     out: &mut K,
     report: &mut E,
-) -> Answer
+) -> Processed
     requires numbers { HasNumbers block.now.entry.now }
     requires stage { HasBlock (stage_of work.old) }
     ensures { (source : Seen) → AreDone (IsReadDeep block.now.entry.now.content block.now.layout.now block.now.k block.now.entry.now (rows_of work.old) (marks_of_work work.old))
@@ -213,7 +213,7 @@ fn give_back<K: Sink, E: Sink>(
     sectors: &[u8],
     out: &mut K,
     report: &mut E,
-) -> Answer
+) -> Processed
     requires { HasNumbers entry.now }
     ensures { (source : Seen) → AreDone (TellsAndWrites (round_line k entry.now round) sectors.now Good)
         (streams source (K.seen out.old) (E.seen report.old)) (streams source (K.seen out.new) (E.seen report.new)) result }

@@ -31,7 +31,7 @@ use dvd_block::{Block, Piece};
 use dvd_capture::{Stage, Work};
 use dvd_exercise::{Rand, fill_piece, hurt};
 use dvd_layout::{BlockPlan, Layout, Shape, Zones};
-use dvd_loop::{AfterLast, Answer, LoopEnd, UnitCommand, UnitKind, run_units};
+use dvd_loop::{AfterLast, LoopEnd, Processed, UnitCommand, UnitKind, run_units};
 use dvd_par::{Gate, add_parity_par, read_block_par};
 use dvd_ports::{NullSink, Sink, SliceSource, Source, write_whole};
 use dvd_read::{Cause, Fixed};
@@ -117,7 +117,7 @@ where
         Ok(())
     }
 
-    fn process(&mut self, k: u32, _src: &mut S, _out: &mut K, _report: &mut E) -> Answer {
+    fn process(&mut self, k: u32, _src: &mut S, _out: &mut K, _report: &mut E) -> Processed {
         let entry = self.layout.plan(Zones::DataOnly, u64::from(k));
         draw_block(
             &self.layout,

@@ -25,7 +25,7 @@ use crate::start::Start;
 use dvd_capture::{Form, Work};
 use dvd_control::PhysicalFormat;
 use dvd_layout::{BlockPlan, Content, lead_in_block};
-use dvd_loop::{AfterLast, Answer, LoopEnd, UnitCommand, UnitKind, run_units};
+use dvd_loop::{AfterLast, LoopEnd, Processed, UnitCommand, UnitKind, run_units};
 use dvd_ports::{NullSink, Sink, Source, write_whole};
 use dvd_read::read_block;
 use dvd_words::{Command, Settings};
@@ -66,7 +66,7 @@ impl<'a, S: Source, K: Sink, E: Sink> UnitCommand<S, K, E> for Info<'a> {
         Ok(())
     }
 
-    fn process(&mut self, k: u32, src: &mut S, out: &mut K, _report: &mut E) -> Answer {
+    fn process(&mut self, k: u32, src: &mut S, out: &mut K, _report: &mut E) -> Processed {
         let entry = lead_in_block(self.initial, k);
         fetch_block(src, k, self.form, self.work)?;
         ask_block(&entry, self.work, out)
@@ -137,7 +137,7 @@ fn info_listed<S: Source, K: Sink>(
 }
 
 // Seeks the physical format in a block of control data. Any other block is passed over.
-fn ask_block<K: Sink>(entry: &BlockPlan, work: &mut Work, out: &mut K) -> Answer
+fn ask_block<K: Sink>(entry: &BlockPlan, work: &mut Work, out: &mut K) -> Processed
     requires numbers { HasNumbers entry.now }
     requires stage { HasBlock (stage_of work.old) }
     ensures { (source report : Seen) → AreDone (IsAsked entry.now.content entry.now (rows_of work.old) (marks_of_work work.old))
@@ -149,7 +149,7 @@ fn ask_block<K: Sink>(entry: &BlockPlan, work: &mut Work, out: &mut K) -> Answer
     }
 }
 
-fn ask_control<K: Sink>(entry: &BlockPlan, work: &mut Work, out: &mut K) -> Answer
+fn ask_control<K: Sink>(entry: &BlockPlan, work: &mut Work, out: &mut K) -> Processed
     requires numbers { HasNumbers entry.now }
     requires stage { HasBlock (stage_of work.old) }
     ensures { (source report : Seen) → AreDone (IsControlDone entry.now (rows_of work.old) (marks_of_work work.old))

@@ -11,7 +11,7 @@ ghost use Rattle.dvd_commands.specs.Inner.Making.{IsMadeAs, number_limit};
 
 use cd_sector::make;
 use dvd_frame::{Area, Id, Rule, make_frame};
-use dvd_loop::{Answer, LoopEnd, PlainCommand, UnitKind, read_unit, run_plain};
+use dvd_loop::{LoopEnd, PlainCommand, Processed, UnitKind, read_unit, run_plain};
 use dvd_ports::{NullSink, Sink, Source, write_whole};
 
 /// What is made of a sector of 2,048 bytes.
@@ -47,7 +47,7 @@ impl<S: Source, K: Sink, E: Sink> PlainCommand<S, K, E> for Making {
         self.sectors
     }
 
-    fn process(&mut self, k: u32, src: &mut S, out: &mut K, _report: &mut E) -> Answer {
+    fn process(&mut self, k: u32, src: &mut S, out: &mut K, _report: &mut E) -> Processed {
         let mut sector = [0; 2048];
         read_unit(src, k, &mut sector)?;
         write_made(self.made, self.first + k, &sector, out)
@@ -76,7 +76,7 @@ pub(crate) fn make_each<S: Source, K: Sink>(
 }
 
 // The two things have two lengths, so each case has a buffer of its own.
-fn write_made<K: Sink>(made: Made, number: u32, sector: &[u8; 2048], out: &mut K) -> Answer
+fn write_made<K: Sink>(made: Made, number: u32, sector: &[u8; 2048], out: &mut K) -> Processed
     requires { number < number_limit made }
     ensures { (source report : Seen) → AreDone (IsMade (IsMadeAs made number sector.now))
         (streams source (K.seen out.old) report) (streams source (K.seen out.new) report) result }

@@ -26,7 +26,7 @@ use dvd_block::{Block, Piece};
 use dvd_control::main_of;
 use dvd_frame::{Area, Scrambler, make_frame_with};
 use dvd_layout::{BlockPlan, Content, Layout, id_of, rule_of};
-use dvd_loop::{Answer, LoopEnd, PlainCommand, UnitKind, read_unit, run_plain};
+use dvd_loop::{LoopEnd, PlainCommand, Processed, UnitKind, read_unit, run_plain};
 use dvd_par::{Gate, add_parity_par};
 use dvd_ports::{NullSink, Sink, Source};
 use dvd_words::{Command, Settings};
@@ -58,7 +58,7 @@ impl<'a, 'r, F: Fn(&mut Block), S: Source, K: Sink, E: Sink> PlainCommand<S, K, 
         self.blocks.count()
     }
 
-    fn process(&mut self, k: u32, src: &mut S, out: &mut K, _report: &mut E) -> Answer {
+    fn process(&mut self, k: u32, src: &mut S, out: &mut K, _report: &mut E) -> Processed {
         let entry = self.blocks.at(k);
         let size = image_size(&self.blocks.layout, &entry);
         read_image(src, k, self.piece, size)?;

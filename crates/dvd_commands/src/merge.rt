@@ -23,7 +23,7 @@ use crate::refusal::Refusal;
 use crate::start::Start;
 use dvd_capture::{FetchAnswer, Form, Work, fetch};
 use dvd_layout::Layout;
-use dvd_loop::{Answer, LoopEnd, PlainCommand, UnitKind, run_plain};
+use dvd_loop::{LoopEnd, PlainCommand, Processed, UnitKind, run_plain};
 use dvd_merge::Merge;
 use dvd_ports::{NullSink, Sink, Source};
 use dvd_words::{Command, Settings};
@@ -54,7 +54,7 @@ impl<'a, S: Source, K: Sink, E: Sink> PlainCommand<S, K, E> for Merging<'a> {
         self.blocks.count()
     }
 
-    fn process(&mut self, k: u32, src: &mut S, out: &mut K, _report: &mut E) -> Answer {
+    fn process(&mut self, k: u32, src: &mut S, out: &mut K, _report: &mut E) -> Processed {
         take_captures(src, k, self.form, self.captures, self.merge, self.work)?;
         self.merge.write_marked(out)?;
         Ok(UnitKind::Good)

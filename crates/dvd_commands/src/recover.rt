@@ -27,7 +27,7 @@ use crate::start::Start;
 use crate::workers::{Workers, read_by};
 use dvd_capture::{Form, Work};
 use dvd_layout::{BlockPlan, Content, Layout};
-use dvd_loop::{Answer, LoopEnd, PlainCommand, UnitKind, run_plain};
+use dvd_loop::{LoopEnd, PlainCommand, Processed, UnitKind, run_plain};
 use dvd_par::{Gate, read_block_par};
 use dvd_ports::{Sink, Source};
 use dvd_read::{Cause, Fixed};
@@ -62,7 +62,7 @@ where
     }
 
     // Each block is read whole, even one without image, since the next begins after it.
-    fn process(&mut self, k: u32, src: &mut S, out: &mut K, report: &mut E) -> Answer {
+    fn process(&mut self, k: u32, src: &mut S, out: &mut K, report: &mut E) -> Processed {
         let entry = self.blocks.at(k);
         fetch_block(src, k, self.form, self.work)?;
         let block = Planned {
@@ -152,7 +152,7 @@ fn recover_block<F: Fn(&mut Work, &BlockPlan) -> Result<Fixed, Cause>, K: Sink, 
     work: &mut Work,
     out: &mut K,
     report: &mut E,
-) -> Answer
+) -> Processed
     requires reader { IsReader F.Fn read.now }
     requires numbers { HasNumbers block.now.entry.now }
     requires stage { HasBlock (stage_of work.old) }

@@ -31,7 +31,7 @@ use crate::start::Start;
 use crate::workers::{Workers, read_by};
 use dvd_capture::{Form, Work};
 use dvd_layout::{BlockPlan, Layout};
-use dvd_loop::{AfterLast, Answer, LoopEnd, UnitCommand, UnitKind, run_owned};
+use dvd_loop::{AfterLast, LoopEnd, Processed, UnitCommand, UnitKind, run_owned};
 use dvd_par::{Gate, read_block_par};
 use dvd_ports::{NullSink, Sink, Source};
 use dvd_read::{Cause, Fixed};
@@ -76,7 +76,7 @@ where
     }
 
     // A refused block doesn't end the run: its line and the totals say so.
-    fn process(&mut self, k: u32, src: &mut S, out: &mut K, _report: &mut E) -> Answer {
+    fn process(&mut self, k: u32, src: &mut S, out: &mut K, _report: &mut E) -> Processed {
         let entry = self.blocks.at(k);
         fetch_block(src, k, self.form, self.work)?;
         survey_block(&entry, self.read, self.survey, self.work, out)
@@ -169,7 +169,7 @@ fn survey_block<F: Fn(&mut Work, &BlockPlan) -> Result<Fixed, Cause>, K: Sink>(
     survey: &mut Survey,
     work: &mut Work,
     out: &mut K,
-) -> Answer
+) -> Processed
     requires reader { IsReader F.Fn read.now }
     requires numbers { HasNumbers entry.now }
     requires stage { HasBlock (stage_of work.old) }

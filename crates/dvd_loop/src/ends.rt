@@ -97,4 +97,4 @@ pub enum AfterLast {
 }
 
 /// What processing a unit answers: its kind, or how the loop ends within it.
-pub type Answer = Result<UnitKind, LoopEnd>;
+pub type Processed = Result<UnitKind, LoopEnd>;

@@ -9,7 +9,7 @@ mod plain_command; // a command that neither opens nor closes
 mod reading; // the bytes of one unit
 mod unit_command; // a command, seen from the loop
 
-pub use ends::{AfterLast, Answer, LoopEnd, UnitKind};
+pub use ends::{AfterLast, LoopEnd, Processed, UnitKind};
 pub use loops::{close, run_owned, run_units};
 pub use plain_command::{PlainCommand, run_plain};
 pub use reading::read_unit;

@@ -4,7 +4,7 @@ ghost use Rattle.dvd_loop.specs.Machine.{IsOutcome, Units};
 ghost use Rattle.dvd_loop.specs.Streams.{streams, HasEnded};
 ghost use Rattle.dvd_loop.specs.UnitCommand.{ArePlain, ProcessesPlain};
 
-use crate::{AfterLast, Answer, LoopEnd, UnitCommand, run_owned};
+use crate::{AfterLast, LoopEnd, Processed, UnitCommand, run_owned};
 use dvd_ports::{Sink, Source};
 
 /// A command whose units are independent: the processing of one is right whatever came before it.
@@ -29,7 +29,7 @@ pub trait PlainCommand<S: Source, K: Sink, E: Sink> {
         ensures { result ≡ (units (key self.now)).count };
 
     /// Reads unit `k`, does its steps in order, and answers the kind of the unit.
-    fn process(&mut self, k: u32, src: &mut S, out: &mut K, report: &mut E) -> Answer
+    fn process(&mut self, k: u32, src: &mut S, out: &mut K, report: &mut E) -> Processed
         requires unit { k < (units (key self.old)).count }
         requires ready { ready self.old }
         ensures same { key self.new ≡ key self.old }
@@ -69,7 +69,7 @@ impl<S: Source, K: Sink, E: Sink, P: PlainCommand<S, K, E>> UnitCommand<S, K, E>
         Ok(())
     }
 
-    fn process(&mut self, k: u32, src: &mut S, out: &mut K, report: &mut E) -> Answer {
+    fn process(&mut self, k: u32, src: &mut S, out: &mut K, report: &mut E) -> Processed {
         self.command.process(k, src, out, report)
     }
 

@@ -6,7 +6,7 @@ ghost use Rattle.dvd_loop.specs.Streams.{streams};
 ghost use Rattle.dvd_loop.specs.UnitCommand.{AreSteps, HaveCausesFor, IsReadyFor, ClosesUnits, Processes};
 ghost use Rattle.dvd_loop.specs.declared.ends.LoopEnd.{LoopEnd as HowItEnds};
 
-use crate::{AfterLast, Answer, LoopEnd, UnitKind};
+use crate::{AfterLast, LoopEnd, Processed, UnitKind};
 use dvd_ports::{Sink, Source};
 
 /// A command that goes over its input unit by unit. The streams are parameters, since a run has one of each.
@@ -45,7 +45,7 @@ pub trait UnitCommand<S: Source, K: Sink, E: Sink> {
         ensures left { IfErr result (left self.now) };
 
     /// Reads unit `k`, does its steps in order, and answers the kind of the unit.
-    fn process(&mut self, k: u32, src: &mut S, out: &mut K, report: &mut E) -> Answer
+    fn process(&mut self, k: u32, src: &mut S, out: &mut K, report: &mut E) -> Processed
         requires unit { k < (units (key self.old)).count }
         requires ready { IsReadyFor k (ready self.old) }
         ensures same { key self.new ≡ key self.old }

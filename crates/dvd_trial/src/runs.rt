@@ -1,6 +1,6 @@
 //! One run and what it leaves.
 use crate::amounts::is;
-use crate::streams::{Call, Input, Output, Plan, Watch};
+use crate::streams::{Input, Output, Plan, StreamCall, Watch};
 use dvd_par::Gate;
 use dvd_ports::{StdSink, StdSource};
 use dvd_top::{Status, run};
@@ -72,14 +72,14 @@ pub fn run_over<R: AllocGlobal + Threads + Sync, G: Gate>(
     };
     let output = Output {
         watch: &watch,
-        call: Call::Write,
+        call: StreamCall::Write,
         held: &mut left.output,
         has_failed,
         calls,
     };
     let report = Output {
         watch: &watch,
-        call: Call::Report,
+        call: StreamCall::Report,
         held: &mut left.report,
         has_failed,
         calls,

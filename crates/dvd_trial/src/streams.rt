@@ -6,7 +6,7 @@ use std::io::{self, Error, ErrorKind, Read, Write};
 
 /// The kinds of calls, of which one may fail.
 #[derive(Clone, Copy, PartialEq, Eq)]
-pub enum Call {
+pub enum StreamCall {
     Read,
     Write,
     Flush,
@@ -18,14 +18,14 @@ pub enum Call {
 #[derive(Clone, Copy, PartialEq, Eq)]
 pub struct Plan {
     pub step: usize,
-    pub call: Call,
+    pub call: StreamCall,
     pub count: u64,
 }
 
 /// No call fails.
 pub const SOUND: Plan = Plan {
     step: 40_000,
-    call: Call::Read,
+    call: StreamCall::Read,
     count: u64::MAX,
 };
 
@@ -55,7 +55,7 @@ impl Watch {
         !self.is_late.get() && self.lines.get() <= 1
     }
 
-    fn fails(&self, call: Call, count: u64) -> bool {
+    fn fails(&self, call: StreamCall, count: u64) -> bool {
         self.plan.call == call && self.plan.count == count
     }
 
@@ -80,7 +80,7 @@ impl<'a> Read for Input<'a> {
         }
         let call = self.calls;
         self.calls = call.saturating_add(1);
-        if self.watch.fails(Call::Read, call) {
+        if self.watch.fails(StreamCall::Read, call) {
             return Err(self.watch.stop());
         }
         let count = self.watch.plan.step.min(buf.len().min(self.rest.len()));
@@ -100,7 +100,7 @@ impl<'a> Read for Input<'a> {
 #[derive(Drop)]
 pub struct Output<'a> {
     pub watch: &'a Watch,
-    pub call: Call,
+    pub call: StreamCall,
     pub held: &'a mut Vec<u8>,
     pub has_failed: bool,
     pub calls: u64,
@@ -112,7 +112,7 @@ impl<'a> Output<'a> {
         if !self.watch.has_stopped.get() {
             return;
         }
-        if self.call == Call::Write || self.has_failed {
+        if self.call == StreamCall::Write || self.has_failed {
             self.watch.is_late.set(true);
         } else if matches!(self.held.last(), None | Some(b'\n')) {
             self.watch
@@ -144,11 +144,11 @@ impl<'a> Write for Output<'a> {
 
     // A flush counts as the call of its stream that comes before it.
     fn flush(&mut self) -> io::Result<()> {
-        let is_output = self.call == Call::Write;
+        let is_output = self.call == StreamCall::Write;
         let call = if is_output {
-            Call::Flush
+            StreamCall::Flush
         } else {
-            Call::FlushReport
+            StreamCall::FlushReport
         };
         if self.calls > 0 && self.watch.fails(call, self.calls - 1) {
             return Err(self.fail());

@@ -2,7 +2,7 @@
 use crate::amounts::{amount, is, number};
 use crate::gate::Counting;
 use crate::runs::{Left, run_over};
-use crate::streams::Call::{self, Flush, FlushReport, Read, Report, Write};
+use crate::streams::StreamCall::{self, Flush, FlushReport, Read, Report, Write};
 use crate::streams::{Plan, SOUND};
 use crate::trial::Trial;
 use dvd_par::OpenGate;
@@ -150,7 +150,7 @@ impl<'a, R: AllocGlobal + Threads + Sync> Trial<'a, R> {
     }
 }
 
-fn call_of(name: &str) -> Option<Call> {
+fn call_of(name: &str) -> Option<StreamCall> {
     match name.strip_suffix('s').unwrap_or(name) {
         "read" => Some(Read),
         "write" => Some(Write),
