@@ -1,3 +1,4 @@
--- Why the contracts hold: lemmas on places of look-ups, and on rows to which bytes are added.
+-- Why the contracts hold: lemmas on places of look-ups, on rows to which bytes are added, and on bytes that are compared.
 pub mod AddedBytes
+pub mod EqualFronts
 pub mod MaskedPlaces

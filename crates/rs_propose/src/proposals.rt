@@ -113,17 +113,15 @@ fn with_byte(sums: u8x16, place: usize, byte: u8) -> u8x16
     sums ^ scaled(powers(181 - place), byte)
 }
 
-// Whether the first sums are these syndromes. No branch hangs on one of them, so that all are compared at once.
+// Whether the first sums are these syndromes. No branch hangs on one of them, so that all are compared at once: the
+// first eight, and the last eight.
 #[inline(always)]
 fn begin_with(sums: u8x16, syndromes: &[u8]) -> bool
     requires lanes { length sums ≡ 16 }
     requires size { length syndromes.now ≡ 10 }
     ensures { IsTrue result → take 10 sums ≡ syndromes.now }
 {
-    let sums = sums.to_array();
-    let mut differences = 0;
-    for k in 0..10 {
-        differences |= sums[k] ^ syndromes[k];
-    }
-    differences == 0
+    let first = sums.extract::<0, 8>() ^ u8x8::from_slice(syndromes);
+    let last = sums.extract::<2, 8>() ^ u8x8::from_slice(&syndromes[2..]);
+    (first | last).reduce_or() == 0
 }
