@@ -188,22 +188,53 @@ fn walk_four(
 )
     requires { four < 4 }
 {
-    note(found, *value, *point);
+    let mut values = [*value; 4];
+    let mut points = [*point; 4];
     for step in 1..4 {
         let bit = usize::from(step == 2);
-        *value = *value ^ inner[4 * four + step] ^ changes[bit];
-        *point = *point ^ u8x16::splat(UNITS[bit]);
-        note(found, *value, *point);
+        values[step] = values[step - 1] ^ inner[4 * four + step] ^ changes[bit];
+        points[step] = points[step - 1] ^ u8x16::splat(UNITS[bit]);
+    }
+    *value = values[3];
+    *point = points[3];
+    note_four(found, &values, &points);
+}
+
+// Puts those of four points where the value is 0 before those found, in each lane. A lane seldom has two of them. So
+// each lane that has one gets it at once, and only where a lane has two are the points put one by one.
+#[inline(always)]
+fn note_four(found: &mut [u8x16; 5], values: &[u8x16; 4], points: &[u8x16; 4]) {
+    let zero = u8x16::splat(0);
+    let mut any = values[0].simd_eq(zero);
+    let mut point = points[0];
+    let mut two = mask8x16::splat(false);
+    for k in 1..4 {
+        let here = values[k].simd_eq(zero);
+        two = two | (any & here);
+        any = any | here;
+        point = here.select(points[k], point);
+    }
+    if two.any() {
+        note_each(found, values, points);
+    } else {
+        put(found, any, point);
     }
 }
 
-// Puts a point before those found, in each lane where the value is 0. All five move up in each lane alike, without a
-// branch or a place that is counted.
+// Likewise one by one.
 #[inline(always)]
-fn note(found: &mut [u8x16; 5], value: u8x16, point: u8x16) {
-    let here = value.simd_eq(u8x16::splat(0));
+fn note_each(found: &mut [u8x16; 5], values: &[u8x16; 4], points: &[u8x16; 4]) {
     for k in 0..4 {
-        found[4 - k] = here.select(found[3 - k], found[4 - k]);
+        put(found, values[k].simd_eq(u8x16::splat(0)), points[k]);
     }
-    found[0] = here.select(point, found[0]);
+}
+
+// Puts a point before those found, in each lane that is chosen. All five move up in each lane alike, without a branch
+// or a place that is counted.
+#[inline(always)]
+fn put(found: &mut [u8x16; 5], chosen: mask8x16, point: u8x16) {
+    for k in 0..4 {
+        found[4 - k] = chosen.select(found[3 - k], found[4 - k]);
+    }
+    found[0] = chosen.select(point, found[0]);
 }
