@@ -27,8 +27,9 @@ pub fn interleave_loop<S: Source, K: Sink>(
     InterleaveEnd::Long
 }
 
-// Writes block `k` of each capture, or answers how the loop ends. All are read and compared before anything is written,
-// so that the output has a block of each or of none.
+// Writes block `k` of each capture, or answers how the loop ends. All are read, and their lengths checked, before
+// anything is written. So the output has a block of each or of none, but for a first part where the write fails. Where
+// the captures end, the end comes from `check`, which names block `k` if one of them is short.
 fn turn<S: Source, K: Sink>(
     k: u32,
     buffers: &mut Buffers,

@@ -18,16 +18,16 @@ pub(crate) fn lane_of<const R: usize>(vectors: &[u8x32; R], n: usize) -> ArrayVe
 {
     let mut lanes = ArrayVec::new();
     for k in 0..R {
-        lanes.push(lane(vectors[k], n));
+        lanes.push(lane(&vectors[k], n));
     }
     lanes
 }
 
-// Lane `n` of a vector. Of one in an array no lanes are known by themselves.
+// Lane `n` of a vector, which is read where it is: a copy of all lanes would be made for one of them.
 #[inline(always)]
-fn lane(vector: u8x32, n: usize) -> u8
+fn lane(vector: &u8x32, n: usize) -> u8
     requires { n < 32 }
-    ensures { result ≡ slice_index vector n }
+    ensures { result ≡ slice_index vector.now n }
 {
-    vector[n]
+    vector.as_array()[n]
 }
